@@ -1,0 +1,5 @@
+use Rattle.smil_laws.proofs.Settled.{agreeing_all}
+use Rattle.smil_laws.proofs.laws.agreeing_is_current.Goals as goal
+
+pub returns : goal.returns
+returns c = agreeing_all

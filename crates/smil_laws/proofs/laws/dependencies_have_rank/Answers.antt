@@ -1,0 +1,5 @@
+use Rattle.smil_laws.proofs.Settled.{has_rank}
+use Rattle.smil_laws.proofs.laws.dependencies_have_rank.Goals as goal
+
+pub returns : goal.returns
+returns c = has_rank

@@ -1,0 +1,5 @@
+use Rattle.smil_laws.proofs.Quiet.{jumped}
+use Rattle.smil_laws.proofs.laws.quiet_may_be_jumped.Goals as goal
+
+pub returns : goal.returns
+returns c = jumped

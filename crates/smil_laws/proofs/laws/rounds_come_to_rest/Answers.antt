@@ -1,0 +1,5 @@
+use Rattle.smil_laws.proofs.Settled.{come_to_rest}
+use Rattle.smil_laws.proofs.laws.rounds_come_to_rest.Goals as goal
+
+pub returns : goal.returns
+returns c = come_to_rest

@@ -1,0 +1,9 @@
+-- Documents.
+pub mod Document
+pub mod Words
+pub mod Defaults
+pub mod Values
+pub mod Valid
+pub mod Edits
+pub mod Closure
+pub mod Dependencies

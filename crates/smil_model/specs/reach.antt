@@ -1,0 +1,3 @@
+-- How far an entry reaches.
+pub mod Reach
+pub mod Bounds

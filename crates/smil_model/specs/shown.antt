@@ -1,0 +1,6 @@
+-- What is shown, and what orders do.
+pub mod Views
+pub mod Histories
+pub mod Orders
+pub mod Lines
+pub mod Answers

@@ -1,0 +1,151 @@
+-- The lines of a transcript.
+use Rattle.std.specs.Prelude.{ℕ, ℤ, List, [], ◌∷◌, ◌++◌, Option, Some, None, codes, decimal}
+use Rattle.std.specs.Fmt.{signed_decimal}
+use Rattle.smil_model.specs.declared.document.Node.{Node}
+use Rattle.smil_model.specs.declared.order.Who.{Who}
+use Rattle.smil_model.specs.declared.order.Who.TheVariants.{Id, Serial}
+use Rattle.smil_model.specs.declared.order.Refusal.{Refusal}
+use Rattle.smil_model.specs.declared.order.Refusal.TheVariants as refusal
+use Rattle.smil_model.specs.declared.view.State.{State}
+use Rattle.smil_model.specs.declared.view.State.TheVariants as state
+use Rattle.smil_model.specs.declared.view.Shown.{Shown}
+use Rattle.smil_model.specs.declared.view.Shown.TheVariants as shown
+use Rattle.smil_model.specs.declared.view.View.{View}
+use Rattle.smil_model.specs.declared.view.How.{How}
+use Rattle.smil_model.specs.declared.view.How.TheVariants as how
+
+-- a line: its words, parted by single spaces, and a line feed
+abbrev pub line_of : List (List ℕ) → List ℕ
+line_of [] = 10 ∷ []
+line_of (word ∷ []) = word ++ 10 ∷ []
+line_of (word ∷ next ∷ words) = word ++ 32 ∷ line_of (next ∷ words)
+
+-- an element by its id, or by `#` and its serial
+abbrev pub reference_text : Who → List ℕ
+reference_text (Id id) = id
+reference_text (Serial serial) = 35 ∷ decimal serial
+
+abbrev pub name_by : ℕ → Option (List ℕ) → Who
+name_by serial None = Serial serial
+name_by serial (Some id) = Id id
+
+abbrev pub name_of : Node → Who
+name_of n = name_by n.serial n.attrs.id
+
+-- a state's name
+abbrev pub state_text : State → List ℕ
+state_text state.Idle = codes "idle"
+state_text state.Waiting = codes "waiting"
+state_text state.Active = codes "active"
+state_text state.Paused = codes "paused"
+state_text state.Deferred = codes "deferred"
+state_text state.Frozen = codes "frozen"
+state_text state.Done = codes "done"
+
+-- a time: a number, `-` for nothing, a word, or `?` while the clock stands
+abbrev pub shown_text : Shown → List ℕ
+shown_text shown.Nothing = codes "-"
+shown_text (shown.At v) = signed_decimal v
+shown_text shown.Indefinite = codes "indefinite"
+shown_text shown.Unresolved = codes "unresolved"
+shown_text shown.Standing = codes "?"
+
+-- a changed view: moment, element, state, begin, end, iteration, finished intervals
+abbrev pub change_line : ℤ → Who → View → List ℕ
+change_line moment name view =
+    line_of (signed_decimal moment ∷ reference_text name ∷ state_text view.state ∷ shown_text view.begin
+    ∷ shown_text view.«end» ∷ decimal view.iteration ∷ decimal view.finished ∷ [])
+
+-- an element that was removed
+abbrev pub gone_line : ℤ → Who → List ℕ
+gone_line moment name = line_of (signed_decimal moment ∷ reference_text name ∷ codes "gone" ∷ [])
+
+abbrev pub how_text : How → List ℕ
+how_text how.Ended = codes "ended"
+how_text how.Cut = codes "cut"
+how_text how.Playing = codes "playing"
+
+-- an interval of an element
+abbrev pub interval_line : Who → Shown → Shown → How → List ℕ
+interval_line name begin finish how =
+    line_of (reference_text name ∷ codes "from" ∷ shown_text begin ∷ codes "to" ∷ shown_text finish ∷ how_text how ∷ [])
+
+-- the end of an accepted answer: the number of the order's first line, the presentation's name and its moment
+abbrev pub ok_line : ℕ → List ℕ → ℤ → List ℕ
+ok_line line name now = line_of (codes "ok" ∷ decimal line ∷ name ∷ signed_decimal now ∷ [])
+
+abbrev pub closed_line : ℕ → List ℕ → List ℕ
+closed_line line name = line_of (codes "ok" ∷ decimal line ∷ name ∷ codes "closed" ∷ [])
+
+-- the word of a refusal
+abbrev pub refusal_text : Refusal → List ℕ
+refusal_text refusal.LongLine = codes "long-line"
+refusal_text refusal.NotACommand = codes "not-a-command"
+refusal_text refusal.UnfinishedLoad = codes "unfinished-load"
+refusal_text refusal.BadOutline = codes "bad-outline"
+refusal_text refusal.DepthJump = codes "depth-jump"
+refusal_text refusal.TooDeep = codes "too-deep"
+refusal_text refusal.BadPlace = codes "bad-place"
+refusal_text (refusal.UnknownAttribute column) = codes "unknown-attribute"
+refusal_text (refusal.Unsupported column) = codes "unsupported"
+refusal_text (refusal.BadValue column) = codes "bad-value"
+refusal_text (refusal.TooManyItems column) = codes "too-many-items"
+refusal_text refusal.DuplicateId = codes "duplicate-id"
+refusal_text refusal.TooManyElements = codes "too-many-elements"
+refusal_text refusal.TooManyReferences = codes "too-many-references"
+refusal_text refusal.NoPresentation = codes "no-presentation"
+refusal_text refusal.NameTaken = codes "name-taken"
+refusal_text refusal.TooManyPresentations = codes "too-many-presentations"
+refusal_text refusal.NoElement = codes "no-element"
+refusal_text refusal.Root = codes "root"
+refusal_text refusal.NotContinuous = codes "not-continuous"
+refusal_text refusal.LogFull = codes "log-full"
+refusal_text refusal.BeyondHorizon = codes "beyond-horizon"
+refusal_text refusal.DiaryFull = codes "diary-full"
+refusal_text refusal.Memory = codes "memory"
+refusal_text refusal.NotYet = codes "not-yet"
+
+-- the number of a refusal
+abbrev pub refusal_number : Refusal → ℕ
+refusal_number refusal.LongLine = 1
+refusal_number refusal.NotACommand = 2
+refusal_number refusal.UnfinishedLoad = 3
+refusal_number refusal.BadOutline = 4
+refusal_number refusal.DepthJump = 5
+refusal_number refusal.TooDeep = 6
+refusal_number refusal.BadPlace = 7
+refusal_number (refusal.UnknownAttribute column) = 8
+refusal_number (refusal.Unsupported column) = 9
+refusal_number (refusal.BadValue column) = 10
+refusal_number (refusal.TooManyItems column) = 11
+refusal_number refusal.DuplicateId = 12
+refusal_number refusal.TooManyElements = 13
+refusal_number refusal.TooManyReferences = 14
+refusal_number refusal.NoPresentation = 15
+refusal_number refusal.NameTaken = 16
+refusal_number refusal.TooManyPresentations = 17
+refusal_number refusal.NoElement = 18
+refusal_number refusal.Root = 19
+refusal_number refusal.NotContinuous = 20
+refusal_number refusal.LogFull = 21
+refusal_number refusal.BeyondHorizon = 22
+refusal_number refusal.DiaryFull = 23
+refusal_number refusal.Memory = 24
+refusal_number refusal.NotYet = 25
+
+-- the column of a refusal that has one
+abbrev pub refusal_column : Refusal → Option ℕ
+refusal_column (refusal.UnknownAttribute column) = Some column
+refusal_column (refusal.Unsupported column) = Some column
+refusal_column (refusal.BadValue column) = Some column
+refusal_column (refusal.TooManyItems column) = Some column
+refusal_column _ = None
+
+abbrev pub column_words : Option ℕ → List (List ℕ)
+column_words None = []
+column_words (Some column) = decimal column ∷ []
+
+-- a refused order: the number of the line where the fault stands, the refusal's word, and its column if it has one
+abbrev pub refusal_line : ℕ → Refusal → List ℕ
+refusal_line line refusal =
+    line_of (codes "!" ∷ decimal line ∷ refusal_text refusal ∷ column_words (refusal_column refusal))

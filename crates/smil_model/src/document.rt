@@ -1,0 +1,487 @@
+//! Documents: elements in document order, with their timing attributes.
+
+ghost use Rattle.std.specs.Prelude.{◌≡◌, ℕ, ◌<◌, List, [], ◌∷◌, ◌++◌, length, OnOk, OnErr, IfOk, slice_get, option_copied};
+
+use super::duplicate::{Duplicate, copy_of};
+use super::limits::ITEMS;
+use super::listed::{Bytes, Listed};
+use super::times::Time;
+use std::alloc::{AllocError, Global};
+use std::marker::Model;
+
+/// The kind of a node: a time container, the priorityClass of an excl, still media or continuous media. A priorityClass
+/// has no times of its own (SMIL 3.0 Timing, the elements `par`, `seq`, `excl` and `priorityClass`).
+#[derive(Clone, Copy, Debug, PartialEq, Eq)]
+pub enum Kind {
+    Par,
+    Seq,
+    Excl,
+    PriorityClass,
+    Img,
+    Text,
+    Brush,
+    Audio,
+    Video,
+    Animation,
+    TextStream,
+    Ref,
+}
+
+/// The begin or the end of an element, which a syncbase item names.
+#[derive(Clone, Copy, Debug, PartialEq, Eq)]
+pub enum Edge {
+    Begin,
+    End,
+}
+
+/// An item of a begin or end list, with an offset in milliseconds (SMIL 3.0 Timing, the `begin` and `end` attributes).
+#[derive(Debug, PartialEq, Drop)]
+pub enum Item {
+    /// An offset alone, from the play start of the time parent.
+    Offset {
+        offset: i64,
+    },
+    /// The begin or the end of the element with the id `who`.
+    Sync {
+        who: Bytes,
+        edge: Edge,
+        offset: i64,
+    },
+    /// An event of the element with the id `who`, or of the element itself.
+    Event {
+        who: Option<Bytes>,
+        name: Bytes,
+        offset: i64,
+    },
+    /// The begin of iteration `n`, from 0, of the element with the id `who`, or of the element itself.
+    Repeat {
+        who: Option<Bytes>,
+        n: u32,
+        offset: i64,
+    },
+    /// No begin, and an end that is indefinite.
+    Indefinite,
+}
+
+impl Duplicate for Item {
+    fn copy(&self) -> Result<Self, AllocError> {
+        match self {
+            Item::Offset { offset } => Ok(Item::Offset { offset: *offset }),
+            Item::Sync { who, edge, offset } => Ok(Item::Sync {
+                who: who.copy()?,
+                edge: *edge,
+                offset: *offset,
+            }),
+            Item::Event { who, name, offset } => Ok(Item::Event {
+                who: copy_of(who)?,
+                name: name.copy()?,
+                offset: *offset,
+            }),
+            Item::Repeat { who, n, offset } => Ok(Item::Repeat {
+                who: copy_of(who)?,
+                n: *n,
+                offset: *offset,
+            }),
+            Item::Indefinite => Ok(Item::Indefinite),
+        }
+    }
+}
+
+/// A begin or end list, seen as the list of its 1 to 32 items.
+#[derive(Debug, PartialEq, Drop)]
+pub struct Items {
+    items: Listed<Item>,
+}
+
+impl Model for Items {
+    ghost use Rattle.std.specs.Prelude.{List, ◌<◌, ◌≤◌, length};
+    ghost use Rattle.smil_model.specs.declared.document.Item.{Item};
+    ghost use Rattle.smil_model.specs.declared.limits.TheConstants.{ITEMS};
+
+    ghost Value = { List Item };
+
+    ghost view = { λ a. a.items };
+
+    ghost invariant = { λ a. (0 < length a.items) × (length a.items ≤ ITEMS) };
+
+    ghost inverse = { λ items. record { items = items } };
+}
+
+impl Items {
+    /// The list of one item, unless memory runs out.
+    pub fn new(alloc: Global, first: Item) -> Result<Items, AllocError>
+        ensures { IfOk result (λ items. items ≡ first ∷ []) }
+    {
+        let mut items = Listed::new(alloc);
+        items.push(first)?;
+        Ok(Items { items })
+    }
+
+    /// Appends an item to a list of fewer than 32 items. Where memory runs out the list is as before.
+    pub fn push(&mut self, item: Item) -> Result<(), AllocError>
+        requires { length self.old < ITEMS }
+        ensures ok { OnOk result (self.new ≡ self.old ++ item ∷ []) }
+        ensures err { OnErr result (self.new ≡ self.old) }
+    {
+        self.items.push(item)
+    }
+
+    /// How many items the list has, from 1 to 32. It takes no memory.
+    pub fn len(&self) -> usize
+        ensures { result ≡ length self.now }
+    {
+        self.items.len()
+    }
+
+    /// The item at a place from 0; None exactly where the place is not below the length. It takes no memory.
+    pub fn get(&self, place: usize) -> Option<&Item>
+        ensures { option_copied result ≡ slice_get self.now place }
+    {
+        self.items.get(place)
+    }
+}
+
+impl Duplicate for Items {
+    fn copy(&self) -> Result<Self, AllocError> {
+        Ok(Items {
+            items: self.items.copy()?,
+        })
+    }
+}
+
+/// A value of `dur` (SMIL 3.0 Timing, the `dur` attribute).
+#[derive(Clone, Copy, Debug, PartialEq, Eq)]
+pub enum Dur {
+    /// A length in milliseconds.
+    Clock(i64),
+    /// The implicit duration.
+    Media,
+    Indefinite,
+}
+
+/// A value of `repeatCount` (SMIL 3.0 Timing, the `repeatCount` attribute).
+#[derive(Clone, Copy, Debug, PartialEq, Eq)]
+pub enum Count {
+    /// A number of iterations, in thousandths.
+    Thousandths(u64),
+    Indefinite,
+}
+
+/// A value of `restart`: whether the element may begin again (SMIL 3.0 Timing, the `restart` attribute).
+#[derive(Clone, Copy, Debug, PartialEq, Eq)]
+pub enum Restart {
+    Always,
+    WhenNotActive,
+    Never,
+}
+
+/// A value of `fill`: what is shown after the end (SMIL 3.0 Timing, the `fill` attribute).
+#[derive(Clone, Copy, Debug, PartialEq, Eq)]
+pub enum Fill {
+    Remove,
+    Freeze,
+    Hold,
+    Auto,
+}
+
+/// A value of `endsync`: the child or the children whose ends decide the implicit duration of a container (SMIL 3.0
+/// Timing, the `endsync` attribute).
+#[derive(Debug, PartialEq, Drop)]
+pub enum Endsync {
+    Last,
+    First,
+    All,
+    /// The time child with this id.
+    Child(Bytes),
+}
+
+impl Duplicate for Endsync {
+    fn copy(&self) -> Result<Self, AllocError> {
+        match self {
+            Endsync::Last => Ok(Endsync::Last),
+            Endsync::First => Ok(Endsync::First),
+            Endsync::All => Ok(Endsync::All),
+            Endsync::Child(id) => Ok(Endsync::Child(id.copy()?)),
+        }
+    }
+}
+
+/// What an excl does when a child begins while another plays: it stops or pauses the playing child, or defers the
+/// newcomer or passes it over (SMIL 3.0 Timing, the `priorityClass` element).
+#[derive(Clone, Copy, Debug, PartialEq, Eq)]
+pub enum Act {
+    Stop,
+    Pause,
+    Defer,
+    Never,
+}
+
+/// The attributes of a node, each with its value or absent. `min`, `max` and `repeat_dur` are in milliseconds.
+#[derive(Debug, PartialEq, Drop)]
+pub struct Attrs {
+    pub id: Option<Bytes>,
+    pub begin: Option<Items>,
+    pub dur: Option<Dur>,
+    pub end: Option<Items>,
+    pub min: Option<i64>,
+    pub max: Option<Time>,
+    pub repeat_count: Option<Count>,
+    pub repeat_dur: Option<Time>,
+    pub restart: Option<Restart>,
+    pub fill: Option<Fill>,
+    pub endsync: Option<Endsync>,
+    pub peers: Option<Act>,
+    pub higher: Option<Act>,
+    pub lower: Option<Act>,
+    pub src: Option<Bytes>,
+    pub region: Option<Bytes>,
+    pub alt: Option<Bytes>,
+    pub title: Option<Bytes>,
+}
+
+impl Attrs {
+    ghost use Rattle.smil_model.specs.document.Edits.{no_attrs};
+
+    /// The attributes, each of them absent.
+    pub fn none() -> Attrs
+        ensures { result ≡ no_attrs }
+    {
+        Attrs {
+            id: None,
+            begin: None,
+            dur: None,
+            end: None,
+            min: None,
+            max: None,
+            repeat_count: None,
+            repeat_dur: None,
+            restart: None,
+            fill: None,
+            endsync: None,
+            peers: None,
+            higher: None,
+            lower: None,
+            src: None,
+            region: None,
+            alt: None,
+            title: None,
+        }
+    }
+}
+
+impl Duplicate for Attrs {
+    fn copy(&self) -> Result<Self, AllocError> {
+        Ok(Attrs {
+            id: copy_of(&self.id)?,
+            begin: copy_of(&self.begin)?,
+            dur: self.dur,
+            end: copy_of(&self.end)?,
+            min: self.min,
+            max: self.max,
+            repeat_count: self.repeat_count,
+            repeat_dur: self.repeat_dur,
+            restart: self.restart,
+            fill: self.fill,
+            endsync: copy_of(&self.endsync)?,
+            peers: self.peers,
+            higher: self.higher,
+            lower: self.lower,
+            src: copy_of(&self.src)?,
+            region: copy_of(&self.region)?,
+            alt: copy_of(&self.alt)?,
+            title: copy_of(&self.title)?,
+        })
+    }
+}
+
+/// A node of a document, with its serial and that of its parent. Serials are given from 1 in document order, and the
+/// parent of the root is 0.
+#[derive(Debug, PartialEq, Drop)]
+pub struct Node {
+    pub serial: u32,
+    pub kind: Kind,
+    pub parent: u32,
+    pub attrs: Attrs,
+}
+
+impl Duplicate for Node {
+    fn copy(&self) -> Result<Self, AllocError> {
+        Ok(Node {
+            serial: self.serial,
+            kind: self.kind,
+            parent: self.parent,
+            attrs: self.attrs.copy()?,
+        })
+    }
+}
+
+/// An attribute with its value, in the units of `Attrs`.
+#[derive(Debug, PartialEq, Drop)]
+pub enum Attr {
+    Id(Bytes),
+    Begin(Items),
+    Dur(Dur),
+    End(Items),
+    Min(i64),
+    Max(Time),
+    RepeatCount(Count),
+    RepeatDur(Time),
+    Restart(Restart),
+    Fill(Fill),
+    Endsync(Endsync),
+    Peers(Act),
+    Higher(Act),
+    Lower(Act),
+    Src(Bytes),
+    Region(Bytes),
+    Alt(Bytes),
+    Title(Bytes),
+}
+
+/// An attribute's name.
+#[derive(Clone, Copy, Debug, PartialEq, Eq)]
+pub enum AttrName {
+    Id,
+    Begin,
+    Dur,
+    End,
+    Min,
+    Max,
+    RepeatCount,
+    RepeatDur,
+    Restart,
+    Fill,
+    Endsync,
+    Peers,
+    Higher,
+    Lower,
+    Src,
+    Region,
+    Alt,
+    Title,
+}
+
+/// A document, seen as its nodes in document order and the next serial.
+#[derive(Debug, PartialEq, Drop)]
+pub struct Doc {
+    nodes: Listed<Node>,
+    next: u32,
+}
+
+impl Model for Doc {
+    ghost use Rattle.smil_model.specs.document.Document.{Document};
+
+    ghost Value = { Document };
+
+    ghost view = { λ a. record { nodes = a.nodes; next = a.next } };
+
+    ghost inverse = { λ document. record { nodes = document.nodes; next = document.next } };
+}
+
+impl Doc {
+    ghost use Rattle.smil_model.specs.document.Document.{with_node};
+
+    /// The document without a node and with this next serial. It takes no memory.
+    pub fn new(alloc: Global, next: u32) -> Doc
+        ensures nodes { result.nodes ≡ [] }
+        ensures next { result.next ≡ next }
+    {
+        Doc {
+            nodes: Listed::new(alloc),
+            next,
+        }
+    }
+
+    /// Appends a node at the end of the document order. Where memory runs out the document is as before.
+    pub fn push(&mut self, node: Node) -> Result<(), AllocError>
+        ensures ok { OnOk result (self.new ≡ with_node self.old node) }
+        ensures err { OnErr result (self.new ≡ self.old) }
+    {
+        self.nodes.push(node)
+    }
+
+    /// How many nodes the document has. It takes no memory.
+    pub fn len(&self) -> usize
+        ensures { result ≡ length self.now.nodes }
+    {
+        self.nodes.len()
+    }
+
+    /// The node at a place in document order from 0; None exactly where the place is not below the number of nodes. It
+    /// takes no memory.
+    pub fn get(&self, place: usize) -> Option<&Node>
+        ensures { option_copied result ≡ slice_get self.now.nodes place }
+    {
+        self.nodes.get(place)
+    }
+
+    /// The serial that an inserted node takes. It takes no memory.
+    pub fn next(&self) -> u32
+        ensures { result ≡ self.now.next }
+    {
+        self.next
+    }
+}
+
+impl Duplicate for Doc {
+    fn copy(&self) -> Result<Self, AllocError> {
+        Ok(Doc {
+            nodes: self.nodes.copy()?,
+            next: self.next,
+        })
+    }
+}
+
+#[cfg(test)]
+mod tests {
+    use super::*;
+    use std::test::Fail;
+
+    fn event_item(alloc: Global, offset: i64) -> Result<Item, AllocError> {
+        Ok(Item::Event {
+            who: Some(Bytes::of(alloc, b"k")?),
+            name: Bytes::of(alloc, b"click")?,
+            offset,
+        })
+    }
+
+    #[test]
+    fn thirty_two_items(rt: HostRuntime) -> Result<(), Fail> {
+        let mut items = Items::new(rt.alloc(), event_item(rt.alloc(), 0)?)?;
+        for offset in 1..32 {
+            assert!(rt; items.len() < ITEMS);
+            items.push(event_item(rt.alloc(), offset)?)?;
+        }
+        assert_eq!(rt; items.len(), 32);
+        assert_eq!(rt; items.get(31), Some(&event_item(rt.alloc(), 31)?));
+        assert_eq!(rt; items.get(32), None);
+        assert_eq!(rt; items.copy()?, items);
+        Ok(())
+    }
+
+    fn node(alloc: Global) -> Result<Node, AllocError> {
+        let id = Bytes::of(alloc, b"a")?;
+        let begin = Items::new(alloc, event_item(alloc, 500)?)?;
+        let mut attrs = Attrs::none();
+        attrs.id = Some(id);
+        attrs.begin = Some(begin);
+        attrs.max = Some(Time::Indefinite);
+        Ok(Node {
+            serial: 1,
+            kind: Kind::Par,
+            parent: 0,
+            attrs,
+        })
+    }
+
+    #[test]
+    fn documents(rt: HostRuntime) -> Result<(), Fail> {
+        let mut doc = Doc::new(rt.alloc(), 2);
+        doc.push(node(rt.alloc())?)?;
+        assert_eq!(rt; doc.get(0), Some(&node(rt.alloc())?));
+        assert_eq!(rt; doc.len(), 1);
+        assert_eq!(rt; doc.next(), 2);
+        assert_eq!(rt; doc.copy()?, doc);
+        Ok(())
+    }
+}

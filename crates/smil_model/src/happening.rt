@@ -1,0 +1,31 @@
+//! What is to happen: its key, and what the class of an excl's child asks for.
+
+use super::document::Act;
+
+/// The key of a begin, an end or a repeat that is to happen. Keys are compared by moment, then by class, then by place.
+#[derive(Clone, Copy, Debug, PartialEq, Eq)]
+pub struct Key {
+    /// The moment, in milliseconds of document time.
+    pub value: i64,
+    /// 1 for a repeat and for the end of an interval of positive length, 2 for a begin, 3 for the end of an interval of
+    /// length 0.
+    pub class: u8,
+    /// The place of the element among the elements, in document order from 0.
+    pub position: u32,
+    pub serial: u32,
+    /// Whether it is a repeat.
+    pub repeat: bool,
+}
+
+/// The priorityClass of a child of an excl (SMIL 3.0 Timing, the `priorityClass` element).
+#[derive(Clone, Copy, Debug, PartialEq, Eq)]
+pub struct Class {
+    /// The place of the class among those of its excl, from 0; the first is the highest.
+    pub rank: u32,
+    /// What a begin in the same class does.
+    pub peers: Act,
+    /// What a begin in a higher class does.
+    pub higher: Act,
+    /// What a begin in a lower class does.
+    pub lower: Act,
+}

@@ -1,0 +1,34 @@
+//! What the timing engine and the program around it speak of: times, documents, diaries, views and orders.
+#![tactic(auto)]
+
+pub mod diary;
+pub mod document;
+pub mod duplicate;
+pub mod happening;
+pub mod interval;
+pub mod limits;
+pub mod listed;
+pub mod order;
+pub mod player;
+pub mod steps;
+pub mod times;
+pub mod view;
+
+pub use diary::{Diary, Entry, Happening, Log, LogEntry, Step, StepKind};
+pub use document::{
+    Act, Attr, AttrName, Attrs, Count, Doc, Dur, Edge, Endsync, Fill, Item, Items, Kind, Node,
+    Restart,
+};
+pub use duplicate::{Duplicate, copy_of};
+pub use happening::{Class, Key};
+pub use interval::{ChildEnd, EndList, Facts, Interval, Play};
+pub use limits::{
+    DEPTH, DIARY_ENTRIES, EVENT_BYTES, ID_BYTES, ITEMS, LOG_ENTRIES, NAME_BYTES, NODES,
+    PRESENTATIONS, REFERENCES, SERIALS,
+};
+pub use listed::{Bytes, Listed, Serials, WordList};
+pub use order::{Order, Refusal, Who};
+pub use player::Player;
+pub use steps::Steps;
+pub use times::{HORIZON, Time, greatest, later, least};
+pub use view::{How, Shown, State, View, ViewFacts};

@@ -1,0 +1,151 @@
+//! Lists that grow at their end.
+
+ghost use Rattle.std.specs.Prelude.{◌≡◌, ℕ, ◌≤◌, List, [], ◌∷◌, ◌++◌, length, take, OnOk, OnErr, IfOk, slice_get, option_copied};
+
+use super::duplicate::Duplicate;
+use std::alloc::{AllocError, Global};
+use std::marker::Model;
+
+/// A list that grows at its end, seen as the list of its elements.
+#[derive(Debug, Drop)]
+pub struct Listed<T> {
+    items: Vec<T>,
+}
+
+impl<T> Model for Listed<T> {
+    ghost Value = { List T };
+
+    ghost view = { λ a. a.items.items };
+}
+
+impl<T: PartialEq> PartialEq for Listed<T> {
+    ghost use Rattle.std.specs.Cmp.Lexicographic.{pointwise, lists_per};
+
+    ghost eq = { λ x y. pointwise T.eq x y };
+
+    ghost laws = { lists_per T.laws };
+
+    fn eq(&self, other: &Self) -> bool {
+        self.items == other.items
+    }
+}
+
+impl<T: Duplicate> Duplicate for Listed<T> {
+    fn copy(&self) -> Result<Self, AllocError> {
+        let mut items = Vec::with_capacity(*self.items.allocator(), self.items.len())?;
+        for item in self.items.as_slice() {
+            items.push(item.copy()?)?;
+        }
+        Ok(Listed { items })
+    }
+}
+
+/// A list of bytes.
+pub type Bytes = Listed<u8>;
+
+/// A list of serials of nodes.
+pub type Serials = Listed<u32>;
+
+/// A list of words, each a list of bytes.
+pub type WordList = Listed<Bytes>;
+
+impl<T: Drop> Listed<T> {
+    /// The empty list, which takes no memory.
+    pub fn new(alloc: Global) -> Self
+        ensures { result ≡ [] }
+    {
+        Listed {
+            items: Vec::new(alloc),
+        }
+    }
+
+    /// Appends an element. Where memory runs out the list is as before.
+    pub fn push(&mut self, item: T) -> Result<(), AllocError>
+        ensures ok { OnOk result (self.new ≡ self.old ++ item ∷ []) }
+        ensures err { OnErr result (self.new ≡ self.old) }
+    {
+        self.items.push(item)?;
+        Ok(())
+    }
+
+    /// How many elements the list has. It takes no memory.
+    pub fn len(&self) -> usize
+        ensures { result ≡ length self.now }
+    {
+        self.items.len()
+    }
+
+    /// The element at a place from 0; None exactly where the place is not below the length. It takes no memory.
+    pub fn get(&self, place: usize) -> Option<&T>
+        ensures { option_copied result ≡ slice_get self.now place }
+    {
+        self.items.get(place)
+    }
+
+    /// Leaves the first `len` elements, of which there are as many at least. It takes no memory.
+    pub fn cut_back(&mut self, len: usize)
+        requires { len ≤ length self.old }
+        ensures { self.new ≡ take len self.old }
+    {
+        self.items.truncate(len);
+    }
+}
+
+impl Listed<u8> {
+    /// The list of these bytes, unless memory runs out.
+    pub fn of(alloc: Global, bytes: &[u8]) -> Result<Self, AllocError>
+        ensures { IfOk result (λ list. list ≡ bytes.now) }
+    {
+        Ok(Listed {
+            items: Vec::from_slice(alloc, bytes)?,
+        })
+    }
+
+    /// Appends all of these bytes. Where memory runs out the list is as before.
+    pub fn append(&mut self, bytes: &[u8]) -> Result<(), AllocError>
+        ensures ok { OnOk result (self.new ≡ self.old ++ bytes.now) }
+        ensures err { OnErr result (self.new ≡ self.old) }
+    {
+        self.items.extend_from_slice(bytes)
+    }
+
+    /// The whole list. It takes no memory.
+    pub fn slice(&self) -> &[u8]
+        ensures { result.now ≡ self.now }
+    {
+        self.items.as_slice()
+    }
+}
+
+#[cfg(test)]
+mod tests {
+    use super::*;
+    use std::test::Fail;
+
+    #[test]
+    fn bytes(rt: HostRuntime) -> Result<(), Fail> {
+        let mut bytes = Bytes::of(rt.alloc(), b"cli")?;
+        bytes.append(b"c")?;
+        bytes.push(107)?;
+        assert_eq!(rt; bytes.slice(), b"click".as_slice());
+        assert_eq!(rt; bytes.copy()?.slice(), b"click".as_slice());
+        assert_eq!(rt; bytes.get(4), Some(&107));
+        assert_eq!(rt; bytes.get(5), None);
+        Ok(())
+    }
+
+    #[test]
+    fn serials_and_words(rt: HostRuntime) -> Result<(), Fail> {
+        let mut serials = Serials::new(rt.alloc());
+        serials.push(7)?;
+        serials.push(9)?;
+        assert_eq!(rt; serials.get(1), Some(&9));
+        assert_eq!(rt; serials.copy()?, serials);
+        let mut words = WordList::new(rt.alloc());
+        words.push(Bytes::of(rt.alloc(), b"gen")?)?;
+        words.push(Bytes::of(rt.alloc(), b"1")?)?;
+        assert_eq!(rt; words.len(), 2);
+        assert_eq!(rt; words.copy()?, words);
+        Ok(())
+    }
+}

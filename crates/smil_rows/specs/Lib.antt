@@ -1,0 +1,15 @@
+pub mod Shown
+pub mod Reaches
+pub mod QuietEdit
+pub mod OneImage
+pub mod LengthZero
+pub mod PingPong
+pub mod NeitherBegins
+pub mod SelfReference
+pub mod ForeseenBegin
+pub mod LoopedByEdit
+pub mod CatchingUp
+pub mod FractionOfRepeat
+pub mod MinAndMax
+pub mod ForgottenEvent
+pub mod FreezeInSeq
