@@ -1,0 +1,48 @@
+// What bytes are written to.
+ghost use Rattle.std.specs.Prelude.{◌≡◌, ℕ, ◌+◌, ◌<◌, ◌≤◌, List, Option, length, take, IsOk, IfOk, OnOk, OnErr};
+ghost use Rattle.std.specs.Io.KnownBytes.{Appends, WriteAppends};
+ghost use Rattle.smil_outside.specs.Faults.{HasRisen};
+
+use crate::failed::Failed;
+
+/// Takes bytes piece by piece, where each write may fail.
+pub trait Sink {
+    /// The bytes that were taken, where the sink tells them.
+    ghost taken: { Self → Option (List ℕ) };
+
+    /// How often writing has failed. It never falls, and stands still at the largest `u64`.
+    ghost faults: { Self → ℕ };
+
+    /// How many bytes are taken from here on without a fault. A sink that doesn't tell leaves it out.
+    ghost sure_room: { Self → ℕ } = { λ _. 0 };
+
+    /// Takes the first bytes of `piece`, and answers how many: at least one where there is one. A
+    /// failed write takes no bytes.
+    fn write(&mut self, piece: &[u8]) -> Result<usize, Failed>
+        ensures bound { IfOk result (λ n. n ≤ length piece.now) }
+        ensures progress { IfOk result (λ n. 0 < length piece.now → 0 < n) }
+        ensures bytes { WriteAppends (taken self.old) (taken self.new) result piece.now }
+        ensures cause { OnErr result (HasRisen (faults self.old) (faults self.new)) }
+        ensures count { faults self.old ≤ faults self.new }
+        ensures sure { 0 < length piece.now → length piece.now ≤ sure_room self.old → IsOk result }
+        ensures room { IfOk result (λ n. sure_room self.old ≤ sure_room self.new + n) };
+}
+
+/// Writes all the bytes, piece by piece. After a fault the sink has taken a part from the front of
+/// them, and not all.
+pub fn write_all<K: Sink>(sink: &mut K, bytes: &[u8]) -> Result<(), Failed>
+    ensures ok { OnOk result (Appends (K.taken sink.old) (K.taken sink.new) bytes.now) }
+    ensures err { OnErr result ((n : ℕ) × (n < length bytes.now)
+        × Appends (K.taken sink.old) (K.taken sink.new) (take n bytes.now)) }
+    ensures cause { OnErr result (HasRisen (K.faults sink.old) (K.faults sink.new)) }
+    ensures count { K.faults sink.old ≤ K.faults sink.new }
+    ensures sure { length bytes.now ≤ K.sure_room sink.old → IsOk result }
+    ensures room { OnOk result (K.sure_room sink.old ≤ K.sure_room sink.new + length bytes.now) }
+{
+    let mut rest = bytes;
+    while !rest.is_empty() {
+        let n = sink.write(rest)?;
+        rest = &rest[n..];
+    }
+    Ok(())
+}

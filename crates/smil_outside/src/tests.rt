@@ -1,0 +1,187 @@
+// What no contract says: that the calls succeed with ample memory, and lines of the outside world.
+use crate::{
+    Failed, INPUT_BYTES, Line, LineReader, MemSink, MemSource, Sink, Source, StdSink, StdSource,
+    write_all,
+};
+use std::io;
+use std::io::{Error, Read, Write};
+use std::process::Abort;
+use std::test::Fail;
+
+// Reads to the end, and gives each answer on a line of its own, a line as its number and its bytes.
+fn answers<R: AllocGlobal + Abort, S: Source>(rt: &R, source: &mut S) -> Result<Vec<u8>, Fail> {
+    let mut reader = LineReader::new(rt.alloc())?;
+    let mut out = Vec::new(rt.alloc());
+    for _ in 0..32 {
+        let answer = reader.next(source);
+        match answer {
+            Line::Bytes => {
+                let number = format!(in rt.alloc(); "{}:", reader.number())?;
+                out.extend_from_slice(number.as_bytes())?;
+                out.extend_from_slice(reader.bytes())?;
+                out.push(b'\n')?;
+            }
+            Line::LongLine => out.extend_from_slice(b"long\n")?,
+            ended => {
+                let word = format!(in rt.alloc(); "{ended:?}")?;
+                out.extend_from_slice(word.as_bytes())?;
+                assert_eq!(rt; reader.next(source), ended);
+                assert!(rt; reader.bytes().is_empty());
+                return Ok(out);
+            }
+        }
+    }
+    Ok(out)
+}
+
+fn expect_lines<R: AllocGlobal + Abort>(
+    rt: &R,
+    bytes: &[u8],
+    chunk: usize,
+    fail_at: &[u32],
+    wanted: &str,
+) -> Result<(), Fail> {
+    assert!(rt; chunk > 0);
+    let mut source = MemSource::new(rt.alloc(), bytes, chunk, fail_at)?;
+    let found = answers(rt, &mut source)?;
+    assert_eq!(rt; found.as_slice(), wanted.as_bytes(), "in chunks of {chunk}");
+    Ok(())
+}
+
+#[test]
+fn cuts_lines_whatever_the_chunks(rt: HostRuntime) -> Result<(), Fail> {
+    for chunk in [1, 2, 3, 100] {
+        let text = b"one\r\n\ntwo\rx\n\r\n\r\r\nlast\r";
+        let wanted = "1:one\n2:\n3:two\rx\n4:\n5:\r\n6:last\r\nEnd";
+        expect_lines(&rt, text, chunk, &[], wanted)?;
+        expect_lines(&rt, b"a\n", chunk, &[], "1:a\nEnd")?;
+        expect_lines(&rt, b"", chunk, &[], "End")?;
+    }
+    Ok(())
+}
+
+#[test]
+fn whole_lines_come_before_a_fault(rt: HostRuntime) -> Result<(), Fail> {
+    expect_lines(&rt, b"a\nb\n", 9, &[1], "ReadFault")?;
+    expect_lines(&rt, b"a\nb\nrest\n", 6, &[2], "1:a\n2:b\nReadFault")
+}
+
+#[test]
+fn long_lines(rt: HostRuntime) -> Result<(), Fail> {
+    for (len, end, wanted) in [
+        (4096, "\n", Line::Bytes),
+        (4096, "\r\n", Line::Bytes),
+        (4096, "\r", Line::LongLine),
+        (4097, "\n", Line::LongLine),
+        (4097, "", Line::LongLine),
+        (200_000, "\r\nnext", Line::LongLine),
+    ] {
+        for chunk in [1, 70_000] {
+            let mut bytes = vec![in rt.alloc(); b'x'; len]?;
+            bytes.extend_from_slice(end.as_bytes())?;
+            let mut source = MemSource::new(rt.alloc(), &bytes, chunk, &[])?;
+            let mut reader = LineReader::new(rt.alloc())?;
+            assert_eq!(rt; reader.next(&mut source), wanted, "{len} and {end:?}");
+            assert_eq!(rt; reader.number(), 1);
+        }
+    }
+    Ok(())
+}
+
+// Gives lines of 64 bytes, until so many bytes are given.
+#[derive(Drop)]
+struct Lines {
+    left: usize,
+}
+
+impl Source for Lines {
+    ghost use Rattle.std.specs.Prelude.{None};
+
+    ghost rest = { λ _. None };
+
+    ghost faults = { λ _. 0 };
+
+    fn read(&mut self, buf: &mut [u8]) -> Result<usize, Failed> {
+        let n = buf.len().min(self.left);
+        for (place, byte) in buf.iter_mut().enumerate() {
+            *byte = if place % 64 == 63 { b'\n' } else { b'x' };
+        }
+        self.left -= n;
+        Ok(n)
+    }
+}
+
+#[test]
+fn input_limit(rt: HostRuntime) -> Result<(), Fail> {
+    for (left, wanted) in [
+        (INPUT_BYTES, Line::End),
+        (INPUT_BYTES + 1, Line::InputTooLong),
+    ] {
+        let mut source = Lines { left };
+        let mut reader = LineReader::new(rt.alloc())?;
+        let mut answer = Line::Bytes;
+        for _ in 0..INPUT_BYTES {
+            answer = reader.next(&mut source);
+            if answer != Line::Bytes {
+                break;
+            }
+        }
+        assert_eq!(rt; answer, wanted);
+        assert_eq!(rt; reader.number(), 1_048_576);
+    }
+    Ok(())
+}
+
+#[test]
+fn writes_all_or_a_part(rt: HostRuntime) -> Result<(), Fail> {
+    let mut sink = MemSink::new(rt.alloc(), 5, &[3])?;
+    assert_eq!(rt; write_all(&mut sink, b"abc"), Ok(()));
+    assert_eq!(rt; write_all(&mut sink, b"def"), Err(Failed));
+    assert_eq!(rt; write_all(&mut sink, b"de"), Err(Failed));
+    assert_eq!(rt; write_all(&mut sink, b"de"), Ok(()));
+    assert_eq!(rt; sink.bytes(), b"abcde".as_slice());
+    Ok(())
+}
+
+// A reader and a writer of one byte at a time, which fail once nothing is left.
+#[derive(Drop)]
+struct Pipe {
+    left: usize,
+}
+
+impl Read for Pipe {
+    fn read(&mut self, buf: &mut [u8]) -> io::Result<usize> {
+        if self.left == 0 {
+            return Err(Error::other("nothing is left"));
+        }
+        if buf.is_empty() {
+            return Ok(0);
+        }
+        buf[0] = b'\n';
+        self.left -= 1;
+        Ok(1)
+    }
+}
+
+impl Write for Pipe {
+    fn write(&mut self, piece: &[u8]) -> io::Result<usize> {
+        let n = self.left.min(piece.len()).min(1);
+        self.left -= n;
+        Ok(n)
+    }
+
+    fn flush(&mut self) -> io::Result<()> {
+        Ok(())
+    }
+}
+
+#[test]
+fn over_std(rt: HostRuntime) -> Result<(), Fail> {
+    let mut source = StdSource::new(Pipe { left: 2 });
+    let found = answers(&rt, &mut source)?;
+    assert_eq!(rt; found.as_slice(), b"1:\n2:\nReadFault".as_slice());
+    let mut sink = StdSink::new(Pipe { left: 3 });
+    assert_eq!(rt; write_all(&mut sink, b"ab"), Ok(()));
+    assert_eq!(rt; write_all(&mut sink, b"cd"), Err(Failed));
+    Ok(())
+}
