@@ -1,0 +1,13 @@
+pub mod Passing
+pub mod Readings
+pub mod Fitting
+pub mod Joins
+pub mod Clocks
+pub mod Words
+pub mod Counts
+pub mod Valued
+pub mod Unquoted
+pub mod Kept
+pub mod Printed
+pub mod Filled
+pub mod Noded

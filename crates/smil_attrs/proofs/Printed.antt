@@ -1,0 +1,212 @@
+-- The shape of a printed line: its kind, and each attribute that is there.
+use Rattle.std.proofs.Common.{◌≡◌, ℕ, ◌+◌, ◌-◌, ◌<◌, Bool, true, false, not, eqb, ltb, ◌&&◌, ◌||◌, List, [], ◌∷◌, ◌++◌, length, take, drop, flat_map, Option, Some, None, option_map, refl, sym, ap, subst, ◌∙◌, arith, append_assoc}
+use Rattle.std.specs.Prelude.{codes, bytes_eq, IfSome}
+use Rattle.std.specs.List.{AllByRecursion, prefix_len, slice_split, list_all, list_any}
+use Rattle.std.specs.Str.{is_utf8, chars}
+use Rattle.std.proofs.lemmas.Bool.{and_parts}
+use Rattle.std.proofs.lemmas.List.{take_at, drop_at}
+use Rattle.std.proofs.lemmas.List.Elements.{All-from_recursion}
+use Rattle.std.proofs.lemmas.List.Splits.{slice_split_at}
+use lib.Utf8.{encode}
+use Rattle.smil_model.specs.declared.document.Kind.{Kind}
+use Rattle.smil_model.specs.declared.document.Kind.TheVariants as kind
+use Rattle.smil_model.specs.declared.document.Attrs.{Attrs}
+use Rattle.smil_model.specs.declared.document.AttrName.{AttrName}
+use Rattle.smil_model.specs.declared.document.AttrName.TheVariants as name
+use Rattle.smil_grammar.specs.Texts.{space, quote}
+use Rattle.smil_grammar.specs.Attributes.{kind_text, kind_called, name_text, names}
+use Rattle.smil_grammar.specs.Nodes.{Written, Shape, is_space, is_of_kind, is_named, attribute_at, attributes_at, with_written, pieces_of, shaped, shape_of, repeats}
+use Rattle.smil_grammar.specs.Spellings.{value_text, attribute_text, node_text}
+use Rattle.smil_lexis.proofs.Fronts.{Passes, passes_front, passes_weaker}
+use Rattle.smil_attrs.proofs.Unquoted.{is_unquoted, Unquoted, tested}
+
+-- what stands before the opening quote
+abbrev pub lead : AttrName → List ℕ
+lead n = space ∷ (name_text n ++ codes "=")
+
+lead_unquoted : (n : AttrName) → Unquoted (lead n)
+lead_unquoted name.Id = tested is_unquoted (lead name.Id) refl
+lead_unquoted name.Begin = tested is_unquoted (lead name.Begin) refl
+lead_unquoted name.Dur = tested is_unquoted (lead name.Dur) refl
+lead_unquoted name.End = tested is_unquoted (lead name.End) refl
+lead_unquoted name.Min = tested is_unquoted (lead name.Min) refl
+lead_unquoted name.Max = tested is_unquoted (lead name.Max) refl
+lead_unquoted name.RepeatCount = tested is_unquoted (lead name.RepeatCount) refl
+lead_unquoted name.RepeatDur = tested is_unquoted (lead name.RepeatDur) refl
+lead_unquoted name.Restart = tested is_unquoted (lead name.Restart) refl
+lead_unquoted name.Fill = tested is_unquoted (lead name.Fill) refl
+lead_unquoted name.Endsync = tested is_unquoted (lead name.Endsync) refl
+lead_unquoted name.Peers = tested is_unquoted (lead name.Peers) refl
+lead_unquoted name.Higher = tested is_unquoted (lead name.Higher) refl
+lead_unquoted name.Lower = tested is_unquoted (lead name.Lower) refl
+lead_unquoted name.Src = tested is_unquoted (lead name.Src) refl
+lead_unquoted name.Region = tested is_unquoted (lead name.Region) refl
+lead_unquoted name.Alt = tested is_unquoted (lead name.Alt) refl
+lead_unquoted name.Title = tested is_unquoted (lead name.Title) refl
+
+lead_read : (place : ℕ) (value : List ℕ) (n : AttrName) → attribute_at place (lead n) value ≡ Some (record { name = name_text n; name_place = place + 1; value = value; value_place = place + length (lead n) + 1 })
+unfolding is_utf8 chars encode
+lead_read place value name.Id = refl
+lead_read place value name.Begin = refl
+lead_read place value name.Dur = refl
+lead_read place value name.End = refl
+lead_read place value name.Min = refl
+lead_read place value name.Max = refl
+lead_read place value name.RepeatCount = refl
+lead_read place value name.RepeatDur = refl
+lead_read place value name.Restart = refl
+lead_read place value name.Fill = refl
+lead_read place value name.Endsync = refl
+lead_read place value name.Peers = refl
+lead_read place value name.Higher = refl
+lead_read place value name.Lower = refl
+lead_read place value name.Src = refl
+lead_read place value name.Region = refl
+lead_read place value name.Alt = refl
+lead_read place value name.Title = refl
+
+-- pieces
+
+no_quote : (b : ℕ) → is_unquoted b ≡ true → eqb b quote ≡ false
+no_quote b h = clear (eqb b quote) h
+  where
+    clear : (t : Bool) → not t ≡ true → t ≡ false
+    clear false h = refl
+    clear true h = absurd cc
+
+piece : (front rest : List ℕ) → Unquoted front → pieces_of (front ++ quote ∷ rest) ≡ front ∷ pieces_of rest
+piece front rest h = slice_split_at (λ b. eqb b quote) front quote rest (All-from_recursion (λ b. eqb b quote ≡ false) front (each front h)) refl
+  where
+    each : (text : List ℕ) → Unquoted text → AllByRecursion (λ b. eqb b quote ≡ false) text
+    each [] h = tt
+    each (b ∷ text) h = (no_quote b h.0, each text h.1)
+
+-- the attributes that are written, from this place on
+
+abbrev pub written_at : ℕ → AttrName → List ℕ → Written
+written_at place n value = record { name = name_text n; name_place = place + 1; value = value; value_place = place + length (lead n) + 1 }
+
+-- each attribute that is there, with its place
+abbrev pub written_from : ℕ → (AttrName → Option (List ℕ)) → List AttrName → List Written
+written_from place values [] = []
+written_from place values (n ∷ ns) = elim (values n) as (λ o. List Written) [ None ↦ written_from place values ns | Some value ↦ written_at place n value ∷ written_from (place + length (lead n) + length value + 2) values ns ]
+
+abbrev line_of : (AttrName → Option (List ℕ)) → List AttrName → List ℕ
+line_of values ns = flat_map (λ n. attribute_text n (values n)) ns
+
+regroup : (n : AttrName) (value rest : List ℕ) → attribute_text n (Some value) ++ rest ≡ lead n ++ quote ∷ (value ++ quote ∷ rest)
+regroup n value rest = simp append_assoc
+
+pieces_read : (n : AttrName) (value rest : List ℕ) → Unquoted value → pieces_of (attribute_text n (Some value) ++ rest) ≡ lead n ∷ value ∷ pieces_of rest
+pieces_read n value rest h = ap pieces_of (regroup n value rest) ∙ piece (lead n) (value ++ quote ∷ rest) (lead_unquoted n) ∙ ap (λ (pieces : List (List ℕ)). lead n ∷ pieces) (piece value rest h)
+
+attributes_read : (values : AttrName → Option (List ℕ)) → ((n : AttrName) → IfSome (values n) Unquoted) → (place : ℕ) (ns : List AttrName) → attributes_at place (pieces_of (line_of values ns)) ≡ Some (written_from place values ns)
+attributes_read values h place [] = refl
+attributes_read values h place (n ∷ ns) = one values place n ns (values n) (h n) (λ place. attributes_read values h place ns)
+  where
+    one : (values : AttrName → Option (List ℕ)) (place : ℕ) (n : AttrName) (ns : List AttrName) (o : Option (List ℕ)) → IfSome o Unquoted
+        → ((place : ℕ) → attributes_at place (pieces_of (line_of values ns)) ≡ Some (written_from place values ns))
+        → attributes_at place (pieces_of (attribute_text n o ++ line_of values ns)) ≡ Some (elim o as (λ o. List Written) [ None ↦ written_from place values ns | Some value ↦ written_at place n value ∷ written_from (place + length (lead n) + length value + 2) values ns ])
+    one values place n ns None h others = others place
+    one values place n ns (Some value) h others =
+        ap (attributes_at place) (pieces_read n value (line_of values ns) h) ∙ rw (lead_read place value n, others (place + length (lead n) + length value + 2)) refl
+
+-- no name stands twice
+
+abbrev same : AttrName → AttrName → Bool
+same n m = bytes_eq (name_text m) (name_text n)
+
+abbrev distinct : List AttrName → Bool
+distinct [] = true
+distinct (n ∷ ns) = not (list_any (same n) ns) && distinct ns
+
+or_parts : (a b : Bool) → (a || b) ≡ false → (a ≡ false) × (b ≡ false)
+or_parts false b e = (refl, e)
+or_parts true b e = absurd cc
+
+not_true : (a : Bool) → not a ≡ true → a ≡ false
+not_true false e = refl
+not_true true e = absurd cc
+
+absent : (values : AttrName → Option (List ℕ)) (n : AttrName) (place : ℕ) (ns : List AttrName) → list_any (same n) ns ≡ false → list_any (λ (other : Written). bytes_eq other.name (name_text n)) (written_from place values ns) ≡ false
+absent values n place [] e = refl
+absent values n place (m ∷ ns) e = one values n place m ns (values m) (or_parts (same n m) (list_any (same n) ns) e).0 (λ place. absent values n place ns (or_parts (same n m) (list_any (same n) ns) e).1)
+  where
+    one : (values : AttrName → Option (List ℕ)) (n : AttrName) (place : ℕ) (m : AttrName) (ns : List AttrName) (o : Option (List ℕ)) → same n m ≡ false
+        → ((place : ℕ) → list_any (λ (other : Written). bytes_eq other.name (name_text n)) (written_from place values ns) ≡ false)
+        → list_any (λ (other : Written). bytes_eq other.name (name_text n)) (elim o as (λ o. List Written) [ None ↦ written_from place values ns | Some value ↦ written_at place m value ∷ written_from (place + length (lead m) + length value + 2) values ns ]) ≡ false
+    one values n place m ns None e others = others place
+    one values n place m ns (Some value) e others = rw (e, others (place + length (lead m) + length value + 2)) refl
+
+no_repeats : (values : AttrName → Option (List ℕ)) (place : ℕ) (ns : List AttrName) → distinct ns ≡ true → repeats (written_from place values ns) ≡ false
+no_repeats values place [] e = refl
+no_repeats values place (n ∷ ns) e = one values place n ns (values n) (not_true _ (and_parts _ _ e).0) (λ place. no_repeats values place ns (and_parts (not (list_any (same n) ns)) (distinct ns) e).1)
+  where
+    one : (values : AttrName → Option (List ℕ)) (place : ℕ) (n : AttrName) (ns : List AttrName) (o : Option (List ℕ)) → list_any (same n) ns ≡ false
+        → ((place : ℕ) → repeats (written_from place values ns) ≡ false)
+        → repeats (elim o as (λ o. List Written) [ None ↦ written_from place values ns | Some value ↦ written_at place n value ∷ written_from (place + length (lead n) + length value + 2) values ns ]) ≡ false
+    one values place n ns None e others = others place
+    one values place n ns (Some value) e others = rw (absent values n (place + length (lead n) + length value + 2) ns e, others (place + length (lead n) + length value + 2)) refl
+
+pub names_once : (values : AttrName → Option (List ℕ)) (place : ℕ) → repeats (written_from place values names) ≡ false
+names_once values place = no_repeats values place names refl
+
+-- the kind
+
+kind_passes : (k : Kind) → Passes is_of_kind (kind_text k)
+kind_passes kind.Par = tested is_of_kind (kind_text kind.Par) refl
+kind_passes kind.Seq = tested is_of_kind (kind_text kind.Seq) refl
+kind_passes kind.Excl = tested is_of_kind (kind_text kind.Excl) refl
+kind_passes kind.PriorityClass = tested is_of_kind (kind_text kind.PriorityClass) refl
+kind_passes kind.Img = tested is_of_kind (kind_text kind.Img) refl
+kind_passes kind.Text = tested is_of_kind (kind_text kind.Text) refl
+kind_passes kind.Brush = tested is_of_kind (kind_text kind.Brush) refl
+kind_passes kind.Audio = tested is_of_kind (kind_text kind.Audio) refl
+kind_passes kind.Video = tested is_of_kind (kind_text kind.Video) refl
+kind_passes kind.Animation = tested is_of_kind (kind_text kind.Animation) refl
+kind_passes kind.TextStream = tested is_of_kind (kind_text kind.TextStream) refl
+kind_passes kind.Ref = tested is_of_kind (kind_text kind.Ref) refl
+
+kind_utf8 : (k : Kind) → (ltb 0 (length (kind_text k)) && is_utf8 (kind_text k)) ≡ true
+unfolding is_utf8 chars encode
+kind_utf8 kind.Par = refl
+kind_utf8 kind.Seq = refl
+kind_utf8 kind.Excl = refl
+kind_utf8 kind.PriorityClass = refl
+kind_utf8 kind.Img = refl
+kind_utf8 kind.Text = refl
+kind_utf8 kind.Brush = refl
+kind_utf8 kind.Audio = refl
+kind_utf8 kind.Video = refl
+kind_utf8 kind.Animation = refl
+kind_utf8 kind.TextStream = refl
+kind_utf8 kind.Ref = refl
+
+pub kind_known : (k : Kind) → kind_called (kind_text k) ≡ Some k
+kind_known kind.Par = refl
+kind_known kind.Seq = refl
+kind_known kind.Excl = refl
+kind_known kind.PriorityClass = refl
+kind_known kind.Img = refl
+kind_known kind.Text = refl
+kind_known kind.Brush = refl
+kind_known kind.Audio = refl
+kind_known kind.Video = refl
+kind_known kind.Animation = refl
+kind_known kind.TextStream = refl
+kind_known kind.Ref = refl
+
+stops : (values : AttrName → Option (List ℕ)) (ns : List AttrName) → prefix_len is_of_kind (line_of values ns) ≡ 0
+stops values [] = refl
+stops values (n ∷ ns) = one values n ns (values n) (stops values ns)
+  where
+    one : (values : AttrName → Option (List ℕ)) (n : AttrName) (ns : List AttrName) (o : Option (List ℕ)) → prefix_len is_of_kind (line_of values ns) ≡ 0 → prefix_len is_of_kind (attribute_text n o ++ line_of values ns) ≡ 0
+    one values n ns None e = e
+    one values n ns (Some value) e = refl
+
+pub shape_read : (k : Kind) (values : AttrName → Option (List ℕ)) → ((n : AttrName) → IfSome (values n) Unquoted)
+    → shape_of (kind_text k ++ line_of values names) ≡ Some (record { kind = kind_text k; attributes = written_from (length (kind_text k)) values names })
+shape_read k values h =
+    let text = line_of values names in
+    let len : prefix_len is_of_kind (kind_text k ++ text) ≡ length (kind_text k) = omega (arith, passes_front is_of_kind (kind_text k) text (kind_passes k), stops values names) in
+    rw (len, take_at (kind_text k) text (length (kind_text k)) refl, drop_at (kind_text k) text (length (kind_text k)) refl, attributes_read values h (length (kind_text k)) names, kind_utf8 k) refl

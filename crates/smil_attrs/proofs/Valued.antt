@@ -1,0 +1,164 @@
+-- The printed spelling of a value is read as the same value.
+use Rattle.std.proofs.Common.{◌≡◌, ℕ, ◌≤◌, Bool, true, false, not, cond, eqb, ◌&&◌, List, length, Option, Some, None, option_map, Result, Ok, Err, refl, subst}
+use Rattle.std.specs.Prelude.{pos, codes, bytes_eq, IfOk, IfSome}
+use Rattle.std.proofs.lemmas.Bool.{cond_both}
+use Rattle.smil_model.specs.declared.document.Attr.{Attr}
+use Rattle.smil_model.specs.declared.document.Attr.TheVariants as attr
+use Rattle.smil_model.specs.declared.document.AttrName.{AttrName}
+use Rattle.smil_model.specs.declared.document.AttrName.TheVariants as name
+use Rattle.smil_model.specs.declared.document.Dur.{Dur}
+use Rattle.smil_model.specs.declared.document.Dur.TheVariants as dur
+use Rattle.smil_model.specs.declared.document.Count.{Count}
+use Rattle.smil_model.specs.declared.document.Count.TheVariants as count
+use Rattle.smil_model.specs.declared.document.Restart.{Restart}
+use Rattle.smil_model.specs.declared.document.Restart.TheVariants as restart
+use Rattle.smil_model.specs.declared.document.Fill.{Fill}
+use Rattle.smil_model.specs.declared.document.Fill.TheVariants as fill
+use Rattle.smil_model.specs.declared.document.Endsync.{Endsync}
+use Rattle.smil_model.specs.declared.document.Endsync.TheVariants as endsync
+use Rattle.smil_model.specs.declared.document.Act.{Act}
+use Rattle.smil_model.specs.declared.document.Act.TheVariants as act
+use Rattle.smil_model.specs.declared.document.Item.{Item}
+use Rattle.smil_model.specs.declared.times.Time.{Time}
+use Rattle.smil_model.specs.declared.times.Time.TheVariants as time
+use Rattle.smil_grammar.specs.declared.fault.AttrFault.{AttrFault}
+use Rattle.smil_grammar.specs.declared.fault.ListFault.{ListFault}
+use Rattle.smil_grammar.specs.Texts.{◌>>=◌, trim}
+use Rattle.smil_grammar.specs.Words.{id_len}
+use Rattle.smil_grammar.specs.Numbers.{with_fraction}
+use Rattle.smil_grammar.specs.Clock.{clock_within}
+use Rattle.smil_grammar.specs.Lists.{list_of, IsList}
+use Rattle.smil_grammar.specs.Values.{either, above_zero, short_number_of, thousandths, id_of, kept_of, dur_of, time_of, repeat_dur_of, count_of, restart_of, fill_of, endsync_of, peers_of, higher_of, lower_of, is_other_value, plain_value_of, value_of}
+use Rattle.smil_grammar.specs.Spellings.{attr_text, dur_text, time_text, count_text, endsync_text, act_text}
+use Rattle.smil_grammar.specs.Allowed.{name_of, IsAttr}
+use Rattle.smil_time_list.proofs.Listed.{list_is, list_read}
+use Rattle.smil_attrs.proofs.Readings.{clock_small, length_small, IsLength, number, both, word, value, any_value, listed}
+use Rattle.smil_attrs.proofs.Clocks.{trimmed, no_keyword, clock_read, dur_read, time_read, repeat_read}
+use Rattle.smil_attrs.proofs.Counts.{IsCount, number_below, count_read}
+use Rattle.smil_attrs.proofs.Words.{id_whole, kept_whole}
+
+-- a value is read again
+abbrev Again : Bool → Attr → Type 0
+Again in_seq given = value_of in_seq (name_of given) (attr_text given) ≡ Ok given
+
+abbrev IsSmall : ℕ → Type 0
+IsSmall n = n ≤ 1_000_000_000_000
+
+-- clock values and times
+
+abbrev DurAgain : Dur → Type 0
+DurAgain d = dur_of (trim (dur_text d)) ≡ Some d
+
+dur_again : (text : List ℕ) → IfSome (dur_of text) DurAgain
+dur_again text = both DurAgain _ _ (word DurAgain (bytes_eq text (codes "media")) dur.Media _ refl (word DurAgain (bytes_eq text (codes "indefinite")) dur.Indefinite None refl tt))
+    (number dur.Clock IsSmall DurAgain (λ n le. rw (trimmed n le) (dur_read n le)) (clock_within text) (clock_small text))
+
+min_again : (in_seq : Bool) (n : ℕ) → IsSmall n → Again in_seq (attr.Min (pos n))
+min_again in_seq n le = rw (trimmed n le, no_keyword n 109 (codes "edia") le refl, clock_read n le) refl
+
+abbrev MaxAgain : Bool → Time → Type 0
+MaxAgain in_seq t = Again in_seq (attr.Max t)
+
+max_again : (in_seq : Bool) (text : List ℕ) → IfSome (time_of text) (MaxAgain in_seq)
+max_again in_seq text = both (MaxAgain in_seq) _ _ (word (MaxAgain in_seq) (bytes_eq text (codes "indefinite")) time.Indefinite None refl tt)
+    (number time.At IsSmall (MaxAgain in_seq) (λ n le. rw (trimmed n le, no_keyword n 109 (codes "edia") le refl, time_read n le) refl) (clock_within text) (clock_small text))
+
+abbrev RepeatAgain : Time → Type 0
+RepeatAgain t = repeat_dur_of (trim (time_text t)) ≡ Some t
+
+repeat_again : (text : List ℕ) → IfSome (repeat_dur_of text) RepeatAgain
+repeat_again text = both RepeatAgain _ _ (word RepeatAgain (bytes_eq text (codes "indefinite")) time.Indefinite None refl tt)
+    (number time.At IsLength RepeatAgain (λ n h. rw (trimmed n h.small) (repeat_read n h.small h.some)) (clock_within text >>= above_zero) (length_small text))
+
+abbrev CountAgain : Count → Type 0
+CountAgain c = count_of (trim (count_text c)) ≡ Some c
+
+count_again : (text : List ℕ) → IfSome (count_of text) CountAgain
+count_again text = both CountAgain _ _ (word CountAgain (bytes_eq text (codes "indefinite")) count.Indefinite None refl tt)
+    (counted (option_map thousandths (with_fraction short_number_of 100 text) >>= above_zero) (number_below text))
+  where
+    counted : (o : Option ℕ) → IfSome o IsCount → IfSome (option_map count.Thousandths o) CountAgain
+    counted None h = tt
+    counted (Some n) h = count_read n h
+
+-- lists
+
+list_again : (in_seq : Bool) (text : List ℕ) (r : Result (List Item) ListFault) → list_of in_seq text ≡ r → IfOk r (IsList in_seq)
+list_again in_seq text (Ok items) e = list_is in_seq text items e
+list_again in_seq text (Err fault) e = tt
+
+-- words
+
+restart_again : (in_seq : Bool) (r : Restart) → Again in_seq (attr.Restart r)
+restart_again in_seq restart.Always = refl
+restart_again in_seq restart.WhenNotActive = refl
+restart_again in_seq restart.Never = refl
+
+fill_again : (in_seq : Bool) (f : Fill) → Again in_seq (attr.Fill f)
+fill_again in_seq fill.Remove = refl
+fill_again in_seq fill.Freeze = refl
+fill_again in_seq fill.Hold = refl
+fill_again in_seq fill.Auto = refl
+
+peers_again : (in_seq : Bool) (a : Act) → Again in_seq (attr.Peers a)
+peers_again in_seq act.Stop = refl
+peers_again in_seq act.Pause = refl
+peers_again in_seq act.Defer = refl
+peers_again in_seq act.Never = refl
+
+abbrev HigherAgain : Act → Type 0
+HigherAgain a = higher_of (trim (act_text a)) ≡ Some a
+
+higher_again : (text : List ℕ) → IfSome (higher_of text) HigherAgain
+higher_again text = word HigherAgain (bytes_eq text (codes "stop")) act.Stop _ refl (word HigherAgain (bytes_eq text (codes "pause")) act.Pause None refl tt)
+
+abbrev LowerAgain : Act → Type 0
+LowerAgain a = lower_of (trim (act_text a)) ≡ Some a
+
+lower_again : (text : List ℕ) → IfSome (lower_of text) LowerAgain
+lower_again text = word LowerAgain (bytes_eq text (codes "defer")) act.Defer _ refl (word LowerAgain (bytes_eq text (codes "never")) act.Never None refl tt)
+
+-- an id that is no keyword stays one
+abbrev EndsyncAgain : Bool → Endsync → Type 0
+EndsyncAgain in_seq e = Again in_seq (attr.Endsync e)
+
+endsync_again : (in_seq : Bool) (text : List ℕ) → bytes_eq text (codes "media") ≡ false → IfSome (endsync_of text) (EndsyncAgain in_seq)
+endsync_again in_seq text media =
+    cond_both (bytes_eq text (codes "last")) (Some endsync.Last) _ (λ o. IfSome (either o (option_map endsync.Child (id_of text))) (EndsyncAgain in_seq)) (λ e. refl) (λ last.
+    cond_both (bytes_eq text (codes "first")) (Some endsync.First) _ (λ o. IfSome (either o (option_map endsync.Child (id_of text))) (EndsyncAgain in_seq)) (λ e. refl) (λ first.
+    cond_both (bytes_eq text (codes "all")) (Some endsync.All) None (λ o. IfSome (either o (option_map endsync.Child (id_of text))) (EndsyncAgain in_seq)) (λ e. refl) (λ all.
+    cond_both (not (eqb (length text) 0) && eqb (id_len false text) (length text)) (Some text) None (λ o. IfSome (option_map endsync.Child o) (EndsyncAgain in_seq)) (λ e.
+    child in_seq text media last first all (rw e refl)) (λ e. tt))))
+  where
+    child : (in_seq : Bool) (text : List ℕ) → bytes_eq text (codes "media") ≡ false → bytes_eq text (codes "last") ≡ false → bytes_eq text (codes "first") ≡ false → bytes_eq text (codes "all") ≡ false → id_of text ≡ Some text → EndsyncAgain in_seq (endsync.Child text)
+    child in_seq text media last first all id =
+        let whole : (id_of text ≡ Some text) × (trim text ≡ text) = subst (λ (o : Option (List ℕ)). IfSome o (λ own. (id_of own ≡ Some own) × (trim own ≡ own))) id (id_whole text) in
+        rw (whole.1, media, last, first, all, id) refl
+
+-- attributes
+
+plain_again : (in_seq : Bool) (n : AttrName) (text : List ℕ) → is_other_value n (trim text) ≡ false → IfOk (plain_value_of in_seq n text) (Again in_seq)
+plain_again in_seq name.Id text e = value attr.Id (λ id. (id_of id ≡ Some id) × (trim id ≡ id)) (Again in_seq) (λ id h. rw (h.0) refl) (id_of text) (id_whole text)
+plain_again in_seq name.Begin text e = listed attr.Begin (IsList in_seq) (Again in_seq) (λ items h. rw (list_read in_seq items h) refl) (list_of in_seq text) (list_again in_seq text _ refl)
+plain_again in_seq name.Dur text e = value attr.Dur DurAgain (Again in_seq) (λ d h. rw h refl) (dur_of (trim text)) (dur_again (trim text))
+plain_again in_seq name.End text e = listed attr.End (IsList false) (Again in_seq) (λ items h. rw (list_read false items h) refl) (list_of false text) (list_again false text _ refl)
+plain_again in_seq name.Min text e = value (λ n. attr.Min (pos n)) IsSmall (Again in_seq) (min_again in_seq) (clock_within (trim text)) (clock_small (trim text))
+plain_again in_seq name.Max text e = value attr.Max (MaxAgain in_seq) (Again in_seq) (λ t h. h) (time_of (trim text)) (max_again in_seq (trim text))
+plain_again in_seq name.RepeatCount text e = value attr.RepeatCount CountAgain (Again in_seq) (λ c h. rw h refl) (count_of (trim text)) (count_again (trim text))
+plain_again in_seq name.RepeatDur text e = value attr.RepeatDur RepeatAgain (Again in_seq) (λ t h. rw h refl) (repeat_dur_of (trim text)) (repeat_again (trim text))
+plain_again in_seq name.Restart text e = any_value attr.Restart (Again in_seq) (restart_again in_seq) (restart_of (trim text))
+plain_again in_seq name.Fill text e = any_value attr.Fill (Again in_seq) (fill_again in_seq) (fill_of (trim text))
+plain_again in_seq name.Endsync text e = value attr.Endsync (EndsyncAgain in_seq) (Again in_seq) (λ x h. h) (endsync_of (trim text)) (endsync_again in_seq (trim text) e)
+plain_again in_seq name.Peers text e = any_value attr.Peers (Again in_seq) (peers_again in_seq) (peers_of (trim text))
+plain_again in_seq name.Higher text e = value attr.Higher HigherAgain (Again in_seq) (λ a h. rw h refl) (higher_of (trim text)) (higher_again (trim text))
+plain_again in_seq name.Lower text e = value attr.Lower LowerAgain (Again in_seq) (λ a h. rw h refl) (lower_of (trim text)) (lower_again (trim text))
+plain_again in_seq name.Src text e = value attr.Src (λ kept. kept_of kept ≡ Some kept) (Again in_seq) (λ kept h. rw h refl) (kept_of text) (kept_whole text)
+plain_again in_seq name.Region text e = value attr.Region (λ kept. kept_of kept ≡ Some kept) (Again in_seq) (λ kept h. rw h refl) (kept_of text) (kept_whole text)
+plain_again in_seq name.Alt text e = value attr.Alt (λ kept. kept_of kept ≡ Some kept) (Again in_seq) (λ kept h. rw h refl) (kept_of text) (kept_whole text)
+plain_again in_seq name.Title text e = value attr.Title (λ kept. kept_of kept ≡ Some kept) (Again in_seq) (λ kept h. rw h refl) (kept_of text) (kept_whole text)
+
+pub value_again : (in_seq : Bool) (n : AttrName) (text : List ℕ) → IfOk (value_of in_seq n text) (Again in_seq)
+value_again in_seq n text = cond_both (is_other_value n (trim text)) _ (plain_value_of in_seq n text) (λ r. IfOk r (Again in_seq)) (λ e. tt) (λ e. plain_again in_seq n text e)
+
+pub attr_again : (in_seq : Bool) (given : Attr) → IsAttr in_seq given → value_of in_seq (name_of given) (attr_text given) ≡ Ok given
+attr_again in_seq given h = subst (λ (r : Result Attr AttrFault). IfOk r (Again in_seq)) h.1 (value_again in_seq (name_of given) h.0)

@@ -1,0 +1,42 @@
+-- Ids and kept texts are read again, as values of attributes.
+use Rattle.std.proofs.Common.{◌≡◌, ℕ, ◌+◌, ◌<◌, ◌≤◌, Bool, true, false, not, eqb, ltb, ◌&&◌, List, [], ◌∷◌, length, take, Some, None, refl, sym, ap, subst, ◌∙◌, arith}
+use Rattle.std.specs.Prelude.{IfSome}
+use Rattle.std.specs.List.{prefix_len}
+use Rattle.std.proofs.lemmas.Bool.{cond_both, and_parts, eqb-true}
+use Rattle.std.proofs.lemmas.Bool.Decides.{nat_tests}
+use Rattle.std.proofs.lemmas.List.{take_all}
+use Rattle.smil_grammar.specs.Texts.{trim, is_white}
+use Rattle.smil_grammar.specs.Words.{is_initial, is_of_id, word_len, short_len, id_len}
+use Rattle.smil_grammar.specs.Values.{id_of, kept_of}
+use Rattle.smil_lexis.proofs.Fronts.{Passes, passes_weaker}
+use Rattle.smil_lexis.proofs.Words.{passes_taken, initial_of_id}
+use Rattle.smil_lexis.proofs.Trims.{is_inked, untrimmed}
+
+id_inked : (b : ℕ) → is_of_id b ≡ true → is_inked b ≡ true
+id_inked b h = grind (arith, nat_tests)
+
+all_passes : (p : ℕ → Bool) (text : List ℕ) → prefix_len p text ≡ length text → Passes p text
+all_passes p text e = let all : take (prefix_len p text) text ≡ text = take_all (prefix_len p text) text (omega arith) in subst (Passes p) all (passes_taken p text)
+
+-- all of a text is an id
+whole_id : (text : List ℕ) → id_len false text ≡ length text → Passes is_of_id text
+whole_id [] e = tt
+whole_id (b ∷ bytes) e =
+    cond_both (is_initial b) (1 + prefix_len is_of_id bytes) 0 (λ n. short_len n n ≡ length (b ∷ bytes) → Passes is_of_id (b ∷ bytes))
+    (λ i k. cond_both (ltb 64 (1 + prefix_len is_of_id bytes)) 0 (1 + prefix_len is_of_id bytes) (λ n. n ≡ length (b ∷ bytes) → Passes is_of_id (b ∷ bytes))
+    (λ t m. absurd (omega arith)) (λ t m. (initial_of_id b i, all_passes is_of_id bytes (omega arith))) k)
+    (λ i k. absurd (none b bytes k)) e
+  where
+    none : (b : ℕ) (bytes : List ℕ) → short_len 0 0 ≡ length (b ∷ bytes) → ⊥
+    none b bytes k = omega arith
+
+pub id_passes : (text : List ℕ) → IfSome (id_of text) (Passes is_of_id)
+id_passes text = cond_both (not (eqb (length text) 0) && eqb (id_len false text) (length text)) (Some text) None (λ o. IfSome o (Passes is_of_id))
+    (λ e. whole_id text (eqb-true _ _ (and_parts _ _ e).1)) (λ e. tt)
+
+pub id_whole : (text : List ℕ) → IfSome (id_of text) (λ id. (id_of id ≡ Some id) × (trim id ≡ id))
+id_whole text = cond_both (not (eqb (length text) 0) && eqb (id_len false text) (length text)) (Some text) None (λ o. IfSome o (λ id. (id_of id ≡ Some id) × (trim id ≡ id)))
+    (λ e. (rw e refl, untrimmed text (passes_weaker is_of_id is_inked id_inked text (whole_id text (eqb-true _ _ (and_parts _ _ e).1))))) (λ e. tt)
+
+pub kept_whole : (text : List ℕ) → IfSome (kept_of text) (λ kept. kept_of kept ≡ Some kept)
+kept_whole text = cond_both _ (Some text) None (λ o. IfSome o (λ kept. kept_of kept ≡ Some kept)) (λ e. rw e refl) (λ e. tt)

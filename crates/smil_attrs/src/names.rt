@@ -1,0 +1,121 @@
+//! Names of attributes, and which kind has which.
+
+ghost use Rattle.std.specs.Prelude.{◌≡◌, ℕ, Option, List};
+ghost use Rattle.smil_grammar.specs.Attributes.{name_text, name_called, has as has_name, attr_name_of, is_other_name};
+
+use smil_grammar::AttrFault;
+use smil_lexis::texts::is;
+use smil_model::{AttrName, Kind};
+
+/// The name of an attribute.
+pub fn text(name: AttrName) -> &'static [u8]
+    ensures { result.now ≡ name_text name }
+{
+    match name {
+        AttrName::Id => b"id",
+        AttrName::Begin => b"begin",
+        AttrName::Dur => b"dur",
+        AttrName::End => b"end",
+        AttrName::Min => b"min",
+        AttrName::Max => b"max",
+        AttrName::RepeatCount => b"repeatCount",
+        AttrName::RepeatDur => b"repeatDur",
+        AttrName::Restart => b"restart",
+        AttrName::Fill => b"fill",
+        AttrName::Endsync => b"endsync",
+        AttrName::Peers => b"peers",
+        AttrName::Higher => b"higher",
+        AttrName::Lower => b"lower",
+        AttrName::Src => b"src",
+        AttrName::Region => b"region",
+        AttrName::Alt => b"alt",
+        AttrName::Title => b"title",
+    }
+}
+
+fn called(name: &[u8]) -> Option<AttrName>
+    ensures { result ≡ name_called name.now }
+{
+    if is(name, b"id") {
+        Some(AttrName::Id)
+    } else if is(name, b"begin") {
+        Some(AttrName::Begin)
+    } else if is(name, b"dur") {
+        Some(AttrName::Dur)
+    } else if is(name, b"end") {
+        Some(AttrName::End)
+    } else if is(name, b"min") {
+        Some(AttrName::Min)
+    } else if is(name, b"max") {
+        Some(AttrName::Max)
+    } else if is(name, b"repeatCount") {
+        Some(AttrName::RepeatCount)
+    } else if is(name, b"repeatDur") {
+        Some(AttrName::RepeatDur)
+    } else if is(name, b"restart") {
+        Some(AttrName::Restart)
+    } else if is(name, b"fill") {
+        Some(AttrName::Fill)
+    } else if is(name, b"endsync") {
+        Some(AttrName::Endsync)
+    } else if is(name, b"peers") {
+        Some(AttrName::Peers)
+    } else if is(name, b"higher") {
+        Some(AttrName::Higher)
+    } else if is(name, b"lower") {
+        Some(AttrName::Lower)
+    } else if is(name, b"src") {
+        Some(AttrName::Src)
+    } else if is(name, b"region") {
+        Some(AttrName::Region)
+    } else if is(name, b"alt") {
+        Some(AttrName::Alt)
+    } else if is(name, b"title") {
+        Some(AttrName::Title)
+    } else {
+        None
+    }
+}
+
+fn has(kind: Kind, name: AttrName) -> bool
+    ensures { result ≡ has_name kind name }
+{
+    match name {
+        AttrName::Id => true,
+        AttrName::Endsync => matches!(kind, Kind::Par | Kind::Excl),
+        AttrName::Peers | AttrName::Higher | AttrName::Lower => {
+            matches!(kind, Kind::PriorityClass)
+        }
+        _ => !matches!(kind, Kind::PriorityClass),
+    }
+}
+
+// Attributes of SMIL that are left out.
+fn is_left_out(name: &[u8]) -> bool
+    ensures { result ≡ is_other_name name.now }
+{
+    is(name, b"speed")
+        || is(name, b"accelerate")
+        || is(name, b"decelerate")
+        || is(name, b"autoReverse")
+        || is(name, b"syncBehavior")
+        || is(name, b"syncTolerance")
+        || is(name, b"syncMaster")
+        || is(name, b"syncBehaviorDefault")
+        || is(name, b"syncToleranceDefault")
+        || is(name, b"restartDefault")
+        || is(name, b"fillDefault")
+        || is(name, b"pauseDisplay")
+}
+
+/// The attribute of a kind that this name calls. A name of SMIL that is left out is `UnsupportedName`, and
+/// any other that the kind doesn't have `UnknownAttribute`.
+pub fn attr_name(kind: Kind, name: &[u8]) -> Result<AttrName, AttrFault>
+    ensures { result ≡ attr_name_of kind name.now }
+{
+    match called(name) {
+        Some(called) if has(kind, called) => Ok(called),
+        None if is_left_out(name) => Err(AttrFault::UnsupportedName),
+        _ => Err(AttrFault::UnknownAttribute),
+    }
+}

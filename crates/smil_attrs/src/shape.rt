@@ -1,0 +1,201 @@
+//! The shape of node lines.
+
+ghost use Rattle.std.specs.Prelude.{◌≡◌, ◌<◌, ◌≤◌, ◌+◌, ◌-◌, ◌^◌, ℕ, Option, List, take, length, option_map, Some, None, IsSome, is_some, bytes_eq, if◌then◌else◌};
+ghost use Rattle.std.specs.List.{prefix_len, list_all, list_any};
+ghost use Rattle.smil_grammar.specs.Nodes.{Written as WrittenText, is_space, is_no_space, is_of_kind, shape_of, is_named, attribute_at, repeats as repeats_name};
+ghost use Rattle.smil_attrs.specs.Left.{Passes, attributes_in, written_in};
+
+use smil_lexis::texts::{cut, is};
+use smil_lexis::utf8::is_utf8;
+use std::marker::Model;
+
+/// An attribute as it is written, with the places of its name and its value in the line.
+#[derive(Drop)]
+pub struct Written<'a> {
+    pub name: &'a [u8],
+    pub name_place: usize,
+    pub value: &'a [u8],
+    pub value_place: usize,
+}
+
+impl<'a> Model for Written<'a> {
+    ghost use Rattle.smil_grammar.specs.Nodes.{Written as WrittenText};
+
+    ghost Value = { WrittenText };
+
+    ghost view = { λ a. record { name = a.name.now; name_place = a.name_place; value = a.value.now; value_place = a.value_place } };
+}
+
+/// What is left of a line, from which attributes are taken one by one.
+#[derive(Drop)]
+pub struct Attributes<'a> {
+    text: &'a [u8],
+    place: usize,
+}
+
+impl<'a> Model for Attributes<'a> {
+    ghost use Rattle.std.specs.Prelude.{◌<◌, ◌+◌, ◌^◌, length};
+    ghost use Rattle.smil_attrs.specs.Left.{Left};
+
+    ghost Value = { Left };
+
+    ghost view = { λ a. record { text = a.text.now; place = a.place } };
+
+    ghost invariant = { λ a. a.place + length a.text.now < 2 ^ 64 };
+}
+
+fn spaces(text: &[u8]) -> usize
+    ensures len { result ≡ prefix_len is_space text.now }
+    ensures within { result ≤ length text.now }
+{
+    text.iter().take_while(|byte| **byte == b' ').count()
+}
+
+fn no_space(text: &[u8]) -> bool
+    ensures { result ≡ list_all is_no_space text.now }
+{
+    text.iter().all(|byte| *byte != b' ')
+}
+
+fn only_spaces(text: &[u8]) -> bool
+    ensures { result ≡ list_all is_space text.now }
+{
+    text.iter().all(|byte| *byte == b' ')
+}
+
+// The name before a `=`.
+fn name(run: &[u8]) -> Option<&[u8]>
+    ensures { option_map (λ name. name.now) result ≡ (if is_named run.now then Some (take (length run.now - 1) run.now) else None) }
+{
+    match run {
+        [name @ .., b'='] if !name.is_empty() && no_space(run) && is_utf8(run) => Some(name),
+        _ => None,
+    }
+}
+
+// The attribute of what stands before an opening quote, and what stands behind it.
+fn attribute<'a>(lead: &'a [u8], value: &'a [u8], place: usize) -> Option<Written<'a>>
+    requires { place + length lead.now + 1 < 2 ^ 64 }
+    ensures { result ≡ attribute_at place lead.now value.now }
+{
+    let (front, run) = lead.split_at(spaces(lead));
+    match name(run) {
+        Some(name) if !front.is_empty() => Some(Written {
+            name,
+            name_place: place + front.len(),
+            value,
+            value_place: place + lead.len() + 1,
+        }),
+        _ => None,
+    }
+}
+
+impl<'a> Attributes<'a> {
+    /// Takes the first attribute; where none stands there, nothing is taken.
+    pub fn next(&mut self) -> Option<Written<'a>>
+        ensures { Passes self.old result self.new }
+    {
+        let Some((lead, behind)) = cut(self.text, b'"') else {
+            return None;
+        };
+        let Some((value, rest)) = cut(behind, b'"') else {
+            return None;
+        };
+        let Some(written) = attribute(lead, value, self.place) else {
+            return None;
+        };
+        self.place += lead.len() + value.len() + 2;
+        self.text = rest;
+        Some(written)
+    }
+
+    /// The same attributes once more.
+    pub fn again(&self) -> Attributes<'a>
+        ensures { result ≡ self.now }
+    {
+        Attributes {
+            text: self.text,
+            place: self.place,
+        }
+    }
+
+    // Whether all that is left is of the shape of attributes.
+    fn is_shaped(&self) -> bool
+        ensures { result ≡ is_some (attributes_in self.now) }
+    {
+        let mut left = self.again();
+        while left.next().is_some() {}
+        only_spaces(left.text)
+    }
+
+    // Whether an attribute of this name is left.
+    fn has(&self, name: &[u8]) -> bool
+        requires { IsSome (attributes_in self.now) }
+        ensures { result ≡ list_any (λ (other : WrittenText). bytes_eq other.name name.now) (written_in self.now) }
+    {
+        let mut left = self.again();
+        while let Some(attribute) = left.next() {
+            if is(attribute.name, name) {
+                return true;
+            }
+        }
+        false
+    }
+
+    /// Whether two attributes that are left have the same name.
+    pub fn repeats(&self) -> bool
+        requires { IsSome (attributes_in self.now) }
+        ensures { result ≡ repeats_name (written_in self.now) }
+    {
+        let mut left = self.again();
+        while let Some(attribute) = left.next() {
+            if left.has(attribute.name) {
+                return true;
+            }
+        }
+        false
+    }
+}
+
+/// The shape of a node line.
+#[derive(Drop)]
+pub struct Shape<'a> {
+    pub kind: &'a [u8],
+    pub attributes: Attributes<'a>,
+}
+
+impl<'a> Model for Shape<'a> {
+    ghost use Rattle.std.specs.Prelude.{IsSome};
+    ghost use Rattle.smil_grammar.specs.Nodes.{Shape as ShapeText};
+    ghost use Rattle.smil_attrs.specs.Left.{attributes_in, written_in};
+
+    ghost Value = { ShapeText };
+
+    ghost view = { λ a. record { kind = a.kind.now; attributes = written_in a.attributes } };
+
+    ghost invariant = { λ a. IsSome (attributes_in a.attributes) };
+}
+
+fn kind_len(line: &[u8]) -> usize
+    ensures len { result ≡ prefix_len is_of_kind line.now }
+    ensures within { result ≤ length line.now }
+{
+    line.iter()
+        .take_while(|byte| **byte != b' ' && **byte != b'"')
+        .count()
+}
+
+impl<'a> Shape<'a> {
+    /// The shape of a node line without leading spaces, where it has it.
+    pub fn of(line: &'a [u8]) -> Option<Shape<'a>>
+        ensures { result ≡ shape_of line.now }
+    {
+        let len = kind_len(line);
+        let (kind, text) = line.split_at(len);
+        let attributes = Attributes { text, place: len };
+        if kind.is_empty() || !is_utf8(kind) || !attributes.is_shaped() {
+            return None;
+        }
+        Some(Shape { kind, attributes })
+    }
+}

@@ -1,0 +1,178 @@
+//! Clock values, read and written.
+#![tactic(auto)]
+
+ghost use Rattle.std.specs.Prelude.{◌≡◌, ℕ, ◌≤◌, ◌*◌, ◌/◌, ◌+◌, ◌<◌, ◌++◌, ℤ, pos, ◌≤ℤ◌, nat_abs, Some, IfSome, option_map, List, length, OnOk, OnErr};
+ghost use Rattle.smil_grammar.specs.Clock.{clock_of, clock_answer, clock_within as clock_within_limit, clock_text, full as full_value, partial as partial_value, unit_of, time_count as time_count_value, is_of_number as is_of_number_byte};
+ghost use Rattle.std.specs.List.{prefix_len};
+ghost use Rattle.smil_lexis.specs.Capped.{capped};
+
+use itoa::Buffer;
+pub use smil_grammar::ClockFault;
+use smil_lexis::numbers::{CAP, decimal, seconds, sixty, whole};
+use smil_lexis::texts::{append, cut};
+use smil_model::Bytes;
+use std::alloc::AllocError;
+
+const TENTH: u64 = 100_000_000;
+
+// Whole milliseconds of a number with its billionths.
+fn milliseconds(unit: u64, number: u64, billionths: u64) -> u64
+    requires unit { unit ≤ 3_600_000 }
+    requires number { number ≤ 1_000_000_000_001 }
+    requires billionths { billionths ≤ 30_000_000_000 }
+    ensures value { result ≡ number * unit + billionths * unit / 1_000_000_000 }
+    ensures bound { result ≤ 3_600_001_000_000_000_000 }
+{
+    number * unit + billionths * unit / 1_000_000_000
+}
+
+fn full(hours: &[u8], minutes: &[u8], rest: &[u8]) -> Option<u64>
+    ensures { result ≡ option_map capped (full_value hours.now minutes.now rest.now) }
+{
+    let hours = whole(hours)?;
+    let minutes = sixty(minutes)?;
+    let (seconds, billionths) = seconds(rest, TENTH)?;
+    Some((hours * 3_600_000 + minutes * 60_000 + milliseconds(1000, seconds, billionths)).min(CAP))
+}
+
+fn partial(minutes: &[u8], rest: &[u8]) -> Option<u64>
+    ensures { result ≡ option_map capped (partial_value minutes.now rest.now) }
+{
+    let minutes = sixty(minutes)?;
+    let (seconds, billionths) = seconds(rest, TENTH)?;
+    Some((minutes * 60_000 + milliseconds(1000, seconds, billionths)).min(CAP))
+}
+
+// How many milliseconds a metric has.
+fn unit(metric: &[u8]) -> Option<u64>
+    ensures { result ≡ unit_of metric.now }
+{
+    match metric {
+        [] => Some(1000),
+        [b'h'] => Some(3_600_000),
+        [b'm', b'i', b'n'] => Some(60_000),
+        [b's'] => Some(1000),
+        [b'm', b's'] => Some(1),
+        _ => None,
+    }
+}
+
+fn number_len(text: &[u8]) -> usize
+    ensures len { result ≡ prefix_len is_of_number_byte text.now }
+    ensures within { result ≤ length text.now }
+{
+    text.iter()
+        .take_while(|byte| byte.is_ascii_digit() || **byte == b'.')
+        .count()
+}
+
+fn time_count(text: &[u8]) -> Option<u64>
+    ensures { result ≡ option_map capped (time_count_value text.now) }
+{
+    let (number, metric) = text.split_at(number_len(text));
+    let unit = unit(metric)?;
+    let (count, billionths) = decimal(number, TENTH)?;
+    Some(milliseconds(unit, count, billionths).min(CAP))
+}
+
+fn value(text: &[u8]) -> Option<u64>
+    ensures { result ≡ option_map capped (clock_of text.now) }
+{
+    match cut(text, b':') {
+        Some((first, rest)) => match cut(rest, b':') {
+            Some((minutes, seconds)) => full(first, minutes, seconds),
+            None => partial(first, rest),
+        },
+        None => time_count(text),
+    }
+}
+
+/// The milliseconds of a clock value.
+pub fn read_clock(bytes: &[u8]) -> Result<i64, ClockFault>
+    ensures { result ≡ clock_answer (clock_of bytes.now) }
+{
+    match value(bytes) {
+        Some(value) if value == CAP => Err(ClockFault::TooLong),
+        Some(value) => Ok(value as i64),
+        None => Err(ClockFault::Bad),
+    }
+}
+
+/// The milliseconds of a clock value that isn't above 10^12, as other values have it: none for all other texts.
+#[tactic(auto, using(crate::proofs::Within::clock_ok, crate::proofs::Within::clock_err))]
+pub fn clock_within(bytes: &[u8]) -> Option<i64>
+    ensures value { result ≡ option_map pos (clock_within_limit bytes.now) }
+    ensures low { IfSome result (λ value. pos 0 ≤ℤ value) }
+    ensures high { IfSome result (λ value. value ≤ℤ pos 1_000_000_000_000) }
+{
+    read_clock(bytes).ok()
+}
+
+/// Appends the printed spelling of a clock value. After a refusal `out` is as before.
+pub fn write_clock(value: i64, out: &mut Bytes) -> Result<(), AllocError>
+    requires low { pos 0 ≤ℤ value }
+    requires high { value ≤ℤ pos 1_000_000_000_000 }
+    ensures ok { OnOk result (out.new ≡ out.old ++ clock_text (nat_abs value)) }
+    ensures err { OnErr result (out.new ≡ out.old) }
+{
+    let before = out.len();
+    let mut buffer = Buffer::new();
+    append(out, buffer.format(value as u64).as_bytes())?;
+    if let Err(fault) = append(out, b"ms") {
+        out.cut_back(before);
+        return Err(fault);
+    }
+    Ok(())
+}
+
+/// What was written is read again.
+pub fn clock_again()
+    ensures { (n : ℕ) → n ≤ 1_000_000_000_000 → clock_of (clock_text n) ≡ Some n }
+{}
+
+#[cfg(test)]
+mod tests {
+    use super::*;
+    use std::test::Fail;
+
+    #[test]
+    fn reads(rt: HostRuntime) {
+        let cases = [
+            ("02:30:03", Ok(9_003_000)),
+            ("50:00:10.25", Ok(180_010_250)),
+            ("02:33", Ok(153_000)),
+            ("00:10.5", Ok(10_500)),
+            ("3.2h", Ok(11_520_000)),
+            ("45min", Ok(2_700_000)),
+            ("30s", Ok(30_000)),
+            ("5ms", Ok(5)),
+            ("12.467", Ok(12_467)),
+            ("00.5s", Ok(500)),
+            ("00:00.005", Ok(5)),
+            ("0.0009999", Ok(0)),
+            ("0.9999999999h", Ok(3_599_999)),
+            ("1000000000s", Ok(1_000_000_000_000)),
+            ("1000000001s", Err(ClockFault::TooLong)),
+            ("99999999999999999999999999:00:00", Err(ClockFault::TooLong)),
+            ("99999999999999999999999999:00:60", Err(ClockFault::Bad)),
+            ("00:60", Err(ClockFault::Bad)),
+            ("2:33", Err(ClockFault::Bad)),
+            ("1.s", Err(ClockFault::Bad)),
+            ("5 ms", Err(ClockFault::Bad)),
+            ("", Err(ClockFault::Bad)),
+        ];
+        for (text, value) in cases {
+            assert_eq!(rt; read_clock(text.as_bytes()), value, "{text}");
+        }
+    }
+
+    #[test]
+    fn writes(rt: HostRuntime) -> Result<(), Fail> {
+        let mut out = Bytes::new(rt.alloc());
+        write_clock(9_003_000, &mut out)?;
+        write_clock(0, &mut out)?;
+        assert_eq!(rt; out.slice(), b"9003000ms0ms".as_slice());
+        assert_eq!(rt; clock_within(b"2:33"), None);
+        Ok(())
+    }
+}

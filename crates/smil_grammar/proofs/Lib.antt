@@ -1,0 +1,4 @@
+pub mod ClockValues
+pub mod Names
+pub mod TimeLists
+pub mod Lines

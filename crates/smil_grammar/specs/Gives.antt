@@ -1,0 +1,14 @@
+-- What a call gave is the reading, unless memory ran out.
+use Rattle.std.specs.Prelude.{◌≡◌, Result, Err}
+use Rattle.smil_grammar.specs.declared.fault.AttrFault.{AttrFault}
+use Rattle.smil_grammar.specs.declared.fault.AttrFault.TheVariants as attr
+use Rattle.smil_grammar.specs.declared.fault.NodeFault.{NodeFault}
+use Rattle.smil_grammar.specs.declared.fault.NodeFault.TheVariants as node
+
+abbrev pub GivesAttr : {A : Type 0} → Result A AttrFault → Result A AttrFault → Type 0
+GivesAttr (Err attr.Memory) reading = Unit {0}
+GivesAttr given reading = reading ≡ given
+
+abbrev pub GivesNode : {A : Type 0} → Result A NodeFault → Result A NodeFault → Type 0
+GivesNode (Err node.Memory) reading = Unit {0}
+GivesNode given reading = reading ≡ given

@@ -1,0 +1,17 @@
+pub mod Texts
+pub mod Numbers
+pub mod Words
+pub mod Positions
+pub mod Clock
+pub mod Results
+pub mod Items
+pub mod Lists
+pub mod Attributes
+pub mod Values
+pub mod Nodes
+pub mod Spellings
+pub mod Allowed
+pub mod Gives
+pub mod Scripts
+pub mod Outlines
+pub mod Formats

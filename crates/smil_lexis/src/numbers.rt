@@ -1,0 +1,102 @@
+//! Decimal numbers, of any number of digits.
+
+ghost use Rattle.std.specs.Prelude.{◌≡◌, ℕ, length, ◌<◌, ◌≤◌, ◌*◌, IfSome, option_map, min};
+ghost use Rattle.smil_grammar.specs.Numbers.{number_of, sixty_of, weight, fraction_of, with_fraction};
+ghost use Rattle.smil_lexis.specs.Capped.{capped};
+
+use super::texts::cut;
+
+/// The least number that stands for itself and all greater ones.
+pub const CAP: u64 = 1_000_000_000_001;
+
+/// The number that one digit or more write, `CAP` where it is above.
+pub fn whole(digits: &[u8]) -> Option<u64>
+    ensures number { result ≡ option_map capped (number_of digits.now) }
+    ensures bound { IfSome result (λ n. n ≤ 1_000_000_000_001) }
+{
+    if digits.is_empty() {
+        return None;
+    }
+    let mut number: u64 = 0;
+    for digit in digits {
+        if !digit.is_ascii_digit() {
+            return None;
+        }
+        number = (number * 10 + u64::from(*digit - b'0')).min(CAP);
+    }
+    Some(number)
+}
+
+/// The number that 1 to 9 digits write.
+#[tactic(auto, using(crate::proofs::Digits::short_some, crate::proofs::Digits::short_none))]
+pub fn short(digits: &[u8]) -> Option<u32>
+    requires { length digits.now ≤ 9 }
+    ensures number { result ≡ number_of digits.now }
+    ensures bound { IfSome result (λ n. n < 1_000_000_000) }
+{
+    let number = whole(digits)?;
+    Some(number as u32)
+}
+
+/// The number of two digits, where it is below 60.
+pub fn sixty(digits: &[u8]) -> Option<u64>
+    ensures number { result ≡ sixty_of digits.now }
+    ensures bound { IfSome result (λ n. n < 60) }
+{
+    if digits.len() != 2 {
+        return None;
+    }
+    match whole(digits) {
+        Some(number) if number < 60 => Some(number),
+        _ => None,
+    }
+}
+
+/// What digits behind a point weigh, the first one so much for each one of it.
+fn weigh(digits: &[u8], first: u64) -> u64
+    requires { first ≤ 1_000_000_000 }
+    ensures sum { result ≡ weight first digits.now }
+    ensures bound { result ≤ 300 * first }
+{
+    let mut sum = 0;
+    let mut scale = first;
+    for digit in digits {
+        sum += u64::from(digit.saturating_sub(b'0')) * scale;
+        scale /= 10;
+    }
+    sum
+}
+
+/// The same, where there is a digit and nothing else.
+pub fn fraction(digits: &[u8], first: u64) -> Option<u64>
+    requires { first ≤ 1_000_000_000 }
+    ensures sum { result ≡ fraction_of first digits.now }
+    ensures bound { IfSome result (λ sum. sum ≤ 300 * first) }
+{
+    whole(digits)?;
+    Some(weigh(digits, first))
+}
+
+/// A number with an optional fraction; the number is `CAP` where it is above.
+pub fn decimal(text: &[u8], first: u64) -> Option<(u64, u64)>
+    requires { first ≤ 1_000_000_000 }
+    ensures parts { result ≡ option_map (λ d. (capped d.0, d.1)) (with_fraction number_of first text.now) }
+    ensures bound { IfSome result (λ d. (d.0 ≤ 1_000_000_000_001) × (d.1 ≤ 300 * first)) }
+{
+    match cut(text, b'.') {
+        Some((front, back)) => Some((whole(front)?, fraction(back, first)?)),
+        None => Some((whole(text)?, 0)),
+    }
+}
+
+/// Seconds below 60 of two digits, with an optional fraction.
+pub fn seconds(text: &[u8], first: u64) -> Option<(u64, u64)>
+    requires { first ≤ 1_000_000_000 }
+    ensures parts { result ≡ with_fraction sixty_of first text.now }
+    ensures bound { IfSome result (λ d. (d.0 < 60) × (d.1 ≤ 300 * first)) }
+{
+    match cut(text, b'.') {
+        Some((front, back)) => Some((sixty(front)?, fraction(back, first)?)),
+        None => Some((sixty(text)?, 0)),
+    }
+}

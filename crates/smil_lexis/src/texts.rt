@@ -1,0 +1,125 @@
+//! Cutting texts, and writing them.
+
+ghost use Rattle.std.specs.Prelude.{◌≡◌, ◌<◌, ◌==◌, ◌++◌, length, position, option_map, IfSome, IfOk, bytes_eq, ◌≤◌, OnOk, OnErr};
+ghost use Rattle.std.specs.List.{suffix_len};
+ghost use Rattle.smil_grammar.specs.Texts.{cut_at, is_white as is_white_byte, trim_front as front_trimmed, trim as trimmed, behind as behind_byte};
+ghost use Rattle.smil_grammar.specs.Words.{unescaped as unescaped_bytes};
+
+use super::runs::{is_white, white};
+use smil_model::Bytes;
+use std::alloc::{AllocError, Global};
+
+fn find(bytes: &[u8], byte: u8) -> Option<usize>
+    ensures place { result ≡ position (λ other. other == byte) bytes.now }
+    ensures within { IfSome result (λ place. place < length bytes.now) }
+{
+    bytes.iter().position(|other| *other == byte)
+}
+
+/// What stands before the first such byte, and what stands behind it.
+pub fn cut(bytes: &[u8], byte: u8) -> Option<(&[u8], &[u8])>
+    ensures { option_map (λ cut. (cut.0.now, cut.1.now)) result ≡ cut_at byte bytes.now }
+{
+    let place = find(bytes, byte)?;
+    let (front, _) = bytes.split_at(place);
+    let (_, back) = bytes.split_at(place + 1);
+    Some((front, back))
+}
+
+/// Appends a text. After a refusal `out` is as before.
+pub fn append(out: &mut Bytes, text: &[u8]) -> Result<(), AllocError>
+    ensures ok { OnOk result (out.new ≡ out.old ++ text.now) }
+    ensures err { OnErr result (out.new ≡ out.old) }
+{
+    let before = out.len();
+    for byte in text {
+        if let Err(fault) = out.push(*byte) {
+            out.cut_back(before);
+            return Err(fault);
+        }
+    }
+    Ok(())
+}
+
+/// A list of the bytes of a text.
+pub fn copied(alloc: Global, text: &[u8]) -> Result<Bytes, AllocError>
+    ensures { IfOk result (λ bytes. bytes ≡ text.now) }
+{
+    let mut bytes = Bytes::new(alloc);
+    append(&mut bytes, text)?;
+    Ok(bytes)
+}
+
+/// A list of the bytes of a text but its backslashes.
+pub fn unescaped(alloc: Global, text: &[u8]) -> Result<Bytes, AllocError>
+    ensures { IfOk result (λ bytes. bytes ≡ unescaped_bytes text.now) }
+{
+    let mut bytes = Bytes::new(alloc);
+    for byte in text {
+        if *byte != b'\\' {
+            bytes.push(*byte)?;
+        }
+    }
+    Ok(bytes)
+}
+
+/// Whether two texts are the same.
+pub fn is(text: &[u8], word: &[u8]) -> bool
+    ensures { result ≡ bytes_eq text.now word.now }
+{
+    text == word
+}
+
+/// A text without the white space at its begin.
+pub fn trim_front(text: &[u8]) -> &[u8]
+    ensures { result.now ≡ front_trimmed text.now }
+{
+    let (_, rest) = text.split_at(white(text));
+    rest
+}
+
+fn white_behind(text: &[u8]) -> usize
+    ensures len { result ≡ suffix_len is_white_byte text.now }
+    ensures within { result ≤ length text.now }
+{
+    text.iter()
+        .rev()
+        .take_while(|byte| is_white(**byte))
+        .count()
+}
+
+/// A text without the white space at both ends.
+pub fn trim(text: &[u8]) -> &[u8]
+    ensures { result.now ≡ trimmed text.now }
+{
+    let rest = trim_front(text);
+    let (front, _) = rest.split_at(rest.len() - white_behind(rest));
+    front
+}
+
+/// What stands behind a byte, where it stands first.
+pub fn behind(text: &[u8], wanted: u8) -> Option<&[u8]>
+    ensures { option_map (λ rest. rest.now) result ≡ behind_byte wanted text.now }
+{
+    match text {
+        [first, rest @ ..] if *first == wanted => Some(rest),
+        _ => None,
+    }
+}
+
+#[cfg(test)]
+mod tests {
+    use super::*;
+    use std::test::Fail;
+
+    #[test]
+    fn copies(rt: HostRuntime) -> Result<(), Fail> {
+        let mut text = unescaped(rt.alloc(), b"a\\.b")?;
+        assert_eq!(rt; text.slice(), b"a.b".as_slice());
+        append(&mut text, b"=1")?;
+        assert_eq!(rt; text.slice(), b"a.b=1".as_slice());
+        let copy = copied(rt.alloc(), b"\\x")?;
+        assert_eq!(rt; copy.slice(), b"\\x".as_slice());
+        Ok(())
+    }
+}

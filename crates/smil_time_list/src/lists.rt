@@ -1,0 +1,202 @@
+//! Begin and end lists.
+
+ghost use Rattle.std.specs.Prelude.{◌≡◌, ℕ, ◌==◌, count_by, ◌≤◌, ◌<◌, ◌+◌, ◌^◌, ◌||◌, ◌&&◌, Bool, true, false, MatchOption, IfSome, IfOk, All, List, [], ◌∷◌, length, Result, Ok};
+ghost use Rattle.smil_grammar.specs.Lists.{list_of, few_items, items_from, piece_at, is_plain as is_plain_list, pieces_of, GivesList, is_begin};
+ghost use Rattle.smil_grammar.specs.Spellings.{CanWrite};
+ghost use Rattle.smil_time_list.specs.Pieces.{with_front, GivesMore};
+
+use super::items::item;
+use smil_grammar::{ItemFault, ListFault};
+use smil_lexis::runs::white;
+use smil_lexis::texts::{cut, trim};
+use smil_model::{Edge, ITEMS, Item, Items};
+use std::alloc::Global;
+
+fn piece(alloc: Global, text: &[u8], place: usize, first: Option<usize>) -> Result<Item, ListFault>
+    requires { place + length text.now < 2 ^ 64 }
+    ensures { GivesList result (piece_at first place text.now) }
+{
+    let here = place + white(text);
+    match item(alloc, trim(text)) {
+        Ok(item) => Ok(item),
+        Err(ItemFault::Bad) => Err(ListFault::Bad {
+            place: first.unwrap_or(here),
+        }),
+        Err(ItemFault::Unsupported) => Err(ListFault::Unsupported { place: here }),
+        Err(ItemFault::Memory) => Err(ListFault::Memory),
+    }
+}
+
+// What stands before and behind the first `;`.
+fn split(text: &[u8]) -> Option<(&[u8], &[u8])>
+    ensures pieces { MatchOption result (pieces_of text.now ≡ text.now ∷ []) (λ cut. pieces_of text.now ≡ cut.0.now ∷ pieces_of cut.1.now) }
+    ensures length { IfSome result (λ cut. length cut.0.now + 1 + length cut.1.now ≡ length text.now) }
+{
+    cut(text, b';')
+}
+
+// Reads the pieces of a text, which stands at this place, and appends their items.
+fn more(
+    alloc: Global,
+    items: &mut Items,
+    text: &[u8],
+    place: usize,
+    first: Option<usize>,
+) -> Result<(), ListFault>
+    requires place { place + length text.now < 2 ^ 64 }
+    requires room { length items.old + length (pieces_of text.now) ≤ 32 }
+    ensures { GivesMore items.new result (with_front items.old (items_from first place (pieces_of text.now))) }
+{
+    match split(text) {
+        Some((front, rest)) => {
+            items.push(piece(alloc, front, place, first)?)?;
+            more(alloc, items, rest, place + front.len() + 1, first)
+        }
+        None => {
+            items.push(piece(alloc, text, place, first)?)?;
+            Ok(())
+        }
+    }
+}
+
+// The items of a text of at most 32 pieces.
+fn all(alloc: Global, text: &[u8], first: Option<usize>) -> Result<Items, ListFault>
+    requires { length (pieces_of text.now) ≤ 32 }
+    ensures { GivesList result (items_from first 0 (pieces_of text.now)) }
+{
+    match split(text) {
+        Some((front, rest)) => {
+            let mut items = Items::new(alloc, piece(alloc, front, 0, first)?)?;
+            more(alloc, &mut items, rest, front.len() + 1, first)?;
+            Ok(items)
+        }
+        None => {
+            let items = Items::new(alloc, piece(alloc, text, 0, first)?)?;
+            Ok(items)
+        }
+    }
+}
+
+fn semicolons(text: &[u8]) -> usize
+    ensures { result ≡ count_by (λ b. b == 59) text.now }
+{
+    text.iter().filter(|byte| **byte == b';').count()
+}
+
+#[tactic(auto, using(crate::proofs::Pieces::pieces_count))]
+fn few(alloc: Global, text: &[u8], first: Option<usize>) -> Result<Items, ListFault>
+    ensures { GivesList result (few_items first text.now) }
+{
+    if semicolons(text) >= ITEMS {
+        return Err(ListFault::TooManyItems);
+    }
+    all(alloc, text, first)
+}
+
+fn is_plain(items: &Items) -> bool
+    ensures { result ≡ is_plain_list items.now }
+{
+    if items.len() != 1 {
+        return false;
+    }
+    match items.get(0) {
+        Some(Item::Offset { offset }) => *offset >= 0,
+        _ => false,
+    }
+}
+
+// The begin of a child of a seq.
+fn plain(alloc: Global, text: &[u8]) -> Result<Items, ListFault>
+    ensures { GivesList result (list_of true text.now) }
+{
+    let place = white(text);
+    let items = few(alloc, text, Some(place))?;
+    if is_plain(&items) {
+        Ok(items)
+    } else {
+        Err(ListFault::Bad { place })
+    }
+}
+
+/// The items of a begin or end list, in the order in which they are written. `TooManyItems` where there are
+/// more than 32; else the first fault from left to right, with the number of bytes before the item:
+/// `Unsupported` for an item of a form that is left out, `Bad` for one outside the grammar. The begin of a
+/// child of a seq is one offset that isn't negative: any other list, also one with an item outside the
+/// grammar, is `Bad` at its first item. `Memory` may come at any item.
+pub fn read_list(
+    alloc: Global,
+    bytes: &[u8],
+    side: Edge,
+    seq_child: bool,
+) -> Result<Items, ListFault>
+    ensures items { GivesList result (list_of (seq_child && is_begin side) bytes.now) }
+    ensures can_write { IfOk result (All CanWrite) }
+{
+    if seq_child && matches!(side, Edge::Begin) {
+        plain(alloc, bytes)
+    } else {
+        few(alloc, bytes, None)
+    }
+}
+
+#[cfg(test)]
+mod tests {
+    use super::*;
+    use crate::spellings::write_list;
+    use smil_model::Bytes;
+    use std::test::Fail;
+
+    fn printed(alloc: Global, text: &str) -> Result<Bytes, ListFault> {
+        let items = read_list(alloc, text.as_bytes(), Edge::Begin, false)?;
+        let mut out = Bytes::new(alloc);
+        write_list(&items, &mut out)?;
+        Ok(out)
+    }
+
+    #[test]
+    fn reads_and_prints(rt: HostRuntime) -> Result<(), Fail> {
+        let cases = [
+            (" 3s;+ 1.5 ;-\t00:01 ", "3000ms;1500ms;-1000ms"),
+            ("a.begin;a\\.b.end + 1s ", "a.begin;a\\.b.end+1000ms"),
+            (
+                "click; click-2;_x.click +1min",
+                "click;click-2000ms;_x.click+60000ms",
+            ),
+            ("repeat(2) ;a.repeat(10)- 5ms", "repeat(2);a.repeat(10)-5ms"),
+            ("indefinite;a.begin+0s", "indefinite;a.begin"),
+        ];
+        for (text, want) in cases {
+            let out = printed(rt.alloc(), text)?;
+            assert_eq!(rt; out.slice(), want.as_bytes(), "{text}");
+        }
+        Ok(())
+    }
+
+    #[test]
+    fn answers_faults(rt: HostRuntime) {
+        let cases = [
+            ("0s; x!", false, ListFault::Bad { place: 4 }),
+            ("0s;\t ", false, ListFault::Bad { place: 5 }),
+            ("0s;wallclock(1", false, ListFault::Unsupported { place: 3 }),
+            ("a.marker(x);?", false, ListFault::Unsupported { place: 0 }),
+            (" -1s", true, ListFault::Bad { place: 1 }),
+            ("1s;x!", true, ListFault::Bad { place: 0 }),
+            (
+                "1s; accessKey(a)",
+                true,
+                ListFault::Unsupported { place: 4 },
+            ),
+            (
+                ";;;;;;;;;;;;;;;;;;;;;;;;;;;;;;;;",
+                false,
+                ListFault::TooManyItems,
+            ),
+        ];
+        for (text, seq_child, want) in cases {
+            match read_list(rt.alloc(), text.as_bytes(), Edge::Begin, seq_child) {
+                Ok(_) => assert!(rt; false, "{text} is a list"),
+                Err(fault) => assert_eq!(rt; fault, want, "{text}"),
+            }
+        }
+    }
+}

@@ -1,0 +1,183 @@
+//! Begin and end lists, as they are printed.
+
+ghost use Rattle.std.specs.Prelude.{◌≡◌, ℕ, ◌≤◌, ◌++◌, ℤ, pos, ◌≤ℤ◌, nat_abs, List, length, All, Some, OnOk, OnErr};
+ghost use Rattle.smil_model.specs.declared.document.Item.TheVariants.{Sync, Event, Repeat};
+ghost use Rattle.smil_grammar.specs.Clock.{clock_text};
+ghost use Rattle.smil_grammar.specs.Spellings.{escaped, offset_text, tail_text, of_who, edge_text, item_text, list_text, IsWithin, CanWrite, Begins};
+ghost use Rattle.smil_time_list.specs.Joined.{next_text};
+
+use itoa::Buffer;
+use smil_clock_value::write_clock;
+use smil_lexis::texts::append;
+use smil_model::{Bytes, Edge, Item, Items};
+use std::alloc::AllocError;
+
+fn put_escaped(id: &[u8], out: &mut Bytes) -> Result<(), AllocError>
+    ensures ok { OnOk result (out.new ≡ out.old ++ escaped id.now) }
+    ensures err { OnErr result (Begins out.old out.new) }
+{
+    for byte in id {
+        if *byte == b'-' || *byte == b'.' {
+            append(out, b"\\")?;
+        }
+        out.push(*byte)?;
+    }
+    Ok(())
+}
+
+fn put_signed(sign: &[u8], offset: i64, out: &mut Bytes) -> Result<(), AllocError>
+    requires low { pos 0 ≤ℤ offset }
+    requires high { offset ≤ℤ pos 1_000_000_000_000 }
+    ensures ok { OnOk result (out.new ≡ out.old ++ (sign.now ++ clock_text (nat_abs offset))) }
+    ensures err { OnErr result (Begins out.old out.new) }
+{
+    append(out, sign)?;
+    write_clock(offset, out)
+}
+
+fn put_offset(offset: i64, out: &mut Bytes) -> Result<(), AllocError>
+    requires { IsWithin offset }
+    ensures ok { OnOk result (out.new ≡ out.old ++ offset_text offset) }
+    ensures err { OnErr result (Begins out.old out.new) }
+{
+    if offset < 0 {
+        put_signed(b"-", -offset, out)
+    } else {
+        put_signed(b"", offset, out)
+    }
+}
+
+fn put_tail(offset: i64, out: &mut Bytes) -> Result<(), AllocError>
+    requires { IsWithin offset }
+    ensures ok { OnOk result (out.new ≡ out.old ++ tail_text offset) }
+    ensures err { OnErr result (Begins out.old out.new) }
+{
+    if offset < 0 {
+        put_signed(b"-", -offset, out)
+    } else if offset > 0 {
+        put_signed(b"+", offset, out)
+    } else {
+        Ok(())
+    }
+}
+
+fn put_who(who: &Option<Bytes>, out: &mut Bytes) -> Result<(), AllocError>
+    ensures ok { OnOk result (out.new ≡ out.old ++ of_who who.now) }
+    ensures err { OnErr result (Begins out.old out.new) }
+{
+    match who {
+        Some(id) => {
+            put_escaped(id.slice(), out)?;
+            append(out, b".")
+        }
+        None => Ok(()),
+    }
+}
+
+fn put_edge(edge: Edge, out: &mut Bytes) -> Result<(), AllocError>
+    ensures ok { OnOk result (out.new ≡ out.old ++ edge_text edge) }
+    ensures err { OnErr result (Begins out.old out.new) }
+{
+    match edge {
+        Edge::Begin => append(out, b"begin"),
+        Edge::End => append(out, b"end"),
+    }
+}
+
+#[tactic(auto, using(smil_lexis::proofs::Growing::begins_on))]
+fn put_sync(who: &Bytes, edge: Edge, offset: i64, out: &mut Bytes) -> Result<(), AllocError>
+    requires { IsWithin offset }
+    ensures ok { OnOk result (out.new ≡ out.old ++ item_text (Sync who.now edge offset)) }
+    ensures err { OnErr result (Begins out.old out.new) }
+{
+    put_escaped(who.slice(), out)?;
+    append(out, b".")?;
+    put_edge(edge, out)?;
+    put_tail(offset, out)
+}
+
+#[tactic(auto, using(smil_lexis::proofs::Growing::begins_on))]
+fn put_event(
+    who: &Option<Bytes>,
+    name: &Bytes,
+    offset: i64,
+    out: &mut Bytes,
+) -> Result<(), AllocError>
+    requires { IsWithin offset }
+    ensures ok { OnOk result (out.new ≡ out.old ++ item_text (Event who.now name.now offset)) }
+    ensures err { OnErr result (Begins out.old out.new) }
+{
+    put_who(who, out)?;
+    append(out, name.slice())?;
+    put_tail(offset, out)
+}
+
+#[tactic(auto, using(smil_lexis::proofs::Growing::begins_on))]
+fn put_repeat(who: &Option<Bytes>, n: u32, offset: i64, out: &mut Bytes) -> Result<(), AllocError>
+    requires { IsWithin offset }
+    ensures ok { OnOk result (out.new ≡ out.old ++ item_text (Repeat who.now n offset)) }
+    ensures err { OnErr result (Begins out.old out.new) }
+{
+    put_who(who, out)?;
+    append(out, b"repeat(")?;
+    let mut buffer = Buffer::new();
+    append(out, buffer.format(n).as_bytes())?;
+    append(out, b")")?;
+    put_tail(offset, out)
+}
+
+fn put_item(item: &Item, out: &mut Bytes) -> Result<(), AllocError>
+    requires { CanWrite item.now }
+    ensures ok { OnOk result (out.new ≡ out.old ++ item_text item.now) }
+    ensures err { OnErr result (Begins out.old out.new) }
+{
+    match item {
+        Item::Offset { offset } => put_offset(*offset, out),
+        Item::Sync { who, edge, offset } => put_sync(who, *edge, *offset, out),
+        Item::Event { who, name, offset } => put_event(who, name, *offset, out),
+        Item::Repeat { who, n, offset } => put_repeat(who, *n, *offset, out),
+        Item::Indefinite => append(out, b"indefinite"),
+    }
+}
+
+// The item at a place, and the `;` before it.
+fn put_next(place: usize, item: &Item, out: &mut Bytes) -> Result<(), AllocError>
+    requires { CanWrite item.now }
+    ensures ok { OnOk result (out.new ≡ out.old ++ next_text place item.now) }
+    ensures err { OnErr result (Begins out.old out.new) }
+{
+    if place > 0 {
+        append(out, b";")?;
+    }
+    put_item(item, out)
+}
+
+#[tactic(auto, using(smil_lexis::proofs::Growing::begins_on))]
+fn put_list(items: &Items, out: &mut Bytes) -> Result<(), AllocError>
+    requires { All CanWrite items.now }
+    ensures ok { OnOk result (out.new ≡ out.old ++ list_text items.now) }
+    ensures err { OnErr result (Begins out.old out.new) }
+{
+    for place in 0..items.len() {
+        if let Some(item) = items.get(place) {
+            put_next(place, item, out)?;
+        }
+    }
+    Ok(())
+}
+
+/// Appends the printed spelling of a list. After a refusal `out` is as before.
+pub fn write_list(items: &Items, out: &mut Bytes) -> Result<(), AllocError>
+    requires { All CanWrite items.now }
+    ensures ok { OnOk result (out.new ≡ out.old ++ list_text items.now) }
+    ensures err { OnErr result (out.new ≡ out.old) }
+{
+    let before = out.len();
+    match put_list(items, out) {
+        Ok(()) => Ok(()),
+        Err(fault) => {
+            out.cut_back(before);
+            Err(fault)
+        }
+    }
+}
