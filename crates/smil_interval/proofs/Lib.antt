@@ -1,0 +1,6 @@
+pub mod Ordered
+pub mod Orders
+pub mod Parts
+pub mod Searches
+pub mod Limits
+pub mod Sorting

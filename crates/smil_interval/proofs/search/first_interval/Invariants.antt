@@ -1,0 +1,14 @@
+use Rattle.std.proofs.Common.{◌≡◌, length}
+use Rattle.std.specs.Prelude.{None}
+use Rattle.smil_model.specs.interval.Intervals.{first_from, interval_end, coming_interval}
+use Rattle.smil_interval.specs.Rising.{IsRising}
+use Rattle.smil_interval.proofs.search.first_interval.Given as goal
+
+abbrev pub invariant-search : goal.invariant-search
+invariant-search l = record {
+  rising : IsRising l.rest;
+  same : first_from l.facts (interval_end l.facts l.begins l.ends) None l.rest ≡ coming_interval l.facts l.begins l.ends None;
+}
+
+abbrev pub decreases-search : goal.decreases-search
+decreases-search l = length l.rest
