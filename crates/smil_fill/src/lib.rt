@@ -1,0 +1,10 @@
+//! What is shown of an element: its view, by its facts.
+#![tactic(auto)]
+
+mod states;
+#[cfg(test)]
+mod tests;
+mod views;
+
+pub use smil_model::ViewFacts;
+pub use views::view;

@@ -1,0 +1,5 @@
+pub mod Answered
+pub mod Changes
+pub mod Nodes
+pub mod Intervals
+pub mod Seen

@@ -1,0 +1,124 @@
+//! The words of a line.
+
+ghost use Rattle.std.specs.Prelude.{◌≡◌, ◌++◌, List, map, OnOk, OnErr};
+ghost use Rattle.smil_model.specs.shown.Lines.{line_of, reference_text, shown_text, state_text, how_text};
+ghost use Rattle.smil_report.specs.Words.{word_text, Begins};
+
+use itoa::{Buffer, Integer};
+use smil_model::{Bytes, How, Shown, State, Who};
+use std::alloc::AllocError;
+
+/// A word of a line.
+#[derive(Clone, Copy)]
+pub enum Word<'a> {
+    Text(&'a [u8]),
+    Name(&'a Who),
+    Time(Shown),
+    Moment(i64),
+    Number(u32),
+}
+
+/// A state's name.
+pub fn state_word(state: State) -> &'static [u8]
+    ensures { result.now ≡ state_text state }
+{
+    match state {
+        State::Idle => b"idle",
+        State::Waiting => b"waiting",
+        State::Active => b"active",
+        State::Paused => b"paused",
+        State::Deferred => b"deferred",
+        State::Frozen => b"frozen",
+        State::Done => b"done",
+    }
+}
+
+/// How an interval ended.
+pub fn how_word(how: How) -> &'static [u8]
+    ensures { result.now ≡ how_text how }
+{
+    match how {
+        How::Ended => b"ended",
+        How::Cut => b"cut",
+        How::Playing => b"playing",
+    }
+}
+
+fn put_number<I: Integer>(out: &mut Bytes, number: I) -> Result<(), AllocError>
+    ensures ok { OnOk result (out.new ≡ out.old ++ I.text number) }
+    ensures err { OnErr result (out.new ≡ out.old) }
+{
+    let mut buffer = Buffer::new();
+    out.append(buffer.format(number).as_bytes())
+}
+
+fn put_name(out: &mut Bytes, name: &Who) -> Result<(), AllocError>
+    ensures ok { OnOk result (out.new ≡ out.old ++ reference_text name.now) }
+    ensures err { OnErr result (Begins out.old out.new) }
+{
+    match name {
+        Who::Id(id) => out.append(id.slice()),
+        Who::Serial(serial) => {
+            out.push(b'#')?;
+            put_number(out, *serial)
+        }
+    }
+}
+
+fn put_time(out: &mut Bytes, time: Shown) -> Result<(), AllocError>
+    ensures ok { OnOk result (out.new ≡ out.old ++ shown_text time) }
+    ensures err { OnErr result (out.new ≡ out.old) }
+{
+    match time {
+        Shown::Nothing => out.append(b"-"),
+        Shown::At(value) => put_number(out, value),
+        Shown::Indefinite => out.append(b"indefinite"),
+        Shown::Unresolved => out.append(b"unresolved"),
+        Shown::Standing => out.append(b"?"),
+    }
+}
+
+fn put_word(out: &mut Bytes, word: &Word) -> Result<(), AllocError>
+    ensures ok { OnOk result (out.new ≡ out.old ++ word_text word.now) }
+    ensures err { OnErr result (Begins out.old out.new) }
+{
+    match *word {
+        Word::Text(text) => out.append(text),
+        Word::Name(name) => put_name(out, name),
+        Word::Time(time) => put_time(out, time),
+        Word::Moment(moment) => put_number(out, moment),
+        Word::Number(number) => put_number(out, number),
+    }
+}
+
+#[tactic(auto, using(crate::proofs::Growing::begins_on))]
+fn put_words(out: &mut Bytes, words: &[Word]) -> Result<(), AllocError>
+    ensures ok { OnOk result (out.new ≡ out.old ++ line_of (map word_text words.now)) }
+    ensures err { OnErr result (Begins out.old out.new) }
+{
+    match words {
+        [] => out.append(b"\n"),
+        [last] => {
+            put_word(out, last)?;
+            out.append(b"\n")
+        }
+        [word, rest @ ..] => {
+            put_word(out, word)?;
+            out.append(b" ")?;
+            put_words(out, rest)
+        }
+    }
+}
+
+/// Appends a line of these words, parted by single spaces. Where memory is refused, `out` is as before.
+pub fn put_line(out: &mut Bytes, words: &[Word]) -> Result<(), AllocError>
+    ensures ok { OnOk result (out.new ≡ out.old ++ line_of (map word_text words.now)) }
+    ensures err { OnErr result (out.new ≡ out.old) }
+{
+    let before = out.len();
+    let put = put_words(out, words);
+    if put.is_err() {
+        out.cut_back(before);
+    }
+    put
+}
