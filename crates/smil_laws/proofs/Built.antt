@@ -50,7 +50,7 @@ next_from-none end_of from b q = ap (λ t. cond t (option_map (λ end'. record {
 take_away : (a : ℤ) → a -ℤ a ≡ pos 0
 take_away a = omega (arith, ints)
 
-put_back : (a v : ℤ) → a +ℤ (v -ℤ a) ≡ v
+pub put_back : (a v : ℤ) → a +ℤ (v -ℤ a) ≡ v
 put_back a v = omega (arith, ints)
 
 module _ (b d : ℕ) (id : List ℕ) (fits : b + d ≤ 1_000_000_000_000) (long : 0 < d) where
@@ -111,7 +111,7 @@ module _ (b d : ℕ) (id : List ℕ) (fits : b + d ≤ 1_000_000_000_000) (long 
       ap (λ j. container_duration Par Last (pos 0) (record { named = false; first = option_or None (option_map (λ (i : Interval). i.«end») j); latest = option_or (option_map (λ (i : Interval). i.«end») j) None } ∷ [])) (p ∙ q)
       ∙ implicit_whole (Some (time.At (pos whole)))
 
-  root-1 : (J : ℕ → Option Interval) (m : ℕ) → J 2 ≡ Some of_image → interval_given (with ds1) J (pos m) root ≡ Some of_root
+  pub root-1 : (J : ℕ → Option Interval) (m : ℕ) → J 2 ≡ Some of_image → interval_given (with ds1) J (pos m) root ≡ Some of_root
   unfolding root_play
   root-1 J m p = root_by (simple_of (with ds1) J root) (pos m -ℤ run (with ds1) 1 (pos m)) (lasts_as J (J 2) refl p) (ap (λ a. pos m -ℤ a) (own_all (with ds1) refl 1 m) ∙ take_away (pos m))
 
@@ -135,7 +135,7 @@ module _ (b d : ℕ) (id : List ℕ) (fits : b + d ≤ 1_000_000_000_000) (long 
       ∙ ap (λ t. Some (least_time t (least_time time.Unresolved (cond (ltb b b) (time.At (pos b)) time.Unresolved)))) (small whole (d + b) (omega arith) fits)
       ∙ ap (λ t. Some (least_time (time.At (pos whole)) t)) last_begin
 
-  image-1 : (J : ℕ → Option Interval) (m : ℤ) → interval_given (with ds1) J m (img b d id) ≡ Some of_image
+  pub image-1 : (J : ℕ → Option Interval) (m : ℤ) → interval_given (with ds1) J m (img b d id) ≡ Some of_image
   image-1 J m =
       ap (λ bs. interval_of (facts_of (with ds1) J m (img b d id)) bs []) (begins J m ds1 refl)
       ∙ first_from-accepts (facts_of (with ds1) J m (img b d id)) (interval_end (facts_of (with ds1) J m (img b d id)) (pos b ∷ []) [])
@@ -171,14 +171,14 @@ module _ (b d : ℕ) (id : List ℕ) (fits : b + d ≤ 1_000_000_000_000) (long 
       ∙ ap (λ t. Some (record { begin = pos b; «end» = least_time t (least_time time.Unresolved (cond (ltb b b) (time.At (pos b)) time.Unresolved)) })) (small whole (whole + 0) (omega arith) fits)
       ∙ ap (λ t. Some (record { begin = pos b; «end» = least_time (time.At (pos whole)) t })) last_begin
 
-  image-2 : (J : ℕ → Option Interval) (m : ℕ) → interval_given (with ds2) J (pos m) (img b d id) ≡ Some of_image
+  pub image-2 : (J : ℕ → Option Interval) (m : ℕ) → interval_given (with ds2) J (pos m) (img b d id) ≡ Some of_image
   unfolding image_play
   image-2 J m =
       ap (λ bs. interval_of (facts_of (with ds2) J (pos m) (img b d id)) bs []) (begins J (pos m) ds2 refl)
       ∙ image_by (play_start (with ds2) 2) (iteration_start (with ds2) 2) (outer (with ds2) 2 (pos m) -ℤ run (with ds2) 2 (pos m)) (own_at ds2 refl 2 b (pos b)) (own_at ds2 refl 2 b (pos b))
       (ap (λ a. a -ℤ run (with ds2) 2 (pos m)) (parent_all (with ds2) refl 2 m) ∙ ap (λ a. pos m -ℤ a) (own_all (with ds2) refl 2 m) ∙ take_away (pos m))
 
-  root-2 : (J : ℕ → Option Interval) (m : ℕ) → J 2 ≡ Some of_image → interval_given (with ds2) J (pos m) root ≡ Some of_root
+  pub root-2 : (J : ℕ → Option Interval) (m : ℕ) → J 2 ≡ Some of_image → interval_given (with ds2) J (pos m) root ≡ Some of_root
   unfolding root_play
   root-2 J m p = root_by (simple_of (with ds2) J root) (pos m -ℤ run (with ds2) 1 (pos m)) (lasts_as J (J 2) refl p) (ap (λ a. pos m -ℤ a) (own_all (with ds2) refl 1 m) ∙ take_away (pos m))
 
@@ -187,7 +187,7 @@ module _ (b d : ℕ) (id : List ℕ) (fits : b + d ≤ 1_000_000_000_000) (long 
   after_it : after_end (pos b) (time.At (pos whole)) ≡ time.At (pos whole)
   after_it = ap (λ t. cond t (time.At (pos whole +ℤ pos 1)) (time.At (pos whole))) (and_right (leb b whole) (leb whole b) (lt-leb whole b (omega arith)))
 
-  image-3 : (J : ℕ → Option Interval) (m : ℤ) → interval_given (with ds3) J m (img b d id) ≡ None
+  pub image-3 : (J : ℕ → Option Interval) (m : ℤ) → interval_given (with ds3) J m (img b d id) ≡ None
   image-3 J m =
       ap (λ bs. interval_of (facts_of (with ds3) J m (img b d id)) bs []) (begins J m ds3 refl)
       ∙ ap (λ from. next_from (interval_end (facts_of (with ds3) J m (img b d id)) (pos b ∷ []) []) from (pos b ∷ [])) after_it
@@ -198,14 +198,14 @@ module _ (b d : ℕ) (id : List ℕ) (fits : b + d ≤ 1_000_000_000_000) (long 
       ap (λ j. container_duration Par Last (pos 0) (record { named = false; first = option_or (Some (time.At (pos whole))) (option_map (λ (i : Interval). i.«end») j); latest = option_or (option_map (λ (i : Interval). i.«end») j) (Some (time.At (pos whole))) } ∷ [])) p
       ∙ implicit_whole (Some (time.At (pos whole)))
 
-  root-3 : (J : ℕ → Option Interval) (m : ℕ) → J 2 ≡ None → interval_given (with ds3) J (pos m) root ≡ Some of_root
+  pub root-3 : (J : ℕ → Option Interval) (m : ℕ) → J 2 ≡ None → interval_given (with ds3) J (pos m) root ≡ Some of_root
   unfolding root_play
   root-3 J m p = root_by (simple_of (with ds3) J root) (pos m -ℤ run (with ds3) 1 (pos m)) (gone J p) (ap (λ a. pos m -ℤ a) (own_all (with ds3) refl 1 m) ∙ take_away (pos m))
 
   after_all : after_end (pos 0) (time.At (pos whole)) ≡ time.At (pos whole)
   after_all = ap (λ t. cond t (time.At (pos whole +ℤ pos 1)) (time.At (pos whole))) (and_right (leb 0 whole) (leb whole 0) positive)
 
-  root-4 : (J : ℕ → Option Interval) (m : ℤ) → interval_given (with ds4) J m root ≡ None
+  pub root-4 : (J : ℕ → Option Interval) (m : ℤ) → interval_given (with ds4) J m root ≡ None
   root-4 J m =
       ap (λ from. next_from (interval_end (facts_of (with ds4) J m root) (pos 0 ∷ []) []) from (pos 0 ∷ [])) after_all
       ∙ next_from-none (interval_end (facts_of (with ds4) J m root) (pos 0 ∷ []) []) (time.At (pos whole)) (pos 0) (lt-leb whole 0 (omega arith))

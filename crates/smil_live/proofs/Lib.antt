@@ -1,5 +1,4 @@
 pub mod Answered
 pub mod Changes
 pub mod Nodes
-pub mod Intervals
 pub mod Seen

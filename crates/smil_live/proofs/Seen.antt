@@ -16,7 +16,7 @@ use Rattle.smil_laws.proofs.Unpaused.{parent_all, none_paused}
 use Rattle.smil_live.specs.Image.{par_node, image_node, image}
 use Rattle.smil_laws.specs.Image.{begin_at, end_at}
 use Rattle.smil_live.specs.Lines.{shows}
-use Rattle.smil_live.proofs.Intervals.{put_back, root-1, image-1, root-2, image-2}
+use Rattle.smil_laws.proofs.Built.{put_back, root-1, image-1, root-2, image-2}
 
 -- while the image waits
 abbrev pub waiting : ℕ → ℕ → List View
