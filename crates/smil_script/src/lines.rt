@@ -1,0 +1,274 @@
+//! Lines by their first word.
+
+ghost use Rattle.std.specs.Prelude.{◌≡◌, ◌<◌, ◌^◌, length, IsTrue, IfOk, Ok};
+ghost use Rattle.std.specs.List.{list_all};
+ghost use Rattle.smil_grammar.specs.Texts.{is_white as is_white_byte};
+ghost use Rattle.smil_grammar.specs.Scripts.{Word as WordText, line_of, is_blank as is_blank_line, to as to_name, finish, order_line, command as command_line, first_of, named, or_refused, opens_load as opens_load_line};
+ghost use Rattle.smil_grammar.specs.declared.read.Read.TheVariants.{Blank, Load, Close};
+ghost use Rattle.smil_script.specs.Gives.{GivesRead, HoldsGiven, with_name};
+
+use super::orders::order;
+use super::word::{Word, spaces, word_len};
+use super::words::{is_title, own};
+use smil_grammar::Read;
+use smil_lexis::runs::is_white;
+use smil_lexis::texts::is;
+use smil_model::{Bytes, Refusal};
+use std::alloc::Global;
+
+// Whether a line has no answer: it is white space alone, or its first byte is `#`.
+fn is_blank(line: &[u8]) -> bool
+    ensures { result ≡ is_blank_line line.now }
+{
+    is_all_white(line) || matches!(line, [b'#', ..])
+}
+
+fn is_all_white(line: &[u8]) -> bool
+    ensures { result ≡ list_all is_white_byte line.now }
+{
+    line.iter().all(|byte| is_white(*byte))
+}
+
+// The presentation's name that is the rest of a line.
+fn title(alloc: Global, line: &Word<'_>) -> Result<Bytes, Refusal>
+    ensures load { GivesRead (with_name Load result) (or_refused (named Load line.now)) }
+    ensures close { GivesRead (with_name Close result) (or_refused (named Close line.now)) }
+{
+    let (word, rest) = line.first();
+    if !is_title(word.text) || !rest.is_ended() {
+        return Err(Refusal::NotACommand);
+    }
+    own(alloc, word.text)
+}
+
+// The order to a presentation, behind its name.
+fn to(alloc: Global, name: &[u8], line: &Word<'_>) -> Result<Read, Refusal>
+    ensures reading { GivesRead result (let verb : WordText × WordText = first_of line.now in to_name name.now (finish (order_line verb.0.text verb.1))) }
+    ensures given { IfOk result HoldsGiven }
+{
+    let (verb, rest) = line.first();
+    let order = order(alloc, verb.text, &rest)?;
+    let name = own(alloc, name)?;
+    Ok(Read::To { name, order })
+}
+
+// A line that isn't blank, by its first word.
+fn command(alloc: Global, line: &Word<'_>) -> Result<Read, Refusal>
+    ensures reading { GivesRead result (command_line (first_of line.now)) }
+    ensures given { IfOk result HoldsGiven }
+{
+    let (word, rest) = line.first();
+    if is(word.text, b"load") {
+        let name = title(alloc, &rest)?;
+        Ok(Read::Load { name })
+    } else if is(word.text, b"close") {
+        let name = title(alloc, &rest)?;
+        Ok(Read::Close { name })
+    } else if is_title(word.text) {
+        to(alloc, word.text, &rest)
+    } else {
+        Err(Refusal::NotACommand)
+    }
+}
+
+/// What a script line without its line feed says. A line of white space alone, and one whose first byte is
+/// `#`, are `Blank` and take no memory. Every other line without a reading is refused as `NotACommand`, and
+/// one that has a reading but for its clock value as `BadValue` with the clock value's column, counted in
+/// bytes from 1. `Memory` may come where a name or an order is read. An order that is read is one that a
+/// presentation may be given.
+pub fn read_line(alloc: Global, line: &[u8]) -> Result<Read, Refusal>
+    requires { length line.now < 2 ^ 31 }
+    ensures reading { GivesRead result (line_of line.now) }
+    ensures blank { IsTrue (is_blank_line line.now) → result ≡ Ok Blank }
+    ensures given { IfOk result HoldsGiven }
+{
+    if is_blank(line) {
+        return Ok(Read::Blank);
+    }
+    let whole = Word {
+        text: line,
+        place: 0,
+    };
+    command(alloc, &whole)
+}
+
+/// Whether a line opens a load: its first word is `load`, however it goes on. It takes no memory.
+pub fn opens_load(line: &[u8]) -> bool
+    ensures { result ≡ opens_load_line line.now }
+{
+    let (_, text) = line.split_at(spaces(line));
+    let (word, _) = text.split_at(word_len(text));
+    is(word, b"load")
+}
+
+#[cfg(test)]
+mod tests {
+    use super::*;
+    use smil_model::{Order, Who};
+    use std::test::Fail;
+
+    fn order(alloc: Global, line: &[u8]) -> Result<Order, Refusal>
+        requires { length line.now < 2 ^ 31 }
+    {
+        match read_line(alloc, line)? {
+            Read::To { order, .. } => Ok(order),
+            _ => Err(Refusal::NotACommand),
+        }
+    }
+
+    #[test]
+    fn reads_moments_and_whole_lines(rt: HostRuntime) -> Result<(), Fail> {
+        assert_eq!(rt;
+            order(rt.alloc(), b"u advance  1s ")?,
+            Order::Advance { by: 1000 }
+        );
+        assert_eq!(rt;
+            order(rt.alloc(), b" u seek 00:01")?,
+            Order::Seek { to: 1000 }
+        );
+        assert_eq!(rt; order(rt.alloc(), b"u show")?, Order::Show);
+        assert_eq!(rt; order(rt.alloc(), b"u text ")?, Order::Text);
+        Ok(())
+    }
+
+    #[test]
+    fn reads_events_and_lengths(rt: HostRuntime) -> Result<(), Fail> {
+        let event = Order::Event {
+            who: Who::Serial(12),
+            name: Bytes::of(rt.alloc(), b"click")?,
+        };
+        assert_eq!(rt; order(rt.alloc(), b"u event #12 click")?, event);
+        let media = Order::Media {
+            who: Who::Id(Bytes::of(rt.alloc(), b"a.b-1")?),
+            length: 5,
+        };
+        assert_eq!(rt; order(rt.alloc(), b"u media a.b-1 5ms")?, media);
+        Ok(())
+    }
+
+    #[test]
+    fn reads_removals_and_histories(rt: HostRuntime) -> Result<(), Fail> {
+        let remove = Order::Remove {
+            who: Who::Serial(1),
+        };
+        assert_eq!(rt; order(rt.alloc(), b"u remove #1")?, remove);
+        let history = Order::History {
+            who: Who::Serial(999_999_999),
+        };
+        assert_eq!(rt; order(rt.alloc(), b"u history #999999999")?, history);
+        Ok(())
+    }
+
+    #[test]
+    fn reads_edits(rt: HostRuntime) -> Result<(), Fail> {
+        let set = Order::Set {
+            who: Who::Serial(2),
+            attr: Bytes::of(rt.alloc(), b"dur")?,
+            value: Bytes::of(rt.alloc(), b" x\xff")?,
+            attr_column: 10,
+            column: 15,
+        };
+        assert_eq!(rt; order(rt.alloc(), b"u set #2 dur \" x\xff\" ")?, set);
+        let unset = Order::Unset {
+            who: Who::Serial(2),
+            attr: Bytes::of(rt.alloc(), b"a=b")?,
+            attr_column: 13,
+        };
+        assert_eq!(rt; order(rt.alloc(), b"u unset #2  a=b")?, unset);
+        let insert = Order::Insert {
+            who: Who::Serial(2),
+            place: 7,
+            node: Bytes::of(rt.alloc(), b"img  id=\"x\" ")?,
+            column: 17,
+        };
+        assert_eq!(rt;
+            order(rt.alloc(), b"u insert #2 007 img  id=\"x\" ")?,
+            insert
+        );
+        Ok(())
+    }
+
+    #[test]
+    fn reads_loads_and_blanks(rt: HostRuntime) -> Result<(), Fail> {
+        match read_line(rt.alloc(), b"load show-1 ")? {
+            Read::Load { name } => assert_eq!(rt; name.slice(), b"show-1".as_slice()),
+            _ => assert!(rt; false, "a load"),
+        }
+        match read_line(rt.alloc(), b" close A")? {
+            Read::Close { name } => assert_eq!(rt; name.slice(), b"A".as_slice()),
+            _ => assert!(rt; false, "a close"),
+        }
+        let blanks: [&[u8]; 4] = [b"", b" \t ", b"#load x", b"#\xff"];
+        for line in blanks {
+            assert!(rt; line.len() < 100);
+            match read_line(rt.alloc(), line)? {
+                Read::Blank => {}
+                _ => assert!(rt; false, "{line:?} has no answer"),
+            }
+        }
+        Ok(())
+    }
+
+    #[test]
+    fn opens_loads(rt: HostRuntime) {
+        assert!(rt; opens_load(b"load"));
+        assert!(rt; opens_load(b"  load x \xff"));
+        assert!(rt; !opens_load(b"loads x"));
+        assert!(rt; !opens_load(b"\tload x"));
+        assert!(rt; !opens_load(b""));
+    }
+
+    #[test]
+    fn refuses(rt: HostRuntime) {
+        let lines: [&[u8]; 30] = [
+            b"u",
+            b"u fly",
+            b"%%",
+            b" # x",
+            b"load",
+            b"load load",
+            b"load 1a",
+            b"load a b",
+            b"close _a",
+            b"_u show",
+            b"u show x",
+            b"u\tshow",
+            b"u show\r",
+            b"u advance",
+            b"u advance 1s 2s",
+            b"u media #0 1s",
+            b"u media #01 1s",
+            b"u media a\xff 1s",
+            b"u media a 1x 2",
+            b"u event a beginEvent",
+            b"u event a indefinite",
+            b"u set a dur 1s",
+            b"u set a dur\"1s\"",
+            b"u set a dur \"1s\"x",
+            b"u set a \xff \"x\"",
+            b"u unset a",
+            b"u insert a 1",
+            b"u insert a 1234567890 img",
+            b"u history #1 x",
+            b"u remove",
+        ];
+        for line in lines {
+            assert!(rt; line.len() < 100);
+            let found = read_line(rt.alloc(), line).err();
+            assert_eq!(rt; found, Some(Refusal::NotACommand), "{line:?}");
+        }
+        let clocks: [(&[u8], u32); 6] = [
+            (b"u seek 20000000000s", 8),
+            (b"u advance x ", 11),
+            (b"u advance \t1s", 11),
+            (b"u advance 1s\r", 11),
+            (b"u advance \xff", 11),
+            (b"  u media  a 1x", 14),
+        ];
+        for (line, column) in clocks {
+            assert!(rt; line.len() < 100);
+            let found = read_line(rt.alloc(), line).err();
+            assert_eq!(rt; found, Some(Refusal::BadValue { column }), "{line:?}");
+        }
+    }
+}

@@ -1,0 +1,44 @@
+//! Orders by their verb.
+
+ghost use Rattle.std.specs.Prelude.{◌≡◌, IfOk};
+ghost use Rattle.smil_grammar.specs.Scripts.{order_line, finish};
+ghost use Rattle.smil_model.specs.shown.Answers.{IsGiven};
+ghost use Rattle.smil_script.specs.Gives.{GivesRead};
+
+use super::verbs;
+use super::word::Word;
+use smil_lexis::texts::is;
+use smil_model::{Order, Refusal};
+use std::alloc::Global;
+
+/// The order of a verb and what stands behind it.
+pub fn order(alloc: Global, verb: &[u8], line: &Word<'_>) -> Result<Order, Refusal>
+    ensures reading { GivesRead result (finish (order_line verb.now line.now)) }
+    ensures given { IfOk result IsGiven }
+{
+    if is(verb, b"advance") {
+        verbs::advance(line)
+    } else if is(verb, b"seek") {
+        verbs::seek(line)
+    } else if is(verb, b"event") {
+        verbs::event(alloc, line)
+    } else if is(verb, b"media") {
+        verbs::media(alloc, line)
+    } else if is(verb, b"set") {
+        verbs::set(alloc, line)
+    } else if is(verb, b"unset") {
+        verbs::unset(alloc, line)
+    } else if is(verb, b"insert") {
+        verbs::insert(alloc, line)
+    } else if is(verb, b"remove") {
+        verbs::remove(alloc, line)
+    } else if is(verb, b"show") {
+        verbs::ended(line, Order::Show)
+    } else if is(verb, b"history") {
+        verbs::history(alloc, line)
+    } else if is(verb, b"text") {
+        verbs::ended(line, Order::Text)
+    } else {
+        Err(Refusal::NotACommand)
+    }
+}

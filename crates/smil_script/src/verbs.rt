@@ -1,0 +1,203 @@
+//! Orders, each behind its verb.
+
+ghost use Rattle.std.specs.Prelude.{◌≡◌, ◌<◌, ◌+◌, ℤ, true, IfOk, IfSome, option_map, length};
+ghost use Rattle.smil_grammar.specs.Scripts.{with_clock, with_who, event_line, unset_line, set_line, insert_line, finish, given as given_reading, at_end, quoted as quoted_of};
+ghost use Rattle.smil_model.specs.declared.order.Order.{Order as OrderValue};
+ghost use Rattle.smil_model.specs.declared.order.Order.TheVariants as order_value;
+ghost use Rattle.smil_model.specs.document.Values.{is_clock};
+ghost use Rattle.smil_model.specs.shown.Answers.{IsGiven, IsName};
+ghost use Rattle.smil_script.specs.Gives.{GivesRead, GivesWho, with_value};
+
+use super::word::{Word, is_spaces};
+use super::words;
+use smil_clock_value::clock_within;
+use smil_lexis::texts::{behind, cut};
+use smil_model::{Order, Refusal, Who};
+use std::alloc::Global;
+
+// The column of a place, from 1.
+fn column(place: usize) -> u32
+    requires { place < 2_147_483_648 }
+    ensures { result ≡ place + 1 }
+{
+    place as u32 + 1
+}
+
+/// An order at the end of its line.
+pub fn ended(line: &Word<'_>, order: Order) -> Result<Order, Refusal>
+    ensures reading { result ≡ finish (at_end line.now (given_reading order)) }
+    ensures same { IfOk result (λ given. given ≡ order) }
+{
+    if line.is_ended() {
+        Ok(order)
+    } else {
+        Err(Refusal::NotACommand)
+    }
+}
+
+// The clock value that is the rest of a line. It is looked at after all else: `BadValue` only where the line
+// ends behind it.
+fn clock(line: &Word<'_>) -> Result<i64, Refusal>
+    ensures reading { (made : ℤ → OrderValue) → finish (with_clock made line.now) ≡ with_value made result }
+    ensures clock { IfOk result (λ value. is_clock value ≡ true) }
+{
+    let (word, rest) = line.first();
+    if word.text.is_empty() || !rest.is_ended() {
+        return Err(Refusal::NotACommand);
+    }
+    match clock_within(word.text) {
+        Some(value) => Ok(value),
+        None => Err(Refusal::BadValue {
+            column: column(word.place),
+        }),
+    }
+}
+
+// The element that the first word names, and what stands behind it.
+fn named<'a>(alloc: Global, line: &Word<'a>) -> Result<(Who, Word<'a>), Refusal>
+    ensures reading { GivesWho result line.now }
+    ensures name { IfOk result (λ named. IsName named.0) }
+{
+    let (word, rest) = line.first();
+    let who = words::who(alloc, word.text)?;
+    Ok((who, rest))
+}
+
+/// `advance`: a length.
+pub fn advance(line: &Word<'_>) -> Result<Order, Refusal>
+    ensures reading { GivesRead result (finish (with_clock order_value.Advance line.now)) }
+    ensures given { IfOk result IsGiven }
+{
+    let by = clock(line)?;
+    Ok(Order::Advance { by })
+}
+
+/// `seek`: a moment.
+pub fn seek(line: &Word<'_>) -> Result<Order, Refusal>
+    ensures reading { GivesRead result (finish (with_clock order_value.Seek line.now)) }
+    ensures given { IfOk result IsGiven }
+{
+    let to = clock(line)?;
+    Ok(Order::Seek { to })
+}
+
+// The event's name, behind its element.
+fn event_of(alloc: Global, who: Who, line: &Word<'_>) -> Result<Order, Refusal>
+    requires { IsName who }
+    ensures reading { GivesRead result (finish (event_line who line.now)) }
+    ensures given { IfOk result IsGiven }
+{
+    let (word, rest) = line.first();
+    let name = words::event_name(alloc, word.text)?;
+    ended(&rest, Order::Event { who, name })
+}
+
+/// `event`: an element and the event's name.
+pub fn event(alloc: Global, line: &Word<'_>) -> Result<Order, Refusal>
+    ensures reading { GivesRead result (finish (with_who event_line line.now)) }
+    ensures given { IfOk result IsGiven }
+{
+    let (who, rest) = named(alloc, line)?;
+    event_of(alloc, who, &rest)
+}
+
+/// `media`: an element and a length.
+pub fn media(alloc: Global, line: &Word<'_>) -> Result<Order, Refusal>
+    ensures reading { GivesRead result (finish (with_who (λ who. with_clock (order_value.Media who)) line.now)) }
+    ensures given { IfOk result IsGiven }
+{
+    let (who, line) = named(alloc, line)?;
+    let length = clock(&line)?;
+    Ok(Order::Media { who, length })
+}
+
+// A value between quotes with nothing but spaces behind it.
+fn quoted<'a>(line: &Word<'a>) -> Option<Word<'a>>
+    ensures value { option_map (λ value. (value.text, value)) result ≡ quoted_of line.now }
+    ensures within { IfSome result (λ value. value.place + length value.text + 1 < 2_147_483_648) }
+{
+    let from = line.skipped();
+    let inner = behind(from.text, b'"')?;
+    let (value, rest) = cut(inner, b'"')?;
+    if line.place == from.place || !is_spaces(rest) {
+        return None;
+    }
+    Some(Word {
+        text: value,
+        place: from.place + 1,
+    })
+}
+
+/// `set`: an element, an attribute's name and its value between quotes.
+pub fn set(alloc: Global, line: &Word<'_>) -> Result<Order, Refusal>
+    ensures reading { GivesRead result (finish (with_who set_line line.now)) }
+    ensures given { IfOk result IsGiven }
+{
+    let (who, line) = named(alloc, line)?;
+    let (word, rest) = line.first();
+    let attr = words::attribute(alloc, word.text)?;
+    let value = quoted(&rest).ok_or(Refusal::NotACommand)?;
+    Ok(Order::Set {
+        who,
+        attr,
+        value: words::own(alloc, value.text)?,
+        attr_column: column(word.place),
+        column: column(value.place),
+    })
+}
+
+/// `unset`: an element and an attribute's name.
+pub fn unset(alloc: Global, line: &Word<'_>) -> Result<Order, Refusal>
+    ensures reading { GivesRead result (finish (with_who unset_line line.now)) }
+    ensures given { IfOk result IsGiven }
+{
+    let (who, line) = named(alloc, line)?;
+    let (word, rest) = line.first();
+    let attr = words::attribute(alloc, word.text)?;
+    ended(
+        &rest,
+        Order::Unset {
+            who,
+            attr,
+            attr_column: column(word.place),
+        },
+    )
+}
+
+/// `insert`: an element, a place and a node line to the end of the line.
+pub fn insert(alloc: Global, line: &Word<'_>) -> Result<Order, Refusal>
+    ensures reading { GivesRead result (finish (with_who insert_line line.now)) }
+    ensures given { IfOk result IsGiven }
+{
+    let (who, line) = named(alloc, line)?;
+    let (word, rest) = line.first();
+    let place = words::number(word.text).ok_or(Refusal::NotACommand)?;
+    let node = rest.skipped();
+    if node.text.is_empty() {
+        return Err(Refusal::NotACommand);
+    }
+    Ok(Order::Insert {
+        who,
+        place,
+        node: words::own(alloc, node.text)?,
+        column: column(node.place),
+    })
+}
+
+/// `remove`: an element.
+pub fn remove(alloc: Global, line: &Word<'_>) -> Result<Order, Refusal>
+    ensures reading { GivesRead result (finish (with_who (λ who rest. at_end rest (given_reading (order_value.Remove who))) line.now)) }
+    ensures given { IfOk result IsGiven }
+{
+    let (who, rest) = named(alloc, line)?;
+    ended(&rest, Order::Remove { who })
+}
+
+/// `history`: an element.
+pub fn history(alloc: Global, line: &Word<'_>) -> Result<Order, Refusal>
+    ensures reading { GivesRead result (finish (with_who (λ who rest. at_end rest (given_reading (order_value.History who))) line.now)) }
+    ensures given { IfOk result IsGiven }
+{
+    let (who, rest) = named(alloc, line)?;
+    ended(&rest, Order::History { who })
+}

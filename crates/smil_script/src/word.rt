@@ -1,0 +1,88 @@
+//! What is left of a line.
+
+ghost use Rattle.std.specs.Prelude.{◌≡◌, ◌<◌, ◌≤◌, ◌+◌, ◌^◌, length};
+ghost use Rattle.std.specs.List.{prefix_len, list_all};
+ghost use Rattle.smil_grammar.specs.Nodes.{is_space, is_no_space};
+ghost use Rattle.smil_grammar.specs.Scripts.{skipped as skipped_of, first_of, is_ended as is_ended_word};
+
+use std::marker::Model;
+
+/// A word of a line, or what is left of the line, and its place in it.
+#[derive(Drop)]
+pub struct Word<'a> {
+    pub text: &'a [u8],
+    pub place: usize,
+}
+
+impl<'a> Model for Word<'a> {
+    ghost use Rattle.std.specs.Prelude.{◌<◌, ◌+◌, length};
+    ghost use Rattle.smil_grammar.specs.Scripts.{Word as WordText};
+
+    ghost Value = { WordText };
+
+    ghost view = { λ word. record { text = word.text.now; place = word.place } };
+
+    ghost invariant = { λ word. word.place + length word.text.now < 2_147_483_648 };
+}
+
+/// How many spaces stand at the front.
+pub fn spaces(text: &[u8]) -> usize
+    ensures len { result ≡ prefix_len is_space text.now }
+    ensures within { result ≤ length text.now }
+{
+    text.iter().take_while(|byte| **byte == b' ').count()
+}
+
+/// How many bytes the word at the front has.
+pub fn word_len(text: &[u8]) -> usize
+    ensures len { result ≡ prefix_len is_no_space text.now }
+    ensures within { result ≤ length text.now }
+{
+    text.iter().take_while(|byte| **byte != b' ').count()
+}
+
+/// Whether a text is nothing but spaces.
+pub fn is_spaces(text: &[u8]) -> bool
+    ensures { result ≡ list_all is_space text.now }
+{
+    text.iter().all(|byte| *byte == b' ')
+}
+
+impl<'a> Word<'a> {
+    /// The line from its next word on.
+    pub fn skipped(&self) -> Word<'a>
+        ensures { result ≡ skipped_of self.now }
+    {
+        let len = spaces(self.text);
+        let (_, text) = self.text.split_at(len);
+        Word {
+            text,
+            place: self.place + len,
+        }
+    }
+
+    /// The first word, and what stands behind it.
+    pub fn first(&self) -> (Word<'a>, Word<'a>)
+        ensures { result ≡ first_of self.now }
+    {
+        let from = self.skipped();
+        let len = word_len(from.text);
+        let (text, rest) = from.text.split_at(len);
+        let word = Word {
+            text,
+            place: from.place,
+        };
+        let behind = Word {
+            text: rest,
+            place: from.place + len,
+        };
+        (word, behind)
+    }
+
+    /// Whether nothing but spaces is left.
+    pub fn is_ended(&self) -> bool
+        ensures { result ≡ is_ended_word self.now }
+    {
+        is_spaces(self.text)
+    }
+}

@@ -1,0 +1,145 @@
+//! Names, elements and attributes, as they stand in a line.
+
+ghost use Rattle.std.specs.Prelude.{◌≡◌, ◌≤◌, ◌<◌, ◌==◌, length, IfOk, IfErr, is_some, true, ◌&&◌, not, bytes_eq};
+ghost use Rattle.std.specs.List.{prefix_len, list_any};
+ghost use Rattle.std.specs.Option.{ok_or};
+ghost use Rattle.smil_grammar.specs.Texts.{quote};
+ghost use Rattle.smil_grammar.specs.Values.{id_of, short_number_of};
+ghost use Rattle.smil_grammar.specs.Scripts.{is_of_title as is_of_title_byte, is_title as is_title_text, who_of, event_of, attribute_of};
+ghost use Rattle.smil_model.specs.declared.order.Refusal.TheVariants.{NotACommand, Memory};
+ghost use Rattle.smil_model.specs.document.Words.{is_event_name as is_event_word, is_raised_name};
+ghost use Rattle.smil_model.specs.shown.Answers.{IsName};
+ghost use Rattle.smil_script.specs.Gives.{GivesName, GivesRead, other_names};
+
+use smil_lexis::numbers::short;
+use smil_lexis::runs;
+use smil_lexis::texts::{behind, copied, is};
+use smil_lexis::utf8::is_utf8;
+use smil_model::{Bytes, Refusal, Who};
+use smil_time_list::offsets::count;
+use std::alloc::Global;
+
+fn is_of_title(byte: u8) -> bool
+    ensures { result ≡ is_of_title_byte byte }
+{
+    matches!(byte, b'A'..=b'Z' | b'a'..=b'z' | b'_' | b'0'..=b'9' | b'-')
+}
+
+// How many bytes at the front go on a presentation's name.
+fn title_len(text: &[u8]) -> usize
+    ensures len { result ≡ prefix_len is_of_title_byte text.now }
+    ensures within { result ≤ length text.now }
+{
+    text.iter().take_while(|byte| is_of_title(**byte)).count()
+}
+
+/// Whether a word is a presentation's name: a letter, then letters, digits, `_` and `-`, of at most 32 bytes,
+/// and neither `load` nor `close`.
+pub fn is_title(text: &[u8]) -> bool
+    ensures { result ≡ is_title_text text.now }
+{
+    match text {
+        [b'A'..=b'Z' | b'a'..=b'z', rest @ ..] => {
+            title_len(rest) == rest.len()
+                && rest.len() < 32
+                && !is(text, b"load")
+                && !is(text, b"close")
+        }
+        _ => false,
+    }
+}
+
+/// A list of the bytes of a text.
+pub fn own(alloc: Global, text: &[u8]) -> Result<Bytes, Refusal>
+    ensures same { IfOk result (λ bytes. bytes ≡ text.now) }
+    ensures memory { IfErr result (λ refusal. refusal ≡ Memory) }
+{
+    match copied(alloc, text) {
+        Ok(bytes) => Ok(bytes),
+        Err(_) => Err(Refusal::Memory),
+    }
+}
+
+// An id that is all of a word.
+fn id(alloc: Global, text: &[u8]) -> Result<Bytes, Refusal>
+    ensures reading { GivesRead result (ok_or (id_of text.now) NotACommand) }
+    ensures same { IfOk result (λ id. id ≡ text.now) }
+{
+    if text.is_empty() || runs::id(text, false) != text.len() {
+        return Err(Refusal::NotACommand);
+    }
+    own(alloc, text)
+}
+
+/// The element that a word names, by its id, or by its serial behind `#`.
+pub fn who(alloc: Global, text: &[u8]) -> Result<Who, Refusal>
+    requires { length text.now ≤ 2_147_483_647 }
+    ensures reading { GivesRead result (ok_or (who_of text.now) NotACommand) }
+    ensures name { IfOk result IsName }
+{
+    match behind(text, b'#') {
+        Some(digits) => match count(digits) {
+            Some(serial) => Ok(Who::Serial(serial)),
+            None => Err(Refusal::NotACommand),
+        },
+        None => Ok(Who::Id(id(alloc, text)?)),
+    }
+}
+
+// Whether a word means something else in lists, or is the name of an event that the engine raises itself.
+fn is_other_name(text: &[u8]) -> bool
+    ensures { result ≡ list_any (bytes_eq text.now) other_names }
+{
+    is(text, b"begin")
+        || is(text, b"end")
+        || is(text, b"repeat")
+        || is(text, b"indefinite")
+        || is(text, b"beginEvent")
+        || is(text, b"endEvent")
+        || is(text, b"repeatEvent")
+}
+
+fn is_event_name(text: &[u8]) -> bool
+    ensures { result ≡ is_some (event_of text.now) }
+{
+    !text.is_empty() && runs::name(text) == text.len() && !is_other_name(text)
+}
+
+/// The name of an event that comes from outside.
+pub fn event_name(alloc: Global, text: &[u8]) -> Result<Bytes, Refusal>
+    ensures reading { GivesName result (event_of text.now) }
+    ensures name { IfOk result (λ name. (is_event_word name && not (is_raised_name name)) ≡ true) }
+{
+    if !is_event_name(text) {
+        return Err(Refusal::NotACommand);
+    }
+    own(alloc, text)
+}
+
+fn has_quote(text: &[u8]) -> bool
+    ensures { result ≡ list_any (λ b. b == quote) text.now }
+{
+    text.iter().any(|byte| *byte == b'"')
+}
+
+/// An attribute's name: any word of UTF-8 without a quote.
+pub fn attribute(alloc: Global, text: &[u8]) -> Result<Bytes, Refusal>
+    ensures reading { GivesRead result (ok_or (attribute_of text.now) NotACommand) }
+    ensures same { IfOk result (λ name. name ≡ text.now) }
+    ensures some { IfOk result (λ name. 0 < length text.now) }
+{
+    if text.is_empty() || !is_utf8(text) || has_quote(text) {
+        return Err(Refusal::NotACommand);
+    }
+    own(alloc, text)
+}
+
+/// The number of 1 to 9 digits.
+pub fn number(digits: &[u8]) -> Option<u32>
+    ensures { result ≡ short_number_of digits.now }
+{
+    if digits.len() > 9 {
+        return None;
+    }
+    short(digits)
+}
