@@ -1,6 +1,6 @@
 //! A presentation of a par with one image.
 
-ghost use Rattle.std.specs.Prelude.{◌≡◌, ◌+◌, ◌++◌, ◌≤◌, ◌⊎◌, ℤ, pos, ◌+ℤ◌, ◌≤ℤ◌, OnOk, OnErr, IfOk, IfErr, drop, length, IsTrue, true};
+ghost use Rattle.std.specs.Prelude.{◌≡◌, ◌+◌, ◌++◌, ◌⊎◌, ℤ, pos, ◌+ℤ◌, ◌≤ℤ◌, OnOk, OnErr, IfOk, IfErr, drop, length, IsTrue, true};
 ghost use Rattle.smil_model.specs.document.Values.{is_clock};
 ghost use Rattle.smil_model.specs.shown.Orders.{opened};
 ghost use Rattle.smil_model.specs.shown.Answers.{Accepts, Refuses, load_text};
@@ -37,7 +37,7 @@ impl Model for Presentation {
 
 impl Presentation {
     /// Opens a document that `built` accepts, at moment 0 with an empty log, and appends the lines of what is shown of it.
-    /// The one refusal that comes is `Memory`; after it `out` is as before. No interval is evaluated.
+    /// The one refusal that comes is `Memory`; after it `out` is as before. No interval is evaluated: the count stays.
     pub fn new<L: Ledger>(
         alloc: Global,
         doc: Doc,
@@ -49,7 +49,7 @@ impl Presentation {
         ensures answer { IfOk result (λ presentation. out.new ≡ out.old ++ load_text presentation) }
         ensures refused { IfErr result (λ refusal. (refusal ≡ Refusal.Memory) ⊎ (opened doc ≡ Err refusal)) }
         ensures text { OnErr result (out.new ≡ out.old) }
-        ensures counted { steps.old ≤ steps.new }
+        ensures counted { steps.new ≡ steps.old }
     {
         let _ = steps;
         let Ok(image) = Image::new(alloc, timing_in(&doc).unwrap()) else {
