@@ -1,1 +1,3 @@
-pub mod Laws
+pub mod Before
+pub mod Sets
+pub mod Serials

@@ -2,8 +2,11 @@
 
 ghost use Rattle.std.specs.Prelude.{◌≡◌};
 ghost use Rattle.smil_model.specs.happening.Keys;
+ghost use Rattle.smil_due.specs.Order;
+ghost use Rattle.smil_due.specs.Order.{happening_cmp};
 
 use smil_model::Key;
+use std::cmp::Ordering;
 
 /// The class of a begin.
 const BEGIN: u8 = 2;
@@ -14,29 +17,24 @@ const BEGIN: u8 = 2;
 pub fn comes_before(a: Key, b: Key) -> bool
     ensures { result ≡ Keys.comes_before a b }
 {
-    a.value < b.value
-        || a.value <= b.value
-            && (a.class < b.class || a.class == b.class && is_ordered_before(a, b))
+    order_of(a, b).is_lt()
 }
 
-/// Whether the first of two keys of one moment and class happens before the second.
-fn is_ordered_before(a: Key, b: Key) -> bool
-    ensures { result ≡ Keys.is_ordered_before a b }
+/// Compares two keys by when they happen: by moment, by class, by turn, and an end before a repeat.
+pub fn order_of(a: Key, b: Key) -> Ordering
+    ensures { result ≡ happening_cmp a b }
 {
-    if a.position == b.position {
-        !a.repeat && b.repeat
-    } else {
-        is_placed_before(a, b)
-    }
+    a.value
+        .cmp(&b.value)
+        .then(a.class.cmp(&b.class))
+        .then(turn(a).cmp(&turn(b)))
+        .then(a.repeat.cmp(&b.repeat))
 }
 
-/// Whether the element of the first key has its turn before that of the second.
-fn is_placed_before(a: Key, b: Key) -> bool
-    ensures { result ≡ Keys.is_placed_before a b }
+/// The turn of a key among those of its moment and class: begins in document order, all others against it.
+fn turn(key: Key) -> i64
+    ensures { result ≡ Order.turn key }
 {
-    if a.class == BEGIN {
-        a.position < b.position
-    } else {
-        b.position < a.position
-    }
+    let place = i64::from(key.position);
+    if key.class == BEGIN { place } else { -place }
 }

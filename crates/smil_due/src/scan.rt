@@ -49,11 +49,31 @@ mod tests {
     }
 
     #[test]
-    fn ties(rt: HostRuntime) -> Result<(), Fail> {
-        let begins = [key(2, 5, false), key(2, 3, false), key(3, 1, false)];
-        assert_eq!(rt; least_scan(&begins), Some(begins[1]));
-        let ends = [key(1, 3, true), key(1, 5, true), key(1, 5, false)];
-        assert_eq!(rt; least_scan(&ends), Some(ends[2]));
+    fn ties_in_both_orders(rt: HostRuntime) -> Result<(), Fail> {
+        let pairs = [
+            (key(2, 3, false), key(2, 5, false)),
+            (key(1, 5, false), key(1, 3, false)),
+            (key(3, 5, false), key(3, 3, false)),
+            (key(1, 5, false), key(1, 5, true)),
+            (key(1, 5, true), key(1, 3, false)),
+            (key(1, 3, false), key(2, 1, false)),
+            (key(2, 9, false), key(3, 9, false)),
+        ];
+        for (first, second) in pairs {
+            assert_eq!(rt; least_scan(&[first, second]), Some(first));
+            assert_eq!(rt; least_scan(&[second, first]), Some(first));
+        }
+        Ok(())
+    }
+
+    #[test]
+    fn moment_before_class(rt: HostRuntime) -> Result<(), Fail> {
+        let begin = key(2, 3, false);
+        let later = Key {
+            value: 1001,
+            ..key(1, 3, false)
+        };
+        assert_eq!(rt; least_scan(&[later, begin]), Some(begin));
         assert_eq!(rt; least_scan(&[]), None);
         Ok(())
     }

@@ -38,4 +38,31 @@ mod tests {
         assert_eq!(rt; decide(class, 2), Act::Defer);
         Ok(())
     }
+
+    #[test]
+    fn each_pair_of_acts(rt: HostRuntime) -> Result<(), Fail> {
+        let acts = [Act::Stop, Act::Pause, Act::Defer, Act::Never];
+        for one in acts {
+            for other in acts {
+                let class = Class {
+                    rank: 1,
+                    peers: one,
+                    higher: other,
+                    lower: one,
+                };
+                assert_eq!(rt; decide(class, 0), other);
+                assert_eq!(rt; decide(class, 1), one);
+                assert_eq!(rt; decide(class, 2), one);
+                let class = Class {
+                    peers: other,
+                    higher: one,
+                    ..class
+                };
+                assert_eq!(rt; decide(class, 0), one);
+                assert_eq!(rt; decide(class, 1), other);
+                assert_eq!(rt; decide(class, 2), one);
+            }
+        }
+        Ok(())
+    }
 }

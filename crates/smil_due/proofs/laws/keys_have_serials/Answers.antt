@@ -1,0 +1,5 @@
+use Rattle.smil_due.proofs.Serials.{keys_have_serials}
+use Rattle.smil_due.proofs.laws.keys_have_serials.Goals as goal
+
+pub returns : goal.returns
+returns c = keys_have_serials

@@ -1,0 +1,5 @@
+use Rattle.smil_due.proofs.Before.{irreflexive}
+use Rattle.smil_due.proofs.laws.order_is_irreflexive.Goals as goal
+
+pub returns : goal.returns
+returns c = irreflexive

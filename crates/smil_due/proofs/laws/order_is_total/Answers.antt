@@ -1,0 +1,5 @@
+use Rattle.smil_due.proofs.Before.{total}
+use Rattle.smil_due.proofs.laws.order_is_total.Goals as goal
+
+pub returns : goal.returns
+returns c = total

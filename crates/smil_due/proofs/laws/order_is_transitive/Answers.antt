@@ -1,0 +1,5 @@
+use Rattle.smil_due.proofs.Before.{transitive}
+use Rattle.smil_due.proofs.laws.order_is_transitive.Goals as goal
+
+pub returns : goal.returns
+returns c = transitive
