@@ -1,0 +1,138 @@
+-- The readings of a history, from the last places in its diary.
+use Rattle.std.proofs.Common.{◌≡◌, ℕ, suc, ◌<◌, ◌≤◌, Bool, true, false, ◌&&◌, List, drop, length, refl, ap, sym, ◌∙◌, arith}
+use Rattle.std.specs.Prelude.{fold, nat_le, if◌then◌else◌, Option, Some, None, is_some, unwrap_or}
+use Rattle.std.specs.List.{count_by}
+use Rattle.std.specs.List.Sorted.{IsNonDecreasing}
+use Rattle.std.specs.Option.{option_map_or}
+use Rattle.smil_model.specs.declared.diary.Entry.{Entry}
+use Rattle.smil_model.specs.declared.diary.StepKind.TheVariants as kind
+use Rattle.smil_model.specs.declared.document.Node.{Node}
+use Rattle.smil_model.specs.document.Document.{time_parent}
+use Rattle.smil_model.specs.diary.Diary.{History, last_place, gives_birth, birth_under, lives_under, is_active, is_paused, deferral_after, is_deferred, iteration, iteration_from, is_step, last_step}
+use Rattle.smil_diary.specs.Places.{is_later, later_of, is_from}
+use Rattle.smil_diary.specs.Readings.{IsOf, serial_of}
+use Rattle.smil_diary.specs.Kept.{element_of, paused_by, birth_by, decision_by, deferred_by, last_of}
+use Rattle.smil_diary.proofs.LastPlaces.{birth-last, paused-last, deferral-last, decision-last}
+use Rattle.smil_diary.proofs.Elements.{last-of, playing}
+use Rattle.smil_diary.proofs.PlaceLists.{places-rise, length-places, count-places}
+use Rattle.smil_diary.proofs.Counts.{iteration_at, iteration-last}
+
+-- the birth, from the place of the parent's last begin or repeat
+pub birth-at : (node : Option Node) (parent : ℕ) (diary : List Entry) (B : Option ℕ)
+    → B ≡ last_place (λ (x : Entry). gives_birth parent x.step) diary
+    → serial_of node ≡ Some parent
+    → birth_under node diary ≡ option_map_or suc B (length diary)
+birth-at None parent diary B is same = cc
+birth-at (Some p) parent diary B is same =
+    let serial : p.serial ≡ parent = cc in
+    ap (λ s. option_map_or suc (last_place (λ (x : Entry). gives_birth s x.step) diary) (length diary)) serial
+    ∙ ap (λ o. option_map_or suc o (length diary)) (sym is)
+
+pub birth-of : (s : ℕ) (diary : List Entry)
+    → birth_by (element_of diary s) ≡ last_place (λ (x : Entry). gives_birth s x.step) diary
+birth-of s diary =
+    let began = last-of diary kind.Began s in
+    let repeated = last-of diary kind.Repeated s in
+    ap (λ o. later_of o (last_of (element_of diary s).repeated)) began
+    ∙ ap (λ o. later_of (last_step diary kind.Began s) o) repeated
+    ∙ sym (birth-last s diary)
+
+pub paused-of : (s : ℕ) (diary : List Entry)
+    → paused_by (element_of diary s) ≡ is_paused diary s
+paused-of s diary =
+    let e = element_of diary s in
+    ap (λ a. a && is_later (last_of e.paused) (later_of (last_of e.resumed) (last_of e.began))) (playing diary s)
+    ∙ ap (λ o. is_active diary s && is_later o (later_of (last_of e.resumed) (last_of e.began))) (last-of diary kind.Paused s)
+    ∙ ap (λ o. is_active diary s && is_later (last_step diary kind.Paused s) (later_of o (last_of e.began))) (last-of diary kind.Resumed s)
+    ∙ ap (λ o. is_active diary s && is_later (last_step diary kind.Paused s) (later_of (last_step diary kind.Resumed s) o)) (last-of diary kind.Began s)
+    ∙ ap (λ o. is_active diary s && o) (sym (paused-last s diary))
+
+some-if : {A : Type 0} (a : Bool) (o : Option A) → (a && is_some o) ≡ is_some (if a then o else None)
+some-if true o = refl
+some-if false o = refl
+
+deferred-from : (h : History) (who b : ℕ) (parent : Option ℕ) (diary : List Entry) (alive : Bool) (S C : Option ℕ)
+    → IsOf h diary who parent
+    → ((node : Option Node) → serial_of node ≡ parent → b ≡ birth_under node diary)
+    → ((node : Option Node) → serial_of node ≡ parent → alive ≡ lives_under node diary)
+    → S ≡ last_step diary kind.Deferred who
+    → C ≡ later_of (later_of (last_step diary kind.Began who) (last_step diary kind.Passed who))
+    (later_of (last_step diary kind.Ended who) (last_step diary kind.Cut who))
+    → (alive && (is_from b S && is_later S C)) ≡ is_deferred h who
+deferred-from h who b parent diary alive S C of birth-is alive-is s c =
+    let node : Option Node = time_parent h.nodes who in
+    ap (λ o. alive && (is_from b o && is_later o C)) s
+    ∙ ap (λ o. alive && (is_from b (last_step diary kind.Deferred who) && is_later (last_step diary kind.Deferred who) o))
+    (c ∙ sym (decision-last who diary))
+    ∙ ap (λ o. alive && o) (sym (deferral-last who b diary))
+    ∙ ap
+    (λ k. alive && is_some (fold (λ before (x : Entry). deferral_after who x before x.step) None (drop k diary)))
+    (birth-is node of.parent_is)
+    ∙ ap
+    (λ a. a && is_some (fold (λ before (x : Entry). deferral_after who x before x.step) None (drop (birth_under node diary) diary)))
+    (alive-is node of.parent_is)
+    ∙ ap
+    (λ xs. lives_under node xs && is_some (fold (λ before (x : Entry). deferral_after who x before x.step) None (drop (birth_under node xs) xs)))
+    (sym of.diary_is)
+    ∙ some-if (lives_under node h.diary)
+    (fold (λ before (x : Entry). deferral_after who x before x.step) None (drop (birth_under node h.diary) h.diary))
+
+pub deferred-of : (h : History) (who b : ℕ) (parent : Option ℕ) (diary : List Entry) (alive : Bool)
+    → IsOf h diary who parent
+    → ((node : Option Node) → serial_of node ≡ parent → b ≡ birth_under node diary)
+    → ((node : Option Node) → serial_of node ≡ parent → alive ≡ lives_under node diary)
+    → (alive && deferred_by b (element_of diary who)) ≡ is_deferred h who
+deferred-of h who b parent diary alive of birth-is alive-is =
+    let e = element_of diary who in
+    deferred-from h who b parent diary alive (last_of e.deferred)
+    (decision_by e)
+    of birth-is alive-is (last-of diary kind.Deferred who)
+    (ap (λ o. later_of (later_of o (last_of e.passed)) (later_of (last_of e.ended) (last_of e.cut))) (last-of diary kind.Began who)
+    ∙ ap (λ o. later_of (later_of (last_step diary kind.Began who) o) (later_of (last_of e.ended) (last_of e.cut))) (last-of diary kind.Passed who)
+    ∙ ap (λ o. later_of (later_of (last_step diary kind.Began who) (last_step diary kind.Passed who)) (later_of o (last_of e.cut))) (last-of diary kind.Ended who)
+    ∙ ap (λ o. later_of (later_of (last_step diary kind.Began who) (last_step diary kind.Passed who)) (later_of (last_step diary kind.Ended who) o)) (last-of diary kind.Cut who))
+
+pub iteration-of : (h : History) (who b : ℕ) (parent : Option ℕ) (diary : List Entry) (S : Option ℕ)
+    → IsOf h diary who parent
+    → ((node : Option Node) → serial_of node ≡ parent → b ≡ birth_under node diary)
+    → S ≡ last_step diary kind.Began who
+    → iteration_at who b S diary ≡ iteration h who
+iteration-of h who b parent diary S of birth-is s =
+    let node : Option Node = time_parent h.nodes who in
+    ap (λ o. iteration_at who b o diary) s
+    ∙ sym (iteration-last who b diary)
+    ∙ ap (λ k. unwrap_or (iteration_from who (drop k diary)) 0) (birth-is node of.parent_is)
+    ∙ ap (λ xs. unwrap_or (iteration_from who (drop (birth_under node xs) xs)) 0) (sym of.diary_is)
+
+pub iteration-none : (h : History) (who : ℕ) (parent : Option ℕ) (diary : List Entry)
+    → IsOf h diary who parent → None ≡ last_step diary kind.Began who → 0 ≡ iteration h who
+iteration-none h who parent diary of s =
+    let node : Option Node = time_parent h.nodes who in
+    ap (λ o. iteration_at who (birth_under node diary) o diary) s
+    ∙ sym (iteration-last who (birth_under node diary) diary)
+    ∙ ap (λ xs. unwrap_or (iteration_from who (drop (birth_under node xs) xs)) 0) (sym of.diary_is)
+
+pub iteration-within : (s b k : ℕ) (diary : List Entry) → b ≤ k
+    → count_by (λ (x : Entry). is_step kind.Repeated s x.step) (drop k diary) ≡ iteration_at s b (Some k) diary
+iteration-within s b k diary within =
+    let test : nat_le b k ≡ true = grind arith in
+    ap (λ t. if t then count_by (λ (x : Entry). is_step kind.Repeated s x.step) (drop k diary) else 0) (sym test)
+
+pub iteration-before : (s b k : ℕ) (diary : List Entry) → k < b → 0 ≡ iteration_at s b (Some k) diary
+iteration-before s b k diary before =
+    let test : nat_le b k ≡ false = grind arith in
+    ap (λ t. if t then count_by (λ (x : Entry). is_step kind.Repeated s x.step) (drop k diary) else 0) (sym test)
+
+-- the repeats that the index keeps
+pub repeats-rise : (s : ℕ) (diary : List Entry) → IsNonDecreasing (element_of diary s).repeated
+unfolding element_of
+repeats-rise s diary = places-rise (λ (x : Entry). is_step kind.Repeated s x.step) diary
+
+pub repeats-few : (s : ℕ) (diary : List Entry) → length (element_of diary s).repeated ≤ length diary
+unfolding element_of
+repeats-few s diary = length-places 0 (λ (x : Entry). is_step kind.Repeated s x.step) diary
+
+pub repeats-from : (s k : ℕ) (diary : List Entry)
+    → count_by (nat_le k) (element_of diary s).repeated ≡ count_by (λ (x : Entry). is_step kind.Repeated s x.step) (drop k diary)
+unfolding element_of
+repeats-from s k diary = count-places k (λ (x : Entry). is_step kind.Repeated s x.step) diary

@@ -1,0 +1,229 @@
+-- What the last places of two tests say of a fold that one sets and the other clears.
+use Rattle.std.proofs.Common.{◌≡◌, ℕ, zero, suc, ◌-◌, Bool, true, false, ◌&&◌, ◌||◌, List, [], ◌∷◌, drop, refl, ap, ◌∙◌, arith}
+use Rattle.std.specs.Prelude.{fold, nat_lt, nat_le, if◌then◌else◌, Option, Some, None, is_some}
+use Rattle.smil_model.specs.declared.diary.Entry.{Entry}
+use Rattle.smil_model.specs.declared.diary.Step.{Step}
+use Rattle.smil_model.specs.declared.diary.Step.TheVariants.{Began, Repeated, Ended, Cut, Paused, Resumed, Deferred, Passed, Logged}
+use Rattle.smil_model.specs.declared.diary.StepKind.TheVariants as kind
+use Rattle.smil_model.specs.diary.Diary.{last_place, later_place, gives_birth, active_after, paused_after, deferral_after, is_step, is_active, last_step}
+use Rattle.smil_diary.specs.Places.{is_later, later_of, is_from, is_end, is_decision}
+
+-- the fold's value where it began with `before`
+abbrev pub held : Bool → Option ℕ → Option ℕ → Bool
+held before None None = before
+held before None (Some k) = false
+held before (Some s) None = true
+held before (Some s) (Some k) = nat_lt k s
+
+abbrev pub set_or_clear : Bool → Bool → Bool → Bool
+set_or_clear is_clear is_set before = if is_clear then false else is_set || before
+
+held-later : (c s before : Bool) (S C : Option ℕ) →
+    held (set_or_clear c s before) S C ≡ held before (later_place s S) (later_place c C)
+held-later true true before None None = refl
+held-later true false before None None = refl
+held-later false true before None None = refl
+held-later false false before None None = refl
+held-later true true before None (Some k) = grind arith
+held-later true false before None (Some k) = grind arith
+held-later false true before None (Some k) = grind arith
+held-later false false before None (Some k) = grind arith
+held-later true true before (Some k) None = grind arith
+held-later true false before (Some k) None = grind arith
+held-later false true before (Some k) None = grind arith
+held-later false false before (Some k) None = grind arith
+held-later true true before (Some j) (Some k) = grind arith
+held-later true false before (Some j) (Some k) = grind arith
+held-later false true before (Some j) (Some k) = grind arith
+held-later false false before (Some j) (Some k) = grind arith
+
+pub fold-held : {A : Type 0} (after : Bool → A → Bool) (set clear : A → Bool)
+    → ((b : Bool) (x : A) → after b x ≡ set_or_clear (clear x) (set x) b) → (before : Bool) (xs : List A)
+    → fold after before xs ≡ held before (last_place set xs) (last_place clear xs)
+fold-held after set clear is before [] = refl
+fold-held after set clear is before (x ∷ xs) =
+    fold-held after set clear is (after before x) xs
+    ∙ ap (λ b. held b (last_place set xs) (last_place clear xs)) (is before x)
+    ∙ held-later (clear x) (set x) before (last_place set xs) (last_place clear xs)
+
+pub held-false : (S C : Option ℕ) → held false S C ≡ is_later S C
+held-false None None = refl
+held-false None (Some k) = refl
+held-false (Some j) None = refl
+held-false (Some j) (Some k) = refl
+
+-- the last place of either of two tests is the later one
+later-either : (a b : Bool) (P Q : Option ℕ) →
+    later_place (a || b) (later_of P Q) ≡ later_of (later_place a P) (later_place b Q)
+later-either true true None None = refl
+later-either true false None None = refl
+later-either false true None None = refl
+later-either false false None None = refl
+later-either true true None (Some k) = grind arith
+later-either true false None (Some k) = grind arith
+later-either false true None (Some k) = refl
+later-either false false None (Some k) = refl
+later-either true true (Some k) None = grind arith
+later-either true false (Some k) None = refl
+later-either false true (Some k) None = grind arith
+later-either false false (Some k) None = refl
+later-either true true (Some j) (Some k) = grind arith
+later-either true false (Some j) (Some k) = grind arith
+later-either false true (Some j) (Some k) = grind arith
+later-either false false (Some j) (Some k) = grind arith
+
+pub last_place-either : {A : Type 0} (p q r : A → Bool) → ((x : A) → r x ≡ (p x || q x)) → (xs : List A)
+    → last_place r xs ≡ later_of (last_place p xs) (last_place q xs)
+last_place-either p q r is [] = refl
+last_place-either p q r is (x ∷ xs) =
+    ap (λ b. later_place b (last_place r xs)) (is x)
+    ∙ ap (λ o. later_place (p x || q x) o) (last_place-either p q r is xs)
+    ∙ later-either (p x) (q x) (last_place p xs) (last_place q xs)
+
+-- the birth is the later one of the last begin and the last repeat
+gives_birth-either : (s : ℕ) (step : Step) → gives_birth s step ≡ (is_step kind.Began s step || is_step kind.Repeated s step)
+gives_birth-either s (Began who begin) = grind arith
+gives_birth-either s (Repeated who start) = refl
+gives_birth-either s (Ended who end') = refl
+gives_birth-either s (Cut who) = refl
+gives_birth-either s (Paused who) = refl
+gives_birth-either s (Resumed who) = refl
+gives_birth-either s (Deferred who begin) = refl
+gives_birth-either s (Passed who begin) = refl
+gives_birth-either s (Logged place) = refl
+
+pub birth-last : (s : ℕ) (diary : List Entry)
+    → last_place (λ (x : Entry). gives_birth s x.step) diary
+    ≡ later_of (last_step diary kind.Began s) (last_step diary kind.Repeated s)
+birth-last s diary =
+    last_place-either (λ (x : Entry). is_step kind.Began s x.step) (λ (x : Entry). is_step kind.Repeated s x.step)
+    (λ (x : Entry). gives_birth s x.step) (λ x. gives_birth-either s x.step) diary
+
+-- ---- activity and pauses
+
+active-sets : (s : ℕ) (b : Bool) (step : Step) →
+    active_after s b step ≡ set_or_clear (is_end s step) (is_step kind.Began s step) b
+active-sets s b (Began who begin) = refl
+active-sets s b (Repeated who start) = refl
+active-sets s b (Ended who end') = grind arith
+active-sets s b (Cut who) = refl
+active-sets s b (Paused who) = refl
+active-sets s b (Resumed who) = refl
+active-sets s b (Deferred who begin) = refl
+active-sets s b (Passed who begin) = refl
+active-sets s b (Logged place) = refl
+
+-- a resume or a begin
+abbrev pub is_release : ℕ → Step → Bool
+is_release s step = is_step kind.Resumed s step || is_step kind.Began s step
+
+paused-sets : (s : ℕ) (b : Bool) (step : Step) →
+    paused_after s b step ≡ set_or_clear (is_release s step) (is_step kind.Paused s step) b
+paused-sets s b (Began who begin) = refl
+paused-sets s b (Repeated who start) = refl
+paused-sets s b (Ended who end') = refl
+paused-sets s b (Cut who) = refl
+paused-sets s b (Paused who) = refl
+paused-sets s b (Resumed who) = grind arith
+paused-sets s b (Deferred who begin) = refl
+paused-sets s b (Passed who begin) = refl
+paused-sets s b (Logged place) = refl
+
+pub active-last : (s : ℕ) (diary : List Entry) →
+    is_active diary s ≡
+    is_later (last_step diary kind.Began s) (later_of (last_step diary kind.Ended s) (last_step diary kind.Cut s))
+active-last s diary =
+    fold-held (λ b (x : Entry). active_after s b x.step) (λ (x : Entry). is_step kind.Began s x.step)
+    (λ (x : Entry). is_end s x.step) (λ b x. active-sets s b x.step) false diary
+    ∙ held-false (last_step diary kind.Began s) (last_place (λ (x : Entry). is_end s x.step) diary)
+    ∙ ap (λ o. is_later (last_step diary kind.Began s) o)
+    (last_place-either (λ (x : Entry). is_step kind.Ended s x.step) (λ (x : Entry). is_step kind.Cut s x.step)
+    (λ (x : Entry). is_end s x.step) (λ x. refl) diary)
+
+pub paused-last : (s : ℕ) (diary : List Entry) →
+    fold (λ before (x : Entry). paused_after s before x.step) false diary ≡
+    is_later (last_step diary kind.Paused s) (later_of (last_step diary kind.Resumed s) (last_step diary kind.Began s))
+paused-last s diary =
+    fold-held (λ b (x : Entry). paused_after s b x.step) (λ (x : Entry). is_step kind.Paused s x.step)
+    (λ (x : Entry). is_release s x.step) (λ b x. paused-sets s b x.step) false diary
+    ∙ held-false (last_step diary kind.Paused s) (last_place (λ (x : Entry). is_release s x.step) diary)
+    ∙ ap (λ o. is_later (last_step diary kind.Paused s) o)
+    (last_place-either (λ (x : Entry). is_step kind.Resumed s x.step) (λ (x : Entry). is_step kind.Began s x.step)
+    (λ (x : Entry). is_release s x.step) (λ x. refl) diary)
+
+-- ---- since birth
+
+abbrev pub drop_place : ℕ → Option ℕ → Option ℕ
+drop_place from None = None
+drop_place from (Some k) = if nat_le from k then Some (k - from) else None
+
+drop_place-zero : (o : Option ℕ) → o ≡ drop_place 0 o
+drop_place-zero None = refl
+drop_place-zero (Some k) = grind arith
+
+drop_place-suc : (t : Bool) (b : ℕ) (o : Option ℕ) → drop_place b o ≡ drop_place (suc b) (later_place t o)
+drop_place-suc true b None = grind arith
+drop_place-suc false b None = refl
+drop_place-suc t b (Some k) = grind arith
+
+pub last-drop : {A : Type 0} (test : A → Bool) (b : ℕ) (xs : List A)
+    → last_place test (drop b xs) ≡ drop_place b (last_place test xs)
+last-drop test zero [] = refl
+last-drop test (suc b) [] = refl
+last-drop test zero (x ∷ xs) = drop_place-zero (last_place test (x ∷ xs))
+last-drop test (suc b) (x ∷ xs) = last-drop test b xs ∙ drop_place-suc (test x) b (last_place test xs)
+
+later-drop : (b : ℕ) (S C : Option ℕ) → is_later (drop_place b S) (drop_place b C) ≡ (is_from b S && is_later S C)
+later-drop b None None = refl
+later-drop b None (Some k) = refl
+later-drop b (Some j) None = grind arith
+later-drop b (Some j) (Some k) = grind arith
+
+pub fold-fusion : {A B C : Type 0} (to : B → C) (f : B → A → B) (g : C → A → C)
+    → ((b : B) (x : A) → to (f b x) ≡ g (to b) x) → (b : B) (xs : List A) → to (fold f b xs) ≡ fold g (to b) xs
+fold-fusion to f g same b [] = refl
+fold-fusion to f g same b (x ∷ xs) =
+    fold-fusion to f g same (f b x) xs ∙ ap (λ c. fold g c xs) (same b x)
+
+defers-sets : (s : ℕ) (here : Entry) (before : Option Entry) (step : Step) →
+    is_some (deferral_after s here before step)
+    ≡ set_or_clear (is_decision s step) (is_step kind.Deferred s step) (is_some before)
+defers-sets s here before (Began who begin) = grind arith
+defers-sets s here before (Repeated who start) = refl
+defers-sets s here before (Ended who end') = grind arith
+defers-sets s here before (Cut who) = grind arith
+defers-sets s here before (Paused who) = refl
+defers-sets s here before (Resumed who) = refl
+defers-sets s here before (Deferred who begin) = grind arith
+defers-sets s here before (Passed who begin) = grind arith
+defers-sets s here before (Logged place) = refl
+
+pub deferral-last : (s b : ℕ) (diary : List Entry) →
+    is_some (fold (λ before (x : Entry). deferral_after s x before x.step) None (drop b diary)) ≡
+    (is_from b (last_step diary kind.Deferred s)
+    && is_later (last_step diary kind.Deferred s) (last_place (λ (x : Entry). is_decision s x.step) diary))
+deferral-last s b diary =
+    let sets : Entry → Bool = λ (x : Entry). is_step kind.Deferred s x.step in
+    let clears : Entry → Bool = λ (x : Entry). is_decision s x.step in
+    let after : Bool → Entry → Bool = λ o x. set_or_clear (clears x) (sets x) o in
+    fold-fusion is_some (λ before (x : Entry). deferral_after s x before x.step) after
+    (λ o x. defers-sets s x o x.step) None (drop b diary)
+    ∙ fold-held after sets clears (λ o x. refl) false (drop b diary)
+    ∙ held-false (last_place sets (drop b diary)) (last_place clears (drop b diary))
+    ∙ ap (λ o. is_later o (last_place clears (drop b diary))) (last-drop sets b diary)
+    ∙ ap (λ o. is_later (drop_place b (last_place sets diary)) o) (last-drop clears b diary)
+    ∙ later-drop b (last_place sets diary) (last_place clears diary)
+
+pub decision-last : (s : ℕ) (diary : List Entry) →
+    last_place (λ (x : Entry). is_decision s x.step) diary ≡
+    later_of (later_of (last_step diary kind.Began s) (last_step diary kind.Passed s))
+    (later_of (last_step diary kind.Ended s) (last_step diary kind.Cut s))
+decision-last s diary =
+    last_place-either (λ (x : Entry). is_step kind.Began s x.step || is_step kind.Passed s x.step)
+    (λ (x : Entry). is_end s x.step) (λ (x : Entry). is_decision s x.step) (λ x. refl) diary
+    ∙ ap (λ o. later_of o (last_place (λ (x : Entry). is_end s x.step) diary))
+    (last_place-either (λ (x : Entry). is_step kind.Began s x.step) (λ (x : Entry). is_step kind.Passed s x.step)
+    (λ (x : Entry). is_step kind.Began s x.step || is_step kind.Passed s x.step) (λ x. refl) diary)
+    ∙ ap (λ o. later_of (later_of (last_step diary kind.Began s) (last_step diary kind.Passed s)) o)
+    (last_place-either (λ (x : Entry). is_step kind.Ended s x.step) (λ (x : Entry). is_step kind.Cut s x.step)
+    (λ (x : Entry). is_end s x.step) (λ x. refl) diary)

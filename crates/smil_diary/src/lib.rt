@@ -1,0 +1,12 @@
+//! The diary of a presentation, and what it says of each element.
+#![tactic(auto)]
+
+pub mod book;
+mod element;
+pub mod fault;
+mod index;
+mod places;
+mod subject;
+
+pub use book::Book;
+pub use fault::BookFault;

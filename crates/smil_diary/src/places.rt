@@ -1,0 +1,115 @@
+//! Places in a diary, in rising order.
+
+ghost use Rattle.std.specs.Prelude.{◌≡◌, ℕ, ◌<◌, ◌≤◌, ◌-◌, [], ◌∷◌, ◌++◌, length, take, nat_le, IsTrue, ◌↔◌, OnOk, OnErr};
+ghost use Rattle.std.specs.List.{count_by};
+ghost use Rattle.std.specs.List.Sorted.{IsNonDecreasing};
+ghost use Rattle.smil_model.specs.declared.limits.TheConstants as limits;
+ghost use Rattle.smil_diary.specs.Kept.{last_of};
+ghost use Rattle.smil_diary.specs.Places.{is_later, later_of, is_from};
+
+use std::alloc::{AllocError, Global};
+use std::marker::Model;
+
+/// Places in a diary, in rising order.
+#[derive(Debug, Drop)]
+pub(crate) struct Places {
+    items: Vec<u32>,
+}
+
+impl Model for Places {
+    ghost use Rattle.std.specs.Prelude.{List, ℕ};
+
+    ghost Value = { List ℕ };
+
+    ghost view = { λ p. p.items.items };
+}
+
+impl Places {
+    /// No places, which take no memory.
+    pub(crate) fn new(alloc: Global) -> Self
+        ensures { result ≡ [] }
+    {
+        Places {
+            items: Vec::new(alloc),
+        }
+    }
+
+    /// Whether there are none.
+    pub(crate) fn is_empty(&self) -> bool
+        ensures { IsTrue result ↔ (self.now ≡ []) }
+    {
+        self.items.is_empty()
+    }
+
+    /// The last place.
+    pub(crate) fn last(&self) -> Option<usize>
+        ensures { result ≡ last_of self.now }
+    {
+        match self.items.last() {
+            Some(place) => Some(*place as usize),
+            None => None,
+        }
+    }
+
+    /// How many places there are from `from` on, by binary search.
+    pub(crate) fn count_from(&self, from: usize) -> u32
+        requires rising { IsNonDecreasing self.now }
+        requires few { length self.now ≤ limits.DIARY_ENTRIES }
+        ensures { result ≡ count_by (nat_le from) self.now }
+    {
+        let before = self.items.partition_point(|place| (*place as usize) < from);
+        (self.items.len() - before) as u32
+    }
+
+    /// Appends a place. Where memory runs out they are as before.
+    pub(crate) fn push(&mut self, place: usize) -> Result<(), AllocError>
+        requires { place < limits.DIARY_ENTRIES }
+        ensures ok { OnOk result (self.new ≡ self.old ++ place ∷ []) }
+        ensures err { OnErr result (self.new ≡ self.old) }
+    {
+        self.items.push(place as u32)?;
+        Ok(())
+    }
+
+    /// Takes away the last place, and returns memory where less than a quarter of it is in use.
+    pub(crate) fn pop(&mut self)
+        ensures { self.new ≡ take (length self.old - 1) self.old }
+    {
+        self.items.pop();
+        let len = self.items.len();
+        if len < self.items.capacity() / 4 {
+            self.items.shrink_to(2 * len);
+        }
+    }
+}
+
+/// Whether there is a first place, and no second one at it or after it.
+pub(crate) fn is_later(first: Option<usize>, second: Option<usize>) -> bool
+    ensures { result ≡ is_later first second }
+{
+    match (first, second) {
+        (Some(first), Some(second)) => first > second,
+        (first, _) => first.is_some(),
+    }
+}
+
+/// The later of two places.
+pub(crate) fn later_of(first: Option<usize>, second: Option<usize>) -> Option<usize>
+    ensures { result ≡ later_of first second }
+{
+    match (first, second) {
+        (Some(first), Some(second)) => Some(first.max(second)),
+        (None, second) => second,
+        (first, None) => first,
+    }
+}
+
+/// Whether there is a place, and it is not before `from`.
+pub(crate) fn is_from(from: usize, place: Option<usize>) -> bool
+    ensures { result ≡ is_from from place }
+{
+    match place {
+        Some(place) => from <= place,
+        None => false,
+    }
+}
