@@ -1,0 +1,248 @@
+-- The columns of a node line's faults are those of its bytes, and at most three more.
+use Rattle.std.proofs.Common.{◌≡◌, ℕ, ◌+◌, ◌-◌, ◌<◌, ◌≤◌, ◌&&◌, Bool, true, false, eqb, ltb, List, [], ◌∷◌, length, take, drop, Option, Some, None, Result, Ok, Err, refl, arith, length-drop}
+use Rattle.std.specs.Prelude.{IfSome, IfErr, unwrap_or}
+use Rattle.std.specs.List.{prefix_len, list_all, slice_split, onto_first}
+use Rattle.std.proofs.lemmas.Bool.{cond_both}
+use Rattle.std.proofs.lemmas.List.Sums.{prefix_len-le-length}
+use Rattle.smil_model.specs.declared.document.Kind.{Kind}
+use Rattle.smil_model.specs.declared.document.Attr.{Attr}
+use Rattle.smil_model.specs.declared.document.Attr.TheVariants as attr
+use Rattle.smil_model.specs.declared.document.AttrName.{AttrName}
+use Rattle.smil_model.specs.declared.document.AttrName.TheVariants as name
+use Rattle.smil_model.specs.declared.document.Attrs.{Attrs}
+use Rattle.smil_model.specs.declared.document.Item.{Item}
+use Rattle.smil_model.specs.document.Edits.{with_attr, no_attrs}
+use Rattle.smil_grammar.specs.declared.fault.ItemFault.{ItemFault}
+use Rattle.smil_grammar.specs.declared.fault.ItemFault.TheVariants as item_fault
+use Rattle.smil_grammar.specs.declared.fault.ListFault.{ListFault}
+use Rattle.smil_grammar.specs.declared.fault.ListFault.TheVariants as list_fault
+use Rattle.smil_grammar.specs.declared.fault.AttrFault.{AttrFault}
+use Rattle.smil_grammar.specs.declared.fault.AttrFault.TheVariants as attr_fault
+use Rattle.smil_grammar.specs.declared.fault.NodeFault.{NodeFault}
+use Rattle.smil_grammar.specs.declared.fault.NodeFault.TheVariants as fault
+use Rattle.smil_grammar.specs.Results.{◌>>=◌}
+use Rattle.smil_grammar.specs.Texts.{is_white, trim}
+use Rattle.smil_grammar.specs.Items.{item_of}
+use Rattle.smil_grammar.specs.Lists.{item_at, piece_at, items_from, few_items, pieces_of, is_plain, plain_at, list_of}
+use Rattle.smil_grammar.specs.Values.{id_of, dur_of, time_of, count_of, repeat_dur_of, restart_of, fill_of, endsync_of, peers_of, higher_of, lower_of, kept_of, is_other_value, of_list, of_value, plain_value_of, value_of}
+use Rattle.smil_grammar.specs.Clock.{clock_within}
+use Rattle.smil_grammar.specs.Attributes.{attr_name_of, name_called, name_or, unnamed, is_other_name, has, kind_called, is_other_kind}
+use Rattle.smil_grammar.specs.Nodes.{is_space, is_of_kind, is_named, Written, attribute_at, attributes_at, with_written, Shape, shaped, shape_of, repeats, kind_or, kind_of_shape, kind_of, fits_in, is_seq, column_at, at_column, attribute_of, attr_of, attrs_from, attrs_of, node_of}
+use Rattle.smil_outline.specs.Steps.{IsNear}
+
+-- how long a text is that was cut into these pieces, and one more
+abbrev joined_len : List (List ℕ) → ℕ
+joined_len [] = 0
+joined_len (piece ∷ pieces) = length piece + 1 + joined_len pieces
+
+onto_len : (x : ℕ) (pieces : List (List ℕ)) → 0 < joined_len pieces → joined_len (onto_first x pieces) ≡ 1 + joined_len pieces
+onto_len x [] some = absurd (omega arith)
+onto_len x (piece ∷ pieces) some = omega arith
+
+split_len : (k : ℕ) (text : List ℕ) → joined_len (slice_split (λ b. eqb b k) text) ≡ length text + 1
+split_len k [] = refl
+split_len k (b ∷ text) =
+    let rest : joined_len (slice_split (λ b. eqb b k) text) ≡ length text + 1 = split_len k text in
+    cond_both (eqb b k) ([] ∷ slice_split (λ b. eqb b k) text) (onto_first b (slice_split (λ b. eqb b k) text)) (λ pieces. joined_len pieces ≡ length (b ∷ text) + 1)
+    (λ e. omega arith)
+    (λ e. let more : joined_len (onto_first b (slice_split (λ b. eqb b k) text)) ≡ 1 + joined_len (slice_split (λ b. eqb b k) text) = onto_len b (slice_split (λ b. eqb b k) text) (omega arith) in omega arith)
+
+-- ---- lists
+
+abbrev ListPlace : ℕ → ListFault → Type 0
+ListPlace m (list_fault.Bad place) = place ≤ m
+ListPlace m (list_fault.Unsupported place) = place ≤ m
+ListPlace m _ = Unit {0}
+
+after : {A B E : Type 0} (P : E → Type 0) (r : Result A E) (f : A → Result B E) → IfErr r P → ((x : A) → IfErr (f x) P) → IfErr (r >>= f) P
+after P (Ok x) f h k = k x
+after P (Err e) f h k = h
+
+first_near : (m place : ℕ) (first : Option ℕ) → place ≤ m → IfSome first (λ p. p ≤ m) → unwrap_or first place ≤ m
+first_near m place None le h = le
+first_near m place (Some p) le h = h
+
+item_near : (m : ℕ) (first : Option ℕ) (place : ℕ) (r : Result Item ItemFault) → place ≤ m → IfSome first (λ p. p ≤ m) → IfErr (item_at first place r) (ListPlace m)
+item_near m first place (Ok x) le h = tt
+item_near m first place (Err item_fault.Bad) le h = first_near m place first le h
+item_near m first place (Err item_fault.Unsupported) le h = le
+item_near m first place (Err item_fault.Memory) le h = tt
+
+items_near : (m : ℕ) (first : Option ℕ) (place : ℕ) (pieces : List (List ℕ)) → place + joined_len pieces ≤ m → IfSome first (λ p. p ≤ m) → IfErr (items_from first place pieces) (ListPlace m)
+items_near m first place [] le h = tt
+items_near m first place (piece ∷ pieces) le h =
+    let white : prefix_len is_white piece ≤ length piece = prefix_len-le-length is_white piece in
+    after (ListPlace m) (piece_at first place piece) (λ item. items_from first (place + length piece + 1) pieces >>= λ items. Ok (item ∷ items))
+    (item_near m first (place + prefix_len is_white piece) (item_of (trim piece)) (omega arith) h)
+    (λ item. after (ListPlace m) (items_from first (place + length piece + 1) pieces) (λ items. Ok (item ∷ items)) (items_near m first (place + length piece + 1) pieces (omega arith) h) (λ items. tt))
+
+few_near : (first : Option ℕ) (text : List ℕ) → IfSome first (λ p. p ≤ length text + 1) → IfErr (few_items first text) (ListPlace (length text + 1))
+few_near first text h =
+    let len : joined_len (pieces_of text) ≡ length text + 1 = split_len 59 text in
+    cond_both (ltb 32 (length (pieces_of text))) (Err list_fault.TooManyItems) (items_from first 0 (pieces_of text)) (λ r. IfErr r (ListPlace (length text + 1)))
+    (λ e. tt) (λ e. items_near (length text + 1) first 0 (pieces_of text) (omega arith) h)
+
+list_near : (in_seq : Bool) (text : List ℕ) → IfErr (list_of in_seq text) (ListPlace (length text + 1))
+list_near false text = few_near None text tt
+list_near true text =
+    let white : prefix_len is_white text ≤ length text = prefix_len-le-length is_white text in
+    let near : prefix_len is_white text ≤ length text + 1 = omega arith in
+    after (ListPlace (length text + 1)) (few_items (Some (prefix_len is_white text)) text) (plain_at (prefix_len is_white text)) (few_near (Some (prefix_len is_white text)) text near)
+    (λ items. cond_both (is_plain items) (Ok items) (Err (list_fault.Bad (prefix_len is_white text))) (λ r. IfErr r (ListPlace (length text + 1))) (λ e. tt) (λ e. near))
+
+-- ---- values
+
+abbrev AttrPlace : ℕ → AttrFault → Type 0
+AttrPlace m (attr_fault.UnsupportedValue place) = place ≤ m
+AttrPlace m (attr_fault.BadValue place) = place ≤ m
+AttrPlace m _ = Unit {0}
+
+of_list_near : (m : ℕ) (made : List Item → Attr) (r : Result (List Item) ListFault) → IfErr r (ListPlace m) → IfErr (of_list made r) (AttrPlace m)
+of_list_near m made (Ok items) h = tt
+of_list_near m made (Err (list_fault.Bad place)) h = h
+of_list_near m made (Err (list_fault.Unsupported place)) h = h
+of_list_near m made (Err list_fault.TooManyItems) h = tt
+of_list_near m made (Err list_fault.Memory) h = tt
+
+of_value_near : {A : Type 0} (m : ℕ) (made : A → Attr) (value : Option A) → IfErr (of_value made value) (AttrPlace m)
+of_value_near m made None = omega arith
+of_value_near m made (Some x) = tt
+
+plain_near : (in_seq : Bool) (n : AttrName) (text : List ℕ) → IfErr (plain_value_of in_seq n text) (AttrPlace (length text + 1))
+plain_near in_seq name.Id text = of_value_near _ attr.Id (id_of text)
+plain_near in_seq name.Begin text = of_list_near _ attr.Begin (list_of in_seq text) (list_near in_seq text)
+plain_near in_seq name.Dur text = of_value_near _ attr.Dur (dur_of (trim text))
+plain_near in_seq name.End text = of_list_near _ attr.End (list_of false text) (list_near false text)
+plain_near in_seq name.Min text = of_value_near _ _ (clock_within (trim text))
+plain_near in_seq name.Max text = of_value_near _ attr.Max (time_of (trim text))
+plain_near in_seq name.RepeatCount text = of_value_near _ attr.RepeatCount (count_of (trim text))
+plain_near in_seq name.RepeatDur text = of_value_near _ attr.RepeatDur (repeat_dur_of (trim text))
+plain_near in_seq name.Restart text = of_value_near _ attr.Restart (restart_of (trim text))
+plain_near in_seq name.Fill text = of_value_near _ attr.Fill (fill_of (trim text))
+plain_near in_seq name.Endsync text = of_value_near _ attr.Endsync (endsync_of (trim text))
+plain_near in_seq name.Peers text = of_value_near _ attr.Peers (peers_of (trim text))
+plain_near in_seq name.Higher text = of_value_near _ attr.Higher (higher_of (trim text))
+plain_near in_seq name.Lower text = of_value_near _ attr.Lower (lower_of (trim text))
+plain_near in_seq name.Src text = of_value_near _ attr.Src (kept_of text)
+plain_near in_seq name.Region text = of_value_near _ attr.Region (kept_of text)
+plain_near in_seq name.Alt text = of_value_near _ attr.Alt (kept_of text)
+plain_near in_seq name.Title text = of_value_near _ attr.Title (kept_of text)
+
+value_near : (in_seq : Bool) (n : AttrName) (text : List ℕ) → IfErr (value_of in_seq n text) (AttrPlace (length text + 1))
+value_near in_seq n text = cond_both (is_other_value n (trim text)) (Err (attr_fault.UnsupportedValue 0)) (plain_value_of in_seq n text) (λ r. IfErr r (AttrPlace (length text + 1))) (λ e. omega arith) (λ e. plain_near in_seq n text)
+
+unnamed_near : (m : ℕ) (word : List ℕ) → AttrPlace m (unnamed word)
+unnamed_near m word = cond_both (is_other_name word) attr_fault.UnsupportedName attr_fault.UnknownAttribute (AttrPlace m) (λ e. tt) (λ e. tt)
+
+name_near : (m : ℕ) (k : Kind) (word : List ℕ) (called : Option AttrName) → IfErr (name_or k word called) (AttrPlace m)
+name_near m k word None = unnamed_near m word
+name_near m k word (Some n) = cond_both (has k n) (Ok n) (Err attr_fault.UnknownAttribute) (λ r. IfErr r (AttrPlace m)) (λ e. tt) (λ e. tt)
+
+attribute_near : (in_seq : Bool) (k : Kind) (word value : List ℕ) → IfErr (attribute_of in_seq k word value) (AttrPlace (length value + 1))
+attribute_near in_seq k word value = after (AttrPlace (length value + 1)) (attr_name_of k word) (λ n. value_of in_seq n value) (name_near (length value + 1) k word (name_called word)) (λ n. value_near in_seq n value)
+
+-- ---- attributes of a line
+
+abbrev FaultWithin : ℕ → NodeFault → Type 0
+FaultWithin n (fault.Unsupported column) = column ≤ n
+FaultWithin n (fault.UnknownAttribute column) = column ≤ n
+FaultWithin n (fault.BadValue column) = column ≤ n
+FaultWithin n (fault.TooManyItems column) = column ≤ n
+FaultWithin n _ = Unit {0}
+
+record StandsWithin (n : ℕ) (w : Written) : Type 0 where
+  name : w.name_place ≤ n
+  value : w.value_place + length w.value ≤ n
+
+abbrev AllWithin : ℕ → List Written → Type 0
+AllWithin n [] = Unit {0}
+AllWithin n (w ∷ ws) = StandsWithin n w × AllWithin n ws
+
+column_near : (n place : ℕ) → place + 1 ≤ n → column_at place ≤ n
+column_near n place le = omega arith
+
+at_near : (n : ℕ) (w : Written) (r : Result Attr AttrFault) → StandsWithin n w → IfErr r (AttrPlace (length w.value + 1)) → IfErr (at_column w r) (FaultWithin (n + 2))
+at_near n w (Ok x) s h = tt
+at_near n w (Err attr_fault.UnknownAttribute) s h = column_near (n + 2) w.name_place (omega arith)
+at_near n w (Err attr_fault.UnsupportedName) s h = column_near (n + 2) w.name_place (omega arith)
+at_near n w (Err (attr_fault.UnsupportedValue place)) s h = column_near (n + 2) (w.value_place + place) (omega arith)
+at_near n w (Err (attr_fault.BadValue place)) s h = column_near (n + 2) (w.value_place + place) (omega arith)
+at_near n w (Err attr_fault.TooManyItems) s h = column_near (n + 2) w.value_place (omega arith)
+at_near n w (Err attr_fault.Memory) s h = tt
+
+attrs_near : (n : ℕ) (in_seq : Bool) (k : Kind) (attrs : Attrs) (ws : List Written) → AllWithin n ws → IfErr (attrs_from in_seq k attrs ws) (FaultWithin (n + 2))
+attrs_near n in_seq k attrs [] h = tt
+attrs_near n in_seq k attrs (w ∷ ws) h =
+    after (FaultWithin (n + 2)) (attr_of in_seq k w) (λ given. attrs_from in_seq k (with_attr attrs given) ws)
+    (at_near n w (attribute_of in_seq k w.name w.value) h.0 (attribute_near in_seq k w.name w.value))
+    (λ given. attrs_near n in_seq k (with_attr attrs given) ws h.1)
+
+written_near : (n place : ℕ) (lead value : List ℕ) → place + length lead + 1 + length value ≤ n → IfSome (attribute_at place lead value) (StandsWithin n)
+written_near n place lead value le =
+    let spaces : prefix_len is_space lead ≤ length lead = prefix_len-le-length is_space lead in
+    cond_both (ltb 0 (prefix_len is_space lead) && is_named (drop (prefix_len is_space lead) lead)) (Some (record { name = take (length (drop (prefix_len is_space lead) lead) - 1) (drop (prefix_len is_space lead) lead); name_place = place + prefix_len is_space lead; value = value; value_place = place + length lead + 1 })) None (λ r. IfSome r (StandsWithin n)) (λ e. record { name = omega arith; value = omega arith }) (λ e. tt)
+
+with_near : (n : ℕ) (w : Option Written) (ws : Option (List Written)) → IfSome w (StandsWithin n) → IfSome ws (AllWithin n) → IfSome (with_written w ws) (AllWithin n)
+with_near n None None h k = tt
+with_near n None (Some ws) h k = tt
+with_near n (Some w) None h k = tt
+with_near n (Some w) (Some ws) h k = (h, k)
+
+attributes_near : (n place : ℕ) (pieces : List (List ℕ)) → place + joined_len pieces ≤ n → IfSome (attributes_at place pieces) (AllWithin n)
+attributes_near n place [] le = tt
+attributes_near n place (last ∷ []) le = cond_both (list_all is_space last) (Some []) None (λ r. IfSome r (AllWithin n)) (λ e. tt) (λ e. tt)
+attributes_near n place (lead ∷ value ∷ pieces) le =
+    with_near n (attribute_at place lead value) (attributes_at (place + length lead + length value + 2) pieces)
+    (written_near n place lead value (omega arith))
+    (attributes_near n (place + length lead + length value + 2) pieces (omega arith))
+
+abbrev ShapeWithin : ℕ → Shape → Type 0
+ShapeWithin n shape = AllWithin n shape.attributes
+
+shaped_near : (n : ℕ) (word : List ℕ) (attributes : Option (List Written)) → IfSome attributes (AllWithin n) → IfSome (shaped word attributes) (ShapeWithin n)
+shaped_near n word None h = tt
+shaped_near n word (Some attributes) h = cond_both _ (Some (record { kind = word; attributes = attributes })) None (λ r. IfSome r (ShapeWithin n)) (λ e. h) (λ e. tt)
+
+shape_near : (line : List ℕ) → IfSome (shape_of line) (ShapeWithin (length line + 1))
+shape_near line =
+    let kind : prefix_len is_of_kind line ≤ length line = prefix_len-le-length is_of_kind line in
+    let len : joined_len (slice_split (λ b. eqb b 34) (drop (prefix_len is_of_kind line) line)) ≡ length (drop (prefix_len is_of_kind line) line) + 1 = split_len 34 (drop (prefix_len is_of_kind line) line) in
+    let left : length (drop (prefix_len is_of_kind line) line) + prefix_len is_of_kind line ≡ length line = omega (arith, length-drop (prefix_len is_of_kind line) line) in
+    shaped_near (length line + 1) (take (prefix_len is_of_kind line) line) (attributes_at (prefix_len is_of_kind line) (slice_split (λ b. eqb b 34) (drop (prefix_len is_of_kind line) line)))
+    (attributes_near (length line + 1) (prefix_len is_of_kind line) (slice_split (λ b. eqb b 34) (drop (prefix_len is_of_kind line) line)) (omega arith))
+
+kind_or_near : (n : ℕ) (word : List ℕ) (called : Option Kind) → 1 ≤ n → IfErr (kind_or word called) (FaultWithin n)
+kind_or_near n word (Some k) le = tt
+kind_or_near n word None le = cond_both (is_other_kind word) (Err (fault.Unsupported 1)) (Err fault.BadOutline) (λ r. IfErr r (FaultWithin n)) (λ e. le) (λ e. tt)
+
+kind_shape_near : (n : ℕ) (shape : Option Shape) → 1 ≤ n → IfErr (kind_of_shape shape) (FaultWithin n)
+kind_shape_near n None le = tt
+kind_shape_near n (Some shape) le = cond_both (repeats shape.attributes) (Err fault.BadOutline) (kind_or shape.kind (kind_called shape.kind)) (λ r. IfErr r (FaultWithin n)) (λ e. tt) (λ e. kind_or_near n shape.kind (kind_called shape.kind) le)
+
+attrs_of_near : (n : ℕ) (parent : Option Kind) (k : Kind) (shape : Option Shape) → IfSome shape (ShapeWithin n) → IfErr (attrs_of parent k shape) (FaultWithin (n + 2))
+attrs_of_near n parent k None h = tt
+attrs_of_near n parent k (Some shape) h =
+    cond_both (fits_in parent k) (attrs_from (is_seq parent) k no_attrs shape.attributes >>= λ attrs. Ok (k, attrs)) (Err fault.BadPlace) (λ r. IfErr r (FaultWithin (n + 2)))
+    (λ e. after (FaultWithin (n + 2)) (attrs_from (is_seq parent) k no_attrs shape.attributes) (λ attrs. Ok (k, attrs)) (attrs_near n (is_seq parent) k no_attrs shape.attributes h) (λ attrs. tt))
+    (λ e. tt)
+
+near_of : (n : ℕ) (given : NodeFault) → n ≤ 8192 → FaultWithin n given → IsNear given
+near_of n fault.BadOutline le h = tt
+near_of n (fault.Unsupported column) le h = omega arith
+near_of n fault.BadPlace le h = tt
+near_of n (fault.UnknownAttribute column) le h = omega arith
+near_of n (fault.BadValue column) le h = omega arith
+near_of n (fault.TooManyItems column) le h = omega arith
+near_of n fault.Memory le h = tt
+
+all_near : {A : Type 0} (n : ℕ) (r : Result A NodeFault) → n ≤ 8192 → IfErr r (FaultWithin n) → IfErr r IsNear
+all_near n (Ok x) le h = tt
+all_near n (Err given) le h = near_of n given le h
+
+pub kind_is_near : (line : List ℕ) → IfErr (kind_of line) IsNear
+kind_is_near line = all_near 1 (kind_of line) (omega arith) (kind_shape_near 1 (shape_of line) (omega arith))
+
+pub node_is_near : (parent : Option Kind) (line : List ℕ) → length line ≤ 4096 → IfErr (node_of parent line) IsNear
+node_is_near parent line le =
+    all_near (length line + 1 + 2) (node_of parent line) (omega arith)
+    (after (FaultWithin (length line + 1 + 2)) (kind_of line) (λ k. attrs_of parent k (shape_of line)) (kind_shape_near (length line + 1 + 2) (shape_of line) (omega arith)) (λ k. attrs_of_near (length line + 1) parent k (shape_of line) (shape_near line)))

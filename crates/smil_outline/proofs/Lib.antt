@@ -1,0 +1,15 @@
+pub mod Alike
+pub mod Columns
+pub mod Found
+pub mod Parts
+pub mod Fitting
+pub mod Depths
+pub mod Walks
+pub mod Reading
+pub mod Numbers
+pub mod RoundTrip
+pub mod Printing
+pub mod Ranging
+pub mod Validity
+pub mod Placed
+pub mod Taken

@@ -1,0 +1,462 @@
+-- A valid document's canonical outline is read as the same nodes, each with its place as its serial.
+use Rattle.std.proofs.Common.{◌≡◌, ℕ, suc, ◌+◌, ◌<◌, ◌≤◌, Bool, true, false, not, cond, eqb, ltb, ◌&&◌, ◌||◌, List, [], ◌∷◌, ◌++◌, ◌-◌, length, take, map, reverse, Option, Some, None, option_map, Result, Ok, refl, sym, ap, subst, ◌∙◌, arith, length-append, append_assoc, add-one}
+use Rattle.std.specs.Prelude.{unwrap_or, sum_by, bytes_eq, filter, All, slice_get}
+use Rattle.std.specs.List.{list_any, list_all, AllByRecursion}
+use Rattle.std.proofs.lemmas.Bool.{and_parts, or_parts, eqb-true, eq-eqb, ltb-true, ne_eqb, cond_both}
+use Rattle.std.proofs.lemmas.List.{reverse-append, length-reverse, take_all, take-append-le, append-nil}
+use Rattle.std.proofs.lemmas.List.Sums.{sum_by-cons}
+use Rattle.std.proofs.lemmas.List.Folds.{list_any-append}
+use Rattle.std.proofs.lemmas.List.Elements.{recursion_from_All}
+use Rattle.std.proofs.lemmas.Option.{slice_get-get_or}
+use Rattle.smil_model.specs.declared.document.Kind.{Kind}
+use Rattle.smil_model.specs.declared.document.Kind.TheVariants as kind
+use Rattle.smil_model.specs.declared.document.Node.{Node}
+use Rattle.smil_model.specs.declared.document.Attrs.{Attrs}
+use Rattle.smil_model.specs.declared.document.Item.{Item}
+use Rattle.smil_model.specs.declared.document.Item.TheVariants.{Offset, Sync, Event, Repeat, Indefinite}
+use Rattle.smil_model.specs.declared.order.Refusal.{Refusal}
+use Rattle.smil_model.specs.document.Document.{Document, is_class_kind, has_id, node_at as node_with}
+use Rattle.smil_model.specs.document.Words.{is_id}
+use Rattle.smil_model.specs.document.Values.{absent_or}
+use Rattle.smil_model.specs.document.Defaults.{items_or}
+use Rattle.smil_model.specs.document.Valid.{open_from, IsDistinct, IsTree, IsValid, depth_of, kind_of, may_stand, same_test, agree_with, is_well_placed, has_fitting_attrs, is_other_with, is_id_taken, is_reference, references_of, references as all_references}
+use Rattle.smil_grammar.specs.Results.{◌>>=◌}
+use Rattle.smil_grammar.specs.Spellings.{node_text}
+use Rattle.smil_grammar.specs.Allowed.{IsAttrs}
+use Rattle.smil_grammar.specs.Nodes.{fits_in, is_seq}
+use Rattle.smil_grammar.specs.Outlines.{Outline, mixes, differ, has_id as has_id_among, counted, references, last_of, depth_among, lines_from, with_line, with_lines, ended, outline_of}
+use Rattle.smil_outline.specs.Numbered.{number_of, renumbered}
+use Rattle.smil_outline.proofs.Depths.{map_on, length_map, get_or_behind}
+use Rattle.smil_outline.proofs.Walks.{depths_back, IsWalked, next_depth, walk_on, walk_starts, depth_is}
+use Rattle.smil_outline.proofs.Fitting.{fits}
+use Rattle.smil_outline.proofs.Reading.{IsRoom, made, with_made, line_read}
+use Rattle.smil_outline.proofs.Numbers.{place_of, counted as counted_at, number_is, number_none, number_once, differ_before}
+
+-- ---- kinds
+
+alone : (t : Bool) → cond t false true ≡ true → not t ≡ true
+alone false h = refl
+alone true h = absurd cc
+
+nothing : (t : Bool) → cond t false false ≡ true → ⊥
+nothing false h = absurd cc
+nothing true h = absurd cc
+
+root_fits : (k : Kind) → may_stand None k ≡ true → fits_in None k ≡ true
+root_fits kind.Par h = refl
+root_fits kind.Seq h = refl
+root_fits kind.Excl h = refl
+root_fits kind.PriorityClass h = absurd cc
+root_fits kind.Img h = absurd cc
+root_fits kind.Text h = absurd cc
+root_fits kind.Brush h = absurd cc
+root_fits kind.Audio h = absurd cc
+root_fits kind.Video h = absurd cc
+root_fits kind.Animation h = absurd cc
+root_fits kind.TextStream h = absurd cc
+root_fits kind.Ref h = absurd cc
+
+pub stands : (parent : Option Kind) (k : Kind) → may_stand parent k ≡ true → fits_in parent k ≡ true
+stands None k h = root_fits k h
+stands (Some kind.Par) k h = alone (is_class_kind k) h
+stands (Some kind.Seq) k h = alone (is_class_kind k) h
+stands (Some kind.Excl) k h = refl
+stands (Some kind.PriorityClass) k h = alone (is_class_kind k) h
+stands (Some kind.Img) k h = absurd (nothing (is_class_kind k) h)
+stands (Some kind.Text) k h = absurd (nothing (is_class_kind k) h)
+stands (Some kind.Brush) k h = absurd (nothing (is_class_kind k) h)
+stands (Some kind.Audio) k h = absurd (nothing (is_class_kind k) h)
+stands (Some kind.Video) k h = absurd (nothing (is_class_kind k) h)
+stands (Some kind.Animation) k h = absurd (nothing (is_class_kind k) h)
+stands (Some kind.TextStream) k h = absurd (nothing (is_class_kind k) h)
+stands (Some kind.Ref) k h = absurd (nothing (is_class_kind k) h)
+
+-- ---- lists of nodes
+
+none_front : (p : Node → Bool) (front back : List Node) → list_any p (front ++ back) ≡ false → list_any p front ≡ false
+none_front p [] back e = refl
+none_front p (m ∷ front) back e = let parts = or_parts (p m) (list_any p (front ++ back)) e in rw (parts.0, none_front p front back parts.1) refl
+
+none_at : (p : Node → Bool) (front : List Node) (n : Node) (rest : List Node) → list_any p (front ++ n ∷ rest) ≡ false → p n ≡ false
+none_at p [] n rest e = (or_parts (p n) (list_any p rest) e).0
+none_at p (m ∷ front) n rest e = none_at p front n rest (or_parts (p m) (list_any p (front ++ n ∷ rest)) e).1
+
+all_front : (p : Node → Bool) (front back : List Node) → list_all p (front ++ back) ≡ true → list_all p front ≡ true
+all_front p [] back e = refl
+all_front p (m ∷ front) back e = let parts = and_parts (p m) (list_all p (front ++ back)) e in rw (parts.0, all_front p front back parts.1) refl
+
+all_at : (p : Node → Bool) (front : List Node) (n : Node) (rest : List Node) → list_all p (front ++ n ∷ rest) ≡ true → p n ≡ true
+all_at p [] n rest e = (and_parts (p n) (list_all p rest) e).0
+all_at p (m ∷ front) n rest e = all_at p front n rest (and_parts (p m) (list_all p (front ++ n ∷ rest)) e).1
+
+some_front : (p : Node → Bool) (front back : List Node) → list_any p front ≡ true → list_any p (front ++ back) ≡ true
+some_front p front back e = list_any-append p front back ∙ rw e refl
+
+abbrev has_serial : ℕ → Node → Bool
+has_serial serial n = eqb n.serial serial
+
+-- the node that stands behind others with other serials is found
+pub found : (front : List Node) (n : Node) (rest : List Node) → list_any (has_serial n.serial) front ≡ false → node_with (front ++ n ∷ rest) n.serial ≡ Some n
+found [] n rest e = let own : eqb n.serial n.serial ≡ true = eq-eqb _ _ refl in rw own refl
+found (m ∷ front) n rest e = let parts = or_parts (has_serial n.serial m) (list_any (has_serial n.serial) front) e in rw parts.0 (found front n rest parts.1)
+
+none_found : (nodes : List Node) (serial : ℕ) → list_any (has_serial serial) nodes ≡ false → node_with nodes serial ≡ None
+none_found [] serial e = refl
+none_found (m ∷ nodes) serial e = let parts = or_parts (has_serial serial m) (list_any (has_serial serial) nodes) e in rw parts.0 (none_found nodes serial parts.1)
+
+abbrev IsFound : Option Node → Type 0
+IsFound o = (n : Node) × (o ≡ Some n)
+
+some_found : (nodes : List Node) (serial : ℕ) → list_any (has_serial serial) nodes ≡ true → IsFound (node_with nodes serial)
+some_found [] serial e = absurd cc
+some_found (m ∷ nodes) serial e = first_or m (has_serial serial m) (list_any (has_serial serial) nodes) (node_with nodes serial) e (some_found nodes serial)
+  where
+    first_or : (m : Node) (t others : Bool) (found : Option Node) → (t || others) ≡ true → (others ≡ true → IsFound found) → IsFound (cond t (Some m) found)
+    first_or m true others found e other = (m, refl)
+    first_or m false others found e other = other e
+
+-- a serial that a node has is numbered
+placed_first : (m : Node) (nodes : List Node) (serial : ℕ) (t : Bool) → has_serial serial m ≡ t → list_any (has_serial serial) (m ∷ nodes) ≡ true → (list_any (has_serial serial) nodes ≡ true → place_of nodes serial < length nodes) → place_of (m ∷ nodes) serial < length (m ∷ nodes)
+placed_first m nodes serial true s e other = let first : place_of (m ∷ nodes) serial ≡ 0 = rw s refl in omega arith
+placed_first m nodes serial false s e other =
+    let first : place_of (m ∷ nodes) serial ≡ 1 + place_of nodes serial = rw s refl in
+    let rest : list_any (has_serial serial) nodes ≡ true = rw s at e in
+    omega (arith, other rest)
+
+placed : (nodes : List Node) (serial : ℕ) → list_any (has_serial serial) nodes ≡ true → place_of nodes serial < length nodes
+placed [] serial e = absurd cc
+placed (m ∷ nodes) serial e = placed_first m nodes serial (has_serial serial m) refl e (placed nodes serial)
+
+number_some : (nodes : List Node) (serial : ℕ) → list_any (has_serial serial) nodes ≡ true → 0 < number_of nodes serial
+number_some nodes serial e = omega (arith, counted_at nodes serial (place_of nodes serial) refl (placed nodes serial e))
+
+-- ---- references
+
+referred : (item : Item) (items : List Item) → counted item + length (filter is_reference items) ≡ length (filter is_reference (item ∷ items))
+referred (Offset offset) items = omega arith
+referred (Sync who edge offset) items = omega arith
+referred (Event who name offset) items = omega arith
+referred (Repeat who n offset) items = omega arith
+referred Indefinite items = omega arith
+
+in_items : (items : List Item) → sum_by counted items ≡ length (filter is_reference items)
+in_items [] = refl
+in_items (item ∷ items) = omega (arith, sum_by-cons counted item items, in_items items, referred item items)
+
+in_list : (items : Option (List Item)) → sum_by counted (unwrap_or items []) ≡ length (filter is_reference (items_or [] items))
+in_list None = refl
+in_list (Some items) = in_items items
+
+pub same_references : (n : Node) → references n.attrs ≡ references_of n
+same_references n = omega (arith, in_list n.attrs.begin, in_list n.attrs.«end»)
+
+-- ---- the nodes with their places as serials
+
+abbrev new : List Node → Node → Node
+new nodes n = record n { serial = number_of nodes n.serial; parent = number_of nodes n.parent }
+
+light : (nodes front : List Node) (n : Node) (rest : List Node) → sum_by (λ (m : Node). references m.attrs) (map (new nodes) front) + references n.attrs ≤ sum_by references_of (front ++ n ∷ rest)
+light nodes [] n rest = omega (arith, sum_by-cons references_of n rest, same_references n)
+light nodes (m ∷ front) n rest =
+    omega (arith, sum_by-cons (λ (x : Node). references x.attrs) (new nodes m) (map (new nodes) front), sum_by-cons references_of m (front ++ n ∷ rest), same_references m, light nodes front n rest)
+
+-- ids
+
+no_id : (id : List ℕ) (m : Node) → is_id id ≡ true → has_id id m.attrs.id ≡ false → bytes_eq (unwrap_or m.attrs.id []) id ≡ false
+no_id id m h e = by id m.attrs.id h e
+  where
+    by : (id : List ℕ) (own : Option (List ℕ)) → is_id id ≡ true → has_id id own ≡ false → bytes_eq (unwrap_or own []) id ≡ false
+    by [] None h e = absurd cc
+    by (b ∷ bytes) None h e = refl
+    by id (Some own) h e = e
+
+other_ids : (nodes front : List Node) (serial : ℕ) (id : List ℕ) → is_id id ≡ true → list_any (has_serial serial) front ≡ false → list_any (is_other_with serial id) front ≡ false
+    → list_any (λ (m : Node). bytes_eq (unwrap_or m.attrs.id []) id) (map (new nodes) front) ≡ false
+other_ids nodes [] serial id h e k = refl
+other_ids nodes (m ∷ front) serial id h e k =
+    let serials = or_parts (has_serial serial m) (list_any (has_serial serial) front) e in
+    let ids = or_parts (is_other_with serial id m) (list_any (is_other_with serial id) front) k in
+    let own : has_id id m.attrs.id ≡ false = rw serials.0 at ids.0 in
+    rw (no_id id m h own, other_ids nodes front serial id h serials.1 ids.1) refl
+
+free_id : (nodes front : List Node) (n : Node) (rest : List Node) → absent_or is_id n.attrs.id ≡ true → list_any (has_serial n.serial) front ≡ false → is_id_taken (front ++ n ∷ rest) n.serial n.attrs.id ≡ false
+    → has_id_among (map (new nodes) front) n.attrs.id ≡ false
+free_id nodes front n rest h e k = by nodes front n.serial (n ∷ rest) n.attrs.id h e k
+  where
+    by : (nodes front : List Node) (serial : ℕ) (back : List Node) (own : Option (List ℕ)) → absent_or is_id own ≡ true → list_any (has_serial serial) front ≡ false → is_id_taken (front ++ back) serial own ≡ false → has_id_among (map (new nodes) front) own ≡ false
+    by nodes front serial back None h e k = refl
+    by nodes front serial back (Some id) h e k = other_ids nodes front serial id h e (none_front (is_other_with serial id) front back k)
+
+-- children of one kind or the other
+
+pub alike : (a b : Bool) → same_test a b ≡ true → differ a b ≡ false
+alike true true h = refl
+alike true false h = absurd cc
+alike false true h = absurd cc
+alike false false h = refl
+
+unmixed : (nodes front : List Node) (parent : ℕ) (k : Kind) → 0 < number_of nodes parent
+    → list_all (λ (m : Node). not (eqb m.parent parent) || same_test (is_class_kind m.kind) (is_class_kind k)) front ≡ true
+    → list_any (λ (m : Node). eqb m.parent (number_of nodes parent) && differ (is_class_kind m.kind) (is_class_kind k)) (map (new nodes) front) ≡ false
+unmixed nodes [] parent k some h = refl
+unmixed nodes (m ∷ front) parent k some h =
+    let parts = and_parts (not (eqb m.parent parent) || same_test (is_class_kind m.kind) (is_class_kind k)) (list_all (λ (m : Node). not (eqb m.parent parent) || same_test (is_class_kind m.kind) (is_class_kind k)) front) h in
+    rw (one nodes m parent k (eqb (number_of nodes m.parent) (number_of nodes parent)) refl some parts.0, unmixed nodes front parent k some parts.1) refl
+  where
+    one : (nodes : List Node) (m : Node) (parent : ℕ) (k : Kind) (t : Bool) → eqb (number_of nodes m.parent) (number_of nodes parent) ≡ t → 0 < number_of nodes parent
+        → (not (eqb m.parent parent) || same_test (is_class_kind m.kind) (is_class_kind k)) ≡ true → (eqb (number_of nodes m.parent) (number_of nodes parent) && differ (is_class_kind m.kind) (is_class_kind k)) ≡ false
+    one nodes m parent k false t some h = rw t refl
+    one nodes m parent k true t some h =
+        let same : m.parent ≡ parent = number_once nodes m.parent parent (eqb-true _ _ t) some in
+        let here : eqb m.parent parent ≡ true = eq-eqb _ _ same in
+        let both : same_test (is_class_kind m.kind) (is_class_kind k) ≡ true = rw here at h in
+        rw t (alike (is_class_kind m.kind) (is_class_kind k) both)
+
+-- ---- the branch
+
+abbrev kind_with : List Node → ℕ → Kind
+kind_with nodes serial = unwrap_or (kind_of (node_with nodes serial)) kind.Par
+
+abbrev level : List Node → ℕ → ℕ × Kind
+level nodes serial = (number_of nodes serial, kind_with nodes serial)
+
+abbrev branch_of : List Node → List ℕ → List (ℕ × Kind)
+branch_of nodes opened = reverse (map (level nodes) opened)
+
+branch_on : (nodes : List Node) (serial : ℕ) (opened : List ℕ) → branch_of nodes (serial ∷ opened) ≡ branch_of nodes opened ++ level nodes serial ∷ []
+branch_on nodes serial opened = reverse-append (level nodes serial ∷ []) (map (level nodes) opened)
+
+length_branch : (nodes : List Node) (opened : List ℕ) → length (branch_of nodes opened) ≡ length opened
+length_branch nodes opened = length-reverse (map (level nodes) opened) ∙ length_map (level nodes) opened
+
+fewer : (opened : List ℕ) (parent : ℕ) → length (open_from parent opened) ≤ length opened
+fewer [] parent = omega arith
+fewer (s ∷ above) parent = cond_both (eqb s parent) (s ∷ above) (open_from parent above) (λ kept. length kept ≤ length (s ∷ above)) (λ e. omega arith) (λ e. omega (arith, fewer above parent))
+
+-- what is closed stands at the end of the branch
+kept_front : (nodes : List Node) (opened : List ℕ) (parent : ℕ) → take (length (open_from parent opened)) (branch_of nodes opened) ≡ branch_of nodes (open_from parent opened)
+kept_front nodes [] parent = refl
+kept_front nodes (s ∷ above) parent = cond_both (eqb s parent) (s ∷ above) (open_from parent above) (λ kept. take (length kept) (branch_of nodes (s ∷ above)) ≡ branch_of nodes kept)
+    (λ e. take_all (length (s ∷ above)) (branch_of nodes (s ∷ above)) (omega (arith, length_branch nodes (s ∷ above))))
+    (λ e. ap (take (length (open_from parent above))) (branch_on nodes s above) ∙ take_on (length (open_from parent above)) (branch_of nodes above) (level nodes s) (omega (arith, length_branch nodes above, fewer above parent)) ∙ kept_front nodes above parent)
+  where
+    take_on : (count : ℕ) (xs : List (ℕ × Kind)) (x : ℕ × Kind) → count ≤ length xs → take count (xs ++ x ∷ []) ≡ take count xs
+    take_on count xs x le = take-append-le count xs (x ∷ []) le
+
+-- ---- the parent
+
+last_behind : {A : Type 0} (xs : List A) (x : A) → last_of (xs ++ x ∷ []) ≡ Some x
+last_behind xs x =
+    let place : length (xs ++ x ∷ []) - 1 ≡ length xs = omega (arith, length-append xs (x ∷ [])) in
+    ap (slice_get (xs ++ x ∷ [])) place ∙ slice_get-get_or (xs ++ x ∷ []) (length xs) x (omega (arith, length-append xs (x ∷ []))) ∙ ap (λ y. Some y) (get_or_behind xs (x ∷ []) x)
+
+-- what stands above a node is its parent, as the definitions know it
+record IsBelow (nodes : List Node) (read : List Node) (n : Node) (above : List (ℕ × Kind)) : Type 0 where
+  kind : option_map (λ (m : ℕ × Kind). m.1) (last_of above) ≡ kind_of (node_with nodes n.parent)
+  serial : unwrap_or (option_map (λ (m : ℕ × Kind). m.0) (last_of above)) 0 ≡ number_of nodes n.parent
+  single_root : (eqb (length above) 0 && ltb 0 (length read)) ≡ false
+  unmixed : mixes read (last_of above) n.kind ≡ false
+
+root_below : (nodes : List Node) (n : Node) → n.parent ≡ 0 → list_any (has_serial 0) nodes ≡ false → IsBelow nodes [] n []
+root_below nodes n root none =
+    let no_parent : list_any (has_serial n.parent) nodes ≡ false = subst (λ (s : ℕ). list_any (has_serial s) nodes ≡ false) (sym root) none in
+    record {
+      kind = sym (ap kind_of (none_found nodes n.parent no_parent));
+      serial = sym (number_none nodes n.parent no_parent);
+      single_root = refl;
+      unmixed = refl;
+    }
+
+child_below : (nodes front : List Node) (n : Node) (above : List ℕ) → list_any (has_serial n.parent) nodes ≡ true
+    → list_all (λ (m : Node). not (eqb m.parent n.parent) || same_test (is_class_kind m.kind) (is_class_kind n.kind)) front ≡ true
+    → IsBelow nodes (map (new nodes) front) n (branch_of nodes (n.parent ∷ above))
+child_below nodes front n above there agree =
+    let last : last_of (branch_of nodes (n.parent ∷ above)) ≡ Some (level nodes n.parent) = ap (λ (xs : List (ℕ × Kind)). last_of xs) (branch_on nodes n.parent above) ∙ last_behind (branch_of nodes above) (level nodes n.parent) in
+    let parent = some_found nodes n.parent there in
+    let kinds : Some (kind_with nodes n.parent) ≡ kind_of (node_with nodes n.parent) = rw (parent.1) refl in
+    let deep : eqb (length (branch_of nodes (n.parent ∷ above))) 0 ≡ false = ne_eqb _ _ (λ e. omega (arith, length_branch nodes (n.parent ∷ above))) in
+    record {
+      kind = ap (option_map (λ (m : ℕ × Kind). m.1)) last ∙ kinds;
+      serial = ap (λ (o : Option (ℕ × Kind)). unwrap_or (option_map (λ (m : ℕ × Kind). m.0) o) 0) last;
+      single_root = rw deep refl;
+      unmixed = ap (λ (o : Option (ℕ × Kind)). mixes (map (new nodes) front) o n.kind) last ∙ unmixed nodes front n.parent n.kind (number_some nodes n.parent there) agree;
+    }
+
+opens : (opened : List ℕ) (parent : ℕ) → list_any (λ s. eqb s parent) opened ≡ true → (above : List ℕ) × (open_from parent opened ≡ parent ∷ above)
+opens [] parent e = absurd cc
+opens (s ∷ above) parent e = by s above parent (eqb s parent) refl e (opens above parent)
+  where
+    by : (s : ℕ) (above : List ℕ) (parent : ℕ) (t : Bool) → eqb s parent ≡ t → list_any (λ s. eqb s parent) (s ∷ above) ≡ true → (list_any (λ s. eqb s parent) above ≡ true → (kept : List ℕ) × (open_from parent above ≡ parent ∷ kept))
+        → (kept : List ℕ) × (open_from parent (s ∷ above) ≡ parent ∷ kept)
+    by s above parent true t e other = (above, rw t (ap (λ (p : ℕ). p ∷ above) (eqb-true _ _ t)))
+    by s above parent false t e other = let rest : list_any (λ s. eqb s parent) above ≡ true = rw t at e in let kept = other rest in (kept.0, rw t (kept.1))
+
+-- a node with a depth stands before
+among_some : (before : List Node) (serial depth : ℕ) → depth_among (depths_back before) serial ≡ suc depth → list_any (has_serial serial) before ≡ true
+among_some [] serial depth e = absurd (omega arith)
+among_some (m ∷ before) serial depth e = by m before serial depth (has_serial serial m) refl e (among_some before serial depth)
+  where
+    by : (m : Node) (before : List Node) (serial depth : ℕ) (t : Bool) → has_serial serial m ≡ t → depth_among (depths_back (m ∷ before)) serial ≡ suc depth → (depth_among (depths_back before) serial ≡ suc depth → list_any (has_serial serial) before ≡ true)
+        → list_any (has_serial serial) (m ∷ before) ≡ true
+    by m before serial depth true t e other = rw t refl
+    by m before serial depth false t e other = let rest : depth_among (depths_back before) serial ≡ suc depth = rw t at e in rw t (other rest)
+
+some_back : (p : Node → Bool) (before : List Node) → list_any p before ≡ true → list_any p (reverse before) ≡ true
+some_back p [] e = absurd cc
+some_back p (m ∷ before) e =
+    ap (list_any p) (reverse-append (m ∷ []) before) ∙ list_any-append p (reverse before) (m ∷ []) ∙ by (p m) (list_any p before) (list_any p (reverse before)) e (some_back p before)
+  where
+    by : (t others back : Bool) → (t || others) ≡ true → (others ≡ true → back ≡ true) → (back || (t || false)) ≡ true
+    by true others false e other = refl
+    by true others true e other = refl
+    by false others back e other = rw (other e) refl
+
+no_zero : (nodes : List Node) (next : ℕ) → AllByRecursion (λ (n : Node). (0 < n.serial) × (n.serial < next)) nodes → list_any (has_serial 0) nodes ≡ false
+no_zero [] next h = refl
+no_zero (n ∷ nodes) next h = let some : eqb n.serial 0 ≡ false = ne_eqb _ _ (λ e. omega (arith, h.0.0)) in rw (some, no_zero nodes next h.1) refl
+
+below : (nodes before : List Node) (opened : List ℕ) (n : Node) (rest : List Node) → IsWalked before opened (n ∷ rest) → nodes ≡ reverse before ++ n ∷ rest → list_any (has_serial 0) nodes ≡ false → agree_with nodes n.parent n.kind ≡ true
+    → IsBelow nodes (map (new nodes) (reverse before)) n (branch_of nodes (open_from n.parent opened))
+below nodes before [] n rest walked all none agree =
+    subst (λ (before : List Node). IsBelow nodes (map (new nodes) (reverse before)) n []) (sym walked.tree.0) (root_below nodes n walked.tree.1.0 none)
+below nodes before (s ∷ above) n rest walked all none agree =
+    let kept = opens (s ∷ above) n.parent walked.tree.0 in
+    let depth : depth_among (depths_back before) n.parent ≡ suc (length kept.0) = next_depth before (s ∷ above) n rest walked ∙ ap (λ (xs : List ℕ). length xs) kept.1 in
+    let there : list_any (has_serial n.parent) nodes ≡ true =
+    subst (λ (xs : List Node). list_any (has_serial n.parent) xs ≡ true) (sym all) (some_front (has_serial n.parent) (reverse before) (n ∷ rest) (some_back (has_serial n.parent) before (among_some before n.parent (length kept.0) depth))) in
+    let front = all_front (λ (m : Node). not (eqb m.parent n.parent) || same_test (is_class_kind m.kind) (is_class_kind n.kind)) (reverse before) (n ∷ rest)
+    (subst (λ (xs : List Node). list_all (λ (m : Node). not (eqb m.parent n.parent) || same_test (is_class_kind m.kind) (is_class_kind n.kind)) xs ≡ true) all agree) in
+    subst (λ (opened : List ℕ). IsBelow nodes (map (new nodes) (reverse before)) n (branch_of nodes opened)) (sym kept.1) (child_below nodes (reverse before) n kept.0 there front)
+
+-- ---- one line
+
+abbrev so_far : List Node → List Node → List ℕ → Outline
+so_far nodes before opened = record { nodes = map (new nodes) (reverse before); branch = branch_of nodes opened }
+
+line_at : (outline : Outline) (depth : ℕ) (above : List (ℕ × Kind)) (k : Kind) (attrs : Attrs) → take depth outline.branch ≡ above → length (node_text depth k attrs) ≤ 4096 → depth < 32 → depth ≤ length outline.branch
+    → IsRoom outline.nodes above k attrs → IsAttrs (is_seq (option_map (λ (n : ℕ × Kind). n.1) (last_of above))) k attrs
+    → with_line outline (node_text depth k attrs) ≡ Ok (with_made outline above (made outline.nodes above k attrs))
+line_at outline depth above k attrs e short flat near =
+    subst (λ (above : List (ℕ × Kind)). IsRoom outline.nodes above k attrs → IsAttrs (is_seq (option_map (λ (n : ℕ × Kind). n.1) (last_of above))) k attrs → with_line outline (node_text depth k attrs) ≡ Ok (with_made outline above (made outline.nodes above k attrs)))
+    e (line_read outline depth k attrs short flat near)
+
+turned_twice : (nodes : List Node) → reverse (reverse nodes) ≡ nodes
+turned_twice [] = refl
+turned_twice (n ∷ nodes) = ap (λ (xs : List Node). reverse xs) (reverse-append (n ∷ []) nodes) ∙ reverse-append (reverse nodes) (n ∷ []) ∙ ap (λ (xs : List Node). n ∷ xs) (turned_twice nodes)
+
+-- what a valid document says of a node behind others
+record IsSound (nodes before : List Node) (n : Node) : Type 0 where
+  flat : depth_among (depths_back before) n.parent < 32
+  stand : may_stand (kind_of (node_with nodes n.parent)) n.kind ≡ true
+  agree : agree_with nodes n.parent n.kind ≡ true
+  fit : has_fitting_attrs nodes n ≡ true
+  first : list_any (has_serial n.serial) (reverse before) ≡ false
+  free : is_id_taken nodes n.serial n.attrs.id ≡ false
+
+sound : (document : Document) → IsValid document → (before : List Node) (n : Node) (rest : List Node) → document.nodes ≡ reverse before ++ n ∷ rest → IsDistinct (n ∷ rest) → IsSound document.nodes before n
+sound document valid before n rest all distinct =
+    let nodes = document.nodes in
+    let placed : is_well_placed nodes n ≡ true = all_at (is_well_placed nodes) (reverse before) n rest (subst (λ (xs : List Node). list_all (is_well_placed nodes) xs ≡ true) all valid.placed) in
+    let last = and_parts (ltb (depth_of nodes n.serial) 32 && may_stand (kind_of (node_with nodes n.parent)) n.kind) (agree_with nodes n.parent n.kind) placed in
+    let deep = and_parts (ltb (depth_of nodes n.serial) 32) (may_stand (kind_of (node_with nodes n.parent)) n.kind) last.0 in
+    let low : depth_of nodes n.serial < 32 = ltb-true _ _ deep.0 in
+    let depth : depth_of nodes n.serial ≡ depth_among (depths_back before) n.parent =
+    ap (λ (xs : List Node). depth_of xs n.serial) all ∙ depth_is (reverse before) n rest distinct ∙ ap (λ (xs : List Node). depth_among (depths_back xs) n.parent) (turned_twice before) in
+    record {
+      flat = omega arith;
+      stand = deep.1;
+      agree = last.1;
+      fit = all_at (has_fitting_attrs nodes) (reverse before) n rest (subst (λ (xs : List Node). list_all (has_fitting_attrs nodes) xs ≡ true) all valid.fitting);
+      first = differ_before (reverse before) n rest (subst IsDistinct all valid.numbered.distinct);
+      free = none_at (λ (m : Node). is_id_taken nodes m.serial m.attrs.id) (reverse before) n rest (subst (λ (xs : List Node). list_any (λ (m : Node). is_id_taken nodes m.serial m.attrs.id) xs ≡ false) all valid.ids);
+    }
+
+few_before : (nodes before : List Node) (n : Node) (rest : List Node) → nodes ≡ reverse before ++ n ∷ rest → length nodes ≤ 2000 → length (map (new nodes) (reverse before)) < 2000
+few_before nodes before n rest all le =
+    let len : length nodes ≡ length (reverse before) + length (n ∷ rest) = ap (λ (xs : List Node). length xs) all ∙ length-append (reverse before) (n ∷ rest) in
+    omega (arith, length_map (new nodes) (reverse before))
+
+room : (document : Document) → IsValid document → (before : List Node) (n : Node) (rest : List Node) (above : List (ℕ × Kind)) → document.nodes ≡ reverse before ++ n ∷ rest → IsSound document.nodes before n
+    → IsBelow document.nodes (map (new document.nodes) (reverse before)) n above → IsRoom (map (new document.nodes) (reverse before)) above n.kind n.attrs
+room document valid before n rest above all is under =
+    let nodes = document.nodes in
+    let id : absent_or is_id n.attrs.id ≡ true = (and_parts (absent_or is_id n.attrs.id) _ is.fit).0 in
+    let free : is_id_taken (reverse before ++ n ∷ rest) n.serial n.attrs.id ≡ false = subst (λ (xs : List Node). is_id_taken xs n.serial n.attrs.id ≡ false) all is.free in
+    let few : all_references nodes ≤ 8000 = valid.references in
+    let sum : all_references nodes ≡ sum_by references_of (reverse before ++ n ∷ rest) = ap (sum_by references_of) all in
+    record {
+      fits = ap (λ (parent : Option Kind). fits_in parent n.kind) under.kind ∙ stands (kind_of (node_with nodes n.parent)) n.kind is.stand;
+      single_root = under.single_root;
+      unmixed = under.unmixed;
+      own_id = free_id nodes (reverse before) n rest id is.first free;
+      few = few_before nodes before n rest all valid.nodes;
+      light = omega (arith, light nodes (reverse before) n rest);
+    }
+
+-- the node that is made is the node with its place as its serial
+made_is : (nodes before : List Node) (n : Node) (rest : List Node) (above : List (ℕ × Kind)) → nodes ≡ reverse before ++ n ∷ rest → list_any (has_serial n.serial) (reverse before) ≡ false
+    → IsBelow nodes (map (new nodes) (reverse before)) n above → made (map (new nodes) (reverse before)) above n.kind n.attrs ≡ new nodes n
+made_is nodes before n rest above all first under =
+    let serial : length (map (new nodes) (reverse before)) + 1 ≡ number_of nodes n.serial =
+    ap (λ (len : ℕ). len + 1) (length_map (new nodes) (reverse before)) ∙ add-one (length (reverse before)) ∙ sym (ap (λ (xs : List Node). number_of xs n.serial) all ∙ number_is (reverse before) n rest first) in
+    ap (λ (s : ℕ). record { serial = s; kind = n.kind; parent = unwrap_or (option_map (λ (m : ℕ × Kind). m.0) (last_of above)) 0; attrs = n.attrs }) serial
+    ∙ ap (λ (p : ℕ). record { serial = number_of nodes n.serial; kind = n.kind; parent = p; attrs = n.attrs }) under.serial
+
+grown : (nodes before : List Node) (n : Node) (rest : List Node) (kept : List ℕ) → nodes ≡ reverse before ++ n ∷ rest → list_any (has_serial n.serial) (reverse before) ≡ false
+    → with_made (record { nodes = map (new nodes) (reverse before); branch = [] }) (branch_of nodes kept) (new nodes n) ≡ so_far nodes (n ∷ before) (n.serial ∷ kept)
+grown nodes before n rest kept all first =
+    let more : map (new nodes) (reverse before) ++ new nodes n ∷ [] ≡ map (new nodes) (reverse (n ∷ before)) =
+    sym (ap (map (new nodes)) (reverse-append (n ∷ []) before) ∙ map_on (new nodes) (reverse before) (n ∷ [])) in
+    let here : node_with nodes n.serial ≡ Some n = ap (λ (xs : List Node). node_with xs n.serial) all ∙ found (reverse before) n rest first in
+    let kinds : n.kind ≡ kind_with nodes n.serial = sym (ap (λ (o : Option Node). unwrap_or (kind_of o) kind.Par) here) in
+    let longer : branch_of nodes kept ++ (number_of nodes n.serial, n.kind) ∷ [] ≡ branch_of nodes (n.serial ∷ kept) =
+    ap (λ (k : Kind). branch_of nodes kept ++ (number_of nodes n.serial, k) ∷ []) kinds ∙ sym (branch_on nodes n.serial kept) in
+    ap (λ (xs : List Node). record { nodes = xs; branch = branch_of nodes kept ++ (number_of nodes n.serial, n.kind) ∷ [] }) more
+    ∙ ap (λ (branch : List (ℕ × Kind)). record { nodes = map (new nodes) (reverse (n ∷ before)); branch = branch }) longer
+
+abbrev read : Outline → Result Outline Refusal
+read outline = Ok outline
+
+step : (document : Document) → IsValid document → (before : List Node) (opened : List ℕ) (n : Node) (rest : List Node) → IsWalked before opened (n ∷ rest) → document.nodes ≡ reverse before ++ n ∷ rest
+    → length (node_text (depth_among (depths_back before) n.parent) n.kind n.attrs) ≤ 4096
+    → with_line (so_far document.nodes before opened) (node_text (depth_among (depths_back before) n.parent) n.kind n.attrs) ≡ Ok (so_far document.nodes (n ∷ before) (n.serial ∷ open_from n.parent opened))
+step document valid before opened n rest walked all short =
+    let nodes = document.nodes in
+    let outline = so_far nodes before opened in
+    let kept = open_from n.parent opened in
+    let above = branch_of nodes kept in
+    let is = sound document valid before n rest all walked.distinct in
+    let under = below nodes before opened n rest walked all (no_zero nodes document.next (recursion_from_All _ nodes valid.numbered.below)) is.agree in
+    let depth : depth_among (depths_back before) n.parent ≡ length kept = next_depth before opened n rest walked in
+    let taken : take (depth_among (depths_back before) n.parent) outline.branch ≡ above = ap (λ (d : ℕ). take d outline.branch) depth ∙ kept_front nodes opened n.parent in
+    let near : depth_among (depths_back before) n.parent ≤ length outline.branch = omega (arith, length_branch nodes opened, fewer opened n.parent) in
+    let attrs : IsAttrs (is_seq (option_map (λ (m : ℕ × Kind). m.1) (last_of above))) n.kind n.attrs =
+    subst (λ (parent : Option Kind). IsAttrs (is_seq parent) n.kind n.attrs) (sym under.kind) (fits n.kind (kind_of (node_with nodes n.parent)) n.attrs is.fit) in
+    line_at outline (depth_among (depths_back before) n.parent) above n.kind n.attrs taken short is.flat near (room document valid before n rest above all is under) attrs
+    ∙ ap (λ (node : Node). read (with_made outline above node)) (made_is nodes before n rest above all is.first under)
+    ∙ ap read (grown nodes before n rest kept all is.first)
+
+-- ---- all lines
+
+ended_is : (nodes read : List Node) (branch : List (ℕ × Kind)) → read ≡ nodes → 0 < length nodes → ended (record { nodes = map (new nodes) read; branch = branch }) ≡ Ok (renumbered nodes)
+ended_is nodes read branch e some =
+    let same : length (map (new nodes) nodes) ≡ length nodes = length_map (new nodes) nodes in
+    let not_empty : eqb (length (map (new nodes) nodes)) 0 ≡ false = ne_eqb _ _ (λ z. omega arith) in
+    ap (λ (xs : List Node). ended (record { nodes = map (new nodes) xs; branch = branch })) e ∙ rw (not_empty, same) refl
+
+some_node : (nodes : List Node) → IsTree nodes → 0 < length nodes
+some_node [] h = absurd h
+some_node (n ∷ nodes) h = omega arith
+
+read_on : (document : Document) → IsValid document → (before : List Node) (opened : List ℕ) (rest : List Node) → IsWalked before opened rest → document.nodes ≡ reverse before ++ rest
+    → AllByRecursion (λ (line : List ℕ). length line ≤ 4096) (lines_from (depths_back before) rest)
+    → (with_lines (so_far document.nodes before opened) (lines_from (depths_back before) rest) >>= ended) ≡ Ok (renumbered document.nodes)
+read_on document valid before opened [] walked all short =
+    ended_is document.nodes (reverse before) (branch_of document.nodes opened) (sym (all ∙ append-nil (reverse before))) (some_node document.nodes valid.numbered.tree)
+read_on document valid before opened (n ∷ rest) walked all short =
+    let next : document.nodes ≡ reverse (n ∷ before) ++ rest = all ∙ sym (append_assoc (reverse before) (n ∷ []) rest) ∙ ap (λ (xs : List Node). xs ++ rest) (sym (reverse-append (n ∷ []) before)) in
+    ap (λ (r : Result Outline Refusal). (r >>= λ more. with_lines more (lines_from (depths_back (n ∷ before)) rest)) >>= ended) (step document valid before opened n rest walked all short.0)
+    ∙ read_on document valid (n ∷ before) (n.serial ∷ open_from n.parent opened) rest (walk_on before opened n rest walked) next short.1
+
+pub outline_read : (document : Document) → IsValid document → All (λ (line : List ℕ). length line ≤ 4096) (lines_from [] document.nodes) → outline_of (lines_from [] document.nodes) ≡ Ok (renumbered document.nodes)
+outline_read document valid short = read_on document valid [] [] document.nodes (walk_starts document valid) refl (recursion_from_All (λ (line : List ℕ). length line ≤ 4096) (lines_from [] document.nodes) short)

@@ -1,0 +1,23 @@
+-- The first elements of a list, and one more.
+use Rattle.std.proofs.Common.{◌≡◌, ℕ, zero, suc, ◌+◌, ◌<◌, List, [], ◌∷◌, ◌++◌, length, take, Some, None, sym, ap, ◌∙◌, arith}
+use Rattle.std.specs.List.{slice_get, sum_by}
+use Rattle.smil_model.specs.declared.document.Node.{Node}
+use Rattle.smil_model.specs.document.Document.{Document, with_node}
+use Rattle.std.proofs.lemmas.List.{take_more}
+use Rattle.std.proofs.lemmas.List.Sums.{sum_by_push}
+use Rattle.std.proofs.lemmas.Option.{slice_get_within, get_or_from_slice_get}
+
+pub taken : {A : Type 0} (xs : List A) (i : ℕ) (x : A) → slice_get xs i ≡ Some x → take (i + 1) xs ≡ take i xs ++ x ∷ []
+taken {A} xs i x e = take_more xs i x (slice_get_within xs i x e) ∙ ap (λ (y : A). take i xs ++ y ∷ []) (get_or_from_slice_get xs i x x e)
+
+pub none_left : {A : Type 0} (xs : List A) (i : ℕ) → slice_get xs i ≡ None → i < length xs → ⊥
+none_left [] i e lt = absurd (omega arith)
+none_left (x ∷ xs) zero e lt = absurd cc
+none_left (x ∷ xs) (suc i) e lt = none_left xs i e (omega arith)
+
+pub sum_taken : {A : Type 0} (f : A → ℕ) (xs : List A) (i : ℕ) (x : A) (sum : ℕ) → slice_get xs i ≡ Some x → sum ≡ sum_by f (take i xs) → sum + f x ≡ sum_by f (take (i + 1) xs)
+sum_taken f xs i x sum e h = ap (λ n. n + f x) h ∙ sym (sum_by_push f (take i xs) x) ∙ sym (ap (sum_by f) (taken xs i x e))
+
+pub copied_more : (nodes : List Node) (i : ℕ) (node copy : Node) (doc pushed new : Document) → slice_get nodes i ≡ Some node → copy ≡ node → doc.nodes ≡ take i nodes → pushed ≡ with_node doc copy → new ≡ pushed → new.nodes ≡ take (i + 1) nodes
+copied_more nodes i node copy doc pushed new e same so-far more is =
+    ap (λ (d : Document). d.nodes) (is ∙ more) ∙ ap (λ (ns : List Node). ns ++ copy ∷ []) so-far ∙ ap (λ (n : Node). take i nodes ++ n ∷ []) same ∙ sym (taken nodes i node e)

@@ -1,0 +1,632 @@
+-- What an outline is read as is a valid document.
+use Rattle.std.proofs.Common.{◌≡◌, ℕ, zero, suc, ◌+◌, ◌-◌, ◌<◌, ◌≤◌, Bool, true, false, not, cond, eqb, ltb, leb, ◌&&◌, ◌||◌, List, [], ◌∷◌, ◌++◌, length, take, drop, map, reverse, Option, Some, None, option_map, is_some, Result, Ok, Err, refl, sym, ap, subst, ◌∙◌, arith, length-append, length-take}
+use Rattle.std.specs.Prelude.{◌/◌, ◌%◌, unwrap_or, sum_by, bytes_eq, slice_get}
+use Rattle.std.specs.List.{prefix_len, list_any, list_all, AllByRecursion}
+use Rattle.std.proofs.lemmas.Bool.{and_parts, or_parts, eq-eqb, lt-ltb, leb-false, ltb-false, not-false, ne_eqb, cond_both}
+use Rattle.std.proofs.lemmas.Bool.Decides.{nat_tests}
+use Rattle.std.proofs.lemmas.List.{reverse-append, take-append-drop}
+use Rattle.std.proofs.lemmas.List.Elements.{All-from_recursion}
+use Rattle.std.proofs.lemmas.List.Sums.{sum_by-append, sum_by-cons}
+use Rattle.std.proofs.lemmas.Slice.Eq.{bytes_eq-Decides}
+use Rattle.smil_model.specs.declared.document.Kind.{Kind}
+use Rattle.smil_model.specs.declared.document.Kind.TheVariants as kind
+use Rattle.smil_model.specs.declared.document.Node.{Node}
+use Rattle.smil_model.specs.declared.document.Attrs.{Attrs}
+use Rattle.smil_model.specs.declared.order.Refusal.{Refusal}
+use Rattle.smil_model.specs.declared.order.Refusal.TheVariants as refusal
+use Rattle.smil_model.specs.document.Document.{Document, is_class_kind, has_id, node_at as node_with}
+use Rattle.smil_model.specs.document.Document.{upwards as lineage_up}
+use Rattle.smil_model.specs.document.Values.{fit_kind}
+use Rattle.smil_model.specs.document.Valid.{open_from, IsDistinct, IsTreeFrom, IsTree, IsValid, depth_of, kind_of, may_stand, same_test, agree_with, is_well_placed, has_fitting_attrs, is_other_with, is_id_taken, references_of}
+use Rattle.smil_grammar.specs.declared.fault.NodeFault.{NodeFault}
+use Rattle.smil_grammar.specs.Results.{◌>>=◌}
+use Rattle.smil_grammar.specs.Allowed.{IsAttrs}
+use Rattle.smil_grammar.specs.Nodes.{Shape, is_space, shape_of, fits_in, is_seq, attrs_of}
+use Rattle.smil_grammar.specs.Nodes.{kind_of as kind_in}
+use Rattle.smil_grammar.specs.Outlines.{Outline, unless, in_line, mixes, differ, has_id as has_id_among, references, attrs_in, last_of, node_at, with_line, with_lines, ended, outline_of}
+use Rattle.smil_attrs.proofs.Noded.{node_is}
+use Rattle.smil_outline.specs.Open.{upwards}
+use Rattle.smil_outline.proofs.Depths.{level, map_on, upwards_on, length_upwards}
+use Rattle.smil_outline.proofs.Walks.{Levels, AreFresh, IsRest, IsWalked, next_depth, walk_on, depth_is}
+use Rattle.smil_outline.proofs.Reading.{IsRoom, made, with_made}
+use Rattle.smil_outline.proofs.Ranging.{ranges}
+use Rattle.smil_outline.proofs.RoundTrip.{found, same_references}
+
+-- ---- a line that is read
+
+goes : {A : Type 0} (t : Bool) (e : Refusal) (r : Result A Refusal) (x : A) → (unless t e >>= λ _. r) ≡ Ok x → (t ≡ false) × (r ≡ Ok x)
+goes true e r x h = absurd cc
+goes false e r x h = (refl, h)
+
+record Given {A : Type 0} (B : Type 0) (r : Result B NodeFault) (f : B → Result A Refusal) (x : A) : Type 0 where
+  value : B
+  is : r ≡ Ok value
+  rest : f value ≡ Ok x
+
+given : {A B : Type 0} (spaces : ℕ) (r : Result B NodeFault) (f : B → Result A Refusal) (x : A) → (in_line spaces r >>= f) ≡ Ok x → Given B r f x
+given spaces (Ok y) f x h = record { value = y; is = refl; rest = h }
+given spaces (Err e) f x h = absurd cc
+
+record Made {A B : Type 0} (r : Result B Refusal) (f : B → Result A Refusal) (x : A) : Type 0 where
+  value : B
+  is : r ≡ Ok value
+  rest : f value ≡ Ok x
+
+ok_of : {A B : Type 0} (r : Result B Refusal) (f : B → Result A Refusal) (x : A) → (r >>= f) ≡ Ok x → Made r f x
+ok_of (Ok y) f x h = record { value = y; is = refl; rest = h }
+ok_of (Err e) f x h = absurd cc
+
+-- what a line adds
+pub record IsAdded (old new : Outline) : Type 0 where
+  pub depth : ℕ
+  pub kind : Kind
+  pub attrs : Attrs
+  pub near : depth ≤ length old.branch
+  pub flat : depth < 32
+  pub room : IsRoom old.nodes (take depth old.branch) kind attrs
+  pub allowed : IsAttrs (is_seq (option_map (λ (n : ℕ × Kind). n.1) (last_of (take depth old.branch)))) kind attrs
+  pub is : new ≡ with_made old (take depth old.branch) (made old.nodes (take depth old.branch) kind attrs)
+
+attrs_allowed : (parent : Option (ℕ × Kind)) (k : Kind) (attrs : Attrs) (text : List ℕ) → kind_in text ≡ Ok k → fits_in (option_map (λ (n : ℕ × Kind). n.1) parent) k ≡ true → attrs_in parent k (shape_of text) ≡ Ok attrs
+    → IsAttrs (is_seq (option_map (λ (n : ℕ × Kind). n.1) parent)) k attrs
+attrs_allowed parent k attrs text h fits a =
+    let above = option_map (λ (n : ℕ × Kind). n.1) parent in
+    (node_is above text k attrs (ap (λ (r : Result Kind NodeFault). r >>= λ k. attrs_of above k (shape_of text)) h ∙ by parent k attrs (shape_of text) fits a)).1
+  where
+    by : (parent : Option (ℕ × Kind)) (k : Kind) (attrs : Attrs) (shape : Option Shape) → fits_in (option_map (λ (n : ℕ × Kind). n.1) parent) k ≡ true → attrs_in parent k shape ≡ Ok attrs → attrs_of (option_map (λ (n : ℕ × Kind). n.1) parent) k shape ≡ Ok (k, attrs)
+    by parent k attrs None fits a = absurd cc
+    by parent k attrs (Some shape) fits a = rw (fits, a) refl
+
+node_added : (outline new : Outline) (spaces depth : ℕ) (k : Kind) (text : List ℕ) → kind_in text ≡ Ok k → depth ≤ length outline.branch → depth < 32
+    → (node_at outline spaces (take depth outline.branch) k text >>= λ node. Ok (with_made outline (take depth outline.branch) node)) ≡ Ok new → IsAdded outline new
+node_added outline new spaces depth k text kind near flat h =
+    let above = take depth outline.branch in
+    let whole = ok_of (node_at outline spaces above k text) (λ node. Ok (with_made outline above node)) new h in
+    let placed = goes (not (fits_in (option_map (λ (n : ℕ × Kind). n.1) (last_of above)) k) || (eqb (length above) 0 && ltb 0 (length outline.nodes)) || mixes outline.nodes (last_of above) k) refusal.BadPlace _ whole.value whole.is in
+    let attrs = given spaces (attrs_in (last_of above) k (shape_of text)) _ whole.value placed.1 in
+    let own = goes (has_id_among outline.nodes attrs.value.id) refusal.DuplicateId _ whole.value attrs.rest in
+    let few = goes (leb 2000 (length outline.nodes)) refusal.TooManyElements _ whole.value own.1 in
+    let light = goes (ltb 8000 (sum_by (λ (n : Node). references n.attrs) outline.nodes + references attrs.value)) refusal.TooManyReferences _ whole.value few.1 in
+    let last = or_parts (not (fits_in (option_map (λ (n : ℕ × Kind). n.1) (last_of above)) k) || (eqb (length above) 0 && ltb 0 (length outline.nodes))) (mixes outline.nodes (last_of above) k) placed.0 in
+    let first = or_parts (not (fits_in (option_map (λ (n : ℕ × Kind). n.1) (last_of above)) k)) (eqb (length above) 0 && ltb 0 (length outline.nodes)) last.0 in
+    let fits : fits_in (option_map (λ (n : ℕ × Kind). n.1) (last_of above)) k ≡ true = not-false _ first.0 in
+    let node : made outline.nodes above k attrs.value ≡ whole.value = cc (light.1) in
+    let all : with_made outline above whole.value ≡ new = cc (whole.rest) in
+    record {
+      depth = depth;
+      kind = k;
+      attrs = attrs.value;
+      near = near;
+      flat = flat;
+      room = record { fits = fits; single_root = first.1; unmixed = last.1; own_id = own.0; few = leb-false _ _ few.0; light = ltb-false _ _ light.0 };
+      allowed = attrs_allowed (last_of above) k attrs.value text kind fits attrs.is;
+      is = sym (ap (with_made outline above) node ∙ all);
+    }
+
+pub line_adds : (outline new : Outline) (line : List ℕ) → with_line outline line ≡ Ok new → IsAdded outline new
+line_adds outline new line h =
+    let spaces = prefix_len is_space line in
+    let text = drop spaces line in
+    let short = goes (ltb 4096 (length line)) refusal.LongLine _ new h in
+    let shaped = goes (not (is_some (shape_of text)) || eqb (spaces % 2) 1) refusal.BadOutline _ new short.1 in
+    let kind = given spaces (kind_in text) _ new shaped.1 in
+    let near = goes (ltb (length outline.branch) (spaces / 2)) refusal.DepthJump _ new kind.rest in
+    let flat = goes (leb 32 (spaces / 2)) refusal.TooDeep _ new near.1 in
+    node_added outline new spaces (spaces / 2) kind.value text kind.is (ltb-false _ _ near.0) (leb-false _ _ flat.0) flat.1
+
+-- ---- nodes with one more behind them
+
+find_on : (nodes : List Node) (x : Node) (serial : ℕ) → eqb x.serial serial ≡ false → node_with (nodes ++ x ∷ []) serial ≡ node_with nodes serial
+find_on [] x serial e = rw e refl
+find_on (m ∷ nodes) x serial e = ap (cond (eqb m.serial serial) (Some m)) (find_on nodes x serial e)
+
+turned_on : (nodes : List Node) (x : Node) → reverse (nodes ++ x ∷ []) ≡ x ∷ reverse nodes
+turned_on nodes x = reverse-append nodes (x ∷ [])
+
+depth_on : (nodes : List Node) (x : Node) (serial : ℕ) → eqb x.serial serial ≡ false → depth_of (nodes ++ x ∷ []) serial ≡ depth_of nodes serial
+depth_on nodes x serial e =
+    let skipped : lineage_up (x ∷ reverse nodes) serial ≡ lineage_up (reverse nodes) serial = rw e refl in
+    ap (λ (back : List Node). length (drop 1 (lineage_up back serial))) (turned_on nodes x) ∙ ap (λ (line : List Node). length (drop 1 line)) skipped
+
+all_on : (p : Node → Bool) (nodes : List Node) (x : Node) → list_all p nodes ≡ true → p x ≡ true → list_all p (nodes ++ x ∷ []) ≡ true
+all_on p [] x h k = rw k refl
+all_on p (m ∷ nodes) x h k = let parts = and_parts (p m) (list_all p nodes) h in rw (parts.0, all_on p nodes x parts.1 k) refl
+
+none_on : (p : Node → Bool) (nodes : List Node) (x : Node) → list_any p nodes ≡ false → p x ≡ false → list_any p (nodes ++ x ∷ []) ≡ false
+none_on p [] x h k = rw k refl
+none_on p (m ∷ nodes) x h k = let parts = or_parts (p m) (list_any p nodes) h in rw (parts.0, none_on p nodes x parts.1 k) refl
+
+-- serials are places
+
+abbrev Numbered : ℕ → List Node → Type 0
+Numbered k [] = Unit {0}
+Numbered k (n ∷ nodes) = (n.serial ≡ suc k) × Numbered (suc k) nodes
+
+numbered_on : (k : ℕ) (nodes : List Node) (x : Node) → Numbered k nodes → x.serial ≡ suc (k + length nodes) → Numbered k (nodes ++ x ∷ [])
+numbered_on k [] x h e = (omega arith, tt)
+numbered_on k (n ∷ nodes) x h e = (h.0, numbered_on (suc k) nodes x h.1 (omega arith))
+
+later : (k serial : ℕ) (nodes : List Node) → serial ≤ k → Numbered k nodes → list_any (λ (m : Node). eqb m.serial serial) nodes ≡ false
+later k serial [] le h = refl
+later k serial (n ∷ nodes) le h = let other : eqb n.serial serial ≡ false = ne_eqb _ _ (λ e. omega (arith, h.0)) in rw (other, later (suc k) serial nodes (omega arith) h.1) refl
+
+distinct : (k : ℕ) (nodes : List Node) → Numbered k nodes → IsDistinct nodes
+distinct k [] h = tt
+distinct k (n ∷ nodes) h = (later (suc k) n.serial nodes (omega (arith, h.0)) h.1, distinct (suc k) nodes h.1)
+
+bounded : (k next : ℕ) (nodes : List Node) → Numbered k nodes → k + length nodes < next → AllByRecursion (λ (n : Node). (0 < n.serial) × (n.serial < next)) nodes
+bounded k next [] h lt = tt
+bounded k next (n ∷ nodes) h lt = ((omega (arith, h.0), omega (arith, h.0)), bounded (suc k) next nodes h.1 (omega arith))
+
+-- the tree
+
+abbrev after : List ℕ → List Node → List ℕ
+after open_nodes [] = open_nodes
+after open_nodes (n ∷ nodes) = after (n.serial ∷ open_from n.parent open_nodes) nodes
+
+after_on : (open_nodes : List ℕ) (nodes : List Node) (x : Node) → after open_nodes (nodes ++ x ∷ []) ≡ x.serial ∷ open_from x.parent (after open_nodes nodes)
+after_on open_nodes [] x = refl
+after_on open_nodes (n ∷ nodes) x = after_on (n.serial ∷ open_from n.parent open_nodes) nodes x
+
+tree_on : (open_nodes : List ℕ) (nodes : List Node) (x : Node) → IsTreeFrom open_nodes nodes → list_any (λ s. eqb s x.parent) (after open_nodes nodes) ≡ true → IsTreeFrom open_nodes (nodes ++ x ∷ [])
+tree_on open_nodes [] x h e = (e, tt)
+tree_on open_nodes (n ∷ nodes) x h e = (h.0, tree_on (n.serial ∷ open_from n.parent open_nodes) nodes x h.1 e)
+
+abbrev IsTreeTo : List Node → List ℕ → Type 0
+IsTreeTo [] open_nodes = open_nodes ≡ []
+IsTreeTo (root ∷ nodes) open_nodes = (root.parent ≡ 0) × (IsTreeFrom (root.serial ∷ []) nodes) × (open_nodes ≡ after (root.serial ∷ []) nodes)
+
+-- serials on the branch fall from the last node upwards
+
+abbrev IsFalling : ℕ → List ℕ → Type 0
+IsFalling bound [] = Unit {0}
+IsFalling bound (s ∷ above) = (s < bound) × IsFalling s above
+
+-- ---- what is kept of each node
+
+record IsSettled (nodes : List Node) (m : Node) : Type 0 where
+  early : m.serial ≤ length nodes
+  parent : m.parent ≤ length nodes
+  flat : ltb (depth_of nodes m.serial) 32 ≡ true
+  stand : may_stand (kind_of (node_with nodes m.parent)) m.kind ≡ true
+  agree : agree_with nodes m.parent m.kind ≡ true
+  fit : has_fitting_attrs nodes m ≡ true
+  free : is_id_taken nodes m.serial m.attrs.id ≡ false
+
+same_turned : (a b : Bool) → differ a b ≡ false → same_test b a ≡ true
+same_turned true true h = refl
+same_turned true false h = absurd cc
+same_turned false true h = absurd cc
+same_turned false false h = refl
+
+bytes_turned : (xs ys : List ℕ) → bytes_eq xs ys ≡ false → bytes_eq ys xs ≡ false
+bytes_turned xs ys e = by (bytes_eq ys xs) refl
+  where
+    by : (t : Bool) → bytes_eq ys xs ≡ t → t ≡ false
+    by false k = refl
+    by true k = let same : ys ≡ xs = (bytes_eq-Decides ys xs).0 k in let back : bytes_eq xs ys ≡ true = (bytes_eq-Decides xs ys).1 (sym same) in absurd cc
+
+no_id_of : (own : List ℕ) (m : Node) → bytes_eq (unwrap_or m.attrs.id []) own ≡ false → has_id own m.attrs.id ≡ false
+no_id_of own m e = by own m.attrs.id e
+  where
+    by : (own : List ℕ) (id : Option (List ℕ)) → bytes_eq (unwrap_or id []) own ≡ false → has_id own id ≡ false
+    by own None e = refl
+    by own (Some id) e = e
+
+other_id : (id : List ℕ) (own : Option (List ℕ)) → ((x : List ℕ) → own ≡ Some x → bytes_eq id x ≡ false) → has_id id own ≡ false
+other_id id None h = refl
+other_id id (Some own) h = bytes_turned id own (h own refl)
+
+and_none : (a b : Bool) → b ≡ false → (a && b) ≡ false
+and_none true b e = e
+and_none false b e = refl
+
+-- the id of a new node is none of the others'
+abbrev IsFree : List Node → Option (List ℕ) → Type 0
+IsFree nodes own = has_id_among nodes own ≡ false
+
+free_at : (nodes : List Node) (own : List ℕ) (m : Node) (rest : List Node) → IsFree (m ∷ rest) (Some own) → bytes_eq (unwrap_or m.attrs.id []) own ≡ false
+free_at nodes own m rest h = (or_parts (bytes_eq (unwrap_or m.attrs.id []) own) _ h).0
+
+new_free : (nodes : List Node) (serial : ℕ) (own : Option (List ℕ)) → IsFree nodes own → is_id_taken nodes serial own ≡ false
+new_free nodes serial None h = refl
+new_free nodes serial (Some own) h = each nodes serial own h
+  where
+    each : (nodes : List Node) (serial : ℕ) (own : List ℕ) → IsFree nodes (Some own) → list_any (is_other_with serial own) nodes ≡ false
+    each [] serial own h = refl
+    each (m ∷ nodes) serial own h =
+        let parts = or_parts (bytes_eq (unwrap_or m.attrs.id []) own) (list_any (λ (n : Node). bytes_eq (unwrap_or n.attrs.id []) own) nodes) h in
+        rw (and_none (not (eqb m.serial serial)) (has_id own m.attrs.id) (no_id_of own m parts.0), each nodes serial own parts.1) refl
+
+taken_on : (nodes : List Node) (x : Node) (serial : ℕ) (own : Option (List ℕ)) → is_id_taken nodes serial own ≡ false → ((id : List ℕ) → own ≡ Some id → is_other_with serial id x ≡ false) → is_id_taken (nodes ++ x ∷ []) serial own ≡ false
+taken_on nodes x serial None h k = refl
+taken_on nodes x serial (Some id) h k = none_on (is_other_with serial id) nodes x h (k id refl)
+
+-- an old node keeps its place where a node comes behind all
+
+record IsNext (nodes : List Node) (x : Node) (m : Node) : Type 0 where
+  serial : x.serial ≡ length nodes + 1
+  agree : (not (eqb x.parent m.parent) || same_test (is_class_kind x.kind) (is_class_kind m.kind)) ≡ true
+  free : (own : List ℕ) → x.attrs.id ≡ Some own → bytes_eq (unwrap_or m.attrs.id []) own ≡ false
+
+id_apart : (nodes : List Node) (x m : Node) → IsNext nodes x m → (id : List ℕ) → m.attrs.id ≡ Some id → is_other_with m.serial id x ≡ false
+id_apart nodes x m next id e =
+    and_none (not (eqb x.serial m.serial)) (has_id id x.attrs.id)
+    (other_id id x.attrs.id (λ own k. subst (λ (o : Option (List ℕ)). bytes_eq (unwrap_or o []) own ≡ false) e (next.free own k)))
+
+stays : (nodes : List Node) (x m : Node) → IsNext nodes x m → IsSettled nodes m → IsSettled (nodes ++ x ∷ []) m
+stays nodes x m next h =
+    let len : length (nodes ++ x ∷ []) ≡ length nodes + 1 = length-append nodes (x ∷ []) in
+    let other : eqb x.serial m.serial ≡ false = ne_eqb _ _ (λ e. omega (arith, h.early, next.serial)) in
+    let no_child : eqb x.serial m.parent ≡ false = ne_eqb _ _ (λ e. omega (arith, h.parent, next.serial)) in
+    let same : node_with (nodes ++ x ∷ []) m.parent ≡ node_with nodes m.parent = find_on nodes x m.parent no_child in
+    record {
+      early = omega (arith, h.early);
+      parent = omega (arith, h.parent);
+      flat = ap (λ (d : ℕ). ltb d 32) (depth_on nodes x m.serial other) ∙ h.flat;
+      stand = ap (λ (o : Option Node). may_stand (kind_of o) m.kind) same ∙ h.stand;
+      agree = all_on (λ (n : Node). not (eqb n.parent m.parent) || same_test (is_class_kind n.kind) (is_class_kind m.kind)) nodes x h.agree next.agree;
+      fit = ap (λ (o : Option Node). fit_kind m.kind (kind_of o) m.attrs) same ∙ h.fit;
+      free = taken_on nodes x m.serial m.attrs.id h.free (id_apart nodes x m next);
+    }
+
+-- a node that a line adds, and where it stands
+
+record IsPut (nodes : List Node) (branch above : List (ℕ × Kind)) (x : Node) : Type 0 where
+  serial : x.serial ≡ length nodes + 1
+  parent : x.parent ≤ length nodes
+  kept : upwards above ≡ open_from x.parent (upwards branch)
+  rest : IsRest (reverse nodes) (upwards branch) (x ∷ [])
+  tree : IsTreeTo (nodes ++ x ∷ []) (x.serial ∷ upwards above)
+  kind : option_map (λ (n : ℕ × Kind). n.1) (last_of above) ≡ kind_of (node_with nodes x.parent)
+  alike_before : list_all (λ (m : Node). not (eqb m.parent x.parent) || same_test (is_class_kind m.kind) (is_class_kind x.kind)) nodes ≡ true
+  alike_behind : list_all (λ (m : Node). not (eqb x.parent m.parent) || same_test (is_class_kind x.kind) (is_class_kind m.kind)) nodes ≡ true
+
+-- an outline whose nodes are those of a valid document
+pub record IsReadable (outline : Outline) : Type 0 where
+  numbered : Numbered 0 outline.nodes
+  tree : IsTreeTo outline.nodes (upwards outline.branch)
+  levels : Levels (reverse outline.nodes) (upwards outline.branch)
+  falling : IsFalling (suc (length outline.nodes)) (upwards outline.branch)
+  kinds : AllByRecursion (λ (b : ℕ × Kind). kind_of (node_with outline.nodes b.0) ≡ Some b.1) outline.branch
+  settled : AllByRecursion (IsSettled outline.nodes) outline.nodes
+  few : length outline.nodes ≤ 2000
+  light : sum_by references_of outline.nodes ≤ 8000
+
+falls_weaker : (low high : ℕ) (xs : List ℕ) → low ≤ high → IsFalling low xs → IsFalling high xs
+falls_weaker low high [] le h = tt
+falls_weaker low high (s ∷ above) le h = (omega (arith, h.0), h.1)
+
+falls_from : (bound parent : ℕ) (xs : List ℕ) → IsFalling bound xs → IsFalling bound (open_from parent xs)
+falls_from bound parent [] h = tt
+falls_from bound parent (s ∷ above) h = cond_both (eqb s parent) (s ∷ above) (open_from parent above) (IsFalling bound) (λ e. h) (λ e. falls_from bound parent above (falls_weaker s bound above (omega (arith, h.0)) h.1))
+
+falls_to : (bound s : ℕ) (closed_nodes above : List ℕ) → IsFalling bound (closed_nodes ++ s ∷ above) → s < bound
+falls_to bound s [] above h = h.0
+falls_to bound s (c ∷ closed_nodes) above h = omega (arith, h.0, falls_to c s closed_nodes above h.1)
+
+opens_at : (bound s : ℕ) (closed_nodes above : List ℕ) → IsFalling bound (closed_nodes ++ s ∷ above) → open_from s (closed_nodes ++ s ∷ above) ≡ s ∷ above
+opens_at bound s [] above h = let own : eqb s s ≡ true = eq-eqb _ _ refl in rw own refl
+opens_at bound s (c ∷ closed_nodes) above h =
+    let other : eqb c s ≡ false = ne_eqb _ _ (λ e. omega (arith, falls_to c s closed_nodes above h.1)) in
+    rw other (opens_at c s closed_nodes above h.1)
+
+stands_in : (s : ℕ) (closed_nodes above : List ℕ) → list_any (λ t. eqb t s) (closed_nodes ++ s ∷ above) ≡ true
+stands_in s [] above = let own : eqb s s ≡ true = eq-eqb _ _ refl in rw own refl
+stands_in s (c ∷ closed_nodes) above = by (eqb c s) (list_any (λ t. eqb t s) (closed_nodes ++ s ∷ above)) (stands_in s closed_nodes above)
+  where
+    by : (a b : Bool) → b ≡ true → (a || b) ≡ true
+    by true b e = refl
+    by false b e = e
+
+fresh_for : (x : Node) (bound : ℕ) (xs : List ℕ) → bound ≤ x.serial → IsFalling bound xs → AreFresh xs (x ∷ [])
+fresh_for x bound [] le h = tt
+fresh_for x bound (s ∷ above) le h = let other : eqb x.serial s ≡ false = ne_eqb _ _ (λ e. omega (arith, h.0)) in (rw other refl, fresh_for x s above (omega (arith, h.0)) h.1)
+
+none_yet : (k serial : ℕ) (nodes : List Node) → Numbered k nodes → k + length nodes < serial → list_any (λ (m : Node). eqb m.serial serial) nodes ≡ false
+none_yet k serial [] h lt = refl
+none_yet k serial (n ∷ nodes) h lt = let other : eqb n.serial serial ≡ false = ne_eqb _ _ (λ e. omega (arith, h.0)) in rw (other, none_yet (suc k) serial nodes h.1 (omega arith)) refl
+
+kind_kept : (nodes : List Node) (x : Node) (serial : ℕ) (k : Kind) → kind_of (node_with nodes serial) ≡ Some k → kind_of (node_with (nodes ++ x ∷ []) serial) ≡ Some k
+kind_kept [] x serial k h = absurd cc
+kind_kept (m ∷ nodes) x serial k h = by m nodes x serial k (eqb m.serial serial) refl h (kind_kept nodes x serial k)
+  where
+    by : (m : Node) (nodes : List Node) (x : Node) (serial : ℕ) (k : Kind) (t : Bool) → eqb m.serial serial ≡ t → kind_of (node_with (m ∷ nodes) serial) ≡ Some k → (kind_of (node_with nodes serial) ≡ Some k → kind_of (node_with (nodes ++ x ∷ []) serial) ≡ Some k)
+        → kind_of (node_with (m ∷ (nodes ++ x ∷ [])) serial) ≡ Some k
+    by m nodes x serial k true t h other = let here : kind_of (Some m) ≡ Some k = rw t at h in rw t here
+    by m nodes x serial k false t h other = let rest : kind_of (node_with nodes serial) ≡ Some k = rw t at h in rw t (other rest)
+
+-- ---- where a node is put
+
+back_alone : (t : Bool) → not t ≡ true → cond t false true ≡ true
+back_alone false h = refl
+back_alone true h = absurd cc
+
+both_ways : (t : Bool) → cond t true true ≡ true
+both_ways false = refl
+both_ways true = refl
+
+root_stands : (k : Kind) → fits_in None k ≡ true → may_stand None k ≡ true
+root_stands kind.Par h = refl
+root_stands kind.Seq h = refl
+root_stands kind.Excl h = refl
+root_stands kind.PriorityClass h = absurd cc
+root_stands kind.Img h = absurd cc
+root_stands kind.Text h = absurd cc
+root_stands kind.Brush h = absurd cc
+root_stands kind.Audio h = absurd cc
+root_stands kind.Video h = absurd cc
+root_stands kind.Animation h = absurd cc
+root_stands kind.TextStream h = absurd cc
+root_stands kind.Ref h = absurd cc
+
+back_stands : (parent : Option Kind) (k : Kind) → fits_in parent k ≡ true → may_stand parent k ≡ true
+back_stands None k h = root_stands k h
+back_stands (Some kind.Par) k h = back_alone (is_class_kind k) h
+back_stands (Some kind.Seq) k h = back_alone (is_class_kind k) h
+back_stands (Some kind.Excl) k h = both_ways (is_class_kind k)
+back_stands (Some kind.PriorityClass) k h = back_alone (is_class_kind k) h
+back_stands (Some kind.Img) k h = absurd cc
+back_stands (Some kind.Text) k h = absurd cc
+back_stands (Some kind.Brush) k h = absurd cc
+back_stands (Some kind.Audio) k h = absurd cc
+back_stands (Some kind.Video) k h = absurd cc
+back_stands (Some kind.Animation) k h = absurd cc
+back_stands (Some kind.TextStream) k h = absurd cc
+back_stands (Some kind.Ref) k h = absurd cc
+
+same_of : (a b : Bool) → differ a b ≡ false → same_test a b ≡ true
+same_of true true h = refl
+same_of true false h = absurd cc
+same_of false true h = absurd cc
+same_of false false h = refl
+
+same_self : (a : Bool) → same_test a a ≡ true
+same_self true = refl
+same_self false = refl
+
+or_true : (a b : Bool) → b ≡ true → (a || b) ≡ true
+or_true true b e = refl
+or_true false b e = e
+
+eqb_turned : (a b : ℕ) → eqb a b ≡ false → eqb b a ≡ false
+eqb_turned a b e = grind (arith, nat_tests)
+
+record AreAlike (nodes : List Node) (parent : ℕ) (k : Kind) : Type 0 where
+  before : list_all (λ (m : Node). not (eqb m.parent parent) || same_test (is_class_kind m.kind) (is_class_kind k)) nodes ≡ true
+  behind : list_all (λ (m : Node). not (eqb parent m.parent) || same_test (is_class_kind k) (is_class_kind m.kind)) nodes ≡ true
+
+all_alike : (nodes : List Node) (parent : ℕ) (k : Kind) → list_any (λ (m : Node). eqb m.parent parent && differ (is_class_kind m.kind) (is_class_kind k)) nodes ≡ false → AreAlike nodes parent k
+all_alike [] parent k h = record { before = refl; behind = refl }
+all_alike (m ∷ nodes) parent k h =
+    let parts = or_parts (eqb m.parent parent && differ (is_class_kind m.kind) (is_class_kind k)) (list_any (λ (m : Node). eqb m.parent parent && differ (is_class_kind m.kind) (is_class_kind k)) nodes) h in
+    let one = each m parent k (eqb m.parent parent) refl parts.0 in
+    let others = all_alike nodes parent k parts.1 in
+    record { before = rw (one.0, others.before) refl; behind = rw (one.1, others.behind) refl }
+  where
+    each : (m : Node) (parent : ℕ) (k : Kind) (t : Bool) → eqb m.parent parent ≡ t → (eqb m.parent parent && differ (is_class_kind m.kind) (is_class_kind k)) ≡ false
+        → ((not (eqb m.parent parent) || same_test (is_class_kind m.kind) (is_class_kind k)) ≡ true) × ((not (eqb parent m.parent) || same_test (is_class_kind k) (is_class_kind m.kind)) ≡ true)
+    each m parent k true t h =
+        let same : differ (is_class_kind m.kind) (is_class_kind k) ≡ false = rw t at h in
+        (or_true (not (eqb m.parent parent)) _ (same_of (is_class_kind m.kind) (is_class_kind k) same), or_true (not (eqb parent m.parent)) _ (same_turned (is_class_kind m.kind) (is_class_kind k) same))
+    each m parent k false t h = let back : eqb parent m.parent ≡ false = eqb_turned m.parent parent t in (rw t refl, rw back refl)
+
+rest_of : (before : List Node) (open_nodes : List ℕ) (x : Node) → list_any (λ s. eqb s x.parent) open_nodes ≡ true → IsRest before open_nodes (x ∷ [])
+rest_of before [] x e = absurd cc
+rest_of before (s ∷ above) x e = (e, tt)
+
+tree_grows : (nodes : List Node) (open_nodes kept : List ℕ) (x : Node) → IsTreeTo nodes open_nodes → list_any (λ s. eqb s x.parent) open_nodes ≡ true → kept ≡ open_from x.parent open_nodes → IsTreeTo (nodes ++ x ∷ []) (x.serial ∷ kept)
+tree_grows [] open_nodes kept x h e k = let none : list_any (λ s. eqb s x.parent) [] ≡ true = subst (λ (xs : List ℕ). list_any (λ s. eqb s x.parent) xs ≡ true) h e in absurd cc
+tree_grows (root ∷ nodes) open_nodes kept x h e k =
+    let there : list_any (λ s. eqb s x.parent) (after (root.serial ∷ []) nodes) ≡ true = subst (λ (xs : List ℕ). list_any (λ s. eqb s x.parent) xs ≡ true) h.2 e in
+    (h.0, tree_on (root.serial ∷ []) nodes x h.1 there, ap (λ (xs : List ℕ). x.serial ∷ xs) (k ∙ ap (open_from x.parent) h.2) ∙ sym (after_on (root.serial ∷ []) nodes x))
+
+got : {A : Type 0} (P : A → Type 0) (xs : List A) (i : ℕ) (p : A) → AllByRecursion P xs → slice_get xs i ≡ Some p → P p
+got P [] i p h e = absurd cc
+got P (x ∷ xs) zero p h e = let same : x ≡ p = cc in subst P same h.0
+got P (x ∷ xs) (suc i) p h e = got P xs i p h.1 e
+
+all_taken : {A : Type 0} (P : A → Type 0) (n : ℕ) (xs : List A) → AllByRecursion P xs → AllByRecursion P (take n xs)
+all_taken P zero xs h = tt
+all_taken P (suc n) [] h = tt
+all_taken P (suc n) (x ∷ xs) h = (h.0, all_taken P n xs h.1)
+
+apart : (branch : List (ℕ × Kind)) (depth : ℕ) → upwards branch ≡ upwards (drop depth branch) ++ upwards (take depth branch)
+apart branch depth =
+    ap upwards (sym (take-append-drop depth branch)) ∙ ap (λ (xs : List ℕ). reverse xs) (map_on (λ (m : ℕ × Kind). m.0) (take depth branch) (drop depth branch)) ∙ reverse-append (map (λ (m : ℕ × Kind). m.0) (take depth branch)) (map (λ (m : ℕ × Kind). m.0) (drop depth branch))
+
+put_at : (nodes : List Node) (branch : List (ℕ × Kind)) (depth : ℕ) (k : Kind) (attrs : Attrs) → IsReadable (record { nodes = nodes; branch = branch }) → depth ≤ length branch → IsRoom nodes (take depth branch) k attrs
+    → IsPut nodes branch (take depth branch) (made nodes (take depth branch) k attrs)
+put_at [] branch zero k attrs r near room = record {
+  serial = refl;
+  parent = omega arith;
+  kept = sym (ap (open_from 0) r.tree);
+  rest = subst (λ (xs : List ℕ). IsRest [] xs (made [] [] k attrs ∷ [])) (sym r.tree) (refl, (refl, tt));
+  tree = (refl, tt, refl);
+  kind = refl;
+  alike_before = refl;
+  alike_behind = refl;
+}
+put_at (n ∷ nodes) branch zero k attrs r near room = let few : length (n ∷ nodes) ≤ 0 = ltb-false _ _ room.single_root in absurd (omega arith)
+put_at nodes branch (suc d) k attrs r near room =
+    let above = take (suc d) branch in
+    let here = level branch (suc d) (omega arith) near in
+    let p : ℕ × Kind = here.node in
+    let tail = upwards (take (suc d - 1) branch) in
+    let x = made nodes above k attrs in
+    let parent : x.parent ≡ p.0 = ap (λ (o : Option (ℕ × Kind)). unwrap_or (option_map (λ (n : ℕ × Kind). n.0) o) 0) here.last in
+    let all : upwards branch ≡ upwards (drop (suc d) branch) ++ p.0 ∷ tail = apart branch (suc d) ∙ ap (λ (xs : List ℕ). upwards (drop (suc d) branch) ++ xs) here.up in
+    let falls = subst (IsFalling (suc (length nodes))) all r.falling in
+    let there : list_any (λ s. eqb s x.parent) (upwards branch) ≡ true = subst (λ (q : ℕ). list_any (λ s. eqb s q) (upwards branch) ≡ true) (sym parent) (subst (λ (xs : List ℕ). list_any (λ s. eqb s p.0) xs ≡ true) (sym all) (stands_in p.0 (upwards (drop (suc d) branch)) tail)) in
+    let kept : upwards above ≡ open_from x.parent (upwards branch) =
+    here.up ∙ sym (opens_at (suc (length nodes)) p.0 (upwards (drop (suc d) branch)) tail falls) ∙ ap (open_from p.0) (sym all) ∙ ap (λ (q : ℕ). open_from q (upwards branch)) (sym parent) in
+    let known : kind_of (node_with nodes p.0) ≡ Some p.1 =
+    got (λ (b : ℕ × Kind). kind_of (node_with nodes b.0) ≡ Some b.1) above (length above - 1) p (all_taken (λ (b : ℕ × Kind). kind_of (node_with nodes b.0) ≡ Some b.1) (suc d) branch r.kinds) here.last in
+    let unmixed : mixes nodes (Some p) k ≡ false = subst (λ (o : Option (ℕ × Kind)). mixes nodes o k ≡ false) here.last room.unmixed in
+    let alike_all = subst (λ (q : ℕ). AreAlike nodes q k) (sym parent) (all_alike nodes p.0 k unmixed) in
+    let low : p.0 < suc (length nodes) = falls_to (suc (length nodes)) p.0 (upwards (drop (suc d) branch)) tail falls in
+    record {
+      serial = refl;
+      parent = omega (arith, parent);
+      kept = kept;
+      rest = rest_of (reverse nodes) (upwards branch) x there;
+      tree = tree_grows nodes (upwards branch) (upwards above) x r.tree there kept;
+      kind = ap (option_map (λ (n : ℕ × Kind). n.1)) here.last ∙ sym known ∙ ap (λ (q : ℕ). kind_of (node_with nodes q)) (sym parent);
+      alike_before = alike_all.before;
+      alike_behind = alike_all.behind;
+    }
+
+-- ---- one line more
+
+all_snoc : {A : Type 0} (P : A → Type 0) (xs : List A) (x : A) → AllByRecursion P xs → P x → AllByRecursion P (xs ++ x ∷ [])
+all_snoc P [] x h k = (k, tt)
+all_snoc P (y ∷ xs) x h k = (h.0, all_snoc P xs x h.1 k)
+
+all_weaker : {A : Type 0} (P Q : A → Type 0) → ((x : A) → P x → Q x) → (xs : List A) → AllByRecursion P xs → AllByRecursion Q xs
+all_weaker P Q f [] h = tt
+all_weaker P Q f (x ∷ xs) h = (f x h.0, all_weaker P Q f xs h.1)
+
+all_stay : (nodes : List Node) (x : Node) → x.serial ≡ length nodes + 1 → (own : List Node) → AllByRecursion (IsSettled nodes) own
+    → list_all (λ (m : Node). not (eqb x.parent m.parent) || same_test (is_class_kind x.kind) (is_class_kind m.kind)) own ≡ true
+    → ((id : List ℕ) → x.attrs.id ≡ Some id → list_any (λ (n : Node). bytes_eq (unwrap_or n.attrs.id []) id) own ≡ false) → AllByRecursion (IsSettled (nodes ++ x ∷ [])) own
+all_stay nodes x serial [] h agree free = tt
+all_stay nodes x serial (m ∷ own) h agree free =
+    let parts = and_parts (not (eqb x.parent m.parent) || same_test (is_class_kind x.kind) (is_class_kind m.kind)) (list_all (λ (m : Node). not (eqb x.parent m.parent) || same_test (is_class_kind x.kind) (is_class_kind m.kind)) own) agree in (
+      stays nodes x m (record { serial = serial; agree = parts.0; free = λ id e. (or_parts (bytes_eq (unwrap_or m.attrs.id []) id) (list_any (λ (n : Node). bytes_eq (unwrap_or n.attrs.id []) id) own) (free id e)).0 }) h.0,
+      all_stay nodes x serial own h.1 parts.1 (λ id e. (or_parts (bytes_eq (unwrap_or m.attrs.id []) id) (list_any (λ (n : Node). bytes_eq (unwrap_or n.attrs.id []) id) own) (free id e)).1),
+    )
+
+same_sums : (nodes : List Node) → sum_by (λ (n : Node). references n.attrs) nodes ≡ sum_by references_of nodes
+same_sums [] = refl
+same_sums (n ∷ nodes) = omega (arith, sum_by-cons (λ (n : Node). references n.attrs) n nodes, sum_by-cons references_of n nodes, same_references n, same_sums nodes)
+
+-- what a line asks of the node it adds
+record IsFit (nodes : List Node) (above : List (ℕ × Kind)) (x : Node) : Type 0 where
+  flat : length above < 32
+  fits : fits_in (option_map (λ (n : ℕ × Kind). n.1) (last_of above)) x.kind ≡ true
+  allowed : IsAttrs (is_seq (option_map (λ (n : ℕ × Kind). n.1) (last_of above))) x.kind x.attrs
+  free : has_id_among nodes x.attrs.id ≡ false
+  few : length nodes < 2000
+  light : sum_by (λ (n : Node). references n.attrs) nodes + references x.attrs ≤ 8000
+
+new_settled : (nodes : List Node) (branch above : List (ℕ × Kind)) (x : Node) → IsWalked (reverse nodes) (upwards branch) (x ∷ []) → IsPut nodes branch above x → IsFit nodes above x → IsSettled (nodes ++ x ∷ []) x
+new_settled nodes branch above x walked put fit =
+    let len : length (nodes ++ x ∷ []) ≡ length nodes + 1 = length-append nodes (x ∷ []) in
+    let no_parent : eqb x.serial x.parent ≡ false = ne_eqb _ _ (λ e. omega (arith, put.serial, put.parent)) in
+    let same : kind_of (node_with (nodes ++ x ∷ []) x.parent) ≡ option_map (λ (n : ℕ × Kind). n.1) (last_of above) = ap kind_of (find_on nodes x x.parent no_parent) ∙ sym put.kind in
+    let depth : depth_of (nodes ++ x ∷ []) x.serial ≡ length above =
+    depth_is nodes x [] (refl, tt) ∙ next_depth (reverse nodes) (upwards branch) x [] walked ∙ ap (λ (xs : List ℕ). length xs) (sym put.kept) ∙ length_upwards above in
+    let own : eqb x.serial x.serial ≡ true = eq-eqb _ _ refl in
+    record {
+      early = omega (arith, put.serial);
+      parent = omega (arith, put.parent);
+      flat = lt-ltb _ _ (omega (arith, fit.flat));
+      stand = ap (λ (parent : Option Kind). may_stand parent x.kind) same ∙ back_stands (option_map (λ (n : ℕ × Kind). n.1) (last_of above)) x.kind fit.fits;
+      agree = all_on (λ (m : Node). not (eqb m.parent x.parent) || same_test (is_class_kind m.kind) (is_class_kind x.kind)) nodes x put.alike_before (or_true (not (eqb x.parent x.parent)) _ (same_self (is_class_kind x.kind)));
+      fit = ranges x.kind (kind_of (node_with (nodes ++ x ∷ []) x.parent)) x.attrs (subst (λ (parent : Option Kind). IsAttrs (is_seq parent) x.kind x.attrs) (sym same) fit.allowed);
+      free = taken_on nodes x x.serial x.attrs.id (new_free nodes x.serial x.attrs.id fit.free) (λ id e. rw own refl);
+    }
+
+grows : (nodes : List Node) (branch : List (ℕ × Kind)) (depth : ℕ) (x : Node) → IsReadable (record { nodes = nodes; branch = branch }) → IsPut nodes branch (take depth branch) x → IsFit nodes (take depth branch) x
+    → IsReadable (record { nodes = nodes ++ x ∷ []; branch = take depth branch ++ (x.serial, x.kind) ∷ [] })
+grows nodes branch depth x r put fit =
+    let above = take depth branch in
+    let walked : IsWalked (reverse nodes) (upwards branch) (x ∷ []) = record {
+      levels = r.levels;
+      fresh = fresh_for x (suc (length nodes)) (upwards branch) (omega (arith, put.serial)) r.falling;
+      distinct = (refl, tt);
+      tree = put.rest;
+    } in
+    let up : upwards (above ++ (x.serial, x.kind) ∷ []) ≡ x.serial ∷ upwards above = upwards_on above (x.serial, x.kind) in
+    let open_now : x.serial ∷ open_from x.parent (upwards branch) ≡ upwards (above ++ (x.serial, x.kind) ∷ []) = ap (λ (xs : List ℕ). x.serial ∷ xs) (sym put.kept) ∙ sym up in
+    let levels : Levels (x ∷ reverse nodes) (x.serial ∷ open_from x.parent (upwards branch)) = (walk_on (reverse nodes) (upwards branch) x [] walked).levels in
+    let len : length (nodes ++ x ∷ []) ≡ length nodes + 1 = length-append nodes (x ∷ []) in
+    let kept : IsFalling (suc (length nodes)) (upwards above) = subst (IsFalling (suc (length nodes))) (sym put.kept) (falls_from (suc (length nodes)) x.parent (upwards branch) r.falling) in
+    let falling : IsFalling (suc (length (nodes ++ x ∷ []))) (x.serial ∷ upwards above) = (omega (arith, put.serial), falls_weaker (suc (length nodes)) x.serial (upwards above) (omega (arith, put.serial)) kept) in
+    let last : kind_of (node_with (nodes ++ x ∷ []) x.serial) ≡ Some x.kind = ap kind_of (found nodes x [] (none_yet 0 x.serial nodes r.numbered (omega (arith, put.serial)))) in
+    let nodes_now = nodes ++ x ∷ [] in
+    record {
+      numbered = numbered_on 0 nodes x r.numbered (omega (arith, put.serial));
+      tree = subst (IsTreeTo nodes_now) (sym up) put.tree;
+      levels = subst (λ (back : List Node). Levels back (upwards (above ++ (x.serial, x.kind) ∷ []))) (sym (turned_on nodes x)) (subst (Levels (x ∷ reverse nodes)) open_now levels);
+      falling = subst (IsFalling (suc (length nodes_now))) (sym up) falling;
+      kinds = all_snoc (λ (b : ℕ × Kind). kind_of (node_with nodes_now b.0) ≡ Some b.1) above (x.serial, x.kind)
+          (all_weaker (λ (b : ℕ × Kind). kind_of (node_with nodes b.0) ≡ Some b.1) (λ (b : ℕ × Kind). kind_of (node_with nodes_now b.0) ≡ Some b.1) (λ b h. kind_kept nodes x b.0 b.1 h) above
+          (all_taken (λ (b : ℕ × Kind). kind_of (node_with nodes b.0) ≡ Some b.1) depth branch r.kinds)) last;
+      settled = all_snoc (IsSettled nodes_now) nodes x (all_stay nodes x put.serial nodes r.settled put.alike_behind (λ id e. subst (λ (o : Option (List ℕ)). has_id_among nodes o ≡ false) e fit.free)) (new_settled nodes branch above x walked put fit);
+      few = omega (arith, fit.few);
+      light = omega (arith, sum_by-append references_of nodes (x ∷ []), sum_by-cons references_of x [], same_references x, same_sums nodes, fit.light);
+    }
+
+step : (old new : Outline) → IsReadable old → IsAdded old new → IsReadable new
+step old new r added =
+    let above = take added.depth old.branch in
+    let x = made old.nodes above added.kind added.attrs in
+    let short : length above ≤ added.depth = omega (arith, length-take added.depth old.branch) in
+    subst IsReadable (sym added.is)
+    (grows old.nodes old.branch added.depth x r (put_at old.nodes old.branch added.depth added.kind added.attrs r added.near added.room)
+    (record { flat = omega (arith, added.flat); fits = added.room.fits; allowed = added.allowed; free = added.room.own_id; few = added.room.few; light = added.room.light }))
+
+pub read_on : (old new : Outline) (line : List ℕ) → IsReadable old → with_line old line ≡ Ok new → IsReadable new
+read_on old new line r h = step old new r (line_adds old new line h)
+
+-- ---- the document
+
+abbrev empty : Outline
+empty = record { nodes = []; branch = [] }
+
+pub starts : IsReadable empty
+starts = record { numbered = tt; tree = refl; levels = tt; falling = tt; kinds = tt; settled = tt; few = omega arith; light = omega arith }
+
+all_lines : (lines : List (List ℕ)) (old new : Outline) → IsReadable old → with_lines old lines ≡ Ok new → IsReadable new
+all_lines [] old new r h = let same : old ≡ new = cc in subst IsReadable same r
+all_lines (line ∷ lines) old new r h =
+    let first = ok_of (with_line old line) (λ more. with_lines more lines) new h in
+    all_lines lines first.value new (read_on old first.value line r first.is) first.rest
+
+tested : (p : Node → Bool) (P : Node → Type 0) → ((m : Node) → P m → p m ≡ true) → (own : List Node) → AllByRecursion P own → list_all p own ≡ true
+tested p P f [] h = refl
+tested p P f (m ∷ own) h = rw (f m h.0, tested p P f own h.1) refl
+
+untested : (p : Node → Bool) (P : Node → Type 0) → ((m : Node) → P m → p m ≡ false) → (own : List Node) → AllByRecursion P own → list_any p own ≡ false
+untested p P f [] h = refl
+untested p P f (m ∷ own) h = rw (f m h.0, untested p P f own h.1) refl
+
+tree_of : (nodes : List Node) (open_nodes : List ℕ) → IsTreeTo nodes open_nodes → 0 < length nodes → IsTree nodes
+tree_of [] open_nodes h lt = absurd (omega arith)
+tree_of (root ∷ nodes) open_nodes h lt = (h.0, h.1)
+
+well_placed : (nodes : List Node) (m : Node) → IsSettled nodes m → is_well_placed nodes m ≡ true
+well_placed nodes m h = rw (h.flat, h.stand, h.agree) refl
+
+valid : (outline : Outline) → IsReadable outline → 0 < length outline.nodes → IsValid (record { nodes = outline.nodes; next = length outline.nodes + 1 })
+valid outline r some =
+    let nodes = outline.nodes in
+    record {
+      numbered = record {
+        distinct = distinct 0 nodes r.numbered;
+        below = All-from_recursion (λ (n : Node). (0 < n.serial) × (n.serial < length nodes + 1)) nodes (bounded 0 (length nodes + 1) nodes r.numbered (omega arith));
+        next = omega (arith, r.few);
+        tree = tree_of nodes (upwards outline.branch) r.tree some;
+      };
+      placed = tested (is_well_placed nodes) (IsSettled nodes) (well_placed nodes) nodes r.settled;
+      fitting = tested (has_fitting_attrs nodes) (IsSettled nodes) (λ m h. h.fit) nodes r.settled;
+      ids = untested (λ (n : Node). is_id_taken nodes n.serial n.attrs.id) (IsSettled nodes) (λ m h. h.free) nodes r.settled;
+      nodes = r.few;
+      references = r.light;
+    }
+
+pub ends : (outline : Outline) (document : Document) → IsReadable outline → ended outline ≡ Ok document → IsValid document
+ends outline document r h = by (eqb (length outline.nodes) 0) refl h
+  where
+    positive : (n : ℕ) → eqb n 0 ≡ false → 0 < n
+    positive n e = grind (arith, nat_tests)
+
+    by : (t : Bool) → eqb (length outline.nodes) 0 ≡ t → cond t (Err refusal.BadOutline) (Ok (record { nodes = outline.nodes; next = length outline.nodes + 1 })) ≡ Ok document → IsValid document
+    by true e h = absurd cc
+    by false e h = let same : record { nodes = outline.nodes; next = length outline.nodes + 1 } ≡ document = cc in subst IsValid same (valid outline r (positive (length outline.nodes) e))
+
+pub outline_is_valid : (lines : List (List ℕ)) (document : Document) → outline_of lines ≡ Ok document → IsValid document
+outline_is_valid lines document h =
+    let read = ok_of (with_lines empty lines) ended document h in
+    ends read.value document (all_lines lines empty read.value starts read.is) read.rest

@@ -1,0 +1,6 @@
+use Rattle.smil_outline.proofs.Fitting.{fits}
+use Rattle.smil_outline.proofs.Ranging.{ranges}
+use Rattle.smil_outline.proofs.again.attrs_fit.Goals as goal
+
+pub returns : goal.returns
+returns c = record { can_write = fits; is_read = ranges }

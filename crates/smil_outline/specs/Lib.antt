@@ -1,0 +1,6 @@
+pub mod Numbered
+pub mod Open
+pub mod Gives
+pub mod Kept
+pub mod Steps
+pub mod Written

@@ -1,0 +1,38 @@
+//! What can be written, and what is written is read again.
+
+ghost use Rattle.std.specs.Prelude.{◌≡◌, ◌≤◌, ◌==◌, ℕ, List, [], ◌∷◌, ◌++◌, All, length, true, Option, Ok};
+ghost use Rattle.std.specs.List.{slice_split};
+ghost use Rattle.smil_model.specs.declared.document.Kind.{Kind};
+ghost use Rattle.smil_model.specs.declared.document.Attrs.{Attrs};
+ghost use Rattle.smil_model.specs.document.Values.{fit_kind};
+ghost use Rattle.smil_model.specs.document.Document.{Document};
+ghost use Rattle.smil_model.specs.document.Valid.{IsValid};
+ghost use Rattle.smil_grammar.specs.Nodes.{is_seq};
+ghost use Rattle.smil_grammar.specs.Allowed.{IsAttrs};
+ghost use Rattle.smil_grammar.specs.Outlines.{lines_from, outline_text, outline_of};
+ghost use Rattle.smil_outline.specs.Numbered.{renumbered};
+
+/// Attributes fit the kinds of a node and its parent exactly where each that is there is one of the kind's and some
+/// text is read as it.
+pub fn attrs_fit()
+    ensures can_write { (kind : Kind) (parent : Option Kind) (attrs : Attrs) → fit_kind kind parent attrs ≡ true → IsAttrs (is_seq parent) kind attrs }
+    ensures is_read { (kind : Kind) (parent : Option Kind) (attrs : Attrs) → IsAttrs (is_seq parent) kind attrs → fit_kind kind parent attrs ≡ true }
+{}
+
+/// The canonical outline of a valid document, cut at its line feeds, is its node lines and an empty rest. No line
+/// has a control character, so no carriage return either.
+pub fn outline_lines()
+    ensures cut { (document : Document) → IsValid document → slice_split (λ b. b == 10) (outline_text document.nodes) ≡ lines_from [] document.nodes ++ [] ∷ [] }
+    ensures shown { (document : Document) → IsValid document → All (All (λ (b : ℕ). 32 ≤ b)) (lines_from [] document.nodes) }
+{}
+
+/// The canonical outline of a valid document none of whose lines has more than 4,096 bytes is read as the same
+/// document, with serials from 1 in document order.
+pub fn outline_again()
+    ensures { (document : Document) → IsValid document → All (λ (line : List ℕ). length line ≤ 4096) (lines_from [] document.nodes) → outline_of (lines_from [] document.nodes) ≡ Ok (renumbered document.nodes) }
+{}
+
+/// What an outline is read as is a valid document.
+pub fn outline_valid()
+    ensures { (lines : List (List ℕ)) (document : Document) → outline_of lines ≡ Ok document → IsValid document }
+{}

@@ -1,0 +1,49 @@
+//! The ids of an outline's nodes.
+
+ghost use Rattle.std.specs.Prelude.{◌≡◌, ℕ, List, [], ◌||◌, bytes_eq, OnOk, OnErr};
+ghost use Rattle.smil_outline.specs.Kept.{has};
+
+use std::alloc::{AllocError, Global};
+use std::collections::BTreeSet;
+use std::marker::Model;
+
+/// Ids, each once, which are found in logarithmic time.
+#[derive(Drop)]
+pub struct Ids {
+    ids: BTreeSet<Vec<u8>>,
+}
+
+impl Model for Ids {
+    ghost use Rattle.std.specs.Prelude.{List, ℕ, map};
+
+    ghost Value = { List (List ℕ) };
+
+    ghost view = { λ a. map (λ id. id.items) a.ids.keys };
+}
+
+impl Ids {
+    /// No ids, which take no memory.
+    pub fn new(alloc: Global) -> Ids
+        ensures { result ≡ [] }
+    {
+        Ids {
+            ids: BTreeSet::new(alloc),
+        }
+    }
+
+    /// Whether this id is among them.
+    pub fn has(&self, id: &[u8]) -> bool
+        ensures { result ≡ has self.now id.now }
+    {
+        self.ids.contains(id)
+    }
+
+    /// Puts in an id; one that is there already stays, once. Where memory runs out the ids are as before.
+    pub fn put(&mut self, id: Vec<u8>) -> Result<(), AllocError>
+        ensures ok { OnOk result ((other : List ℕ) → has self.new other ≡ (has self.old other || bytes_eq id.items other)) }
+        ensures err { OnErr result (self.new ≡ self.old) }
+    {
+        self.ids.insert(id)?;
+        Ok(())
+    }
+}

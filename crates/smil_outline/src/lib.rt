@@ -1,0 +1,15 @@
+//! Outlines, read line by line and written.
+#![tactic(auto)]
+
+mod again;
+mod branch;
+mod builder;
+mod ids;
+mod nodes;
+mod references;
+mod refusals;
+mod writer;
+
+pub use again::{attrs_fit, outline_again, outline_lines, outline_valid};
+pub use builder::Builder;
+pub use writer::write_doc;

@@ -1,0 +1,108 @@
+//! The nodes of an outline, and what is asked of them at each line, which takes logarithmic time.
+
+ghost use Rattle.std.specs.Prelude.{◌≡◌, ◌≤◌, ◌+◌, [], ◌∷◌, ◌++◌, length, unwrap_or, not, nat_lt, OnOk, OnErr, option_copied, slice_get};
+ghost use Rattle.smil_grammar.specs.Outlines.{has_id as has_id_among, references as references_of};
+ghost use Rattle.smil_outline.specs.Kept.{all_references};
+
+use super::ids::Ids;
+use super::references::{in_list, references};
+use smil_model::listed::Listed;
+use smil_model::{Attrs, Bytes, Node, REFERENCES};
+use std::alloc::{AllocError, Global};
+use std::marker::Model;
+
+/// The nodes so far, seen as their list.
+#[derive(Drop)]
+pub struct Nodes {
+    alloc: Global,
+    nodes: Listed<Node>,
+    ids: Ids,
+    references: usize,
+}
+
+impl Model for Nodes {
+    ghost use Rattle.std.specs.Prelude.{◌≡◌, ℕ, ◌≤◌, List};
+    ghost use Rattle.smil_model.specs.declared.document.Node.{Node};
+    ghost use Rattle.smil_outline.specs.Kept.{all_references, has, is_taken};
+
+    ghost Value = { List Node };
+
+    ghost view = { λ a. a.nodes };
+
+    ghost invariant = { λ a. (a.references ≡ all_references a.nodes) × (a.references ≤ 8000) × ((id : List ℕ) → has a.ids id ≡ is_taken a.nodes id) };
+}
+
+// A node's id, which is empty where it has none.
+fn id_of(node: &Node) -> &[u8]
+    ensures { result.now ≡ unwrap_or node.now.attrs.id [] }
+{
+    match &node.attrs.id {
+        Some(id) => id.slice(),
+        None => b"",
+    }
+}
+
+impl Nodes {
+    /// No nodes, which take no memory.
+    pub fn new(alloc: Global) -> Nodes
+        ensures { result ≡ [] }
+    {
+        Nodes {
+            alloc,
+            nodes: Listed::new(alloc),
+            ids: Ids::new(alloc),
+            references: 0,
+        }
+    }
+
+    /// How many nodes there are.
+    pub fn len(&self) -> usize
+        ensures { result ≡ length self.now }
+    {
+        self.nodes.len()
+    }
+
+    /// The node at a place from 0.
+    pub fn get(&self, place: usize) -> Option<&Node>
+        ensures { option_copied result ≡ slice_get self.now place }
+    {
+        self.nodes.get(place)
+    }
+
+    /// Whether a node with these attributes leaves at most 8,000 items that are neither offsets nor `indefinite`.
+    pub fn has_room(&self, attrs: &Attrs) -> bool
+        ensures { result ≡ not (nat_lt 8000 (all_references self.now + references_of attrs.now)) }
+    {
+        let left = REFERENCES - self.references;
+        let begin = in_list(&attrs.begin);
+        begin <= left && in_list(&attrs.end) <= left - begin
+    }
+
+    /// Whether a node has this id.
+    pub fn has_id(&self, id: &Option<Bytes>) -> bool
+        ensures { result ≡ has_id_among self.now id.now }
+    {
+        match id {
+            Some(id) => self.ids.has(id.slice()),
+            None => false,
+        }
+    }
+
+    /// Appends a node. After a refusal the nodes are as before.
+    pub fn push(&mut self, node: Node) -> Result<(), AllocError>
+        requires light { all_references self.old + references_of node.attrs ≤ 8000 }
+        ensures ok { OnOk result (self.new ≡ self.old ++ node ∷ []) }
+        ensures err { OnErr result (self.new ≡ self.old) }
+    {
+        let more = references(&node.attrs);
+        let id = Vec::from_slice(self.alloc, id_of(&node))?;
+        let len = self.nodes.len();
+        self.nodes.push(node)?;
+        if self.ids.put(id).is_err() {
+            self.nodes.cut_back(len);
+            return Err(AllocError);
+        }
+        self.references += more;
+        Ok(())
+    }
+}
