@@ -7,5 +7,5 @@ mod verbs;
 mod word;
 mod words;
 
-pub use lines::{opens_load, read_line};
+pub use lines::{ends_load, is_blank, opens_load, read_line};
 pub use smil_grammar::Read;

@@ -6,6 +6,7 @@ ghost use Rattle.smil_grammar.specs.Texts.{is_white as is_white_byte};
 ghost use Rattle.smil_grammar.specs.Scripts.{Word as WordText, line_of, is_blank as is_blank_line, to as to_name, finish, order_line, command as command_line, first_of, named, or_refused, opens_load as opens_load_line};
 ghost use Rattle.smil_grammar.specs.declared.read.Read.TheVariants.{Blank, Load, Close};
 ghost use Rattle.smil_script.specs.Gives.{GivesRead, HoldsGiven, with_name};
+ghost use Rattle.smil_script.specs.Loads.{ends_load as ends_load_line};
 
 use super::orders::order;
 use super::word::{Word, spaces, word_len};
@@ -16,8 +17,8 @@ use smil_lexis::texts::is;
 use smil_model::{Bytes, Refusal};
 use std::alloc::Global;
 
-// Whether a line has no answer: it is white space alone, or its first byte is `#`.
-fn is_blank(line: &[u8]) -> bool
+/// Whether a line has no answer: it is white space alone, or its first byte is `#`. It takes no memory.
+pub fn is_blank(line: &[u8]) -> bool
     ensures { result ≡ is_blank_line line.now }
 {
     is_all_white(line) || matches!(line, [b'#', ..])
@@ -99,6 +100,19 @@ pub fn opens_load(line: &[u8]) -> bool
     let (_, text) = line.split_at(spaces(line));
     let (word, _) = text.split_at(word_len(text));
     is(word, b"load")
+}
+
+/// Whether a line ends a load: its one word is `%%`. It takes no memory.
+pub fn ends_load(line: &[u8]) -> bool
+    requires { length line.now < 2 ^ 31 }
+    ensures { result ≡ ends_load_line line.now }
+{
+    let line = Word {
+        text: line,
+        place: 0,
+    };
+    let (word, rest) = line.first();
+    is(word.text, b"%%") && rest.is_ended()
 }
 
 #[cfg(test)]
@@ -216,6 +230,15 @@ mod tests {
         assert!(rt; !opens_load(b"loads x"));
         assert!(rt; !opens_load(b"\tload x"));
         assert!(rt; !opens_load(b""));
+    }
+
+    #[test]
+    fn ends_loads(rt: HostRuntime) {
+        let lines: [&[u8]; 5] = [b"%%", b"  %% ", b"%%%", b"%% x", b"\t%%"];
+        for (place, line) in lines.iter().enumerate() {
+            assert!(rt; line.len() < 100);
+            assert_eq!(rt; ends_load(line), place < 2, "{line:?}");
+        }
     }
 
     #[test]

@@ -1,0 +1,7 @@
+pub mod Cuts
+pub mod Serving
+pub mod CutLines
+pub mod Tells
+pub mod Writing
+pub mod Loads
+pub mod Openings

@@ -1,0 +1,17 @@
+use Rattle.std.proofs.Common.{◌-◌, ◌≤◌}
+use Rattle.smil_outside.specs.declared.line.TheConstants.{INPUT_BYTES}
+use Rattle.smil_top.proofs.Serving.{IsServing}
+use Rattle.smil_top.proofs.top.run.Given as goal
+
+-- the lines so far are answered; counts of faults only rise
+abbrev pub invariant-lines : goal.invariant-lines
+invariant-lines g l = record {
+  serving : IsServing l.reader l.run (g.S.Source.rest l.fn.source) (g.S.Source.rest l.source) (g.K.Sink.taken l.fn.sink) (g.K.Sink.taken l.sink) (g.K.Sink.sure_room l.fn.sink) (g.K.Sink.sure_room l.sink);
+  reads : g.S.Source.faults l.fn.source ≤ g.S.Source.faults l.source;
+  writes : g.K.Sink.faults l.fn.sink ≤ g.K.Sink.faults l.sink;
+  sure : g.S.Source.never_fails l.fn.source → g.S.Source.never_fails l.source;
+}
+
+-- each line has a number of its own, up to the limit
+abbrev pub decreases-lines : goal.decreases-lines
+decreases-lines g l = INPUT_BYTES - l.reader.number

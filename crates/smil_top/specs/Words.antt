@@ -1,0 +1,23 @@
+-- The words that the program is called with.
+use Rattle.std.specs.Prelude.{ℕ, Bool, List, [], ◌∷◌, codes, bytes_eq, false}
+use Rattle.smil_top.specs.declared.status.Status.{Status}
+use Rattle.smil_top.specs.declared.status.Status.TheVariants as status
+
+-- the one word `run`
+abbrev pub is_run : List (List ℕ) → Bool
+is_run (word ∷ []) = bytes_eq word (codes "run")
+is_run _ = false
+
+-- what faulty words are answered
+abbrev pub usage_line : List ℕ
+usage_line = codes "usage: smilplay run | smilplay check | smilplay gen N\n"
+
+-- the number with which the program ends
+abbrev pub exit_number_of : Status → ℕ
+exit_number_of status.Clean = 0
+exit_number_of status.Refused = 1
+exit_number_of status.Words = 2
+exit_number_of status.ReadFault = 3
+exit_number_of status.WriteFault = 4
+exit_number_of status.Memory = 5
+exit_number_of status.InputTooLong = 6

@@ -1,0 +1,40 @@
+//! How a call ends.
+
+ghost use Rattle.std.specs.Prelude.{◌≡◌};
+ghost use Rattle.smil_top.specs.Words.{exit_number_of};
+
+/// How a call of `serve` ended.
+#[derive(Clone, Copy, Debug, PartialEq, Eq)]
+pub enum Status {
+    /// The input was read to its end, and every order was accepted.
+    Clean,
+    /// The input was read to its end, and an order was refused.
+    Refused,
+    /// The words are none that the program knows.
+    Words,
+    /// A read failed.
+    ReadFault,
+    /// A write failed.
+    WriteFault,
+    /// There was no memory to begin with, or the answer of an order is `memory`.
+    Memory,
+    /// The input is longer than the limit.
+    InputTooLong,
+}
+
+impl Status {
+    /// The number with which the program ends.
+    pub fn exit_number(self) -> u8
+        ensures { result ≡ exit_number_of self }
+    {
+        match self {
+            Status::Clean => 0,
+            Status::Refused => 1,
+            Status::Words => 2,
+            Status::ReadFault => 3,
+            Status::WriteFault => 4,
+            Status::Memory => 5,
+            Status::InputTooLong => 6,
+        }
+    }
+}

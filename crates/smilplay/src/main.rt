@@ -1,0 +1,68 @@
+//! Reads a session of script lines from the standard input, and writes its transcript to the standard output.
+#![tactic(auto)]
+
+ghost use Rattle.std.specs.Prelude.{◌≡◌, ◌<◌, ◌≤◌};
+ghost use Rattle.smil_outside.specs.Faults.{HasRisen};
+ghost use Rattle.smil_top.specs.declared.status.Status.{Status};
+ghost use Rattle.smil_top.specs.Serving.{Serves};
+ghost use Rattle.smil_top.specs.Words.{is_run, exit_number_of};
+
+use smil_model::{Bytes, Steps, WordList};
+use smil_outside::{Sink, Source, StdSink, StdSource};
+use smil_top::serve;
+use std::alloc::Global;
+use std::io::ErrorKind;
+use std::marker::Brand;
+use std::process::ExitCode;
+use std::rt::Env;
+use std::sync::ledger::{Blank, Ledger};
+use std::{env, io};
+
+/// The exit number where there is no memory for the words.
+const NO_MEMORY: u8 = 5;
+
+/// The exit number where a word can't be read.
+const UNREADABLE_WORD: u8 = 7;
+
+fn main(rt: HostRuntime) -> ExitCode {
+    match words(&rt) {
+        Ok(words) => {
+            let mut source = StdSource::new(rt.reader());
+            let mut sink = StdSink::new(io::writer(&rt));
+            let blank = Blank::new(1);
+            ExitCode::from(play::<_, _, Brand>(rt.alloc(), blank, &words, &mut source, &mut sink))
+        }
+        Err(error) if error.kind() == ErrorKind::OutOfMemory => ExitCode::from(NO_MEMORY),
+        Err(_) => ExitCode::from(UNREADABLE_WORD),
+    }
+}
+
+// The words after the program's name.
+fn words<R: Env + AllocGlobal>(rt: &R) -> io::Result<WordList> {
+    let mut words = WordList::new(rt.alloc());
+    for word in env::args(rt)?.skip(1) {
+        words.push(Bytes::of(rt.alloc(), word.as_bytes())?)?;
+    }
+    Ok(words)
+}
+
+// Serves the input, and gives the exit number. Nothing is told of the count of evaluations.
+fn play<S: Source, K: Sink, L: Ledger>(
+    alloc: Global,
+    blank: Blank,
+    words: &WordList,
+    source: &mut S,
+    sink: &mut K,
+) -> u8
+    requires name { blank.name ≡ L.name }
+    requires parts { blank.parts ≡ L.parts }
+    requires backed { 0 < blank.parts }
+    ensures serves { (status : Status) × (result ≡ exit_number_of status) × Serves (is_run words.now) status
+        (S.rest source.old) (S.rest source.new) (K.taken sink.old) (K.taken sink.new) (K.sure_room sink.old) }
+    ensures read_cause { result ≡ 3 → HasRisen (S.faults source.old) (S.faults source.new) }
+    ensures write_cause { result ≡ 4 → HasRisen (K.faults sink.old) (K.faults sink.new) }
+    ensures bound { result ≤ 6 }
+{
+    let mut steps = Steps::<L>::new(blank);
+    serve(alloc, words, source, sink, &mut steps).exit_number()
+}
