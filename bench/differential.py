@@ -6,8 +6,9 @@ model in DIR; text and status are compared. A difference is printed and, with
 --keep, written to a folder. The forms that aren't built yet are refused
 `not-yet` here as the program refuses them. Three kinds of script in turn:
 lines with small faults as the model's own generator makes them, loads and
-advances of the built form in many spellings, and both mixed; now and then a
-load that is near a limit."""
+advances of the built form in many spellings, and both mixed; every fifth
+script has ten loads with a value near the grammar, and now and then one a load
+that is near a limit."""
 import argparse
 import os
 import random
@@ -153,9 +154,40 @@ def at_the_limits(r):
     return ('load d\n' + '\n'.join(lines) + '\n%%\nd advance 1s\n').encode()
 
 
+ITEMS = ['0', '5s', '-1.5s', '+ 2min', '1h', '00:10', '02:30:03.25', '3ms', '0.0009999', '1000000000s', '1000000001s', 'a.begin',
+         'a\\.b.end', 'a\\-1.end + 1s', '_x.begin-2ms', 'click', 'a.click', 'a.DOMActivate - 00:01', 'repeat(2)', 'a.repeat(12)+1s',
+         'repeat(0)', 'indefinite', 'wallclock(2008)', 'accesskey(a)', 'accessKey(a)', 'id(a)', 'a.marker(m)', 'begin', 'a.begin.end', '']
+NEAR = '0123456789.:+-;;\\()  \thminsabegindrpt_\x01\x7f\xe9'
+
+
+def near(r, text):
+    """The text with up to two bytes changed, put in or taken out."""
+    for _ in range(r.choice([0, 0, 1, 1, 2])):
+        place = r.randint(0, len(text))
+        text = text[:place] + r.choice(['', r.choice(NEAR)]) + text[place + r.choice([0, 1]):]
+    return text
+
+
+def values(r):
+    """Loads with one value near the grammar each; what can be read is not built, so each is refused."""
+    lines = []
+    for _ in range(10):
+        name = r.choice(['begin', 'begin', 'end', 'dur', 'min', 'max', 'repeatCount', 'repeatDur', 'endsync', 'id', 'fill'])
+        if name in ('begin', 'end'):
+            value = r.choice([';', ' ; ', ';\t']).join(r.choice(ITEMS) for _ in range(r.choice([1, 1, 2, 3, 32, 33])))
+        elif name in ('dur', 'min', 'max', 'repeatDur'):
+            value = r.choice(ITEMS[:11] + ['media', 'indefinite', '0', '999999999999', '99999999999999999999999ms'])
+        else:
+            value = r.choice(['2.5', '0.001', '0.0009', '1234567890', 'indefinite', 'first', 'all', 'a-1', 'x' * 64, 'x' * 65, 'hold', 'default'])
+        lines += ['load d', r.choice(['par', 'par', 'seq', 'excl']), '  %s %s="%s"' % (r.choice(['img', 'par', 'excl']), name, near(r, value)), '%%']
+    return '\n'.join(lines).encode('latin-1') + b'\n'
+
+
 def script(r, case):
     if case % 50 == 49:
         return at_the_limits(r)
+    if case % 5 == 4:
+        return values(r)
     if case % 3 == 0:
         return b'\n'.join(diff.fuzz(r, REQUEST)[1]) + b'\n'
     if case % 3 == 1:
