@@ -3,17 +3,8 @@
 # each reading is asked of each element. It prints nanoseconds for an entry, and for a reading.
 # It makes a small program over smil_diary in a temporary folder, and runs it as `rt run` builds it.
 set -eu
-here=$(cd "$(dirname "$0")/.." && pwd)
-work=$(mktemp -d)
-trap 'rm -rf "$work"' EXIT
-mkdir -p "$work/crates"
-cp -r "$here/crates/smil_model" "$here/crates/smil_diary" "$work/crates/"
-[ -f "$here/HANDLES" ] && cp "$here/HANDLES" "$work/"
-grep '^smil_model:\|^smil_diary:' "$here/crates.txt" > "$work/crates.txt"
-(cd "$work" && rt new crates/time_diary start_io > /dev/null)
-program=$work/crates/time_diary
-rm -rf "$program/src" "$program/specs" "$program/proofs" "$program/stdin" "$program/stdout" "$program/BUILD.bazel"
-mkdir -p "$program/src"
+. "$(dirname "$0")/program.sh"
+new_program time_diary smil_model smil_diary
 cat > "$program/src/main.rt" <<'RT'
 #![tactic(auto)]
 
@@ -108,7 +99,6 @@ fn main(rt: HostRuntime) -> io::Result<()> {
     println!(rt; "filled {filled} {again} sum {sum} push {push} cut {cut} ask {ask}")
 }
 RT
-echo 'time_diary: smil_model smil_diary' >> "$work/crates.txt"
 cd "$program"
 rt run 2>&1 | tee "$work/log" | grep -v '^filled' | tail -n 3
 sed -n 's/^filled true true sum [0-9]* push \([0-9]*\) cut \([0-9]*\) ask \([0-9]*\)$/\1 \2 \3/p' "$work/log" | awk '{

@@ -2,19 +2,8 @@
 # Times the queue of keys: 100,000 keys are put and dropped in scattered orders, ten times over, in nanoseconds a call.
 # It makes a small program over smil_due in a temporary folder, and runs it as `rt run` builds it.
 set -eu
-here=$(cd "$(dirname "$0")/.." && pwd)
-work=$(mktemp -d)
-trap 'rm -rf "$work"' EXIT
-mkdir -p "$work/crates"
-for crate in smil_model smil_due; do
-    cp -r "$here/crates/$crate" "$work/crates/$crate"
-    grep "^$crate:" "$here/crates.txt" >> "$work/crates.txt"
-done
-[ -f "$here/HANDLES" ] && cp "$here/HANDLES" "$work/"
-(cd "$work" && rt new crates/time_due start_io > /dev/null)
-program=$work/crates/time_due
-rm -rf "$program/src" "$program/specs" "$program/proofs" "$program/stdin" "$program/stdout" "$program/BUILD.bazel"
-mkdir -p "$program/src"
+. "$(dirname "$0")/program.sh"
+new_program time_due smil_model smil_due
 cat > "$program/src/main.rt" <<'RT'
 #![tactic(auto)]
 
@@ -65,6 +54,5 @@ fn main(rt: HostRuntime) -> io::Result<()> {
     println!(rt; "{found} found; put {put}, least {least}, drop_key {dropped} nanoseconds a call")
 }
 RT
-echo 'time_due: smil_due smil_model' >> "$work/crates.txt"
 cd "$program"
 rt run 2>&1 | tail -n 3

@@ -2,17 +2,8 @@
 # Times the line reader: 64 MiB of comment-like lines from standard input, in bytes a second.
 # It makes a small program over smil_outside in a temporary folder, and runs it as `rt run` builds it.
 set -eu
-here=$(cd "$(dirname "$0")/.." && pwd)
-work=$(mktemp -d)
-trap 'rm -rf "$work"' EXIT
-mkdir -p "$work/crates"
-cp -r "$here/crates/smil_outside" "$work/crates/smil_outside"
-[ -f "$here/HANDLES" ] && cp "$here/HANDLES" "$work/"
-grep '^smil_outside:' "$here/crates.txt" > "$work/crates.txt"
-(cd "$work" && rt new crates/time_lines start_io > /dev/null)
-program=$work/crates/time_lines
-rm -rf "$program/src" "$program/specs" "$program/proofs" "$program/stdin" "$program/stdout" "$program/BUILD.bazel"
-mkdir -p "$program/src"
+. "$(dirname "$0")/program.sh"
+new_program time_lines smil_outside
 cat > "$program/src/main.rt" <<'RT'
 #![tactic(auto)]
 
@@ -36,7 +27,6 @@ fn main(rt: HostRuntime) -> io::Result<()> {
     println!(rt; "{answer:?} after {lines} lines, {taken} microseconds")
 }
 RT
-echo 'time_lines: smil_outside' >> "$work/crates.txt"
 yes '# a comment that stands in a session, of about the usual length' | head -c 67108864 > "$work/input"
 cd "$program"
 rt run < "$work/input" 2>&1 | tee "$work/log" | tail -n 3
