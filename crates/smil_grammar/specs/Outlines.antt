@@ -1,6 +1,7 @@
 -- Outlines: node lines, two spaces deeper for each level, give a document, or the first fault.
 use Rattle.std.specs.Prelude.{ℕ, ◌+◌, ◌-◌, ◌/◌, ◌%◌, Bool, true, false, not, ◌&&◌, ◌||◌, List, [], ◌∷◌, ◌++◌, length, take, drop, Option, Some, None, option_map, unwrap_or, is_some, Result, Ok, Err, nat_lt, nat_le, ◌==◌, if◌then◌else◌, bytes_eq, sum_by, flat_map, slice_get}
 use Rattle.std.specs.List.{prefix_len, list_any}
+use Rattle.smil_model.specs.declared.limits.TheConstants.{NODES, DEPTH, REFERENCES}
 use Rattle.smil_model.specs.declared.document.Kind.{Kind}
 use Rattle.smil_model.specs.declared.document.Node.{Node}
 use Rattle.smil_model.specs.declared.document.Attrs.{Attrs}
@@ -9,6 +10,7 @@ use Rattle.smil_model.specs.declared.document.Item.TheVariants.{Offset, Indefini
 use Rattle.smil_model.specs.declared.order.Refusal.{Refusal}
 use Rattle.smil_model.specs.declared.order.Refusal.TheVariants as refusal
 use Rattle.smil_model.specs.document.Document.{Document}
+use Rattle.smil_grammar.specs.declared.limits.TheConstants.{LINE_BYTES}
 use Rattle.smil_grammar.specs.declared.fault.NodeFault.{NodeFault}
 use Rattle.smil_grammar.specs.declared.fault.NodeFault.TheVariants as fault
 use Rattle.smil_grammar.specs.Results.{◌>>=◌}
@@ -82,8 +84,8 @@ node_at outline spaces above kind text = do
   placed ← unless (not (fits_in (option_map (λ (n : ℕ × Kind). n.1) (last_of above)) kind) || (length above == 0 && nat_lt 0 (length outline.nodes)) || mixes outline.nodes (last_of above) kind) refusal.BadPlace
   attrs ← in_line spaces (attrs_in (last_of above) kind (shape_of text))
   single ← unless (has_id outline.nodes attrs.id) refusal.DuplicateId
-  few ← unless (nat_le 2000 (length outline.nodes)) refusal.TooManyElements
-  light ← unless (nat_lt 8000 (sum_by (λ (n : Node). references n.attrs) outline.nodes + references attrs)) refusal.TooManyReferences
+  few ← unless (nat_le NODES (length outline.nodes)) refusal.TooManyElements
+  light ← unless (nat_lt REFERENCES (sum_by (λ (n : Node). references n.attrs) outline.nodes + references attrs)) refusal.TooManyReferences
   Ok (record { serial = length outline.nodes + 1; kind = kind; parent = unwrap_or (option_map (λ (n : ℕ × Kind). n.0) (last_of above)) 0; attrs = attrs })
 
 -- one more line
@@ -93,11 +95,11 @@ with_line outline line =
     let text : List ℕ = drop spaces line in
     let depth : ℕ = spaces / 2 in
     let above : List (ℕ × Kind) = take depth outline.branch in do
-      short ← unless (nat_lt 4096 (length line)) refusal.LongLine
+      short ← unless (nat_lt LINE_BYTES (length line)) refusal.LongLine
       shaped ← unless (not (is_some (shape_of text)) || (spaces % 2 == 1)) refusal.BadOutline
       kind ← in_line spaces (kind_of text)
       near ← unless (nat_lt (length outline.branch) depth) refusal.DepthJump
-      flat ← unless (nat_le 32 depth) refusal.TooDeep
+      flat ← unless (nat_le DEPTH depth) refusal.TooDeep
       node ← node_at outline spaces above kind text
       Ok (record { nodes = outline.nodes ++ node ∷ []; branch = above ++ (node.serial, node.kind) ∷ [] })
 

@@ -4,13 +4,14 @@ use mathlib.Core.Bool.{beq}
 use Rattle.std.specs.List.{slice_get}
 use Rattle.std.specs.Prelude.{OnOk, is_err}
 use Rattle.std.proofs.lemmas.List.Folds.{list_any-append}
-use Rattle.std.proofs.lemmas.List.Elements.{All-push}
 use Rattle.smil_model.specs.declared.document.Kind.{Kind}
 use Rattle.smil_model.specs.declared.document.Node.{Node}
 use Rattle.smil_grammar.specs.Attributes.{is_class}
-use Rattle.smil_grammar.specs.Allowed.{IsAttrs}
-use Rattle.smil_grammar.specs.Outlines.{Outline, differ, last_of, mixes}
+use Rattle.smil_grammar.specs.Results.{◌>>=◌}
+use Rattle.smil_grammar.specs.Outlines.{Outline, differ, last_of, mixes, with_line, with_lines}
 use Rattle.smil_outline.specs.Kept.{differs, serial_of, AreAlike, AreEarlier, IsKept, IsPlaced}
+use Rattle.smil_outline.specs.Steps.{with_node}
+use Rattle.smil_model.specs.declared.order.Refusal.{Refusal}
 
 -- the deepest node of a branch
 abbrev pub deepest : ℕ × Kind → List (ℕ × Kind) → ℕ × Kind
@@ -167,28 +168,43 @@ differ_is true false = refl
 differ_is false true = refl
 differ_is false false = refl
 
-kept_by : (nodes : List Node) (branch : List (ℕ × Kind)) (d : ℕ) (n : Node) → IsKept nodes branch → d ≤ length branch → IsPlaced (record { nodes = nodes; branch = branch }) d n → length nodes < 2000 → IsAttrs false n.kind n.attrs
+on_ok : (r : Result Outline Refusal) (lines more_lines : List (List ℕ)) (before after : Outline) → ((o : Outline) → with_lines o lines ≡ Ok before → with_lines o more_lines ≡ Ok after)
+    → (r >>= λ o. with_lines o lines) ≡ Ok before → (r >>= λ o. with_lines o more_lines) ≡ Ok after
+on_ok (Ok o) lines more_lines before after f h = f o h
+on_ok (Err refusal) lines more_lines before after f h = absurd cc
+
+-- one line more is read
+read_on : (lines : List (List ℕ)) (line : List ℕ) (start before after : Outline) → with_lines start lines ≡ Ok before → with_line before line ≡ Ok after → with_lines start (lines ++ line ∷ []) ≡ Ok after
+read_on [] line start before after h e =
+    let same : start ≡ before = cc in
+    ap (λ (r : Result Outline Refusal). r >>= λ more. Ok more) (ap (λ (o : Outline). with_line o line) same ∙ e)
+read_on (first ∷ lines) line start before after h e = on_ok (with_line start first) lines (lines ++ line ∷ []) before after (λ o k. read_on lines line o before after k e) h
+
+kept_by : (nodes : List Node) (branch : List (ℕ × Kind)) (d : ℕ) (n : Node) (line : List ℕ) → IsKept nodes branch → d ≤ length branch → IsPlaced (record { nodes = nodes; branch = branch }) d n → length nodes < 2000
+    → with_line (record { nodes = nodes; branch = branch }) line ≡ Ok (with_node (record { nodes = nodes; branch = branch }) d n)
     → IsKept (nodes ++ n ∷ []) (take d branch ++ (n.serial, n.kind) ∷ [])
-kept_by nodes branch d n h near placed few attrs =
+kept_by nodes branch d n line h near placed few reads =
     let among : serial_of (last_of (take d branch)) ≤ length nodes = parent_among nodes branch d h.alike in
     let below : n.parent ≤ length nodes = omega (arith, placed.parent) in
     record {
       few = omega (arith, length-append nodes (n ∷ []));
-      can_write = All-push (λ (n : Node). IsAttrs false n.kind n.attrs) nodes n h.can_write attrs;
+      read = (h.read.0 ++ line ∷ [], read_on h.read.0 line (record { nodes = []; branch = [] }) (record { nodes = nodes; branch = branch }) (with_node (record { nodes = nodes; branch = branch }) d n) h.read.1 reads);
       earlier = earlier_with nodes n h.earlier below;
       alike = alike_with nodes branch d n h.earlier h.alike near placed.serial placed.parent placed.unmixed;
     }
 
 -- one more node keeps what is true of a builder
-pub kept_with : (nodes pushed : List Node) (branch put : List (ℕ × Kind)) (now : Outline) (d : ℕ) (n : Node) → record { nodes = nodes; branch = branch } ≡ now → IsKept nodes branch → d ≤ length now.branch → IsPlaced now d n → length now.nodes < 2000 → IsAttrs false n.kind n.attrs
+pub kept_with : (nodes pushed : List Node) (branch put : List (ℕ × Kind)) (now : Outline) (d : ℕ) (n : Node) (line : List ℕ) → record { nodes = nodes; branch = branch } ≡ now → IsKept nodes branch → d ≤ length now.branch → IsPlaced now d n → length now.nodes < 2000
+    → with_line now line ≡ Ok (with_node now d n)
     → pushed ≡ nodes ++ n ∷ [] → put ≡ take d branch ++ (n.serial, n.kind) ∷ [] → IsKept pushed put
-kept_with nodes pushed branch put now d n e h near placed few attrs p q =
+kept_with nodes pushed branch put now d n line e h near placed few reads p q =
     let back : now ≡ record { nodes = nodes; branch = branch } = sym e in
     let near_back : d ≤ length branch = subst (λ (z : Outline). d ≤ length z.branch) back near in
     let placed_back : IsPlaced (record { nodes = nodes; branch = branch }) d n = subst (λ (z : Outline). IsPlaced z d n) back placed in
+    let reads_back = subst (λ (z : Outline). with_line z line ≡ Ok (with_node z d n)) back reads in
     let few_back : length nodes < 2000 = subst (λ (z : Outline). length z.nodes < 2000) back few in
     subst (λ (z : List Node). IsKept z put) (sym p)
-    (subst (λ (z : List (ℕ × Kind)). IsKept (nodes ++ n ∷ []) z) (sym q) (kept_by nodes branch d n h near_back placed_back few_back attrs))
+    (subst (λ (z : List (ℕ × Kind)). IsKept (nodes ++ n ∷ []) z) (sym q) (kept_by nodes branch d n line h near_back placed_back few_back reads_back))
 
 pub where_ok : {T E P : Type 0} (r : Result T E) → is_err r ≡ false → OnOk r P → P
 where_ok (Ok x) e h = h

@@ -23,6 +23,7 @@ use Rattle.smil_grammar.specs.Results.{◌>>=◌}
 use Rattle.smil_grammar.specs.Allowed.{IsAttrs}
 use Rattle.smil_grammar.specs.Nodes.{Shape, is_space, shape_of, fits_in, is_seq, attrs_of}
 use Rattle.smil_grammar.specs.Nodes.{kind_of as kind_in}
+use Rattle.smil_outline.specs.Kept.{AreRead}
 use Rattle.smil_grammar.specs.Outlines.{Outline, unless, in_line, mixes, differ, has_id as has_id_among, references, attrs_in, last_of, node_at, with_line, with_lines, ended, outline_of}
 use Rattle.smil_attrs.proofs.Noded.{node_is}
 use Rattle.smil_outline.specs.Open.{upwards}
@@ -630,3 +631,10 @@ pub outline_is_valid : (lines : List (List ℕ)) (document : Document) → outli
 outline_is_valid lines document h =
     let read = ok_of (with_lines empty lines) ended document h in
     ends read.value document (all_lines lines empty read.value starts read.is) read.rest
+
+-- what a builder holds is a valid document
+pub read_is_valid : (nodes : List Node) (branch : List (ℕ × Kind)) (document : Document) → AreRead nodes branch → 0 < length nodes → document.nodes ≡ nodes → document.next ≡ length nodes + 1 → IsValid document
+read_is_valid nodes branch document read some same next =
+    let outline : Outline = record { nodes = nodes; branch = branch } in
+    let whole : record { nodes = nodes; next = length nodes + 1 } ≡ document = ap (λ k. record { nodes = nodes; next = k }) (sym next) ∙ ap (λ (ns : List Node). record { nodes = ns; next = document.next }) (sym same) in
+    subst IsValid whole (valid outline (all_lines read.0 empty outline starts read.1) some)

@@ -1,11 +1,11 @@
 -- What a builder keeps.
-use Rattle.std.specs.Prelude.{◌≡◌, ℕ, ◌+◌, ◌<◌, ◌≤◌, Bool, false, List, [], ◌∷◌, length, take, Option, Some, None, unwrap_or, option_map, slice_get, sum_by, bytes_eq}
+use Rattle.std.specs.Prelude.{◌≡◌, ℕ, ◌+◌, ◌<◌, ◌≤◌, Bool, false, List, [], ◌∷◌, length, take, Option, Some, None, Ok, unwrap_or, option_map, slice_get, sum_by, bytes_eq}
 use Rattle.std.specs.List.{list_any}
+use Rattle.smil_model.specs.declared.limits.TheConstants.{NODES}
 use Rattle.smil_model.specs.declared.document.Kind.{Kind}
 use Rattle.smil_model.specs.declared.document.Node.{Node}
 use Rattle.smil_grammar.specs.Attributes.{is_class}
-use Rattle.smil_grammar.specs.Outlines.{Outline, differ, last_of, mixes, references}
-use Rattle.smil_outline.specs.Written.{CanWriteAll}
+use Rattle.smil_grammar.specs.Outlines.{Outline, differ, last_of, mixes, references, with_lines}
 
 -- the references of all nodes
 abbrev pub all_references : List Node → ℕ
@@ -47,10 +47,14 @@ AreAlike nodes (node ∷ below) = IsAlike nodes node (slice_get below 0) × AreA
 abbrev pub AreEarlier : List Node → Type 0
 AreEarlier nodes = (serial : ℕ) (kind other : Kind) → length nodes < serial → mixes nodes (Some (serial, other)) kind ≡ false
 
+-- some lines are read as these nodes and this branch
+abbrev pub AreRead : List Node → List (ℕ × Kind) → Type 0
+AreRead nodes branch = (lines : List (List ℕ)) × (with_lines (record { nodes = []; branch = [] }) lines ≡ Ok (record { nodes = nodes; branch = branch }))
+
 -- what is true of the nodes and the branch of a builder
 pub record IsKept (nodes : List Node) (branch : List (ℕ × Kind)) : Type 0 where
-  pub few : length nodes ≤ 2000
-  pub can_write : CanWriteAll nodes
+  pub few : length nodes ≤ NODES
+  pub read : AreRead nodes branch
   pub earlier : AreEarlier nodes
   pub alike : AreAlike nodes branch
 

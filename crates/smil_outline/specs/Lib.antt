@@ -3,4 +3,3 @@ pub mod Open
 pub mod Gives
 pub mod Kept
 pub mod Steps
-pub mod Written

@@ -1,6 +1,7 @@
 -- A line's reading, part by part.
 use Rattle.std.specs.Prelude.{ℕ, ◌+◌, ◌≤◌, ◌/◌, ◌%◌, not, ◌&&◌, ◌||◌, List, [], ◌∷◌, ◌++◌, length, take, drop, Option, option_map, unwrap_or, is_some, Result, Ok, Err, nat_lt, nat_le, ◌==◌}
 use Rattle.std.specs.List.{prefix_len}
+use Rattle.smil_model.specs.declared.limits.TheConstants.{NODES, DEPTH, REFERENCES}
 use Rattle.smil_model.specs.declared.document.Kind.{Kind}
 use Rattle.smil_model.specs.declared.document.Node.{Node}
 use Rattle.smil_model.specs.declared.document.Attrs.{Attrs}
@@ -8,6 +9,7 @@ use Rattle.smil_model.specs.declared.order.Refusal.{Refusal}
 use Rattle.smil_model.specs.declared.order.Refusal.TheVariants as refusal
 use Rattle.smil_grammar.specs.declared.fault.NodeFault.{NodeFault}
 use Rattle.smil_grammar.specs.declared.fault.NodeFault.TheVariants.{Unsupported, UnknownAttribute, BadValue, TooManyItems}
+use Rattle.smil_grammar.specs.declared.limits.TheConstants.{LINE_BYTES}
 use Rattle.smil_grammar.specs.Results.{◌>>=◌}
 use Rattle.smil_grammar.specs.Nodes.{is_space, shape_of, kind_of, fits_in}
 use Rattle.smil_grammar.specs.Outlines.{Outline, unless, in_line, mixes, has_id, references, attrs_in, last_of}
@@ -24,11 +26,11 @@ depth_of line = prefix_len is_space line / 2
 -- the kind of a line's node, and the refusals that come before its place
 abbrev pub kind_at : Outline → List ℕ → Result Kind Refusal
 kind_at outline line = do
-  short ← unless (nat_lt 4096 (length line)) refusal.LongLine
+  short ← unless (nat_lt LINE_BYTES (length line)) refusal.LongLine
   shaped ← unless (not (is_some (shape_of (text_of line))) || (prefix_len is_space line % 2 == 1)) refusal.BadOutline
   kind ← in_line (prefix_len is_space line) (kind_of (text_of line))
   near ← unless (nat_lt (length outline.branch) (depth_of line)) refusal.DepthJump
-  flat ← unless (nat_le 32 (depth_of line)) refusal.TooDeep
+  flat ← unless (nat_le DEPTH (depth_of line)) refusal.TooDeep
   Ok kind
 
 -- the attributes of a node that stands where it may
@@ -47,8 +49,8 @@ attrs_below spaces parent kind text = do
 abbrev pub node_with : List Node → Option (ℕ × Kind) → Kind → Attrs → Result Node Refusal
 node_with nodes parent kind attrs = do
   single ← unless (has_id nodes attrs.id) refusal.DuplicateId
-  few ← unless (nat_le 2000 (length nodes)) refusal.TooManyElements
-  light ← unless (nat_lt 8000 (all_references nodes + references attrs)) refusal.TooManyReferences
+  few ← unless (nat_le NODES (length nodes)) refusal.TooManyElements
+  light ← unless (nat_lt REFERENCES (all_references nodes + references attrs)) refusal.TooManyReferences
   Ok (record { serial = length nodes + 1; kind = kind; parent = unwrap_or (option_map (λ (n : ℕ × Kind). n.0) parent) 0; attrs = attrs })
 
 -- the outline with one more node of this depth

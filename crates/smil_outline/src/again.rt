@@ -1,6 +1,7 @@
 //! What can be written, and what is written is read again.
 
 ghost use Rattle.std.specs.Prelude.{◌≡◌, ◌≤◌, ◌==◌, ℕ, List, [], ◌∷◌, ◌++◌, All, length, true, Option, Ok};
+ghost use Rattle.smil_grammar.specs.declared.limits.TheConstants.{LINE_BYTES};
 ghost use Rattle.std.specs.List.{slice_split};
 ghost use Rattle.smil_model.specs.declared.document.Kind.{Kind};
 ghost use Rattle.smil_model.specs.declared.document.Attrs.{Attrs};
@@ -29,7 +30,7 @@ pub fn outline_lines()
 /// The canonical outline of a valid document none of whose lines has more than 4,096 bytes is read as the same
 /// document, with serials from 1 in document order.
 pub fn outline_again()
-    ensures { (document : Document) → IsValid document → All (λ (line : List ℕ). length line ≤ 4096) (lines_from [] document.nodes) → outline_of (lines_from [] document.nodes) ≡ Ok (renumbered document.nodes) }
+    ensures { (document : Document) → IsValid document → All (λ (line : List ℕ). length line ≤ LINE_BYTES) (lines_from [] document.nodes) → outline_of (lines_from [] document.nodes) ≡ Ok (renumbered document.nodes) }
 {}
 
 /// What an outline is read as is a valid document.

@@ -3,25 +3,26 @@
 ghost use Rattle.std.specs.Prelude.{◌≡◌, ◌<◌, ◌≤◌, [], ◌∷◌, ◌++◌, length, take, slice_get};
 ghost use Rattle.smil_grammar.specs.Outlines.{last_of};
 
-use smil_model::Kind;
+use smil_model::{DEPTH, Kind};
 use std::marker::Model;
 
 /// The serials and kinds of the last node and those above it, from the root down. It takes no memory.
 #[derive(Drop)]
 pub struct Branch {
-    levels: [(u32, Kind); 32],
+    levels: [(u32, Kind); DEPTH],
     len: usize,
 }
 
 impl Model for Branch {
     ghost use Rattle.std.specs.Prelude.{List, ℕ, ◌≤◌, take};
+    ghost use Rattle.smil_model.specs.declared.limits.TheConstants.{DEPTH};
     ghost use Rattle.smil_model.specs.declared.document.Kind.{Kind};
 
     ghost Value = { List (ℕ × Kind) };
 
     ghost view = { λ a. take a.len a.levels };
 
-    ghost invariant = { λ a. a.len ≤ 32 };
+    ghost invariant = { λ a. a.len ≤ DEPTH };
 }
 
 impl Branch {
@@ -30,7 +31,7 @@ impl Branch {
         ensures { result ≡ [] }
     {
         Branch {
-            levels: [(0, Kind::Par); 32],
+            levels: [(0, Kind::Par); DEPTH],
             len: 0,
         }
     }
@@ -67,7 +68,7 @@ impl Branch {
     /// The branch of a node of this depth, below the node that was there above it.
     pub fn put(&mut self, depth: usize, serial: u32, kind: Kind)
         requires within { depth ≤ length self.old }
-        requires shallow { depth < 32 }
+        requires shallow { depth < DEPTH }
         ensures { self.new ≡ take depth self.old ++ (serial, kind) ∷ [] }
     {
         self.levels[depth] = (serial, kind);

@@ -1,26 +1,24 @@
 //! Outlines, read line by line.
 
 ghost use Rattle.std.specs.Prelude.{◌≡◌, ◌≤◌, ◌<◌, ◌+◌, ◌==◌, ◌&&◌, ◌||◌, [], take, drop, length, Ok, false, nat_lt, IfOk, IfErr, OnOk, OnErr};
+ghost use Rattle.smil_model.specs.declared.limits.TheConstants.{REFERENCES};
 ghost use Rattle.std.specs.List.{prefix_len};
 ghost use Rattle.smil_grammar.specs.Nodes.{is_space, kind_of};
-ghost use Rattle.smil_grammar.specs.Allowed.{IsAttrs};
+ghost use Rattle.smil_model.specs.document.Valid.{IsValid};
 ghost use Rattle.smil_grammar.specs.Attributes.{is_class as is_class_kind};
 ghost use Rattle.smil_grammar.specs.Outlines.{with_line, ended, last_of, in_line, mixes as mixes_among, references as references_of};
 ghost use Rattle.smil_outline.specs.Gives.{GivesReading, GivesRefusal, GivesDocument};
 ghost use Rattle.smil_outline.specs.Kept.{all_references, serial_of, IsPlaced};
 ghost use Rattle.smil_outline.specs.Steps.{kind_at, attrs_at, attrs_below as attrs_below_parent, node_with as node_with_attrs, node_kept, depth_of, text_of};
-ghost use Rattle.smil_outline.specs.Written.{CanWriteAll};
 
 use super::branch::Branch;
 use super::nodes::Nodes;
 use super::refusals::refused;
 use smil_attrs::{read_kind, read_node};
+use smil_grammar::LINE_BYTES;
 use smil_model::{Attrs, DEPTH, Doc, Duplicate, Kind, NODES, Node, Refusal};
 use std::alloc::{AllocError, Global};
 use std::marker::Model;
-
-/// The greatest number of bytes of a line.
-const LINE: usize = 4096;
 
 /// Reads an outline line by line, seen as the nodes so far, and the serials and kinds of the last node and
 /// those above it, from the root down.
@@ -52,7 +50,7 @@ fn spaces(line: &[u8]) -> usize
 // The kind of a line without its leading spaces.
 #[tactic(auto, using(crate::proofs::Columns::kind_is_near))]
 fn kind(spaces: usize, text: &[u8]) -> Result<Kind, Refusal>
-    requires { spaces ≤ 4096 }
+    requires { spaces ≤ LINE_BYTES }
     ensures reading { result ≡ in_line spaces (kind_of text.now) }
     ensures kind { IfOk result (λ kind. kind_of text.now ≡ Ok kind) }
 {
@@ -71,9 +69,8 @@ fn attrs_below(
     text: &[u8],
 ) -> Result<Attrs, Refusal>
     requires kind { kind_of text.now ≡ Ok kind }
-    requires short { spaces + length text.now ≤ 4096 }
+    requires short { spaces + length text.now ≤ LINE_BYTES }
     ensures reading { GivesReading result (attrs_below_parent spaces parent kind text.now) }
-    ensures can_write { IfOk result (IsAttrs false kind) }
 {
     match read_node(alloc, parent.map(|parent| parent.1), text) {
         Ok((_, attrs)) => Ok(attrs),
@@ -104,11 +101,11 @@ impl Builder {
     fn kind(&self, line: &[u8]) -> Result<Kind, Refusal>
         ensures reading { result ≡ kind_at self.now line.now }
         ensures text { IfOk result (λ kind. kind_of (text_of line.now) ≡ Ok kind) }
-        ensures short { OnOk result (length line.now ≤ 4096) }
+        ensures short { OnOk result (length line.now ≤ LINE_BYTES) }
         ensures near { OnOk result (depth_of line.now ≤ length self.now.branch) }
-        ensures flat { OnOk result (depth_of line.now < 32) }
+        ensures flat { OnOk result (depth_of line.now < DEPTH) }
     {
-        if line.len() > LINE {
+        if line.len() > LINE_BYTES {
             return Err(Refusal::LongLine);
         }
         let spaces = spaces(line);
@@ -153,11 +150,10 @@ impl Builder {
     fn attrs(&self, line: &[u8], parent: Option<(u32, Kind)>, kind: Kind) -> Result<Attrs, Refusal>
         requires parent { parent ≡ last_of (take (depth_of line.now) self.now.branch) }
         requires kind { kind_of (text_of line.now) ≡ Ok kind }
-        requires short { length line.now ≤ 4096 }
+        requires short { length line.now ≤ LINE_BYTES }
         requires near { depth_of line.now ≤ length self.now.branch }
         ensures reading { GivesReading result (attrs_at self.now (prefix_len is_space line.now) (take (depth_of line.now) self.now.branch) kind (text_of line.now)) }
         ensures unmixed { OnOk result (mixes_among self.now.nodes parent kind ≡ false) }
-        ensures can_write { IfOk result (IsAttrs false kind) }
     {
         let spaces = spaces(line);
         if self.is_misplaced(spaces / 2, kind) {
@@ -169,11 +165,9 @@ impl Builder {
 
     // The node with these attributes, within the limits of a document.
     fn node(&self, parent: Option<(u32, Kind)>, kind: Kind, attrs: Attrs) -> Result<Node, Refusal>
-        requires { IsAttrs false kind attrs }
         ensures reading { result ≡ node_with_attrs self.now.nodes parent kind attrs }
-        ensures light { IfOk result (λ node. all_references self.now.nodes + references_of node.attrs ≤ 8000) }
-        ensures few { IfOk result (λ node. length self.now.nodes < 2000) }
-        ensures can_write { IfOk result (λ node. IsAttrs false node.kind node.attrs) }
+        ensures light { IfOk result (λ node. all_references self.now.nodes + references_of node.attrs ≤ REFERENCES) }
+        ensures few { IfOk result (λ node. length self.now.nodes < NODES) }
         ensures serial { IfOk result (λ node. node.serial ≡ length self.now.nodes + 1) }
         ensures parent { IfOk result (λ node. node.parent ≡ serial_of parent) }
         ensures kind { IfOk result (λ node. node.kind ≡ kind) }
@@ -198,10 +192,9 @@ impl Builder {
     // The node of a line.
     fn line(&self, line: &[u8]) -> Result<Node, Refusal>
         ensures reading { GivesReading (node_kept self.now (depth_of line.now) result) (with_line self.now line.now) }
-        ensures depth { IfOk result (λ node. (depth_of line.now ≤ length self.now.branch) × (depth_of line.now < 32)) }
-        ensures light { IfOk result (λ node. all_references self.now.nodes + references_of node.attrs ≤ 8000) }
-        ensures few { IfOk result (λ node. length self.now.nodes < 2000) }
-        ensures can_write { IfOk result (λ node. IsAttrs false node.kind node.attrs) }
+        ensures depth { IfOk result (λ node. (depth_of line.now ≤ length self.now.branch) × (depth_of line.now < DEPTH)) }
+        ensures light { IfOk result (λ node. all_references self.now.nodes + references_of node.attrs ≤ REFERENCES) }
+        ensures few { IfOk result (λ node. length self.now.nodes < NODES) }
         ensures placed { IfOk result (IsPlaced self.now (depth_of line.now)) }
     {
         let kind = self.kind(line)?;
@@ -233,10 +226,10 @@ impl Builder {
     }
 
     /// The document of the lines so far, whose next serial is one more than it has nodes. `BadOutline` exactly
-    /// where no line was read; `Memory` may come where there was one. What is read can be written.
+    /// where no line was read; `Memory` may come where there was one. The document is valid.
     pub fn finish(self) -> Result<Doc, Refusal>
         ensures document { GivesDocument result (ended self) }
-        ensures can_write { IfOk result (λ doc. CanWriteAll doc.nodes) }
+        ensures valid { IfOk result IsValid }
     {
         let count = self.nodes.len();
         if count == 0 {
@@ -252,7 +245,6 @@ impl Builder {
     fn copied(&self, next: u32) -> Result<Doc, AllocError>
         ensures nodes { IfOk result (λ doc. doc.nodes ≡ self.now.nodes) }
         ensures next { IfOk result (λ doc. doc.next ≡ next) }
-        ensures can_write { IfOk result (λ doc. CanWriteAll doc.nodes) }
     {
         let mut doc = Doc::new(self.alloc, next);
         for place in 0..self.nodes.len() {

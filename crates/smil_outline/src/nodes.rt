@@ -22,6 +22,7 @@ pub struct Nodes {
 
 impl Model for Nodes {
     ghost use Rattle.std.specs.Prelude.{◌≡◌, ℕ, ◌≤◌, List};
+    ghost use Rattle.smil_model.specs.declared.limits.TheConstants.{REFERENCES};
     ghost use Rattle.smil_model.specs.declared.document.Node.{Node};
     ghost use Rattle.smil_outline.specs.Kept.{all_references, has, is_taken};
 
@@ -29,7 +30,7 @@ impl Model for Nodes {
 
     ghost view = { λ a. a.nodes };
 
-    ghost invariant = { λ a. (a.references ≡ all_references a.nodes) × (a.references ≤ 8000) × ((id : List ℕ) → has a.ids id ≡ is_taken a.nodes id) };
+    ghost invariant = { λ a. (a.references ≡ all_references a.nodes) × (a.references ≤ REFERENCES) × ((id : List ℕ) → has a.ids id ≡ is_taken a.nodes id) };
 }
 
 // A node's id, which is empty where it has none.
@@ -71,7 +72,7 @@ impl Nodes {
 
     /// Whether a node with these attributes leaves at most 8,000 items that are neither offsets nor `indefinite`.
     pub fn has_room(&self, attrs: &Attrs) -> bool
-        ensures { result ≡ not (nat_lt 8000 (all_references self.now + references_of attrs.now)) }
+        ensures { result ≡ not (nat_lt REFERENCES (all_references self.now + references_of attrs.now)) }
     {
         let left = REFERENCES - self.references;
         let begin = in_list(&attrs.begin);
@@ -90,7 +91,7 @@ impl Nodes {
 
     /// Appends a node. After a refusal the nodes are as before.
     pub fn push(&mut self, node: Node) -> Result<(), AllocError>
-        requires light { all_references self.old + references_of node.attrs ≤ 8000 }
+        requires light { all_references self.old + references_of node.attrs ≤ REFERENCES }
         ensures ok { OnOk result (self.new ≡ self.old ++ node ∷ []) }
         ensures err { OnErr result (self.new ≡ self.old) }
     {

@@ -1,6 +1,7 @@
 //! Items that refer to an element or an event.
 
 ghost use Rattle.std.specs.Prelude.{◌≡◌, ◌≤◌, sum_by, unwrap_or, []};
+ghost use Rattle.smil_model.specs.declared.limits.TheConstants.{REFERENCES};
 ghost use Rattle.smil_grammar.specs.Outlines.{counted as counted_item, references as references_of};
 
 use smil_model::{Attrs, Item, Items};
@@ -41,7 +42,7 @@ pub fn in_list(items: &Option<Items>) -> usize
 
 /// How many items of an element's lists are neither offsets nor `indefinite`, where they aren't above 8,000.
 pub fn references(attrs: &Attrs) -> usize
-    requires { references_of attrs.now ≤ 8000 }
+    requires { references_of attrs.now ≤ REFERENCES }
     ensures { result ≡ references_of attrs.now }
 {
     in_list(&attrs.begin) + in_list(&attrs.end)

@@ -1,6 +1,7 @@
 //! Faults of node lines, as refusals of the outline's lines.
 
 ghost use Rattle.std.specs.Prelude.{◌≡◌, ◌≤◌, ◌+◌};
+ghost use Rattle.smil_grammar.specs.declared.limits.TheConstants.{LINE_BYTES};
 ghost use Rattle.smil_grammar.specs.Outlines.{refused as refused_line};
 ghost use Rattle.smil_outline.specs.Steps.{IsNear};
 
@@ -9,7 +10,7 @@ use smil_model::Refusal;
 
 // A column behind so many spaces.
 fn behind(spaces: usize, column: u32) -> u32
-    requires spaces { spaces ≤ 4096 }
+    requires spaces { spaces ≤ LINE_BYTES }
     requires column { column ≤ 8192 }
     ensures { result ≡ spaces + column }
 {
@@ -18,7 +19,7 @@ fn behind(spaces: usize, column: u32) -> u32
 
 /// The refusal of a line whose node has a fault behind so many spaces.
 pub fn refused(spaces: usize, fault: NodeFault) -> Refusal
-    requires spaces { spaces ≤ 4096 }
+    requires spaces { spaces ≤ LINE_BYTES }
     requires near { IsNear fault }
     ensures { result ≡ refused_line spaces fault }
 {

@@ -1,6 +1,7 @@
 //! Outlines, as they are written.
 
 ghost use Rattle.std.specs.Prelude.{◌≡◌, ◌≤◌, ◌<◌, ◌++◌, ◌∷◌, [], false, length, take, IfOk, OnOk, OnErr};
+ghost use Rattle.smil_model.specs.declared.limits.TheConstants.{DEPTH};
 ghost use Rattle.smil_grammar.specs.Allowed.{IsAttrs};
 ghost use Rattle.smil_grammar.specs.Spellings.{node_text, Begins};
 ghost use Rattle.smil_grammar.specs.Outlines.{outline_text};
@@ -37,7 +38,7 @@ fn depth_below(branch: &Branch, parent: u32) -> usize
 #[tactic(auto, using(smil_lexis::proofs::Growing::begins_on))]
 fn put_next(node: &Node, branch: &mut Branch, out: &mut Bytes) -> Result<(), AllocError>
     requires can_write { IsAttrs false node.now.kind node.now.attrs }
-    requires shallow { length (open_from node.now.parent (upwards branch.old)) < 32 }
+    requires shallow { length (open_from node.now.parent (upwards branch.old)) < DEPTH }
     ensures ok { OnOk result (out.new ≡ out.old ++ node_text (length (open_from node.now.parent (upwards branch.old))) node.now.kind node.now.attrs ++ 10 ∷ []) }
     ensures branch { OnOk result (upwards branch.new ≡ node.now.serial ∷ open_from node.now.parent (upwards branch.old)) }
     ensures err { OnErr result (Begins out.old out.new) }
