@@ -4,4 +4,5 @@ pub mod Lines
 pub mod Reading
 pub mod History
 pub mod Scan
+pub mod Std
 pub mod Window

@@ -1,15 +1,17 @@
 // A sink over a writer of std.
-ghost use Rattle.std.specs.Prelude.{◌≡◌, ◌+◌, ◌<◌, ◌≤◌, None, length, min, IfOk, OnOk, OnErr};
-ghost use Rattle.std.specs.Io.KnownBytes.{WriteAppends};
-ghost use Rattle.smil_outside.specs.Faults.{HasRisen, last_count};
+ghost use Rattle.std.specs.Prelude.{◌≡◌, ℕ, ◌<◌, ◌≤◌, None, length, take, IfOk, OnOk, OnErr};
+ghost use Rattle.std.specs.Io.KnownBytes.{Appends, WriteAppends};
+ghost use Rattle.smil_outside.specs.Faults.{HasRisen};
+ghost use Rattle.smil_outside.specs.Std.{more_faults};
 
 use crate::failed::Failed;
 use crate::sink::Sink;
 use std::io::Write;
 use std::marker::Model;
 
-/// Hands bytes to a writer, and flushes it after each write. It tells no bytes, and counts the
-/// writer's errors and the writes that take nothing of a piece.
+/// Hands bytes to a writer, and flushes it after each write. It counts the writer's errors and the
+/// writes that take nothing of a piece. As a sink it tells no bytes, since a flush may fail after the
+/// writer took some; its own clauses tell those of a writer that tells them.
 #[derive(Drop)]
 pub struct StdSink<W: Write + Drop> {
     writer: W,
@@ -17,17 +19,17 @@ pub struct StdSink<W: Write + Drop> {
 }
 
 impl<W: Write + Drop> Model for StdSink<W> {
-    ghost use Rattle.std.specs.Prelude.{ℕ};
+    ghost use Rattle.smil_outside.specs.Std.{Counted};
 
-    ghost Value = { ℕ };
+    ghost Value = { Counted };
 
-    ghost view = { λ s. s.faults };
+    ghost view = { λ s. record { bytes = W.contents s.writer; faults = s.faults } };
 }
 
 impl<W: Write + Drop> StdSink<W> {
     /// A sink over this writer, without a fault so far.
     pub fn new(writer: W) -> StdSink<W>
-        ensures { result ≡ 0 }
+        ensures { result ≡ record { bytes = W.contents writer; faults = 0 } }
     {
         StdSink { writer, faults: 0 }
     }
@@ -36,16 +38,18 @@ impl<W: Write + Drop> StdSink<W> {
 impl<W: Write + Drop> Sink for StdSink<W> {
     ghost taken = { λ _. None };
 
-    ghost faults = { λ s. s };
+    ghost faults = { λ s. s.faults };
 
     fn write(&mut self, piece: &[u8]) -> Result<usize, Failed>
         ensures bound { IfOk result (λ n. n ≤ length piece.now) }
         ensures progress { IfOk result (λ n. 0 < length piece.now → 0 < n) }
         ensures bytes { WriteAppends None None result piece.now }
-        ensures cause { OnErr result (HasRisen self.old self.new) }
-        ensures count { self.old ≤ self.new }
-        ensures ok { OnOk result (self.new ≡ self.old) }
-        ensures err { OnErr result (self.new ≡ min (self.old + 1) last_count) }
+        ensures taken { IfOk result (λ n. Appends self.old.bytes self.new.bytes (take n piece.now)) }
+        ensures part { OnErr result ((n : ℕ) × (n ≤ length piece.now) × Appends self.old.bytes self.new.bytes (take n piece.now)) }
+        ensures cause { OnErr result (HasRisen self.old.faults self.new.faults) }
+        ensures count { self.old.faults ≤ self.new.faults }
+        ensures ok { OnOk result (self.new.faults ≡ self.old.faults) }
+        ensures err { OnErr result (self.new.faults ≡ more_faults self.old.faults) }
     {
         if let Ok(n) = self.writer.write(piece)
             && (n > 0 || piece.is_empty())
