@@ -1,0 +1,343 @@
+-- The nodes that a slab holds in the order of a table.
+use Rattle.std.proofs.Common.{◌≡◌, ◌≢◌, refl, sym, ◌∙◌, ap, ℕ, zero, suc, ◌+◌, ◌<◌, ◌≤◌, List, [], ◌∷◌, Option, Some, None, Bool, true, false, cond, length, drop, insert, arith}
+use Rattle.std.specs.Prelude.{◌==◌, ◌||◌, nat_eq, nat_lt, not, slice_get, slice_index_or, option_map, is_some, IsSome}
+use Rattle.std.specs.List.{list_any, position, position_or_len, IsDistinct, AllByRecursion}
+use Rattle.std.specs.Map.{keys_of, lookup}
+use Rattle.std.specs.Option.{option_copied_mut}
+use Rattle.std.specs.Borrow.{MutBor}
+use Rattle.std.proofs.lemmas.Bool.{or_parts, or_from, eqb-true, eq-eqb}
+use Rattle.slab.specs.Slab.{Slab, get, Updates, with_value}
+use Rattle.slab.proofs.SlabLemmas.{Updates-with_value}
+use Rattle.indexmap.specs.IndexMap.{insert_entry, move_index}
+use Rattle.indexmap.proofs.MapLemmas.{absent_from_lookup, insert_entry-absent}
+use Rattle.indexmap.proofs.MoveLemmas.{push_moved}
+use Rattle.smil_model.specs.declared.document.Node.{Node}
+use Rattle.smil_model.specs.declared.document.Attrs.{Attrs}
+use Rattle.smil_model.specs.document.Document.{has_serial, node_at}
+use Rattle.smil_model.specs.document.Edits.{changed_at}
+use Rattle.smil_laws.proofs.Lineages.{swap_eqb}
+use Rattle.smil_tree.specs.Held.{and_those, held, IsHeld, cut}
+
+-- ---- tests
+
+pub same_test : (a b : ℕ) → a == b ≡ b == a
+same_test a b = by_test (a == b) refl
+  where
+    by_test : (t : Bool) → a == b ≡ t → a == b ≡ b == a
+    by_test true e = e ∙ sym (eq-eqb b a (sym (eqb-true a b e)))
+    by_test false e = e ∙ sym (swap_eqb a b e)
+
+-- ---- what is read
+
+abbrev pub at_key : Slab Node → Option ℕ → Option Node
+at_key slab None = None
+at_key slab (Some key) = get slab key
+
+pub held-length : (slab : Slab Node) (es : List (ℕ × ℕ)) → IsHeld slab es → length (held slab es) ≡ length es
+held-length slab [] all = refl
+held-length slab (e ∷ es) all = step (get slab e.1) all.0 (held-length slab es all.2)
+  where
+    step : (o : Option Node) → has_serial e.0 o ≡ true → length (held slab es) ≡ length es → length (and_those o (held slab es)) ≡ suc (length es)
+    step None h rest = cc
+    step (Some n) h rest = ap suc rest
+
+pub held-at : (slab : Slab Node) (es : List (ℕ × ℕ)) (i : ℕ) → IsHeld slab es → slice_get (held slab es) i ≡ at_key slab (option_map (λ (e : ℕ × ℕ). e.1) (slice_get es i))
+held-at slab [] i all = refl
+held-at slab (e ∷ es) zero all = step (get slab e.1) all.0
+  where
+    step : (o : Option Node) → has_serial e.0 o ≡ true → slice_get (and_those o (held slab es)) zero ≡ o
+    step None h = cc
+    step (Some n) h = refl
+held-at slab (e ∷ es) (suc i) all = step (get slab e.1) all.0 (held-at slab es i all.2)
+  where
+    step : (o : Option Node) → has_serial e.0 o ≡ true → slice_get (held slab es) i ≡ at_key slab (option_map (λ (f : ℕ × ℕ). f.1) (slice_get es i)) → slice_get (and_those o (held slab es)) (suc i) ≡ at_key slab (option_map (λ (f : ℕ × ℕ). f.1) (slice_get es i))
+    step None h rest = cc
+    step (Some n) h rest = rest
+
+pub held-find : (slab : Slab Node) (s : ℕ) (es : List (ℕ × ℕ)) → IsHeld slab es → node_at (held slab es) s ≡ at_key slab (lookup (nat_eq s) es)
+held-find slab s [] all = refl
+held-find slab s (e ∷ es) all = step (get slab e.1) refl all.0 (held-find slab s es all.2)
+  where
+    step : (o : Option Node) → get slab e.1 ≡ o → has_serial e.0 o ≡ true → node_at (held slab es) s ≡ at_key slab (lookup (nat_eq s) es) → node_at (and_those o (held slab es)) s ≡ at_key slab (cond (nat_eq s e.0) (Some e.1) (lookup (nat_eq s) es))
+    step None q h rest = cc
+    step (Some n) q h rest = by_test (nat_eq s e.0) (ap (λ x. x == s) (eqb-true n.serial e.0 h) ∙ same_test e.0 s)
+      where
+        by_test : (t : Bool) → n.serial == s ≡ t → cond (n.serial == s) (Some n) (node_at (held slab es) s) ≡ at_key slab (cond t (Some e.1) (lookup (nat_eq s) es))
+        by_test true e = ap (λ t. cond t (Some n) (node_at (held slab es) s)) e ∙ sym q
+        by_test false e = ap (λ t. cond t (Some n) (node_at (held slab es) s)) e ∙ rest
+
+held-first : (slab : Slab Node) (s : ℕ) (es : List (ℕ × ℕ)) → IsHeld slab es → position_or_len (λ (n : Node). n.serial == s) (held slab es) ≡ position_or_len (nat_eq s) (keys_of es)
+held-first slab s [] all = refl
+held-first slab s (e ∷ es) all = step (get slab e.1) all.0 (held-first slab s es all.2)
+  where
+    step : (o : Option Node) → has_serial e.0 o ≡ true → position_or_len (λ (n : Node). n.serial == s) (held slab es) ≡ position_or_len (nat_eq s) (keys_of es) → position_or_len (λ (n : Node). n.serial == s) (and_those o (held slab es)) ≡ cond (not (nat_eq s e.0)) (1 + position_or_len (nat_eq s) (keys_of es)) 0
+    step None h rest = cc
+    step (Some n) h rest =
+        let same : n.serial == s ≡ nat_eq s e.0 = ap (λ x. x == s) (eqb-true n.serial e.0 h) ∙ same_test e.0 s in
+        ap (λ t. cond (not t) (1 + position_or_len (λ (m : Node). m.serial == s) (held slab es)) 0) same
+        ∙ ap (λ k. cond (not (nat_eq s e.0)) (1 + k) 0) rest
+
+keys-length : (es : List (ℕ × ℕ)) → length (keys_of es) ≡ length es
+keys-length [] = refl
+keys-length (e ∷ es) = ap suc (keys-length es)
+
+pub held-place : (slab : Slab Node) (s : ℕ) (es : List (ℕ × ℕ)) → IsHeld slab es → position (λ (n : Node). n.serial == s) (held slab es) ≡ position (nat_eq s) (keys_of es)
+held-place slab s es all =
+    ap (λ k. cond (nat_lt k (length (held slab es))) (Some k) None) (held-first slab s es all)
+    ∙ ap (λ m. cond (nat_lt (position_or_len (nat_eq s) (keys_of es)) m) (Some (position_or_len (nat_eq s) (keys_of es))) None) (held-length slab es all ∙ sym (keys-length es))
+
+-- ---- another slab that holds the same under the same keys
+
+pub held-same : (slab other : Slab Node) (es : List (ℕ × ℕ)) → IsHeld slab es → ((key : ℕ) → list_any (λ (f : ℕ × ℕ). f.1 == key) es ≡ true → get other key ≡ get slab key) → IsHeld other es × (held other es ≡ held slab es)
+held-same slab other [] all same = (tt, refl)
+held-same slab other (e ∷ es) all same =
+    let rest = held-same slab other es all.2 (λ key h. same key (later key h)) in
+    let here : get other e.1 ≡ get slab e.1 = same e.1 (ap (λ t. t || list_any (λ (f : ℕ × ℕ). f.1 == e.1) es) (eq-eqb e.1 e.1 refl)) in
+    ((ap (has_serial e.0) here ∙ all.0, all.1, rest.0), ap (λ o. and_those o (held other es)) here ∙ ap (and_those (get slab e.1)) rest.1)
+  where
+    later : (key : ℕ) → list_any (λ (f : ℕ × ℕ). f.1 == key) es ≡ true → ((e.1 == key) || list_any (λ (f : ℕ × ℕ). f.1 == key) es) ≡ true
+    later key h = by_test (e.1 == key)
+      where
+        by_test : (t : Bool) → (t || list_any (λ (f : ℕ × ℕ). f.1 == key) es) ≡ true
+        by_test true = refl
+        by_test false = h
+
+-- ---- a new node
+
+-- a vacant key is none of the table's
+pub vacant : (slab : Slab Node) (key : ℕ) (es : List (ℕ × ℕ)) → IsHeld slab es → get slab key ≡ None → list_any (λ (f : ℕ × ℕ). f.1 == key) es ≡ false
+vacant slab key [] all free = refl
+vacant slab key (e ∷ es) all free = or_from _ _ (by_test (e.1 == key) refl) (vacant slab key es all.2 free)
+  where
+    by_test : (t : Bool) → e.1 == key ≡ t → t ≡ false
+    by_test false q = refl
+    by_test true q = let none : get slab e.1 ≡ None = ap (get slab) (eqb-true e.1 key q) ∙ free in let never : false ≡ true = ap (has_serial e.0) (sym none) ∙ all.0 in cc
+
+any_insert : (t : ℕ × ℕ → Bool) (es : List (ℕ × ℕ)) (p : ℕ) (x : ℕ × ℕ) → t x ≡ false → list_any t es ≡ false → list_any t (insert es p x) ≡ false
+any_insert t [] zero x h all = or_from _ _ h refl
+any_insert t [] (suc p) x h all = or_from _ _ h refl
+any_insert t (e ∷ es) zero x h all = or_from _ _ h all
+any_insert t (e ∷ es) (suc p) x h all = let parts = or_parts (t e) (list_any t es) all in or_from _ _ parts.0 (any_insert t es p x h parts.1)
+
+module _ (slab : Slab Node) (key : ℕ) (n : Node) (here : get slab key ≡ Some n) where
+  entry_held : has_serial n.serial (get slab key) ≡ true
+  entry_held = ap (has_serial n.serial) here ∙ eq-eqb n.serial n.serial refl
+
+  pub held-insert : (es : List (ℕ × ℕ)) (p : ℕ) → IsHeld slab es → list_any (λ (f : ℕ × ℕ). f.1 == key) es ≡ false → IsHeld slab (insert es p (n.serial, key)) × (held slab (insert es p (n.serial, key)) ≡ insert (held slab es) p n)
+  held-insert [] zero all free = ((entry_held, refl, tt), ap (λ o. and_those o []) here)
+  held-insert [] (suc p) all free = ((entry_held, refl, tt), ap (λ o. and_those o []) here)
+  held-insert (e ∷ es) zero all free = ((entry_held, free, all), ap (λ o. and_those o (and_those (get slab e.1) (held slab es))) here)
+  held-insert (e ∷ es) (suc p) all free =
+      let parts = or_parts (e.1 == key) (list_any (λ (f : ℕ × ℕ). f.1 == key) es) free in
+      let rest = held-insert es p all.2 parts.1 in
+      ((all.0, any_insert (λ (f : ℕ × ℕ). f.1 == e.1) es p (n.serial, key) (swap_eqb e.1 key parts.0) all.1, rest.0), step (get slab e.1) all.0 rest.1)
+    where
+      step : (o : Option Node) → has_serial e.0 o ≡ true → held slab (insert es p (n.serial, key)) ≡ insert (held slab es) p n → and_those o (held slab (insert es p (n.serial, key))) ≡ insert (and_those o (held slab es)) (suc p) n
+      step None h q = cc
+      step (Some m) h q = ap (λ xs. m ∷ xs) q
+
+-- no key that passes is first at the length
+pub absent_index : (test : ℕ → Bool) (es : List (ℕ × ℕ)) → lookup test es ≡ None → position_or_len test (keys_of es) ≡ length es
+absent_index test [] q = refl
+absent_index test (e ∷ es) q = step (test e.0) q (absent_index test es)
+  where
+    step : (t : Bool) → cond t (Some e.1) (lookup test es) ≡ None → (lookup test es ≡ None → position_or_len test (keys_of es) ≡ length es) → cond (not t) (1 + position_or_len test (keys_of es)) 0 ≡ suc (length es)
+    step true r rest = cc
+    step false r rest = omega (arith, rest r)
+
+-- where no node has the serial, the table has no such key
+pub absent : (slab : Slab Node) (s : ℕ) (es : List (ℕ × ℕ)) → IsHeld slab es → node_at (held slab es) s ≡ None → lookup (nat_eq s) es ≡ None
+absent slab s [] all q = refl
+absent slab s (e ∷ es) all q = step (get slab e.1) all.0 q (absent slab s es all.2)
+  where
+    step : (o : Option Node) → has_serial e.0 o ≡ true → node_at (and_those o (held slab es)) s ≡ None → (node_at (held slab es) s ≡ None → lookup (nat_eq s) es ≡ None) → cond (nat_eq s e.0) (Some e.1) (lookup (nat_eq s) es) ≡ None
+    step None h r rest = cc
+    step (Some n) h r rest = by_test (nat_eq s e.0) (ap (λ x. x == s) (eqb-true n.serial e.0 h) ∙ same_test e.0 s)
+      where
+        by_test : (t : Bool) → n.serial == s ≡ t → cond t (Some e.1) (lookup (nat_eq s) es) ≡ None
+        by_test true e = let never : Some n ≡ None = sym (ap (λ t. cond t (Some n) (node_at (held slab es) s)) e) ∙ r in cc
+        by_test false e = rest (sym (ap (λ t. cond t (Some n) (node_at (held slab es) s)) e) ∙ r)
+
+-- ---- nodes taken out
+
+any_drop : (t : ℕ × ℕ → Bool) (es : List (ℕ × ℕ)) (q : ℕ) → list_any t es ≡ false → list_any t (drop q es) ≡ false
+any_drop t es zero all = all
+any_drop t [] (suc q) all = refl
+any_drop t (e ∷ es) (suc q) all = any_drop t es q ((or_parts (t e) (list_any t es) all).1)
+
+any_cut : (t : ℕ × ℕ → Bool) (es : List (ℕ × ℕ)) (p q : ℕ) → p ≤ q → list_any t es ≡ false → list_any t (cut p q es) ≡ false
+any_cut t es zero q le all = any_drop t es q all
+any_cut t es (suc p) zero le all = absurd (omega arith)
+any_cut t [] (suc p) (suc q) le all = refl
+any_cut t (e ∷ es) (suc p) (suc q) le all = let parts = or_parts (t e) (list_any t es) all in or_from _ _ parts.0 (any_cut t es p q (omega arith) parts.1)
+
+held-drop : (slab : Slab Node) (es : List (ℕ × ℕ)) (q : ℕ) → IsHeld slab es → IsHeld slab (drop q es) × (held slab (drop q es) ≡ drop q (held slab es))
+held-drop slab es zero all = (all, refl)
+held-drop slab [] (suc q) all = (tt, refl)
+held-drop slab (e ∷ es) (suc q) all = let rest = held-drop slab es q all.2 in (rest.0, rest.1 ∙ step (get slab e.1) all.0)
+  where
+    step : (o : Option Node) → has_serial e.0 o ≡ true → drop q (held slab es) ≡ drop (suc q) (and_those o (held slab es))
+    step None h = cc
+    step (Some n) h = refl
+
+pub held-cut : (slab : Slab Node) (es : List (ℕ × ℕ)) (p q : ℕ) → p ≤ q → IsHeld slab es → IsHeld slab (cut p q es) × (held slab (cut p q es) ≡ cut p q (held slab es))
+held-cut slab es zero q le all = held-drop slab es q all
+held-cut slab es (suc p) zero le all = absurd (omega arith)
+held-cut slab [] (suc p) (suc q) le all = (tt, refl)
+held-cut slab (e ∷ es) (suc p) (suc q) le all =
+    let rest = held-cut slab es p q (omega arith) all.2 in
+    ((all.0, any_cut (λ (f : ℕ × ℕ). f.1 == e.1) es p q (omega arith) all.1, rest.0), step (get slab e.1) all.0 rest.1)
+  where
+    step : (o : Option Node) → has_serial e.0 o ≡ true → held slab (cut p q es) ≡ cut p q (held slab es) → and_those o (held slab (cut p q es)) ≡ cut (suc p) (suc q) (and_those o (held slab es))
+    step None h r = cc
+    step (Some n) h r = ap (λ xs. n ∷ xs) r
+
+-- the key of an entry between is none of those that stay
+pub cut_apart : (slab : Slab Node) (es : List (ℕ × ℕ)) (p q i : ℕ) (e : ℕ × ℕ) → p ≤ i → i < q → IsHeld slab es → slice_get es i ≡ Some e → list_any (λ (f : ℕ × ℕ). f.1 == e.1) (cut p q es) ≡ false
+cut_apart slab [] p q i e low high all at = cc
+cut_apart slab (f ∷ es) zero zero i e low high all at = absurd (omega arith)
+cut_apart slab (f ∷ es) zero (suc q) zero e low high all at = let one : f ≡ e = cc in any_drop (λ (g : ℕ × ℕ). g.1 == e.1) es q (ap (λ (x : ℕ × ℕ). list_any (λ (g : ℕ × ℕ). g.1 == x.1) es) (sym one) ∙ all.1)
+cut_apart slab (f ∷ es) zero (suc q) (suc i) e low high all at = cut_apart slab es zero q i e (omega arith) (omega arith) all.2 at
+cut_apart slab (f ∷ es) (suc p) q zero e low high all at = absurd (omega arith)
+cut_apart slab (f ∷ es) (suc p) zero (suc i) e low high all at = absurd (omega arith)
+cut_apart slab (f ∷ es) (suc p) (suc q) (suc i) e low high all at =
+    or_from _ _ (swap_eqb e.1 f.1 (apart es i all.1 at)) (cut_apart slab es p q i e (omega arith) (omega arith) all.2 at)
+  where
+    apart : (xs : List (ℕ × ℕ)) (k : ℕ) → list_any (λ (g : ℕ × ℕ). g.1 == f.1) xs ≡ false → slice_get xs k ≡ Some e → e.1 == f.1 ≡ false
+    apart [] k none here = cc
+    apart (x ∷ xs) zero none here = let one : x ≡ e = cc in ap (λ (y : ℕ × ℕ). y.1 == f.1) (sym one) ∙ (or_parts _ _ none).0
+    apart (x ∷ xs) (suc k) none here = apart xs k ((or_parts (x.1 == f.1) (list_any (λ (g : ℕ × ℕ). g.1 == f.1) xs) none).1) here
+
+-- ---- a node changed in place
+
+-- the node with other attributes
+abbrev pub with_attrs : (Attrs → Attrs) → Node → Node
+with_attrs change n = record n { attrs = change n.attrs }
+
+-- where no key of the table is s, no node has this serial
+none_changed : (slab : Slab Node) (change : Attrs → Attrs) (s : ℕ) (es : List (ℕ × ℕ)) → IsHeld slab es → AllByRecursion (λ k. nat_eq s k ≡ false) (keys_of es) → changed_at change s (held slab es) ≡ held slab es
+none_changed slab change s [] all free = refl
+none_changed slab change s (e ∷ es) all free = step (get slab e.1) all.0 (none_changed slab change s es all.2 free.1)
+  where
+    step : (o : Option Node) → has_serial e.0 o ≡ true → changed_at change s (held slab es) ≡ held slab es → changed_at change s (and_those o (held slab es)) ≡ and_those o (held slab es)
+    step None h r = cc
+    step (Some n) h r =
+        let other : n.serial == s ≡ false = ap (λ x. x == s) (eqb-true n.serial e.0 h) ∙ same_test e.0 s ∙ free.0 in
+        ap (λ t. cond t (with_attrs change n) n ∷ changed_at change s (held slab es)) other ∙ ap (λ xs. n ∷ xs) r
+
+module _ (slab other : Slab Node) (change : Attrs → Attrs) (s key : ℕ) (old : Node) (was : get slab key ≡ Some old) (here : get other key ≡ Some (with_attrs change old)) (others : (k : ℕ) → k ≢ key → get other k ≡ get slab k) where
+  unfold_distinct : (k : ℕ) (ks : List ℕ) → IsDistinct nat_eq (k ∷ ks) → AllByRecursion (λ y. nat_eq k y ≡ false) ks × IsDistinct nat_eq ks
+  unfolding IsDistinct
+  unfold_distinct k ks d = d
+
+  pub held-changed : (es : List (ℕ × ℕ)) → IsHeld slab es → IsDistinct nat_eq (keys_of es) → lookup (nat_eq s) es ≡ Some key → IsHeld other es × (held other es ≡ changed_at change s (held slab es))
+  held-changed [] all d q = cc
+  held-changed (e ∷ es) all d q = by_test (nat_eq s e.0) refl q (held-changed es all.2 (unfold_distinct e.0 (keys_of es) d).1)
+    where
+      parts : AllByRecursion (λ y. nat_eq e.0 y ≡ false) (keys_of es) × IsDistinct nat_eq (keys_of es)
+      parts = unfold_distinct e.0 (keys_of es) d
+
+      by_test : (t : Bool) → nat_eq s e.0 ≡ t → cond t (Some e.1) (lookup (nat_eq s) es) ≡ Some key → (lookup (nat_eq s) es ≡ Some key → IsHeld other es × (held other es ≡ changed_at change s (held slab es))) → IsHeld other (e ∷ es) × (held other (e ∷ es) ≡ changed_at change s (held slab (e ∷ es)))
+      by_test true t r later =
+          let one : e.1 ≡ key = cc in
+          let rest = held-same slab other es all.2 (λ k h. others k (λ same. absurd_of (sym all.1 ∙ ap (λ x. list_any (λ (f : ℕ × ℕ). f.1 == x) es) (one ∙ sym same) ∙ h))) in
+          let now : get other e.1 ≡ Some (with_attrs change old) = ap (get other) one ∙ here in
+          let before : get slab e.1 ≡ Some old = ap (get slab) one ∙ was in
+          let same_serial : old.serial == e.0 ≡ true = ap (has_serial e.0) (sym before) ∙ all.0 in
+          let first : old.serial == s ≡ true = eq-eqb old.serial s (eqb-true old.serial e.0 same_serial ∙ sym (eqb-true s e.0 t)) in (
+            (ap (has_serial e.0) now ∙ same_serial, all.1, rest.0),
+            ap (λ o. and_those o (held other es)) now
+                ∙ ap (λ xs. with_attrs change old ∷ xs) (rest.1 ∙ sym (none_changed slab change s es all.2 (along (sym (eqb-true s e.0 t)) parts.0)))
+                ∙ ap (λ b. cond b (with_attrs change old) old ∷ changed_at change s (held slab es)) (sym first)
+                ∙ ap (λ o. changed_at change s (and_those o (held slab es))) (sym before),
+          )
+        where
+          absurd_of : false ≡ true → ⊥
+          absurd_of never = cc
+
+          along : {a b : ℕ} → a ≡ b → AllByRecursion (λ y. nat_eq a y ≡ false) (keys_of es) → AllByRecursion (λ y. nat_eq b y ≡ false) (keys_of es)
+          along same each = rw (← same) each
+      by_test false t r later =
+          let rest = later r in
+          let here_same : get other e.1 ≡ get slab e.1 = others e.1 (λ one. absurd_key one) in (
+            (ap (has_serial e.0) here_same ∙ all.0, all.1, rest.0),
+            ap (λ o. and_those o (held other es)) here_same ∙ ap (and_those (get slab e.1)) rest.1 ∙ step (get slab e.1) all.0,
+          )
+        where
+          found : (xs : List (ℕ × ℕ)) → lookup (nat_eq s) xs ≡ Some key → list_any (λ (f : ℕ × ℕ). f.1 == key) xs ≡ true
+          found [] h = cc
+          found (x ∷ xs) h = by_head (nat_eq s x.0) h (found xs)
+            where
+              by_rest : (t : Bool) → list_any (λ (f : ℕ × ℕ). f.1 == key) xs ≡ true → (t || list_any (λ (f : ℕ × ℕ). f.1 == key) xs) ≡ true
+              by_rest true g = refl
+              by_rest false g = g
+
+              by_head : (t : Bool) → cond t (Some x.1) (lookup (nat_eq s) xs) ≡ Some key → (lookup (nat_eq s) xs ≡ Some key → list_any (λ (f : ℕ × ℕ). f.1 == key) xs ≡ true) → ((x.1 == key) || list_any (λ (f : ℕ × ℕ). f.1 == key) xs) ≡ true
+              by_head true h g = let one : x.1 ≡ key = cc in ap (λ t. t || list_any (λ (f : ℕ × ℕ). f.1 == key) xs) (eq-eqb x.1 key one)
+              by_head false h g = by_rest (x.1 == key) (g h)
+
+          absurd_key : e.1 ≡ key → ⊥
+          absurd_key one = let never : false ≡ true = sym all.1 ∙ ap (λ x. list_any (λ (f : ℕ × ℕ). f.1 == x) es) one ∙ found es r in cc
+
+          step : (o : Option Node) → has_serial e.0 o ≡ true → and_those o (changed_at change s (held slab es)) ≡ changed_at change s (and_those o (held slab es))
+          step None h = cc
+          step (Some n) h =
+              let differs : n.serial == s ≡ false = ap (λ x. x == s) (eqb-true n.serial e.0 h) ∙ same_test e.0 s ∙ t in
+              ap (λ b. cond b (with_attrs change n) n ∷ changed_at change s (held slab es)) (sym differs)
+
+-- ---- the same slots
+
+pub held-moved : (slab other : Slab Node) (es fs : List (ℕ × ℕ)) → other.slots ≡ slab.slots → fs ≡ es → IsHeld slab es → IsHeld other fs × (held other fs ≡ held slab es)
+held-moved slab other es fs slots entries all =
+    rw entries (held-same slab other es all (λ key h. ap (λ xs. slice_index_or xs key None) slots))
+
+-- ---- what the calls do
+
+pub put-held : (slab other : Slab Node) (es fs : List (ℕ × ℕ)) (key p : ℕ) (n : Node) → IsHeld slab es → get slab key ≡ None → Updates slab other key (Some n) → lookup (nat_eq n.serial) es ≡ None → p ≤ length es → fs ≡ move_index (insert_entry nat_eq es n.serial key) (position_or_len (nat_eq n.serial) (keys_of es)) p → IsHeld other fs × (held other fs ≡ insert (held slab es) p n)
+put-held slab other es fs key p n all free up fresh le entries =
+    let apart = vacant slab key es all free in
+    let same = held-same slab other es all (λ k h. up.others k (λ one. never (sym apart ∙ ap (λ x. list_any (λ (f : ℕ × ℕ). f.1 == x) es) (sym one) ∙ h))) in
+    let put = held-insert other key n up.changed es p same.0 apart in
+    let is : fs ≡ insert es p (n.serial, key) =
+    entries
+    ∙ ap (λ i. move_index (insert_entry nat_eq es n.serial key) i p) (absent_index (nat_eq n.serial) es fresh)
+    ∙ ap (λ xs. move_index xs (length es) p) (insert_entry-absent nat_eq n.serial key es (absent_from_lookup (nat_eq n.serial) es fresh))
+    ∙ push_moved es (n.serial, key) p le in
+    rw is (put.0, put.1 ∙ ap (λ ns. insert ns p n) same.1)
+  where
+    never : false ≡ true → ⊥
+    never q = cc
+
+pub changed-held : (slab : Slab Node) (change : Attrs → Attrs) (s key : ℕ) (old : Node) (new : Attrs) (es : List (ℕ × ℕ)) → new ≡ change old.attrs → IsHeld slab es → IsDistinct nat_eq (keys_of es) → Some key ≡ lookup (nat_eq s) es → Some old ≡ get slab key → IsHeld (with_value slab key (record old { attrs = new })) es × (held (with_value slab key (record old { attrs = new })) es ≡ changed_at change s (held slab es))
+changed-held slab change s key old new es is all distinct at was =
+    let up = Updates-with_value slab key (with_attrs change old) (ap is_some (sym was)) in
+    rw is (held-changed slab (with_value slab key (with_attrs change old)) change s key old (sym was) up.changed up.others es all distinct (sym at))
+
+-- a node with this serial has a key, and the slab has the node there
+pub key-known : (slab : Slab Node) (s : ℕ) (es : List (ℕ × ℕ)) (o : Option ℕ) → IsHeld slab es → o ≡ lookup (nat_eq s) es → IsSome (node_at (held slab es) s) → IsSome o
+key-known slab s es o all is known = by_key o (ap (at_key slab) is ∙ sym (held-find slab s es all))
+  where
+    by_key : (k : Option ℕ) → at_key slab k ≡ node_at (held slab es) s → IsSome k
+    by_key None q = ap is_some q ∙ known
+    by_key (Some key) q = refl
+
+pub node-known : (slab : Slab Node) (s : ℕ) (es : List (ℕ × ℕ)) (key : ℕ) → IsHeld slab es → Some key ≡ lookup (nat_eq s) es → IsSome (node_at (held slab es) s) → IsSome (get slab key)
+node-known slab s es key all is known = ap is_some (ap (at_key slab) is ∙ sym (held-find slab s es all)) ∙ known
+
+pub some_lent : {T : Type 0} (r : Option (MutBor T)) → IsSome (option_copied_mut r) → IsSome r
+some_lent None h = h
+some_lent (Some x) h = refl
+
+pub rest-held : (slab other : Slab Node) (es fs : List (ℕ × ℕ)) (p q : ℕ) → IsHeld slab es → p ≤ q → ((key : ℕ) → list_any (λ (e : ℕ × ℕ). e.1 == key) (cut p q es) ≡ true → get other key ≡ get slab key) → fs ≡ cut p q es → IsHeld other fs × (held other fs ≡ cut p q (held slab es))
+rest-held slab other es fs p q all le same entries =
+    let rest = held-cut slab es p q le all in
+    let moved = held-same slab other (cut p q es) rest.0 same in
+    rw entries (moved.0, moved.1 ∙ rest.1)
+
+-- one more let go
+pub let_go-more : (slab now after : Slab Node) (es : List (ℕ × ℕ)) (p q i : ℕ) (e : ℕ × ℕ) → IsHeld slab es → p ≤ i → i < q → slice_get es i ≡ Some e → Updates now after e.1 None → ((key : ℕ) → list_any (λ (f : ℕ × ℕ). f.1 == key) (cut p q es) ≡ true → get now key ≡ get slab key) → (key : ℕ) → list_any (λ (f : ℕ × ℕ). f.1 == key) (cut p q es) ≡ true → get after key ≡ get slab key
+let_go-more slab now after es p q i e all low high at up same key h =
+    up.others key (λ one. never (sym (cut_apart slab es p q i e low high all at) ∙ ap (λ x. list_any (λ (f : ℕ × ℕ). f.1 == x) (cut p q es)) (sym one) ∙ h)) ∙ same key h
+  where
+    never : false ≡ true → ⊥
+    never q = cc

@@ -1,0 +1,134 @@
+-- A tree made of a document, node by node.
+use Rattle.std.proofs.Common.{◌≡◌, refl, sym, ◌∙◌, ap, ℕ, zero, suc, ◌+◌, ◌≤◌, List, [], ◌∷◌, ◌++◌, Option, Some, None, Bool, true, false, cond, length, take, insert, filter, arith, add-one, append_assoc}
+use Rattle.std.specs.Prelude.{◌==◌, ◌&&◌, not, count_by, slice_get}
+use Rattle.std.specs.List.{list_any}
+use Rattle.std.specs.Str.{bytes_eq}
+use Rattle.std.specs.Cmp.Lexicographic.{bytes_decides}
+use Rattle.std.proofs.lemmas.List.Sums.{sum_by-cons, sum_by-append, sum_by-take-le}
+use Rattle.std.proofs.lemmas.Bool.{or_parts}
+use Rattle.smil_model.specs.declared.document.Node.{Node}
+use Rattle.smil_model.specs.document.Document.{Document, has_id, node_at}
+use Rattle.smil_model.specs.document.Valid.{IsValid, IsDistinct, is_id_taken, is_other_with, references, references_of}
+use Rattle.smil_laws.proofs.Lineages.{swap_eqb}
+use Rattle.smil_tree.specs.Kept.{bears, owner}
+use Rattle.smil_tree.proofs.Owners.{owner-between, count-cons}
+
+take-suc_at : {A : Type 0} (xs : List A) (i : ℕ) (x : A) → slice_get xs i ≡ Some x → take (suc i) xs ≡ take i xs ++ x ∷ []
+take-suc_at [] i x at = cc
+take-suc_at (y ∷ ys) zero x at = let one : y ≡ x = cc in ap (λ z. z ∷ []) one
+take-suc_at (y ∷ ys) (suc i) x at = ap (λ zs. y ∷ zs) (take-suc_at ys i x at)
+
+-- one more at the end
+pub take-more_at : {A : Type 0} (xs : List A) (i : ℕ) (x : A) → slice_get xs i ≡ Some x → take (i + 1) xs ≡ take i xs ++ x ∷ []
+take-more_at xs i x at = ap (λ k. take k xs) (add-one i) ∙ take-suc_at xs i x at
+
+insert-suc_at : (ns : List Node) (i : ℕ) (n : Node) → slice_get ns i ≡ Some n → insert (take i ns) i n ≡ take (suc i) ns
+insert-suc_at [] i n at = cc
+insert-suc_at (m ∷ ns) zero n at = let one : n ≡ m = cc in ap (λ z. z ∷ []) one
+insert-suc_at (m ∷ ns) (suc i) n at = ap (λ zs. m ∷ zs) (insert-suc_at ns i n at)
+
+pub insert-more_at : (ns : List Node) (i : ℕ) (n : Node) → slice_get ns i ≡ Some n → insert (take i ns) i n ≡ take (i + 1) ns
+insert-more_at ns i n at = insert-suc_at ns i n at ∙ sym (ap (λ k. take k ns) (add-one i))
+
+pub taken_more : (ns old new : List Node) (i : ℕ) (copy n : Node) → slice_get ns i ≡ Some n → new ≡ insert old i copy → old ≡ take i ns → copy ≡ n → new ≡ take (i + 1) ns
+taken_more ns old new i copy n at put was same = put ∙ ap (λ ms. insert ms i copy) was ∙ ap (insert (take i ns) i) same ∙ insert-more_at ns i n at
+
+filter-pushed : {A : Type 0} (t : A → Bool) (ys : List A) (x : A) → length (filter t (ys ++ x ∷ [])) ≡ length (filter t ys) + cond (t x) 1 0
+filter-pushed t [] x = step (t x)
+  where
+    step : (b : Bool) → length (cond b (x ∷ []) []) ≡ 0 + cond b 1 0
+    step true = refl
+    step false = refl
+filter-pushed t (y ∷ ys) x = step (t y) (filter-pushed t ys x)
+  where
+    step : (b : Bool) → length (filter t (ys ++ x ∷ [])) ≡ length (filter t ys) + cond (t x) 1 0 → length (cond b (y ∷ filter t (ys ++ x ∷ [])) (filter t (ys ++ x ∷ []))) ≡ length (cond b (y ∷ filter t ys) (filter t ys)) + cond (t x) 1 0
+    step true h = omega (arith, h)
+    step false h = h
+
+-- how many pass among one more
+pub filter-more_at : {A : Type 0} (t : A → Bool) (xs : List A) (i : ℕ) (x : A) → slice_get xs i ≡ Some x → length (filter t (take (i + 1) xs)) ≡ length (filter t (take i xs)) + cond (t x) 1 0
+filter-more_at t xs i x at = ap (λ ys. length (filter t ys)) (take-more_at xs i x at) ∙ filter-pushed t (take i xs) x
+
+pub filter-at_most : {A : Type 0} (t : A → Bool) (xs : List A) → length (filter t xs) ≤ length xs
+filter-at_most t [] = omega arith
+filter-at_most t (x ∷ xs) = step (t x) (filter-at_most t xs)
+  where
+    step : (b : Bool) → length (filter t xs) ≤ length xs → length (cond b (x ∷ filter t xs) (filter t xs)) ≤ suc (length xs)
+    step true h = omega (arith, h)
+    step false h = omega (arith, h)
+
+-- no earlier node has the serial of the node at a place
+pub fresh_at : (ns : List Node) (i : ℕ) (n : Node) → IsDistinct ns → slice_get ns i ≡ Some n → node_at (take i ns) n.serial ≡ None
+fresh_at [] i n d at = cc
+fresh_at (m ∷ ns) zero n d at = refl
+fresh_at (m ∷ ns) (suc i) n d at = ap (λ t. cond t (Some m) (node_at (take i ns) n.serial)) (swap_eqb n.serial m.serial (apart ns i d.0 at)) ∙ fresh_at ns i n d.1 at
+  where
+    apart : (xs : List Node) (k : ℕ) → list_any (λ (x : Node). x.serial == m.serial) xs ≡ false → slice_get xs k ≡ Some n → n.serial == m.serial ≡ false
+    apart [] k none here = cc
+    apart (x ∷ xs) zero none here = let one : x ≡ n = cc in ap (λ (y : Node). y.serial == m.serial) (sym one) ∙ (or_parts _ _ none).0
+    apart (x ∷ xs) (suc k) none here = apart xs k ((or_parts (x.serial == m.serial) (list_any (λ (y : Node). y.serial == m.serial) xs) none).1) here
+
+nil_end : (ns : List Node) → ns ++ [] ≡ ns
+nil_end [] = refl
+nil_end (n ∷ ns) = ap (λ ms. n ∷ ms) (nil_end ns)
+
+-- the owner among one more
+pub owner-more_at : (q : List ℕ) (ns : List Node) (i : ℕ) (n : Node) → count_by (bears q) ns ≤ 1 → slice_get ns i ≡ Some n → owner q (take (i + 1) ns) ≡ cond (bears q n) (Some n.serial) (owner q (take i ns))
+owner-more_at q ns i n once at =
+    let more = take-more_at ns i n at in
+    let few : count_by (bears q) (take i ns ++ n ∷ []) ≤ 1 = omega (arith, once, sum_by-take-le (λ (m : Node). cond (bears q m) 1 0) ns (i + 1), ap (count_by (bears q)) more) in
+    ap (owner q) more ∙ owner-between q (take i ns) n [] few ∙ ap (λ ms. cond (bears q n) (Some n.serial) (owner q ms)) (nil_end (take i ns))
+
+-- the references among one more
+pub references-more_at : (ns : List Node) (i : ℕ) (n : Node) → slice_get ns i ≡ Some n → references (take (i + 1) ns) ≡ references (take i ns) + references_of n
+references-more_at ns i n at =
+    ap references (take-more_at ns i n at) ∙ omega (arith, sum_by-append references_of (take i ns) (n ∷ []), sum_by-cons references_of n [])
+
+pub references-take : (ns : List Node) (i : ℕ) → references (take i ns) ≤ references ns
+references-take ns i = sum_by-take-le references_of ns i
+
+pub references-of_one : (ns : List Node) (i : ℕ) (n : Node) → slice_get ns i ≡ Some n → references (take i ns) + references_of n ≤ references ns
+references-of_one ns i n at = omega (arith, references-more_at ns i n at, references-take ns (i + 1))
+
+-- ---- a valid document
+
+pub bare : (q : List ℕ) (s : ℕ) (ns : List Node) → list_any (λ (m : Node). m.serial == s) ns ≡ false → list_any (is_other_with s q) ns ≡ false → count_by (bears q) ns ≤ 0
+bare q s [] none free = omega arith
+bare q s (m ∷ ns) none free =
+    let apart = or_parts (m.serial == s) (list_any (λ (x : Node). x.serial == s) ns) none in
+    let parts = or_parts (not (m.serial == s) && bears q m) (list_any (is_other_with s q) ns) free in
+    let first : bears q m ≡ false = ap (λ b. not b && bears q m) (sym apart.0) ∙ parts.0 in
+    let zero_first : ◌≡◌ {A = ℕ} (cond (bears q m) 1 0) 0 = ap (λ t. cond t 1 0) first in
+    omega (arith, count-cons q m ns, zero_first, bare q s ns apart.1 parts.1)
+
+any_right : (t : Node → Bool) (a b : List Node) → list_any t (a ++ b) ≡ false → list_any t b ≡ false
+any_right t [] b none = none
+any_right t (x ∷ a) b none = any_right t a b ((or_parts (t x) (list_any t (a ++ b)) none).1)
+
+once_from : (q : List ℕ) (front ns : List Node) → IsDistinct ns → list_any (λ (n : Node). is_id_taken (front ++ ns) n.serial n.attrs.id) ns ≡ false → count_by (bears q) ns ≤ 1
+once_from q front [] d free = omega arith
+once_from q front (n ∷ ns) d free =
+    let parts = or_parts (is_id_taken (front ++ n ∷ ns) n.serial n.attrs.id) (list_any (λ (m : Node). is_id_taken (front ++ n ∷ ns) m.serial m.attrs.id) ns) free in
+    let rest = once_from q (front ++ n ∷ []) ns d.1 (ap (λ whole. list_any (λ (m : Node). is_id_taken whole m.serial m.attrs.id) ns) (append_assoc front (n ∷ []) ns) ∙ parts.1) in
+    by_id n.attrs.id refl parts.0 rest
+  where
+    by_test : (own : List ℕ) (t : Bool) → n.attrs.id ≡ Some own → bytes_eq own q ≡ t → list_any (is_other_with n.serial own) (front ++ n ∷ ns) ≡ false → count_by (bears q) ns ≤ 1 → count_by (bears q) (n ∷ ns) ≤ 1
+    by_test own true e same none rest =
+        let own_is : own ≡ q = (bytes_decides own q).0 same in
+        let others = any_right (is_other_with n.serial own) (n ∷ []) ns (any_right (is_other_with n.serial own) front (n ∷ ns) none) in
+        let none_left = bare q n.serial ns d.0 (ap (λ p. list_any (is_other_with n.serial p) ns) (sym own_is) ∙ others) in
+        let first : ◌≡◌ {A = ℕ} (cond (bears q n) 1 0) 1 = ap (λ o. cond (has_id q o) 1 0) e ∙ ap (λ t. cond t 1 0) same in
+        omega (arith, count-cons q n ns, first, none_left)
+    by_test own false e other none rest =
+        let first : ◌≡◌ {A = ℕ} (cond (bears q n) 1 0) 0 = ap (λ o. cond (has_id q o) 1 0) e ∙ ap (λ t. cond t 1 0) other in
+        omega (arith, count-cons q n ns, first, rest)
+
+    by_id : (o : Option (List ℕ)) → n.attrs.id ≡ o → is_id_taken (front ++ n ∷ ns) n.serial o ≡ false → count_by (bears q) ns ≤ 1 → count_by (bears q) (n ∷ ns) ≤ 1
+    by_id None e none rest =
+        let first : ◌≡◌ {A = ℕ} (cond (bears q n) 1 0) 0 = ap (λ o. cond (has_id q o) 1 0) e in
+        omega (arith, count-cons q n ns, first, rest)
+    by_id (Some own) e none rest = by_test own (bytes_eq own q) e refl none rest
+
+-- no two nodes have one id
+pub once_of : (d : Document) → IsValid d → (q : List ℕ) → count_by (bears q) d.nodes ≤ 1
+once_of d v q = once_from q [] d.nodes v.numbered.distinct v.ids

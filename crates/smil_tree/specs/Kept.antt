@@ -1,0 +1,43 @@
+-- What a tree keeps beside its nodes, and what it knows of them.
+use Rattle.std.specs.Prelude.{◌≡◌, ℕ, ◌+◌, List, [], length, filter, find, Bool, false, not, ◌==◌, Option, None, Some, option_map}
+use Rattle.std.specs.Str.{bytes_eq}
+use Rattle.std.specs.Map.{lookup}
+use Rattle.smil_model.specs.declared.document.Node.{Node}
+use Rattle.smil_model.specs.declared.document.Attrs.{Attrs}
+use Rattle.smil_model.specs.declared.document.Item.{Item}
+use Rattle.smil_model.specs.document.Defaults.{items_or}
+use Rattle.smil_model.specs.document.Document.{has_id}
+use Rattle.smil_model.specs.document.Valid.{IsValid, is_reference, references}
+use Rattle.smil_tree.specs.Kin.{Families, IsKinOf}
+
+-- how many items of a list refer to something; an absent list has none
+abbrev pub listed_references : Option (List Item) → ℕ
+listed_references items = length (filter is_reference (items_or [] items))
+
+-- how many items of attributes refer to something
+abbrev pub references_among : Attrs → ℕ
+references_among attrs = listed_references attrs.begin + listed_references attrs.«end»
+
+-- whether the node has this id
+abbrev pub bears : List ℕ → Node → Bool
+bears id n = has_id id n.attrs.id
+
+-- the serial of the node with this id
+abbrev pub owner : List ℕ → List Node → Option ℕ
+owner id nodes = option_map (λ (n : Node). n.serial) (find (bears id) nodes)
+
+-- whether this is another serial than the given one
+abbrev pub is_other : ℕ → Option ℕ → Bool
+is_other serial None = false
+is_other serial (Some s) = not (s == serial)
+
+-- the table leads from each id to the serial of its node
+abbrev pub IsTableOf : List (List ℕ × ℕ) → List Node → Type 0
+IsTableOf table nodes = (id : List ℕ) → lookup (bytes_eq id) table ≡ owner id nodes
+
+-- the fields of a tree
+pub record Keeps (nodes : List Node) (next : ℕ) (table : List (List ℕ × ℕ)) (total : ℕ) (families : Families) : Type 0 where
+  pub valid : IsValid (record { nodes = nodes; next = next })
+  pub ids : IsTableOf table nodes
+  pub total_is : total ≡ references nodes
+  pub kin : IsKinOf families nodes

@@ -1,0 +1,5 @@
+pub mod Held
+pub mod Kept
+pub mod Kin
+pub mod Outcomes
+pub mod Sample

@@ -1,0 +1,237 @@
+//! The children and the time children of each node.
+
+ghost use Rattle.std.specs.Prelude.{◌≡◌, ℕ, ◌+◌, ◌≤◌, ◌==◌, Bool, [], length, take, filter, insert, slice_get, slice_range, Some, None, if◌then◌else◌, OnOk, OnErr};
+ghost use Rattle.std.specs.List.{list_any};
+ghost use Rattle.smil_model.specs.declared.document.Node.{Node as AnyNode};
+ghost use Rattle.smil_model.specs.document.Document.{is_element, time_parent as time_parent_in};
+ghost use Rattle.smil_model.specs.document.Edits.{children};
+ghost use Rattle.smil_model.specs.document.Valid.{IsDistinct};
+ghost use Rattle.smil_laws.specs.Edited.{IsOrdered};
+ghost use Rattle.smil_tree.specs.Held.{cut};
+ghost use Rattle.smil_tree.specs.Kin.{IsKinOf, IsSubtree, serials, serial_of, is_serial, is_before, list_in, list_of, AreListsOf, HasRoom, Separates};
+
+use crate::nodes::Nodes;
+use smil_model::{Kind, Node};
+use std::alloc::{AllocError, Global};
+use std::collections::HashMap;
+use std::marker::Model;
+
+// Lists of serials by a serial; one without a list has the empty one.
+type Lists = HashMap<u32, Vec<u32>>;
+
+/// The serials of the children and of the time children of each node, in document order, seen as two tables of lists.
+#[derive(Drop)]
+pub struct Kin {
+    children: Lists,
+    time_children: Lists,
+    alloc: Global,
+}
+
+impl Model for Kin {
+    ghost use Rattle.smil_tree.specs.Kin.{Families, rows};
+
+    ghost Value = { Families };
+
+    ghost view = { λ a. record { children = rows a.children.entries; time_children = rows a.time_children.entries } };
+}
+
+impl Kin {
+    /// The kin of no nodes. It takes no memory.
+    pub fn new(alloc: Global) -> Kin
+        ensures { IsKinOf result [] }
+    {
+        Kin {
+            children: HashMap::new(alloc),
+            time_children: HashMap::new(alloc),
+            alloc,
+        }
+    }
+
+    /// The serials of the nodes with this parent, in document order; the root's parent is 0. It takes no memory.
+    pub fn children(&self, serial: u32) -> &[u32]
+        ensures { result.now ≡ list_in self.now.children serial }
+    {
+        list_at(&self.children, serial)
+    }
+
+    /// The serials of an element's time children, in document order; none for a priorityClass, and where there is no such
+    /// node. It takes no memory.
+    pub fn time_children(&self, serial: u32) -> &[u32]
+        ensures { result.now ≡ list_in self.now.time_children serial }
+    {
+        list_at(&self.time_children, serial)
+    }
+
+    /// Takes in the node at a place among these nodes, which has this time parent and no children. Where memory runs out the
+    /// kin is still that of the other nodes.
+    pub fn grow(
+        &mut self,
+        nodes: &Nodes,
+        time_parent: Option<u32>,
+        at: usize,
+    ) -> Result<(), AllocError>
+        requires kin { IsKinOf self.old (cut at (at + 1) nodes.now) }
+        requires ordered { IsOrdered nodes.now }
+        requires leaf { (n : AnyNode) × (slice_get nodes.now at ≡ Some n) × (children (cut at (at + 1) nodes.now) n.serial ≡ []) × (time_parent ≡ serial_of (time_parent_in nodes.now n.serial)) }
+        ensures ok { OnOk result (IsKinOf self.new nodes.now) }
+        ensures err { OnErr result (IsKinOf self.new (cut at (at + 1) nodes.now)) }
+    {
+        let node = nodes.at(at).unwrap();
+        let parent = Some(node.parent);
+        let time_parent = if_element(node, time_parent);
+        make_room(&mut self.children, parent, self.alloc)?;
+        make_room(&mut self.time_children, time_parent, self.alloc)?;
+        join(&mut self.children, parent, nodes, node, at);
+        join(&mut self.time_children, time_parent, nodes, node, at);
+        Ok(())
+    }
+
+    /// Lets go of the nodes from a place on up to another, which are a node with this time parent and its descendants. It
+    /// takes no memory.
+    pub fn shrink(&mut self, nodes: &Nodes, time_parent: Option<u32>, start: usize, end: usize)
+        requires kin { IsKinOf self.old nodes.now }
+        requires ordered { IsOrdered nodes.now }
+        requires in_order { start ≤ end }
+        requires within { end ≤ length nodes.now }
+        requires subtree { (n : AnyNode) × IsSubtree nodes.now start end n × (time_parent ≡ serial_of (time_parent_in nodes.now n.serial)) }
+        ensures { IsKinOf self.new (cut start end nodes.now) }
+    {
+        let node = nodes.at(start).unwrap();
+        leave(&mut self.children, Some(node.parent), nodes, start, end);
+        leave(&mut self.time_children, time_parent, nodes, start, end);
+    }
+}
+
+// The time parent of a node among whose time children it is; none for a priorityClass.
+fn if_element(node: &Node, time_parent: Option<u32>) -> Option<u32>
+    ensures { result ≡ (if is_element node.now then time_parent else None) }
+{
+    match node.kind {
+        Kind::PriorityClass => None,
+        _ => time_parent,
+    }
+}
+
+// The list of a serial.
+fn list_at(lists: &Lists, serial: u32) -> &[u32]
+    ensures { result.now ≡ list_of lists.now.entries serial }
+{
+    match lists.get(&serial) {
+        Some(list) => list,
+        None => &[],
+    }
+}
+
+// Makes room for one more in the list of a serial, if there is one.
+fn make_room(lists: &mut Lists, owner: Option<u32>, alloc: Global) -> Result<(), AllocError>
+    ensures same { (s : ℕ) → list_of lists.new.entries s ≡ list_of lists.old.entries s }
+    ensures ok { OnOk result (HasRoom owner lists.new.entries) }
+{
+    match owner {
+        Some(owner) => reserve(lists, owner, alloc),
+        None => Ok(()),
+    }
+}
+
+// Makes room for one more in the list of a serial.
+fn reserve(lists: &mut Lists, owner: u32, alloc: Global) -> Result<(), AllocError>
+    ensures same { (s : ℕ) → list_of lists.new.entries s ≡ list_of lists.old.entries s }
+    ensures ok { OnOk result (HasRoom (Some owner) lists.new.entries) }
+{
+    if let Some(list) = lists.get_mut(&owner) {
+        return list.reserve(1);
+    }
+    lists.insert(owner, Vec::with_capacity(alloc, 1)?)?;
+    Ok(())
+}
+
+// Puts the node at a place into the list of a serial, if there is one.
+fn join(lists: &mut Lists, owner: Option<u32>, nodes: &Nodes, node: &Node, at: usize)
+    requires room { HasRoom owner lists.old.entries }
+    requires distinct { IsDistinct nodes.now }
+    requires there { slice_get nodes.now at ≡ Some node.now }
+    ensures { (t : ℕ → AnyNode → Bool) → AreListsOf t lists.old.entries (cut at (at + 1) nodes.now) → ((s : ℕ) → t s node.now ≡ is_serial s owner) → AreListsOf t lists.new.entries nodes.now }
+{
+    if let Some(owner) = owner {
+        let index = count_before(nodes, list_at(lists, owner), at);
+        put(lists, owner, index, node.serial);
+    }
+}
+
+// Puts a serial at an index into the list of another, which has room.
+fn put(lists: &mut Lists, owner: u32, index: usize, serial: u32)
+    requires room { HasRoom (Some owner) lists.old.entries }
+    requires within { index ≤ length (list_of lists.old.entries owner) }
+    ensures { (s : ℕ) → list_of lists.new.entries s ≡ (if owner == s then insert (list_of lists.old.entries s) index serial else list_of lists.old.entries s) }
+{
+    let list = lists.get_mut(&owner).unwrap();
+    list.insert(index, serial).unwrap();
+}
+
+// Lets go of the nodes from a place on up to another, in the list of a serial, if there is one, and of their own lists.
+fn leave(lists: &mut Lists, owner: Option<u32>, nodes: &Nodes, start: usize, end: usize)
+    requires distinct { IsDistinct nodes.now }
+    requires in_order { start ≤ end }
+    requires within { end ≤ length nodes.now }
+    requires lists { (t : ℕ → AnyNode → Bool) × AreListsOf t lists.old.entries nodes.now }
+    ensures { (t : ℕ → AnyNode → Bool) → AreListsOf t lists.old.entries nodes.now → Separates t owner start end nodes.now → AreListsOf t lists.new.entries (cut start end nodes.now) }
+{
+    if let Some(owner) = owner {
+        let list = list_at(lists, owner);
+        let first = count_before(nodes, list, start);
+        let past = count_before(nodes, list, end);
+        take_out(lists, owner, first, past);
+    }
+    forget(lists, nodes, start, end);
+}
+
+// Takes what stands from one index on up to another out of the list of a serial.
+fn take_out(lists: &mut Lists, owner: u32, first: usize, past: usize)
+    requires in_order { first ≤ past }
+    requires within { past ≤ length (list_of lists.old.entries owner) }
+    ensures { (s : ℕ) → list_of lists.new.entries s ≡ (if owner == s then cut first past (list_of lists.old.entries s) else list_of lists.old.entries s) }
+{
+    if let Some(list) = lists.get_mut(&owner) {
+        cut(list, first, past);
+    }
+}
+
+// The list without what stands from one index on up to another.
+fn cut(list: &mut Vec<u32>, first: usize, past: usize)
+    requires in_order { first ≤ past }
+    requires within { past ≤ length list.old.items }
+    ensures { list.new.items ≡ cut first past list.old.items }
+{
+    list.drain(first..past);
+}
+
+// Drops the lists of the nodes from a place on up to another.
+fn forget(lists: &mut Lists, nodes: &Nodes, start: usize, end: usize)
+    requires in_order { start ≤ end }
+    requires within { end ≤ length nodes.now }
+    ensures { (s : ℕ) → list_of lists.new.entries s ≡ (if list_any (λ (n : AnyNode). n.serial == s) (slice_range nodes.now start end) then [] else list_of lists.old.entries s) }
+{
+    for place in start..end {
+        let node = nodes.at(place).unwrap();
+        lists.remove(&node.serial);
+    }
+}
+
+// How many of these serials, in document order, stand before a place, from which on some nodes may be left out.
+fn count_before(nodes: &Nodes, list: &[u32], at: usize) -> usize
+    requires { IsDistinct nodes.now }
+    ensures within { result ≤ length list.now }
+    ensures count { (t : AnyNode → Bool) (past : ℕ) → at ≤ past → list.now ≡ serials (filter t (cut at past nodes.now)) → result ≡ length (filter t (take at nodes.now)) }
+{
+    list.partition_point(|serial| is_before(nodes, *serial, at))
+}
+
+// Whether a node stands before a place.
+fn is_before(nodes: &Nodes, serial: u32, at: usize) -> bool
+    ensures { result ≡ is_before nodes.now at serial }
+{
+    match nodes.place(serial) {
+        Some(place) => place < at,
+        None => false,
+    }
+}

@@ -1,0 +1,13 @@
+//! A document that is read and edited in place.
+#![tactic(auto)]
+
+mod fault;
+mod ids;
+mod kin;
+mod nodes;
+mod references;
+mod tree;
+
+pub use fault::TreeFault;
+pub use smil_model::{Attr, AttrName};
+pub use tree::Tree;

@@ -1,0 +1,199 @@
+//! A document that is read and edited in place.
+
+mod edits;
+mod family;
+mod inserting;
+mod placing;
+mod removing;
+mod spans;
+
+ghost use Rattle.std.specs.Prelude.{◌≡◌, ℕ, ◌<◌, ◌≤◌, ◌==◌, List, [], ◌∷◌, take, length, true, Some, IsSome, IfOk, OnOk, slice_get, option_map, sum_by};
+ghost use Rattle.std.specs.List.{position as first_place};
+ghost use Rattle.smil_model.specs.declared.document.Node.{Node as AnyNode};
+ghost use Rattle.smil_model.specs.document.Document.{Document, node_at, time_parent as time_parent_of, time_children};
+ghost use Rattle.smil_model.specs.document.Valid.{IsValid, kind_of, references, references_of};
+ghost use Rattle.smil_model.specs.shown.Orders.{node_of};
+ghost use Rattle.smil_tree.specs.Kept.{IsTableOf, Keeps};
+ghost use Rattle.smil_tree.specs.Kin.{IsKinOf};
+
+use self::family::element_from;
+use super::ids::{Ids, note_node};
+use super::kin::Kin;
+use super::nodes::Nodes;
+use super::references::references_in;
+use smil_model::{Attrs, Doc, Duplicate, Kind, REFERENCES, Who};
+use std::alloc::{AllocError, Global};
+use std::marker::Model;
+
+/// A document that is read and edited in place, seen as the document that it stands for.
+#[derive(Drop)]
+pub struct Tree {
+    nodes: Nodes,
+    next: u32,
+    kin: Kin,
+    ids: Ids,
+    references: usize,
+    alloc: Global,
+}
+
+impl Model for Tree {
+    ghost use Rattle.smil_model.specs.document.Document.{Document};
+    ghost use Rattle.smil_tree.specs.Kept.{Keeps};
+
+    ghost Value = { Document };
+
+    ghost view = { λ a. record { nodes = a.nodes; next = a.next } };
+
+    ghost invariant = { λ a. Keeps a.nodes a.next a.ids a.references a.kin };
+}
+
+impl Duplicate for Tree {
+    fn copy(&self) -> Result<Self, AllocError> {
+        let doc = self.doc_copy()?;
+        let _kept = &self.next;
+        made(self.alloc, &doc)
+    }
+}
+
+impl Tree {
+    /// The tree of a document, unless memory runs out.
+    pub fn of_doc(alloc: Global, doc: &Doc) -> Result<Tree, AllocError>
+        requires { IsValid doc.now }
+        ensures { IfOk result (λ tree. tree ≡ doc.now) }
+    {
+        made(alloc, doc)
+    }
+
+    /// The document that the tree stands for, unless memory runs out.
+    pub fn doc_copy(&self) -> Result<Doc, AllocError>
+        ensures doc { IfOk result (λ doc. doc ≡ self.now) }
+        ensures valid { IfOk result (λ doc. IsValid doc) }
+    {
+        doc_of(self.alloc, &self.nodes, self.next)
+    }
+
+    /// The document is valid: a law for proofs, which costs nothing.
+    pub fn valid(&self)
+        ensures { IsValid self.now }
+    {
+        let _kept = &self.next;
+    }
+
+    /// The serial of a node by its id or serial; None exactly where there is no such node. It takes no memory.
+    pub fn find(&self, who: &Who) -> Option<u32>
+        ensures { result ≡ option_map (λ (n : AnyNode). n.serial) (node_of self.now.nodes who.now) }
+    {
+        match who {
+            Who::Id(id) => self.ids.get(id.slice()),
+            Who::Serial(serial) => Some(self.nodes.get(*serial)?.serial),
+        }
+    }
+
+    /// The place of a node in document order, from 0; None exactly where there is no such node. It takes no memory.
+    pub fn position(&self, serial: u32) -> Option<usize>
+        ensures { result ≡ first_place (λ (n : AnyNode). n.serial == serial) self.now.nodes }
+    {
+        self.nodes.place(serial)
+    }
+
+    /// The serial of the node at a place in document order, from 0; None exactly where the place is not below the number
+    /// of nodes. It takes no memory.
+    pub fn serial_at(&self, position: usize) -> Option<u32>
+        ensures { result ≡ option_map (λ (n : AnyNode). n.serial) (slice_get self.now.nodes position) }
+    {
+        Some(self.nodes.at(position)?.serial)
+    }
+
+    /// The kind of a node. It takes no memory.
+    pub fn kind(&self, serial: u32) -> Kind
+        requires { IsSome (node_at self.now.nodes serial) }
+        ensures { Some result ≡ kind_of (node_at self.now.nodes serial) }
+    {
+        self.nodes.get(serial).unwrap().kind
+    }
+
+    /// The attributes of a node. It takes no memory.
+    pub fn attrs(&self, serial: u32) -> &Attrs
+        requires { IsSome (node_at self.now.nodes serial) }
+        ensures { Some result.now ≡ option_map (λ (n : AnyNode). n.attrs) (node_at self.now.nodes serial) }
+    {
+        &self.nodes.get(serial).unwrap().attrs
+    }
+}
+
+// The document of these nodes.
+fn doc_of(alloc: Global, nodes: &Nodes, next: u32) -> Result<Doc, AllocError>
+    ensures { IfOk result (λ doc. doc ≡ record { nodes = nodes.now; next = next }) }
+{
+    let mut doc = Doc::new(alloc, next);
+    for place in 0..nodes.len() {
+        let node = nodes.at(place).unwrap();
+        doc.push(node.copy()?)?;
+    }
+    Ok(doc)
+}
+
+// The tree of a document.
+fn made(alloc: Global, doc: &Doc) -> Result<Tree, AllocError>
+    requires { IsValid doc.now }
+    ensures { IfOk result (λ tree. tree ≡ doc.now) }
+{
+    let mut nodes = Nodes::new(alloc);
+    let mut kin = Kin::new(alloc);
+    take_in(&mut nodes, &mut kin, doc)?;
+    let ids = ids_of(alloc, doc)?;
+    Ok(Tree {
+        nodes,
+        next: doc.next(),
+        kin,
+        ids,
+        references: references_of(doc),
+        alloc,
+    })
+}
+
+// Takes in the nodes of a document, one after another.
+fn take_in(nodes: &mut Nodes, kin: &mut Kin, doc: &Doc) -> Result<(), AllocError>
+    requires none { nodes.old ≡ [] }
+    requires no_kin { IsKinOf kin.old [] }
+    requires valid { IsValid doc.now }
+    ensures nodes { OnOk result (nodes.new ≡ doc.now.nodes) }
+    ensures kin { OnOk result (IsKinOf kin.new doc.now.nodes) }
+{
+    for place in 0..doc.len() {
+        let node = doc.get(place).unwrap();
+        nodes.insert(place, node.copy()?)?;
+        let time_parent = element_from(nodes, node.parent);
+        kin.grow(nodes, time_parent, place)?;
+    }
+    Ok(())
+}
+
+// The table from the ids of a document to their nodes' serials.
+fn ids_of(alloc: Global, doc: &Doc) -> Result<Ids, AllocError>
+    requires { IsValid doc.now }
+    ensures { IfOk result (λ table. IsTableOf table doc.now.nodes) }
+{
+    let mut ids = Ids::new(alloc);
+    for place in 0..doc.len() {
+        let node = doc.get(place).unwrap();
+        note_node(&mut ids, node)?;
+    }
+    Ok(ids)
+}
+
+// How many items of a document refer to an element or an event.
+fn references_of(doc: &Doc) -> usize
+    requires { references doc.now.nodes ≤ REFERENCES }
+    ensures { result ≡ references doc.now.nodes }
+{
+    let mut count = 0;
+    for place in 0..doc.len() {
+        let node = doc.get(place).unwrap();
+        count += references_in(&node.attrs);
+    }
+    count
+}
+
+#[cfg(test)]
+mod tests;

@@ -1,0 +1,146 @@
+//! Edits of a tree.
+
+ghost use Rattle.std.specs.Prelude.{◌≡◌, ℕ, ◌≤◌, List, true, None, Some, Ok, IsSome, OnOk, OnErr, IfErr, count_by, if◌then◌else◌};
+ghost use Rattle.std.specs.Str.{bytes_eq};
+ghost use Rattle.std.specs.Map.{lookup};
+ghost use Rattle.smil_model.specs.document.Document.{node_at, has_id};
+ghost use Rattle.smil_model.specs.document.Edits.{attr_set, attr_unset, changed_at, with_attr, without_attr};
+ghost use Rattle.smil_model.specs.document.Valid.{IsDistinct, is_id_taken, references};
+ghost use Rattle.smil_model.specs.shown.Orders.{id_in};
+ghost use Rattle.smil_tree.specs.Kept.{bears, is_other, IsTableOf};
+ghost use Rattle.smil_tree.specs.Outcomes.{IsFaultOf, may_take, set_outcome};
+
+use super::Tree;
+use crate::fault::TreeFault;
+use crate::ids::{Ids, forget_node};
+use crate::nodes::Nodes;
+use crate::references::{references_in, references_with, references_without};
+use smil_model::{Attr, AttrName, Bytes, REFERENCES};
+use std::alloc::AllocError;
+
+impl Tree {
+    /// Gives a node an attribute, which fits its kind and its parent's kind. Refused where another node has the id
+    /// (`DuplicateId`), then where more than 8,000 items would refer to an element or an event (`TooManyReferences`), and
+    /// where memory runs out (`Memory`). After a refusal the tree is as before.
+    pub fn set(&mut self, serial: u32, attr: Attr) -> Result<(), TreeFault>
+        requires { may_take self.old.nodes serial attr ≡ true }
+        ensures ok { OnOk result (set_outcome self.old serial attr ≡ Ok self.new) }
+        ensures err { IfErr result (IsFaultOf (set_outcome self.old serial attr)) }
+        ensures unchanged { OnErr result (self.new ≡ self.old) }
+    {
+        if self.takes_id(serial, &attr) {
+            return Err(TreeFault::DuplicateId);
+        }
+        let references = self.references_set(serial, &attr);
+        if REFERENCES < references {
+            return Err(TreeFault::TooManyReferences);
+        }
+        rename(&mut self.ids, &self.nodes, serial, &attr)?;
+        self.nodes.set(serial, attr);
+        self.references = references;
+        Ok(())
+    }
+
+    /// Takes an attribute of a node away; nothing changes where it is absent. It takes no memory.
+    pub fn unset(&mut self, serial: u32, name: AttrName)
+        requires { IsSome (node_at self.old.nodes serial) }
+        ensures { self.new ≡ attr_unset self.old serial name }
+    {
+        let references = self.references_unset(serial, name);
+        unname(&mut self.ids, &self.nodes, serial, name);
+        self.nodes.unset(serial, name);
+        self.references = references;
+    }
+
+    // Whether another node has the id that an attribute gives.
+    fn takes_id(&self, serial: u32, attr: &Attr) -> bool
+        ensures { result ≡ is_id_taken self.now.nodes serial (id_in attr.now) }
+    {
+        let ids = &self.ids;
+        match attr {
+            Attr::Id(id) => other_has(ids, serial, id.slice()),
+            _ => false,
+        }
+    }
+
+    // How many items refer to something once a node has an attribute.
+    fn references_set(&self, serial: u32, attr: &Attr) -> usize
+        requires { may_take self.now.nodes serial attr.now ≡ true }
+        ensures { result ≡ references (attr_set self.now serial attr.now).nodes }
+    {
+        let attrs = &self.nodes.get(serial).unwrap().attrs;
+        self.references - references_in(attrs) + references_with(attrs, attr)
+    }
+
+    // How many items refer to something once an attribute of a node is absent.
+    fn references_unset(&self, serial: u32, name: AttrName) -> usize
+        requires { IsSome (node_at self.now.nodes serial) }
+        ensures { result ≡ references (attr_unset self.now serial name).nodes }
+    {
+        let attrs = &self.nodes.get(serial).unwrap().attrs;
+        self.references - references_in(attrs) + references_without(attrs, name)
+    }
+}
+
+/// Whether an id leads to another serial.
+pub fn other_has(ids: &Ids, serial: u32, id: &[u8]) -> bool
+    ensures { result ≡ is_other serial (lookup (bytes_eq id.now) ids.now) }
+{
+    match ids.get(id) {
+        Some(other) => other != serial,
+        None => false,
+    }
+}
+
+// The table once a node has an attribute.
+fn rename(ids: &mut Ids, nodes: &Nodes, serial: u32, attr: &Attr) -> Result<(), AllocError>
+    requires known { IsSome (node_at nodes.now serial) }
+    requires distinct { IsDistinct nodes.now }
+    requires once { (q : List ℕ) → count_by (bears q) nodes.now ≤ 1 }
+    requires still_once { (q : List ℕ) → count_by (bears q) (changed_at (λ attrs. with_attr attrs attr.now) serial nodes.now) ≤ 1 }
+    requires table { IsTableOf ids.old nodes.now }
+    ensures ok { OnOk result (IsTableOf ids.new (changed_at (λ attrs. with_attr attrs attr.now) serial nodes.now)) }
+    ensures err { OnErr result (ids.new ≡ ids.old) }
+{
+    match attr {
+        Attr::Id(id) => {
+            let node = nodes.get(serial).unwrap();
+            exchange(ids, &node.attrs.id, id.slice(), serial)
+        }
+        _ => Ok(()),
+    }
+}
+
+// The table with another id for a serial.
+fn exchange(ids: &mut Ids, old: &Option<Bytes>, new: &[u8], serial: u32) -> Result<(), AllocError>
+    ensures ok { OnOk result ((q : List ℕ) → lookup (bytes_eq q) ids.new ≡ (if bytes_eq new.now q then Some serial else (if has_id q old.now then None else lookup (bytes_eq q) ids.old))) }
+    ensures err { OnErr result (ids.new ≡ ids.old) }
+{
+    ids.note(new, serial)?;
+    forget_other(ids, old, new);
+    Ok(())
+}
+
+// The table without an id, unless it is this one.
+fn forget_other(ids: &mut Ids, old: &Option<Bytes>, new: &[u8])
+    ensures { (q : List ℕ) → lookup (bytes_eq q) ids.new ≡ (if bytes_eq new.now q then lookup (bytes_eq q) ids.old else (if has_id q old.now then None else lookup (bytes_eq q) ids.old)) }
+{
+    match old {
+        Some(old) if old.slice() != new => ids.forget(old.slice()),
+        _ => {}
+    }
+}
+
+// The table once an attribute of a node is absent.
+fn unname(ids: &mut Ids, nodes: &Nodes, serial: u32, name: AttrName)
+    requires known { IsSome (node_at nodes.now serial) }
+    requires distinct { IsDistinct nodes.now }
+    requires once { (q : List ℕ) → count_by (bears q) nodes.now ≤ 1 }
+    requires table { IsTableOf ids.old nodes.now }
+    ensures { IsTableOf ids.new (changed_at (λ attrs. without_attr attrs name) serial nodes.now) }
+{
+    match name {
+        AttrName::Id => forget_node(ids, nodes.get(serial).unwrap()),
+        _ => {}
+    }
+}

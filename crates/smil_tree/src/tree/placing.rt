@@ -1,0 +1,70 @@
+//! Where a child may stand.
+
+ghost use Rattle.std.specs.Prelude.{◌≡◌, ℕ, suc, ◌&&◌, nat_lt, nat_le, length, Some, IsSome, slice_get};
+ghost use Rattle.smil_model.specs.document.Document.{node_at};
+ghost use Rattle.smil_model.specs.document.Valid.{may_hold as may_hold_kind};
+ghost use Rattle.smil_tree.specs.Outcomes.{agrees_with_first, place_outcome};
+
+use super::Tree;
+use super::family::{height, is_class};
+use crate::fault::TreeFault;
+use crate::nodes::Nodes;
+use smil_model::{DEPTH, Kind};
+
+impl Tree {
+    /// Whether a child of this kind may be inserted into a node at a place, counted from 1. Refused where the child would
+    /// have depth 32 (`TooDeep`), then where the place is not from 1 to the number of children plus 1 or a node of this
+    /// kind may not stand there (`BadPlace`). It takes no memory.
+    pub fn may_insert(&self, parent: u32, place: usize, kind: Kind) -> Result<(), TreeFault>
+        requires { IsSome (node_at self.now.nodes parent) }
+        ensures { result ≡ place_outcome self.now.nodes parent place kind }
+    {
+        let node = self.nodes.get(parent).unwrap();
+        if DEPTH <= height(&self.nodes, node.parent) + 1 {
+            return Err(TreeFault::TooDeep);
+        }
+        let children = self.kin.children(parent);
+        if may_place(&self.nodes, children, node.kind, place, kind) {
+            Ok(())
+        } else {
+            Err(TreeFault::BadPlace)
+        }
+    }
+}
+
+// Whether a child of this kind may stand at a place among the children of a node of another.
+fn may_place(nodes: &Nodes, children: &[u32], parent: Kind, place: usize, kind: Kind) -> bool
+    requires { (serial : ℕ) → slice_get children.now 0 ≡ Some serial → IsSome (node_at nodes.now serial) }
+    ensures { result ≡ (nat_lt 0 place && nat_le place (suc (length children.now)) && may_hold_kind parent kind && agrees_with_first nodes.now (slice_get children.now 0) kind) }
+{
+    has_place(children, place) && may_hold(parent, kind) && agrees(nodes, children, kind)
+}
+
+// Whether a place is from 1 to the number of children plus 1.
+fn has_place(children: &[u32], place: usize) -> bool
+    ensures { result ≡ (nat_lt 0 place && nat_le place (suc (length children.now))) }
+{
+    0 < place && place - 1 <= children.len()
+}
+
+// Whether a node of one kind may hold one of another.
+fn may_hold(parent: Kind, child: Kind) -> bool
+    ensures { result ≡ may_hold_kind parent child }
+{
+    match parent {
+        Kind::Par | Kind::Seq | Kind::PriorityClass => !is_class(child),
+        Kind::Excl => true,
+        _ => false,
+    }
+}
+
+// Whether the first child, if there is one, agrees with a kind in being a priorityClass or not.
+fn agrees(nodes: &Nodes, children: &[u32], kind: Kind) -> bool
+    requires { (serial : ℕ) → slice_get children.now 0 ≡ Some serial → IsSome (node_at nodes.now serial) }
+    ensures { result ≡ agrees_with_first nodes.now (slice_get children.now 0) kind }
+{
+    match children.first() {
+        Some(child) => is_class(nodes.get(*child).unwrap().kind) == is_class(kind),
+        None => true,
+    }
+}
