@@ -5,8 +5,8 @@ Random scripts, answered by PROGRAM (with the word `run`) and by the reference
 model in DIR; text and status are compared. A difference is printed and, with
 --keep, written to a folder. The forms that aren't built yet are refused
 `not-yet` here as the program refuses them. Three kinds of script in turn:
-lines with small faults as the model's own generator makes them, loads and
-advances of the built form in many spellings, and both mixed; every fifth
+lines with small faults as the model's own generator makes them, loads,
+advances and outlines of the built form in many spellings, and both mixed; every fifth
 script has ten loads with a value near the grammar, and now and then one a load
 that is near a limit."""
 import argparse
@@ -32,7 +32,7 @@ import diff  # noqa: E402
 import grammar  # noqa: E402
 import session  # noqa: E402
 
-REQUEST = 2
+REQUEST = 3
 BELOW = 10 ** 9
 
 
@@ -72,7 +72,7 @@ class Today(session.Session):
 
     def order(self, number, line):
         read = grammar.read_line(line, self.limits.request)
-        if read[0] == 'close' or read[2][0] != 'advance':
+        if read[0] == 'close' or read[2][0] not in ('advance', 'text'):
             raise grammar.Refusal('not-yet')
         super().order(number, line)
 
@@ -118,7 +118,7 @@ def load(r, name):
 def order(r, name):
     usual = '%s%s advance %s%s' % (r.choice(['', '', ' ']), name, clock(r, 0, r.choice([5000, 5000, 10 ** 9])), r.choice(['', '', ' ']))
     if r.random() < 0.7:
-        return usual
+        return usual if r.random() < 0.8 else '%s text' % name
     return r.choice(['other advance 1s', '%s advance', '%s advance 1x', '%s show', 'close %s', '%%%%', '# %s advance 1s', '',
                      '%s  advance   1s ', 'x' * 4097, '%s text x', '%s event a click', '%s seek 5s', '%s text', 'close 9',
                      '%s advance 1000000000s', '%s advance 999999999.999s', '%s advance 1000000000001ms', 'load %s x',

@@ -149,6 +149,21 @@ opens document (pos b) (pos d) id is =
 opens document (negsuc b) d id is = absurd (omega (arith, ints, is.times.from))
 opens document (pos b) (negsuc d) id is = absurd (omega (arith, ints, is.times.long))
 
+-- what is kept of a document that was just opened
+pub kept_at_start : (document : Document) (kept : Image) (begin length : ℤ) (id : List ℕ) → IsImageOf document begin length id → kept ≡ timed (Id id) begin (begin +ℤ length) → IsKept document kept (pos 0)
+kept_at_start document kept begin length id is made =
+    let whole : length ≡ (begin +ℤ length) -ℤ begin = omega (arith, ints) in
+    let opened_so : IsKept document (timed (Id id) begin (begin +ℤ length)) (pos 0) = record {
+      nodes = is.nodes ∙ ap (λ (l : ℤ). image begin l id) whole;
+      name = refl;
+      from = is.times.from;
+      long = omega (arith, ints, is.times.long);
+      near = omega (arith, ints, is.times.early, is.times.short);
+      started = omega (arith, ints);
+      within = omega (arith, ints);
+    } in
+    subst (λ (k : Image). IsKept document k (pos 0)) (sym made) opened_so
+
 pub clock_range : (v : ℤ) → is_clock v ≡ true → (pos 0 ≤ℤ v) × (v ≤ℤ HORIZON)
 clock_range (pos k) q = natural (leb-true k 1_000_000_000_000 ((and_parts (int_le (pos 0) (pos k)) (int_le (pos k) HORIZON) q).1))
   where

@@ -53,7 +53,8 @@ pub record IsImageOf (document : Document) (begin length : ℤ) (id : List ℕ) 
 abbrev pub IsImage : Document → Type 0
 IsImage document = (begin : ℤ) × (length : ℤ) × (id : List ℕ) × IsImageOf document begin length id
 
--- an advance
-abbrev pub is_advance : Order → Bool
-is_advance (order.Advance by) = true
-is_advance _ = false
+-- an advance, or the order that asks for the outline
+abbrev pub is_answered : Order → Bool
+is_answered (order.Advance by) = true
+is_answered order.Text = true
+is_answered _ = false

@@ -1,7 +1,7 @@
 //! Which documents and orders are answered.
 
 ghost use Rattle.std.specs.Prelude.{◌≡◌, ℤ, List, ℕ, [], ◌∷◌, IsTrue, ◌↔◌, MatchOption};
-ghost use Rattle.smil_live.specs.Image.{IsImage, IsImageOf, IsTimed, par_node, is_advance, timing_of};
+ghost use Rattle.smil_live.specs.Image.{IsImage, IsImageOf, IsTimed, par_node, is_answered, timing_of};
 
 use smil_model::{Attrs, Bytes, Doc, Dur, Item, Items, Kind, Node, Order};
 
@@ -17,11 +17,11 @@ pub fn built(doc: &Doc) -> bool
     timing_in(doc).is_some()
 }
 
-/// Whether the order is answered: an advance is, and no other.
+/// Whether the order is answered: an advance is, and the order for the outline, and no other.
 pub fn built_order(order: &Order) -> bool
-    ensures { result ≡ is_advance order.now }
+    ensures { result ≡ is_answered order.now }
 {
-    matches!(order, Order::Advance { .. })
+    matches!(order, Order::Advance { .. } | Order::Text)
 }
 
 /// The id of an image, its begin and its length, in milliseconds: the values of `id`, `begin` and `dur`.

@@ -2,23 +2,28 @@
 
 ghost use Rattle.std.specs.Prelude.{◌≡◌, ◌+◌, ◌++◌, ◌⊎◌, ℤ, pos, ◌+ℤ◌, ◌≤ℤ◌, OnOk, OnErr, IfOk, IfErr, drop, length, IsTrue, true};
 ghost use Rattle.smil_model.specs.document.Values.{is_clock};
+ghost use Rattle.smil_model.specs.document.Valid.{IsValid};
 ghost use Rattle.smil_model.specs.shown.Orders.{opened};
 ghost use Rattle.smil_model.specs.shown.Answers.{Accepts, Refuses, load_text};
 ghost use Rattle.smil_grammar.specs.Formats.{formats};
+ghost use Rattle.smil_grammar.specs.Outlines.{outline_text};
 ghost use Rattle.smil_live.specs.Image.{IsImage};
 
 use super::forms::timing_in;
 use super::image::Image;
 use smil_model::{Bytes, Doc, HORIZON, Order, Player, Refusal, Steps};
+use smil_outline::write_doc;
+use smil_tree::Tree;
 use std::alloc::Global;
 use std::marker::Model;
 use std::sync::ledger::Ledger;
 
 /// A presentation of a par with one image, seen as its document, its log, which is empty, and its moment, in milliseconds
-/// of document time. It answers advances: `BeyondHorizon` where the new moment would be above 10^12, and `Memory`.
+/// of document time. It answers advances, `BeyondHorizon` where the new moment would be above 10^12, and the order for the
+/// outline; `Memory` may come with both.
 #[derive(Drop)]
 pub struct Presentation {
-    doc: Doc,
+    tree: Tree,
     image: Image,
     now: i64,
 }
@@ -30,13 +35,13 @@ impl Model for Presentation {
 
     ghost Value = { State };
 
-    ghost view = { λ p. record { document = p.doc; log = []; now = nat_abs p.now } };
+    ghost view = { λ p. record { document = p.tree; log = []; now = nat_abs p.now } };
 
-    ghost invariant = { λ p. IsKept p.doc p.image p.now };
+    ghost invariant = { λ p. IsKept p.tree p.image p.now };
 }
 
 impl Presentation {
-    /// Opens a document that `built` accepts, at moment 0 with an empty log, and appends the lines of what is shown of it.
+    /// Opens a valid document that `built` accepts, at moment 0 with an empty log, and appends the lines of what is shown of it.
     /// The one refusal that comes is `Memory`; after it `out` is as before. No interval is evaluated: the count stays.
     pub fn new<L: Ledger>(
         alloc: Global,
@@ -44,7 +49,8 @@ impl Presentation {
         out: &mut Bytes,
         steps: &mut Steps<L>,
     ) -> Result<Self, Refusal>
-        requires { IsImage doc }
+        requires built { IsImage doc }
+        requires valid { IsValid doc }
         ensures state { IfOk result (λ presentation. opened doc ≡ Ok presentation) }
         ensures answer { IfOk result (λ presentation. out.new ≡ out.old ++ load_text presentation) }
         ensures refused { IfErr result (λ refusal. (refusal ≡ Refusal.Memory) ⊎ (opened doc ≡ Err refusal)) }
@@ -55,10 +61,17 @@ impl Presentation {
         let Ok(image) = Image::new(alloc, timing_in(&doc).unwrap()) else {
             return Err(Refusal::Memory);
         };
+        let Ok(tree) = Tree::of_doc(alloc, &doc) else {
+            return Err(Refusal::Memory);
+        };
         if image.put_both(0, out).is_err() {
             return Err(Refusal::Memory);
         }
-        Ok(Presentation { doc, image, now: 0 })
+        Ok(Presentation {
+            tree,
+            image,
+            now: 0,
+        })
     }
 
     // The clock moves on by so many milliseconds.
@@ -85,13 +98,13 @@ impl Presentation {
 impl Player for Presentation {
     ghost use Rattle.std.specs.Prelude.{None};
     ghost use Rattle.smil_grammar.specs.Formats.{formats};
-    ghost use Rattle.smil_live.specs.Image.{is_advance};
+    ghost use Rattle.smil_live.specs.Image.{is_answered};
 
     ghost formats = { λ _. formats };
 
     ghost presentation = { λ p. p };
 
-    ghost takes = { λ _ order. is_advance order };
+    ghost takes = { λ _ order. is_answered order };
 
     ghost least_steps = { λ _ _. None };
 
@@ -110,7 +123,20 @@ impl Player for Presentation {
         let _ = steps;
         match order {
             Order::Advance { by } => self.advance(*by, out),
+            Order::Text => put_outline(&self.tree, out),
             _ => unreachable!(),
         }
     }
+}
+
+// Appends the outline of a document. After a refusal `out` is as before.
+fn put_outline(tree: &Tree, out: &mut Bytes) -> Result<(), Refusal>
+    ensures ok { OnOk result (out.new ≡ out.old ++ outline_text tree.now.nodes) }
+    ensures refused { IfErr result (λ refusal. refusal ≡ Refusal.Memory) }
+    ensures text { OnErr result (out.new ≡ out.old) }
+{
+    let Ok(doc) = tree.doc_copy() else {
+        return Err(Refusal::Memory);
+    };
+    write_doc(&doc, out).map_err(|_| Refusal::Memory)
 }

@@ -1,45 +1,29 @@
 // Presentations as a reader of a transcript sees them.
 
-ghost use Rattle.std.specs.Prelude.{◌≡◌, ◌<◌};
+ghost use Rattle.std.specs.Prelude.{◌≡◌, ◌<◌, IfOk};
+ghost use Rattle.smil_model.specs.document.Valid.{IsValid};
 
 use crate::{Presentation, built, built_order};
-use smil_model::{
-    Attrs, Bytes, Doc, Dur, HORIZON, Item, Items, Kind, Node, Order, Player, Refusal, Steps,
-};
-use std::alloc::{AllocError, Global};
+use smil_model::{Bytes, Doc, HORIZON, Order, Player, Refusal, Steps};
+use smil_outline::Builder;
+use std::alloc::Global;
 use std::marker::Brand;
 use std::process::Abort;
 use std::sync::ledger::{Blank, Ledger};
 use std::test::Fail;
 
-// The attributes of an image named `a`.
-fn timed(alloc: Global, begin: i64, length: i64) -> Result<Attrs, AllocError> {
-    let mut attrs = Attrs::none();
-    attrs.id = Some(Bytes::of(alloc, b"a")?);
-    attrs.begin = Some(Items::new(alloc, Item::Offset { offset: begin })?);
-    attrs.dur = Some(Dur::Clock(length));
-    Ok(attrs)
+// The document of an outline.
+fn document(alloc: Global, outline: &str) -> Result<Doc, Fail>
+    ensures { IfOk result IsValid }
+{
+    let mut builder = Builder::new(alloc)?;
+    for line in outline.lines() {
+        builder.push(line.as_bytes())?;
+    }
+    Ok(builder.finish()?)
 }
 
-// A par with an image of these attributes.
-fn document(alloc: Global, attrs: Attrs) -> Result<Doc, AllocError> {
-    let mut doc = Doc::new(alloc, 3);
-    doc.push(Node {
-        serial: 1,
-        kind: Kind::Par,
-        parent: 0,
-        attrs: Attrs::none(),
-    })?;
-    doc.push(Node {
-        serial: 2,
-        kind: Kind::Img,
-        parent: 1,
-        attrs,
-    })?;
-    Ok(doc)
-}
-
-// Opens the document, advances by these lengths, and compares all text and the last answer.
+// Opens a par with an image, advances by these lengths, and compares all text, the last answer, and the outline that is told.
 fn plays<R: AllocGlobal + Abort, L: Ledger>(
     rt: &R,
     blank: Blank,
@@ -53,7 +37,11 @@ fn plays<R: AllocGlobal + Abort, L: Ledger>(
     requires backed { 0 < blank.parts }
 {
     let alloc = rt.alloc();
-    let doc = document(alloc, timed(alloc, timing.0, timing.1)?)?;
+    let outline = format!(in alloc;
+        "par\n  img id=\"a\" begin=\"{}ms\" dur=\"{}ms\"\n",
+        timing.0, timing.1
+    )?;
+    let doc = document(alloc, &outline)?;
     assert!(rt; built(&doc));
     let mut steps = Steps::<L>::new(blank);
     let mut out = Bytes::new(alloc);
@@ -69,6 +57,12 @@ fn plays<R: AllocGlobal + Abort, L: Ledger>(
     }
     assert_eq!(rt; answer, last);
     assert_eq!(rt; out.slice(), wanted);
+    let mut told = Bytes::new(alloc);
+    presentation
+        .answer(&Order::Text, &mut told, &mut steps)
+        .ok()
+        .ok_or("text")?;
+    assert_eq!(rt; told.slice(), outline.as_bytes());
     Ok(())
 }
 
@@ -116,21 +110,23 @@ fn an_image_that_begins_with_its_par(rt: HostRuntime) -> Result<(), Fail> {
 #[test]
 fn other_documents(rt: HostRuntime) -> Result<(), Fail> {
     let alloc = rt.alloc();
-    let longest = 999_999_999;
-    for (begin, length, wanted) in [
-        (0, 1, true),
-        (longest, longest, true),
-        (-1, 1, false),
-        (0, 0, false),
-        (longest + 1, 1, false),
-        (0, longest + 1, false),
+    for (outline, wanted) in [
+        ("par\n  img id=\"a\" begin=\"0s\" dur=\"0.001s\"", true),
+        (
+            "par\n  img id=\"a\" begin=\"999999.999s\" dur=\"999999.999s\"",
+            true,
+        ),
+        ("par\n  img id=\"a\" begin=\"-0.001s\" dur=\"1s\"", false),
+        ("par\n  img id=\"a\" begin=\"0s\" dur=\"0s\"", false),
+        ("par\n  img id=\"a\" begin=\"1000000s\" dur=\"1s\"", false),
+        ("par\n  img id=\"a\" begin=\"0s\" dur=\"1000000s\"", false),
+        (
+            "par\n  img id=\"a\" begin=\"0s\" dur=\"1s\" min=\"0s\"",
+            false,
+        ),
     ] {
-        let doc = document(alloc, timed(alloc, begin, length)?)?;
-        assert_eq!(rt; built(&doc), wanted, "{begin} {length}");
+        assert_eq!(rt; built(&document(alloc, outline)?), wanted, "{outline}");
     }
-    let mut attrs = timed(alloc, 1000, 2000)?;
-    attrs.min = Some(0);
-    assert!(rt; !built(&document(alloc, attrs)?));
-    assert!(rt; !built_order(&Order::Text));
+    assert!(rt; !built_order(&Order::Show));
     Ok(())
 }

@@ -5,3 +5,4 @@ pub mod Tells
 pub mod Writing
 pub mod Loads
 pub mod Openings
+pub mod Moments

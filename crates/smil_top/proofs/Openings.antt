@@ -1,6 +1,6 @@
 -- What opening a document gives.
 use Rattle.std.proofs.Common.{◌≡◌, ◌⊎◌, ℕ, List, [], ◌++◌, Bool, true, false, Option, Some, None, Result, Ok, Err, refl, ap, sym, ◌∙◌, inl, inr}
-use Rattle.std.specs.Prelude.{pos, is_some, is_err, OnOk, IsTrue, ◌↔◌}
+use Rattle.std.specs.Prelude.{pos, is_some, is_err, OnErr, OnOk, IsTrue, ◌↔◌}
 use Rattle.smil_model.specs.document.Document.{Document}
 use Rattle.smil_model.specs.declared.order.Refusal.{Refusal}
 use Rattle.smil_model.specs.declared.order.Refusal.TheVariants.{Memory, NotYet}
@@ -17,7 +17,7 @@ use Rattle.smil_top.specs.declared.answer.Answer.{Answer as AnswerText}
 use Rattle.smil_top.specs.Answers.{Accepted, at_line, told, IsOpening}
 use Rattle.smil_top.specs.Kept.{made}
 
-kept-state : (p q : Presentation) (diary : Option (List Entry)) → kept_where p diary ≡ Ok q → q ≡ p
+pub kept-state : (p q : Presentation) (diary : Option (List Entry)) → kept_where p diary ≡ Ok q → q ≡ p
 kept-state p q None h = absurd cc
 kept-state p q (Some diary) h = cc
 
@@ -55,6 +55,15 @@ opens-ok session line name document p changes last image none is first behind =
     ap (λ zs. zs ++ last) first ∙ ap (λ zs. load_text p ++ zs) (behind ∙ ap (λ n. ok_line line name (pos n)) (sym (opened-now document p is)))
     in
     inr (inl (image, none, ap (λ zs. accepted zs after) text ∙ ap (λ o. at_line line (told line name load_text o)) (sym is)))
+
+pub on-err : {A E : Type 0} (result : Result A E) (P : Type 0) → is_err result ≡ true → OnErr result P → P
+on-err (Ok x) P is h = absurd cc
+on-err (Err e) P is h = h
+
+-- what holds behind a refusal holds behind it at its line
+pub refused-at_line : {A : Type 0} (line : ℕ) (result : Result A Refusal) (P : Type 0) → OnErr result P → OnErr (at_line line result) P
+refused-at_line line (Ok x) P h = tt
+refused-at_line line (Err refusal) P h = h
 
 -- ---- what the tests say
 

@@ -1,11 +1,12 @@
 -- What was written, of one text and of two.
 use Rattle.std.proofs.Common.{ℕ, ◌+◌, ◌<◌, ◌≤◌, List, ◌++◌, length, take, Option, Result, Ok, Err, sym, subst, arith, inl, inr}
-use Rattle.std.specs.Prelude.{IsOk, OnOk, OnErr}
+use Rattle.std.specs.Prelude.{IsOk, OnOk, OnErr, ◌⊎◌}
 use Rattle.std.proofs.Math.Seq.{take-append-add}
 use Rattle.std.proofs.lemmas.Bool.{cases_lt}
 use Rattle.std.proofs.lemmas.List.{length-append}
 use Rattle.std.specs.Io.KnownBytes.{Appends}
 use Rattle.smil_outside.specs.declared.failed.Failed.{Failed}
+use Rattle.smil_outside.specs.Faults.{HasRisen}
 use Rattle.smil_outside.proofs.KnownLemmas.{Appends-append}
 use Rattle.smil_top.specs.Kept.{WritesAll, Writes}
 
@@ -28,3 +29,12 @@ Writes-two (Err e) before middle after room between left first second one two = 
   subst (λ zs. Appends before after zs) (sym (take-append-add first second two.0)) (Appends-append before middle after first (take two.0 second) one.0 two.2),
   omega (arith, one.1, two.3, length-append first second),
 )
+
+-- a count that has risen has risen from what it was before too
+pub risen-from : (before between after : ℕ) → before ≤ between → HasRisen between after → HasRisen before after
+risen-from before between after le (inl lt) = inl (omega arith)
+risen-from before between after le (inr last) = by_order (cases_lt before after)
+  where
+    by_order : (before < after) ⊎ (after ≤ before) → HasRisen before after
+    by_order (inl lt) = inl lt
+    by_order (inr ge) = inr (omega (arith, last.0, last.1), last.1)

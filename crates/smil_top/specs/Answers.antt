@@ -12,7 +12,7 @@ use Rattle.smil_grammar.specs.declared.read.Read.TheVariants.{Blank, Load, Close
 use Rattle.smil_grammar.specs.Scripts.{line_of}
 use Rattle.smil_grammar.specs.Outlines.{Outline, with_line, ended}
 use Rattle.smil_grammar.specs.Formats.{formats}
-use Rattle.smil_live.specs.Image.{IsImage, is_advance}
+use Rattle.smil_live.specs.Image.{IsImage, is_answered}
 use Rattle.smil_top.specs.declared.fault.Fault.{Fault}
 use Rattle.smil_top.specs.declared.session.Held.{Held}
 use Rattle.smil_top.specs.declared.session.Session.{Session}
@@ -57,9 +57,9 @@ abbrev pub answer_by : ℕ → Order → Option Held → Result Accepted Refusal
 answer_by line order None = Err NoPresentation
 answer_by line order (Some held) = told line held.name (λ after. answer_text formats held.presentation after order) (outcome formats held.presentation order)
 
--- of orders, advances are answered so far
+-- of orders, advances and those for the outline are answered so far
 abbrev pub answer_to : Session → ℕ → List ℕ → Order → Result Accepted Refusal
-answer_to session line name order = if is_advance order then answer_by line order (held_as name session.held) else Err NotYet
+answer_to session line name order = if is_answered order then answer_by line order (held_as name session.held) else Err NotYet
 
 -- ---- single lines
 

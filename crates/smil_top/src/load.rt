@@ -1,6 +1,7 @@
 //! A load whose lines are being read.
 
-ghost use Rattle.std.specs.Prelude.{◌≡◌, ◌⊎◌, ◌≤◌, ℕ, List, [], ◌∷◌, ◌++◌, length, option_map, Ok};
+ghost use Rattle.std.specs.Prelude.{◌≡◌, ◌⊎◌, ◌≤◌, ℕ, List, [], ◌∷◌, ◌++◌, length, option_map, Ok, IfOk};
+ghost use Rattle.smil_model.specs.document.Valid.{IsValid};
 ghost use Rattle.smil_grammar.specs.Scripts.{line_of};
 ghost use Rattle.smil_script.specs.Gives.{GivesRead};
 ghost use Rattle.smil_top.specs.Cut.{LoadLines};
@@ -55,10 +56,11 @@ impl Load {
         }
     }
 
-    /// The name and the document, or the first fault, at the end of the load.
+    /// The name and the document, which is valid, or the first fault, at the end of the load.
     pub fn finish(self, end_line: u32) -> Result<(Bytes, Doc), Fault>
-        ensures { (lines : LoadLines) → IsRead self lines
+        ensures document { (lines : LoadLines) → IsRead self lines
             → (result ≡ document_of lines end_line) ⊎ (result ≡ refused_at lines.head.number Refusal.Memory) }
+        ensures valid { IfOk result (λ titled. IsValid titled.1) }
     {
         let first = self.line;
         let Titled { name, outline } = self.reading?;

@@ -2,12 +2,13 @@
 
 ghost use Rattle.std.specs.Prelude.{◌≡◌, ◌⊎◌, ◌≤◌, ◌++◌, length, pos, true, Ok, Err, OnOk, OnErr, IfErr};
 ghost use Rattle.smil_model.specs.document.Values.{is_clock};
+ghost use Rattle.smil_model.specs.document.Valid.{IsValid};
 ghost use Rattle.smil_model.specs.shown.Orders.{outcome};
 ghost use Rattle.smil_model.specs.shown.Answers.{IsGiven, answer_text};
 ghost use Rattle.smil_model.specs.shown.Lines.{ok_line};
 ghost use Rattle.smil_grammar.specs.Formats.{formats};
 ghost use Rattle.smil_grammar.specs.Scripts.{line_of};
-ghost use Rattle.smil_live.specs.Image.{is_advance};
+ghost use Rattle.smil_live.specs.Image.{is_answered};
 ghost use Rattle.smil_script.specs.Gives.{GivesRead};
 ghost use Rattle.smil_top.specs.Answers.{answer_to_read, answer_to as answer_of, IsOpening, at_line};
 ghost use Rattle.smil_top.specs.Kept.{made, no_text, text_of, moment_after};
@@ -80,7 +81,7 @@ impl Session {
         }
     }
 
-    /// Opens a document under this name.
+    /// Opens a valid document under this name.
     pub fn open<L: Ledger>(
         &mut self,
         alloc: Global,
@@ -90,6 +91,7 @@ impl Session {
         answer: &mut Answer,
         steps: &mut Steps<L>,
     ) -> Result<(), Refusal>
+        requires valid { IsValid doc }
         requires empty { answer.old ≡ no_text }
         ensures answer { (result ≡ Err Refusal.Memory)
             ⊎ IsOpening self.old number name doc (at_line number (made result answer.new self.new)) }
@@ -117,7 +119,7 @@ impl Held {
         steps: &mut Steps<L>,
     ) -> Result<(), Refusal>
         requires given { IsGiven order.now }
-        requires taken { is_advance order.now ≡ true }
+        requires taken { is_answered order.now ≡ true }
         requires empty { answer.old ≡ no_text }
         ensures state { OnOk result (outcome formats self.old.presentation order.now ≡ Ok self.new.presentation) }
         ensures text { OnOk result (text_of answer.new
@@ -136,7 +138,8 @@ impl Held {
 
 // The moment after an order that is accepted at a moment.
 fn moment_behind(now: i64, order: &Order) -> i64
-    ensures { is_clock (moment_after now order.now) ≡ true → result ≡ moment_after now order.now }
+    ensures moved { is_clock (moment_after now order.now) ≡ true → result ≡ moment_after now order.now }
+    ensures still { moment_after now order.now ≡ now → result ≡ now }
 {
     match order {
         Order::Advance { by } => now.saturating_add(*by),

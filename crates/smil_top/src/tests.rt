@@ -131,9 +131,10 @@ fn faults_in_the_middle(rt: HostRuntime) -> Result<(), Fail> {
 #[test]
 fn line_ends(rt: HostRuntime) -> Result<(), Fail> {
     let input =
-        b"load d\r\n# a comment\r\npar\r\n\r\n  img id=\"a\" begin=\"1000ms\" dur=\"00:02\"\r\n  %%\r\nd advance 1s";
+        b"load d\r\n# a comment\r\npar\r\n\r\n  img id=\"a\" begin=\"1000ms\" dur=\"00:02\"\r\n  %%\r\nd advance 1s\r\nd text";
     let text =
-        "0 #1 active 0 3000 0 0\n0 a waiting 1000 3000 0 0\nok 1 d 0\n1000 a active 1000 3000 0 0\nok 7 d 1000\n";
+        "0 #1 active 0 3000 0 0\n0 a waiting 1000 3000 0 0\nok 1 d 0\n1000 a active 1000 3000 0 0\nok 7 d 1000\n\
+        par\n  img id=\"a\" begin=\"1000ms\" dur=\"2000ms\"\nok 8 d 1000\n";
     expect(&rt, &RUN, input, text, Status::Clean)
 }
 

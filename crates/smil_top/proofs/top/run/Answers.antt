@@ -2,6 +2,8 @@ use Rattle.std.proofs.Common.{ℕ, List, Option, Some, Bor, ap, sym, subst, ◌�
 use Rattle.std.specs.Prelude.{option_map}
 use Rattle.smil_top.specs.Cut.{cut_of}
 use Rattle.smil_top.proofs.Serving.{Nexts, Nexts-of, Hands, next-line, IsServing, IsServing-fresh, IsServing-written, Serves-end, Serves-too_long, Serves-fault, Serves-unwritten}
+use Rattle.smil_top.proofs.Openings.{on-err}
+use Rattle.smil_top.proofs.Writing.{risen-from}
 use Rattle.smil_top.proofs.top.run.Goals as goal
 use Rattle.smil_top.proofs.top.run.Goals.{in-Bytes, in-LongLine}
 
@@ -174,3 +176,9 @@ lines-preserved g c =
       writes = omega (arith, c.lines.invariant.writes, c.line.ensures.count);
       sure = λ never. (e.sure (c.lines.invariant.sure never)).0;
     }
+
+pub returns-then-is_err-clause-write_cause : goal.returns-then-is_err-clause-write_cause
+returns-then-is_err-clause-write_cause g c = λ same.
+    let faults = g.K.Sink.faults in
+    let failed = sym c.is_err.ensures.value ∙ c.if-is_err.true in
+    risen-from (faults c.args.sink.now) (faults c.lines.sink) (faults c.line.new.sink) c.lines.invariant.writes (on-err c.line.result _ failed c.line.ensures.cause)
