@@ -1,0 +1,103 @@
+-- Rows that are built one by one, and what is pushed in them.
+use Rattle.std.proofs.Common.{◌≡◌, refl, sym, ◌∙◌, ap, ℕ, suc, zero, ◌<◌, ◌+◌, List, [], ◌∷◌, ◌++◌, length, take, Bool, true, false, Option, Some, None, arith, inl, inr, append_assoc}
+use Rattle.std.specs.Prelude.{map, ◌||◌, ◌&&◌, ◌⊎◌, slice_get}
+use Rattle.std.proofs.lemmas.List.Folds.{list_any-append}
+use Rattle.smil_model.specs.declared.document.Node.{Node}
+use Rattle.smil_model.specs.declared.document.Item.{Item}
+use Rattle.smil_model.specs.document.Document.{is_element}
+use Rattle.smil_graph.specs.Links.{lists, row, links, AreRows}
+use Rattle.smil_graph.specs.Places.{is_place, leads_to_place, follows, hears, element_follows, element_hears}
+
+-- ---- one row more
+
+front_row : (xs : List (List ℕ)) (y : List ℕ) (k : ℕ) → k < length xs → row (xs ++ y ∷ []) k ≡ row xs k
+front_row [] y k l = absurd (omega (arith, l))
+front_row (x ∷ xs) y zero l = refl
+front_row (x ∷ xs) y (suc k) l = front_row xs y k (omega (arith, l))
+
+end_row : (xs : List (List ℕ)) (y : List ℕ) → row (xs ++ y ∷ []) (length xs) ≡ y
+end_row [] y = refl
+end_row (x ∷ xs) y = end_row xs y
+
+row_length : (xs : List (List ℕ)) (y : List ℕ) → length (xs ++ y ∷ []) ≡ length xs + 1
+row_length [] y = refl
+row_length (x ∷ xs) y = let rest : length (xs ++ y ∷ []) ≡ length xs + 1 = row_length xs y in omega (arith, rest)
+
+pub rows_step : (test : ℕ → ℕ → Bool) (k : ℕ) (rows : List (List ℕ)) (new : List ℕ) → AreRows k test rows → ((j : ℕ) → lists new j ≡ test k j) → AreRows (k + 1) test (rows ++ new ∷ [])
+rows_step test k rows new so here = record {
+  long = row_length rows new ∙ ap (λ m. m + 1) so.long;
+  each = λ i j l. by_place i j (split i l);
+}
+  where
+    split : (i : ℕ) → i < k + 1 → (i < k) ⊎ (i ≡ k)
+    split i l = grind arith
+
+    by_place : (i j : ℕ) → (i < k) ⊎ (i ≡ k) → links (rows ++ new ∷ []) i j ≡ test i j
+    by_place i j (inl l) = ap (λ r. lists r j) (front_row rows new i (omega (arith, l, so.long))) ∙ so.each i j l
+    by_place i j (inr e) = ap (λ m. lists (row (rows ++ new ∷ []) m) j) (e ∙ sym so.long) ∙ ap (λ r. lists r j) (end_row rows new) ∙ here j ∙ ap (λ m. test m j) (sym e)
+
+-- ---- one item more
+
+take_item : (items : List Item) (k : ℕ) (item : Item) → slice_get items k ≡ Some item → take (suc k) items ≡ take k items ++ item ∷ []
+take_item [] k item q = cc
+take_item (x ∷ xs) zero item q = let same : x ≡ item = cc in ap (λ y. y ∷ []) same
+take_item (x ∷ xs) (suc k) item q = ap (λ ys. x ∷ ys) (take_item xs k item q)
+
+assoc : (a b c : Bool) → ((a || b) || c) ≡ (a || (b || c))
+assoc true b c = refl
+assoc false b c = refl
+
+right : (t : Bool) → t ≡ (t || false)
+right true = refl
+right false = refl
+
+pub leads_more : (of : Item → Option ℕ) (items : List Item) (k : ℕ) (item : Item) (p : Option ℕ) (i : ℕ) (old mid new : Bool) → slice_get items k ≡ Some item → p ≡ of item → mid ≡ (old || leads_to_place of (take k items) i) → new ≡ (mid || is_place i p) → new ≡ (old || leads_to_place of (take (k + 1) items) i)
+leads_more of items k item p i old mid new here is so pushed =
+    let one : k + 1 ≡ suc k = omega arith in
+    let all : leads_to_place of (take (k + 1) items) i ≡ (leads_to_place of (take k items) i || is_place i (of item)) =
+    ap (λ m. leads_to_place of (take m items) i) one ∙ ap (λ xs. leads_to_place of xs i) (take_item items k item here)
+    ∙ list_any-append (λ (x : Item). is_place i (of x)) (take k items) (item ∷ []) ∙ ap (λ t. leads_to_place of (take k items) i || t) (sym (right (is_place i (of item)))) in
+    pushed
+    ∙ ap (λ q. mid || is_place i q) is
+    ∙ ap (λ t. t || is_place i (of item)) so
+    ∙ assoc old (leads_to_place of (take k items) i) (is_place i (of item))
+    ∙ ap (λ t. old || t) (sym all)
+
+-- ---- rows of a node
+
+pub feeder_row : (o : Option Node) (n : Node) (children children' : List ℕ) (previous previous' : Option ℕ) (named : List ℕ → Option ℕ) (i : ℕ) (new empty : List ℕ) → empty ≡ [] → children ≡ children' → previous ≡ previous' → Some n ≡ o → lists new i ≡ (lists empty i || (is_element n && follows children previous named n i)) → lists new i ≡ element_follows children' previous' named o i
+feeder_row o n children children' previous previous' named i new empty none c p at pushed =
+    pushed
+    ∙ ap (λ r. lists r i || (is_element n && follows children previous named n i)) none
+    ∙ ap (λ x. is_element n && follows x previous named n i) c
+    ∙ ap (λ x. is_element n && follows children' x named n i) p
+    ∙ ap (λ z. element_follows children' previous' named z i) at
+
+pub no_feeder_row : (o : Option Node) (children : List ℕ) (previous : Option ℕ) (named : List ℕ → Option ℕ) (i : ℕ) (new : List ℕ) → new ≡ [] → None ≡ o → lists new i ≡ element_follows children previous named o i
+no_feeder_row o children previous named i new none at = ap (λ r. lists r i) none ∙ ap (λ z. element_follows children previous named z i) at
+
+pub source_row : (o : Option Node) (n : Node) (read : List ℕ) (named : List ℕ → Option ℕ) (place i : ℕ) (new mid : List ℕ) → lists mid i ≡ lists read i → Some n ≡ o → lists new i ≡ (lists mid i || (is_element n && hears named place n i)) → lists new i ≡ (lists read i || element_hears named place o i)
+source_row o n read named place i new mid same at pushed =
+    pushed ∙ ap (λ t. t || (is_element n && hears named place n i)) same ∙ ap (λ z. lists read i || element_hears named place z i) at
+
+pub no_source_row : (o : Option Node) (read : List ℕ) (named : List ℕ → Option ℕ) (place i : ℕ) (mid : List ℕ) → lists mid i ≡ lists read i → None ≡ o → lists mid i ≡ (lists read i || element_hears named place o i)
+no_source_row o read named place i mid same at = same ∙ right (lists read i) ∙ ap (λ z. lists read i || element_hears named place z i) at
+
+pub parent_row : (t : Bool) (p p' : Option ℕ) (i : ℕ) (new empty : List ℕ) → empty ≡ [] → t ≡ true → p ≡ p' → lists new i ≡ (lists empty i || is_place i p) → lists new i ≡ (t && is_place i p')
+parent_row t p p' i new empty none is same pushed = pushed ∙ ap (λ r. lists r i || is_place i p) none ∙ ap (is_place i) same ∙ ap (λ u. u && is_place i p') (sym is)
+
+pub no_parent_row : (t : Bool) (p' : Option ℕ) (i : ℕ) (empty : List ℕ) → empty ≡ [] → t ≡ false → lists empty i ≡ (t && is_place i p')
+no_parent_row t p' i empty none isnt = ap (λ r. lists r i) none ∙ ap (λ u. u && is_place i p') (sym isnt)
+
+-- ---- marks
+
+map_take : (f : Item → Bool) (items : List Item) (k : ℕ) (item : Item) → slice_get items k ≡ Some item → map f (take (suc k) items) ≡ map f (take k items) ++ f item ∷ []
+map_take f [] k item q = cc
+map_take f (x ∷ xs) zero item q = let same : x ≡ item = cc in ap (λ y. f y ∷ []) same
+map_take f (x ∷ xs) (suc k) item q = ap (λ ys. f x ∷ ys) (map_take f xs k item q)
+
+pub marks_more : (f : Item → Bool) (items : List Item) (k : ℕ) (item : Item) (b : Bool) (old mid new : List Bool) → slice_get items k ≡ Some item → b ≡ f item → mid ≡ old ++ map f (take k items) → new ≡ mid ++ b ∷ [] → new ≡ old ++ map f (take (k + 1) items)
+marks_more f items k item b old mid new at is so pushed =
+    let one : k + 1 ≡ suc k = omega arith in
+    pushed ∙ ap (λ c. mid ++ c ∷ []) is ∙ ap (λ r. r ++ f item ∷ []) so ∙ append_assoc old (map f (take k items)) (f item ∷ [])
+    ∙ ap (λ r. old ++ r) (sym (map_take f items k item at)) ∙ ap (λ m. old ++ map f (take m items)) (sym one)

@@ -1,0 +1,28 @@
+use Rattle.std.proofs.Common.{◌≡◌, sym, ◌∙◌, ap, ◌<◌, arith, length}
+use Rattle.smil_graph.specs.Places.{up}
+use Rattle.smil_graph.specs.Kept.{top_of}
+use Rattle.smil_graph.proofs.Lists.{only}
+use Rattle.smil_graph.proofs.Kept.{children_stay}
+use Rattle.smil_graph.proofs.Within.{near_some, near_none, top_below}
+use Rattle.smil_graph.proofs.near.near.Goals as goal
+use Rattle.smil_graph.proofs.near.near.Goals.{in-Some+in_ok-insert, in_default}
+
+pub search-requires-clause-rows : goal.search-requires-clause-rows
+search-requires-clause-rows c = children_stay c.args.doc.now.nodes c.args.time_parents.now c.requires.time_parents c.args.time_children.now c.requires.count c.requires.time_children
+
+pub search-requires-clause-starts : goal.search-requires-clause-starts
+search-requires-clause-starts c = λ i q.
+    let same : i ≡ c.top_of.result = only c.top_of.result i q in
+    let top : c.top_of.result ≡ top_of c.args.doc.now.nodes (up c.args.time_parents.now c.args.place) c.args.place = c.top_of.ensures ∙ ap (λ o. top_of c.args.doc.now.nodes o c.args.place) c.place_at-parent.ensures in
+    let low : top_of c.args.doc.now.nodes (up c.args.time_parents.now c.args.place) c.args.place < length c.args.doc.now.nodes = top_below c.args.doc.now.nodes c.args.time_parents.now c.requires.time_parents c.args.place c.requires.element in
+    omega (arith, same, top, low, c.requires.count)
+
+pub returns : goal.returns
+returns c =
+    let top : c.top_of.result ≡ top_of c.args.doc.now.nodes (up c.args.time_parents.now c.args.place) c.args.place = c.top_of.ensures ∙ ap (λ o. top_of c.args.doc.now.nodes o c.args.place) c.place_at-parent.ensures in
+    elim c.match-parent.branch [
+      | in-Some+in_ok-insert w ↦
+          rw w.found-is (rw w.in_ok-insert.ensures.keys (near_some c.args.doc.now c.requires.tree c.args.time_parents.now c.args.time_children.now c.requires.time_parents c.requires.time_children c.args.place c.requires.element c.in_ok-found.found.keys c.top_of.result top c.in_ok-found.ensures w.in-Some.parent (sym c.place_at-parent.ensures ∙ w.in-Some.is)))
+      | in_default w ↦
+          rw w.found-is (near_none c.args.doc.now c.requires.tree c.args.time_parents.now c.args.time_children.now c.requires.time_parents c.requires.time_children c.args.place c.requires.element c.in_ok-found.found.keys c.top_of.result top c.in_ok-found.ensures (sym c.place_at-parent.ensures ∙ w.in_default.is))
+    ]

@@ -1,0 +1,6 @@
+use Rattle.smil_graph.proofs.Nodes.{IsTableTo}
+use Rattle.smil_model.specs.document.Document.{previous_in_seq}
+use Rattle.smil_graph.proofs.outline.previous_in_seqs.Given as goal
+
+abbrev pub invariant-loop-place : goal.invariant-loop-place
+invariant-loop-place l = IsTableTo l.doc.nodes (λ n. previous_in_seq l.doc.nodes n.serial) l.place l.table.items

@@ -1,0 +1,7 @@
+use Rattle.std.proofs.Common.{◌≡◌, take}
+use Rattle.std.specs.Prelude.{map}
+use Rattle.smil_graph.specs.Kept.{serials_of_places}
+use Rattle.smil_graph.proofs.tables.readers.Given as goal
+
+abbrev pub invariant-loop-row : goal.invariant-loop-row
+invariant-loop-row l = l.rows.items ≡ map (serials_of_places l.doc.nodes) (take l.row-index l.heads)

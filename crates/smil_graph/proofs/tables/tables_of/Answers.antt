@@ -1,0 +1,23 @@
+use Rattle.std.proofs.Common.{length}
+use Rattle.smil_graph.specs.Places.{feeds_place}
+use Rattle.smil_graph.proofs.Kept.{rows_stay, feeds_low}
+use Rattle.smil_graph.proofs.tables.tables_of.Goals as goal
+
+pub element_levels-requires : goal.element_levels-requires
+element_levels-requires c = rw c.as_slice-5.ensures.value (rows_stay (length c.args.doc.now.nodes) (feeds_place c.args.doc.now.nodes) c.in_ok-feeders.feeders.items c.in_ok-feeders.ensures (λ i j l q. feeds_low c.args.doc.now.nodes i j q))
+
+pub ordered-requires-clause-time_parents : goal.ordered-requires-clause-time_parents
+ordered-requires-clause-time_parents c = rw c.as_slice-11.ensures.value c.in_ok-time_parents.ensures
+
+pub returns : goal.returns
+returns c = record {
+  indexed = c.in_ok-places.ensures;
+  above = c.in_ok-time_parents.ensures;
+  count = c.in_ok-time_children.ensures.count;
+  under = rw c.as_slice-2.ensures.value at c.in_ok-time_children.ensures.children;
+  begun = c.in_ok-looped_marks.ensures;
+  ended = c.in_ok-looped_marks-2.ensures;
+  headed = c.in_ok-heads.ensures;
+  read = c.in_ok-readers.ensures;
+  ordered = c.in_ok-ordered.ensures;
+}

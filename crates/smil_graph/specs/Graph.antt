@@ -1,0 +1,63 @@
+-- What the graph of a document answers.
+use Rattle.std.specs.Prelude.{◌≡◌, ℕ, ◌<◌, List, filter, length, Bool, true, false, not, ◌&&◌, ◌||◌, ◌==◌, Option, Some, None, is_some, slice_get, slice_index_or}
+use Rattle.std.specs.List.{list_any}
+use Rattle.std.specs.List.Sorted.{IsPermutation}
+use Rattle.smil_model.specs.declared.document.Node.{Node}
+use Rattle.smil_model.specs.declared.document.Item.{Item}
+use Rattle.smil_model.specs.declared.document.Edge.{Edge}
+use Rattle.smil_model.specs.declared.document.Edge.TheVariants.{Begin, End}
+use Rattle.smil_model.specs.document.Document.{elements, node_at, has_serial, is_time_child, previous_in_seq}
+use Rattle.smil_model.specs.document.Defaults.{begin_list, end_list}
+use Rattle.smil_model.specs.document.Dependencies.{has_implicit_duration, all_items, is_sync_with, is_looped, leads_to, serials}
+use Rattle.smil_model.specs.reach.Reach.{reads}
+
+abbrev pub is_element_of : List Node → ℕ → Bool
+is_element_of nodes serial = is_some (node_at (elements nodes) serial)
+
+-- ---- looped references
+
+-- the items of one side of an element
+abbrev pub items_of : List Node → Edge → Node → List Item
+items_of nodes Begin e = begin_list nodes e
+items_of nodes End e = end_list e
+
+-- where there is no item it is not looped
+abbrev pub is_looped_item : List Node → ℕ → Option Item → Bool
+is_looped_item nodes serial None = false
+is_looped_item nodes serial (Some item) = is_looped nodes serial item
+
+abbrev pub looped_of : List Node → Edge → ℕ → Option Node → Bool
+looped_of nodes side k None = false
+looped_of nodes side k (Some e) = is_looped_item nodes e.serial (slice_get (items_of nodes side e) k)
+
+-- whether an item of the element with this serial is a looped reference
+abbrev pub looped_at : List Node → ℕ → Edge → ℕ → Bool
+looped_at nodes serial side k = looped_of nodes side k (node_at (elements nodes) serial)
+
+-- ---- readers
+
+-- the elements that read this one, in document order
+abbrev pub readers_of : List Node → ℕ → List ℕ
+readers_of nodes x = filter (reads nodes x) (serials (elements nodes))
+
+-- ---- an order of the elements
+
+-- whether the times of e follow from those of x in a way that is not looped
+abbrev pub follows_unlooped : List Node → ℕ → Node → Bool
+follows_unlooped nodes x e =
+    (has_implicit_duration e && list_any (λ (c : Node). (c.serial == x) && is_time_child nodes e.serial c) nodes)
+    || has_serial x (previous_in_seq nodes e.serial)
+    || (list_any (is_sync_with nodes x) (all_items nodes e) && not (leads_to nodes e.serial x))
+
+-- what times follow from stands before what follows from it, but for looped references
+abbrev pub GoesForward : List Node → List ℕ → Type 0
+GoesForward nodes order =
+    (e : Node) (i j : ℕ) → node_at (elements nodes) e.serial ≡ Some e
+    → i < length order → j < length order
+    → slice_index_or order j 0 ≡ e.serial
+    → follows_unlooped nodes (slice_index_or order i 0) e ≡ true
+    → i < j
+
+pub record IsOrder (nodes : List Node) (order : List ℕ) : Type 0 where
+  pub all : IsPermutation (serials (elements nodes)) order
+  pub forward : GoesForward nodes order

@@ -1,0 +1,77 @@
+-- What a graph keeps of its document, by places.
+use Rattle.std.specs.Prelude.{◌≡◌, ℕ, ◌<◌, ◌≤◌, List, [], ◌∷◌, length, filter, Bool, true, false, ◌==◌, ◌&&◌, ◌||◌, if◌then◌else◌, Option, Some, None, slice_get, slice_index_or}
+use Rattle.std.specs.List.{range_with_len}
+use Rattle.smil_model.specs.declared.document.Node.{Node}
+use Rattle.smil_model.specs.declared.document.Edge.{Edge}
+use Rattle.smil_model.specs.declared.document.Edge.TheVariants.{Begin, End}
+use Rattle.smil_model.specs.document.Document.{Document, is_element, node_at, time_parent, has_kind, is_seq_kind, is_excl_kind}
+use Rattle.smil_model.specs.document.Dependencies.{feeds, leads_to}
+use Rattle.smil_model.specs.reach.Reach.{is_near}
+use Rattle.smil_graph.specs.Links.{row, lists}
+use Rattle.smil_graph.specs.Places.{reads_place, is_element_at, IsIndex, IsTable, AreTimeChildren}
+use Rattle.smil_graph.specs.Graph.{items_of, is_looped_item, readers_of, IsOrder}
+
+-- what rows have at a place that may be absent
+abbrev pub marked_at : List (List Bool) → Option ℕ → ℕ → Bool
+marked_at rows None k = false
+marked_at rows (Some place) k = slice_index_or (slice_index_or rows place []) k false
+
+abbrev pub row_of : List (List ℕ) → Option ℕ → List ℕ
+row_of rows None = []
+row_of rows (Some place) = row rows place
+
+-- a level for each node: it does not fall along a dependency, and stays exactly where the dependency can be gone back
+pub record AreElementLevels (nodes : List Node) (levels : List ℕ) : Type 0 where
+  pub count : length levels ≡ length nodes
+  pub rising : (i j : ℕ) (x e : Node) → slice_get nodes i ≡ Some x → slice_get nodes j ≡ Some e → feeds nodes x.serial e.serial ≡ true → slice_index_or levels i 0 ≤ slice_index_or levels j 0
+  pub looped : (i j : ℕ) (x e : Node) → slice_get nodes i ≡ Some x → slice_get nodes j ≡ Some e → feeds nodes x.serial e.serial ≡ true → (slice_index_or levels i 0 == slice_index_or levels j 0) ≡ leads_to nodes e.serial x.serial
+
+-- for each element a mark at each item of one side that is a looped reference
+abbrev pub AreMarks : List Node → Edge → List (List Bool) → Type 0
+AreMarks nodes side rows =
+    (j k : ℕ) (e : Node) → slice_get nodes j ≡ Some e
+    → marked_at rows (Some j) k ≡ (is_element e && is_looped_item nodes e.serial (slice_get (items_of nodes side e) k))
+
+-- for each node the places of the elements that read it, in document order
+pub record AreHeads (nodes : List Node) (rows : List (List ℕ)) : Type 0 where
+  pub count : length rows ≡ length nodes
+  pub each : (i : ℕ) → i < length nodes → row rows i ≡ filter (λ j. reads_place nodes j i) (range_with_len 0 (length nodes))
+
+-- and their serials
+abbrev pub AreReaders : List Node → List (List ℕ) → Type 0
+AreReaders nodes rows = (i : ℕ) (x : Node) → slice_get nodes i ≡ Some x → is_element x ≡ true → row rows i ≡ readers_of nodes x.serial
+
+-- the serials of the nodes at places
+abbrev pub with_serial : Option Node → List ℕ → List ℕ
+with_serial None serials = serials
+with_serial (Some n) serials = n.serial ∷ serials
+
+abbrev pub serials_of_places : List Node → List ℕ → List ℕ
+serials_of_places nodes [] = []
+serials_of_places nodes (place ∷ places) = with_serial (slice_get nodes place) (serials_of_places nodes places)
+
+-- whether there is a seq or an excl
+abbrev pub takes_turns : Option Node → Bool
+takes_turns o = has_kind is_seq_kind o || has_kind is_excl_kind o
+
+-- the time parent of the element at a place where that is a seq or an excl, and else the element itself
+abbrev pub top_of : List Node → Option ℕ → ℕ → ℕ
+top_of nodes None place = place
+top_of nodes (Some parent) place = if takes_turns (slice_get nodes parent) then parent else place
+
+-- the places of the elements near the one at a place: of those at which its reach begins
+pub record AreNear (nodes : List Node) (place : ℕ) (places : List ℕ) : Type 0 where
+  pub elements : (j : ℕ) → lists places j ≡ true → is_element_at nodes j ≡ true
+  pub near : (j : ℕ) (x e : Node) → slice_get nodes place ≡ Some x → slice_get nodes j ≡ Some e → is_element e ≡ true → lists places j ≡ is_near nodes x.serial e.serial
+
+-- what is kept: places by serial, time parents, time children, looped begins and ends, who reads whom, and an order
+pub record AreTables (document : Document) (places : ℕ → Option ℕ) (parents : List (Option ℕ)) (children : List (List ℕ)) (begins ends : List (List Bool)) (heads readers : List (List ℕ)) (order : List ℕ) : Type 0 where
+  pub indexed : IsIndex document.nodes (node_at document.nodes) places
+  pub above : IsTable document.nodes (λ n. time_parent document.nodes n.serial) parents
+  pub count : length children ≡ length document.nodes
+  pub under : AreTimeChildren document.nodes parents children
+  pub begun : AreMarks document.nodes Begin begins
+  pub ended : AreMarks document.nodes End ends
+  pub headed : AreHeads document.nodes heads
+  pub read : AreReaders document.nodes readers
+  pub ordered : IsOrder document.nodes order

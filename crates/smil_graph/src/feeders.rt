@@ -1,0 +1,217 @@
+//! What each element's times follow from, and whose events it hears.
+
+ghost use Rattle.std.specs.Prelude.{◌≡◌, ℕ, List, [], ◌&&◌, ◌||◌, length, slice_get, OnOk, IfOk, bytes_eq};
+ghost use Rattle.std.specs.HashMap.{get_by};
+ghost use Rattle.smil_model.specs.document.Defaults as defaults;
+ghost use Rattle.smil_model.specs.document.Dependencies.{has_implicit_duration};
+ghost use Rattle.smil_model.specs.document.Document as model;
+ghost use Rattle.smil_graph.specs.Links.{lists, row, AreRows};
+ghost use Rattle.smil_graph.specs.Places as places;
+ghost use Rattle.smil_graph.specs.Places.{is_place, up, leads_to_place, element_follows, feeds_place, reads_place, IsIndex, IsTable, AreTimeChildren};
+ghost use Rattle.smil_model.specs.document.Valid.{IsNumberedTree, IsDistinct};
+
+use super::outline::{is_element, place_at, previous_in_seqs};
+use super::row::{Row, push_all, push_one, row_at};
+use smil_model::{Attrs, Bytes, Doc, Dur, Item, Items, Node};
+use std::alloc::{AllocError, Global};
+use std::collections::HashMap;
+
+/// For each element the places of those from which its times follow; the row of a priorityClass is empty.
+pub fn feeders(
+    alloc: Global,
+    doc: &Doc,
+    time_parents: &[Option<usize>],
+    time_children: &[Row<usize>],
+    ids: &HashMap<&[u8], usize>,
+) -> Result<Vec<Row<usize>>, AllocError>
+    requires tree { IsNumberedTree doc.now }
+    requires time_parents { IsTable doc.now.nodes (λ n. model.time_parent doc.now.nodes n.serial) time_parents.now }
+    requires time_children { AreTimeChildren doc.now.nodes time_parents.now time_children.now }
+    requires ids { IsIndex doc.now.nodes (model.element_named doc.now.nodes) (λ id. get_by (λ k. bytes_eq id k.now) ids.now) }
+    ensures { IfOk result (λ rows. AreRows (length doc.now.nodes) (feeds_place doc.now.nodes) rows.items) }
+{
+    let previous = previous_in_seqs(alloc, doc, time_parents, time_children)?;
+    feeder_rows(alloc, doc, time_children, previous.as_slice(), ids)
+}
+
+/// The same rows by the children before in seqs.
+fn feeder_rows(
+    alloc: Global,
+    doc: &Doc,
+    time_children: &[Row<usize>],
+    previous: &[Option<usize>],
+    ids: &HashMap<&[u8], usize>,
+) -> Result<Vec<Row<usize>>, AllocError>
+    ensures { IfOk result (λ rows. AreRows (length doc.now.nodes) (λ j i. element_follows (row time_children.now j) (up previous.now j) (λ id. get_by (λ k. bytes_eq id k.now) ids.now) (slice_get doc.now.nodes j) i) rows.items) }
+{
+    let mut rows = Vec::with_capacity(alloc, doc.len())?;
+    for place in 0..doc.len() {
+        let mut row = Row::new(alloc);
+        if let Some(node) = doc.get(place) {
+            push_feeders(
+                &mut row,
+                node,
+                row_at(time_children, place),
+                place_at(previous, place),
+                ids,
+            )?;
+        }
+        rows.push(row)?;
+    }
+    Ok(rows)
+}
+
+/// For each element the places of those that it reads: those from which its times follow, and those whose events it hears.
+pub fn sources(
+    alloc: Global,
+    doc: &Doc,
+    feeders: &[Row<usize>],
+    ids: &HashMap<&[u8], usize>,
+) -> Result<Vec<Row<usize>>, AllocError>
+    requires distinct { IsDistinct doc.now.nodes }
+    requires feeders { AreRows (length doc.now.nodes) (feeds_place doc.now.nodes) feeders.now }
+    requires ids { IsIndex doc.now.nodes (model.element_named doc.now.nodes) (λ id. get_by (λ k. bytes_eq id k.now) ids.now) }
+    ensures { IfOk result (λ rows. AreRows (length doc.now.nodes) (reads_place doc.now.nodes) rows.items) }
+{
+    let mut rows = Vec::with_capacity(alloc, doc.len())?;
+    for place in 0..doc.len() {
+        let mut row = Row::new(alloc);
+        push_all(&mut row, row_at(feeders, place))?;
+        if let Some(node) = doc.get(place) {
+            push_heard_by(&mut row, node, ids, place)?;
+        }
+        rows.push(row)?;
+    }
+    Ok(rows)
+}
+
+/// Appends the places of those from which the times of an element follow; nothing for a priorityClass.
+fn push_feeders(
+    row: &mut Row<usize>,
+    node: &Node,
+    time_children: &[usize],
+    previous: Option<usize>,
+    ids: &HashMap<&[u8], usize>,
+) -> Result<(), AllocError>
+    ensures { OnOk result ((i : ℕ) → lists row.new i ≡ (lists row.old i || (model.is_element node.now && places.follows time_children.now previous (λ id. get_by (λ k. bytes_eq id k.now) ids.now) node.now i))) }
+{
+    if !is_element(node) {
+        return Ok(());
+    }
+    push_children(row, &node.attrs, time_children)?;
+    push_one(row, previous)?;
+    push_named(row, &node.attrs.begin, ids)?;
+    push_named(row, &node.attrs.end, ids)
+}
+
+/// Appends the time children where the simple duration is implicit.
+fn push_children(
+    row: &mut Row<usize>,
+    attrs: &Attrs,
+    time_children: &[usize],
+) -> Result<(), AllocError>
+    ensures { OnOk result ((i : ℕ) → lists row.new i ≡ (lists row.old i || (defaults.takes_implicit attrs.now attrs.now.dur && lists time_children.now i))) }
+{
+    if takes_implicit(attrs) {
+        push_all(row, time_children)
+    } else {
+        Ok(())
+    }
+}
+
+/// Appends the places of those whose events an element hears; nothing for a priorityClass.
+fn push_heard_by(
+    row: &mut Row<usize>,
+    node: &Node,
+    ids: &HashMap<&[u8], usize>,
+    place: usize,
+) -> Result<(), AllocError>
+    ensures { OnOk result ((i : ℕ) → lists row.new i ≡ (lists row.old i || (model.is_element node.now && places.hears (λ id. get_by (λ k. bytes_eq id k.now) ids.now) place node.now i))) }
+{
+    if !is_element(node) {
+        return Ok(());
+    }
+    push_heard(row, &node.attrs.begin, ids, place)?;
+    push_heard(row, &node.attrs.end, ids, place)
+}
+
+/// Whether the simple duration is the implicit one.
+fn takes_implicit(attrs: &Attrs) -> bool
+    ensures { result ≡ defaults.takes_implicit attrs.now attrs.now.dur }
+{
+    match attrs.dur {
+        Some(Dur::Media) => true,
+        Some(_) => false,
+        None => attrs.repeat_count.is_some() || attrs.repeat_dur.is_some() || attrs.end.is_none(),
+    }
+}
+
+/// Appends the places of the elements to whose begins or ends the items refer.
+fn push_named(
+    row: &mut Row<usize>,
+    items: &Option<Items>,
+    ids: &HashMap<&[u8], usize>,
+) -> Result<(), AllocError>
+    ensures { OnOk result ((i : ℕ) → lists row.new i ≡ (lists row.old i || leads_to_place (places.named_by (λ id. get_by (λ k. bytes_eq id k.now) ids.now)) (defaults.items_or [] items.now) i)) }
+{
+    let Some(items) = items else {
+        return Ok(());
+    };
+    for k in 0..items.len() {
+        if let Some(item) = items.get(k) {
+            push_one(row, named_by(ids, item))?;
+        }
+    }
+    Ok(())
+}
+
+/// The place of the element to whose begin or end an item refers.
+pub fn named_by(ids: &HashMap<&[u8], usize>, item: &Item) -> Option<usize>
+    ensures { result ≡ places.named_by (λ id. get_by (λ k. bytes_eq id k.now) ids.now) item.now }
+{
+    match item {
+        Item::Sync { who, .. } => ids.get(who.slice()).copied(),
+        _ => None,
+    }
+}
+
+/// Appends the places of the elements whose events or repeats the items of the element at a place mean.
+fn push_heard(
+    row: &mut Row<usize>,
+    items: &Option<Items>,
+    ids: &HashMap<&[u8], usize>,
+    place: usize,
+) -> Result<(), AllocError>
+    ensures { OnOk result ((i : ℕ) → lists row.new i ≡ (lists row.old i || leads_to_place (places.source_of (λ id. get_by (λ k. bytes_eq id k.now) ids.now) place) (defaults.items_or [] items.now) i)) }
+{
+    let Some(items) = items else {
+        return Ok(());
+    };
+    for k in 0..items.len() {
+        if let Some(item) = items.get(k) {
+            push_one(row, source_of(ids, item, place))?;
+        }
+    }
+    Ok(())
+}
+
+/// The place of the element whose event or repeat an item of the element at a place means.
+fn source_of(ids: &HashMap<&[u8], usize>, item: &Item, place: usize) -> Option<usize>
+    ensures { result ≡ places.source_of (λ id. get_by (λ k. bytes_eq id k.now) ids.now) place item.now }
+{
+    match item {
+        Item::Event { who, .. } => target(ids, who, place),
+        Item::Repeat { who, .. } => target(ids, who, place),
+        _ => None,
+    }
+}
+
+/// The place of the element with this id, or the place itself where there is no id.
+fn target(ids: &HashMap<&[u8], usize>, who: &Option<Bytes>, place: usize) -> Option<usize>
+    ensures { result ≡ places.target_place (λ id. get_by (λ k. bytes_eq id k.now) ids.now) place who.now }
+{
+    match who {
+        Some(id) => ids.get(id.slice()).copied(),
+        None => Some(place),
+    }
+}

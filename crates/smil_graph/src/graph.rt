@@ -1,0 +1,203 @@
+//! The graph of a document.
+
+ghost use Rattle.std.specs.Prelude.{◌≡◌, ◌++◌, ℕ, Some, true, take, nat_eq, slice_get, OnOk, OnErr, IfOk};
+ghost use Rattle.std.specs.HashMap.{get};
+ghost use Rattle.smil_model.specs.document.Valid.{IsNumberedTree};
+ghost use Rattle.smil_model.specs.reach.Reach as model;
+ghost use Rattle.smil_graph.specs.Graph.{is_element_of, looped_at, readers_of, IsOrder};
+ghost use Rattle.smil_model.specs.declared.document.Node.{Node as AnyNode};
+ghost use Rattle.smil_graph.specs.Kept.{marked_at, row_of, AreTables};
+ghost use Rattle.smil_graph.specs.Places.{is_element_at};
+
+use super::near::near;
+use super::row::Row;
+use super::search::search;
+use super::tables::{Tables, serials_at, tables_of};
+use smil_model::{Doc, Duplicate, Edge, Serials};
+use smil_tree::Tree;
+use std::alloc::{AllocError, Global};
+use std::collections::HashMap;
+use std::marker::Model;
+
+/// The graph of a document, seen as the document's nodes: which elements read which, which references are looped, and in
+/// what order to take the elements.
+#[derive(Debug, Drop)]
+pub struct Graph {
+    doc: Doc,
+    tables: Tables,
+    alloc: Global,
+}
+
+impl Model for Graph {
+    ghost use Rattle.std.specs.Prelude.{List, nat_eq};
+    ghost use Rattle.std.specs.HashMap.{get};
+    ghost use Rattle.smil_model.specs.declared.document.Node.{Node};
+    ghost use Rattle.smil_model.specs.document.Valid.{IsNumberedTree};
+    ghost use Rattle.smil_graph.specs.Kept.{AreTables};
+
+    ghost Value = { List Node };
+
+    ghost view = { λ a. a.doc.nodes };
+
+    ghost invariant = { λ a. IsNumberedTree a.doc × AreTables a.doc (get nat_eq a.tables.places) a.tables.time_parents.items a.tables.time_children.items a.tables.begins.items a.tables.ends.items a.tables.heads.items a.tables.readers.items a.tables.order };
+}
+
+impl Duplicate for Graph {
+    fn copy(&self) -> Result<Self, AllocError> {
+        Graph::of_doc(self.alloc, &self.doc)
+    }
+}
+
+impl Graph {
+    /// The graph of the document that a tree stands for, unless memory runs out. The time grows about as the number of nodes
+    /// and references.
+    pub fn of(alloc: Global, tree: &Tree) -> Result<Graph, AllocError>
+        ensures { IfOk result (λ graph. graph ≡ tree.now.nodes) }
+    {
+        Graph::over(alloc, tree.doc_copy()?)
+    }
+
+    /// The graph of a document whose nodes are a numbered tree, as those of each valid document are; unless memory runs
+    /// out. It keeps a copy of the document. The time grows about as the number of nodes and references.
+    pub fn of_doc(alloc: Global, doc: &Doc) -> Result<Graph, AllocError>
+        requires { IsNumberedTree doc.now }
+        ensures { IfOk result (λ graph. graph ≡ doc.now.nodes) }
+    {
+        Graph::over(alloc, doc.copy()?)
+    }
+
+    /// The graph of a document that it keeps.
+    fn over(alloc: Global, doc: Doc) -> Result<Graph, AllocError>
+        requires { IsNumberedTree doc }
+        ensures { IfOk result (λ graph. graph ≡ doc.nodes) }
+    {
+        let tables = tables_of(alloc, &doc)?;
+        Ok(Graph { doc, tables, alloc })
+    }
+
+    /// Whether an item, counted from 0, of the begins or ends of an element is a looped reference; false for an item of
+    /// another kind, past the last item, and for a serial of no element. It takes no memory.
+    pub fn looped(&self, serial: u32, side: Edge, item: usize) -> bool
+        ensures { result ≡ looped_at self.now serial side item }
+    {
+        let place = place_of(&self.tables.places, serial);
+        match side {
+            Edge::Begin => is_marked(self.tables.begins.as_slice(), place, item),
+            Edge::End => is_marked(self.tables.ends.as_slice(), place, item),
+        }
+    }
+
+    /// The elements that read an element, in document order: those whose times follow from its times, and those with an
+    /// event or repeat item that means it. It takes no memory.
+    pub fn readers(&self, serial: u32) -> &[u32]
+        requires { is_element_of self.now serial ≡ true }
+        ensures { result.now ≡ readers_of self.now serial }
+    {
+        row_of(
+            self.tables.readers.as_slice(),
+            place_of(&self.tables.places, serial),
+        )
+    }
+
+    /// The elements in an order in which each dependency that is not looped goes forward. It takes no memory.
+    pub fn order(&self) -> &[u32]
+        ensures { IsOrder self.now result.now }
+    {
+        self.tables.order.slice()
+    }
+
+    /// Appends the reach of an element, in document order. Where memory runs out `out` is as before. It takes time and
+    /// memory for what is reached and for those that read it.
+    pub fn down(&self, serial: u32, out: &mut Serials) -> Result<(), AllocError>
+        requires { is_element_of self.now serial ≡ true }
+        ensures ok { OnOk result (out.new ≡ out.old ++ model.down self.now serial) }
+        ensures err { OnErr result (out.new ≡ out.old) }
+    {
+        match place_of(&self.tables.places, serial) {
+            Some(place) => {
+                let reach = reach_at(self.alloc, &self.doc, &self.tables, place)?;
+                append(out, reach.slice())
+            }
+            None => Ok(()),
+        }
+    }
+}
+
+/// The reach of the element at a place, in document order.
+fn reach_at(alloc: Global, doc: &Doc, tables: &Tables, place: usize) -> Result<Row<u32>, AllocError>
+    requires tree { IsNumberedTree doc.now }
+    requires tables { AreTables doc.now (get nat_eq tables.now.places) tables.now.time_parents.items tables.now.time_children.items tables.now.begins.items tables.now.ends.items tables.now.heads.items tables.now.readers.items tables.now.order }
+    requires element { is_element_at doc.now.nodes place ≡ true }
+    ensures { IfOk result (λ reach. (x : AnyNode) → slice_get doc.now.nodes place ≡ Some x → reach ≡ model.down doc.now.nodes x.serial) }
+{
+    let starts = near(
+        alloc,
+        doc,
+        tables.time_parents.as_slice(),
+        tables.time_children.as_slice(),
+        place,
+    )?;
+    let mut found = search(alloc, tables.heads.as_slice(), starts.as_slice())?;
+    found.sort_unstable()?;
+    serials_at(alloc, doc, found.as_slice())
+}
+
+/// Appends these serials. Where memory runs out the list is as before.
+fn append(out: &mut Serials, serials: &[u32]) -> Result<(), AllocError>
+    ensures ok { OnOk result (out.new ≡ out.old ++ serials.now) }
+    ensures err { OnErr result (out.new ≡ out.old) }
+{
+    let len = out.len();
+    let pushed = push_all(out, serials);
+    if pushed.is_err() {
+        out.cut_back(len);
+    }
+    pushed
+}
+
+/// Appends these serials, or some of them where memory runs out.
+fn push_all(out: &mut Serials, serials: &[u32]) -> Result<(), AllocError>
+    ensures ok { OnOk result (out.new ≡ out.old ++ serials.now) }
+    ensures err { OnErr result ((k : ℕ) × (out.new ≡ out.old ++ take k serials.now)) }
+{
+    for serial in serials {
+        out.push(*serial)?;
+    }
+    Ok(())
+}
+
+/// The place of a serial.
+fn place_of(places: &HashMap<u32, usize>, serial: u32) -> Option<usize>
+    ensures { result ≡ get nat_eq places.now serial }
+{
+    places.get(&serial).copied()
+}
+
+/// The row at a place; it is empty where there is none.
+fn row_of(rows: &[Row<u32>], place: Option<usize>) -> &[u32]
+    ensures { result.now ≡ row_of rows.now place }
+{
+    match place {
+        Some(place) => match rows.get(place) {
+            Some(row) => row.slice(),
+            None => &[],
+        },
+        None => &[],
+    }
+}
+
+/// Whether there is a mark at an item of the row at a place.
+fn is_marked(rows: &[Row<bool>], place: Option<usize>, item: usize) -> bool
+    ensures { result ≡ marked_at rows.now place item }
+{
+    match place {
+        Some(place) => match rows.get(place) {
+            Some(row) => match row.slice().get(item) {
+                Some(mark) => *mark,
+                None => false,
+            },
+            None => false,
+        },
+        None => false,
+    }
+}

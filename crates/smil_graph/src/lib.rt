@@ -1,0 +1,21 @@
+//! Which elements' times follow from which, which references are looped, and in what order to take the elements.
+#![tactic(auto)]
+
+mod components;
+mod feeders;
+mod graph;
+mod levels;
+mod looped;
+mod near;
+mod ordered;
+mod outline;
+mod places;
+mod row;
+mod search;
+mod stack;
+mod tables;
+#[cfg(test)]
+mod tests;
+mod turned;
+
+pub use graph::Graph;

@@ -1,0 +1,84 @@
+//! Marks of the items that are looped references.
+
+ghost use Rattle.std.specs.Prelude.{◌≡◌, ◌++◌, ℕ, List, [], map, length, slice_get, OnOk, IfOk, bytes_eq};
+ghost use Rattle.std.specs.HashMap.{get_by};
+ghost use Rattle.smil_model.specs.document.Defaults as defaults;
+ghost use Rattle.smil_graph.specs.Places as places;
+ghost use Rattle.smil_graph.specs.Places.{is_on_level, side_of, IsIndex};
+ghost use Rattle.smil_graph.specs.Kept.{AreElementLevels, AreMarks};
+ghost use Rattle.smil_model.specs.document.Document as model;
+ghost use Rattle.smil_model.specs.document.Valid.{IsDistinct};
+
+use super::feeders::named_by;
+use super::outline::is_element;
+use super::row::{Row, number_at};
+use smil_model::{Doc, Edge, Items, Node};
+use std::alloc::{AllocError, Global};
+use std::collections::HashMap;
+
+/// For each element a mark at each item of one side that is a looped reference: one to an element of the same level.
+pub fn looped_marks(
+    alloc: Global,
+    doc: &Doc,
+    ids: &HashMap<&[u8], usize>,
+    levels: &[usize],
+    side: Edge,
+) -> Result<Vec<Row<bool>>, AllocError>
+    requires distinct { IsDistinct doc.now.nodes }
+    requires ids { IsIndex doc.now.nodes (model.element_named doc.now.nodes) (λ id. get_by (λ k. bytes_eq id k.now) ids.now) }
+    requires levels { AreElementLevels doc.now.nodes levels.now }
+    ensures { IfOk result (λ rows. AreMarks doc.now.nodes side rows.items) }
+{
+    let mut rows = Vec::with_capacity(alloc, doc.len())?;
+    for place in 0..doc.len() {
+        let mut row = Row::new(alloc);
+        if let Some(node) = doc.get(place) {
+            if is_element(node) {
+                push_marks(&mut row, side_of(node, side), ids, levels, place)?;
+            }
+        }
+        rows.push(row)?;
+    }
+    Ok(rows)
+}
+
+/// The items of one side of an element, where it has the attribute.
+fn side_of(node: &Node, side: Edge) -> &Option<Items>
+    ensures { result.now ≡ side_of side node.now }
+{
+    match side {
+        Edge::Begin => &node.attrs.begin,
+        Edge::End => &node.attrs.end,
+    }
+}
+
+/// Appends for each item whether it is a reference of the element at a place to one of the same level.
+fn push_marks(
+    row: &mut Row<bool>,
+    items: &Option<Items>,
+    ids: &HashMap<&[u8], usize>,
+    levels: &[usize],
+    place: usize,
+) -> Result<(), AllocError>
+    ensures { OnOk result (row.new ≡ row.old ++ map (λ item. is_on_level levels.now place (places.named_by (λ id. get_by (λ k. bytes_eq id k.now) ids.now) item)) (defaults.items_or [] items.now)) }
+{
+    let Some(items) = items else {
+        return Ok(());
+    };
+    for k in 0..items.len() {
+        if let Some(item) = items.get(k) {
+            row.push(is_on_level(levels, place, named_by(ids, item)))?;
+        }
+    }
+    Ok(())
+}
+
+/// Whether there is another place, and on the level of this one.
+fn is_on_level(levels: &[usize], place: usize, other: Option<usize>) -> bool
+    ensures { result ≡ is_on_level levels.now place other }
+{
+    match other {
+        Some(other) => number_at(levels, other) == number_at(levels, place),
+        None => false,
+    }
+}

@@ -1,0 +1,206 @@
+//! The tree of a document, by places in document order.
+
+ghost use Rattle.std.specs.Prelude.{◌≡◌, ℕ, ◌<◌, ◌&&◌, Some, None, length, nat_eq, IfOk, IfSome, slice_get};
+ghost use Rattle.std.specs.HashMap.{get};
+ghost use Rattle.smil_model.specs.document.Document as model;
+ghost use Rattle.smil_model.specs.document.Valid.{IsNumberedTree};
+ghost use Rattle.smil_graph.specs.Links.{row, AreRows, IsRising};
+ghost use Rattle.smil_graph.specs.Places.{is_place, up, IsTable, IsIndex, before, is_element_at, element_above, parent_by, previous_of, AreTimeChildren};
+
+use super::row::{Row, push_one, row_at};
+use super::turned::turned;
+use smil_model::{Doc, Kind, Node};
+use std::alloc::{AllocError, Global};
+use std::collections::HashMap;
+
+/// Whether a node is an element.
+pub fn is_element(node: &Node) -> bool
+    ensures { result ≡ model.is_element node.now }
+{
+    match node.kind {
+        Kind::PriorityClass => false,
+        _ => true,
+    }
+}
+
+/// For each node the place of its parent.
+pub fn parents(
+    alloc: Global,
+    doc: &Doc,
+    places: &HashMap<u32, usize>,
+) -> Result<Vec<Option<usize>>, AllocError>
+    requires tree { IsNumberedTree doc.now }
+    requires places { IsIndex doc.now.nodes (model.node_at doc.now.nodes) (get nat_eq places.now) }
+    ensures { IfOk result (λ table. IsTable doc.now.nodes (λ n. model.node_at doc.now.nodes n.parent) table.items) }
+{
+    let mut parents = Vec::with_capacity(alloc, doc.len())?;
+    for place in 0..doc.len() {
+        let parent = parent_of(doc, places, place);
+        parents.push(parent)?;
+    }
+    Ok(parents)
+}
+
+/// The place of the parent of the node at a place.
+fn parent_of(doc: &Doc, places: &HashMap<u32, usize>, place: usize) -> Option<usize>
+    ensures { result ≡ parent_by (get nat_eq places.now) (slice_get doc.now.nodes place) }
+{
+    match doc.get(place) {
+        Some(node) => places.get(&node.parent).copied(),
+        None => None,
+    }
+}
+
+/// For each node the place of its time parent.
+pub fn time_parents(
+    alloc: Global,
+    doc: &Doc,
+    parents: &[Option<usize>],
+) -> Result<Vec<Option<usize>>, AllocError>
+    requires tree { IsNumberedTree doc.now }
+    requires parents { IsTable doc.now.nodes (λ n. model.node_at doc.now.nodes n.parent) parents.now }
+    ensures { IfOk result (λ table. IsTable doc.now.nodes (λ n. model.time_parent doc.now.nodes n.serial) table.items) }
+{
+    let mut above = Vec::with_capacity(alloc, parents.len())?;
+    for place in 0..parents.len() {
+        let next = element_above(doc, place_at(parents, place), above.as_slice());
+        above.push(next)?;
+    }
+    Ok(above)
+}
+
+/// The parent, or its time parent where it is a priorityClass.
+fn element_above(doc: &Doc, parent: Option<usize>, above: &[Option<usize>]) -> Option<usize>
+    ensures { result ≡ element_above doc.now.nodes above.now parent }
+{
+    match parent {
+        Some(place) => {
+            if is_element_at(doc, place) {
+                Some(place)
+            } else {
+                place_at(above, place)
+            }
+        }
+        None => None,
+    }
+}
+
+/// Whether the node at a place is an element.
+pub fn is_element_at(doc: &Doc, place: usize) -> bool
+    ensures { result ≡ is_element_at doc.now.nodes place }
+{
+    match doc.get(place) {
+        Some(node) => is_element(node),
+        None => false,
+    }
+}
+
+/// What a table has at a place.
+pub fn place_at(table: &[Option<usize>], place: usize) -> Option<usize>
+    ensures { result ≡ up table.now place }
+{
+    match table.get(place) {
+        Some(entry) => *entry,
+        None => None,
+    }
+}
+
+/// For each node the places of its time children, in document order.
+pub fn time_children(
+    alloc: Global,
+    doc: &Doc,
+    time_parents: &[Option<usize>],
+) -> Result<Vec<Row<usize>>, AllocError>
+    requires { IsTable doc.now.nodes (λ n. model.time_parent doc.now.nodes n.serial) time_parents.now }
+    ensures count { IfOk result (λ rows. length rows.items ≡ length doc.now.nodes) }
+    ensures children { IfOk result (λ rows. AreTimeChildren doc.now.nodes time_parents.now rows.items) }
+{
+    let under = parent_rows(alloc, doc, time_parents)?;
+    turned(alloc, under.as_slice())
+}
+
+/// For each element a row with the place of its time parent, if it has one; the row of a priorityClass is empty.
+fn parent_rows(
+    alloc: Global,
+    doc: &Doc,
+    time_parents: &[Option<usize>],
+) -> Result<Vec<Row<usize>>, AllocError>
+    ensures { IfOk result (λ rows. AreRows (length doc.now.nodes) (λ p q. is_element_at doc.now.nodes p && is_place q (up time_parents.now p)) rows.items) }
+{
+    let mut rows = Vec::with_capacity(alloc, doc.len())?;
+    for place in 0..doc.len() {
+        let mut row = Row::new(alloc);
+        if is_element_at(doc, place) {
+            push_one(&mut row, place_at(time_parents, place))?;
+        }
+        rows.push(row)?;
+    }
+    Ok(rows)
+}
+
+/// For each node the place of the child before it, where its time parent is a seq.
+pub fn previous_in_seqs(
+    alloc: Global,
+    doc: &Doc,
+    time_parents: &[Option<usize>],
+    time_children: &[Row<usize>],
+) -> Result<Vec<Option<usize>>, AllocError>
+    requires tree { IsNumberedTree doc.now }
+    requires time_parents { IsTable doc.now.nodes (λ n. model.time_parent doc.now.nodes n.serial) time_parents.now }
+    requires time_children { AreTimeChildren doc.now.nodes time_parents.now time_children.now }
+    ensures { IfOk result (λ table. IsTable doc.now.nodes (λ n. model.previous_in_seq doc.now.nodes n.serial) table.items) }
+{
+    let mut table = Vec::with_capacity(alloc, doc.len())?;
+    for place in 0..doc.len() {
+        let entry = previous_of(doc, place_at(time_parents, place), time_children, place);
+        table.push(entry)?;
+    }
+    Ok(table)
+}
+
+/// Under a parent that is a seq, the place of the child before this one.
+fn previous_of(
+    doc: &Doc,
+    parent: Option<usize>,
+    time_children: &[Row<usize>],
+    place: usize,
+) -> Option<usize>
+    requires { (q : ℕ) → IsRising (row time_children.now q) }
+    ensures { result ≡ previous_of doc.now.nodes time_children.now place parent }
+{
+    match parent {
+        Some(parent) => {
+            if is_seq(doc, parent) {
+                one_before(row_at(time_children, parent), place)
+            } else {
+                None
+            }
+        }
+        None => None,
+    }
+}
+
+/// Whether the node at a place is a seq.
+fn is_seq(doc: &Doc, place: usize) -> bool
+    ensures { result ≡ model.has_kind model.is_seq_kind (slice_get doc.now.nodes place) }
+{
+    match doc.get(place) {
+        Some(node) => match node.kind {
+            Kind::Seq => true,
+            _ => false,
+        },
+        None => false,
+    }
+}
+
+/// The one before a place in a rising row; None for the first, and where the row does not have the place.
+fn one_before(row: &[usize], place: usize) -> Option<usize>
+    requires { IsRising row.now }
+    ensures { result ≡ before place None row.now }
+{
+    match row.binary_search(&place) {
+        Ok(0) => None,
+        Ok(at) => Some(row[at - 1]),
+        Err(_) => None,
+    }
+}

@@ -1,0 +1,55 @@
+//! The places of nodes in document order, by serial and by id.
+
+ghost use Rattle.std.specs.Prelude.{◌≡◌, ℕ, List, Some, ◌&&◌, if◌then◌else◌, nat_eq, bytes_eq, IfOk, OnOk};
+ghost use Rattle.std.specs.HashMap.{get, get_by};
+ghost use Rattle.smil_model.specs.document.Document.{node_at, element_named, is_element, has_id};
+ghost use Rattle.smil_graph.specs.Places.{IsIndex};
+
+use super::outline::is_element;
+use smil_model::{Doc, Node};
+use std::alloc::{AllocError, Global};
+use std::collections::HashMap;
+
+/// The place of the first node with each serial.
+pub fn serial_places(alloc: Global, doc: &Doc) -> Result<HashMap<u32, usize>, AllocError>
+    ensures { IfOk result (λ places. IsIndex doc.now.nodes (node_at doc.now.nodes) (get nat_eq places)) }
+{
+    let mut places = HashMap::new(alloc);
+    for behind in 0..doc.len() {
+        let place = doc.len() - 1 - behind;
+        if let Some(node) = doc.get(place) {
+            places.insert(node.serial, place)?;
+        }
+    }
+    Ok(places)
+}
+
+/// The place of the first element with each id.
+pub fn id_places<'a>(alloc: Global, doc: &'a Doc) -> Result<HashMap<&'a [u8], usize>, AllocError>
+    ensures { IfOk result (λ places. IsIndex doc.now.nodes (element_named doc.now.nodes) (λ id. get_by (λ k. bytes_eq id k.now) places)) }
+{
+    let mut places = HashMap::new(alloc);
+    for behind in 0..doc.len() {
+        let place = doc.len() - 1 - behind;
+        if let Some(node) = doc.get(place) {
+            note_id(&mut places, node, place)?;
+        }
+    }
+    Ok(places)
+}
+
+/// Notes the place of an element for its id, if it has one.
+fn note_id<'a>(
+    places: &mut HashMap<&'a [u8], usize>,
+    node: &'a Node,
+    place: usize,
+) -> Result<(), AllocError>
+    ensures { OnOk result ((id : List ℕ) → get_by (λ k. bytes_eq id k.now) places.new ≡ (if is_element node.now && has_id id node.now.attrs.id then Some place else get_by (λ k. bytes_eq id k.now) places.old)) }
+{
+    if is_element(node) {
+        if let Some(id) = &node.attrs.id {
+            places.insert(id.slice(), place)?;
+        }
+    }
+    Ok(())
+}

@@ -1,0 +1,118 @@
+//! What a graph keeps of its document.
+
+ghost use Rattle.std.specs.Prelude.{◌≡◌, List, nat_eq, length, bytes_eq, IfOk};
+ghost use Rattle.std.specs.HashMap.{get, get_by};
+ghost use Rattle.smil_model.specs.document.Document.{element_named};
+ghost use Rattle.smil_model.specs.document.Valid.{IsNumberedTree, IsDistinct};
+ghost use Rattle.smil_model.specs.declared.document.Node.{Node};
+ghost use Rattle.smil_graph.specs.Links.{AreRows, StayBelow};
+ghost use Rattle.smil_graph.specs.Places.{IsIndex, feeds_place};
+ghost use Rattle.smil_graph.specs.Kept.{AreElementLevels, AreHeads, AreReaders, AreTables, serials_of_places};
+
+use super::feeders::{feeders, sources};
+use super::levels::levels;
+use super::looped::looped_marks;
+use super::ordered::ordered;
+use super::outline::{parents, time_children, time_parents};
+use super::places::{id_places, serial_places};
+use super::row::Row;
+use super::turned::turned;
+use smil_model::{Doc, Edge};
+use std::alloc::{AllocError, Global};
+use std::collections::HashMap;
+
+/// What a graph keeps of its document, by places in document order.
+#[derive(Debug, Drop)]
+pub struct Tables {
+    pub places: HashMap<u32, usize>,
+    pub time_parents: Vec<Option<usize>>,
+    pub time_children: Vec<Row<usize>>,
+    pub begins: Vec<Row<bool>>,
+    pub ends: Vec<Row<bool>>,
+    pub heads: Vec<Row<usize>>,
+    pub readers: Vec<Row<u32>>,
+    pub order: Row<u32>,
+}
+
+/// What the graph of a document keeps.
+pub fn tables_of(alloc: Global, doc: &Doc) -> Result<Tables, AllocError>
+    requires { IsNumberedTree doc.now }
+    ensures { IfOk result (λ t. AreTables doc.now (get nat_eq t.places) t.time_parents.items t.time_children.items t.begins.items t.ends.items t.heads.items t.readers.items t.order) }
+{
+    let places = serial_places(alloc, doc)?;
+    let parents = parents(alloc, doc, &places)?;
+    let time_parents = time_parents(alloc, doc, parents.as_slice())?;
+    let time_children = time_children(alloc, doc, time_parents.as_slice())?;
+    let ids = id_places(alloc, doc)?;
+    let feeders = feeders(
+        alloc,
+        doc,
+        time_parents.as_slice(),
+        time_children.as_slice(),
+        &ids,
+    )?;
+    let levels = element_levels(alloc, feeders.as_slice())?;
+    let heads = heads(alloc, doc, feeders.as_slice(), &ids)?;
+    Ok(Tables {
+        begins: looped_marks(alloc, doc, &ids, levels.as_slice(), Edge::Begin)?,
+        ends: looped_marks(alloc, doc, &ids, levels.as_slice(), Edge::End)?,
+        readers: readers(alloc, doc, heads.as_slice())?,
+        order: ordered(alloc, doc, levels.as_slice(), time_parents.as_slice())?,
+        places,
+        time_parents,
+        time_children,
+        heads,
+    })
+}
+
+/// A level for each node, from the rows of what each element's times follow from.
+fn element_levels(alloc: Global, feeders: &[Row<usize>]) -> Result<Vec<usize>, AllocError>
+    requires { StayBelow (length feeders.now) feeders.now }
+    ensures { IfOk result (λ levels. (nodes : List Node) → IsDistinct nodes → AreRows (length nodes) (feeds_place nodes) feeders.now → AreElementLevels nodes levels.items) }
+{
+    let fed = turned(alloc, feeders)?;
+    levels(alloc, fed.as_slice())
+}
+
+/// For each node the places of the elements that read it, in document order.
+fn heads(
+    alloc: Global,
+    doc: &Doc,
+    feeders: &[Row<usize>],
+    ids: &HashMap<&[u8], usize>,
+) -> Result<Vec<Row<usize>>, AllocError>
+    requires distinct { IsDistinct doc.now.nodes }
+    requires feeders { AreRows (length doc.now.nodes) (feeds_place doc.now.nodes) feeders.now }
+    requires ids { IsIndex doc.now.nodes (element_named doc.now.nodes) (λ id. get_by (λ k. bytes_eq id k.now) ids.now) }
+    ensures { IfOk result (λ rows. AreHeads doc.now.nodes rows.items) }
+{
+    let sources = sources(alloc, doc, feeders, ids)?;
+    turned(alloc, sources.as_slice())
+}
+
+/// For each element the serials of those that read it, in document order.
+fn readers(alloc: Global, doc: &Doc, heads: &[Row<usize>]) -> Result<Vec<Row<u32>>, AllocError>
+    requires distinct { IsDistinct doc.now.nodes }
+    requires heads { AreHeads doc.now.nodes heads.now }
+    ensures { IfOk result (λ rows. AreReaders doc.now.nodes rows.items) }
+{
+    let mut rows = Vec::with_capacity(alloc, heads.len())?;
+    for row in heads {
+        let serials = serials_at(alloc, doc, row.slice())?;
+        rows.push(serials)?;
+    }
+    Ok(rows)
+}
+
+/// The serials of the nodes at these places.
+pub fn serials_at(alloc: Global, doc: &Doc, places: &[usize]) -> Result<Row<u32>, AllocError>
+    ensures { IfOk result (λ serials. serials ≡ serials_of_places doc.now.nodes places.now) }
+{
+    let mut serials = Row::new(alloc);
+    for place in places {
+        if let Some(node) = doc.get(*place) {
+            serials.push(node.serial)?;
+        }
+    }
+    Ok(serials)
+}
