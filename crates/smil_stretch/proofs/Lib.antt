@@ -1,0 +1,12 @@
+pub mod Moments
+pub mod Diaries
+pub mod Above
+pub mod Placed
+pub mod Told
+pub mod Turned
+pub mod Left
+pub mod Refreshed
+pub mod Turning
+pub mod Tabled
+pub mod Idle
+pub mod Samples

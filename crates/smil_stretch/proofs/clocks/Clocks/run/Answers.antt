@@ -1,0 +1,15 @@
+use Rattle.std.proofs.Common.{rules, ap, ◌∙◌}
+use mir.Syntax.{w64}
+use mir.Val.{SFits}
+use Rattle.std.proofs.lemmas.Int.{to_z-of_z}
+use Rattle.smil_stretch.specs.Kept.{shown_by}
+use Rattle.smil_stretch.proofs.Told.{run_told}
+use Rattle.smil_stretch.proofs.clocks.Clocks.run.Goals as goal
+
+pub returns-clause-value : goal.returns-clause-value
+returns-clause-value c = λ h are le.
+    let fits : SFits w64 c.shown_by.result = search rules in
+    to_z-of_z w64 c.shown_by.result fits ∙ c.shown_by.ensures.value
+    ∙ ap (shown_by c.clock.result) (to_z-of_z w64 c.args.moment c.ranges.moment)
+    ∙ ap (λ n. shown_by n c.args.moment) c.clock.ensures.value
+    ∙ run_told c.args.self.now h are c.args.who c.args.moment le

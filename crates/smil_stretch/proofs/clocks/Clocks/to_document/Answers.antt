@@ -1,0 +1,13 @@
+use Rattle.std.proofs.Common.{◌≡◌, ℤ, subst, arith}
+use Rattle.std.specs.Prelude.{◌≤ℤ◌}
+use mir.Syntax.{w64}
+use Rattle.std.proofs.lemmas.Int.{ints, to_z-of_z}
+use Rattle.smil_model.specs.diary.Clocks.{outer}
+use Rattle.smil_stretch.specs.Clocks.{last_moment}
+use Rattle.smil_stretch.proofs.clocks.Clocks.to_document.Goals as goal
+
+pub returns : goal.returns
+returns c = λ h are le.
+    let outer_is : c.outer.result ≡ outer h c.args.who c.args.moment =
+    subst (λ (m : ℤ). last_moment h.diary ≤ℤ m → c.outer.result ≡ outer h c.args.who m) (to_z-of_z w64 c.args.moment c.ranges.moment) (c.outer.ensures.value h are) le in
+    omega (arith, ints, outer_is)

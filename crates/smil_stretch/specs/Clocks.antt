@@ -1,0 +1,112 @@
+-- The clocks of a document after what has happened so far: one for each node, which runs or stands since the last entry.
+use Rattle.std.specs.Prelude.{◌≡◌, ℕ, ℤ, pos, neg_ℤ, ◌-ℤ◌, ◌≤ℤ◌, List, [], ◌∷◌, ◌++◌, map, fold, Bool, true, false, ◌&&◌, ◌==◌, Option, option_and_then}
+use Rattle.std.specs.List.{position}
+use Rattle.smil_model.specs.declared.times.TheConstants.{HORIZON}
+use Rattle.smil_model.specs.declared.diary.Entry.{Entry}
+use Rattle.smil_model.specs.declared.diary.Step.{Step}
+use Rattle.smil_model.specs.declared.diary.Step.TheVariants.{Resumed, Ended, Cut}
+use Rattle.smil_model.specs.declared.document.Node.{Node}
+use Rattle.smil_model.specs.document.Document.{Document, is_element, time_parent}
+use Rattle.smil_model.specs.document.Valid.{IsNumberedTree}
+use Rattle.smil_model.specs.diary.Diary.{History, is_paused, up_to}
+use Rattle.smil_model.specs.diary.Lawful.{IsLawful}
+use Rattle.smil_model.specs.diary.Clocks.{run, stands}
+use Rattle.smil_stretch.specs.declared.clock.Clock.{Clock}
+use Rattle.smil_stretch.specs.declared.clock.Clock.TheVariants.{Runs, Stands}
+use Rattle.smil_stretch.specs.declared.clock.NodeClock.{NodeClock}
+
+-- a moment from the first to the horizon
+pub record IsMoment (moment : ℤ) : Type 0 where
+  pub low : pos 0 ≤ℤ moment
+  pub high : moment ≤ℤ HORIZON
+
+-- a time not farther from the first moment than the horizon is, before it or after it
+pub record IsNear (time : ℤ) : Type 0 where
+  pub low : neg_ℤ HORIZON ≤ℤ time
+  pub high : time ≤ℤ HORIZON
+
+-- a time on a clock that can be carried to another: from -10^13 to 10^13
+pub record IsCarried (time : ℤ) : Type 0 where
+  pub low : neg_ℤ (pos 10_000_000_000_000) ≤ℤ time
+  pub high : time ≤ℤ pos 10_000_000_000_000
+
+-- what a clock shows at a moment
+abbrev pub shown : Clock → ℤ → ℤ
+shown (Runs lost) moment = moment -ℤ lost
+shown (Stands at) moment = at
+
+-- whether a clock stands
+abbrev pub is_standing : Clock → Bool
+is_standing (Runs lost) = false
+is_standing (Stands at) = true
+
+-- the clock that shows a time at a moment, and stands or runs from then on
+abbrev pub clock_by : Bool → ℤ → ℤ → Clock
+clock_by true time moment = Stands time
+clock_by false time moment = Runs (moment -ℤ time)
+
+-- the moment of the last entry, and 0 where there is none
+abbrev pub last_moment : List Entry → ℤ
+last_moment diary = fold (λ before (x : Entry). x.moment) (pos 0) diary
+
+-- the clock of an element since the last entry
+abbrev pub clock_of : History → ℕ → Clock
+clock_of h serial = clock_by (stands h serial) (run h serial (last_moment h.diary)) (last_moment h.diary)
+
+-- the place of the time parent in document order
+abbrev pub parent_place : List Node → ℕ → Option ℕ
+parent_place nodes serial =
+    option_and_then (λ (p : Node). position (λ (n : Node). n.serial == p.serial) nodes) (time_parent nodes serial)
+
+-- the clock of a node, which for a priorityClass is that of its excl
+abbrev pub node_clock : History → Node → NodeClock
+node_clock h n = record {
+  serial = n.serial;
+  parent = parent_place h.nodes n.serial;
+  paused = is_element n && is_paused h.diary n.serial;
+  clock = clock_of h n.serial;
+}
+
+-- the clocks of all nodes, in document order
+abbrev pub clocks_of : History → List NodeClock
+clocks_of h = map (node_clock h) h.nodes
+
+-- the history with one entry more
+abbrev pub with_entry : History → Entry → History
+with_entry h y = up_to h (h.diary ++ y ∷ [])
+
+-- a history of this document with this diary, which is lawful for it
+pub record IsHistoryOf (h : History) (document : Document) (diary : List Entry) : Type 0 where
+  pub same_nodes : h.nodes ≡ document.nodes
+  pub same_diary : h.diary ≡ diary
+  pub lawful : IsLawful h
+
+pub record IsLawfulFor (document : Document) (diary : List Entry) : Type 0 where
+  pub past : History
+  pub history : IsHistoryOf past document diary
+
+-- these are the clocks of a history whose document is one tree in order and whose diary is lawful for it
+pub record AreClocksOf (clocks : List NodeClock) (h : History) : Type 0 where
+  pub next : ℕ
+  pub document : IsNumberedTree (record { nodes = h.nodes; next = next })
+  pub lawful : IsLawful h
+  pub value : clocks ≡ clocks_of h
+
+-- the clocks of a history that this entry may follow
+pub record MayFollow (clocks : List NodeClock) (entry : Entry) : Type 0 where
+  pub past : History
+  pub known : AreClocksOf clocks past
+  pub lawful : IsLawful (with_entry past entry)
+
+-- a resume, an end or a cut of the element, by which it is no longer paused
+abbrev pub ends_pause : ℕ → Step → Bool
+ends_pause serial (Resumed who) = who == serial
+ends_pause serial (Ended who end') = who == serial
+ends_pause serial (Cut who) = who == serial
+ends_pause serial _ = false
+
+-- the clocks of a history in which the element's pause may end at this moment
+pub record MayEndPause (clocks : List NodeClock) (serial : ℕ) (moment : ℤ) : Type 0 where
+  pub step : Step
+  pub ends : ends_pause serial step ≡ true
+  pub follows : MayFollow clocks (record { moment = moment; step = step })

@@ -1,0 +1,4 @@
+pub mod Clocks
+pub mod Kept
+pub mod Laws
+pub mod Sample
