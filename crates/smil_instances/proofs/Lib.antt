@@ -1,0 +1,16 @@
+pub mod Begins
+pub mod InOrder
+pub mod Logs
+pub mod Merge
+pub mod Moment
+pub mod Note
+pub mod Passes
+pub mod Places
+pub mod Resets
+pub mod Rising
+pub mod Serials
+pub mod Sides
+pub mod Tables
+pub mod Times
+pub mod Told
+pub mod Untouched
