@@ -20,7 +20,7 @@ const TIMES: u32 = 20;
 
 /// The line of an element with four references, two of them to an element far away.
 fn scattered(alloc: Global, k: usize, count: usize) -> Result<String, AllocError> {
-    let other = 2 + k.wrapping_mul(7919) % count.max(1);
+    let other = (k.wrapping_mul(7919) % count.saturating_sub(2).max(1)).wrapping_add(2);
     format!(in alloc; "  img id=\"s{k}\" begin=\"s{other}.begin+1s;s{other}.end\" end=\"s{k}.click;root.click\"")
 }
 
@@ -77,4 +77,5 @@ fn main(rt: HostRuntime) -> io::Result<()> {
 }
 RT
 cd "$program"
-rt run 2>&1 | tail -n 4
+rt run > "$work/log" 2>&1 || tail -n 40 "$work/log"
+grep ' microseconds$' "$work/log"
