@@ -117,6 +117,24 @@ impl Clocks {
         self.turn(who, false, moment);
     }
 
+    /// Takes in an entry of any kind, which may follow what has happened so far. A pause, and a resume, an end or a cut of a
+    /// paused element change clocks; every other entry leaves all as they are, in a fixed number of steps. It takes no memory,
+    /// and touches the clocks of the entry's element and of those below it alone.
+    pub fn follow(&mut self, entry: Entry)
+        requires { MayFollow self.old entry }
+        ensures { (h : History) → AreClocksOf self.old h → IsLawful (with_entry h entry) → AreClocksOf self.new (with_entry h entry) }
+    {
+        match entry.step {
+            Step::Paused { who } => self.pause(who, entry.moment),
+            Step::Resumed { who } | Step::Ended { who, .. } | Step::Cut { who } => {
+                if self.is_paused(who) {
+                    self.resume(who, entry.moment);
+                }
+            }
+            _ => {}
+        }
+    }
+
     /// A value on the clock of the element's time parent, in document time, at a moment from 0 to 10^12. The value is from
     /// -10^13 to 10^13. It takes no memory.
     pub fn to_document(&self, who: u32, value: i64, moment: i64) -> i64
@@ -181,22 +199,6 @@ impl Clocks {
         match self.clock(who) {
             Some(node) => node.paused,
             None => false,
-        }
-    }
-
-    /// Takes in an entry.
-    fn follow(&mut self, entry: Entry)
-        requires { MayFollow self.old entry }
-        ensures { (h : History) → AreClocksOf self.old h → IsLawful (with_entry h entry) → AreClocksOf self.new (with_entry h entry) }
-    {
-        match entry.step {
-            Step::Paused { who } => self.pause(who, entry.moment),
-            Step::Resumed { who } | Step::Ended { who, .. } | Step::Cut { who } => {
-                if self.is_paused(who) {
-                    self.resume(who, entry.moment);
-                }
-            }
-            _ => {}
         }
     }
 
