@@ -5,7 +5,7 @@ ghost use Rattle.smil_tree.specs.Sample.{named, sample};
 
 use super::Tree;
 use crate::fault::TreeFault;
-use smil_model::{Attr, Attrs, Bytes, DEPTH, Doc, Duplicate, Kind, NODES, Node, Who};
+use smil_model::{Attr, AttrName, Attrs, Bytes, DEPTH, Doc, Duplicate, Kind, NODES, Node, Who};
 use std::alloc::{AllocError, Global};
 use std::test::Fail;
 
@@ -103,6 +103,30 @@ fn take(tree: &mut Tree, serial: u32) -> Option<Result<(), TreeFault>> {
 fn kin(tree: &Tree, serial: u32, k: usize) -> Option<(Option<u32>, Option<u32>)> {
     tree.find(&Who::Serial(serial))?;
     Some((tree.time_parent(serial), tree.time_child(serial, k)))
+}
+
+// The kind of a node, and whether it has an id.
+fn kind_and_id(tree: &Tree, serial: u32) -> Option<(Kind, bool)> {
+    tree.find(&Who::Serial(serial))?;
+    Some((tree.kind(serial), tree.attrs(serial).id.is_some()))
+}
+
+// Takes the id of a node that is there away.
+fn take_id(tree: &mut Tree, serial: u32) -> Option<()> {
+    tree.find(&Who::Serial(serial))?;
+    tree.unset(serial, AttrName::Id);
+    Some(())
+}
+
+#[test]
+fn an_id_is_taken_away(rt: HostRuntime) -> Result<(), Fail> {
+    let mut tree = tree(rt.alloc())?;
+    assert_eq!(rt; kind_and_id(&tree, 4), Some((Kind::Audio, true)));
+    assert_eq!(rt; take_id(&mut tree, 4), Some(()));
+    assert_eq!(rt; kind_and_id(&tree, 4), Some((Kind::Audio, false)));
+    assert_eq!(rt; kind_and_id(&tree, 5), Some((Kind::Img, true)));
+    assert_eq!(rt; tree.find(&Who::Id(Bytes::of(rt.alloc(), b"a")?)), None);
+    Ok(())
 }
 
 #[test]
