@@ -1,0 +1,14 @@
+pub mod Cells
+pub mod Concern
+pub mod Contract
+pub mod Expected
+pub mod Laws
+pub mod Merged
+pub mod Order
+pub mod Orders
+pub mod Passes
+pub mod Rising
+pub mod Settled
+pub mod Sources
+pub mod Table
+pub mod TakenIn

@@ -1,0 +1,57 @@
+//! Laws of what is kept. A function here has no code: its contract is the law.
+
+ghost use Rattle.smil_kept.specs.Laws.{KeptByEachEntry, KeepsWhatIsSettled, LeavesUnconcerned, LogMayGrow, RowsTellInstances};
+ghost use Rattle.smil_kept.specs.Expected.{InstancesAreMerged};
+ghost use Rattle.smil_kept.specs.Passes.{TakenInByTwoPasses};
+ghost use Rattle.smil_kept.specs.TakenIn.{EntriesAreTakenIn, OnlyConcernedChange, BasesAreElements};
+
+/// What is kept for an item after one more entry is what was kept, with the entry's time added and without what a
+/// reset takes out.
+pub fn each_entry_is_taken_in()
+    ensures { KeptByEachEntry }
+{}
+
+/// What is kept for an item has the times that the definition gives where no current interval is known.
+pub fn kept_times_are_settled()
+    ensures { KeepsWhatIsSettled }
+{}
+
+/// An entry changes only what is kept for the items that it concerns.
+pub fn unconcerned_items_stay()
+    ensures { LeavesUnconcerned }
+{}
+
+/// The instance times of an element are those that are kept, with the expected ones put in their places.
+pub fn instances_are_merged()
+    ensures { InstancesAreMerged }
+{}
+
+/// What is kept goes by those log entries alone that were heard.
+pub fn log_may_grow()
+    ensures { LogMayGrow }
+{}
+
+/// An entry is taken in by two passes: times are added, and what a reset takes out is cut.
+pub fn entries_are_taken_in_by_two_passes()
+    ensures { TakenInByTwoPasses }
+{}
+
+/// Of a history the rows tell the instance times that follow from no current interval.
+pub fn rows_tell_instances()
+    ensures { RowsTellInstances }
+{}
+
+/// What is kept for an item after one more entry is what was kept and what the entry gives, without what a birth takes out.
+pub fn entries_are_taken_in()
+    ensures { EntriesAreTakenIn }
+{}
+
+/// An entry changes what is kept for those items alone whose source, or whose births, it is of.
+pub fn only_concerned_items_change()
+    ensures { OnlyConcernedChange }
+{}
+
+/// The elements that items name are elements of the document.
+pub fn bases_are_elements()
+    ensures { BasesAreElements }
+{}
