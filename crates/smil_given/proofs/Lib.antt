@@ -1,0 +1,5 @@
+pub mod Sums
+pub mod EdgeTimes
+pub mod Births
+pub mod BySource
+pub mod LastEntry
