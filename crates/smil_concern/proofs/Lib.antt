@@ -1,0 +1,7 @@
+mod Begun
+mod Growth
+mod Lists
+mod Named
+mod Samples
+mod Siblings
+mod Spreading

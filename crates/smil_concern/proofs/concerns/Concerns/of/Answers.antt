@@ -1,0 +1,16 @@
+use Rattle.std.proofs.Common.{◌≡◌, sym, subst, ap, ◌∙◌, ◌++◌, drop, length, List, ℕ, take, arith}
+use Rattle.std.proofs.Math.Seq.{take-append_seam}
+use Rattle.smil_concern.specs.Concerns.{AreConcernsOf, Concerned}
+use Rattle.smil_concern.proofs.Spreading.{all_concerned}
+use Rattle.smil_concern.proofs.concerns.Concerns.of.Goals as goal
+
+pub returns : goal.returns
+returns c =
+    let nodes = c.args.tree.now.nodes in
+    let new = c.fill.new.rows in
+    let old : List Concerned = c.deref_mut.result.now in
+    let long : length new ≡ c.in_ok-rows.rows.len = omega (arith, c.in_ok-fill.ensures.rows, c.deref_mut.ensures.len, c.in_ok-rows.rows.ok.0) in
+    let rest = drop (length new) c.in_ok-rows.rows.items in
+    let same : new ≡ take c.in_ok-rows.rows.len (new ++ rest) = sym (ap (λ (k : ℕ). take k (new ++ rest)) (sym long) ∙ take-append_seam new rest) in
+    subst (λ (rows : List Concerned). AreConcernsOf nodes rows) same
+    (all_concerned nodes old new (c.deref_mut.ensures.value ∙ c.in_ok-rows.ensures) c.in_ok-fill.ensures)

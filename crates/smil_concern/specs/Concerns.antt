@@ -1,0 +1,51 @@
+-- What is kept of a document: for each element the sources of its items, and the cells of the items that an entry on it can
+-- concern.
+use Rattle.std.specs.Prelude.{◌≡◌, ℕ, List, [], Bool, true, false, Option, Some, None, slice_get}
+use Rattle.smil_model.specs.declared.document.Node.{Node}
+use Rattle.smil_model.specs.declared.document.Edge.{Edge}
+use Rattle.smil_model.specs.declared.document.Edge.TheVariants.{Begin, End}
+use Rattle.smil_model.specs.document.Document.{elements}
+use Rattle.smil_kept.specs.declared.source.Source.{Source}
+use Rattle.smil_kept.specs.declared.source.Source.TheVariants as source
+use Rattle.smil_kept.specs.declared.table.Cell.{Cell}
+use Rattle.smil_kept.specs.Sources.{AreThose, concerns_cell, source_at}
+
+-- of an element: the sources of its begin and end items, the items that name it, and the items that its begin or repeat can
+-- concern, which are those that name it and those for which it is a birth
+pub record Concerned : Type 0 where
+  pub begins : List Source
+  pub ends : List Source
+  pub readers : List Cell
+  pub births : List Cell
+
+abbrev pub sources_of : Concerned → Edge → List Source
+sources_of row Begin = row.begins
+sources_of row End = row.ends
+
+abbrev pub source_or : Option Source → Source
+source_or None = source.Nothing
+source_or (Some s) = s
+
+abbrev pub source_under : Cell → Option Concerned → Source
+source_under cell None = source.Nothing
+source_under cell (Some row) = source_or (slice_get (sources_of row cell.side) cell.item)
+
+-- the source of a cell's item; nothing where there is no such item
+abbrev pub source_in : List Concerned → Cell → Source
+source_in concerns cell = source_under cell (slice_get concerns cell.row)
+
+abbrev pub cells_of : Bool → Option Concerned → List Cell
+cells_of is_birth None = []
+cells_of true (Some row) = row.births
+cells_of false (Some row) = row.readers
+
+-- the cells that an entry on the element at a place can concern
+abbrev pub cells_in : List Concerned → ℕ → Bool → List Cell
+cells_in concerns row is_birth = cells_of is_birth (slice_get concerns row)
+
+-- these are the sources and the cells of a document
+pub record AreConcernsOf (nodes : List Node) (concerns : List Concerned) : Type 0 where
+  pub sources : (cell : Cell) → source_in concerns cell ≡ source_at nodes cell
+  pub cells :
+      (row : ℕ) (x : Node) (is_birth : Bool) → slice_get (elements nodes) row ≡ Some x
+      → AreThose (concerns_cell nodes is_birth x.serial) (cells_in concerns row is_birth)

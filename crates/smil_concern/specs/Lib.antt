@@ -1,0 +1,3 @@
+pub mod Concerns
+pub mod Sample
+pub mod Spread

@@ -1,0 +1,96 @@
+//! What is kept of an element.
+
+ghost use Rattle.std.specs.Prelude.{◌≡◌, List, [], ◌∷◌, ◌++◌, length, slice_get, OnOk, IfOk, if◌then◌else◌};
+ghost use Rattle.smil_concern.specs.Concerns.{cells_of, source_or, sources_of};
+ghost use Rattle.smil_concern.specs.Spread.{with_one, without_cells};
+
+use smil_kept::{Cell, Source};
+use smil_model::{Duplicate, Edge};
+use std::alloc::{AllocError, Global};
+use std::marker::Model;
+
+/// The sources of an element's items, the items that name it, and the items that its begin or repeat can concern.
+#[derive(Drop)]
+pub struct ConcernedRow {
+    begins: Vec<Source>,
+    ends: Vec<Source>,
+    readers: Vec<Cell>,
+    births: Vec<Cell>,
+}
+
+impl Model for ConcernedRow {
+    ghost use Rattle.smil_concern.specs.Concerns.{Concerned};
+
+    ghost Value = { Concerned };
+
+    ghost view = { λ a. record { begins = a.begins.items; ends = a.ends.items; readers = a.readers.items; births = a.births.items } };
+}
+
+impl Duplicate for ConcernedRow {
+    fn copy(&self) -> Result<Self, AllocError> {
+        let alloc = *self.begins.allocator();
+        Ok(ConcernedRow {
+            begins: Vec::from_slice(alloc, &self.begins)?,
+            ends: Vec::from_slice(alloc, &self.ends)?,
+            readers: Vec::from_slice(alloc, &self.readers)?,
+            births: Vec::from_slice(alloc, &self.births)?,
+        })
+    }
+}
+
+impl ConcernedRow {
+    /// The row of an element whose items have these sources, and which concerns no item. It takes no memory.
+    pub fn new(alloc: Global, begins: Vec<Source>, ends: Vec<Source>) -> ConcernedRow
+        ensures { result ≡ without_cells begins.items ends.items }
+    {
+        ConcernedRow {
+            begins,
+            ends,
+            readers: Vec::new(alloc),
+            births: Vec::new(alloc),
+        }
+    }
+
+    /// The sources of the items of one side. It takes no memory.
+    pub fn sources(&self, side: Edge) -> &[Source]
+        ensures { result.now ≡ sources_of self.now side }
+    {
+        match side {
+            Edge::Begin => &self.begins,
+            Edge::End => &self.ends,
+        }
+    }
+
+    /// The source of an item; nothing where there is no such item. It takes no memory.
+    pub fn source(&self, side: Edge, item: usize) -> Source
+        ensures { result ≡ source_or (slice_get (sources_of self.now side) item) }
+    {
+        match self.sources(side).get(item) {
+            Some(source) => *source,
+            None => Source::Nothing,
+        }
+    }
+
+    /// The cells that an entry on the element can concern, which is a birth or not. It takes no memory.
+    pub fn cells(&self, is_birth: bool) -> &[Cell]
+        ensures { result.now ≡ cells_of is_birth (Some self.now) }
+    {
+        if is_birth {
+            &self.births
+        } else {
+            &self.readers
+        }
+    }
+
+    /// Appends a cell to those that an entry on the element can concern, which is a birth or not.
+    pub fn push(&mut self, is_birth: bool, cell: Cell) -> Result<(), AllocError>
+        ensures { OnOk result (self.new ≡ with_one self.old is_birth cell) }
+    {
+        if is_birth {
+            self.births.push(cell)?;
+        } else {
+            self.readers.push(cell)?;
+        }
+        Ok(())
+    }
+}
