@@ -1,0 +1,11 @@
+mod Concerned
+mod Extents
+mod Following
+mod Gifts
+mod Hands
+mod Placed
+mod Readings
+mod Rebuilt
+mod Starting
+mod Taken
+mod Updates

@@ -1,0 +1,12 @@
+use Rattle.std.proofs.Common.{◌≡◌, take}
+use Rattle.smil_stretch.specs.Clocks.{AreClocksOf}
+use Rattle.smil_kept.specs.Settled.{settled_rows}
+use Rattle.smil_instances.specs.Taking.{history_of}
+use Rattle.smil_instances.proofs.instances.rows_of.Given as goal
+
+-- the rows and the clocks of the first entries
+abbrev pub invariant-loop-place : goal.invariant-loop-place
+invariant-loop-place l =
+    (l.rows ≡ settled_rows (history_of l.tree l.log (take l.place l.book)))
+    × (l.front ≡ take l.place l.book)
+    × AreClocksOf l.clocks (history_of l.tree l.log (take l.place l.book))

@@ -1,0 +1,177 @@
+//! The rows of a document to which nothing has happened yet.
+
+ghost use Rattle.std.specs.Prelude.{◌≡◌, List, [], ◌∷◌, length, map, OnOk, IfOk, IsSome, Some, None, slice_get};
+ghost use Rattle.smil_model.specs.declared.diary.LogEntry.{LogEntry as AnyLogEntry};
+ghost use Rattle.smil_model.specs.declared.document.Node.{Node as AnyNode};
+ghost use Rattle.smil_model.specs.declared.document.Edge.{Edge as AnyEdge};
+ghost use Rattle.smil_model.specs.declared.document.Edge.TheVariants as edge;
+ghost use Rattle.smil_model.specs.declared.document.Item.TheVariants as item;
+ghost use Rattle.smil_model.specs.document.Document.{Document, elements, is_element, node_at};
+ghost use Rattle.smil_model.specs.document.Defaults.{begin_list, end_list};
+ghost use Rattle.smil_kept.specs.Cells.{side_of};
+ghost use Rattle.smil_kept.specs.Settled.{kept_of, row_of, settled_rows};
+ghost use Rattle.smil_kept.specs.Sources.{source_of};
+ghost use Rattle.smil_kept.specs.declared.source.Source.TheVariants as from;
+ghost use Rattle.smil_concern.specs.Concerns.{AreConcernsOf};
+ghost use Rattle.smil_instances.specs.Idle.{IsElementAt, IsListOf, idle_kept, with_items};
+ghost use Rattle.smil_instances.specs.Taking.{history_of};
+
+use smil_concern::Concerns;
+use smil_kept::{Cell, Kept, KeptRow, Rows, Source};
+use smil_model::{Edge, Item, Items, Kind, Time, later};
+use smil_tree::Tree;
+use std::alloc::{AllocError, Global};
+
+/// The rows of a document to which nothing has happened yet.
+pub(crate) fn idle_rows(alloc: Global, tree: &Tree, concerns: &Concerns) -> Result<Rows, AllocError>
+    requires { AreConcernsOf tree.now.nodes concerns.now }
+    ensures { (log : List AnyLogEntry) → IfOk result (λ rows. rows ≡ settled_rows (history_of tree.now log [])) }
+{
+    tree.valid();
+    let mut rows = Rows::new(alloc);
+    let mut node = 0;
+    while let Some(serial) = tree.serial_at(node) {
+        if is_element(tree, serial) {
+            let row = idle_row(alloc, tree, concerns, rows.len(), serial)?;
+            rows.push(row)?;
+        }
+        node += 1;
+    }
+    Ok(rows)
+}
+
+/// Whether a node is an element.
+fn is_element(tree: &Tree, serial: u32) -> bool
+    requires { IsSome (node_at tree.now.nodes serial) }
+    ensures { (n : AnyNode) → node_at tree.now.nodes serial ≡ Some n → result ≡ is_element n }
+{
+    !matches!(tree.kind(serial), Kind::PriorityClass)
+}
+
+/// The row of the element at a place among the elements.
+fn idle_row(
+    alloc: Global,
+    tree: &Tree,
+    concerns: &Concerns,
+    place: usize,
+    serial: u32,
+) -> Result<KeptRow, AllocError>
+    requires concerns { AreConcernsOf tree.now.nodes concerns.now }
+    requires element { IsElementAt tree.now.nodes place serial }
+    ensures { (log : List AnyLogEntry) (e : AnyNode) → slice_get (elements tree.now.nodes) place ≡ Some e → IfOk result (λ row. row ≡ row_of (history_of tree.now log []) e) }
+{
+    let mut row = KeptRow::new(alloc, serial);
+    let attrs = tree.attrs(serial);
+    push_begins(&mut row, concerns, place, &attrs.begin)?;
+    push_ends(&mut row, concerns, place, &attrs.end)?;
+    Ok(row)
+}
+
+/// Appends the items of the begin list of an element, with this `begin`, to a row without begins.
+fn push_begins(
+    row: &mut KeptRow,
+    concerns: &Concerns,
+    place: usize,
+    begin: &Option<Items>,
+) -> Result<(), AllocError>
+    requires { row.old.begins ≡ [] }
+    ensures { (document : Document) (log : List AnyLogEntry) (e : AnyNode) → AreConcernsOf document.nodes concerns.now → slice_get (elements document.nodes) place ≡ Some e → e.attrs.begin ≡ begin.now → OnOk result (row.new ≡ with_items row.old edge.Begin (map (kept_of (history_of document log []) e edge.Begin) (begin_list document.nodes e))) }
+{
+    match begin {
+        Some(items) => push_list(row, concerns, place, Edge::Begin, items),
+        None => push_default(row, concerns, place),
+    }
+}
+
+/// Appends the items of the end list of an element, with this `end`, to a row without ends.
+fn push_ends(
+    row: &mut KeptRow,
+    concerns: &Concerns,
+    place: usize,
+    end: &Option<Items>,
+) -> Result<(), AllocError>
+    requires { row.old.ends ≡ [] }
+    ensures { (document : Document) (log : List AnyLogEntry) (e : AnyNode) → AreConcernsOf document.nodes concerns.now → slice_get (elements document.nodes) place ≡ Some e → e.attrs.«end» ≡ end.now → OnOk result (row.new ≡ with_items row.old edge.End (map (kept_of (history_of document log []) e edge.End) (end_list e))) }
+{
+    match end {
+        Some(items) => push_list(row, concerns, place, Edge::End, items),
+        None => Ok(()),
+    }
+}
+
+/// Appends the items of a begin or end list to a row that has none on that side.
+fn push_list(
+    row: &mut KeptRow,
+    concerns: &Concerns,
+    place: usize,
+    side: Edge,
+    items: &Items,
+) -> Result<(), AllocError>
+    requires { side_of row.old side ≡ [] }
+    ensures { (document : Document) (log : List AnyLogEntry) (e : AnyNode) → AreConcernsOf document.nodes concerns.now → IsListOf document.nodes place e side items.now → OnOk result (row.new ≡ with_items row.old side (map (kept_of (history_of document log []) e side) items.now)) }
+{
+    for item in 0..items.len() {
+        let source = concerns.source(Cell {
+            row: place,
+            side,
+            item,
+        });
+        let time = idle_time(items.get(item).unwrap(), side, source);
+        push_item(row, side, item, time)?;
+    }
+    Ok(())
+}
+
+/// Appends the item that stands for a begin list where there is none to a row without begins: an offset of 0, or
+/// `indefinite` in a child of an excl, whose source is nothing.
+fn push_default(row: &mut KeptRow, concerns: &Concerns, place: usize) -> Result<(), AllocError>
+    requires { row.old.begins ≡ [] }
+    ensures { (document : Document) (log : List AnyLogEntry) (e : AnyNode) → AreConcernsOf document.nodes concerns.now → slice_get (elements document.nodes) place ≡ Some e → e.attrs.begin ≡ None → OnOk result (row.new ≡ with_items row.old edge.Begin (map (kept_of (history_of document log []) e edge.Begin) (begin_list document.nodes e))) }
+{
+    let source = concerns.source(Cell {
+        row: place,
+        side: Edge::Begin,
+        item: 0,
+    });
+    push_item(row, Edge::Begin, 0, time_from_start(source, 0))
+}
+
+/// Appends an item to a side that has so many, with the time that is known for it before the first entry, if any.
+fn push_item(
+    row: &mut KeptRow,
+    side: Edge,
+    item: usize,
+    time: Option<Time>,
+) -> Result<(), AllocError>
+    requires { item ≡ length (side_of row.old side) }
+    ensures { OnOk result (row.new ≡ with_items row.old side (idle_kept time ∷ [])) }
+{
+    row.push_item(side)?;
+    match time {
+        Some(time) => row.add(side, item, Kept { place: 0, time }),
+        None => Ok(()),
+    }
+}
+
+/// The time that is known for an item with this source before the first entry: an offset's from the start of the time
+/// parent, and an `indefinite` end.
+fn idle_time(item: &Item, side: Edge, source: Source) -> Option<Time>
+    ensures { (document : Document) (log : List AnyLogEntry) (e : AnyNode) → source ≡ source_of document.nodes e.serial item.now → kept_of (history_of document log []) e side item.now ≡ idle_kept result }
+{
+    match (item, side) {
+        (Item::Offset { offset }, _) => time_from_start(source, *offset),
+        (Item::Indefinite, Edge::End) => Some(Time::Indefinite),
+        _ => None,
+    }
+}
+
+/// The time that is known for an offset with this source before the first entry.
+fn time_from_start(source: Source, offset: i64) -> Option<Time>
+    ensures kept { (document : Document) (log : List AnyLogEntry) (e : AnyNode) (side : AnyEdge) → source ≡ source_of document.nodes e.serial (item.Offset offset) → kept_of (history_of document log []) e side (item.Offset offset) ≡ idle_kept result }
+    ensures nothing { source ≡ from.Nothing → result ≡ None }
+{
+    match source {
+        Source::Start => Some(later(Time::At(0), offset)),
+        _ => None,
+    }
+}

@@ -1,0 +1,186 @@
+//! The instance times that a diary alone gives, kept while entries are appended.
+
+ghost use Rattle.std.specs.Prelude.{◌≡◌, ℤ, List, [], ◌∷◌, ◌++◌, OnOk, OnErr, IfOk, Some, map};
+ghost use Rattle.smil_model.specs.declared.diary.Entry.{Entry as AnyEntry};
+ghost use Rattle.smil_model.specs.declared.diary.LogEntry.{LogEntry as AnyLogEntry};
+ghost use Rattle.smil_model.specs.declared.document.Node.{Node as AnyNode};
+ghost use Rattle.smil_model.specs.document.Document.{Document, elements, node_at};
+ghost use Rattle.smil_model.specs.interval.Instances.{settled_begins, settled_ends};
+ghost use Rattle.smil_kept.specs.Contract.{begins_in, ends_in, first_after, first_from, is_any, times_in};
+ghost use Rattle.smil_kept.specs.Settled.{settled_rows};
+ghost use Rattle.smil_stretch.specs.Clocks.{IsLawfulFor};
+ghost use Rattle.smil_hearing.specs.Entry.{IsAtHand};
+ghost use Rattle.smil_concern.specs.Concerns.{AreConcernsOf};
+ghost use Rattle.smil_instances.specs.Settled.{IsSettled, settled_times};
+ghost use Rattle.smil_instances.specs.Taking.{history_of};
+
+use super::idle::idle_rows;
+use super::taking::take_in;
+use smil_concern::Concerns;
+use smil_diary::Book;
+use smil_graph::Graph;
+use smil_kept::Rows;
+use smil_kept::laws::rows_tell_instances;
+use smil_model::{Duplicate, Edge, Entry, Log, Time};
+use smil_stretch::Clocks;
+use smil_tree::Tree;
+use std::alloc::{AllocError, Global};
+use std::marker::Model;
+
+/// The instance times that a diary alone gives to each element of a document, kept item by item while entries are
+/// appended; seen as a row for each element, and what its items follow from.
+#[derive(Drop)]
+pub struct Instances {
+    rows: Rows,
+    concerns: Concerns,
+    alloc: Global,
+}
+
+impl Model for Instances {
+    ghost use Rattle.smil_instances.specs.Settled.{KeptInstances};
+
+    ghost Value = { KeptInstances };
+
+    ghost view = { λ a. record { rows = a.rows; concerns = a.concerns } };
+}
+
+impl Duplicate for Instances {
+    fn copy(&self) -> Result<Self, AllocError> {
+        Ok(Instances {
+            rows: self.rows.copy()?,
+            concerns: self.concerns.copy()?,
+            alloc: self.alloc,
+        })
+    }
+}
+
+impl Instances {
+    /// The instance times of a document to which nothing has happened yet, unless memory runs out. The graph is that of the
+    /// tree. It takes memory for each item and for each element that an item names.
+    // An item names at most one element, so that the tree alone tells what each follows from.
+    pub fn new(alloc: Global, tree: &Tree, _graph: &Graph) -> Result<Instances, AllocError>
+        requires { _graph.now ≡ tree.now.nodes }
+        ensures { (log : List AnyLogEntry) → IfOk result (λ value. IsSettled value tree.now log []) }
+    {
+        let concerns = Concerns::of(alloc, tree)?;
+        Ok(Instances {
+            rows: idle_rows(alloc, tree, &concerns)?,
+            concerns,
+            alloc,
+        })
+    }
+
+    /// Takes in the last entry of the book, by the clocks before it: the instance times are those of the book without it,
+    /// and then of the whole book. Where memory runs out all is as before. It touches the items alone that the entry can
+    /// concern.
+    pub fn note(
+        &mut self,
+        tree: &Tree,
+        clocks: &Clocks,
+        log: &Log,
+        book: &Book,
+    ) -> Result<(), AllocError>
+        requires hand { IsAtHand tree.now clocks.now log.now book.now }
+        requires taken { (before : List AnyEntry) (y : AnyEntry) → book.now ≡ before ++ y ∷ [] → IsSettled self.old tree.now log.now before }
+        ensures ok { OnOk result (IsSettled self.new tree.now log.now book.now) }
+        ensures err { OnErr result (self.new ≡ self.old) }
+    {
+        let rows = &mut self.rows;
+        take_in(self.alloc, rows, &self.concerns, tree, clocks, log, book)
+    }
+
+    /// Makes these the instance times of the book, whatever they were: the same as noting its entries one after another
+    /// from the first. The document is the one that `new` was given. Where memory runs out all is as before.
+    pub fn rebuild(&mut self, tree: &Tree, log: &Log, book: &Book) -> Result<(), AllocError>
+        requires lawful { IsLawfulFor tree.now book.now }
+        requires document { AreConcernsOf tree.now.nodes self.old.concerns }
+        ensures ok { OnOk result (IsSettled self.new tree.now log.now book.now) }
+        ensures err { OnErr result (self.new ≡ self.old) }
+    {
+        self.rows = rows_of(self.alloc, tree, &self.concerns, log, book)?;
+        Ok(())
+    }
+
+    /// The begins of an element, in milliseconds on the clock of its time parent, in rising order; none where there is no
+    /// such element. It takes no memory.
+    pub fn begins(&self, who: u32) -> &[i64]
+        ensures value { result.now ≡ begins_in self.now.rows who }
+        ensures model { (document : Document) (log : List AnyLogEntry) (diary : List AnyEntry) (now : ℤ) (e : AnyNode) → IsSettled self.now document log diary → node_at (elements document.nodes) who ≡ Some e → result.now ≡ settled_begins (history_of document log diary) now e }
+    {
+        rows_tell_instances();
+        self.rows.begins(who)
+    }
+
+    /// The ends of an element, in milliseconds on the clock of its time parent, in rising order, with indefinite last; none
+    /// where there is no such element. It takes no memory.
+    pub fn ends(&self, who: u32) -> &[Time]
+        ensures value { result.now ≡ ends_in self.now.rows who }
+        ensures model { (document : Document) (log : List AnyLogEntry) (diary : List AnyEntry) (now : ℤ) (e : AnyNode) → IsSettled self.now document log diary → node_at (elements document.nodes) who ≡ Some e → result.now ≡ settled_ends (history_of document log diary) now e }
+    {
+        rows_tell_instances();
+        self.rows.ends(who)
+    }
+
+    /// The first begin or end of an element that is not less than the value, in milliseconds on the clock of its time
+    /// parent; unresolved exactly where there is none. It takes no memory, and log n steps for n of them.
+    pub fn first_from(&self, who: u32, side: Edge, value: i64) -> Time
+        ensures value { result ≡ first_from value (times_in self.now.rows who side) }
+        ensures model { (document : Document) (log : List AnyLogEntry) (diary : List AnyEntry) (now : ℤ) (e : AnyNode) → IsSettled self.now document log diary → node_at (elements document.nodes) who ≡ Some e → result ≡ first_from value (settled_times (history_of document log diary) now e side) }
+    {
+        rows_tell_instances();
+        self.rows.first_from(who, side, value)
+    }
+
+    /// The first begin or end of an element that is greater than the value, in milliseconds on the clock of its time parent;
+    /// unresolved exactly where there is none. It takes no memory, and log n steps for n of them.
+    pub fn first_after(&self, who: u32, side: Edge, value: i64) -> Time
+        ensures value { result ≡ first_after value (times_in self.now.rows who side) }
+        ensures model { (document : Document) (log : List AnyLogEntry) (diary : List AnyEntry) (now : ℤ) (e : AnyNode) → IsSettled self.now document log diary → node_at (elements document.nodes) who ≡ Some e → result ≡ first_after value (settled_times (history_of document log diary) now e side) }
+    {
+        rows_tell_instances();
+        self.rows.first_after(who, side, value)
+    }
+
+    /// Whether an element has any end. It takes no memory.
+    pub fn any_end(&self, who: u32) -> bool
+        ensures value { result ≡ is_any (ends_in self.now.rows who) }
+        ensures model { (document : Document) (log : List AnyLogEntry) (diary : List AnyEntry) (now : ℤ) (e : AnyNode) → IsSettled self.now document log diary → node_at (elements document.nodes) who ≡ Some e → result ≡ is_any (settled_ends (history_of document log diary) now e) }
+    {
+        rows_tell_instances();
+        self.rows.any_end(who)
+    }
+}
+
+/// The rows of a document after the entries of its book, each taken in by the clocks before it.
+fn rows_of(
+    alloc: Global,
+    tree: &Tree,
+    concerns: &Concerns,
+    log: &Log,
+    book: &Book,
+) -> Result<Rows, AllocError>
+    requires lawful { IsLawfulFor tree.now book.now }
+    requires document { AreConcernsOf tree.now.nodes concerns.now }
+    ensures { IfOk result (λ rows. rows ≡ settled_rows (history_of tree.now log.now book.now)) }
+{
+    let mut rows = idle_rows(alloc, tree, concerns)?;
+    let mut front = Book::new(alloc);
+    let mut clocks = Clocks::of(alloc, tree, &front)?;
+    for place in 0..book.len() {
+        let entry = book.entry(place).unwrap();
+        push(&mut front, entry)?;
+        take_in(alloc, &mut rows, concerns, tree, &clocks, log, &front)?;
+        clocks.follow(entry);
+    }
+    Ok(rows)
+}
+
+/// Appends an entry of a book to the front of that book, which therefore is not full.
+fn push(front: &mut Book, entry: Entry) -> Result<(), AllocError>
+    ensures { OnOk result (front.new ≡ front.old ++ entry ∷ []) }
+{
+    match front.push(entry) {
+        Ok(()) => Ok(()),
+        Err(_) => Err(AllocError),
+    }
+}
