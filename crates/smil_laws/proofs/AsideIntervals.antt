@@ -15,24 +15,24 @@ use Rattle.smil_model.specs.declared.document.Node.{Node}
 use Rattle.smil_model.specs.declared.document.Edge.{Edge}
 use Rattle.smil_model.specs.declared.document.Edge.TheVariants.{Begin, End}
 use Rattle.smil_model.specs.declared.document.Item.{Item}
-use Rattle.smil_model.specs.declared.document.Item.TheVariants.{Offset, Sync, Event, Repeat, Indefinite}
+use Rattle.smil_model.specs.declared.document.Item.TheVariants.{Offset, Sync, Event, Repeat, Key, Indefinite}
 use Rattle.smil_model.specs.declared.document.Kind.{Kind}
 use Rattle.smil_model.specs.declared.document.Kind.TheVariants as kind
 use Rattle.smil_model.specs.Times.{rising_times, within_horizon, rising, numbers}
-use Rattle.smil_model.specs.document.Document.{is_element, elements, node_at, time_parent, has_kind, has_serial, is_excl_kind, is_in_excl, is_in_seq, is_time_child, time_children, just_before, previous_child, previous_in_seq, element_named, target}
+use Rattle.smil_model.specs.document.Document.{is_element, elements, node_at, time_parent, has_kind, has_serial, is_excl_kind, is_in_excl, is_in_seq, is_time_child, time_children, just_before, previous_child, previous_in_seq, element_named, target, serials}
 use Rattle.smil_model.specs.document.Defaults.{begin_list, end_list}
 use Rattle.smil_model.specs.diary.Diary.{History, is_active, birth, up_to, with_past}
 use Rattle.smil_model.specs.diary.Clocks.{outer}
-use Rattle.smil_model.specs.document.Dependencies.{leads_to, is_sync_with, has_implicit_duration, serials}
+use Rattle.smil_model.specs.document.Dependencies.{leads_to, is_sync_with, has_implicit_duration}
 use Rattle.smil_model.specs.document.Closure.{has}
 use Rattle.smil_laws.proofs.Aside.{SameLogged, NamesAlike, each_both, each_drop, each_filter, map_all, filter_map_all, filter_map_none, any_each, find_within, filter_swap, with_past_each, inactive, is_out, is_aside, other_who, closed, parent_out, child_kept, no_interval}
-use Rattle.smil_model.specs.interval.Instances.{is_log_event, edge_time, is_same_event, hears, heard_times, is_event, is_repeat, event_times, repeat_times, offset_times, named_times, sync_times, item_times, begin_times, end_times}
+use Rattle.smil_model.specs.interval.Instances.{is_log_event, is_log_key, is_press, edge_time, is_same_event, hears, heard_times, is_event, is_repeat, event_times, repeat_times, offset_times, named_times, sync_times, item_times, begin_times, end_times}
 use Rattle.smil_model.specs.interval.Durations.{stated_duration}
 use Rattle.smil_model.specs.interval.Intervals.{interval_of}
 use Rattle.smil_model.specs.interval.Current.{length_of, length_after, media_length, child_end, container_implicit, implicit_of, simple_of, present_play, facts_of, interval_given, current_interval}
 use Rattle.smil_laws.specs.Agreement.{IsAside, DifferBelow, is_on, SparesAll}
 use Rattle.smil_model.specs.reach.Bounds.{has_begun}
-use Rattle.smil_laws.proofs.Kept.{parent_same, alive_same, reset_same, deferral_same, iteration_same, passed_same, in_seq_same, own_same, parent_time_same, parent_held_same, play_start_same, iteration_start_same, parent_start_same, plays_same, children_same, sync_same}
+use Rattle.smil_laws.proofs.Kept.{parent_same, restart_same, alive_same, reset_same, deferral_same, iteration_same, passed_same, in_seq_same, own_same, parent_time_same, parent_held_same, play_start_same, iteration_start_same, parent_start_same, plays_same, children_same, sync_same}
 use Rattle.smil_laws.proofs.Rounds.{after_rounds, after_rounds-suc, find-serial}
 use Rattle.smil_laws.proofs.Reached.{own_is_all}
 use Rattle.smil_laws.proofs.Settled.{rounds_rest}
@@ -82,7 +82,7 @@ module _ (aside : ℕ → Bool) (p : ℕ) (n1 n2 : List Node) (differ : DifferBe
 
   hears_same : (past : List Entry) (e : Node) (side : Edge) (item : Item) → aside e.serial ≡ false → hears (with1 past) e side item ≡ hears (with2 past) e side item
   hears_same past e side item a =
-      rw (alive_same k n1 n2 differ.same (closed aside p n1 differ.in_old) (closed aside p n2 differ.in_new) log1 log2 past e.serial (ap not a), parent_held_same k n1 n2 differ.same (closed aside p n1 differ.in_old) (closed aside p n2 differ.in_new) log1 log2 past e.serial (ap not a), doubled)
+      rw (alive_same k n1 n2 differ.same (closed aside p n1 differ.in_old) (closed aside p n2 differ.in_new) log1 log2 past e.serial (ap not a), parent_held_same k n1 n2 differ.same (closed aside p n1 differ.in_old) (closed aside p n2 differ.in_new) log1 log2 past e.serial (ap not a), restart_same k n1 n2 differ.same (closed aside p n1 differ.in_old) (closed aside p n2 differ.in_new) log1 log2 past e (ap not a), doubled)
     where
       doubled : list_any (is_same_event n1 e.serial item) (begin_list n1 e) ≡ list_any (is_same_event n2 e.serial item) (begin_list n2 e)
       doubled = ap (list_any (is_same_event n1 e.serial item)) (begin_list_same e a) ∙ any_each (is_same_event n1 e.serial item) (is_same_event n2 e.serial item) (begin_list n2 e) (λ i. same_event_same e.serial item i)
@@ -98,6 +98,10 @@ module _ (aside : ℕ → Bool) (p : ℕ) (n1 n2 : List Node) (differ : DifferBe
   event_same : (x : ℕ) (name : List ℕ) (step : Step) → SameLogged log1 log2 step → is_event log1 x name step ≡ is_event log2 x name step
   event_same x name (Logged place) q = ap (is_log_event x name) q
   event_same x name _ q = refl
+
+  press_same : (key : ℕ) (step : Step) → SameLogged log1 log2 step → is_press log1 key step ≡ is_press log2 key step
+  press_same key (Logged place) q = ap (is_log_key key) q
+  press_same key _ q = refl
 
   length_same : (s : ℕ) (before : Option Time) (step : Step) → SameLogged log1 log2 step → length_after log1 s before step ≡ length_after log2 s before step
   length_same s before (Logged place) q = ap (λ o. length_of s o before) q
@@ -174,6 +178,7 @@ module _ (aside : ℕ → Bool) (p : ℕ) (n1 n2 : List Node) (differ : DifferBe
       implicit_same kind.Img = refl
       implicit_same kind.Text = refl
       implicit_same kind.Brush = refl
+      implicit_same kind.Set = refl
       implicit_same _ = media_same e.serial
 
       pub simple_same : simple_of h1 J1 e ≡ simple_of h2 J2 e
@@ -215,6 +220,8 @@ module _ (aside : ℕ → Bool) (p : ℕ) (n1 n2 : List Node) (differ : DifferBe
           events side (Event who name offset) offset name (target n1 e.serial who) ∙ ap (event_times h2 e side (Event who name offset) offset name) (target_same e.serial who)
       item_same side (Repeat who n offset) mark =
           repeats side (Repeat who n offset) offset n (target n1 e.serial who) ∙ ap (repeat_times h2 e side (Repeat who n offset) offset n) (target_same e.serial who)
+      item_same side (Key key offset) mark =
+          heard_same e side (Key key offset) offset (λ past step. is_press past.log key step) (λ past step. is_press past.log key step) a (λ past step q. press_same key step q.1)
       item_same Begin Indefinite mark = refl
       item_same End Indefinite mark = refl
 
@@ -241,7 +248,7 @@ module _ (aside : ℕ → Bool) (p : ℕ) (n1 n2 : List Node) (differ : DifferBe
 
       facts_same : facts_of h1 J1 now e ≡ facts_of h2 J2 now e
       facts_same =
-          rw (deferral_same k n1 n2 differ.same (closed aside p n1 differ.in_old) (closed aside p n2 differ.in_new) log1 log2 ds e.serial (ap not a), alive_same k n1 n2 differ.same (closed aside p n1 differ.in_old) (closed aside p n2 differ.in_new) log1 log2 ds e.serial (ap not a), play_same, parent_start_same k n1 n2 differ.same (closed aside p n1 differ.in_old) (closed aside p n2 differ.in_new) log1 log2 ds e.serial (ap not a), plays_same k n1 n2 differ.same (closed aside p n1 differ.in_old) (closed aside p n2 differ.in_new) log1 log2 ds e.serial (ap not a), passed_same k n1 n2 differ.same (closed aside p n1 differ.in_old) (closed aside p n2 differ.in_new) log1 log2 ds e.serial (ap not a), simple_same J1 J2 agree e a)
+          rw (deferral_same k n1 n2 differ.same (closed aside p n1 differ.in_old) (closed aside p n2 differ.in_new) log1 log2 ds e.serial (ap not a), alive_same k n1 n2 differ.same (closed aside p n1 differ.in_old) (closed aside p n2 differ.in_new) log1 log2 ds e.serial (ap not a), play_same, parent_start_same k n1 n2 differ.same (closed aside p n1 differ.in_old) (closed aside p n2 differ.in_new) log1 log2 ds e.serial (ap not a), plays_same k n1 n2 differ.same (closed aside p n1 differ.in_old) (closed aside p n2 differ.in_new) log1 log2 ds e.serial (ap not a), passed_same k n1 n2 differ.same (closed aside p n1 differ.in_old) (closed aside p n2 differ.in_new) log1 log2 ds e.serial (ap not a), restart_same k n1 n2 differ.same (closed aside p n1 differ.in_old) (closed aside p n2 differ.in_new) log1 log2 ds e (ap not a), simple_same J1 J2 agree e a)
 
       pub interval_same : interval_given h1 J1 now e ≡ interval_given h2 J2 now e
       interval_same =

@@ -84,7 +84,7 @@ no_chain (n ∷ before) s q = step (n.serial == s) q (no_chain before s)
 
 -- ---- the descendants of the time parent of a node
 
-found_any : (t : Node → Bool) (ns : List Node) (n : Node) → find t ns ≡ Some n → list_any (λ (m : Node). m.serial == n.serial) ns ≡ true
+pub found_any : (t : Node → Bool) (ns : List Node) (n : Node) → find t ns ≡ Some n → list_any (λ (m : Node). m.serial == n.serial) ns ≡ true
 found_any t [] n q = cc
 found_any t (m ∷ ms) n q = step (t m) q (found_any t ms n)
   where

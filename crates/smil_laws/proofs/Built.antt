@@ -332,20 +332,20 @@ module _ (b d : ℕ) (id : List ℕ) (fits : b + d ≤ 1_000_000_000_000) (long 
     pub early : last < b → resolved course ≡ at last ds1
     unfolding begin_key_of
     early le =
-        let turned : 500_000 + last ≡ last + 500_000 = omega arith in
+        let turned : 1_000_000 + last ≡ last + 1_000_000 = omega arith in
         let here : 0 + last ≡ last = omega arith in
-        one (500_000 + last) (at 0 []) (at 0 ds1) starts
+        one (1_000_000 + last) (at 0 []) (at 0 ds1) starts
         ∙ ap (λ k. after_steps course k (at 0 ds1)) turned
-        ∙ wait ds1 last (λ m more. quiet m ds1 begin_key_of b (least-1 m) refl (omega (arith, le, more)) more) last 0 500_000 (omega arith)
-        ∙ ap (λ i. after_steps course 500_000 (at i ds1)) here
-        ∙ stop 500_000 (at last ds1) (halts ds1 begin_key_of b (least-1 last) refl le)
+        ∙ wait ds1 last (λ m more. quiet m ds1 begin_key_of b (least-1 m) refl (omega (arith, le, more)) more) last 0 1_000_000 (omega arith)
+        ∙ ap (λ i. after_steps course 1_000_000 (at i ds1)) here
+        ∙ stop 1_000_000 (at last ds1) (halts ds1 begin_key_of b (least-1 last) refl le)
 
     -- up to the begin of the image, with so many steps left
-    to_begin : (f : ℕ) → b ≤ last → 500_000 + last ≡ b + suc f → resolved course ≡ after_steps course f (at b ds2)
+    to_begin : (f : ℕ) → b ≤ last → 1_000_000 + last ≡ b + suc f → resolved course ≡ after_steps course f (at b ds2)
     unfolding begin_key_of
     to_begin f le steps =
         let here : 0 + b ≡ b = omega arith in
-        one (500_000 + last) (at 0 []) (at 0 ds1) starts
+        one (1_000_000 + last) (at 0 []) (at 0 ds1) starts
         ∙ ap (λ k. after_steps course k (at 0 ds1)) steps
         ∙ wait ds1 b (λ m more. quiet m ds1 begin_key_of b (least-1 m) refl more (omega (arith, le, more))) b 0 (suc f) (omega arith)
         ∙ ap (λ i. after_steps course (suc f) (at i ds1)) here
@@ -356,20 +356,20 @@ module _ (b d : ℕ) (id : List ℕ) (fits : b + d ≤ 1_000_000_000_000) (long 
     unfolding end_key_of
     during le lt =
         let here : b + (last - b) ≡ last = omega (arith, le) in
-        to_begin ((last - b) + 499_999) le (omega (arith, le))
-        ∙ wait ds2 last (λ m more. quiet m ds2 end_key_of whole (least-2 m) refl (omega (arith, lt, more)) more) (last - b) b 499_999 (omega (arith, le))
-        ∙ ap (λ i. after_steps course 499_999 (at i ds2)) here
-        ∙ stop 499_999 (at last ds2) (halts ds2 end_key_of whole (least-2 last) refl lt)
+        to_begin ((last - b) + 999_999) le (omega (arith, le))
+        ∙ wait ds2 last (λ m more. quiet m ds2 end_key_of whole (least-2 m) refl (omega (arith, lt, more)) more) (last - b) b 999_999 (omega (arith, le))
+        ∙ ap (λ i. after_steps course 999_999 (at i ds2)) here
+        ∙ stop 999_999 (at last ds2) (halts ds2 end_key_of whole (least-2 last) refl lt)
 
     -- after the end of both
     pub after : whole ≤ last → resolved course ≡ at last ds4
     unfolding end_key_of root_key_of
     after le =
         let here : whole + (last - whole) ≡ last = omega (arith, le) in
-        to_begin (d + suc (suc ((last - whole) + 499_997))) (omega (arith, le)) (omega (arith, le))
-        ∙ wait ds2 whole (λ m more. quiet m ds2 end_key_of whole (least-2 m) refl more (omega (arith, le, more))) d b (suc (suc ((last - whole) + 499_997))) (omega arith)
-        ∙ one (suc ((last - whole) + 499_997)) (at whole ds2) (at whole ds3) (happens whole ds2 end_key_of whole (least-2 whole) refl (omega arith))
-        ∙ one ((last - whole) + 499_997) (at whole ds3) (at whole ds4) (happens whole ds3 (root_key_of (cond (ltb 0 whole) 1 3)) whole (least-3 whole) refl (omega arith))
-        ∙ wait ds4 last quiet_end (last - whole) whole 499_997 (omega (arith, le))
-        ∙ ap (λ i. after_steps course 499_997 (at i ds4)) here
-        ∙ stop 499_997 (at last ds4) halts_end
+        to_begin (d + suc (suc ((last - whole) + 999_997))) (omega (arith, le)) (omega (arith, le))
+        ∙ wait ds2 whole (λ m more. quiet m ds2 end_key_of whole (least-2 m) refl more (omega (arith, le, more))) d b (suc (suc ((last - whole) + 999_997))) (omega arith)
+        ∙ one (suc ((last - whole) + 999_997)) (at whole ds2) (at whole ds3) (happens whole ds2 end_key_of whole (least-2 whole) refl (omega arith))
+        ∙ one ((last - whole) + 999_997) (at whole ds3) (at whole ds4) (happens whole ds3 (root_key_of (cond (ltb 0 whole) 1 3)) whole (least-3 whole) refl (omega arith))
+        ∙ wait ds4 last quiet_end (last - whole) whole 999_997 (omega (arith, le))
+        ∙ ap (λ i. after_steps course 999_997 (at i ds4)) here
+        ∙ stop 999_997 (at last ds4) halts_end

@@ -4,7 +4,7 @@ use Rattle.std.specs.Prelude.{◌⊎◌, fold, cond, pos, int_le, nat_lt, slice_
 use Rattle.std.specs.Option.{option_map_or}
 use Rattle.std.proofs.lemmas.List.Sums.{fold-append}
 use Rattle.std.proofs.lemmas.List.Elements.{filter-append}
-use Rattle.smil_laws.specs.Cut.{last_moment, is_logged, logged}
+use Rattle.smil_laws.specs.Cut.{IsNamedBelow, NamesBelow, is_logged, logged}
 use Rattle.std.proofs.lemmas.Bool.{lt-ltb, le-ltb, ltb-true, eq-eqb, ne_eqb}
 use Rattle.smil_model.specs.declared.diary.Entry.{Entry}
 use Rattle.smil_model.specs.declared.diary.LogEntry.{LogEntry}
@@ -16,7 +16,7 @@ use Rattle.smil_model.specs.declared.document.Node.{Node}
 use Rattle.smil_model.specs.document.Document.{Document, is_element, elements, time_parent, descendants, is_excl_kind, has_serial}
 use Rattle.smil_model.specs.document.Valid.{IsNumberedTree}
 use Rattle.smil_laws.specs.Locality.{ParentsBefore}
-use Rattle.smil_model.specs.diary.Diary.{History, is_active, is_paused}
+use Rattle.smil_model.specs.diary.Diary.{History, is_active, is_paused, last_moment}
 use Rattle.smil_model.specs.diary.Clocks.{outer}
 use Rattle.smil_model.specs.happening.Queue.{playing_child, queue_of, decision}
 use Rattle.smil_model.specs.happening.Keys.{Coming, Change, begins, ends, repeats, coming, first_coming, is_due}
@@ -32,13 +32,6 @@ use Rattle.smil_laws.proofs.EditsBelow.{each_sub}
 use Rattle.std.specs.List.{AllByRecursion}
 
 -- ---- the places that a diary names
-
-abbrev IsNamedBelow : ℕ → Step → Type 0
-IsNamedBelow n (Logged place) = place < n
-IsNamedBelow n _ = Unit {0}
-
-abbrev NamesBelow : ℕ → List Entry → Type 0
-NamesBelow n ds = AllByRecursion (λ (x : Entry). IsNamedBelow n x.step) ds
 
 step_weaker : (n j : ℕ) (step : Step) → n ≤ j → IsNamedBelow n step → IsNamedBelow j step
 step_weaker n j (Logged place) l p = omega (arith, l, p)
@@ -128,11 +121,11 @@ logged_append xs ys = ap length (filter-append (λ (x : Entry). is_logged x.step
 
 -- ---- a step does not go back
 
-record GoesOn (q r : Progress) : Type 0 where
-  heard : q.heard ≤ r.heard
-  moment : q.moment ≤ r.moment
-  named : NamesBelow q.heard q.diary → NamesBelow r.heard r.diary
-  count : logged q.diary ≡ q.heard → logged r.diary ≡ r.heard
+pub record GoesOn (q r : Progress) : Type 0 where
+  pub heard : q.heard ≤ r.heard
+  pub moment : q.moment ≤ r.moment
+  pub named : NamesBelow q.heard q.diary → NamesBelow r.heard r.diary
+  pub count : logged q.diary ≡ q.heard → logged r.diary ≡ r.heard
 
 module _ (c : Course) (q : Progress) where
   quiet_on : (r : Progress) → after_quiet c q ≡ Some r → GoesOn q r
@@ -176,10 +169,10 @@ module _ (c : Course) (q : Progress) where
           })
       by_test false e = settling_on (slice_get c.log q.heard) r e
 
-  next_on : (r : Progress) → next_step c q ≡ Some r → GoesOn q r
+  pub next_on : (r : Progress) → next_step c q ≡ Some r → GoesOn q r
   next_on r e = key_on (first_coming (coming (history_at c q) (pos q.moment))) r e
 
-steps_on : (c : Course) (k : ℕ) (q : Progress) → (q.heard ≤ (after_steps c k q).heard) × (q.moment ≤ (after_steps c k q).moment)
+pub steps_on : (c : Course) (k : ℕ) (q : Progress) → (q.heard ≤ (after_steps c k q).heard) × (q.moment ≤ (after_steps c k q).moment)
 steps_on c zero q = (omega arith, omega arith)
 steps_on c (suc k) q = by_next (next_step c q) refl (steps_on c k)
   where

@@ -21,11 +21,11 @@ use Rattle.smil_model.specs.document.Defaults.{begin_list, end_list}
 use Rattle.smil_model.specs.diary.Diary.{History, last_place, later_place, gives_birth, birth_under, birth, since_birth, active_after, is_active, paused_after, is_paused, lives_under, is_alive, deferral_after, deferral, iteration_after, iteration, up_to, with_past}
 use Rattle.smil_model.specs.diary.Clocks.{until, stands_by, elapsed, run, outer_under, outer, stands, stands_under, outer_stands, play_start_after, play_start, iteration_start_after, iteration_start, start_under, parent_start}
 use Rattle.smil_model.specs.diary.Plays.{Plays, play_after, is_birth_under, plays, passed_after, passed}
-use Rattle.smil_model.specs.interval.Instances.{edge_time, happened_times, expected_times, sync_times, is_event, is_named, is_log_event, is_repeat, hears, heard_times, offset_times, named_times, event_times, repeat_times, item_times, begin_times, end_times}
+use Rattle.smil_model.specs.interval.Instances.{is_press, edge_time, happened_times, expected_times, sync_times, is_event, is_named, is_log_event, is_repeat, hears, heard_times, offset_times, named_times, event_times, repeat_times, item_times, begin_times, end_times}
 use Rattle.smil_model.specs.declared.diary.Happening.TheVariants as happening
 use Rattle.smil_model.specs.declared.times.Time.{Time}
 use Rattle.smil_model.specs.declared.document.Item.{Item}
-use Rattle.smil_model.specs.declared.document.Item.TheVariants.{Offset, Sync, Event, Repeat, Indefinite}
+use Rattle.smil_model.specs.declared.document.Item.TheVariants.{Offset, Sync, Event, Repeat, Key, Indefinite}
 use Rattle.smil_model.specs.Times.{rising_times, within_horizon, rising, numbers}
 use Rattle.smil_model.specs.document.Dependencies.{leads_to, is_sync_with, all_items, has_implicit_duration}
 use Rattle.std.specs.Str.{bytes_eq}
@@ -36,13 +36,18 @@ use Rattle.smil_model.specs.interval.Durations.{stated_duration}
 use Rattle.smil_model.specs.interval.Intervals.{interval_of}
 use Rattle.smil_model.specs.interval.Current.{logged_length, length_of, length_after, media_length, child_end, container_implicit, implicit_of, implicit_duration, simple_of, present_play, facts_of, interval_given}
 use Rattle.std.proofs.lemmas.List.Folds.{list_any-append}
-use Rattle.smil_model.specs.reach.Reach.{subject, is_option, is_event_of}
+use Rattle.smil_model.specs.reach.Reach.{is_option, is_event_of, is_key_item}
 use Rattle.smil_laws.proofs.Lineages.{ParentsBefore, is_above, above_parent, not_parent}
 
 -- whether a step is on the element with this serial
+abbrev pub happens_to : ℕ → Happening → Bool
+happens_to s (happening.Event who name) = who == s
+happens_to s (happening.Media who length) = who == s
+happens_to s (happening.Key key) = false
+
 abbrev pub logged_about : ℕ → Option LogEntry → Bool
 logged_about s None = false
-logged_about s (Some entry) = subject entry.what == s
+logged_about s (Some entry) = happens_to s entry.what
 
 abbrev pub is_about : List LogEntry → ℕ → Step → Bool
 is_about log s (Began who begin) = who == s
@@ -113,11 +118,11 @@ pub fold_same : {A B : Type 0} (f g : B → A → B) (b : B) (xs : List A) → (
 fold_same f g b [] same = refl
 fold_same f g b (x ∷ xs) same = ap (λ z. fold f z xs) (same b x) ∙ fold_same f g (g b x) xs same
 
-last_place-push : {A : Type 0} (test : A → Bool) (xs : List A) (y : A) → test y ≡ false → last_place test (xs ++ y ∷ []) ≡ last_place test xs
+pub last_place-push : {A : Type 0} (test : A → Bool) (xs : List A) (y : A) → test y ≡ false → last_place test (xs ++ y ∷ []) ≡ last_place test xs
 last_place-push test [] y q = ap (λ t. later_place t None) q
 last_place-push test (x ∷ xs) y q = ap (λ o. later_place (test x) o) (last_place-push test xs y q)
 
-last_place-below : {A : Type 0} (test : A → Bool) (xs : List A) (k : ℕ) → last_place test xs ≡ Some k → suc k ≤ length xs
+pub last_place-below : {A : Type 0} (test : A → Bool) (xs : List A) (k : ℕ) → last_place test xs ≡ Some k → suc k ≤ length xs
 last_place-below test [] k q = cc
 last_place-below test (x ∷ xs) k q = step (test x) (last_place test xs) refl q (last_place-below test xs)
   where
@@ -126,7 +131,7 @@ last_place-below test (x ∷ xs) k q = step (test x) (last_place test xs) refl q
     step true None e q below = let one : 0 ≡ k = cc in omega (arith, one)
     step false None e q below = cc
 
-append_nil : {A : Type 0} (xs : List A) → xs ++ [] ≡ xs
+pub append_nil : {A : Type 0} (xs : List A) → xs ++ [] ≡ xs
 append_nil [] = refl
 append_nil (x ∷ xs) = ap (λ ys. x ∷ ys) (append_nil xs)
 
@@ -152,10 +157,10 @@ any_same p q x (n ∷ ns) same free =
     here false e = refl
 
 module _ (h : History) (first : ParentsBefore (reverse h.nodes)) (y : Entry) (x : ℕ) (only : (s : ℕ) → s == x ≡ false → is_about h.log s y.step ≡ false) where
-  abbrev then_diary : List Entry
+  abbrev pub then_diary : List Entry
   then_diary = h.diary ++ y ∷ []
 
-  abbrev then : History
+  abbrev pub then : History
   then = up_to h then_diary
 
   apart_parent : (s : ℕ) (p : Node) → Apart h.nodes x s → time_parent h.nodes s ≡ Some p → Apart h.nodes x p.serial
@@ -164,12 +169,12 @@ module _ (h : History) (first : ParentsBefore (reverse h.nodes)) (y : Entry) (x 
     above = above_parent h.nodes first x s p apart.above found;
   }
 
-  active-then : (ds : List Entry) (s : ℕ) → s == x ≡ false → is_active (ds ++ y ∷ []) s ≡ is_active ds s
+  pub active-then : (ds : List Entry) (s : ℕ) → s == x ≡ false → is_active (ds ++ y ∷ []) s ≡ is_active ds s
   active-then ds s other =
       fold_push (λ before (z : Entry). active_after s before z.step) false ds y
       ∙ active-other h.log s (is_active ds s) y.step (only s other)
 
-  paused-then : (ds : List Entry) (s : ℕ) → s == x ≡ false → is_paused (ds ++ y ∷ []) s ≡ is_paused ds s
+  pub paused-then : (ds : List Entry) (s : ℕ) → s == x ≡ false → is_paused (ds ++ y ∷ []) s ≡ is_paused ds s
   paused-then ds s other =
       ap (λ t. t && fold (λ before (z : Entry). paused_after s before z.step) false (ds ++ y ∷ [])) (active-then ds s other)
       ∙ ap (λ t. is_active ds s && t)
@@ -198,21 +203,21 @@ module _ (h : History) (first : ParentsBefore (reverse h.nodes)) (y : Entry) (x 
       ap (λ n. n + cond (stands_by h.nodes (until (pos m) then_diary) s) 0 1) (elapsed-then s m free)
       ∙ ap (λ t. elapsed h s m + cond t 0 1) (held-until (pos m) s free)
 
-  own-then : (s : ℕ) (m : ℤ) → is_above h.nodes x s ≡ false → run then s m ≡ run h s m
+  pub own-then : (s : ℕ) (m : ℤ) → is_above h.nodes x s ≡ false → run then s m ≡ run h s m
   own-then s (pos m) free = ap pos (elapsed-then s m free)
   own-then s (negsuc m) free = refl
 
-  parent-then : (s : ℕ) (m : ℤ) → Apart h.nodes x s → outer then s m ≡ outer h s m
+  pub parent-then : (s : ℕ) (m : ℤ) → Apart h.nodes x s → outer then s m ≡ outer h s m
   parent-then s m apart = under (time_parent h.nodes s) (λ p. apart_parent s p apart)
     where
       under : (o : Option Node) → ((p : Node) → o ≡ Some p → Apart h.nodes x p.serial) → outer_under then o m ≡ outer_under h o m
       under None far = refl
       under (Some p) far = own-then p.serial m ((far p refl).above)
 
-  own_held-then : (s : ℕ) → Apart h.nodes x s → stands then s ≡ stands h s
+  pub own_held-then : (s : ℕ) → Apart h.nodes x s → stands then s ≡ stands h s
   own_held-then s apart = held-then h.diary s apart.above
 
-  parent_held-then : (s : ℕ) → Apart h.nodes x s → outer_stands then s ≡ outer_stands h s
+  pub parent_held-then : (s : ℕ) → Apart h.nodes x s → outer_stands then s ≡ outer_stands h s
   parent_held-then s apart = under (time_parent h.nodes s) (λ p. apart_parent s p apart)
     where
       under : (o : Option Node) → ((p : Node) → o ≡ Some p → Apart h.nodes x p.serial) → stands_under then o ≡ stands_under h o
@@ -228,7 +233,7 @@ module _ (h : History) (first : ParentsBefore (reverse h.nodes)) (y : Entry) (x 
 
   -- ---- folds over the whole diary
 
-  play_start-then : (s : ℕ) → Apart h.nodes x s → play_start then s ≡ play_start h s
+  pub play_start-then : (s : ℕ) → Apart h.nodes x s → play_start then s ≡ play_start h s
   play_start-then s apart =
       fold_push (λ before (z : Entry). play_start_after then s z.moment before z.step) (pos 0) h.diary y
       ∙ play_start-other h.log s then y.moment (fold (λ before (z : Entry). play_start_after then s z.moment before z.step) (pos 0) h.diary) y.step (only s apart.self)
@@ -240,7 +245,7 @@ module _ (h : History) (first : ParentsBefore (reverse h.nodes)) (y : Entry) (x 
           ∙ ap (λ q. cond (who == s) (run h s m +ℤ (begin -ℤ q)) b) (parent-then s m apart)
       each m b _ = refl
 
-  iteration_start-then : (s : ℕ) → Apart h.nodes x s → iteration_start then s ≡ iteration_start h s
+  pub iteration_start-then : (s : ℕ) → Apart h.nodes x s → iteration_start then s ≡ iteration_start h s
   iteration_start-then s apart =
       fold_push (λ before (z : Entry). iteration_start_after then s z.moment before z.step) (pos 0) h.diary y
       ∙ iteration_start-other h.log s then y.moment (fold (λ before (z : Entry). iteration_start_after then s z.moment before z.step) (pos 0) h.diary) y.step (only s apart.self)
@@ -266,7 +271,7 @@ module _ (h : History) (first : ParentsBefore (reverse h.nodes)) (y : Entry) (x 
       under None far = refl
       under (Some p) far = reset-other h.log p.serial y.step (only p.serial ((far p refl).self))
 
-  plays-then : (s : ℕ) → Apart h.nodes x s → plays then s ≡ plays h s
+  pub plays-then : (s : ℕ) → Apart h.nodes x s → plays then s ≡ plays h s
   plays-then s apart =
       fold_push (follow then) none h.diary y
       ∙ last_one (fold (follow then) none h.diary)
@@ -290,10 +295,10 @@ module _ (h : History) (first : ParentsBefore (reverse h.nodes)) (y : Entry) (x 
   -- ---- the entries since the reset
 
   -- a place that is kept, or that stands at the end of the diary before and after
-  abbrev Moves : ℕ → ℕ → Type 0
+  abbrev pub Moves : ℕ → ℕ → Type 0
   Moves k' k = ((k' ≡ k) × (k ≤ length h.diary)) ⊎ ((k' ≡ suc (length h.diary)) × (k ≡ length h.diary))
 
-  reset-then : (s : ℕ) → Apart h.nodes x s → Moves (birth then s) (birth h s)
+  pub reset-then : (s : ℕ) → Apart h.nodes x s → Moves (birth then s) (birth h s)
   reset-then s apart = under (time_parent h.nodes s) (λ p. apart_parent s p apart)
     where
       by_place : (o : Option ℕ) → ((k : ℕ) → o ≡ Some k → suc k ≤ length h.diary) → Moves (option_map_or suc o (length then_diary)) (option_map_or suc o (length h.diary))
@@ -313,7 +318,7 @@ module _ (h : History) (first : ParentsBefore (reverse h.nodes)) (y : Entry) (x 
   min-then a' a b' b (inr p) (inr q) = inr (omega arith, omega arith)
 
   -- what is read of the tail of a list to which one more is appended that gives nothing
-  tail-then : {A B : Type 0} (read : List A → B) (zs : List A) (w : A) (k' k : ℕ) → length zs ≡ length h.diary → ((ws : List A) → read (ws ++ w ∷ []) ≡ read ws) → Moves k' k → read (drop k' (zs ++ w ∷ [])) ≡ read (drop k zs)
+  pub tail-then : {A B : Type 0} (read : List A → B) (zs : List A) (w : A) (k' k : ℕ) → length zs ≡ length h.diary → ((ws : List A) → read (ws ++ w ∷ []) ≡ read ws) → Moves k' k → read (drop k' (zs ++ w ∷ [])) ≡ read (drop k zs)
   tail-then read zs w k' k same ignores (inl p) =
       ap (λ j. read (drop j (zs ++ w ∷ []))) p.0 ∙ ap read (drop-append-le k zs (w ∷ []) (omega (arith, p.1, same))) ∙ ignores (drop k zs)
   tail-then read zs w k' k same ignores (inr p) =
@@ -325,12 +330,12 @@ module _ (h : History) (first : ParentsBefore (reverse h.nodes)) (y : Entry) (x 
   fold-since f b s apart other =
       tail-then (fold f b) h.diary y (birth then s) (birth h s) refl (λ ws. fold_push f b ws y ∙ other (fold f b ws)) (reset-then s apart)
 
-  deferral-then : (s : ℕ) → Apart h.nodes x s → deferral then s ≡ deferral h s
+  pub deferral-then : (s : ℕ) → Apart h.nodes x s → deferral then s ≡ deferral h s
   deferral-then s apart =
       ap (λ t. cond t (fold (λ before (z : Entry). deferral_after s z before z.step) None (since_birth then s)) None) (alive-then s apart)
       ∙ ap (λ o. cond (is_alive h s) o None) (fold-since (λ before (z : Entry). deferral_after s z before z.step) None s apart (λ b. deferral-other h.log s y b y.step (only s apart.self)))
 
-  iteration-then : (s : ℕ) → Apart h.nodes x s → iteration then s ≡ iteration h s
+  pub iteration-then : (s : ℕ) → Apart h.nodes x s → iteration then s ≡ iteration h s
   iteration-then s apart = ap (λ o. unwrap_or o 0) (fold-since (λ before (z : Entry). iteration_after s before z.step) None s apart (λ b. iteration-other h.log s b y.step (only s apart.self)))
 
   passed-then : (s : ℕ) → Apart h.nodes x s → passed then s ≡ passed h s
@@ -381,9 +386,10 @@ module _ (h : History) (first : ParentsBefore (reverse h.nodes)) (y : Entry) (x 
   event-other : (t : ℕ) (name : List ℕ) (step : Step) → is_about h.log t step ≡ false → is_event h.log t name step ≡ false
   event-other t name (Logged place) q = by_entry (slice_get h.log place) q
     where
-      by_what : (w : Happening) → subject w == t ≡ false → is_named t name w ≡ false
+      by_what : (w : Happening) → happens_to t w ≡ false → is_named t name w ≡ false
       by_what (happening.Event who own) r = ap (λ b. b && bytes_eq own name) r
       by_what (happening.Media who len) r = refl
+      by_what (happening.Key key) r = refl
 
       by_entry : (o : Option LogEntry) → logged_about t o ≡ false → is_log_event t name o ≡ false
       by_entry None r = refl
@@ -441,22 +447,24 @@ module _ (h : History) (first : ParentsBefore (reverse h.nodes)) (y : Entry) (x 
     repeat_times-then side item offset n (Some t) far =
         heard-then e side item offset (λ past step. is_repeat past t n step) apart (repeat-other h t n y.step (only t (far t refl)))
 
-    item-then : (side : Edge) (i : Item) → ((b : Node) → previous_in_seq h.nodes e.serial ≡ Some b → Apart h.nodes x b.serial) → ((b : ℕ) → is_sync_with h.nodes b i ≡ true → Apart h.nodes x b) → ((t : ℕ) → is_event_of h.nodes e.serial t i ≡ true → t == x ≡ false) → item_times then J now e side i ≡ item_times h J now e side i
-    item-then side (Offset offset) before named heard = offset-then offset (previous_in_seq h.nodes e.serial) before
-    item-then side (Sync who edge offset) before named heard =
+    item-then : (side : Edge) (i : Item) → ((b : Node) → previous_in_seq h.nodes e.serial ≡ Some b → Apart h.nodes x b.serial) → ((b : ℕ) → is_sync_with h.nodes b i ≡ true → Apart h.nodes x b) → ((t : ℕ) → is_event_of h.nodes e.serial t i ≡ true → t == x ≡ false) → ((key : ℕ) → is_key_item key i ≡ true → is_press h.log key y.step ≡ false) → item_times then J now e side i ≡ item_times h J now e side i
+    item-then side (Offset offset) before named heard keys = offset-then offset (previous_in_seq h.nodes e.serial) before
+    item-then side (Sync who edge offset) before named heard keys =
         named-then offset edge (element_named h.nodes who) (λ b q. named b.serial (ap (has_serial b.serial) q ∙ eq-eqb b.serial b.serial refl))
-    item-then side (Event who name offset) before named heard =
+    item-then side (Event who name offset) before named heard keys =
         event_times-then side (Event who name offset) offset name (target h.nodes e.serial who) (λ t q. heard t (ap (is_option t) q ∙ eq-eqb t t refl))
-    item-then side (Repeat who n offset) before named heard =
+    item-then side (Repeat who n offset) before named heard keys =
         repeat_times-then side (Repeat who n offset) offset n (target h.nodes e.serial who) (λ t q. heard t (ap (is_option t) q ∙ eq-eqb t t refl))
-    item-then Begin Indefinite before named heard = refl
-    item-then End Indefinite before named heard = refl
+    item-then side (Key key offset) before named heard keys =
+        heard-then e side (Key key offset) offset (λ past step. is_press past.log key step) apart (keys key (eq-eqb key key refl))
+    item-then Begin Indefinite before named heard keys = refl
+    item-then End Indefinite before named heard keys = refl
 
-    items-then : (side : Edge) (is : List Item) → ((b : Node) → previous_in_seq h.nodes e.serial ≡ Some b → Apart h.nodes x b.serial) → ((b : ℕ) → list_any (is_sync_with h.nodes b) is ≡ true → Apart h.nodes x b) → ((t : ℕ) → list_any (is_event_of h.nodes e.serial t) is ≡ true → t == x ≡ false) → flat_map (item_times then J now e side) is ≡ flat_map (item_times h J now e side) is
-    items-then side [] before named heard = refl
-    items-then side (i ∷ is) before named heard =
-        let here = item-then side i before (λ b t. named b (or_left _ _ t)) (λ b t. heard b (or_left _ _ t)) in
-        let rest = items-then side is before (λ b t. named b (or_right _ _ t)) (λ b t. heard b (or_right _ _ t)) in
+    items-then : (side : Edge) (is : List Item) → ((b : Node) → previous_in_seq h.nodes e.serial ≡ Some b → Apart h.nodes x b.serial) → ((b : ℕ) → list_any (is_sync_with h.nodes b) is ≡ true → Apart h.nodes x b) → ((t : ℕ) → list_any (is_event_of h.nodes e.serial t) is ≡ true → t == x ≡ false) → ((key : ℕ) → list_any (is_key_item key) is ≡ true → is_press h.log key y.step ≡ false) → flat_map (item_times then J now e side) is ≡ flat_map (item_times h J now e side) is
+    items-then side [] before named heard keys = refl
+    items-then side (i ∷ is) before named heard keys =
+        let here = item-then side i before (λ b t. named b (or_left _ _ t)) (λ b t. heard b (or_left _ _ t)) (λ b t. keys b (or_left _ _ t)) in
+        let rest = items-then side is before (λ b t. named b (or_right _ _ t)) (λ b t. heard b (or_right _ _ t)) (λ b t. keys b (or_right _ _ t)) in
         ap (λ ts. ts ++ flat_map (item_times then J now e side) is) here ∙ ap (λ ts. item_times h J now e side i ++ ts) rest
 
   -- ---- the implicit duration
@@ -464,9 +472,10 @@ module _ (h : History) (first : ParentsBefore (reverse h.nodes)) (y : Entry) (x 
   length-other : (s : ℕ) (b : Option Time) (step : Step) → is_about h.log s step ≡ false → length_after h.log s b step ≡ b
   length-other s b (Logged place) q = by_entry (slice_get h.log place) q
     where
-      by_what : (w : Happening) → subject w == s ≡ false → logged_length s w b ≡ b
+      by_what : (w : Happening) → happens_to s w ≡ false → logged_length s w b ≡ b
       by_what (happening.Event who own) r = refl
       by_what (happening.Media who len) r = rw r
+      by_what (happening.Key key) r = refl
 
       by_entry : (o : Option LogEntry) → logged_about s o ≡ false → length_of s o b ≡ b
       by_entry None r = refl
@@ -501,6 +510,7 @@ module _ (h : History) (first : ParentsBefore (reverse h.nodes)) (y : Entry) (x 
   implicit-then J e kind.Img apart far = refl
   implicit-then J e kind.Text apart far = refl
   implicit-then J e kind.Brush apart far = refl
+  implicit-then J e kind.Set apart far = refl
   implicit-then J e _ apart far = media-then e.serial apart.self
 
   -- all that an element reads is apart from x
@@ -510,9 +520,10 @@ module _ (h : History) (first : ParentsBefore (reverse h.nodes)) (y : Entry) (x 
     pub before : (b : Node) → previous_in_seq h.nodes e.serial ≡ Some b → Apart h.nodes x b.serial
     pub named : (b : ℕ) → list_any (is_sync_with h.nodes b) (all_items h.nodes e) ≡ true → Apart h.nodes x b
     pub heard : (t : ℕ) → list_any (is_event_of h.nodes e.serial t) (all_items h.nodes e) ≡ true → t == x ≡ false
+    pub keys : (key : ℕ) → list_any (is_key_item key) (all_items h.nodes e) ≡ true → is_press h.log key y.step ≡ false
 
   module _ (J : ℕ → Option Interval) (now : ℤ) (e : Node) (far : ReadsApart e) where
-    simple-then : simple_of then J e ≡ simple_of h J e
+    pub simple-then : simple_of then J e ≡ simple_of h J e
     simple-then = step (has_implicit_duration e) (λ t. implicit-then J e e.kind far.apart (λ c q. far.children c t q))
       where
         step : (t : Bool) → (t ≡ true → implicit_duration then J e ≡ implicit_duration h J e) → cond t (implicit_duration then J e) (stated_duration e.attrs.dur) ≡ cond t (implicit_duration h J e) (stated_duration e.attrs.dur)
@@ -532,14 +543,16 @@ module _ (h : History) (first : ParentsBefore (reverse h.nodes)) (y : Entry) (x 
         ap (λ ts. rising (numbers ts))
         (items-then J now e far.apart Begin (begin_list h.nodes e) far.before
         (λ b t. far.named b (list_any-append (is_sync_with h.nodes b) (begin_list h.nodes e) (end_list e) ∙ or_left _ _ t))
-        (λ u t. far.heard u (list_any-append (is_event_of h.nodes e.serial u) (begin_list h.nodes e) (end_list e) ∙ or_left _ _ t)))
+        (λ u t. far.heard u (list_any-append (is_event_of h.nodes e.serial u) (begin_list h.nodes e) (end_list e) ∙ or_left _ _ t))
+        (λ u t. far.keys u (list_any-append (is_key_item u) (begin_list h.nodes e) (end_list e) ∙ or_left _ _ t)))
 
     ends-then : end_times then J now e ≡ end_times h J now e
     ends-then =
         ap rising_times
         (items-then J now e far.apart End (end_list e) far.before
         (λ b t. far.named b (list_any-append (is_sync_with h.nodes b) (begin_list h.nodes e) (end_list e) ∙ or_right _ _ t))
-        (λ u t. far.heard u (list_any-append (is_event_of h.nodes e.serial u) (begin_list h.nodes e) (end_list e) ∙ or_right _ _ t)))
+        (λ u t. far.heard u (list_any-append (is_event_of h.nodes e.serial u) (begin_list h.nodes e) (end_list e) ∙ or_right _ _ t))
+        (λ u t. far.keys u (list_any-append (is_key_item u) (begin_list h.nodes e) (end_list e) ∙ or_right _ _ t)))
 
     -- an entry on x leaves the interval of each element that reads nothing of x, given the same intervals of the others
     pub interval-then : interval_given then J now e ≡ interval_given h J now e

@@ -1,6 +1,6 @@
 -- Two documents that are the same but for nodes that are set aside: what is read of the nodes that are kept is the same.
 use Rattle.std.proofs.Common.{◌≡◌, refl, sym, ◌∙◌, ap, ℕ, suc, zero, ◌+◌, List, [], ◌∷◌, ◌++◌, Option, Some, None, ℤ, Bool, true, false}
-use Rattle.std.specs.Prelude.{filter_map, min, unwrap_or, option_to_list, map, ◌||◌, ◌+ℤ◌, ◌-ℤ◌, ◌&&◌, pos, negsuc, cond, ◌==◌, reverse, drop, find, filter, fold}
+use Rattle.std.specs.Prelude.{filter_map, min, unwrap_or, option_and_then, option_to_list, map, ◌||◌, ◌+ℤ◌, ◌-ℤ◌, ◌&&◌, pos, negsuc, cond, ◌==◌, reverse, drop, find, filter, fold}
 use Rattle.std.specs.List.{cons_option, list_any}
 use Rattle.smil_model.specs.declared.times.Time.{Time}
 use Rattle.smil_model.specs.Times.{within_horizon}
@@ -13,6 +13,8 @@ use Rattle.smil_model.specs.declared.document.Edge.{Edge}
 use Rattle.smil_model.specs.declared.document.Edge.TheVariants.{Begin, End}
 use Rattle.smil_model.specs.declared.diary.Step.{Step}
 use Rattle.smil_model.specs.document.Document.{time_children, is_time_child, has_serial, is_element, upwards, lineage, time_parent, is_in_seq, has_kind, is_seq_kind}
+use Rattle.smil_model.specs.document.Defaults.{restart_stated, restart_or, restart_of, first_stated}
+use Rattle.smil_model.specs.declared.document.Restart.TheVariants.{Always}
 use Rattle.smil_model.specs.diary.Plays.{Plays, plays, play_after, is_birth_under, passed, passed_after}
 use Rattle.smil_laws.proofs.Foreign.{fold_same}
 use Rattle.std.proofs.lemmas.Bool.{eqb-true}
@@ -95,6 +97,12 @@ module _ (kept : ℕ → Bool) where
 
     pub parent_same : (s : ℕ) → kept s ≡ true → time_parent n1 s ≡ time_parent n2 s
     parent_same s k = ap (λ c. find is_element (drop 1 c)) (lineage_same s k)
+
+    -- defaults are inherited along the lineage
+    pub restart_same : (e : Node) → kept e.serial ≡ true → restart_of n1 e ≡ restart_of n2 e
+    restart_same e k =
+        ap (λ c. restart_or (first_stated (λ (n : Node). option_and_then restart_stated n.attrs.restart_default) Always (filter is_element c)) e.attrs.restart)
+        (lineage_same e.serial k)
 
     pub parent_kept : (s : ℕ) (p : Node) → kept s ≡ true → time_parent n1 s ≡ Some p → kept p.serial ≡ true
     parent_kept s p k q = by_chain (lineage n1 s) refl (upwards_all (reverse n1) s k closed1)

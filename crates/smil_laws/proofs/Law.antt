@@ -8,7 +8,10 @@ use Rattle.smil_model.specs.document.Document.{elements, node_at, is_time_child,
 use Rattle.smil_model.specs.document.Dependencies.{has_implicit_duration, is_sync_with, all_items}
 use Rattle.smil_model.specs.diary.Diary.{History, up_to}
 use Rattle.smil_model.specs.interval.Current.{interval_given, current_interval}
-use Rattle.smil_model.specs.reach.Reach.{is_event_of}
+use Rattle.smil_model.specs.declared.diary.LogEntry.{LogEntry}
+use Rattle.smil_model.specs.declared.diary.Step.{Step}
+use Rattle.smil_model.specs.interval.Instances.{is_press}
+use Rattle.smil_model.specs.reach.Reach.{is_event_of, is_key_item}
 use Rattle.smil_laws.proofs.Lineages.{ParentsBefore}
 use Rattle.smil_laws.proofs.Locality.{same_interval}
 use Rattle.smil_laws.proofs.Foreign.{is_about, Apart, ReadsApart, interval-then}
@@ -22,17 +25,23 @@ pub record IsOutside (nodes : List Node) (x : ℕ) (out : ℕ → Bool) (e : Nod
   pub named : (b : ℕ) → list_any (is_sync_with nodes b) (all_items nodes e) ≡ true → (out b ≡ true) × Apart nodes x b
   pub heard : (t : ℕ) → list_any (is_event_of nodes e.serial t) (all_items nodes e) ≡ true → t == x ≡ false
 
-module _ (h : History) (first : ParentsBefore (reverse h.nodes)) (y : Entry) (x : ℕ) (only : (s : ℕ) → s == x ≡ false → is_about h.log s y.step ≡ false) (out : ℕ → Bool) (outside : (e : Node) → node_at (elements h.nodes) e.serial ≡ Some e → out e.serial ≡ true → IsOutside h.nodes x out e) (now : ℤ) where
+-- the step is no press of a key that the element waits for
+abbrev pub IsMute : List Node → List LogEntry → Step → Node → Type 0
+IsMute nodes log step e =
+    (key : ℕ) → list_any (is_key_item key) (all_items nodes e) ≡ true → is_press log key step ≡ false
+
+module _ (h : History) (first : ParentsBefore (reverse h.nodes)) (y : Entry) (x : ℕ) (only : (s : ℕ) → s == x ≡ false → is_about h.log s y.step ≡ false) (out : ℕ → Bool) (outside : (e : Node) → node_at (elements h.nodes) e.serial ≡ Some e → out e.serial ≡ true → IsOutside h.nodes x out e) (mute : (e : Node) → node_at (elements h.nodes) e.serial ≡ Some e → out e.serial ≡ true → IsMute h.nodes h.log y.step e) (now : ℤ) where
   abbrev next : History
   next = up_to h (h.diary ++ y ∷ [])
 
-  reads : (e : Node) → IsOutside h.nodes x out e → ReadsApart h first y x only e
-  reads e o = record {
+  reads : (e : Node) → IsOutside h.nodes x out e → IsMute h.nodes h.log y.step e → ReadsApart h first y x only e
+  reads e o m = record {
     apart = o.apart;
     children = λ s i q. (o.children s i q).1;
     before = λ b q. (o.before b q).1;
     named = λ b q. (o.named b q).1;
     heard = o.heard;
+    keys = m;
   }
 
   rounds-then : (k s : ℕ) → out s ≡ true → after_rounds next now k s ≡ after_rounds h now k s
@@ -46,8 +55,9 @@ module _ (h : History) (first : ParentsBefore (reverse h.nodes)) (y : Entry) (x 
       at_node None here same below = refl
       at_node (Some e) here same below =
           let one : e.serial ≡ s = same e refl in
-          let o = outside e (ap (node_at (elements h.nodes)) one ∙ here) (ap out one ∙ t) in
-          interval-then h first y x only (after_rounds next now k) now e (reads e o)
+          let stands : node_at (elements h.nodes) e.serial ≡ Some e = ap (node_at (elements h.nodes)) one ∙ here in
+          let o = outside e stands (ap out one ∙ t) in
+          interval-then h first y x only (after_rounds next now k) now e (reads e o (mute e stands (ap out one ∙ t)))
           ∙ same_interval h (after_rounds next now k) (after_rounds h now k) now e
           (record {
             children = λ c i q. below c ((o.children c i q).0);

@@ -11,7 +11,7 @@ use Rattle.smil_model.specs.declared.document.Kind.TheVariants as kind
 use Rattle.smil_model.specs.declared.document.Edge.{Edge}
 use Rattle.smil_model.specs.declared.document.Edge.TheVariants.{Begin, End}
 use Rattle.smil_model.specs.declared.document.Item.{Item}
-use Rattle.smil_model.specs.declared.document.Item.TheVariants.{Offset, Sync, Event, Repeat, Indefinite}
+use Rattle.smil_model.specs.declared.document.Item.TheVariants.{Offset, Sync, Event, Repeat, Key, Indefinite}
 use Rattle.smil_model.specs.Times.{rising_times, rising, numbers}
 use Rattle.smil_model.specs.document.Document.{element_named, has_serial, previous_in_seq, is_time_child}
 use Rattle.smil_model.specs.document.Defaults.{begin_list, end_list}
@@ -48,6 +48,7 @@ module _ (h : History) (J K : ℕ → Option Interval) (now : ℤ) (e : Node) wh
       (λ x q c. f x.serial (ap (has_serial x.serial) q ∙ eq-eqb x.serial x.serial refl) c)
   same_item side (Event who name offset) before f = refl
   same_item side (Repeat who n offset) before f = refl
+  same_item side (Key key offset) before f = refl
   same_item Begin Indefinite before f = refl
   same_item End Indefinite before f = refl
 

@@ -10,7 +10,7 @@ use Rattle.smil_model.specs.declared.document.Node.{Node}
 use Rattle.smil_model.specs.declared.document.Edge.{Edge}
 use Rattle.smil_model.specs.declared.document.Edge.TheVariants.{Begin, End}
 use Rattle.smil_model.specs.declared.document.Item.{Item}
-use Rattle.smil_model.specs.declared.document.Item.TheVariants.{Offset, Sync, Event, Repeat, Indefinite}
+use Rattle.smil_model.specs.declared.document.Item.TheVariants.{Offset, Sync, Event, Repeat, Key, Indefinite}
 use Rattle.smil_model.specs.declared.view.State.{State}
 use Rattle.smil_model.specs.declared.view.State.TheVariants as state
 use Rattle.smil_model.specs.declared.view.Shown.TheVariants as shown
@@ -156,6 +156,7 @@ module _ (h : History) (m : ℕ) (settled : until (pos m) h.diary ≡ h.diary) (
     item-next side (Sync who edge offset) = named-next offset edge (element_named h.nodes who)
     item-next side (Event who name offset) = refl
     item-next side (Repeat who n offset) = refl
+    item-next side (Key key offset) = refl
     item-next Begin Indefinite = refl
     item-next End Indefinite = refl
 
@@ -228,7 +229,7 @@ module _ (h : History) (m : ℕ) (settled : until (pos m) h.diary ≡ h.diary) (
       by_held true true q = refl
       by_held false t q = refl
 
-  keys-of-next : (J : ℕ → Option Interval) (place : ℕ) (e : Node) → coming_of h J (pos (suc m)) place e ≡ coming_of h J (pos m) place e
+  pub keys-of-next : (J : ℕ → Option Interval) (place : ℕ) (e : Node) → coming_of h J (pos (suc m)) place e ≡ coming_of h J (pos m) place e
   keys-of-next J place e = by_held (is_active h.diary e.serial) (outer_stands h e.serial) refl
     where
       by_held : (a t : Bool) → outer_stands h e.serial ≡ t → cond a (cond t [] (coming_end h (pos (suc m)) place e (J e.serial)) ++ coming_repeat h J (pos (suc m)) place e) (cond t [] (coming_begin h (pos (suc m)) place e (J e.serial))) ≡ cond a (cond t [] (coming_end h (pos m) place e (J e.serial)) ++ coming_repeat h J (pos m) place e) (cond t [] (coming_begin h (pos m) place e (J e.serial)))
@@ -259,7 +260,7 @@ module _ (h : History) (m : ℕ) (settled : until (pos m) h.diary ≡ h.diary) (
       no_value : (a b : ℤ) → a -ℤ b ≡ a +ℤ (pos 0 -ℤ b)
       no_value a b = omega (arith, ints)
 
-  view-next : (J : ℕ → Option Interval) (e : Node) → view_of h (pos (suc m)) J e ≡ view_of h (pos m) J e
+  pub view-next : (J : ℕ → Option Interval) (e : Node) → view_of h (pos (suc m)) J e ≡ view_of h (pos m) J e
   view-next J e = by_held (outer_stands h e.serial) refl
     where
       above : List Node

@@ -36,10 +36,10 @@ filter_shorter p (x ∷ xs) = step (p x) (filter_shorter p xs)
     step true q = omega (arith, q)
     step false q = omega (arith, q)
 
-le_later : (x : ℤ) (m : ℕ) → int_le x (pos m) ≡ true → int_le x (pos (suc m)) ≡ true
+pub le_later : (x : ℤ) (m : ℕ) → int_le x (pos m) ≡ true → int_le x (pos (suc m)) ≡ true
 le_later x m q = grind (arith, ints)
 
-until_later : (m : ℕ) (ds : List Entry) → until (pos m) ds ≡ ds → until (pos (suc m)) ds ≡ ds
+pub until_later : (m : ℕ) (ds : List Entry) → until (pos m) ds ≡ ds → until (pos (suc m)) ds ≡ ds
 until_later m [] q = refl
 until_later m (x ∷ xs) q = step (int_le x.moment (pos m)) refl q (until_later m xs)
   where

@@ -6,8 +6,8 @@ use Rattle.std.proofs.lemmas.Bool.{or_left, or_right, or_cases, and_parts, and_f
 use Rattle.std.proofs.lemmas.List.{length-reverse}
 use Rattle.smil_model.specs.declared.document.Node.{Node}
 use Rattle.smil_laws.specs.Locality.{ParentsBefore}
-use Rattle.smil_model.specs.document.Document.{is_element, elements, node_at, upwards, lineage, time_parent, time_children, is_time_child, just_before, previous_child, previous_in_seq, is_in_seq, has_serial}
-use Rattle.smil_model.specs.document.Dependencies.{all_items, feeds, feeds_node, serials}
+use Rattle.smil_model.specs.document.Document.{is_element, elements, node_at, upwards, lineage, time_parent, time_children, is_time_child, just_before, previous_child, previous_in_seq, is_in_seq, has_serial, serials}
+use Rattle.smil_model.specs.document.Dependencies.{all_items, feeds, feeds_node}
 use Rattle.smil_model.specs.document.Closure.{has, rounds, closure}
 use Rattle.smil_laws.proofs.Closures.{has_filter, filter_le, more_kept, is_closed, has_set}
 use Rattle.smil_laws.proofs.Lineages.{upwards-rest, upwards-head}

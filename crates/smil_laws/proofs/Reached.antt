@@ -7,10 +7,10 @@ use Rattle.std.proofs.lemmas.List.{reverse-append}
 use Rattle.std.proofs.lemmas.List.Folds.{list_any-append}
 use Rattle.smil_model.specs.declared.document.Node.{Node}
 use Rattle.smil_model.specs.declared.document.Item.{Item}
-use Rattle.smil_model.specs.declared.document.Item.TheVariants.{Offset, Sync, Event, Repeat, Indefinite}
-use Rattle.smil_model.specs.document.Document.{is_element, elements, node_at, lineage, is_within, upwards, time_parent, time_children, is_time_child, just_before, previous_child, previous_in_seq, is_in_seq, element_named, has_serial, has_id, target}
-use Rattle.smil_model.specs.document.Dependencies.{is_sync_with, all_items, serials}
-use Rattle.smil_model.specs.document.Closure.{has}
+use Rattle.smil_model.specs.declared.document.Item.TheVariants.{Offset, Sync, Event, Repeat, Key, Indefinite}
+use Rattle.smil_model.specs.document.Document.{is_element, elements, node_at, lineage, is_within, upwards, time_parent, time_children, is_time_child, just_before, previous_child, previous_in_seq, is_in_seq, element_named, has_serial, has_id, target, serials}
+use Rattle.smil_model.specs.document.Dependencies.{is_sync_with, all_items}
+use Rattle.smil_model.specs.document.Closure.{has, closure}
 use Rattle.smil_model.specs.reach.Reach.{is_option, is_event_of, reads_node, reads, is_near, near, down}
 use Rattle.smil_laws.proofs.Closures.{has_filter, is_closed, has_set}
 use Rattle.smil_laws.proofs.Lineages.{skip, take_it}
@@ -28,7 +28,7 @@ found_any s test (n ∷ ns) e q t = step (n.serial == s) refl q (found_any s tes
     step true b q later = let one : n ≡ e = cc in or_left _ _ (and_from _ _ b (ap test one ∙ t))
     step false b q later = or_right _ _ (later q t)
 
-has_serials : (s : ℕ) (ns : List Node) → list_any (λ (n : Node). n.serial == s) ns ≡ true → has (serials ns) s ≡ true
+pub has_serials : (s : ℕ) (ns : List Node) → list_any (λ (n : Node). n.serial == s) ns ≡ true → has (serials ns) s ≡ true
 has_serials s [] q = q
 has_serials s (n ∷ ns) q = by_case (or_cases (n.serial == s) (list_any (λ (n : Node). n.serial == s) ns) q) (has_serials s ns)
   where
@@ -45,7 +45,7 @@ from_serials s (n ∷ ns) q = by_case (or_cases (n.serial == s) (has (serials ns
     by_case (inr r) later = or_right _ _ (later r)
 
 -- among those that pass, one that passes a weaker test
-any_filter : (p q t : Node → Bool) (ns : List Node) → ((n : Node) → t n ≡ true → p n ≡ true) → ((n : Node) → t n ≡ true → q n ≡ true) → list_any t ns ≡ true → list_any q (filter p ns) ≡ true
+pub any_filter : (p q t : Node → Bool) (ns : List Node) → ((n : Node) → t n ≡ true → p n ≡ true) → ((n : Node) → t n ≡ true → q n ≡ true) → list_any t ns ≡ true → list_any q (filter p ns) ≡ true
 any_filter p q t [] f g h = h
 any_filter p q t (n ∷ ns) f g h = by_case (or_cases (t n) (list_any t ns) h) (any_filter p q t ns f g)
   where
@@ -100,7 +100,7 @@ before_any s o (n ∷ ns) b q = step (n.serial == s) q (before_any s (Some n) ns
 
 -- ---- lineages
 
-any_reverse : (test : Node → Bool) (ns : List Node) → list_any test ns ≡ true → list_any test (reverse ns) ≡ true
+pub any_reverse : (test : Node → Bool) (ns : List Node) → list_any test ns ≡ true → list_any test (reverse ns) ≡ true
 any_reverse test [] q = q
 any_reverse test (n ∷ ns) q =
     ap (list_any test) (reverse-append (n ∷ []) ns) ∙ list_any-append test (reverse ns) (n ∷ []) ∙ by_case (or_cases (test n) (list_any test ns) q) (any_reverse test ns)
@@ -109,7 +109,7 @@ any_reverse test (n ∷ ns) q =
     by_case (inl e) later = or_right _ _ (or_left _ _ e)
     by_case (inr r) later = or_left _ _ (later r)
 
-chain_begins : (rs : List Node) (s x : ℕ) → list_any (λ (n : Node). n.serial == s) rs ≡ true → list_any (λ (n : Node). n.serial == x) (upwards rs s) ≡ false → s == x ≡ false
+pub chain_begins : (rs : List Node) (s x : ℕ) → list_any (λ (n : Node). n.serial == s) rs ≡ true → list_any (λ (n : Node). n.serial == x) (upwards rs s) ≡ false → s == x ≡ false
 chain_begins [] s x q free = cc
 chain_begins (n ∷ before) s x q free = step (n.serial == s) refl (or_cases (n.serial == s) (list_any (λ (n : Node). n.serial == s) before) q) (chain_begins before s x)
   where
@@ -123,7 +123,7 @@ chain_begins (n ∷ before) s x q free = step (n.serial == s) refl (or_cases (n.
 -- ---- the reach
 
 -- what is not in a lineage is no element of it
-no_element_above : (x : ℕ) (chain : List Node) → list_any (λ (n : Node). n.serial == x) chain ≡ false → list_any (λ (n : Node). is_element n && (n.serial == x)) chain ≡ false
+pub no_element_above : (x : ℕ) (chain : List Node) → list_any (λ (n : Node). n.serial == x) chain ≡ false → list_any (λ (n : Node). is_element n && (n.serial == x)) chain ≡ false
 no_element_above x [] q = refl
 no_element_above x (n ∷ ns) q =
     let parts = or_parts _ _ q in
@@ -152,11 +152,11 @@ module _ (nodes : List Node) (x : ℕ) where
           (λ t. let is_in : has (down nodes x) s ≡ true = has_set (reads nodes) all (near nodes x) s i (has_filter (is_near nodes x) all s i (or_left _ _ (or_right _ _ t))) in
           let no : false ≡ true = sym out ∙ is_in in cc)
 
-  -- what it reads is not in the reach either
-  out_before : (b : ℕ) (e : Node) → node_at (elements nodes) e.serial ≡ Some e → has (down nodes x) e.serial ≡ false → reads_node nodes b e ≡ true → has (down nodes x) b ≡ false
-  out_before b e here out r =
-      false_from_ne_true (has (down nodes x) b)
-      (λ t. let is_in : has (down nodes x) e.serial ≡ true = is_closed (reads nodes) all (near nodes x) b e.serial t (found_any e.serial (reads_node nodes b) (elements nodes) e here r) (is_listed e here) in
+  -- what an element reads that is not in a closed set is not in it either
+  pub out_before : (set : List ℕ) (b : ℕ) (e : Node) → node_at (elements nodes) e.serial ≡ Some e → has (closure (reads nodes) all set) e.serial ≡ false → reads_node nodes b e ≡ true → has (closure (reads nodes) all set) b ≡ false
+  out_before set b e here out r =
+      false_from_ne_true (has (closure (reads nodes) all set) b)
+      (λ t. let is_in : has (closure (reads nodes) all set) e.serial ≡ true = is_closed (reads nodes) all set b e.serial t (found_any e.serial (reads_node nodes b) (elements nodes) e here r) (is_listed e here) in
       let no : false ≡ true = sym out ∙ is_in in cc)
     where
       is_listed : (e : Node) → node_at (elements nodes) e.serial ≡ Some e → has all e.serial ≡ true
@@ -215,6 +215,7 @@ module _ (nodes : List Node) (x : ℕ) where
       by_item (Offset offset) t = cc
       by_item (Event who name offset) t = cc
       by_item (Repeat who n offset) t = cc
+      by_item (Key key offset) t = cc
       by_item Indefinite t = cc
 
       by_case : (is_sync_with nodes b i ≡ true) ⊎ (list_any (is_sync_with nodes b) is ≡ true) → (list_any (is_sync_with nodes b) is ≡ true → has all b ≡ true) → has all b ≡ true
@@ -238,6 +239,7 @@ module _ (nodes : List Node) (x : ℕ) where
       by_item (Repeat who n offset) u = by_target who u
       by_item (Offset offset) u = cc
       by_item (Sync who edge offset) u = cc
+      by_item (Key key offset) u = cc
       by_item Indefinite u = cc
 
       by_case : (is_event_of nodes e t i ≡ true) ⊎ (list_any (is_event_of nodes e t) is ≡ true) → (list_any (is_event_of nodes e t) is ≡ true → has all t ≡ true) → has all t ≡ true
@@ -263,4 +265,4 @@ module _ (nodes : List Node) (x : ℕ) where
       out = not-true (has (down nodes x) e.serial) t
 
       away : (s : ℕ) → has all s ≡ true → reads_node nodes s e ≡ true → (is_out s ≡ true) × Apart nodes x s
-      away s i r = let o = out_before s e here out r in (not_from_false _ o, apart_out s i o)
+      away s i r = let o = out_before (near nodes x) s e here out r in (not_from_false _ o, apart_out s i o)

@@ -67,10 +67,10 @@ rising from (x ∷ xs) to r l =
 -- ---- what each kind of step keeps, each step keeps
 
 module _ (c : Course) (P : Progress → Type 0) where
-  record Keeps : Type 0 where
-    quiet : (p : Progress) → P p → nat_lt p.moment c.last ≡ true → P (record { moment = suc p.moment; heard = p.heard; diary = p.diary })
-    hears : (p : Progress) → P p → P (record { moment = p.moment; heard = suc p.heard; diary = p.diary ++ record { moment = pos p.moment; step = Logged p.heard } ∷ [] })
-    happens : (p : Progress) (next : Coming) → P p → first_coming (coming (history_at c p) (pos p.moment)) ≡ Some next → P (record { moment = p.moment; heard = p.heard; diary = p.diary ++ group (history_at c p) (pos p.moment) next.key.serial next.change })
+  pub record Keeps : Type 0 where
+    pub quiet : (p : Progress) → P p → nat_lt p.moment c.last ≡ true → P (record { moment = suc p.moment; heard = p.heard; diary = p.diary })
+    pub hears : (p : Progress) → P p → P (record { moment = p.moment; heard = suc p.heard; diary = p.diary ++ record { moment = pos p.moment; step = Logged p.heard } ∷ [] })
+    pub happens : (p : Progress) (next : Coming) → P p → first_coming (coming (history_at c p) (pos p.moment)) ≡ Some next → P (record { moment = p.moment; heard = p.heard; diary = p.diary ++ group (history_at c p) (pos p.moment) next.key.serial next.change })
 
   module _ (keeps : Keeps) where
     quiet_keeps : (p q : Progress) → P p → after_quiet c p ≡ Some q → P q
@@ -105,7 +105,7 @@ module _ (c : Course) (P : Progress → Type 0) where
                 rw (← one) (keeps.happens p next held f)
             by_due false k = settling_keeps p q held (slice_get c.log p.heard) k
 
-    steps_keep : (k : ℕ) (p : Progress) → P p → P (after_steps c k p)
+    pub steps_keep : (k : ℕ) (p : Progress) → P p → P (after_steps c k p)
     steps_keep zero p held = held
     steps_keep (suc k) p held = by_next (next_step c p) refl (steps_keep k)
       where

@@ -5,8 +5,7 @@ use Rattle.std.proofs.lemmas.Bool.{or_parts}
 use Rattle.smil_model.specs.declared.document.Node.{Node}
 use Rattle.smil_model.specs.declared.interval.Interval.{Interval}
 use Rattle.smil_laws.specs.Locality.{ParentsBefore}
-use Rattle.smil_model.specs.document.Document.{elements, node_at}
-use Rattle.smil_model.specs.document.Dependencies.{serials}
+use Rattle.smil_model.specs.document.Document.{elements, node_at, serials}
 use Rattle.smil_model.specs.document.Closure.{has}
 use Rattle.smil_model.specs.diary.Diary.{History}
 use Rattle.smil_model.specs.interval.Current.{interval_given, table, in_table, current_interval}

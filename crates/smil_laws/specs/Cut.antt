@@ -1,5 +1,6 @@
 -- What a course reaches does not rest on what is logged later, nor on the moments that come later.
-use Rattle.std.specs.Prelude.{◌≡◌, ℕ, ℤ, pos, List, take, fold, filter, length, Bool, true, false}
+use Rattle.std.specs.Prelude.{◌≡◌, ℕ, ◌<◌, pos, List, take, filter, length, Bool, true, false}
+use Rattle.std.specs.List.{AllByRecursion}
 use Rattle.smil_model.specs.declared.diary.Entry.{Entry}
 use Rattle.smil_model.specs.declared.diary.LogEntry.{LogEntry}
 use Rattle.smil_model.specs.declared.diary.Step.{Step}
@@ -8,6 +9,7 @@ use Rattle.smil_model.specs.document.Document.{Document}
 use Rattle.smil_model.specs.document.Valid.{IsNumberedTree}
 use Rattle.smil_model.specs.happening.Resolution.{Progress, Reaches}
 use Rattle.smil_laws.specs.Agreement.{course_on}
+use Rattle.smil_model.specs.diary.Diary.{last_moment}
 
 -- the course with the part of the log that was heard by then, up to that moment, comes as far
 abbrev pub ReachesWhenCut : Type 0
@@ -16,9 +18,13 @@ ReachesWhenCut =
     → Reaches (course_on document.nodes log last) q
     → Reaches (course_on document.nodes (take q.heard log) q.moment) q
 
--- the moment of the last entry; 0 where there is none
-abbrev pub last_moment : List Entry → ℤ
-last_moment diary = fold (λ before (x : Entry). x.moment) (pos 0) diary
+-- a step names no log entry from this place on, and nor does any step of the diary
+abbrev pub IsNamedBelow : ℕ → Step → Type 0
+IsNamedBelow place (Logged named) = named < place
+IsNamedBelow place _ = Unit {0}
+
+abbrev pub NamesBelow : ℕ → List Entry → Type 0
+NamesBelow place diary = AllByRecursion (λ (x : Entry). IsNamedBelow place x.step) diary
 
 -- how many log entries the diary names
 abbrev pub is_logged : Step → Bool

@@ -6,3 +6,10 @@ pub mod Edited
 pub mod Cut
 pub mod Image
 pub mod Resolved
+pub mod Migration
+pub mod Courses
+pub mod Same
+pub mod Touched
+pub mod Seen
+pub mod Near
+pub mod Firsts

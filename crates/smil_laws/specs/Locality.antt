@@ -1,11 +1,11 @@
 -- Laws over the definitions, each the contract of a function of its own.
-use Rattle.std.specs.Prelude.{◌≡◌, ℕ, ℤ, List, [], ◌∷◌, ◌++◌, Some, false, reverse, ◌==◌}
+use Rattle.std.specs.Prelude.{◌≡◌, ℕ, ℤ, List, [], ◌∷◌, ◌++◌, false, reverse, ◌==◌}
 use Rattle.smil_model.specs.declared.diary.Entry.{Entry}
 use Rattle.smil_model.specs.declared.document.Node.{Node}
 use Rattle.smil_model.specs.diary.Diary.{History, up_to}
 use Rattle.smil_model.specs.interval.Current.{current_interval}
 use Rattle.smil_model.specs.document.Closure.{has}
-use Rattle.smil_model.specs.reach.Reach.{subject_of, reach}
+use Rattle.smil_model.specs.reach.Reach.{reach}
 
 -- of nodes from the last to the first: no parent is the node itself or stands after it
 abbrev pub NoParent : ℕ → List Node → Type 0
@@ -19,7 +19,6 @@ ParentsBefore (n ∷ before) = (n.parent == n.serial ≡ false) × NoParent n.se
 -- an entry leaves the current interval of each element outside its reach as it was
 abbrev pub LeavesUnreached : Type 0
 LeavesUnreached =
-    (h : History) (y : Entry) (x : ℕ) (now : ℤ) (s : ℕ) → ParentsBefore (reverse h.nodes)
-    → subject_of h.log y.step ≡ Some x
+    (h : History) (y : Entry) (now : ℤ) (s : ℕ) → ParentsBefore (reverse h.nodes)
     → has (reach h.nodes h.log y) s ≡ false
     → current_interval (up_to h (h.diary ++ y ∷ [])) now s ≡ current_interval h now s

@@ -7,6 +7,7 @@ ghost use Rattle.smil_laws.specs.Cut.{ReachesByItsLog, ReachesWhenCut};
 ghost use Rattle.smil_laws.specs.Edited.{EditAgreesThroughBegin, EditDiffersBelow, EditKeepsDiary};
 ghost use Rattle.smil_laws.specs.Agreement.{AgreesThroughBegin, AgreesUntilBegun, SameUnlessBegun, StepsAgree};
 ghost use Rattle.smil_laws.specs.Image.{ImageHasDiary};
+ghost use Rattle.smil_laws.specs.Migration.{OpeningsMigrate, OutcomesMigrate};
 
 /// The dependencies that are not looped have a rank that rises along each of them, so they have no cycle.
 pub fn dependencies_have_rank()
@@ -88,4 +89,14 @@ pub fn reaches_by_its_log()
 /// The diary of a par with one image, at every moment.
 pub fn image_has_diary()
     ensures { ImageHasDiary }
+{}
+
+/// An order that meets no limit has the same outcome within larger limits.
+pub fn outcomes_migrate()
+    ensures { OutcomesMigrate }
+{}
+
+/// And so has a load.
+pub fn openings_migrate()
+    ensures { OpeningsMigrate }
 {}

@@ -1,8 +1,18 @@
 -- Time values: a number of milliseconds, then indefinite, then unresolved, in SMIL's order.
-use Rattle.std.specs.Prelude.{ℕ, ◌/◌, ℤ, pos, negsuc, neg_ℤ, ◌+ℤ◌, ◌*ℤ◌, int_lt, int_le, Bool, true, false, if◌then◌else◌, List, [], ◌∷◌, fold, ◌&&◌}
+use Rattle.std.specs.Prelude.{ℕ, ◌/◌, ℤ, pos, negsuc, neg_ℤ, ◌+ℤ◌, ◌*ℤ◌, ◌≤ℤ◌, int_lt, int_le, Bool, true, false, if◌then◌else◌, List, [], ◌∷◌, fold, ◌&&◌}
 use Rattle.smil_model.specs.declared.times.TheConstants.{HORIZON}
 use Rattle.smil_model.specs.declared.times.Time.{Time}
 use Rattle.smil_model.specs.declared.times.Time.TheVariants.{At, Indefinite, Unresolved}
+
+-- a moment from the first to the horizon
+pub record IsMoment (moment : ℤ) : Type 0 where
+  pub low : pos 0 ≤ℤ moment
+  pub high : moment ≤ℤ HORIZON
+
+-- a time not farther from the first moment than the horizon is, before it or after it
+pub record IsNear (time : ℤ) : Type 0 where
+  pub low : neg_ℤ HORIZON ≤ℤ time
+  pub high : time ≤ℤ HORIZON
 
 -- a sum or a product as a time: indefinite above the horizon, and never below minus the horizon
 abbrev pub within_horizon : ℤ → Time

@@ -1,4 +1,5 @@
 -- Documents.
+pub mod Limits
 pub mod Document
 pub mod Words
 pub mod Defaults

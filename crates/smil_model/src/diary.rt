@@ -5,11 +5,13 @@ use super::listed::{Bytes, Listed};
 use std::alloc::AllocError;
 use std::mem::size_of;
 
-/// What came from outside: an event on the element with the serial `who`, or the length of its media in milliseconds.
+/// What came from outside: an event on the element with the serial `who`, the length of its media in milliseconds, or a
+/// press of an access key, one byte.
 #[derive(Debug, PartialEq, Drop)]
 pub enum Happening {
     Event { who: u32, name: Bytes },
     Media { who: u32, length: i64 },
+    Key { key: u8 },
 }
 
 impl Duplicate for Happening {
@@ -23,6 +25,7 @@ impl Duplicate for Happening {
                 who: *who,
                 length: *length,
             }),
+            Happening::Key { key } => Ok(Happening::Key { key: *key }),
         }
     }
 }
@@ -77,7 +80,7 @@ pub struct Entry {
     pub step: Step,
 }
 
-// 500,000 entries take at most 24 MB.
+// 1,000,000 entries take at most 48 MB.
 const _: () = prove!(size_of::<Entry>() <= 48);
 
 /// What happened, in order.
@@ -118,6 +121,10 @@ mod tests {
                 who: 3,
                 length: 700,
             },
+        })?;
+        log.push(LogEntry {
+            moment: 3000,
+            what: Happening::Key { key: b'x' },
         })?;
         assert_eq!(rt; log.copy()?, log);
         log.cut_back(1);

@@ -9,8 +9,9 @@ use super::times::Time;
 use std::alloc::{AllocError, Global};
 use std::marker::Model;
 
-/// The kind of a node: a time container, the priorityClass of an excl, still media or continuous media. A priorityClass
-/// has no times of its own (SMIL 3.0 Timing, the elements `par`, `seq`, `excl` and `priorityClass`).
+/// The kind of a node: a time container, the priorityClass of an excl, still media, continuous media, or a `set`, which
+/// sets an attribute of another node while it plays. A priorityClass has no times of its own (SMIL 3.0 Timing, the
+/// elements `par`, `seq`, `excl` and `priorityClass`; SMIL 3.0 Animation, the element `set`).
 #[derive(Clone, Copy, Debug, PartialEq, Eq)]
 pub enum Kind {
     Par,
@@ -25,6 +26,20 @@ pub enum Kind {
     Animation,
     TextStream,
     Ref,
+    Set,
+}
+
+impl Kind {
+    ghost use Rattle.std.specs.Prelude.{not};
+    ghost use Rattle.smil_model.specs.document.Document.{is_class_kind};
+
+    /// Whether a node of this kind is an element, which has times and a view: each is, but a priorityClass. It has no
+    /// condition and takes no memory.
+    pub fn is_element(self) -> bool
+        ensures { result ≡ not (is_class_kind self) }
+    {
+        !matches!(self, Kind::PriorityClass)
+    }
 }
 
 /// The begin or the end of an element, which a syncbase item names.
@@ -59,6 +74,11 @@ pub enum Item {
         n: u32,
         offset: i64,
     },
+    /// A press of the access key `key`, one byte.
+    Key {
+        key: u8,
+        offset: i64,
+    },
     /// No begin, and an end that is indefinite.
     Indefinite,
 }
@@ -80,6 +100,10 @@ impl Duplicate for Item {
             Item::Repeat { who, n, offset } => Ok(Item::Repeat {
                 who: copy_of(who)?,
                 n: *n,
+                offset: *offset,
+            }),
+            Item::Key { key, offset } => Ok(Item::Key {
+                key: *key,
                 offset: *offset,
             }),
             Item::Indefinite => Ok(Item::Indefinite),
@@ -139,6 +163,13 @@ impl Items {
     {
         self.items.get(place)
     }
+
+    /// All items, in order. It takes no memory.
+    pub fn slice(&self) -> &[Item]
+        ensures { result.now ≡ self.now }
+    {
+        self.items.slice()
+    }
 }
 
 impl Duplicate for Items {
@@ -173,6 +204,19 @@ pub enum Restart {
     Always,
     WhenNotActive,
     Never,
+    /// `default`: the default that holds for the element.
+    ByDefault,
+}
+
+/// A value of `restartDefault`: the restart of the element and its descendants that state none (SMIL 3.0 Timing, the
+/// `restartDefault` attribute).
+#[derive(Clone, Copy, Debug, PartialEq, Eq)]
+pub enum RestartDefault {
+    Always,
+    WhenNotActive,
+    Never,
+    /// The default of the time parent.
+    Inherit,
 }
 
 /// A value of `fill`: what is shown after the end (SMIL 3.0 Timing, the `fill` attribute).
@@ -182,6 +226,20 @@ pub enum Fill {
     Freeze,
     Hold,
     Auto,
+    /// `default`: the default that holds for the element.
+    ByDefault,
+}
+
+/// A value of `fillDefault`: the fill of the element and its descendants that state none (SMIL 3.0 Timing, the
+/// `fillDefault` attribute).
+#[derive(Clone, Copy, Debug, PartialEq, Eq)]
+pub enum FillDefault {
+    Remove,
+    Freeze,
+    Hold,
+    Auto,
+    /// The default of the time parent.
+    Inherit,
 }
 
 /// A value of `endsync`: the child or the children whose ends decide the implicit duration of a container (SMIL 3.0
@@ -229,6 +287,8 @@ pub struct Attrs {
     pub repeat_dur: Option<Time>,
     pub restart: Option<Restart>,
     pub fill: Option<Fill>,
+    pub restart_default: Option<RestartDefault>,
+    pub fill_default: Option<FillDefault>,
     pub endsync: Option<Endsync>,
     pub peers: Option<Act>,
     pub higher: Option<Act>,
@@ -237,6 +297,9 @@ pub struct Attrs {
     pub region: Option<Bytes>,
     pub alt: Option<Bytes>,
     pub title: Option<Bytes>,
+    pub target_element: Option<Bytes>,
+    pub attribute_name: Option<Bytes>,
+    pub to: Option<Bytes>,
 }
 
 impl Attrs {
@@ -257,6 +320,8 @@ impl Attrs {
             repeat_dur: None,
             restart: None,
             fill: None,
+            restart_default: None,
+            fill_default: None,
             endsync: None,
             peers: None,
             higher: None,
@@ -265,6 +330,9 @@ impl Attrs {
             region: None,
             alt: None,
             title: None,
+            target_element: None,
+            attribute_name: None,
+            to: None,
         }
     }
 }
@@ -282,6 +350,8 @@ impl Duplicate for Attrs {
             repeat_dur: self.repeat_dur,
             restart: self.restart,
             fill: self.fill,
+            restart_default: self.restart_default,
+            fill_default: self.fill_default,
             endsync: copy_of(&self.endsync)?,
             peers: self.peers,
             higher: self.higher,
@@ -290,12 +360,15 @@ impl Duplicate for Attrs {
             region: copy_of(&self.region)?,
             alt: copy_of(&self.alt)?,
             title: copy_of(&self.title)?,
+            target_element: copy_of(&self.target_element)?,
+            attribute_name: copy_of(&self.attribute_name)?,
+            to: copy_of(&self.to)?,
         })
     }
 }
 
-/// A node of a document, with its serial and that of its parent. Serials are given from 1 in document order, and the
-/// parent of the root is 0.
+/// A node of a document, with its serial and that of its parent; the parent of the root is 0. Serials are from 1 and are
+/// not given twice; where an outline states none, they are given in document order.
 #[derive(Debug, PartialEq, Drop)]
 pub struct Node {
     pub serial: u32,
@@ -328,6 +401,8 @@ pub enum Attr {
     RepeatDur(Time),
     Restart(Restart),
     Fill(Fill),
+    RestartDefault(RestartDefault),
+    FillDefault(FillDefault),
     Endsync(Endsync),
     Peers(Act),
     Higher(Act),
@@ -336,6 +411,9 @@ pub enum Attr {
     Region(Bytes),
     Alt(Bytes),
     Title(Bytes),
+    TargetElement(Bytes),
+    AttributeName(Bytes),
+    To(Bytes),
 }
 
 /// An attribute's name.
@@ -351,6 +429,8 @@ pub enum AttrName {
     RepeatDur,
     Restart,
     Fill,
+    RestartDefault,
+    FillDefault,
     Endsync,
     Peers,
     Higher,
@@ -359,6 +439,9 @@ pub enum AttrName {
     Region,
     Alt,
     Title,
+    TargetElement,
+    AttributeName,
+    To,
 }
 
 /// A document, seen as its nodes in document order and the next serial.
@@ -415,6 +498,13 @@ impl Doc {
         self.nodes.get(place)
     }
 
+    /// All nodes, in document order. It takes no memory.
+    pub fn nodes(&self) -> &[Node]
+        ensures { result.now ≡ self.now.nodes }
+    {
+        self.nodes.slice()
+    }
+
     /// The serial that an inserted node takes. It takes no memory.
     pub fn next(&self) -> u32
         ensures { result ≡ self.now.next }
@@ -445,27 +535,18 @@ mod tests {
         })
     }
 
-    #[test]
-    fn thirty_two_items(rt: HostRuntime) -> Result<(), Fail> {
-        let mut items = Items::new(rt.alloc(), event_item(rt.alloc(), 0)?)?;
-        for offset in 1..32 {
-            assert!(rt; items.len() < ITEMS);
-            items.push(event_item(rt.alloc(), offset)?)?;
-        }
-        assert_eq!(rt; items.len(), 32);
-        assert_eq!(rt; items.get(31), Some(&event_item(rt.alloc(), 31)?));
-        assert_eq!(rt; items.get(32), None);
-        assert_eq!(rt; items.copy()?, items);
-        Ok(())
-    }
-
     fn node(alloc: Global) -> Result<Node, AllocError> {
         let id = Bytes::of(alloc, b"a")?;
-        let begin = Items::new(alloc, event_item(alloc, 500)?)?;
+        let mut begin = Items::new(alloc, event_item(alloc, 500)?)?;
+        begin.push(Item::Key {
+            key: b'x',
+            offset: -500,
+        })?;
         let mut attrs = Attrs::none();
         attrs.id = Some(id);
         attrs.begin = Some(begin);
         attrs.max = Some(Time::Indefinite);
+        attrs.restart_default = Some(RestartDefault::Never);
         Ok(Node {
             serial: 1,
             kind: Kind::Par,

@@ -31,14 +31,14 @@ pub struct Play {
 pub enum EndList {
     /// There is no `end` attribute.
     Absent,
-    /// The list has an event or repeat item, which may still give an end.
+    /// The list has an event, repeat or access key item, which may still give an end.
     Hearing,
     /// The list has neither.
     Plain,
 }
 
 /// What the interval of an element follows from, besides its instance times, in milliseconds. The attributes' values are
-/// those that hold: what an absent attribute means stands in their places (SMIL 3.0 Timing, computing the active duration
+/// those that hold: what an absent or inherited attribute means stands in their places (SMIL 3.0 Timing, computing the active duration
 /// and evaluation of begin and end time lists).
 #[derive(Clone, Copy, Debug, PartialEq, Eq)]
 pub struct Facts {
@@ -55,6 +55,7 @@ pub struct Facts {
     /// The greatest begin since birth that an excl let pass.
     pub passed: Option<i64>,
     pub end_list: EndList,
+    /// The restart that holds: never `ByDefault`.
     pub restart: Restart,
     pub min: i64,
     pub max: Time,

@@ -1,6 +1,7 @@
 //! What the timing engine and the program around it speak of: times, documents, diaries, views and orders.
 #![tactic(auto)]
 
+pub mod attributes;
 pub mod diary;
 pub mod document;
 pub mod duplicate;
@@ -14,21 +15,22 @@ pub mod steps;
 pub mod times;
 pub mod view;
 
+pub use attributes::{with_attr, without_attr};
 pub use diary::{Diary, Entry, Happening, Log, LogEntry, Step, StepKind};
 pub use document::{
-    Act, Attr, AttrName, Attrs, Count, Doc, Dur, Edge, Endsync, Fill, Item, Items, Kind, Node,
-    Restart,
+    Act, Attr, AttrName, Attrs, Count, Doc, Dur, Edge, Endsync, Fill, FillDefault, Item, Items,
+    Kind, Node, Restart, RestartDefault,
 };
 pub use duplicate::{Duplicate, copy_of};
 pub use happening::{Class, Key};
 pub use interval::{ChildEnd, EndList, Facts, Interval, Play};
 pub use limits::{
-    DEPTH, DIARY_ENTRIES, EVENT_BYTES, ID_BYTES, ITEMS, LOG_ENTRIES, NAME_BYTES, NODES,
-    PRESENTATIONS, REFERENCES, SERIALS,
+    ATTRIBUTE_BYTES, DEPTH, DIARY_ENTRIES, EVENT_BYTES, ID_BYTES, ITEMS, LINE_BYTES, LOG_ENTRIES,
+    NAME_BYTES, NODES, PRESENTATIONS, REFERENCES, SERIALS,
 };
 pub use listed::{Bytes, Listed, Serials, WordList};
 pub use order::{Order, Refusal, Who};
 pub use player::Player;
 pub use steps::Steps;
 pub use times::{HORIZON, Time, greatest, later, least};
-pub use view::{How, Shown, State, View, ViewFacts};
+pub use view::{How, Layer, Shown, State, View, ViewFacts};

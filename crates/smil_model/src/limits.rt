@@ -4,22 +4,28 @@
 pub const ITEMS: usize = 32;
 
 /// The greatest number of nodes of a document.
-pub const NODES: usize = 2_000;
+pub const NODES: usize = 8_000;
 
 /// The depth that no node of a document has, the root having depth 0.
 pub const DEPTH: usize = 32;
 
-/// The greatest number of items of a document that refer to an element or an event.
-pub const REFERENCES: usize = 8_000;
+/// The greatest number of items of a document that refer to an element, an event or a key.
+pub const REFERENCES: usize = 32_000;
 
 /// The greatest serial, and the greatest next serial of a document.
 pub const SERIALS: u32 = 999_999_999;
+
+/// The greatest number of bytes of a line, without its line feed.
+pub const LINE_BYTES: usize = 16_384;
 
 /// The greatest number of bytes of an id.
 pub const ID_BYTES: usize = 64;
 
 /// The greatest number of bytes of an event's name.
 pub const EVENT_BYTES: usize = 64;
+
+/// The greatest number of bytes of the name of an attribute that a `set` names.
+pub const ATTRIBUTE_BYTES: usize = 64;
 
 /// The greatest number of bytes of a presentation's name.
 pub const NAME_BYTES: usize = 32;
@@ -31,4 +37,4 @@ pub const PRESENTATIONS: usize = 64;
 pub const LOG_ENTRIES: usize = 50_000;
 
 /// The greatest number of entries of a diary.
-pub const DIARY_ENTRIES: usize = 500_000;
+pub const DIARY_ENTRIES: usize = 1_000_000;

@@ -82,6 +82,13 @@ impl<T: Drop> Listed<T> {
         self.items.get(place)
     }
 
+    /// The whole list. It takes no memory.
+    pub fn slice(&self) -> &[T]
+        ensures { result.now ≡ self.now }
+    {
+        self.items.as_slice()
+    }
+
     /// Leaves the first `len` elements, of which there are as many at least. It takes no memory.
     pub fn cut_back(&mut self, len: usize)
         requires { len ≤ length self.old }
@@ -107,13 +114,6 @@ impl Listed<u8> {
         ensures err { OnErr result (self.new ≡ self.old) }
     {
         self.items.extend_from_slice(bytes)
-    }
-
-    /// The whole list. It takes no memory.
-    pub fn slice(&self) -> &[u8]
-        ensures { result.now ≡ self.now }
-    {
-        self.items.as_slice()
     }
 }
 

@@ -44,6 +44,10 @@ pub enum Order {
         who: Who,
         length: i64,
     },
+    /// A press of an access key, one byte, at the present moment.
+    Key {
+        key: u8,
+    },
     /// Gives an attribute a value.
     Set {
         who: Who,
@@ -77,12 +81,23 @@ pub enum Order {
     },
     /// Tells the document.
     Text,
+    /// Tells the document with its serials and its next serial.
+    Save,
+    /// Tells the document as `Save`, then the diary and the moment.
+    Diary,
+    /// Tells each attribute that is set, with its value and the `set` that gives it.
+    Values,
+    /// Tells which `set` elements set an attribute of a node, the one that gives the value first.
+    Stack {
+        who: Who,
+        attr: Bytes,
+    },
 }
 
 /// Why an order is refused.
 #[derive(Clone, Copy, Debug, PartialEq, Eq)]
 pub enum Refusal {
-    /// A line has more than 4,096 bytes without its line feed.
+    /// A line has more than 16,384 bytes without its line feed.
     LongLine,
     /// A line has no reading as an order.
     NotACommand,
@@ -111,9 +126,9 @@ pub enum Refusal {
     TooManyItems { column: u32 },
     /// Another node has the id.
     DuplicateId,
-    /// The document would have more than 2,000 nodes, or a node is inserted where the next serial is 999,999,999.
+    /// The document would have more than 8,000 nodes, or a node is inserted where the next serial is 999,999,999.
     TooManyElements,
-    /// The document would have more than 8,000 items other than offsets and `indefinite`.
+    /// The document would have more than 32,000 items other than offsets and `indefinite`.
     TooManyReferences,
     /// No presentation has the name.
     NoPresentation,
@@ -131,18 +146,32 @@ pub enum Refusal {
     LogFull,
     /// The new moment is above 10^12 milliseconds.
     BeyondHorizon,
-    /// The diary after the order would have more than 500,000 entries.
+    /// The diary after the order would have more than 1,000,000 entries.
     DiaryFull,
     /// Memory ran out.
     Memory,
     /// The line has a form that is not read yet.
     NotYet,
+    /// A node line gives a serial that is not below the next serial, or that a line before it has.
+    BadSerial,
+    /// A line has a wall clock item, and the root has no `id` or has a `begin`.
+    NoAnchor,
+}
+
+impl From<AllocError> for Refusal {
+    ghost use Rattle.smil_model.specs.declared.order.Refusal.TheVariants as refused;
+
+    ghost from_gives = { λ _ refusal. refusal ≡ refused.Memory };
+
+    fn from(_: AllocError) -> Self {
+        Refusal::Memory
+    }
 }
 
 impl Refusal {
     ghost use Rattle.smil_model.specs.shown.Lines.{refusal_number, refusal_text, refusal_column};
 
-    /// The number, from 1 to 25.
+    /// The number, from 1 to 27.
     pub fn number(&self) -> u8
         ensures { result ≡ refusal_number self.now }
     {
@@ -172,6 +201,8 @@ impl Refusal {
             Refusal::DiaryFull => 23,
             Refusal::Memory => 24,
             Refusal::NotYet => 25,
+            Refusal::BadSerial => 26,
+            Refusal::NoAnchor => 27,
         }
     }
 
@@ -205,6 +236,8 @@ impl Refusal {
             Refusal::DiaryFull => "diary-full",
             Refusal::Memory => "memory",
             Refusal::NotYet => "not-yet",
+            Refusal::BadSerial => "bad-serial",
+            Refusal::NoAnchor => "no-anchor",
         }
     }
 
@@ -219,51 +252,5 @@ impl Refusal {
             | Refusal::TooManyItems { column } => Some(*column),
             _ => None,
         }
-    }
-}
-
-#[cfg(test)]
-mod tests {
-    use super::*;
-
-    #[test]
-    fn refusals(rt: HostRuntime) {
-        let rows = [
-            (Refusal::LongLine, 1, "long-line"),
-            (Refusal::NotACommand, 2, "not-a-command"),
-            (Refusal::UnfinishedLoad, 3, "unfinished-load"),
-            (Refusal::BadOutline, 4, "bad-outline"),
-            (Refusal::DepthJump, 5, "depth-jump"),
-            (Refusal::TooDeep, 6, "too-deep"),
-            (Refusal::BadPlace, 7, "bad-place"),
-            (
-                Refusal::UnknownAttribute { column: 7 },
-                8,
-                "unknown-attribute",
-            ),
-            (Refusal::Unsupported { column: 7 }, 9, "unsupported"),
-            (Refusal::BadValue { column: 7 }, 10, "bad-value"),
-            (Refusal::TooManyItems { column: 7 }, 11, "too-many-items"),
-            (Refusal::DuplicateId, 12, "duplicate-id"),
-            (Refusal::TooManyElements, 13, "too-many-elements"),
-            (Refusal::TooManyReferences, 14, "too-many-references"),
-            (Refusal::NoPresentation, 15, "no-presentation"),
-            (Refusal::NameTaken, 16, "name-taken"),
-            (Refusal::TooManyPresentations, 17, "too-many-presentations"),
-            (Refusal::NoElement, 18, "no-element"),
-            (Refusal::Root, 19, "root"),
-            (Refusal::NotContinuous, 20, "not-continuous"),
-            (Refusal::LogFull, 21, "log-full"),
-            (Refusal::BeyondHorizon, 22, "beyond-horizon"),
-            (Refusal::DiaryFull, 23, "diary-full"),
-            (Refusal::Memory, 24, "memory"),
-            (Refusal::NotYet, 25, "not-yet"),
-        ];
-        for (refusal, number, word) in rows {
-            assert_eq!(rt; refusal.number(), number);
-            assert_eq!(rt; refusal.word(), word);
-        }
-        assert_eq!(rt; Refusal::BadValue { column: 7 }.column(), Some(7));
-        assert_eq!(rt; Refusal::Memory.column(), None);
     }
 }

@@ -31,8 +31,8 @@ pub trait Player {
     /// Answers an order: appends its text but for the `ok` line, and moves on to its new state; or gives the first refusal
     /// that holds, or `Memory`. After a refusal the presentation and the text are as before.
     ///
-    /// The order's moments and lengths are from 0 to 10^12 milliseconds, its event is one that an event line may name, its
-    /// columns are from 1, and its columns and the lengths of its texts are below 2^31.
+    /// The order's moments and lengths are from 0 to 10^12 milliseconds, its event and its key are such as a line may name,
+    /// its columns are from 1, and its columns and the lengths of its texts are below 2^31.
     fn answer<L: Ledger>(
         &mut self,
         order: &Order,

@@ -1,7 +1,10 @@
 //! What is shown of an element.
 
 use super::document::Fill;
+use super::duplicate::Duplicate;
 use super::interval::Interval;
+use super::listed::Bytes;
+use std::alloc::AllocError;
 
 /// The state of an element.
 #[derive(Clone, Copy, Debug, PartialEq, Eq)]
@@ -54,7 +57,7 @@ pub struct ViewFacts {
     pub last: Option<(i64, i64)>,
     /// Whether that interval was cut.
     pub cut: bool,
-    /// The fill that holds: never `Auto`.
+    /// The fill that holds: never `Auto` or `ByDefault`.
     pub fill: Fill,
     /// Whether another child began or resumed after the last end, in a seq or an excl.
     pub displaced: bool,
@@ -69,10 +72,49 @@ pub struct ViewFacts {
     pub finished: u32,
 }
 
+/// What a `set` that plays, or is frozen, sets: an attribute of the node with the serial `target`, since a begin in
+/// milliseconds of document time. `position` is the place of the `set` among the nodes, in document order from 0.
+#[derive(Debug, PartialEq, Drop)]
+pub struct Layer {
+    pub target: u32,
+    pub attr: Bytes,
+    pub begin: i64,
+    pub position: u32,
+}
+
+impl Duplicate for Layer {
+    fn copy(&self) -> Result<Self, AllocError> {
+        Ok(Layer {
+            target: self.target,
+            attr: self.attr.copy()?,
+            begin: self.begin,
+            position: self.position,
+        })
+    }
+}
+
 /// How an interval ended, or that it has not.
 #[derive(Clone, Copy, Debug, PartialEq, Eq)]
 pub enum How {
     Ended,
     Cut,
     Playing,
+}
+
+#[cfg(test)]
+mod tests {
+    use super::*;
+    use std::test::Fail;
+
+    #[test]
+    fn layers(rt: HostRuntime) -> Result<(), Fail> {
+        let layer = Layer {
+            target: 2,
+            attr: Bytes::of(rt.alloc(), b"region")?,
+            begin: 1000,
+            position: 3,
+        };
+        assert_eq!(rt; layer.copy()?, layer);
+        Ok(())
+    }
 }

@@ -7,6 +7,7 @@ use Rattle.smil_model.specs.declared.document.Dur.TheVariants as dur
 use Rattle.smil_model.specs.declared.diary.Happening.TheVariants as happening
 use Rattle.smil_model.specs.declared.view.State.TheVariants as state
 use Rattle.smil_model.specs.declared.view.Shown.TheVariants as shown
+use Rattle.smil_model.specs.document.Limits.{limits}
 use Rattle.smil_model.specs.shown.Orders.{Presentation, with_logged, views_of, changed, changes_through}
 use Rattle.smil_model.specs.document.Document.{Document}
 use Rattle.smil_model.specs.document.Edits.{no_attrs}
@@ -47,5 +48,5 @@ state_3 = record {
 pub record ForeseenBegin : Type 0 where
   pub step_1 : changed [] (views_of state_1) ≡ view 1 state.Active (shown.At (pos 0)) (shown.At (pos 13)) 0 0 ∷ view 2 state.Active (shown.At (pos 0)) (shown.At (pos 10)) 0 0 ∷ view 3 state.Waiting (shown.At (pos 8)) (shown.At (pos 13)) 0 0 ∷ []
   pub step_2 : changes_through state_1 4 ≡ []
-  pub click : with_logged state_2 (happening.Event 2 (codes "click")) ≡ Ok state_3
+  pub click : with_logged limits state_2 (happening.Event 2 (codes "click")) ≡ Ok state_3
   pub step_3 : changed (views_of state_2) (views_of state_3) ≡ view 1 state.Active (shown.At (pos 0)) (shown.At (pos 7)) 0 0 ∷ view 2 state.Done (shown.At (pos 0)) (shown.At (pos 4)) 0 1 ∷ view 3 state.Active (shown.At (pos 2)) (shown.At (pos 7)) 0 0 ∷ []

@@ -4,8 +4,7 @@ use Rattle.smil_model.specs.declared.document.Node.{Node}
 use Rattle.smil_model.specs.declared.document.Kind.TheVariants.{Par, Img}
 use Rattle.smil_model.specs.declared.document.Item.TheVariants.{Offset}
 use Rattle.smil_model.specs.declared.document.Dur.TheVariants.{Clock}
-use Rattle.smil_model.specs.document.Document.{Document}
-use Rattle.smil_model.specs.document.Dependencies.{serials}
+use Rattle.smil_model.specs.document.Document.{Document, serials}
 use Rattle.smil_model.specs.document.Edits.{node_inserted, node_removed, no_attrs}
 use Rattle.smil_model.specs.reach.Reach.{down}
 use Rattle.smil_laws.specs.Image.{node}

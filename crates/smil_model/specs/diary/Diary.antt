@@ -1,5 +1,5 @@
 -- What a diary says of an element: its birth, whether it is active, alive, paused or deferred, and its iteration.
-use Rattle.std.specs.Prelude.{ℕ, suc, List, [], ◌∷◌, ◌++◌, drop, length, fold, Bool, true, false, ◌&&◌, ◌||◌, ◌==◌, if◌then◌else◌, Option, Some, None, is_some, option_map, unwrap_or}
+use Rattle.std.specs.Prelude.{ℕ, ℤ, pos, suc, List, [], ◌∷◌, ◌++◌, drop, length, fold, Bool, true, false, ◌&&◌, ◌||◌, ◌==◌, if◌then◌else◌, Option, Some, None, is_some, option_map, unwrap_or}
 use Rattle.std.specs.Option.{option_map_or}
 use Rattle.smil_model.specs.declared.diary.Entry.{Entry}
 use Rattle.smil_model.specs.declared.diary.LogEntry.{LogEntry}
@@ -112,6 +112,14 @@ iteration h serial = unwrap_or (iteration_from serial (since_birth h serial)) 0
 -- the history whose diary goes no further than these entries
 abbrev pub up_to : History → List Entry → History
 up_to h diary = record { nodes = h.nodes; log = h.log; diary = diary }
+
+-- the history with one entry more
+abbrev pub with_entry : History → Entry → History
+with_entry h y = up_to h (h.diary ++ y ∷ [])
+
+-- the moment of the last entry, and 0 where there is none
+abbrev pub last_moment : List Entry → ℤ
+last_moment diary = fold (λ before (x : Entry). x.moment) (pos 0) diary
 
 -- each entry with those before it
 abbrev pub with_past : List Entry → List Entry → List (List Entry × Entry)

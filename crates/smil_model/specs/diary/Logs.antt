@@ -4,18 +4,19 @@ use Rattle.std.specs.List.{list_all}
 use Rattle.smil_model.specs.declared.limits.TheConstants.{SERIALS}
 use Rattle.smil_model.specs.declared.diary.LogEntry.{LogEntry}
 use Rattle.smil_model.specs.declared.diary.Happening.{Happening}
-use Rattle.smil_model.specs.declared.diary.Happening.TheVariants.{Event, Media}
-use Rattle.smil_model.specs.document.Words.{is_event_name, is_raised_name}
+use Rattle.smil_model.specs.declared.diary.Happening.TheVariants.{Event, Media, Key}
+use Rattle.smil_model.specs.document.Words.{is_event_name, is_raised_name, is_key}
 use Rattle.smil_model.specs.document.Values.{is_clock}
 
 -- a serial, which need not be a node's
 abbrev pub is_serial : ℕ → Bool
 is_serial serial = nat_le 1 serial && nat_le serial SERIALS
 
--- an event that an event line may name, or a length
+-- an event that an event line may name, a length, or a key
 abbrev pub may_happen : Happening → Bool
 may_happen (Event who name) = is_serial who && is_event_name name && not (is_raised_name name)
 may_happen (Media who length) = is_serial who && is_clock length
+may_happen (Key key) = is_key key
 
 -- from a moment on, moments do not fall
 abbrev pub moments_rise : ℤ → List LogEntry → Bool

@@ -1,10 +1,10 @@
 -- Which elements' times follow from which: the dependencies between elements, and the references that are looped.
-use Rattle.std.specs.Prelude.{ℕ, List, [], ◌∷◌, ◌++◌, map, Bool, false, ◌&&◌, ◌||◌, ◌==◌, Option, Some, None}
+use Rattle.std.specs.Prelude.{ℕ, List, [], ◌∷◌, ◌++◌, Bool, false, ◌&&◌, ◌||◌, ◌==◌, Option, Some, None}
 use Rattle.std.specs.List.{list_any}
 use Rattle.smil_model.specs.declared.document.Node.{Node}
 use Rattle.smil_model.specs.declared.document.Item.{Item}
 use Rattle.smil_model.specs.declared.document.Item.TheVariants.{Sync}
-use Rattle.smil_model.specs.document.Document.{elements, element_named, has_serial, is_time_child, previous_in_seq}
+use Rattle.smil_model.specs.document.Document.{elements, element_named, has_serial, is_time_child, previous_in_seq, serials}
 use Rattle.smil_model.specs.document.Defaults.{begin_list, end_list, takes_implicit}
 use Rattle.smil_model.specs.document.Closure.{closure, has}
 
@@ -28,10 +28,6 @@ feeds_node nodes x e =
     (has_implicit_duration e && list_any (λ (c : Node). (c.serial == x) && is_time_child nodes e.serial c) nodes)
     || has_serial x (previous_in_seq nodes e.serial)
     || list_any (is_sync_with nodes x) (all_items nodes e)
-
--- the serials of nodes, in document order
-abbrev pub serials : List Node → List ℕ
-serials nodes = map (λ (n : Node). n.serial) nodes
 
 -- whether the times of y follow from those of x
 abbrev pub feeds : List Node → ℕ → ℕ → Bool

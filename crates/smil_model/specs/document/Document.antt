@@ -1,10 +1,10 @@
 -- Documents: nodes in document order, their time parents and time children, and the element that an id names.
-use Rattle.std.specs.Prelude.{ℕ, List, [], ◌∷◌, ◌++◌, reverse, drop, filter, find, Bool, true, false, not, ◌&&◌, ◌==◌, if◌then◌else◌, Option, Some, None, option_map}
+use Rattle.std.specs.Prelude.{ℕ, List, [], ◌∷◌, ◌++◌, reverse, drop, map, filter, find, Bool, true, false, not, ◌&&◌, ◌==◌, if◌then◌else◌, Option, Some, None, option_map}
 use Rattle.std.specs.Str.{bytes_eq}
 use Rattle.std.specs.List.{list_any}
 use Rattle.smil_model.specs.declared.document.Node.{Node}
 use Rattle.smil_model.specs.declared.document.Kind.{Kind}
-use Rattle.smil_model.specs.declared.document.Kind.TheVariants.{Par, Seq, Excl, PriorityClass, Audio, Video, Animation, TextStream, Ref}
+use Rattle.smil_model.specs.declared.document.Kind.TheVariants.{Par, Seq, Excl, PriorityClass, Audio, Video, Animation, TextStream, Ref, Set}
 
 -- the nodes in document order, and the serial that the next node takes
 pub record Document : Type 0 where
@@ -28,6 +28,11 @@ abbrev pub is_excl_kind : Kind → Bool
 is_excl_kind Excl = true
 is_excl_kind _ = false
 
+-- a set sets an attribute of another node while it plays
+abbrev pub is_set_kind : Kind → Bool
+is_set_kind Set = true
+is_set_kind _ = false
+
 -- an element is a node that is no priorityClass
 abbrev pub is_element : Node → Bool
 is_element node = not (is_class_kind node.kind)
@@ -35,6 +40,14 @@ is_element node = not (is_class_kind node.kind)
 -- the elements, in document order
 abbrev pub elements : List Node → List Node
 elements nodes = filter is_element nodes
+
+-- the serials of nodes, in document order
+abbrev pub serials : List Node → List ℕ
+serials nodes = map (λ (n : Node). n.serial) nodes
+
+-- the serial of a node, if there is one
+abbrev pub serial_of : Option Node → Option ℕ
+serial_of node = option_map (λ (n : Node). n.serial) node
 
 -- the node with this serial
 abbrev pub node_at : List Node → ℕ → Option Node

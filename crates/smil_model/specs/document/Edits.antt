@@ -22,6 +22,8 @@ no_attrs = record {
   repeat_dur = None;
   restart = None;
   fill = None;
+  restart_default = None;
+  fill_default = None;
   endsync = None;
   peers = None;
   higher = None;
@@ -30,6 +32,9 @@ no_attrs = record {
   region = None;
   alt = None;
   title = None;
+  target_element = None;
+  attribute_name = None;
+  to = None;
 }
 
 -- the attributes with this one set
@@ -44,6 +49,8 @@ with_attr attrs (attr.RepeatCount v) = record attrs { repeat_count = Some v }
 with_attr attrs (attr.RepeatDur v) = record attrs { repeat_dur = Some v }
 with_attr attrs (attr.Restart v) = record attrs { restart = Some v }
 with_attr attrs (attr.Fill v) = record attrs { fill = Some v }
+with_attr attrs (attr.RestartDefault v) = record attrs { restart_default = Some v }
+with_attr attrs (attr.FillDefault v) = record attrs { fill_default = Some v }
 with_attr attrs (attr.Endsync v) = record attrs { endsync = Some v }
 with_attr attrs (attr.Peers v) = record attrs { peers = Some v }
 with_attr attrs (attr.Higher v) = record attrs { higher = Some v }
@@ -52,6 +59,9 @@ with_attr attrs (attr.Src v) = record attrs { src = Some v }
 with_attr attrs (attr.Region v) = record attrs { region = Some v }
 with_attr attrs (attr.Alt v) = record attrs { alt = Some v }
 with_attr attrs (attr.Title v) = record attrs { title = Some v }
+with_attr attrs (attr.TargetElement v) = record attrs { target_element = Some v }
+with_attr attrs (attr.AttributeName v) = record attrs { attribute_name = Some v }
+with_attr attrs (attr.To v) = record attrs { to = Some v }
 
 -- the attributes with this one absent
 abbrev pub without_attr : Attrs → AttrName → Attrs
@@ -65,6 +75,8 @@ without_attr attrs name.RepeatCount = record attrs { repeat_count = None }
 without_attr attrs name.RepeatDur = record attrs { repeat_dur = None }
 without_attr attrs name.Restart = record attrs { restart = None }
 without_attr attrs name.Fill = record attrs { fill = None }
+without_attr attrs name.RestartDefault = record attrs { restart_default = None }
+without_attr attrs name.FillDefault = record attrs { fill_default = None }
 without_attr attrs name.Endsync = record attrs { endsync = None }
 without_attr attrs name.Peers = record attrs { peers = None }
 without_attr attrs name.Higher = record attrs { higher = None }
@@ -73,6 +85,9 @@ without_attr attrs name.Src = record attrs { src = None }
 without_attr attrs name.Region = record attrs { region = None }
 without_attr attrs name.Alt = record attrs { alt = None }
 without_attr attrs name.Title = record attrs { title = None }
+without_attr attrs name.TargetElement = record attrs { target_element = None }
+without_attr attrs name.AttributeName = record attrs { attribute_name = None }
+without_attr attrs name.To = record attrs { to = None }
 
 -- the nodes with the attributes of one changed
 abbrev pub changed_at : (Attrs → Attrs) → ℕ → List Node → List Node

@@ -2,11 +2,12 @@
 -- they may have, within the limits.
 use Rattle.std.specs.Prelude.{ℕ, ◌+◌, List, [], ◌∷◌, length, filter, sum_by, Bool, true, false, not, ◌&&◌, ◌||◌, ◌==◌, if◌then◌else◌, Option, Some, None, option_map, nat_lt, IsTrue, IsFalse, All, ◌≡◌, ◌<◌, ◌≤◌}
 use Rattle.std.specs.List.{list_any, list_all}
-use Rattle.smil_model.specs.declared.limits.TheConstants.{NODES, DEPTH, REFERENCES, SERIALS}
+use Rattle.smil_model.specs.declared.limits.TheConstants.{DEPTH, SERIALS}
 use Rattle.smil_model.specs.declared.document.Node.{Node}
 use Rattle.smil_model.specs.declared.document.Kind.{Kind}
 use Rattle.smil_model.specs.declared.document.Item.{Item}
-use Rattle.smil_model.specs.declared.document.Item.TheVariants.{Sync, Event, Repeat}
+use Rattle.smil_model.specs.declared.document.Item.TheVariants.{Sync, Event, Repeat, Key}
+use Rattle.smil_model.specs.document.Limits.{Limits, limits}
 use Rattle.smil_model.specs.document.Document.{Document, node_at, ancestors, has_id, is_class_kind, is_excl_kind, is_container_kind}
 use Rattle.smil_model.specs.document.Defaults.{items_or}
 use Rattle.smil_model.specs.document.Values.{fit_kind}
@@ -90,26 +91,31 @@ abbrev pub is_id_taken : List Node → ℕ → Option (List ℕ) → Bool
 is_id_taken nodes serial None = false
 is_id_taken nodes serial (Some id) = list_any (is_other_with serial id) nodes
 
--- an item that refers to an element or an event
+-- an item that refers to an element, an event or a key
 abbrev pub is_reference : Item → Bool
 is_reference (Sync who edge offset) = true
 is_reference (Event who name offset) = true
 is_reference (Repeat who n offset) = true
+is_reference (Key key offset) = true
 is_reference _ = false
 
 abbrev pub references_of : Node → ℕ
 references_of n =
     length (filter is_reference (items_or [] n.attrs.begin)) + length (filter is_reference (items_or [] n.attrs.«end»))
 
--- how many items of the document refer to an element or an event
+-- how many items of the document refer to an element, an event or a key
 abbrev pub references : List Node → ℕ
 references nodes = sum_by references_of nodes
 
--- a valid document
-pub record IsValid (document : Document) : Type 0 where
+-- a document that is valid within limits
+pub record IsValidWithin (allowed : Limits) (document : Document) : Type 0 where
   pub numbered : IsNumberedTree document
   pub placed : list_all (is_well_placed document.nodes) document.nodes ≡ true
   pub fitting : list_all (has_fitting_attrs document.nodes) document.nodes ≡ true
   pub ids : list_any (λ (n : Node). is_id_taken document.nodes n.serial n.attrs.id) document.nodes ≡ false
-  pub nodes : length document.nodes ≤ NODES
-  pub references : references document.nodes ≤ REFERENCES
+  pub nodes : length document.nodes ≤ allowed.nodes
+  pub references : references document.nodes ≤ allowed.references
+
+-- a valid document
+abbrev pub IsValid : Document → Type 0
+IsValid document = IsValidWithin limits document

@@ -18,8 +18,8 @@ use Rattle.smil_model.specs.declared.document.Endsync.{Endsync}
 use Rattle.smil_model.specs.declared.document.Endsync.TheVariants.{Child}
 use Rattle.smil_model.specs.declared.document.Act.{Act}
 use Rattle.smil_model.specs.declared.document.Act.TheVariants.{Stop, Pause, Defer, Never}
-use Rattle.smil_model.specs.document.Document.{is_class_kind, is_seq_kind}
-use Rattle.smil_model.specs.document.Words.{is_id, is_event_name, is_kept_text}
+use Rattle.smil_model.specs.document.Document.{is_class_kind, is_seq_kind, is_set_kind}
+use Rattle.smil_model.specs.document.Words.{is_id, is_event_name, is_key, is_attribute_name, is_kept_text}
 
 -- an absent value, or one that passes
 abbrev pub absent_or : {A : Type 0} → (A → Bool) → Option A → Bool
@@ -41,6 +41,7 @@ is_item (item.Sync who edge offset) = is_id who && is_offset offset
 is_item (item.Event who name offset) = absent_or is_id who && is_event_name name && is_offset offset
 is_item (item.Repeat who n offset) =
     absent_or is_id who && nat_le 1 n && nat_le n 999_999_999 && is_offset offset
+is_item (item.Key key offset) = is_key key && is_offset offset
 is_item item.Indefinite = true
 
 -- a begin or end list
@@ -107,13 +108,21 @@ has_endsync _ = false
 abbrev pub has_class_attrs : Attrs → Bool
 has_class_attrs attrs = is_some attrs.peers || is_some attrs.higher || is_some attrs.lower
 
+-- what a set alone may have
+abbrev pub has_set_attrs : Attrs → Bool
+has_set_attrs attrs = is_some attrs.target_element || is_some attrs.attribute_name || is_some attrs.to
+
+-- what a set may not have, though other elements may
+abbrev pub has_media_attrs : Attrs → Bool
+has_media_attrs attrs = is_some attrs.src || is_some attrs.region || is_some attrs.alt
+
 -- what a priorityClass may not have
 abbrev pub has_element_attrs : Attrs → Bool
 has_element_attrs attrs =
     is_some attrs.begin || is_some attrs.dur || is_some attrs.«end» || is_some attrs.min || is_some attrs.max
     || is_some attrs.repeat_count || is_some attrs.repeat_dur || is_some attrs.restart || is_some attrs.fill
-    || is_some attrs.endsync || is_some attrs.src || is_some attrs.region || is_some attrs.alt
-    || is_some attrs.title
+    || is_some attrs.restart_default || is_some attrs.fill_default || is_some attrs.endsync || has_media_attrs attrs
+    || is_some attrs.title || has_set_attrs attrs
 
 -- the values of the attributes that a priorityClass has not
 abbrev pub are_element_values : Bool → Attrs → Bool
@@ -122,7 +131,8 @@ are_element_values in_seq attrs =
     && absent_or is_clock attrs.min && absent_or is_bound attrs.max && absent_or is_count attrs.repeat_count
     && absent_or is_positive_bound attrs.repeat_dur && absent_or is_endsync attrs.endsync
     && absent_or is_kept_text attrs.src && absent_or is_kept_text attrs.region && absent_or is_kept_text attrs.alt
-    && absent_or is_kept_text attrs.title
+    && absent_or is_kept_text attrs.title && absent_or is_id attrs.target_element
+    && absent_or is_attribute_name attrs.attribute_name && absent_or is_kept_text attrs.to
 
 abbrev pub is_seq_parent : Option Kind → Bool
 is_seq_parent None = false
@@ -135,4 +145,5 @@ fit_kind kind parent attrs =
     && (if is_class_kind kind
     then not (has_element_attrs attrs) && absent_or is_higher attrs.higher && absent_or is_lower attrs.lower
     else not (has_class_attrs attrs) && are_element_values (is_seq_parent parent) attrs
-    && (has_endsync kind || not (is_some attrs.endsync)))
+    && (has_endsync kind || not (is_some attrs.endsync))
+    && not (if is_set_kind kind then has_media_attrs attrs else has_set_attrs attrs))

@@ -1,10 +1,10 @@
--- The bytes of ids, of event names and of texts that are kept.
+-- The bytes of ids, of names, of access keys and of texts that are kept.
 use Rattle.std.specs.Prelude.{ℕ, List, [], ◌∷◌, length, Bool, false, not, ◌&&◌, ◌||◌, ◌==◌, nat_le, nat_lt, codes, bytes_eq}
 use Rattle.std.specs.List.{list_all, list_any}
 use Rattle.std.specs.Str.{is_utf8}
 use Rattle.std.specs.Char.{is_ascii_digit}
 use Rattle.std.specs.Int.{is_in_range}
-use Rattle.smil_model.specs.declared.limits.TheConstants.{ID_BYTES, EVENT_BYTES}
+use Rattle.smil_model.specs.declared.limits.TheConstants.{ID_BYTES, EVENT_BYTES, ATTRIBUTE_BYTES}
 
 abbrev pub quote : ℕ
 quote = 34
@@ -14,6 +14,12 @@ minus = 45
 
 abbrev pub point : ℕ
 point = 46
+
+abbrev pub semicolon : ℕ
+semicolon = 59
+
+abbrev pub backslash : ℕ
+backslash = 92
 
 abbrev pub underscore : ℕ
 underscore = 95
@@ -57,10 +63,18 @@ abbrev pub is_raised_name : List ℕ → Bool
 is_raised_name text =
     list_any (bytes_eq text) (codes "beginEvent" ∷ codes "endEvent" ∷ codes "repeatEvent" ∷ [])
 
--- a byte of `src`, `region`, `alt` and `title`
+-- an access key: a byte that is printed, other than `"`, `;` and `\`
+abbrev pub is_key : ℕ → Bool
+is_key b = is_in_range 33 126 b && not (b == quote) && not (b == semicolon) && not (b == backslash)
+
+-- the name of an attribute that a set names, of at most 64 bytes
+abbrev pub is_attribute_name : List ℕ → Bool
+is_attribute_name text = is_word (λ b. is_of_name b || (b == minus)) text && nat_le (length text) ATTRIBUTE_BYTES
+
+-- a byte of `src`, `region`, `alt`, `title` and `to`
 abbrev pub is_kept : ℕ → Bool
 is_kept b = not (nat_lt b 32) && not (b == 127) && not (b == quote)
 
--- a value of `src`, `region`, `alt` or `title`
+-- a value of `src`, `region`, `alt`, `title` or `to`
 abbrev pub is_kept_text : List ℕ → Bool
 is_kept_text text = is_utf8 text && list_all is_kept text

@@ -78,6 +78,10 @@ Reaches c p = (k : ℕ) × (after_steps c k outset ≡ p)
 abbrev pub resolved : Course → Progress
 resolved c = after_steps c (suc (DIARY_ENTRIES + c.last)) outset
 
+-- the diary of the course, where it has no more entries than so many, which are not more than may be
+abbrev pub diary_within : ℕ → Course → Option (List Entry)
+diary_within entries c = if nat_le (length (resolved c).diary) entries then Some (resolved c).diary else None
+
 -- the diary of the course, where it has no more entries than may be
 abbrev pub diary_of : Course → Option (List Entry)
-diary_of c = if nat_le (length (resolved c).diary) DIARY_ENTRIES then Some (resolved c).diary else None
+diary_of c = diary_within DIARY_ENTRIES c

@@ -3,7 +3,7 @@ use Rattle.std.specs.Prelude.{ℕ, suc, zero, ℤ, pos, ◌-ℤ◌, List, [], �
 use Rattle.std.specs.List.{list_any, last_or}
 use Rattle.std.specs.Option.{option_or}
 use Rattle.smil_model.specs.declared.times.Time.{Time}
-use Rattle.smil_model.specs.declared.times.Time.TheVariants.{At, Unresolved}
+use Rattle.smil_model.specs.declared.times.Time.TheVariants.{At, Indefinite, Unresolved}
 use Rattle.smil_model.specs.declared.diary.Entry.{Entry}
 use Rattle.smil_model.specs.declared.interval.Interval.{Interval}
 use Rattle.smil_model.specs.declared.interval.Play.{Play}
@@ -20,7 +20,7 @@ use Rattle.smil_model.specs.declared.document.Node.{Node}
 use Rattle.smil_model.specs.declared.document.Kind.{Kind}
 use Rattle.smil_model.specs.declared.document.Kind.TheVariants as kind
 use Rattle.smil_model.specs.declared.document.Item.{Item}
-use Rattle.smil_model.specs.declared.document.Item.TheVariants.{Event, Repeat}
+use Rattle.smil_model.specs.declared.document.Item.TheVariants.{Event, Repeat, Key}
 use Rattle.smil_model.specs.declared.document.Endsync.{Endsync}
 use Rattle.smil_model.specs.declared.document.Endsync.TheVariants.{Child}
 use Rattle.smil_model.specs.document.Document.{elements, time_children, has_id}
@@ -38,6 +38,7 @@ use Rattle.smil_model.specs.interval.Intervals.{interval_of}
 abbrev pub logged_length : ℕ → Happening → Option Time → Option Time
 logged_length serial (happening.Media who length) before = if who == serial then Some (At length) else before
 logged_length serial (happening.Event who name) before = before
+logged_length serial (happening.Key key) before = before
 
 abbrev pub length_of : ℕ → Option LogEntry → Option Time → Option Time
 length_of serial None before = before
@@ -80,7 +81,7 @@ container_implicit h intervals e =
     (map (child_end h intervals e) (time_children h.nodes e.serial))
     else Unresolved
 
--- the implicit duration: 0 for still media, and the length that the diary tells for continuous media
+-- the implicit duration: 0 for still media, indefinite for a set, and the length that the diary tells for continuous media
 abbrev pub implicit_of : History → (ℕ → Option Interval) → Node → Kind → Time
 implicit_of h intervals e kind.Par = container_implicit h intervals e
 implicit_of h intervals e kind.Seq = container_implicit h intervals e
@@ -88,6 +89,7 @@ implicit_of h intervals e kind.Excl = container_implicit h intervals e
 implicit_of h intervals e kind.Img = At (pos 0)
 implicit_of h intervals e kind.Text = At (pos 0)
 implicit_of h intervals e kind.Brush = At (pos 0)
+implicit_of h intervals e kind.Set = Indefinite
 implicit_of h intervals e _ = media_length h e.serial
 
 abbrev pub implicit_duration : History → (ℕ → Option Interval) → Node → Time
@@ -99,10 +101,11 @@ simple_of h intervals e = simple_duration e.attrs (implicit_duration h intervals
 
 -- ---- the current interval, given those of the others
 
--- an event or repeat item
+-- an event, repeat or access key item
 abbrev pub is_event_item : Item → Bool
 is_event_item (Event who name offset) = true
 is_event_item (Repeat who n offset) = true
+is_event_item (Key key offset) = true
 is_event_item _ = false
 
 -- what its end list can do for the element
@@ -139,7 +142,7 @@ facts_of h intervals now e = record {
       (last_finished h e.serial);
   passed = passed h e.serial;
   end_list = end_list_of e.attrs.«end»;
-  restart = restart_of e.attrs;
+  restart = restart_of h.nodes e;
   min = min_of e.attrs;
   max = max_of e.attrs;
   simple = simple_of h intervals e;

@@ -16,7 +16,7 @@ use Rattle.smil_model.specs.declared.document.Node.{Node}
 use Rattle.smil_model.specs.declared.document.Edge.{Edge}
 use Rattle.smil_model.specs.declared.document.Edge.TheVariants.{Begin, End}
 use Rattle.smil_model.specs.declared.document.Item.{Item}
-use Rattle.smil_model.specs.declared.document.Item.TheVariants.{Offset, Sync, Event, Repeat, Indefinite}
+use Rattle.smil_model.specs.declared.document.Item.TheVariants.{Offset, Sync, Event, Repeat, Key, Indefinite}
 use Rattle.smil_model.specs.declared.document.Restart.{Restart}
 use Rattle.smil_model.specs.declared.document.Restart.TheVariants.{Always}
 use Rattle.smil_model.specs.Times.{within_horizon, numbers, rising, rising_times}
@@ -76,6 +76,7 @@ sync_times h intervals now e x offset edge looped =
 abbrev pub is_named : ℕ → List ℕ → Happening → Bool
 is_named x name (happening.Event who own) = (who == x) && bytes_eq own name
 is_named x name (happening.Media who length) = false
+is_named x name (happening.Key key) = false
 
 abbrev pub is_log_event : ℕ → List ℕ → Option LogEntry → Bool
 is_log_event x name None = false
@@ -90,6 +91,20 @@ is_event log x name (Cut who) = (who == x) && bytes_eq name (codes "endEvent")
 is_event log x name (Repeated who start) = (who == x) && bytes_eq name (codes "repeatEvent")
 is_event log x name _ = false
 
+-- whether this is a press of the key
+abbrev pub is_pressed : ℕ → Happening → Bool
+is_pressed key (happening.Key own) = own == key
+is_pressed key _ = false
+
+abbrev pub is_log_key : ℕ → Option LogEntry → Bool
+is_log_key key None = false
+is_log_key key (Some entry) = is_pressed key entry.what
+
+-- whether the step is an occurrence of the key: a logged press
+abbrev pub is_press : List LogEntry → ℕ → Step → Bool
+is_press log key (Logged place) = is_log_key key (slice_get log place)
+is_press log key _ = false
+
 -- whether the step begins iteration n of x
 abbrev pub is_repeat : History → ℕ → ℕ → Step → Bool
 is_repeat past x n (Repeated who start) = (who == x) && (suc (iteration past x) == n)
@@ -99,12 +114,13 @@ abbrev pub same_target : Option ℕ → Option ℕ → Bool
 same_target (Some x) (Some y) = x == y
 same_target _ _ = false
 
--- whether two items of e are for the same event of the same element
+-- whether two items of e are for the same event of the same element, or for the same key
 abbrev pub is_same_event : List Node → ℕ → Item → Item → Bool
 is_same_event nodes e (Event a name o) (Event b name' o') =
     same_target (target nodes e a) (target nodes e b) && bytes_eq name name'
 is_same_event nodes e (Repeat a n o) (Repeat b n' o') =
     same_target (target nodes e a) (target nodes e b) && (n == n')
+is_same_event nodes e (Key key o) (Key key' o') = key == key'
 is_same_event nodes e _ _ = false
 
 -- SMIL's event sensitivity: an element that is not active hears its begin items alone; an active one that may always
@@ -123,7 +139,7 @@ abbrev pub hears : History → Node → Edge → Item → Bool
 hears past e side item =
     is_alive past e.serial
     && not (outer_stands past e.serial)
-    && is_sensitive (is_active past.diary e.serial) (restart_of e.attrs) side
+    && is_sensitive (is_active past.diary e.serial) (restart_of past.nodes e) side
     (list_any (is_same_event past.nodes e.serial item) (begin_list past.nodes e))
 
 -- the times of the occurrences since birth that the element heard
@@ -169,6 +185,8 @@ item_times h intervals now e side (Event who name offset) =
     event_times h e side (Event who name offset) offset name (target h.nodes e.serial who)
 item_times h intervals now e side (Repeat who n offset) =
     repeat_times h e side (Repeat who n offset) offset n (target h.nodes e.serial who)
+item_times h intervals now e side (Key key offset) =
+    heard_times h e side (Key key offset) offset (λ past step. is_press past.log key step)
 item_times h intervals now e Begin Indefinite = []
 item_times h intervals now e End Indefinite = time.Indefinite ∷ []
 

@@ -42,8 +42,8 @@ is_hearing Hearing = true
 is_hearing _ = false
 
 -- the limit that the end list sets: the least end instance that counts, or the begin plus `min` if that is greater. Where
--- none counts there is no limit, which unresolved stands for, if the element is active, the list has an event or repeat
--- item, or the list gives no instance at all; otherwise no interval begins there
+-- none counts there is no limit, which unresolved stands for, if the element is active, the list has an event, repeat or
+-- access key item, or the list gives no instance at all; otherwise no interval begins there
 abbrev pub limit_of : Facts → ℤ → List Time → List Time → Option Time
 limit_of facts b ends [] =
     if is_some facts.play || is_hearing facts.end_list || not (has_any ends) then Some Unresolved else None

@@ -1,4 +1,4 @@
--- Which elements an entry can concern: all whose times may follow from those of its element.
+-- Which elements an entry can concern: all whose times may follow from those of its element, or from its key.
 use Rattle.std.specs.Prelude.{ℕ, List, [], filter, Bool, false, ◌&&◌, ◌||◌, ◌==◌, Option, Some, None, slice_get, if◌then◌else◌, is_some}
 use Rattle.std.specs.List.{list_any}
 use Rattle.smil_model.specs.declared.diary.Entry.{Entry}
@@ -9,9 +9,9 @@ use Rattle.smil_model.specs.declared.diary.Step.{Step}
 use Rattle.smil_model.specs.declared.diary.Step.TheVariants.{Began, Repeated, Ended, Cut, Paused, Resumed, Deferred, Passed, Logged}
 use Rattle.smil_model.specs.declared.document.Node.{Node}
 use Rattle.smil_model.specs.declared.document.Item.{Item}
-use Rattle.smil_model.specs.declared.document.Item.TheVariants.{Event, Repeat}
-use Rattle.smil_model.specs.document.Document.{elements, is_within, has_serial, time_parent, is_in_seq, is_in_excl, node_at, target}
-use Rattle.smil_model.specs.document.Dependencies.{feeds_node, all_items, serials}
+use Rattle.smil_model.specs.declared.document.Item.TheVariants.{Event, Repeat, Key}
+use Rattle.smil_model.specs.document.Document.{elements, is_within, has_serial, time_parent, is_in_seq, is_in_excl, node_at, target, serials}
+use Rattle.smil_model.specs.document.Dependencies.{feeds_node, all_items}
 use Rattle.smil_model.specs.document.Closure.{closure}
 
 abbrev pub is_option : ℕ → Option ℕ → Bool
@@ -50,14 +50,15 @@ near nodes x = filter (is_near nodes x) (serials (elements nodes))
 abbrev pub down : List Node → ℕ → List ℕ
 down nodes x = closure (reads nodes) (serials (elements nodes)) (near nodes x)
 
--- whom a logged event or length is on
-abbrev pub subject : Happening → ℕ
-subject (happening.Event who name) = who
-subject (happening.Media who length) = who
+-- whom a logged event or length is on; a key is on none
+abbrev pub subject : Happening → Option ℕ
+subject (happening.Event who name) = Some who
+subject (happening.Media who length) = Some who
+subject (happening.Key key) = None
 
 abbrev pub logged_subject : Option LogEntry → Option ℕ
 logged_subject None = None
-logged_subject (Some entry) = Some (subject entry.what)
+logged_subject (Some entry) = subject entry.what
 
 -- the element that a step is on
 abbrev pub subject_of : List LogEntry → Step → Option ℕ
@@ -76,6 +77,37 @@ abbrev pub down_from : List Node → Option ℕ → List ℕ
 down_from nodes None = []
 down_from nodes (Some x) = if is_some (node_at (elements nodes) x) then down nodes x else []
 
--- the reach of an entry
+-- whether the item waits for the key
+abbrev pub is_key_item : ℕ → Item → Bool
+is_key_item key (Key own offset) = own == key
+is_key_item key _ = false
+
+-- the elements with an item for the key
+abbrev pub waiters : List Node → ℕ → List ℕ
+waiters nodes key =
+    serials (filter (λ (e : Node). list_any (is_key_item key) (all_items nodes e)) (elements nodes))
+
+-- the reach of a key: the smallest set that has these and, with each member, the elements that read it
+abbrev pub down_key : List Node → ℕ → List ℕ
+down_key nodes key = closure (reads nodes) (serials (elements nodes)) (waiters nodes key)
+
+-- the key that a step is a press of
+abbrev pub pressed : Happening → Option ℕ
+pressed (happening.Key key) = Some key
+pressed _ = None
+
+abbrev pub logged_key : Option LogEntry → Option ℕ
+logged_key None = None
+logged_key (Some entry) = pressed entry.what
+
+abbrev pub key_of : List LogEntry → Step → Option ℕ
+key_of log (Logged place) = logged_key (slice_get log place)
+key_of log _ = None
+
+-- the reach of an entry: that of its key, or of the element that it is on
+abbrev pub reach_by : List Node → Option ℕ → Option ℕ → List ℕ
+reach_by nodes (Some key) on = down_key nodes key
+reach_by nodes None on = down_from nodes on
+
 abbrev pub reach : List Node → List LogEntry → Entry → List ℕ
-reach nodes log entry = down_from nodes (subject_of log entry.step)
+reach nodes log entry = reach_by nodes (key_of log entry.step) (subject_of log entry.step)

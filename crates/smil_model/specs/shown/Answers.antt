@@ -1,5 +1,5 @@
 -- What a player answers to an order: the new state and the text, or the refusal.
-use Rattle.std.specs.Prelude.{ℕ, ◌<◌, ◌≤◌, pos, List, [], ◌++◌, flat_map, length, true, not, ◌&&◌, ◌≡◌, ◌⊎◌, Option, Some, None, Ok, Err}
+use Rattle.std.specs.Prelude.{ℕ, ◌<◌, ◌≤◌, pos, List, [], ◌∷◌, ◌++◌, flat_map, length, true, not, ◌&&◌, ◌≡◌, ◌⊎◌, Option, Some, None, unwrap_or, Ok, Err}
 use Rattle.std.specs.Option.{option_map_or}
 use Rattle.smil_model.specs.declared.document.Node.{Node}
 use Rattle.smil_model.specs.declared.order.Refusal.{Refusal}
@@ -9,12 +9,14 @@ use Rattle.smil_model.specs.declared.order.Who.TheVariants.{Id, Serial}
 use Rattle.smil_model.specs.declared.order.Order.{Order}
 use Rattle.smil_model.specs.declared.order.Order.TheVariants as order
 use Rattle.smil_model.specs.declared.view.View.{View}
+use Rattle.smil_model.specs.declared.view.Layer.{Layer}
 use Rattle.smil_model.specs.document.Document.{node_at}
-use Rattle.smil_model.specs.document.Words.{is_event_name, is_raised_name}
+use Rattle.smil_model.specs.document.Words.{is_event_name, is_raised_name, is_key}
 use Rattle.smil_model.specs.document.Values.{is_clock}
 use Rattle.smil_model.specs.shown.Histories.{Told, intervals_of}
-use Rattle.smil_model.specs.shown.Lines.{name_of, change_line, gone_line, interval_line}
-use Rattle.smil_model.specs.shown.Orders.{Formats, Presentation, resolved_history, node_of, outcome, changes_of, changes_of_load, gone}
+use Rattle.smil_model.specs.shown.Sandwich.{layers, stack_of, names_on}
+use Rattle.smil_model.specs.shown.Lines.{name_of, change_line, gone_line, interval_line, value_line, layer_line, outline_end, entry_line, now_line}
+use Rattle.smil_model.specs.shown.Orders.{Formats, Presentation, resolved_history, views_of, node_of, outcome, changes_of, changes_of_load, gone}
 
 -- ---- the text
 
@@ -39,11 +41,47 @@ history_text p (Some n) =
     (λ (t : Told). interval_line (name_of n) t.begin t.finish t.how)
     (intervals_of (resolved_history p) (pos p.now) n)
 
--- the text of an accepted order, but for its last line: the elements that are gone, then the changes; or the intervals, or
--- the outline, that the order asks for
+-- the value that a set sets, and how it is named
+abbrev pub value_of : List Node → ℕ → List ℕ
+value_of nodes setter = option_map_or (λ (n : Node). unwrap_or n.attrs.to []) (node_at nodes setter) []
+
+-- each attribute of a target that is set, by the top of its stack
+abbrev pub top_text : List Node → ℕ → List ℕ → List ℕ → List ℕ
+top_text nodes target name [] = []
+top_text nodes target name (setter ∷ below) =
+    value_line (name_in nodes target) name (value_of nodes setter) (name_in nodes setter)
+
+abbrev pub values_on : List Node → List (ℕ × Layer) → Node → List ℕ
+values_on nodes all target =
+    flat_map (λ name. top_text nodes target.serial name (stack_of all target.serial name)) (names_on all target.serial)
+
+-- targets in document order
+abbrev pub values_text : Presentation → List ℕ
+values_text p =
+    let all = layers p.document.nodes (views_of p) in flat_map (values_on p.document.nodes all) p.document.nodes
+
+-- the stack of an attribute of a node, from the top down
+abbrev pub stack_text : Presentation → List ℕ → Option Node → List ℕ
+stack_text p name None = []
+stack_text p name (Some target) =
+    flat_map
+    (λ setter. layer_line (name_in p.document.nodes setter) (value_of p.document.nodes setter))
+    (stack_of (layers p.document.nodes (views_of p)) target.serial name)
+
+-- the document with its serials, the diary entry by entry, and the moment
+abbrev pub diary_text : Formats → Presentation → List ℕ
+diary_text formats p =
+    formats.saved p.document ++ outline_end ++ flat_map (entry_line p.log) (resolved_history p).diary ++ now_line (pos p.now)
+
+-- the text of an accepted order, but for its last line: the elements that are gone, then the changes; or what the order
+-- asks for
 abbrev pub answer_text : Formats → Presentation → Presentation → Order → List ℕ
 answer_text formats before after (order.History who) = history_text after (node_of after.document.nodes who)
 answer_text formats before after order.Text = formats.outline after.document.nodes
+answer_text formats before after order.Save = formats.saved after.document
+answer_text formats before after order.Diary = diary_text formats after
+answer_text formats before after order.Values = values_text after
+answer_text formats before after (order.Stack who name) = stack_text after name (node_of after.document.nodes who)
 answer_text formats before after given =
     gone_text before after ++ flat_map (change_text after.document.nodes) (changes_of before after given)
 
@@ -60,12 +98,13 @@ abbrev pub IsName : Who → Type 0
 IsName (Id id) = IsText id
 IsName (Serial serial) = Unit {0}
 
--- an order's moments and lengths are clock values, and its event is one that an event line may name
+-- an order's moments and lengths are clock values, and its event and its key are such as a line may name
 abbrev pub IsGiven : Order → Type 0
 IsGiven (order.Advance by) = is_clock by ≡ true
 IsGiven (order.Seek to) = is_clock to ≡ true
 IsGiven (order.Event who name) = IsName who × ((is_event_name name && not (is_raised_name name)) ≡ true)
 IsGiven (order.Media who length) = IsName who × (is_clock length ≡ true)
+IsGiven (order.Key key) = is_key key ≡ true
 IsGiven (order.Set who name value name_column column) =
     IsName who × IsText name × IsText value × IsColumn name_column × IsColumn column
 IsGiven (order.Unset who name column) = IsName who × IsText name × IsColumn column
@@ -74,6 +113,10 @@ IsGiven (order.Remove who) = IsName who
 IsGiven (order.History who) = IsName who
 IsGiven order.Show = Unit {0}
 IsGiven order.Text = Unit {0}
+IsGiven order.Save = Unit {0}
+IsGiven order.Diary = Unit {0}
+IsGiven order.Values = Unit {0}
+IsGiven (order.Stack who name) = IsName who × IsText name
 
 -- ---- the answer
 

@@ -1,6 +1,12 @@
 -- The lines of a transcript.
-use Rattle.std.specs.Prelude.{ℕ, ℤ, List, [], ◌∷◌, ◌++◌, Option, Some, None, codes, decimal}
+use Rattle.std.specs.Prelude.{ℕ, ℤ, List, [], ◌∷◌, ◌++◌, Option, Some, None, codes, decimal, slice_get}
 use Rattle.std.specs.Fmt.{signed_decimal}
+use Rattle.smil_model.specs.declared.diary.Entry.{Entry}
+use Rattle.smil_model.specs.declared.diary.LogEntry.{LogEntry}
+use Rattle.smil_model.specs.declared.diary.Happening.{Happening}
+use Rattle.smil_model.specs.declared.diary.Happening.TheVariants as happening
+use Rattle.smil_model.specs.declared.diary.Step.{Step}
+use Rattle.smil_model.specs.declared.diary.Step.TheVariants as step
 use Rattle.smil_model.specs.declared.document.Node.{Node}
 use Rattle.smil_model.specs.declared.order.Who.{Who}
 use Rattle.smil_model.specs.declared.order.Who.TheVariants.{Id, Serial}
@@ -70,6 +76,57 @@ abbrev pub interval_line : Who → Shown → Shown → How → List ℕ
 interval_line name begin finish how =
     line_of (reference_text name ∷ codes "from" ∷ shown_text begin ∷ codes "to" ∷ shown_text finish ∷ how_text how ∷ [])
 
+-- an attribute that is set, with its value, and the set that gives it
+abbrev pub quoted : List ℕ → List ℕ
+quoted value = 34 ∷ value ++ 34 ∷ []
+
+abbrev pub value_line : Who → List ℕ → List ℕ → Who → List ℕ
+value_line target name value setter =
+    line_of (reference_text target ∷ name ∷ quoted value ∷ reference_text setter ∷ [])
+
+-- a set of a stack, with its value
+abbrev pub layer_line : Who → List ℕ → List ℕ
+layer_line setter value = line_of (reference_text setter ∷ quoted value ∷ [])
+
+-- ---- entries of a diary, each with its moment; nodes stand by their serials
+
+abbrev pub serial_text : ℕ → List ℕ
+serial_text serial = reference_text (Serial serial)
+
+-- what came from outside
+abbrev pub happening_words : Happening → List (List ℕ)
+happening_words (happening.Event who name) = codes "event" ∷ serial_text who ∷ name ∷ []
+happening_words (happening.Media who length) = codes "media" ∷ serial_text who ∷ signed_decimal length ∷ []
+happening_words (happening.Key key) = codes "key" ∷ (key ∷ []) ∷ []
+
+abbrev pub logged_words : Option LogEntry → List (List ℕ)
+logged_words None = []
+logged_words (Some entry) = happening_words entry.what
+
+-- a step: its word, the element, and its value on its clock
+abbrev pub step_words : List LogEntry → Step → List (List ℕ)
+step_words log (step.Began who begin) = codes "began" ∷ serial_text who ∷ signed_decimal begin ∷ []
+step_words log (step.Repeated who start) = codes "repeated" ∷ serial_text who ∷ signed_decimal start ∷ []
+step_words log (step.Ended who end') = codes "ended" ∷ serial_text who ∷ signed_decimal end' ∷ []
+step_words log (step.Cut who) = codes "cut" ∷ serial_text who ∷ []
+step_words log (step.Paused who) = codes "paused" ∷ serial_text who ∷ []
+step_words log (step.Resumed who) = codes "resumed" ∷ serial_text who ∷ []
+step_words log (step.Deferred who begin) = codes "deferred" ∷ serial_text who ∷ signed_decimal begin ∷ []
+step_words log (step.Passed who begin) = codes "passed" ∷ serial_text who ∷ signed_decimal begin ∷ []
+step_words log (step.Logged place) = logged_words (slice_get log place)
+
+abbrev pub entry_line : List LogEntry → Entry → List ℕ
+entry_line log entry = line_of (signed_decimal entry.moment ∷ step_words log entry.step)
+
+-- the line between an outline and a diary, and the line of the present moment behind a diary
+abbrev pub outline_end : List ℕ
+outline_end = line_of (codes "%%" ∷ [])
+
+abbrev pub now_line : ℤ → List ℕ
+now_line now = line_of (codes "now" ∷ signed_decimal now ∷ [])
+
+-- ---- the last line of an answer
+
 -- the end of an accepted answer: the number of the order's first line, the presentation's name and its moment
 abbrev pub ok_line : ℕ → List ℕ → ℤ → List ℕ
 ok_line line name now = line_of (codes "ok" ∷ decimal line ∷ name ∷ signed_decimal now ∷ [])
@@ -104,6 +161,8 @@ refusal_text refusal.BeyondHorizon = codes "beyond-horizon"
 refusal_text refusal.DiaryFull = codes "diary-full"
 refusal_text refusal.Memory = codes "memory"
 refusal_text refusal.NotYet = codes "not-yet"
+refusal_text refusal.BadSerial = codes "bad-serial"
+refusal_text refusal.NoAnchor = codes "no-anchor"
 
 -- the number of a refusal
 abbrev pub refusal_number : Refusal → ℕ
@@ -132,6 +191,8 @@ refusal_number refusal.BeyondHorizon = 22
 refusal_number refusal.DiaryFull = 23
 refusal_number refusal.Memory = 24
 refusal_number refusal.NotYet = 25
+refusal_number refusal.BadSerial = 26
+refusal_number refusal.NoAnchor = 27
 
 -- the column of a refusal that has one
 abbrev pub refusal_column : Refusal → Option ℕ

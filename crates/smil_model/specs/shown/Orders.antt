@@ -1,7 +1,7 @@
 -- What an order makes of a presentation: the new state, or the first refusal that holds; and the views that it changes.
 use Rattle.std.specs.Prelude.{◌≡◌, ℕ, zero, suc, ◌+◌, pos, int_le, List, [], ◌∷◌, ◌++◌, length, map, filter, find, Bool, true, false, not, ◌&&◌, ◌||◌, ◌==◌, nat_lt, nat_le, if◌then◌else◌, Option, Some, None, is_some, Result, Ok, Err, unwrap_or, nat_abs}
 use Rattle.smil_model.specs.declared.times.TheConstants.{HORIZON}
-use Rattle.smil_model.specs.declared.limits.TheConstants.{LOG_ENTRIES, NODES, DEPTH, REFERENCES, SERIALS}
+use Rattle.smil_model.specs.declared.limits.TheConstants.{LOG_ENTRIES, DEPTH, SERIALS}
 use Rattle.smil_model.specs.declared.diary.Entry.{Entry}
 use Rattle.smil_model.specs.declared.diary.LogEntry.{LogEntry}
 use Rattle.smil_model.specs.declared.diary.Happening.{Happening}
@@ -18,18 +18,19 @@ use Rattle.smil_model.specs.declared.order.Who.{Who}
 use Rattle.smil_model.specs.declared.order.Who.TheVariants.{Id, Serial}
 use Rattle.smil_model.specs.declared.order.Order.{Order}
 use Rattle.smil_model.specs.declared.order.Order.TheVariants as order
-use Rattle.smil_model.specs.declared.order.Order.TheVariants.{Advance, Seek, Set, Unset, Insert, Remove, Show, Text}
+use Rattle.smil_model.specs.declared.order.Order.TheVariants.{Advance, Seek, Set, Unset, Insert, Remove, Show, Text, Save, Values, Stack}
 use Rattle.smil_model.specs.declared.view.State.{State}
 use Rattle.smil_model.specs.declared.view.State.TheVariants as state
 use Rattle.smil_model.specs.declared.view.Shown.{Shown}
 use Rattle.smil_model.specs.declared.view.Shown.TheVariants as shown
 use Rattle.smil_model.specs.declared.view.View.{View}
+use Rattle.smil_model.specs.document.Limits.{Limits, limits}
 use Rattle.smil_model.specs.document.Document.{Document, has_id, node_at, elements, is_element, is_continuous}
 use Rattle.smil_model.specs.document.Valid.{IsValid, depth_of, kind_of, may_stand, agree_with, is_id_taken, references}
 use Rattle.smil_model.specs.document.Edits.{attr_set, attr_unset, node_inserted, node_removed, children}
 use Rattle.smil_model.specs.diary.Logs.{is_log, is_logged_by}
 use Rattle.smil_model.specs.diary.Diary.{History}
-use Rattle.smil_model.specs.happening.Resolution.{Course, diary_of, resolved}
+use Rattle.smil_model.specs.happening.Resolution.{Course, diary_within, resolved}
 use Rattle.smil_model.specs.shown.Views.{views, blank}
 
 -- the whole state of a presentation: its document, its log and its moment
@@ -116,12 +117,16 @@ changes_between before after = at_moment after.now (changed (views_of before) (v
 abbrev pub changes_of_load : Presentation → List (ℕ × View)
 changes_of_load loaded = at_moment loaded.now (changed [] (views_of loaded))
 
--- the changes of an accepted order; `show` tells every view, `history` and `text` change nothing
+-- the changes of an accepted order; `show` tells every view, and orders that tell something else change nothing
 abbrev pub changes_of : Presentation → Presentation → Order → List (ℕ × View)
 changes_of before after (Advance by) = changes_through before (nat_abs by)
 changes_of before after Show = at_moment after.now (views_of after)
 changes_of before after (order.History who) = []
 changes_of before after Text = []
+changes_of before after Save = []
+changes_of before after order.Diary = []
+changes_of before after Values = []
+changes_of before after (Stack who name) = []
 changes_of before after _ = changes_between before after
 
 -- the elements that an order removed, in the old document order
@@ -145,37 +150,37 @@ abbrev pub kept_where : Presentation → Option (List Entry) → Result Presenta
 kept_where p None = Err DiaryFull
 kept_where p (Some diary) = Ok p
 
-abbrev pub unless_too_full : Presentation → Result Presentation Refusal
-unless_too_full p = kept_where p (diary_of (course_of p))
+abbrev pub unless_too_full : Limits → Presentation → Result Presentation Refusal
+unless_too_full allowed p = kept_where p (diary_within allowed.entries (course_of p))
 
 -- ---- moments and the log
 
 -- the state at another moment, unless that is beyond the horizon
-abbrev pub at_moment_with : Presentation → ℕ → List LogEntry → Result Presentation Refusal
-at_moment_with p moment log =
+abbrev pub at_moment_with : Limits → Presentation → ℕ → List LogEntry → Result Presentation Refusal
+at_moment_with allowed p moment log =
     and_then
     (unless (not (int_le (pos moment) HORIZON)) BeyondHorizon (record { document = p.document; log = log; now = moment }))
-    unless_too_full
+    (unless_too_full allowed)
 
 -- the clock moves on by so many milliseconds
-abbrev pub advanced : Presentation → ℕ → Result Presentation Refusal
-advanced p by = at_moment_with p (p.now + by) p.log
+abbrev pub advanced : Limits → Presentation → ℕ → Result Presentation Refusal
+advanced allowed p by = at_moment_with allowed p (p.now + by) p.log
 
 -- a seek to a later moment plays through; one to an earlier moment removes the log entries later than its target
-abbrev pub after_seek : Presentation → ℕ → Result Presentation Refusal
-after_seek p to =
-    at_moment_with p to (filter (λ (entry : LogEntry). int_le entry.moment (pos to)) p.log)
+abbrev pub after_seek : Limits → Presentation → ℕ → Result Presentation Refusal
+after_seek allowed p to =
+    at_moment_with allowed p to (filter (λ (entry : LogEntry). int_le entry.moment (pos to)) p.log)
 
--- an event or a length joins the log at the present moment, unless the log is full
-abbrev pub with_logged : Presentation → Happening → Result Presentation Refusal
-with_logged p what =
+-- an event, a length or a key joins the log at the present moment, unless the log is full
+abbrev pub with_logged : Limits → Presentation → Happening → Result Presentation Refusal
+with_logged allowed p what =
     and_then
     (unless (not (nat_lt (length p.log) LOG_ENTRIES)) LogFull (record {
       document = p.document;
       log = p.log ++ record { moment = pos p.now; what = what } ∷ [];
       now = p.now;
     }))
-    unless_too_full
+    (unless_too_full allowed)
 
 -- ---- the node that an order names
 
@@ -205,23 +210,25 @@ pub record Formats : Type 0 where
   pub read_attrs : Kind → List ℕ → ℕ → Result Attrs Refusal
   -- the canonical outline
   pub outline : List Node → List ℕ
+  -- the canonical outline with the serials of the nodes and the next serial
+  pub saved : Document → List ℕ
 
 abbrev pub id_in : Attr → Option (List ℕ)
 id_in (attr.Id id) = Some id
 id_in _ = None
 
 -- refused where another node has the id, or where too many items refer to something
-abbrev pub set_checked : Document → Node → Attr → Result Document Refusal
-set_checked document n given =
+abbrev pub set_checked : Limits → Document → Node → Attr → Result Document Refusal
+set_checked allowed document n given =
     and_then
     (unless (is_id_taken document.nodes n.serial (id_in given)) DuplicateId (attr_set document n.serial given))
-    (λ (after : Document). unless (nat_lt REFERENCES (references after.nodes)) TooManyReferences after)
+    (λ (after : Document). unless (nat_lt allowed.references (references after.nodes)) TooManyReferences after)
 
-abbrev pub attr_set_by : Formats → Document → Node → List ℕ → List ℕ → ℕ → ℕ → Result Document Refusal
-attr_set_by formats document n name value name_column value_column =
+abbrev pub attr_set_by : Limits → Formats → Document → Node → List ℕ → List ℕ → ℕ → ℕ → Result Document Refusal
+attr_set_by allowed formats document n name value name_column value_column =
     and_then
     (formats.read_attr n.kind (kind_of (node_at document.nodes n.parent)) name value name_column value_column)
-    (set_checked document n)
+    (set_checked allowed document n)
 
 abbrev pub attr_unset_by : Formats → Document → Node → List ℕ → ℕ → Result Document Refusal
 attr_unset_by formats document n name column =
@@ -244,58 +251,72 @@ may_insert document p place kind =
 
 -- refused where another node has the id, where there are too many nodes or no serial is left, or where too many items
 -- refer to something
-abbrev pub insert_checked : Document → ℕ → ℕ → Kind → Attrs → Result Document Refusal
-insert_checked document parent place kind attrs =
+abbrev pub insert_checked : Limits → Document → ℕ → ℕ → Kind → Attrs → Result Document Refusal
+insert_checked allowed document parent place kind attrs =
     and_then
     (unless (is_id_taken document.nodes document.next attrs.id) DuplicateId (node_inserted document parent place kind attrs))
     (λ (after : Document).
     and_then
-    (unless (nat_lt NODES (length after.nodes) || nat_le SERIALS document.next) TooManyElements after)
-    (λ (checked : Document). unless (nat_lt REFERENCES (references checked.nodes)) TooManyReferences checked))
+    (unless (nat_lt allowed.nodes (length after.nodes) || nat_le SERIALS document.next) TooManyElements after)
+    (λ (checked : Document). unless (nat_lt allowed.references (references checked.nodes)) TooManyReferences checked))
 
-abbrev pub node_inserted_by : Formats → Document → Node → ℕ → List ℕ → ℕ → Result Document Refusal
-node_inserted_by formats document p place line column =
+abbrev pub node_inserted_by : Limits → Formats → Document → Node → ℕ → List ℕ → ℕ → Result Document Refusal
+node_inserted_by allowed formats document p place line column =
     and_then
     (and_then (formats.read_kind line column) (may_insert document p place))
-    (λ kind. and_then (formats.read_attrs p.kind line column) (insert_checked document p.serial place kind))
+    (λ kind. and_then (formats.read_attrs p.kind line column) (insert_checked allowed document p.serial place kind))
 
 -- the root stays
 abbrev pub node_removed_from : Document → Node → Result Document Refusal
 node_removed_from document n = unless (n.parent == 0) Root (node_removed document n.serial)
 
 -- an edited document is resolved from moment 0, with the same log
-abbrev pub resolved_with : Presentation → Document → Result Presentation Refusal
-resolved_with p document = unless_too_full (record { document = document; log = p.log; now = p.now })
+abbrev pub resolved_with : Limits → Presentation → Document → Result Presentation Refusal
+resolved_with allowed p document = unless_too_full allowed (record { document = document; log = p.log; now = p.now })
 
 -- ---- orders
 
 -- a load opens a presentation at moment 0 with an empty log
-abbrev pub opened : Document → Result Presentation Refusal
-opened document = unless_too_full (record { document = document; log = []; now = 0 })
+abbrev pub opened_within : Limits → Document → Result Presentation Refusal
+opened_within allowed document = unless_too_full allowed (record { document = document; log = []; now = 0 })
 
--- the new state, or the first refusal that holds
-abbrev pub outcome : Formats → Presentation → Order → Result Presentation Refusal
-outcome formats p (Advance by) = advanced p (nat_abs by)
-outcome formats p (Seek to) = after_seek p (nat_abs to)
-outcome formats p (order.Event who name) =
+-- the new state within limits, or the first refusal that holds
+abbrev pub outcome_within : Limits → Formats → Presentation → Order → Result Presentation Refusal
+outcome_within allowed formats p (Advance by) = advanced allowed p (nat_abs by)
+outcome_within allowed formats p (Seek to) = after_seek allowed p (nat_abs to)
+outcome_within allowed formats p (order.Event who name) =
     on_node p who
     (λ (n : Node).
-    and_then (unless (not (is_element n)) BadPlace n) (λ (e : Node). with_logged p (happening.Event e.serial name)))
-outcome formats p (order.Media who length) =
+    and_then (unless (not (is_element n)) BadPlace n) (λ (e : Node). with_logged allowed p (happening.Event e.serial name)))
+outcome_within allowed formats p (order.Media who length) =
     on_node p who
     (λ (n : Node).
     and_then
     (unless (not (is_continuous n.kind)) NotContinuous n)
-    (λ (e : Node). with_logged p (happening.Media e.serial length)))
-outcome formats p (Set who name value name_column value_column) =
+    (λ (e : Node). with_logged allowed p (happening.Media e.serial length)))
+outcome_within allowed formats p (order.Key key) = with_logged allowed p (happening.Key key)
+outcome_within allowed formats p (Set who name value name_column value_column) =
     on_node p who
-    (λ n. and_then (attr_set_by formats p.document n name value name_column value_column) (resolved_with p))
-outcome formats p (Unset who name column) =
-    on_node p who (λ n. and_then (attr_unset_by formats p.document n name column) (resolved_with p))
-outcome formats p (Insert who place line column) =
-    on_node p who (λ n. and_then (node_inserted_by formats p.document n place line column) (resolved_with p))
-outcome formats p (Remove who) =
-    on_node p who (λ n. and_then (node_removed_from p.document n) (resolved_with p))
-outcome formats p Show = Ok p
-outcome formats p Text = Ok p
-outcome formats p (order.History who) = on_node p who (λ (n : Node). unless (not (is_element n)) BadPlace p)
+    (λ n. and_then (attr_set_by allowed formats p.document n name value name_column value_column) (resolved_with allowed p))
+outcome_within allowed formats p (Unset who name column) =
+    on_node p who (λ n. and_then (attr_unset_by formats p.document n name column) (resolved_with allowed p))
+outcome_within allowed formats p (Insert who place line column) =
+    on_node p who
+    (λ n. and_then (node_inserted_by allowed formats p.document n place line column) (resolved_with allowed p))
+outcome_within allowed formats p (Remove who) =
+    on_node p who (λ n. and_then (node_removed_from p.document n) (resolved_with allowed p))
+outcome_within allowed formats p Show = Ok p
+outcome_within allowed formats p (order.History who) =
+    on_node p who (λ (n : Node). unless (not (is_element n)) BadPlace p)
+outcome_within allowed formats p Text = Ok p
+outcome_within allowed formats p Save = Ok p
+outcome_within allowed formats p order.Diary = Ok p
+outcome_within allowed formats p Values = Ok p
+outcome_within allowed formats p (Stack who name) = on_node p who (λ n. Ok p)
+
+-- the same within the limits that hold
+abbrev pub opened : Document → Result Presentation Refusal
+opened document = opened_within limits document
+
+abbrev pub outcome : Formats → Presentation → Order → Result Presentation Refusal
+outcome formats p given = outcome_within limits formats p given

@@ -1,0 +1,167 @@
+-- Each step of a resolution appends an entry or takes the next moment, so it has ended, or has too many entries, after as many
+-- steps as there are entries and moments.
+use Rattle.std.proofs.Common.{◌≡◌, refl, sym, ◌∙◌, ap, ℕ, suc, zero, ◌<◌, ◌≤◌, ◌+◌, [], ◌∷◌, ◌++◌, Option, Some, None, Bool, true, false, arith, inl, inr, length, length-append}
+use Rattle.std.specs.Prelude.{◌⊎◌, cond, pos, int_le, nat_lt, nat_le, slice_get}
+use Rattle.std.specs.Option.{option_map_or}
+use Rattle.std.proofs.lemmas.Bool.{ltb-true, le-leb, lt-leb}
+use Rattle.smil_model.specs.declared.diary.LogEntry.{LogEntry}
+use Rattle.smil_model.specs.declared.diary.Step.TheVariants.{Logged}
+use Rattle.smil_model.specs.declared.limits.TheConstants.{DIARY_ENTRIES}
+use Rattle.smil_model.specs.happening.Keys.{Coming, coming, first_coming, is_due}
+use Rattle.smil_model.specs.happening.Groups.{group}
+use Rattle.smil_model.specs.happening.Resolution.{Course, Progress, outset, history_at, after_quiet, after_settling, after_coming, next_step, after_steps, Reaches, resolved, diary_of}
+use Rattle.smil_laws.proofs.Grouped.{group_filled}
+
+-- entries and milliseconds
+abbrev extent : Progress → ℕ
+extent p = length p.diary + p.moment
+
+-- a step goes on by one of them at least, keeps the entries, and does not pass the last moment
+record Advances (c : Course) (q r : Progress) : Type 0 where
+  more : suc (extent q) ≤ extent r
+  longer : length q.diary ≤ length r.diary
+  within : q.moment ≤ c.last → r.moment ≤ c.last
+
+module _ (c : Course) (q : Progress) where
+  quiet_advances : (r : Progress) → after_quiet c q ≡ Some r → Advances c q r
+  quiet_advances r e = by_test (nat_lt q.moment c.last) refl e
+    where
+      by_test : (t : Bool) → nat_lt q.moment c.last ≡ t → cond t (Some (record { moment = suc q.moment; heard = q.heard; diary = q.diary })) None ≡ Some r → Advances c q r
+      by_test true t e =
+          let one : record { moment = suc q.moment; heard = q.heard; diary = q.diary } ≡ r = cc in
+          let below : q.moment < c.last = ltb-true q.moment c.last t in
+          rw (← one) (record { more = omega arith; longer = omega arith; within = λ w. omega (arith, below) })
+      by_test false t e = cc
+
+  settling_advances : (o : Option LogEntry) (r : Progress) → after_settling c q o ≡ Some r → Advances c q r
+  settling_advances None r e = quiet_advances r e
+  settling_advances (Some entry) r e = by_test (int_le entry.moment (pos q.moment)) e
+    where
+      by_test : (t : Bool) → cond t (Some (record { moment = q.moment; heard = suc q.heard; diary = q.diary ++ record { moment = pos q.moment; step = Logged q.heard } ∷ [] })) (after_quiet c q) ≡ Some r → Advances c q r
+      by_test true e =
+          let one : record { moment = q.moment; heard = suc q.heard; diary = q.diary ++ record { moment = pos q.moment; step = Logged q.heard } ∷ [] } ≡ r = cc in
+          let more = length-append q.diary (record { moment = pos q.moment; step = Logged q.heard } ∷ []) in
+          rw (← one) (record { more = omega (arith, more); longer = omega (arith, more); within = λ w. w })
+      by_test false e = quiet_advances r e
+
+  coming_advances : (o : Option Coming) (r : Progress) → after_coming c q o ≡ Some r → Advances c q r
+  coming_advances None r e = settling_advances (slice_get c.log q.heard) r e
+  coming_advances (Some next) r e = by_test (is_due (pos q.moment) next.key) e
+    where
+      by_test : (t : Bool) → cond t (Some (record { moment = q.moment; heard = q.heard; diary = q.diary ++ group (history_at c q) (pos q.moment) next.key.serial next.change })) (after_settling c q (slice_get c.log q.heard)) ≡ Some r → Advances c q r
+      by_test true e =
+          let one : record { moment = q.moment; heard = q.heard; diary = q.diary ++ group (history_at c q) (pos q.moment) next.key.serial next.change } ≡ r = cc in
+          let more = length-append q.diary (group (history_at c q) (pos q.moment) next.key.serial next.change) in
+          let some = group_filled (history_at c q) (pos q.moment) next.key.serial next.change in
+          rw (← one) (record { more = omega (arith, more, some); longer = omega (arith, more); within = λ w. w })
+      by_test false e = settling_advances (slice_get c.log q.heard) r e
+
+  next_advances : (r : Progress) → next_step c q ≡ Some r → Advances c q r
+  next_advances r e = coming_advances (first_coming (coming (history_at c q) (pos q.moment))) r e
+
+-- after k steps the resolution has ended, or has come as far
+record Comes (c : Course) (k : ℕ) (q r : Progress) : Type 0 where
+  far : (next_step c r ≡ None) ⊎ (k + extent q ≤ extent r)
+  longer : length q.diary ≤ length r.diary
+  within : q.moment ≤ c.last → r.moment ≤ c.last
+
+comes : (c : Course) (k : ℕ) (q : Progress) → Comes c k q (after_steps c k q)
+comes c zero q = record { far = inr (omega arith); longer = omega arith; within = λ w. w }
+comes c (suc k) q = by_next (next_step c q) refl (comes c k)
+  where
+    by_next : (o : Option Progress) → next_step c q ≡ o → ((r : Progress) → Comes c k r (after_steps c k r)) → Comes c (suc k) q (option_map_or (λ r. after_steps c k r) o q)
+    by_next None e later = record { far = inl e; longer = omega arith; within = λ w. w }
+    by_next (Some r) e later =
+        let one = next_advances c q r e in
+        let rest = later r in
+        record {
+          far = by_far (rest.far) one.more;
+          longer = omega (arith, one.longer, rest.longer);
+          within = λ w. rest.within (one.within w);
+        }
+      where
+        by_far : (next_step c (after_steps c k r) ≡ None) ⊎ (k + extent r ≤ extent (after_steps c k r)) → suc (extent q) ≤ extent r → (next_step c (after_steps c k r) ≡ None) ⊎ (suc k + extent q ≤ extent (after_steps c k r))
+        by_far (inl ended) more = inl ended
+        by_far (inr far) more = inr (omega (arith, far, more))
+
+-- where it has ended it stays
+stays : (c : Course) (k : ℕ) (q : Progress) → next_step c q ≡ None → after_steps c k q ≡ q
+stays c zero q e = refl
+stays c (suc k) q e = ap (λ o. option_map_or (λ r. after_steps c k r) o q) e
+
+-- more steps after some
+pub then : (c : Course) (k j : ℕ) (q : Progress) → after_steps c (k + j) q ≡ after_steps c j (after_steps c k q)
+then c zero j q = ap (λ n. after_steps c n q) (omega arith)
+then c (suc k) j q = ap (λ n. after_steps c n q) there ∙ by_next (next_step c q) refl (then c k j)
+  where
+    there : suc k + j ≡ suc (k + j)
+    there = omega arith
+
+    by_next : (o : Option Progress) → next_step c q ≡ o → ((r : Progress) → after_steps c (k + j) r ≡ after_steps c j (after_steps c k r)) → option_map_or (λ r. after_steps c (k + j) r) o q ≡ after_steps c j (option_map_or (λ r. after_steps c k r) o q)
+    by_next None e later = sym (stays c j q e)
+    by_next (Some r) e later = later r
+
+-- one of two numbers of steps is the other and some more
+ordered : (a b : ℕ) → ((j : ℕ) × (a + j ≡ b)) ⊎ ((j : ℕ) × (b + j ≡ a))
+ordered zero b = inl (b, omega arith)
+ordered (suc a) zero = inr (suc a, omega arith)
+ordered (suc a) (suc b) = by_case (ordered a b)
+  where
+    by_case : ((j : ℕ) × (a + j ≡ b)) ⊎ ((j : ℕ) × (b + j ≡ a)) → ((j : ℕ) × (suc a + j ≡ suc b)) ⊎ ((j : ℕ) × (suc b + j ≡ suc a))
+    by_case (inl (j, e)) = inl (j, omega (arith, e))
+    by_case (inr (j, e)) = inr (j, omega (arith, e))
+
+module _ (c : Course) (p : Progress) (most steps : ℕ) (enough : most + c.last < steps) where
+  -- what has ended within the bound is where all steps lead
+  ended_there : (k : ℕ) → after_steps c k outset ≡ p → next_step c p ≡ None → length p.diary ≤ most → after_steps c steps outset ≡ p
+  ended_there k e ended few = by_order (ordered k steps)
+    where
+      by_far : (j : ℕ) → steps + j ≡ k → (next_step c (after_steps c steps outset) ≡ None) ⊎ (steps + extent outset ≤ extent (after_steps c steps outset)) → after_steps c steps outset ≡ p
+      by_far j there (inl early) =
+          sym (stays c j (after_steps c steps outset) early) ∙ sym (then c steps j outset) ∙ ap (λ n. after_steps c n outset) there ∙ e
+      by_far j there (inr far) =
+          let longer = (comes c j (after_steps c steps outset)).longer in
+          let same : after_steps c j (after_steps c steps outset) ≡ p = sym (then c steps j outset) ∙ ap (λ n. after_steps c n outset) there ∙ e in
+          let as_long : length (after_steps c j (after_steps c steps outset)).diary ≡ length p.diary = ap (λ (x : Progress). length x.diary) same in
+          let bound = (comes c steps outset).within (omega arith) in
+          absurd (omega (arith, far, longer, as_long, bound, few, enough))
+
+      by_order : ((j : ℕ) × (k + j ≡ steps)) ⊎ ((j : ℕ) × (steps + j ≡ k)) → after_steps c steps outset ≡ p
+      by_order (inl (j, there)) =
+          ap (λ n. after_steps c n outset) (sym there) ∙ then c k j outset ∙ ap (after_steps c j) e ∙ stays c j p ended
+      by_order (inr (j, there)) = by_far j there (comes c steps outset).far
+
+  -- and where it has come to more entries, all steps lead to more
+  too_long_there : (k : ℕ) → after_steps c k outset ≡ p → most < length p.diary → most < length (after_steps c steps outset).diary
+  too_long_there k e many = by_order (ordered k steps)
+    where
+      same_length : length (after_steps c k outset).diary ≡ length p.diary
+      same_length = ap (λ (x : Progress). length x.diary) e
+
+      by_far : (j : ℕ) → steps + j ≡ k → (next_step c (after_steps c steps outset) ≡ None) ⊎ (steps + extent outset ≤ extent (after_steps c steps outset)) → most < length (after_steps c steps outset).diary
+      by_far j there (inl early) =
+          let same : after_steps c steps outset ≡ p = sym (stays c j (after_steps c steps outset) early) ∙ sym (then c steps j outset) ∙ ap (λ n. after_steps c n outset) there ∙ e in
+          let as_long : length (after_steps c steps outset).diary ≡ length p.diary = ap (λ (x : Progress). length x.diary) same in
+          omega (arith, as_long, many)
+      by_far j there (inr far) =
+          let bound = (comes c steps outset).within (omega arith) in
+          omega (arith, far, bound, enough)
+
+      by_order : ((j : ℕ) × (k + j ≡ steps)) ⊎ ((j : ℕ) × (steps + j ≡ k)) → most < length (after_steps c steps outset).diary
+      by_order (inl (j, there)) =
+          let longer = (comes c j (after_steps c k outset)).longer in
+          let same : after_steps c steps outset ≡ after_steps c j (after_steps c k outset) = ap (λ n. after_steps c n outset) (sym there) ∙ then c k j outset in
+          let as_long : length (after_steps c steps outset).diary ≡ length (after_steps c j (after_steps c k outset)).diary = ap (λ (x : Progress). length x.diary) same in
+          omega (arith, longer, as_long, same_length, many)
+      by_order (inr (j, there)) = by_far j there (comes c steps outset).far
+
+pub ended_is_diary : (c : Course) (p : Progress) → Reaches c p → next_step c p ≡ None → length p.diary ≤ DIARY_ENTRIES → diary_of c ≡ Some p.diary
+ended_is_diary c p reached ended few =
+    let there : resolved c ≡ p = ended_there c p DIARY_ENTRIES (suc (DIARY_ENTRIES + c.last)) (omega arith) reached.0 reached.1 ended few in
+    ap (λ (x : Progress). cond (nat_le (length x.diary) DIARY_ENTRIES) (Some x.diary) None) there
+    ∙ ap (λ t. cond t (Some p.diary) None) (le-leb (length p.diary) DIARY_ENTRIES few)
+
+pub too_long_is_full : (c : Course) (p : Progress) → Reaches c p → DIARY_ENTRIES < length p.diary → diary_of c ≡ None
+too_long_is_full c p reached many =
+    let more : DIARY_ENTRIES < length (resolved c).diary = too_long_there c p DIARY_ENTRIES (suc (DIARY_ENTRIES + c.last)) (omega arith) reached.0 reached.1 many in
+    ap (λ t. cond t (Some (resolved c).diary) None) (lt-leb (length (resolved c).diary) DIARY_ENTRIES more)

@@ -1,0 +1,5 @@
+use Rattle.smil_laws.proofs.Decided.{ended_is_diary}
+use Rattle.smil_laws.proofs.courses.ended_is_diary.Goals as goal
+
+pub returns : goal.returns
+returns c = ended_is_diary

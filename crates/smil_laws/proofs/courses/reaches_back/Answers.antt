@@ -1,0 +1,5 @@
+use Rattle.smil_laws.proofs.Back.{reaches_back}
+use Rattle.smil_laws.proofs.courses.reaches_back.Goals as goal
+
+pub returns : goal.returns
+returns c = reaches_back

@@ -1,0 +1,5 @@
+use Rattle.smil_laws.proofs.Jumping.{over_quiet}
+use Rattle.smil_laws.proofs.courses.reaches_over_quiet.Goals as goal
+
+pub returns : goal.returns
+returns c = over_quiet

@@ -1,0 +1,5 @@
+use Rattle.smil_laws.proofs.Longer.{may_be_longer}
+use Rattle.smil_laws.proofs.stays.log_may_be_longer.Goals as goal
+
+pub returns : goal.returns
+returns c = may_be_longer

@@ -1,0 +1,5 @@
+use Rattle.smil_laws.proofs.Quietly.{passes_quietly}
+use Rattle.smil_laws.proofs.stays.time_passes_quietly.Goals as goal
+
+pub returns : goal.returns
+returns c = passes_quietly

@@ -1,0 +1,68 @@
+//! One attribute of a node, set or taken away.
+
+ghost use Rattle.std.specs.Prelude.{◌≡◌};
+ghost use Rattle.smil_model.specs.document.Edits.{with_attr as attrs_with, without_attr as attrs_without};
+
+use super::document::{Attr, AttrName, Attrs};
+
+/// Sets an attribute, in place of the one that was there. It has no condition and takes no memory.
+pub fn with_attr(attrs: &mut Attrs, attr: Attr)
+    ensures { attrs.new ≡ attrs_with attrs.old attr }
+{
+    match attr {
+        Attr::Id(value) => attrs.id = Some(value),
+        Attr::Begin(value) => attrs.begin = Some(value),
+        Attr::Dur(value) => attrs.dur = Some(value),
+        Attr::End(value) => attrs.end = Some(value),
+        Attr::Min(value) => attrs.min = Some(value),
+        Attr::Max(value) => attrs.max = Some(value),
+        Attr::RepeatCount(value) => attrs.repeat_count = Some(value),
+        Attr::RepeatDur(value) => attrs.repeat_dur = Some(value),
+        Attr::Restart(value) => attrs.restart = Some(value),
+        Attr::Fill(value) => attrs.fill = Some(value),
+        Attr::RestartDefault(value) => attrs.restart_default = Some(value),
+        Attr::FillDefault(value) => attrs.fill_default = Some(value),
+        Attr::Endsync(value) => attrs.endsync = Some(value),
+        Attr::Peers(value) => attrs.peers = Some(value),
+        Attr::Higher(value) => attrs.higher = Some(value),
+        Attr::Lower(value) => attrs.lower = Some(value),
+        Attr::Src(value) => attrs.src = Some(value),
+        Attr::Region(value) => attrs.region = Some(value),
+        Attr::Alt(value) => attrs.alt = Some(value),
+        Attr::Title(value) => attrs.title = Some(value),
+        Attr::TargetElement(value) => attrs.target_element = Some(value),
+        Attr::AttributeName(value) => attrs.attribute_name = Some(value),
+        Attr::To(value) => attrs.to = Some(value),
+    }
+}
+
+/// Takes an attribute away, if it is there. It has no condition and takes no memory.
+pub fn without_attr(attrs: &mut Attrs, name: AttrName)
+    ensures { attrs.new ≡ attrs_without attrs.old name }
+{
+    match name {
+        AttrName::Id => attrs.id = None,
+        AttrName::Begin => attrs.begin = None,
+        AttrName::Dur => attrs.dur = None,
+        AttrName::End => attrs.end = None,
+        AttrName::Min => attrs.min = None,
+        AttrName::Max => attrs.max = None,
+        AttrName::RepeatCount => attrs.repeat_count = None,
+        AttrName::RepeatDur => attrs.repeat_dur = None,
+        AttrName::Restart => attrs.restart = None,
+        AttrName::Fill => attrs.fill = None,
+        AttrName::RestartDefault => attrs.restart_default = None,
+        AttrName::FillDefault => attrs.fill_default = None,
+        AttrName::Endsync => attrs.endsync = None,
+        AttrName::Peers => attrs.peers = None,
+        AttrName::Higher => attrs.higher = None,
+        AttrName::Lower => attrs.lower = None,
+        AttrName::Src => attrs.src = None,
+        AttrName::Region => attrs.region = None,
+        AttrName::Alt => attrs.alt = None,
+        AttrName::Title => attrs.title = None,
+        AttrName::TargetElement => attrs.target_element = None,
+        AttrName::AttributeName => attrs.attribute_name = None,
+        AttrName::To => attrs.to = None,
+    }
+}
