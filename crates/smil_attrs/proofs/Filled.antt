@@ -10,6 +10,8 @@ use Rattle.smil_model.specs.declared.document.Dur.{Dur}
 use Rattle.smil_model.specs.declared.document.Count.{Count}
 use Rattle.smil_model.specs.declared.document.Restart.{Restart}
 use Rattle.smil_model.specs.declared.document.Fill.{Fill}
+use Rattle.smil_model.specs.declared.document.RestartDefault.{RestartDefault}
+use Rattle.smil_model.specs.declared.document.FillDefault.{FillDefault}
 use Rattle.smil_model.specs.declared.document.Endsync.{Endsync}
 use Rattle.smil_model.specs.declared.document.Act.{Act}
 use Rattle.smil_model.specs.declared.document.Item.{Item}
@@ -37,6 +39,8 @@ named attrs name.RepeatCount = made attr.RepeatCount name.RepeatCount (λ x. ref
 named attrs name.RepeatDur = made attr.RepeatDur name.RepeatDur (λ x. refl) attrs.repeat_dur
 named attrs name.Restart = made attr.Restart name.Restart (λ x. refl) attrs.restart
 named attrs name.Fill = made attr.Fill name.Fill (λ x. refl) attrs.fill
+named attrs name.RestartDefault = made attr.RestartDefault name.RestartDefault (λ x. refl) attrs.restart_default
+named attrs name.FillDefault = made attr.FillDefault name.FillDefault (λ x. refl) attrs.fill_default
 named attrs name.Endsync = made attr.Endsync name.Endsync (λ x. refl) attrs.endsync
 named attrs name.Peers = made attr.Peers name.Peers (λ x. refl) attrs.peers
 named attrs name.Higher = made attr.Higher name.Higher (λ x. refl) attrs.higher
@@ -45,6 +49,9 @@ named attrs name.Src = made attr.Src name.Src (λ x. refl) attrs.src
 named attrs name.Region = made attr.Region name.Region (λ x. refl) attrs.region
 named attrs name.Alt = made attr.Alt name.Alt (λ x. refl) attrs.alt
 named attrs name.Title = made attr.Title name.Title (λ x. refl) attrs.title
+named attrs name.TargetElement = made attr.TargetElement name.TargetElement (λ x. refl) attrs.target_element
+named attrs name.AttributeName = made attr.AttributeName name.AttributeName (λ x. refl) attrs.attribute_name
+named attrs name.To = made attr.To name.To (λ x. refl) attrs.to
 
 -- attributes, and one more where it is there
 abbrev pub put : Attrs → Option Attr → Attrs
@@ -95,6 +102,14 @@ put-Fill : (attrs : Attrs) (o : Option (Fill)) → attrs.fill ≡ None → put a
 put-Fill attrs None e = ap (λ (o : Option (Fill)). record attrs { fill = o }) e
 put-Fill attrs (Some x) e = refl
 
+put-RestartDefault : (attrs : Attrs) (o : Option (RestartDefault)) → attrs.restart_default ≡ None → put attrs (option_map attr.RestartDefault o) ≡ record attrs { restart_default = o }
+put-RestartDefault attrs None e = ap (λ (o : Option (RestartDefault)). record attrs { restart_default = o }) e
+put-RestartDefault attrs (Some x) e = refl
+
+put-FillDefault : (attrs : Attrs) (o : Option (FillDefault)) → attrs.fill_default ≡ None → put attrs (option_map attr.FillDefault o) ≡ record attrs { fill_default = o }
+put-FillDefault attrs None e = ap (λ (o : Option (FillDefault)). record attrs { fill_default = o }) e
+put-FillDefault attrs (Some x) e = refl
+
 put-Endsync : (attrs : Attrs) (o : Option (Endsync)) → attrs.endsync ≡ None → put attrs (option_map attr.Endsync o) ≡ record attrs { endsync = o }
 put-Endsync attrs None e = ap (λ (o : Option (Endsync)). record attrs { endsync = o }) e
 put-Endsync attrs (Some x) e = refl
@@ -127,6 +142,18 @@ put-Title : (attrs : Attrs) (o : Option (List ℕ)) → attrs.title ≡ None →
 put-Title attrs None e = ap (λ (o : Option (List ℕ)). record attrs { title = o }) e
 put-Title attrs (Some x) e = refl
 
+put-TargetElement : (attrs : Attrs) (o : Option (List ℕ)) → attrs.target_element ≡ None → put attrs (option_map attr.TargetElement o) ≡ record attrs { target_element = o }
+put-TargetElement attrs None e = ap (λ (o : Option (List ℕ)). record attrs { target_element = o }) e
+put-TargetElement attrs (Some x) e = refl
+
+put-AttributeName : (attrs : Attrs) (o : Option (List ℕ)) → attrs.attribute_name ≡ None → put attrs (option_map attr.AttributeName o) ≡ record attrs { attribute_name = o }
+put-AttributeName attrs None e = ap (λ (o : Option (List ℕ)). record attrs { attribute_name = o }) e
+put-AttributeName attrs (Some x) e = refl
+
+put-To : (attrs : Attrs) (o : Option (List ℕ)) → attrs.to ≡ None → put attrs (option_map attr.To o) ≡ record attrs { to = o }
+put-To attrs None e = ap (λ (o : Option (List ℕ)). record attrs { to = o }) e
+put-To attrs (Some x) e = refl
+
 pub filled_all : (attrs : Attrs) → filled no_attrs attrs names ≡ attrs
 filled_all attrs =
     let a1 : Attrs = record no_attrs { id = attrs.id } in
@@ -149,20 +176,30 @@ filled_all attrs =
     let e9 : filled no_attrs attrs (take 9 names) ≡ a9 = ap (λ (a : Attrs). put a (attr_at attrs name.Restart)) e8 ∙ put-Restart a8 attrs.restart refl in
     let a10 : Attrs = record a9 { fill = attrs.fill } in
     let e10 : filled no_attrs attrs (take 10 names) ≡ a10 = ap (λ (a : Attrs). put a (attr_at attrs name.Fill)) e9 ∙ put-Fill a9 attrs.fill refl in
-    let a11 : Attrs = record a10 { endsync = attrs.endsync } in
-    let e11 : filled no_attrs attrs (take 11 names) ≡ a11 = ap (λ (a : Attrs). put a (attr_at attrs name.Endsync)) e10 ∙ put-Endsync a10 attrs.endsync refl in
-    let a12 : Attrs = record a11 { peers = attrs.peers } in
-    let e12 : filled no_attrs attrs (take 12 names) ≡ a12 = ap (λ (a : Attrs). put a (attr_at attrs name.Peers)) e11 ∙ put-Peers a11 attrs.peers refl in
-    let a13 : Attrs = record a12 { higher = attrs.higher } in
-    let e13 : filled no_attrs attrs (take 13 names) ≡ a13 = ap (λ (a : Attrs). put a (attr_at attrs name.Higher)) e12 ∙ put-Higher a12 attrs.higher refl in
-    let a14 : Attrs = record a13 { lower = attrs.lower } in
-    let e14 : filled no_attrs attrs (take 14 names) ≡ a14 = ap (λ (a : Attrs). put a (attr_at attrs name.Lower)) e13 ∙ put-Lower a13 attrs.lower refl in
-    let a15 : Attrs = record a14 { src = attrs.src } in
-    let e15 : filled no_attrs attrs (take 15 names) ≡ a15 = ap (λ (a : Attrs). put a (attr_at attrs name.Src)) e14 ∙ put-Src a14 attrs.src refl in
-    let a16 : Attrs = record a15 { region = attrs.region } in
-    let e16 : filled no_attrs attrs (take 16 names) ≡ a16 = ap (λ (a : Attrs). put a (attr_at attrs name.Region)) e15 ∙ put-Region a15 attrs.region refl in
-    let a17 : Attrs = record a16 { alt = attrs.alt } in
-    let e17 : filled no_attrs attrs (take 17 names) ≡ a17 = ap (λ (a : Attrs). put a (attr_at attrs name.Alt)) e16 ∙ put-Alt a16 attrs.alt refl in
-    let a18 : Attrs = record a17 { title = attrs.title } in
-    let e18 : filled no_attrs attrs (take 18 names) ≡ a18 = ap (λ (a : Attrs). put a (attr_at attrs name.Title)) e17 ∙ put-Title a17 attrs.title refl in
-    e18
+    let a11 : Attrs = record a10 { restart_default = attrs.restart_default } in
+    let e11 : filled no_attrs attrs (take 11 names) ≡ a11 = ap (λ (a : Attrs). put a (attr_at attrs name.RestartDefault)) e10 ∙ put-RestartDefault a10 attrs.restart_default refl in
+    let a12 : Attrs = record a11 { fill_default = attrs.fill_default } in
+    let e12 : filled no_attrs attrs (take 12 names) ≡ a12 = ap (λ (a : Attrs). put a (attr_at attrs name.FillDefault)) e11 ∙ put-FillDefault a11 attrs.fill_default refl in
+    let a13 : Attrs = record a12 { endsync = attrs.endsync } in
+    let e13 : filled no_attrs attrs (take 13 names) ≡ a13 = ap (λ (a : Attrs). put a (attr_at attrs name.Endsync)) e12 ∙ put-Endsync a12 attrs.endsync refl in
+    let a14 : Attrs = record a13 { peers = attrs.peers } in
+    let e14 : filled no_attrs attrs (take 14 names) ≡ a14 = ap (λ (a : Attrs). put a (attr_at attrs name.Peers)) e13 ∙ put-Peers a13 attrs.peers refl in
+    let a15 : Attrs = record a14 { higher = attrs.higher } in
+    let e15 : filled no_attrs attrs (take 15 names) ≡ a15 = ap (λ (a : Attrs). put a (attr_at attrs name.Higher)) e14 ∙ put-Higher a14 attrs.higher refl in
+    let a16 : Attrs = record a15 { lower = attrs.lower } in
+    let e16 : filled no_attrs attrs (take 16 names) ≡ a16 = ap (λ (a : Attrs). put a (attr_at attrs name.Lower)) e15 ∙ put-Lower a15 attrs.lower refl in
+    let a17 : Attrs = record a16 { src = attrs.src } in
+    let e17 : filled no_attrs attrs (take 17 names) ≡ a17 = ap (λ (a : Attrs). put a (attr_at attrs name.Src)) e16 ∙ put-Src a16 attrs.src refl in
+    let a18 : Attrs = record a17 { region = attrs.region } in
+    let e18 : filled no_attrs attrs (take 18 names) ≡ a18 = ap (λ (a : Attrs). put a (attr_at attrs name.Region)) e17 ∙ put-Region a17 attrs.region refl in
+    let a19 : Attrs = record a18 { alt = attrs.alt } in
+    let e19 : filled no_attrs attrs (take 19 names) ≡ a19 = ap (λ (a : Attrs). put a (attr_at attrs name.Alt)) e18 ∙ put-Alt a18 attrs.alt refl in
+    let a20 : Attrs = record a19 { title = attrs.title } in
+    let e20 : filled no_attrs attrs (take 20 names) ≡ a20 = ap (λ (a : Attrs). put a (attr_at attrs name.Title)) e19 ∙ put-Title a19 attrs.title refl in
+    let a21 : Attrs = record a20 { target_element = attrs.target_element } in
+    let e21 : filled no_attrs attrs (take 21 names) ≡ a21 = ap (λ (a : Attrs). put a (attr_at attrs name.TargetElement)) e20 ∙ put-TargetElement a20 attrs.target_element refl in
+    let a22 : Attrs = record a21 { attribute_name = attrs.attribute_name } in
+    let e22 : filled no_attrs attrs (take 22 names) ≡ a22 = ap (λ (a : Attrs). put a (attr_at attrs name.AttributeName)) e21 ∙ put-AttributeName a21 attrs.attribute_name refl in
+    let a23 : Attrs = record a22 { to = attrs.to } in
+    let e23 : filled no_attrs attrs (take 23 names) ≡ a23 = ap (λ (a : Attrs). put a (attr_at attrs name.To)) e22 ∙ put-To a22 attrs.to refl in
+    e23

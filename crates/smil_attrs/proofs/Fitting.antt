@@ -60,6 +60,8 @@ plain_fits in_seq name.RepeatCount text = any_value attr.RepeatCount FitsAttr (�
 plain_fits in_seq name.RepeatDur text = value attr.RepeatDur FitsTime FitsAttr (λ x h. h) (repeat_dur_of (trim text)) (repeat_fits (trim text))
 plain_fits in_seq name.Restart text = any_value attr.Restart FitsAttr (λ x. tt) _
 plain_fits in_seq name.Fill text = any_value attr.Fill FitsAttr (λ x. tt) _
+plain_fits in_seq name.RestartDefault text = any_value attr.RestartDefault FitsAttr (λ x. tt) _
+plain_fits in_seq name.FillDefault text = any_value attr.FillDefault FitsAttr (λ x. tt) _
 plain_fits in_seq name.Endsync text = any_value attr.Endsync FitsAttr (λ x. tt) _
 plain_fits in_seq name.Peers text = any_value attr.Peers FitsAttr (λ x. tt) _
 plain_fits in_seq name.Higher text = any_value attr.Higher FitsAttr (λ x. tt) _
@@ -68,6 +70,9 @@ plain_fits in_seq name.Src text = any_value attr.Src FitsAttr (λ x. tt) _
 plain_fits in_seq name.Region text = any_value attr.Region FitsAttr (λ x. tt) _
 plain_fits in_seq name.Alt text = any_value attr.Alt FitsAttr (λ x. tt) _
 plain_fits in_seq name.Title text = any_value attr.Title FitsAttr (λ x. tt) _
+plain_fits in_seq name.TargetElement text = any_value attr.TargetElement FitsAttr (λ x. tt) _
+plain_fits in_seq name.AttributeName text = any_value attr.AttributeName FitsAttr (λ x. tt) _
+plain_fits in_seq name.To text = any_value attr.To FitsAttr (λ x. tt) _
 
 value_fits : (in_seq : Bool) (n : AttrName) (text : List ℕ) → IfOk (value_of in_seq n text) FitsAttr
 value_fits in_seq n text = cond_both (is_other_value n (trim text)) _ (plain_value_of in_seq n text) (λ r. IfOk r FitsAttr) (λ e. tt) (λ e. plain_fits in_seq n text)

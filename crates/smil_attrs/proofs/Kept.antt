@@ -45,6 +45,10 @@ with_kept in_seq kind attrs (attr.Restart x) name.Restart h k = h
 with_kept in_seq kind attrs (attr.Restart x) _ h k = k
 with_kept in_seq kind attrs (attr.Fill x) name.Fill h k = h
 with_kept in_seq kind attrs (attr.Fill x) _ h k = k
+with_kept in_seq kind attrs (attr.RestartDefault x) name.RestartDefault h k = h
+with_kept in_seq kind attrs (attr.RestartDefault x) _ h k = k
+with_kept in_seq kind attrs (attr.FillDefault x) name.FillDefault h k = h
+with_kept in_seq kind attrs (attr.FillDefault x) _ h k = k
 with_kept in_seq kind attrs (attr.Endsync x) name.Endsync h k = h
 with_kept in_seq kind attrs (attr.Endsync x) _ h k = k
 with_kept in_seq kind attrs (attr.Peers x) name.Peers h k = h
@@ -61,6 +65,12 @@ with_kept in_seq kind attrs (attr.Alt x) name.Alt h k = h
 with_kept in_seq kind attrs (attr.Alt x) _ h k = k
 with_kept in_seq kind attrs (attr.Title x) name.Title h k = h
 with_kept in_seq kind attrs (attr.Title x) _ h k = k
+with_kept in_seq kind attrs (attr.TargetElement x) name.TargetElement h k = h
+with_kept in_seq kind attrs (attr.TargetElement x) _ h k = k
+with_kept in_seq kind attrs (attr.AttributeName x) name.AttributeName h k = h
+with_kept in_seq kind attrs (attr.AttributeName x) _ h k = k
+with_kept in_seq kind attrs (attr.To x) name.To h k = h
+with_kept in_seq kind attrs (attr.To x) _ h k = k
 
 pub with_stays : (in_seq : Bool) (kind : Kind) (attrs : Attrs) (given : Attr) → IsAttrs in_seq kind attrs → IsTrue (has kind (name_of given)) → IsAttr in_seq given → IsAttrs in_seq kind (with_attr attrs given)
 with_stays in_seq kind attrs given h had is = λ n. with_kept in_seq kind attrs given n (had, is) (h n)
@@ -86,6 +96,10 @@ without_kept in_seq kind attrs name.Restart name.Restart k = tt
 without_kept in_seq kind attrs name.Restart _ k = k
 without_kept in_seq kind attrs name.Fill name.Fill k = tt
 without_kept in_seq kind attrs name.Fill _ k = k
+without_kept in_seq kind attrs name.RestartDefault name.RestartDefault k = tt
+without_kept in_seq kind attrs name.RestartDefault _ k = k
+without_kept in_seq kind attrs name.FillDefault name.FillDefault k = tt
+without_kept in_seq kind attrs name.FillDefault _ k = k
 without_kept in_seq kind attrs name.Endsync name.Endsync k = tt
 without_kept in_seq kind attrs name.Endsync _ k = k
 without_kept in_seq kind attrs name.Peers name.Peers k = tt
@@ -102,6 +116,12 @@ without_kept in_seq kind attrs name.Alt name.Alt k = tt
 without_kept in_seq kind attrs name.Alt _ k = k
 without_kept in_seq kind attrs name.Title name.Title k = tt
 without_kept in_seq kind attrs name.Title _ k = k
+without_kept in_seq kind attrs name.TargetElement name.TargetElement k = tt
+without_kept in_seq kind attrs name.TargetElement _ k = k
+without_kept in_seq kind attrs name.AttributeName name.AttributeName k = tt
+without_kept in_seq kind attrs name.AttributeName _ k = k
+without_kept in_seq kind attrs name.To name.To k = tt
+without_kept in_seq kind attrs name.To _ k = k
 
 pub without_stays : (in_seq : Bool) (kind : Kind) (attrs : Attrs) (gone : AttrName) → IsAttrs in_seq kind attrs → IsAttrs in_seq kind (without_attr attrs gone)
 without_stays in_seq kind attrs gone h = λ n. without_kept in_seq kind attrs gone n (h n)

@@ -1,6 +1,6 @@
 -- A printed line is read as the same kind and attributes.
-use Rattle.std.proofs.Common.{◌≡◌, ℕ, ◌+◌, Bool, true, false, cond, List, [], ◌∷◌, ◌++◌, length, Option, Some, None, option_map, Result, Ok, Err, refl, sym, ap, subst, ◌∙◌}
-use Rattle.std.specs.Prelude.{pos, IfOk, IfSome, IsTrue}
+use Rattle.std.proofs.Common.{◌≡◌, ℕ, ◌+◌, ◌<◌, Bool, true, false, cond, List, [], ◌∷◌, ◌++◌, length, Option, Some, None, option_map, Result, Ok, Err, refl, sym, ap, subst, ◌∙◌}
+use Rattle.std.specs.Prelude.{pos, decimal, IfOk, IfSome, IsTrue}
 use Rattle.std.proofs.lemmas.Bool.{cond_both}
 use Rattle.smil_model.specs.declared.document.Kind.{Kind}
 use Rattle.smil_model.specs.declared.document.Attr.{Attr}
@@ -18,14 +18,14 @@ use Rattle.smil_grammar.specs.Texts.{trim}
 use Rattle.smil_grammar.specs.Results.{◌>>=◌}
 use Rattle.smil_grammar.specs.Attributes.{kind_text, name_text, name_called, name_or, attr_name_of, has, names}
 use Rattle.smil_grammar.specs.Values.{is_other_value, plain_value_of, value_of}
-use Rattle.smil_grammar.specs.Nodes.{Written, Shape, shape_of, kind_of, kind_of_shape, fits_in, is_seq, at_column, attribute_of, attr_of, attrs_from, attrs_of, node_of}
-use Rattle.smil_grammar.specs.Spellings.{attr_at, attr_text, value_text, node_text}
+use Rattle.smil_grammar.specs.Nodes.{Written, Shape, shape_of, saved_shape_of, kind_of, kind_of_shape, fits_in, is_seq, at_column, attribute_of, attr_of, attrs_from, attrs_of, node_of}
+use Rattle.smil_grammar.specs.Spellings.{attr_at, attr_text, value_text, node_text, saved_node_text}
 use Rattle.smil_grammar.specs.Allowed.{name_of, IsAttr, IsAttrs}
 use Rattle.smil_attrs.proofs.Readings.{any_value, listed}
 use Rattle.smil_attrs.proofs.Valued.{attr_again}
 use Rattle.smil_attrs.proofs.Unquoted.{Unquoted, attr_unquoted}
 use Rattle.smil_attrs.proofs.Kept.{IsHad, with_stays, attrs_anywhere}
-use Rattle.smil_attrs.proofs.Printed.{written_at, written_from, names_once, kind_known, shape_read, lead}
+use Rattle.smil_attrs.proofs.Printed.{written_at, written_from, names_once, kind_known, shape_read, saved_parts, saved_read, lead}
 use Rattle.smil_attrs.proofs.Filled.{named, put, filled, filled_all}
 
 -- what was printed
@@ -41,6 +41,8 @@ name_read k name.RepeatCount h = rw h refl
 name_read k name.RepeatDur h = rw h refl
 name_read k name.Restart h = rw h refl
 name_read k name.Fill h = rw h refl
+name_read k name.RestartDefault h = rw h refl
+name_read k name.FillDefault h = rw h refl
 name_read k name.Endsync h = rw h refl
 name_read k name.Peers h = rw h refl
 name_read k name.Higher h = rw h refl
@@ -49,6 +51,9 @@ name_read k name.Src h = rw h refl
 name_read k name.Region h = rw h refl
 name_read k name.Alt h = rw h refl
 name_read k name.Title h = rw h refl
+name_read k name.TargetElement h = rw h refl
+name_read k name.AttributeName h = rw h refl
+name_read k name.To h = rw h refl
 
 pub attribute_read : (in_seq : Bool) (k : Kind) (given : Attr) → has k (name_of given) ≡ true → IsAttr in_seq given → attribute_of in_seq k (name_text (name_of given)) (attr_text given) ≡ Ok given
 attribute_read in_seq k given had is = rw (name_read k (name_of given) had) (attr_again in_seq given is)
@@ -73,15 +78,34 @@ unquoted : (in_seq : Bool) (k : Kind) (n : AttrName) (o : Option Attr) → IsHad
 unquoted in_seq k n None h = tt
 unquoted in_seq k n (Some given) h = attr_unquoted in_seq given h.1
 
+-- a shape that is read as this kind and these attributes
+pub record IsShape (in_seq : Bool) (k : Kind) (attrs : Attrs) (shape : Shape) : Type 0 where
+  pub kind : kind_of_shape (Some shape) ≡ Ok k
+  pub read : attrs_from in_seq k no_attrs shape.attributes ≡ Ok attrs
+
+-- the shape of a printed line whose attributes begin at this place
+abbrev pub shape_from : ℕ → Kind → Attrs → Shape
+shape_from place k attrs = record { kind = kind_text k; attributes = written_from place (value_text attrs) names }
+
+pub shape_is : (in_seq : Bool) (k : Kind) (attrs : Attrs) (place : ℕ) → IsAttrs in_seq k attrs → IsShape in_seq k attrs (shape_from place k attrs)
+shape_is in_seq k attrs place h = record {
+  kind = rw (names_once (value_text attrs) place, kind_known k) refl;
+  read = attrs_read in_seq k attrs h place no_attrs names ∙ ap (λ (a : Attrs). Ok a) (filled_all attrs);
+}
+
+pub plain_shape : (in_seq : Bool) (k : Kind) (attrs : Attrs) → IsAttrs in_seq k attrs → shape_of (node_text 0 k attrs) ≡ Some (shape_from (length (kind_text k)) k attrs)
+plain_shape in_seq k attrs h = shape_read k (value_text attrs) (λ n. unquoted in_seq k n (attr_at attrs n) (h n))
+
+pub saved_shape : (in_seq : Bool) (k : Kind) (serial : ℕ) (attrs : Attrs) → IsAttrs in_seq k attrs → 0 < serial → serial < 1_000_000_000
+    → saved_shape_of (saved_node_text 0 k serial attrs) ≡ Some (serial, shape_from (length (kind_text k) + 2 + length (decimal serial)) k attrs)
+saved_shape in_seq k serial attrs h some few = ap saved_shape_of (saved_parts k serial (value_text attrs)) ∙ saved_read k serial (value_text attrs) (λ n. unquoted in_seq k n (attr_at attrs n) (h n)) some few
+
 pub node_read : (parent : Option Kind) (k : Kind) (attrs : Attrs) → fits_in parent k ≡ true → IsAttrs (is_seq parent) k attrs → node_of parent (node_text 0 k attrs) ≡ Ok (k, attrs)
 node_read parent k attrs fits h =
-    let values = value_text attrs in
-    let shape : Shape = record { kind = kind_text k; attributes = written_from (length (kind_text k)) values names } in
-    let read : shape_of (node_text 0 k attrs) ≡ Some shape = shape_read k values (λ n. unquoted (is_seq parent) k n (attr_at attrs n) (h n)) in
-    let kind : kind_of_shape (Some shape) ≡ Ok k = rw (names_once values (length (kind_text k)), kind_known k) refl in
-    let whole : attrs_from (is_seq parent) k no_attrs shape.attributes ≡ Ok attrs = attrs_read (is_seq parent) k attrs h (length (kind_text k)) no_attrs names ∙ ap (λ (a : Attrs). Ok a) (filled_all attrs) in
-    let all : attrs_of parent k (Some shape) ≡ Ok (k, attrs) = rw (fits, whole) refl in
-    ap (λ (s : Option Shape). kind_of_shape s >>= λ k. attrs_of parent k s) read ∙ rw kind all
+    let shape : Shape = shape_from (length (kind_text k)) k attrs in
+    let is = shape_is (is_seq parent) k attrs (length (kind_text k)) h in
+    let all : attrs_of parent k (Some shape) ≡ Ok (k, attrs) = rw (fits, is.read) refl in
+    ap (λ (s : Option Shape). kind_of_shape s >>= λ k. attrs_of parent k s) (plain_shape (is_seq parent) k attrs h) ∙ rw (is.kind) all
 
 -- what is read
 
@@ -103,6 +127,8 @@ plain_named in_seq name.RepeatCount text = any_value attr.RepeatCount (IsNamed n
 plain_named in_seq name.RepeatDur text = any_value attr.RepeatDur (IsNamed name.RepeatDur) (λ x. refl) _
 plain_named in_seq name.Restart text = any_value attr.Restart (IsNamed name.Restart) (λ x. refl) _
 plain_named in_seq name.Fill text = any_value attr.Fill (IsNamed name.Fill) (λ x. refl) _
+plain_named in_seq name.RestartDefault text = any_value attr.RestartDefault (IsNamed name.RestartDefault) (λ x. refl) _
+plain_named in_seq name.FillDefault text = any_value attr.FillDefault (IsNamed name.FillDefault) (λ x. refl) _
 plain_named in_seq name.Endsync text = any_value attr.Endsync (IsNamed name.Endsync) (λ x. refl) _
 plain_named in_seq name.Peers text = any_value attr.Peers (IsNamed name.Peers) (λ x. refl) _
 plain_named in_seq name.Higher text = any_value attr.Higher (IsNamed name.Higher) (λ x. refl) _
@@ -111,6 +137,9 @@ plain_named in_seq name.Src text = any_value attr.Src (IsNamed name.Src) (λ x. 
 plain_named in_seq name.Region text = any_value attr.Region (IsNamed name.Region) (λ x. refl) _
 plain_named in_seq name.Alt text = any_value attr.Alt (IsNamed name.Alt) (λ x. refl) _
 plain_named in_seq name.Title text = any_value attr.Title (IsNamed name.Title) (λ x. refl) _
+plain_named in_seq name.TargetElement text = any_value attr.TargetElement (IsNamed name.TargetElement) (λ x. refl) _
+plain_named in_seq name.AttributeName text = any_value attr.AttributeName (IsNamed name.AttributeName) (λ x. refl) _
+plain_named in_seq name.To text = any_value attr.To (IsNamed name.To) (λ x. refl) _
 
 value_named : (in_seq : Bool) (n : AttrName) (text : List ℕ) → IfOk (value_of in_seq n text) (IsNamed n)
 value_named in_seq n text = cond_both (is_other_value n (trim text)) _ (plain_value_of in_seq n text) (λ r. IfOk r (IsNamed n)) (λ e. tt) (λ e. plain_named in_seq n text)
@@ -175,5 +204,8 @@ node_had parent s (Ok k) = attrs_are parent k s
 pub node_is : (parent : Option Kind) (line : List ℕ) (k : Kind) (attrs : Attrs) → node_of parent line ≡ Ok (k, attrs) → IsChild parent (k, attrs)
 node_is parent line k attrs e = subst (λ (r : Result (Kind × Attrs) NodeFault). IfOk r (IsChild parent)) e (node_had parent (shape_of line) (kind_of line))
 
+pub attrs_had_from : (in_seq : Bool) (k : Kind) (ws : List Written) (attrs : Attrs) → attrs_from in_seq k no_attrs ws ≡ Ok attrs → IsAttrs in_seq k attrs
+attrs_had_from in_seq k ws attrs e = subst (λ (r : Result Attrs NodeFault). IfOk r (IsAttrs in_seq k)) e (attrs_had in_seq k no_attrs ws (none in_seq k))
+
 pub attrs_allowed : (in_seq : Bool) (k : Kind) (ws : List Written) (attrs : Attrs) → attrs_from in_seq k no_attrs ws ≡ Ok attrs → IsAttrs false k attrs
-attrs_allowed in_seq k ws attrs e = attrs_anywhere in_seq k attrs (subst (λ (r : Result Attrs NodeFault). IfOk r (IsAttrs in_seq k)) e (attrs_had in_seq k no_attrs ws (none in_seq k)))
+attrs_allowed in_seq k ws attrs e = attrs_anywhere in_seq k attrs (attrs_had_from in_seq k ws attrs e)

@@ -1,6 +1,7 @@
 -- The shape of a printed line: its kind, and each attribute that is there.
 use Rattle.std.proofs.Common.{◌≡◌, ℕ, ◌+◌, ◌-◌, ◌<◌, Bool, true, false, not, eqb, ltb, ◌&&◌, ◌||◌, List, [], ◌∷◌, ◌++◌, length, take, drop, flat_map, Option, Some, None, option_map, refl, sym, ap, subst, ◌∙◌, arith, append_assoc}
-use Rattle.std.specs.Prelude.{codes, bytes_eq, IfSome}
+use Rattle.std.specs.Prelude.{codes, decimal, bytes_eq, option_and_then, IfSome}
+use Rattle.std.specs.Char.{is_ascii_digit}
 use Rattle.std.specs.List.{AllByRecursion, prefix_len, slice_split, list_all, list_any}
 use Rattle.std.specs.Str.{is_utf8, chars}
 use Rattle.std.proofs.lemmas.Bool.{and_parts}
@@ -13,9 +14,12 @@ use Rattle.smil_model.specs.declared.document.Kind.TheVariants as kind
 use Rattle.smil_model.specs.declared.document.Attrs.{Attrs}
 use Rattle.smil_model.specs.declared.document.AttrName.{AttrName}
 use Rattle.smil_model.specs.declared.document.AttrName.TheVariants as name
-use Rattle.smil_grammar.specs.Texts.{space, quote}
+use Rattle.smil_grammar.specs.Texts.{space, quote, behind}
 use Rattle.smil_grammar.specs.Attributes.{kind_text, kind_called, name_text, names}
-use Rattle.smil_grammar.specs.Nodes.{Written, Shape, is_space, is_of_kind, is_named, attribute_at, attributes_at, with_written, pieces_of, shaped, shape_of, repeats}
+use Rattle.smil_grammar.specs.Nodes.{Written, Shape, is_space, is_of_kind, is_named, attribute_at, attributes_at, with_written, pieces_of, shaped, shape_of, shape_behind, saved_shape_of, repeats}
+use Rattle.smil_grammar.specs.Items.{count_of}
+use Rattle.smil_lexis.proofs.Decimals.{decimal_passes}
+use Rattle.smil_time_list.proofs.Spelled.{count_read}
 use Rattle.smil_grammar.specs.Spellings.{value_text, attribute_text, node_text}
 use Rattle.smil_lexis.proofs.Fronts.{Passes, passes_front, passes_weaker}
 use Rattle.smil_attrs.proofs.Unquoted.{is_unquoted, Unquoted, tested}
@@ -35,6 +39,8 @@ lead_unquoted name.RepeatCount = tested is_unquoted (lead name.RepeatCount) refl
 lead_unquoted name.RepeatDur = tested is_unquoted (lead name.RepeatDur) refl
 lead_unquoted name.Restart = tested is_unquoted (lead name.Restart) refl
 lead_unquoted name.Fill = tested is_unquoted (lead name.Fill) refl
+lead_unquoted name.RestartDefault = tested is_unquoted (lead name.RestartDefault) refl
+lead_unquoted name.FillDefault = tested is_unquoted (lead name.FillDefault) refl
 lead_unquoted name.Endsync = tested is_unquoted (lead name.Endsync) refl
 lead_unquoted name.Peers = tested is_unquoted (lead name.Peers) refl
 lead_unquoted name.Higher = tested is_unquoted (lead name.Higher) refl
@@ -43,6 +49,9 @@ lead_unquoted name.Src = tested is_unquoted (lead name.Src) refl
 lead_unquoted name.Region = tested is_unquoted (lead name.Region) refl
 lead_unquoted name.Alt = tested is_unquoted (lead name.Alt) refl
 lead_unquoted name.Title = tested is_unquoted (lead name.Title) refl
+lead_unquoted name.TargetElement = tested is_unquoted (lead name.TargetElement) refl
+lead_unquoted name.AttributeName = tested is_unquoted (lead name.AttributeName) refl
+lead_unquoted name.To = tested is_unquoted (lead name.To) refl
 
 lead_read : (place : ℕ) (value : List ℕ) (n : AttrName) → attribute_at place (lead n) value ≡ Some (record { name = name_text n; name_place = place + 1; value = value; value_place = place + length (lead n) + 1 })
 unfolding is_utf8 chars encode
@@ -56,6 +65,8 @@ lead_read place value name.RepeatCount = refl
 lead_read place value name.RepeatDur = refl
 lead_read place value name.Restart = refl
 lead_read place value name.Fill = refl
+lead_read place value name.RestartDefault = refl
+lead_read place value name.FillDefault = refl
 lead_read place value name.Endsync = refl
 lead_read place value name.Peers = refl
 lead_read place value name.Higher = refl
@@ -64,6 +75,9 @@ lead_read place value name.Src = refl
 lead_read place value name.Region = refl
 lead_read place value name.Alt = refl
 lead_read place value name.Title = refl
+lead_read place value name.TargetElement = refl
+lead_read place value name.AttributeName = refl
+lead_read place value name.To = refl
 
 -- pieces
 
@@ -166,6 +180,7 @@ kind_passes kind.Video = tested is_of_kind (kind_text kind.Video) refl
 kind_passes kind.Animation = tested is_of_kind (kind_text kind.Animation) refl
 kind_passes kind.TextStream = tested is_of_kind (kind_text kind.TextStream) refl
 kind_passes kind.Ref = tested is_of_kind (kind_text kind.Ref) refl
+kind_passes kind.Set = tested is_of_kind (kind_text kind.Set) refl
 
 kind_utf8 : (k : Kind) → (ltb 0 (length (kind_text k)) && is_utf8 (kind_text k)) ≡ true
 unfolding is_utf8 chars encode
@@ -181,6 +196,7 @@ kind_utf8 kind.Video = refl
 kind_utf8 kind.Animation = refl
 kind_utf8 kind.TextStream = refl
 kind_utf8 kind.Ref = refl
+kind_utf8 kind.Set = refl
 
 pub kind_known : (k : Kind) → kind_called (kind_text k) ≡ Some k
 kind_known kind.Par = refl
@@ -195,6 +211,7 @@ kind_known kind.Video = refl
 kind_known kind.Animation = refl
 kind_known kind.TextStream = refl
 kind_known kind.Ref = refl
+kind_known kind.Set = refl
 
 stops : (values : AttrName → Option (List ℕ)) (ns : List AttrName) → prefix_len is_of_kind (line_of values ns) ≡ 0
 stops values [] = refl
@@ -210,3 +227,36 @@ shape_read k values h =
     let text = line_of values names in
     let len : prefix_len is_of_kind (kind_text k ++ text) ≡ length (kind_text k) = omega (arith, passes_front is_of_kind (kind_text k) text (kind_passes k), stops values names) in
     rw (len, take_at (kind_text k) text (length (kind_text k)) refl, drop_at (kind_text k) text (length (kind_text k)) refl, attributes_read values h (length (kind_text k)) names, kind_utf8 k) refl
+
+-- ---- the same with a serial behind the kind
+
+no_digit : (values : AttrName → Option (List ℕ)) (ns : List AttrName) → prefix_len is_ascii_digit (line_of values ns) ≡ 0
+no_digit values [] = refl
+no_digit values (n ∷ ns) = one values n ns (values n) (no_digit values ns)
+  where
+    one : (values : AttrName → Option (List ℕ)) (n : AttrName) (ns : List AttrName) (o : Option (List ℕ)) → prefix_len is_ascii_digit (line_of values ns) ≡ 0 → prefix_len is_ascii_digit (attribute_text n o ++ line_of values ns) ≡ 0
+    one values n ns None e = e
+    one values n ns (Some value) e = refl
+
+abbrev pub behind_kind : ℕ → (AttrName → Option (List ℕ)) → List ℕ
+behind_kind serial values = 32 ∷ 35 ∷ (decimal serial ++ line_of values names)
+
+pub saved_parts : (k : Kind) (serial : ℕ) (values : AttrName → Option (List ℕ)) → kind_text k ++ codes " #" ++ decimal serial ++ line_of values names ≡ kind_text k ++ behind_kind serial values
+saved_parts k serial values = simp append_assoc
+
+pub saved_read : (k : Kind) (serial : ℕ) (values : AttrName → Option (List ℕ)) → ((n : AttrName) → IfSome (values n) Unquoted) → 0 < serial → serial < 1_000_000_000
+    → saved_shape_of (kind_text k ++ behind_kind serial values) ≡ Some (serial, record { kind = kind_text k; attributes = written_from (length (kind_text k) + 2 + length (decimal serial)) values names })
+saved_read k serial values h some few =
+    let text = line_of values names in
+    let rest = behind_kind serial values in
+    let stop : prefix_len is_of_kind rest ≡ 0 = refl in
+    let len : prefix_len is_of_kind (kind_text k ++ rest) ≡ length (kind_text k) = omega (arith, passes_front is_of_kind (kind_text k) rest (kind_passes k), stop) in
+    let digits : prefix_len is_ascii_digit (decimal serial ++ text) ≡ length (decimal serial) = omega (arith, passes_front is_ascii_digit (decimal serial) text (decimal_passes serial (omega arith)), no_digit values names) in
+    let number : count_of (decimal serial) ≡ Some serial = count_read serial some few in
+    let place = length (kind_text k) + 2 + length (decimal serial) in
+    let whole : shape_behind (kind_text k) (Some (decimal serial ++ text)) ≡ Some (serial, record { kind = kind_text k; attributes = written_from place values names }) =
+    rw (digits, take_at (decimal serial) text (length (decimal serial)) refl, drop_at (decimal serial) text (length (decimal serial)) refl, number, attributes_read values h place names, kind_utf8 k) refl in
+    ap (λ (n : ℕ). shape_behind (take n (kind_text k ++ rest)) (option_and_then (behind 35) (behind 32 (drop n (kind_text k ++ rest))))) len
+    ∙ ap (λ (word : List ℕ). shape_behind word (option_and_then (behind 35) (behind 32 (drop (length (kind_text k)) (kind_text k ++ rest))))) (take_at (kind_text k) rest (length (kind_text k)) refl)
+    ∙ ap (λ (left : List ℕ). shape_behind (kind_text k) (option_and_then (behind 35) (behind 32 left))) (drop_at (kind_text k) rest (length (kind_text k)) refl)
+    ∙ whole

@@ -19,25 +19,30 @@ use Rattle.smil_model.specs.declared.document.Restart.{Restart}
 use Rattle.smil_model.specs.declared.document.Restart.TheVariants as restart
 use Rattle.smil_model.specs.declared.document.Fill.{Fill}
 use Rattle.smil_model.specs.declared.document.Fill.TheVariants as fill
+use Rattle.smil_model.specs.declared.document.RestartDefault.{RestartDefault}
+use Rattle.smil_model.specs.declared.document.RestartDefault.TheVariants as restart_default
+use Rattle.smil_model.specs.declared.document.FillDefault.{FillDefault}
+use Rattle.smil_model.specs.declared.document.FillDefault.TheVariants as fill_default
 use Rattle.smil_model.specs.declared.document.Endsync.{Endsync}
 use Rattle.smil_model.specs.declared.document.Endsync.TheVariants as endsync
 use Rattle.smil_model.specs.declared.document.Act.{Act}
 use Rattle.smil_model.specs.declared.document.Act.TheVariants as act
 use Rattle.smil_model.specs.declared.document.Item.{Item}
-use Rattle.smil_model.specs.declared.document.Item.TheVariants.{Offset, Sync, Event, Repeat, Indefinite}
+use Rattle.smil_model.specs.declared.document.Item.TheVariants.{Offset, Sync, Event, Repeat, Key, Indefinite}
 use Rattle.smil_model.specs.declared.document.Edge.TheVariants.{Begin, End}
 use Rattle.smil_model.specs.declared.times.Time.{Time}
 use Rattle.smil_model.specs.declared.times.Time.TheVariants as time
 use Rattle.smil_grammar.specs.declared.fault.AttrFault.{AttrFault}
 use Rattle.smil_grammar.specs.declared.fault.ListFault.{ListFault}
 use Rattle.smil_grammar.specs.Texts.{◌>>=◌, trim, quote}
+use Rattle.smil_model.specs.document.Words.{is_key}
 use Rattle.smil_grammar.specs.Words.{is_of_id, is_of_name, id_len}
 use Rattle.smil_grammar.specs.Clock.{clock_text}
 use Rattle.smil_grammar.specs.Numbers.{with_fraction}
 use Rattle.smil_grammar.specs.Clock.{clock_within}
 use Rattle.smil_grammar.specs.Items.{IsItem}
 use Rattle.smil_grammar.specs.Lists.{list_of, IsList}
-use Rattle.smil_grammar.specs.Values.{either, above_zero, short_number_of, thousandths, id_of, is_kept, kept_of, dur_of, time_of, repeat_dur_of, count_of, restart_of, fill_of, endsync_of, peers_of, higher_of, lower_of, is_other_value, plain_value_of, value_of}
+use Rattle.smil_grammar.specs.Values.{either, above_zero, short_number_of, thousandths, id_of, attribute_name_of, restart_default_of, fill_default_of, is_kept, kept_of, dur_of, time_of, repeat_dur_of, count_of, restart_of, fill_of, endsync_of, peers_of, higher_of, lower_of, is_other_value, plain_value_of, value_of}
 use Rattle.smil_grammar.specs.Spellings.{IsWithin, escaped, of_who, tail_text, item_text, list_text, attr_text, dur_text, time_text, decimals, count_text, endsync_text, act_text}
 use Rattle.smil_grammar.specs.Allowed.{name_of, IsAttr}
 use Rattle.smil_lexis.proofs.Fronts.{Passes, passes_weaker, passes_on}
@@ -48,7 +53,7 @@ use Rattle.smil_time_list.proofs.Spelled.{all_of_name, escaped_passes}
 use Rattle.smil_time_list.proofs.Listed.{list_is}
 use Rattle.smil_attrs.proofs.Readings.{clock_small, length_small, IsLength, number, both, word, value, any_value, listed}
 use Rattle.smil_attrs.proofs.Counts.{IsCount, number_below, digit_printed}
-use Rattle.smil_attrs.proofs.Words.{id_passes}
+use Rattle.smil_attrs.proofs.Words.{id_passes, is_of_attribute, attribute_name_passes}
 
 abbrev pub is_unquoted : ℕ → Bool
 is_unquoted b = not (eqb b quote)
@@ -68,6 +73,9 @@ id_byte b h = grind (arith, nat_tests)
 
 name_byte : (b : ℕ) → is_of_name b ≡ true → is_unquoted b ≡ true
 name_byte b h = grind (arith, nat_tests)
+
+key_byte : (b : ℕ) → is_key b ≡ true → is_unquoted b ≡ true
+key_byte b h = grind (arith, nat_tests)
 
 digit_byte : (b : ℕ) → is_ascii_digit b ≡ true → is_unquoted b ≡ true
 digit_byte b h = grind (arith, nat_tests)
@@ -97,6 +105,7 @@ item_unquoted (Sync who Begin offset) h = behind_id who _ h.0 (refl, passes_on i
 item_unquoted (Sync who End offset) h = behind_id who _ h.0 (refl, passes_on is_unquoted (codes "end") (tail_text offset) (tested is_unquoted (codes "end") refl) (tail_unquoted offset h.1))
 item_unquoted (Event who name offset) h = behind_who who _ h.0 (passes_on is_unquoted name _ (passes_weaker is_of_name is_unquoted name_byte name (all_of_name name h.1.word)) (tail_unquoted offset h.2))
 item_unquoted (Repeat who n offset) h = behind_who who _ h.0 (passes_on is_unquoted (codes "repeat(" ++ decimal n ++ codes ")") (tail_text offset) (passes_on is_unquoted (codes "repeat(" ++ decimal n) (codes ")") (passes_on is_unquoted (codes "repeat(") (decimal n) (tested is_unquoted (codes "repeat(") refl) (number_unquoted n (omega arith))) (refl, tt)) (tail_unquoted offset h.3))
+item_unquoted (Key key offset) h = passes_on is_unquoted (codes "accesskey(") (key ∷ (41 ∷ tail_text offset)) (tested is_unquoted (codes "accesskey(") refl) (key_byte key h.0, (refl, tail_unquoted offset h.1))
 item_unquoted Indefinite h = tested is_unquoted (codes "indefinite") refl
 
 list_unquoted : (items : List Item) → All Printable items → Unquoted (list_text items)
@@ -163,12 +172,27 @@ restart_unquoted : (r : Restart) → Unquoted (attr_text (attr.Restart r))
 restart_unquoted restart.Always = tested is_unquoted (codes "always") refl
 restart_unquoted restart.WhenNotActive = tested is_unquoted (codes "whenNotActive") refl
 restart_unquoted restart.Never = tested is_unquoted (codes "never") refl
+restart_unquoted restart.ByDefault = tested is_unquoted (codes "default") refl
 
 fill_unquoted : (f : Fill) → Unquoted (attr_text (attr.Fill f))
 fill_unquoted fill.Remove = tested is_unquoted (codes "remove") refl
 fill_unquoted fill.Freeze = tested is_unquoted (codes "freeze") refl
 fill_unquoted fill.Hold = tested is_unquoted (codes "hold") refl
 fill_unquoted fill.Auto = tested is_unquoted (codes "auto") refl
+fill_unquoted fill.ByDefault = tested is_unquoted (codes "default") refl
+
+restart_default_unquoted : (d : RestartDefault) → Unquoted (attr_text (attr.RestartDefault d))
+restart_default_unquoted restart_default.Always = tested is_unquoted (codes "always") refl
+restart_default_unquoted restart_default.WhenNotActive = tested is_unquoted (codes "whenNotActive") refl
+restart_default_unquoted restart_default.Never = tested is_unquoted (codes "never") refl
+restart_default_unquoted restart_default.Inherit = tested is_unquoted (codes "inherit") refl
+
+fill_default_unquoted : (d : FillDefault) → Unquoted (attr_text (attr.FillDefault d))
+fill_default_unquoted fill_default.Remove = tested is_unquoted (codes "remove") refl
+fill_default_unquoted fill_default.Freeze = tested is_unquoted (codes "freeze") refl
+fill_default_unquoted fill_default.Hold = tested is_unquoted (codes "hold") refl
+fill_default_unquoted fill_default.Auto = tested is_unquoted (codes "auto") refl
+fill_default_unquoted fill_default.Inherit = tested is_unquoted (codes "inherit") refl
 
 act_unquoted : (a : Act) → Unquoted (act_text a)
 act_unquoted act.Stop = tested is_unquoted (codes "stop") refl
@@ -182,6 +206,16 @@ id_unquoted text = weaker (id_of text) (id_passes text)
     weaker : (o : Option (List ℕ)) → IfSome o (Passes is_of_id) → IfSome o Unquoted
     weaker None h = tt
     weaker (Some id) h = passes_weaker is_of_id is_unquoted id_byte id h
+
+attribute_byte : (b : ℕ) → is_of_attribute b ≡ true → is_unquoted b ≡ true
+attribute_byte b h = grind (arith, nat_tests)
+
+attribute_name_unquoted : (text : List ℕ) → IfSome (attribute_name_of text) Unquoted
+attribute_name_unquoted text = weaker (attribute_name_of text) (attribute_name_passes text)
+  where
+    weaker : (o : Option (List ℕ)) → IfSome o (Passes is_of_attribute) → IfSome o Unquoted
+    weaker None h = tt
+    weaker (Some name) h = passes_weaker is_of_attribute is_unquoted attribute_byte name h
 
 abbrev EndsyncUnquoted : Endsync → Type 0
 EndsyncUnquoted e = Unquoted (endsync_text e)
@@ -218,6 +252,8 @@ plain_unquoted in_seq name.RepeatCount text = value attr.RepeatCount CountUnquot
 plain_unquoted in_seq name.RepeatDur text = value attr.RepeatDur TimeUnquoted Q (λ t h. h) (repeat_dur_of (trim text)) (repeat_unquoted (trim text))
 plain_unquoted in_seq name.Restart text = any_value attr.Restart Q restart_unquoted (restart_of (trim text))
 plain_unquoted in_seq name.Fill text = any_value attr.Fill Q fill_unquoted (fill_of (trim text))
+plain_unquoted in_seq name.RestartDefault text = any_value attr.RestartDefault Q restart_default_unquoted (restart_default_of (trim text))
+plain_unquoted in_seq name.FillDefault text = any_value attr.FillDefault Q fill_default_unquoted (fill_default_of (trim text))
 plain_unquoted in_seq name.Endsync text = value attr.Endsync EndsyncUnquoted Q (λ x h. h) (endsync_of (trim text)) (endsync_unquoted (trim text))
 plain_unquoted in_seq name.Peers text = any_value attr.Peers Q act_unquoted (peers_of (trim text))
 plain_unquoted in_seq name.Higher text = any_value attr.Higher Q act_unquoted (higher_of (trim text))
@@ -226,6 +262,9 @@ plain_unquoted in_seq name.Src text = value attr.Src Unquoted Q (λ kept h. h) (
 plain_unquoted in_seq name.Region text = value attr.Region Unquoted Q (λ kept h. h) (kept_of text) (kept_unquoted text)
 plain_unquoted in_seq name.Alt text = value attr.Alt Unquoted Q (λ kept h. h) (kept_of text) (kept_unquoted text)
 plain_unquoted in_seq name.Title text = value attr.Title Unquoted Q (λ kept h. h) (kept_of text) (kept_unquoted text)
+plain_unquoted in_seq name.TargetElement text = value attr.TargetElement Unquoted Q (λ id h. h) (id_of (trim text)) (id_unquoted (trim text))
+plain_unquoted in_seq name.AttributeName text = value attr.AttributeName Unquoted Q (λ name h. h) (attribute_name_of (trim text)) (attribute_name_unquoted (trim text))
+plain_unquoted in_seq name.To text = value attr.To Unquoted Q (λ kept h. h) (kept_of text) (kept_unquoted text)
 
 value_unquoted : (in_seq : Bool) (n : AttrName) (text : List ℕ) → IfOk (value_of in_seq n text) Q
 value_unquoted in_seq n text = cond_both (is_other_value n (trim text)) _ (plain_value_of in_seq n text) (λ r. IfOk r Q) (λ e. tt) (λ e. plain_unquoted in_seq n text)

@@ -14,6 +14,10 @@ use Rattle.smil_model.specs.declared.document.Restart.{Restart}
 use Rattle.smil_model.specs.declared.document.Restart.TheVariants as restart
 use Rattle.smil_model.specs.declared.document.Fill.{Fill}
 use Rattle.smil_model.specs.declared.document.Fill.TheVariants as fill
+use Rattle.smil_model.specs.declared.document.RestartDefault.{RestartDefault}
+use Rattle.smil_model.specs.declared.document.RestartDefault.TheVariants as restart_default
+use Rattle.smil_model.specs.declared.document.FillDefault.{FillDefault}
+use Rattle.smil_model.specs.declared.document.FillDefault.TheVariants as fill_default
 use Rattle.smil_model.specs.declared.document.Endsync.{Endsync}
 use Rattle.smil_model.specs.declared.document.Endsync.TheVariants as endsync
 use Rattle.smil_model.specs.declared.document.Act.{Act}
@@ -28,14 +32,14 @@ use Rattle.smil_grammar.specs.Words.{id_len}
 use Rattle.smil_grammar.specs.Numbers.{with_fraction}
 use Rattle.smil_grammar.specs.Clock.{clock_within}
 use Rattle.smil_grammar.specs.Lists.{list_of, IsList}
-use Rattle.smil_grammar.specs.Values.{either, above_zero, short_number_of, thousandths, id_of, kept_of, dur_of, time_of, repeat_dur_of, count_of, restart_of, fill_of, endsync_of, peers_of, higher_of, lower_of, is_other_value, plain_value_of, value_of}
+use Rattle.smil_grammar.specs.Values.{either, above_zero, short_number_of, thousandths, id_of, attribute_name_of, restart_default_of, fill_default_of, kept_of, dur_of, time_of, repeat_dur_of, count_of, restart_of, fill_of, endsync_of, peers_of, higher_of, lower_of, is_other_value, plain_value_of, value_of}
 use Rattle.smil_grammar.specs.Spellings.{attr_text, dur_text, time_text, count_text, endsync_text, act_text}
 use Rattle.smil_grammar.specs.Allowed.{name_of, IsAttr}
 use Rattle.smil_time_list.proofs.Listed.{list_is, list_read}
 use Rattle.smil_attrs.proofs.Readings.{clock_small, length_small, IsLength, number, both, word, value, any_value, listed}
 use Rattle.smil_attrs.proofs.Clocks.{trimmed, no_keyword, clock_read, dur_read, time_read, repeat_read}
 use Rattle.smil_attrs.proofs.Counts.{IsCount, number_below, count_read}
-use Rattle.smil_attrs.proofs.Words.{id_whole, kept_whole}
+use Rattle.smil_attrs.proofs.Words.{id_whole, attribute_name_whole, kept_whole}
 
 -- a value is read again
 abbrev Again : Bool → Attr → Type 0
@@ -93,12 +97,27 @@ restart_again : (in_seq : Bool) (r : Restart) → Again in_seq (attr.Restart r)
 restart_again in_seq restart.Always = refl
 restart_again in_seq restart.WhenNotActive = refl
 restart_again in_seq restart.Never = refl
+restart_again in_seq restart.ByDefault = refl
 
 fill_again : (in_seq : Bool) (f : Fill) → Again in_seq (attr.Fill f)
 fill_again in_seq fill.Remove = refl
 fill_again in_seq fill.Freeze = refl
 fill_again in_seq fill.Hold = refl
 fill_again in_seq fill.Auto = refl
+fill_again in_seq fill.ByDefault = refl
+
+restart_default_again : (in_seq : Bool) (d : RestartDefault) → Again in_seq (attr.RestartDefault d)
+restart_default_again in_seq restart_default.Always = refl
+restart_default_again in_seq restart_default.WhenNotActive = refl
+restart_default_again in_seq restart_default.Never = refl
+restart_default_again in_seq restart_default.Inherit = refl
+
+fill_default_again : (in_seq : Bool) (d : FillDefault) → Again in_seq (attr.FillDefault d)
+fill_default_again in_seq fill_default.Remove = refl
+fill_default_again in_seq fill_default.Freeze = refl
+fill_default_again in_seq fill_default.Hold = refl
+fill_default_again in_seq fill_default.Auto = refl
+fill_default_again in_seq fill_default.Inherit = refl
 
 peers_again : (in_seq : Bool) (a : Act) → Again in_seq (attr.Peers a)
 peers_again in_seq act.Stop = refl
@@ -148,6 +167,8 @@ plain_again in_seq name.RepeatCount text e = value attr.RepeatCount CountAgain (
 plain_again in_seq name.RepeatDur text e = value attr.RepeatDur RepeatAgain (Again in_seq) (λ t h. rw h refl) (repeat_dur_of (trim text)) (repeat_again (trim text))
 plain_again in_seq name.Restart text e = any_value attr.Restart (Again in_seq) (restart_again in_seq) (restart_of (trim text))
 plain_again in_seq name.Fill text e = any_value attr.Fill (Again in_seq) (fill_again in_seq) (fill_of (trim text))
+plain_again in_seq name.RestartDefault text e = any_value attr.RestartDefault (Again in_seq) (restart_default_again in_seq) (restart_default_of (trim text))
+plain_again in_seq name.FillDefault text e = any_value attr.FillDefault (Again in_seq) (fill_default_again in_seq) (fill_default_of (trim text))
 plain_again in_seq name.Endsync text e = value attr.Endsync (EndsyncAgain in_seq) (Again in_seq) (λ x h. h) (endsync_of (trim text)) (endsync_again in_seq (trim text) e)
 plain_again in_seq name.Peers text e = any_value attr.Peers (Again in_seq) (peers_again in_seq) (peers_of (trim text))
 plain_again in_seq name.Higher text e = value attr.Higher HigherAgain (Again in_seq) (λ a h. rw h refl) (higher_of (trim text)) (higher_again (trim text))
@@ -156,6 +177,9 @@ plain_again in_seq name.Src text e = value attr.Src (λ kept. kept_of kept ≡ S
 plain_again in_seq name.Region text e = value attr.Region (λ kept. kept_of kept ≡ Some kept) (Again in_seq) (λ kept h. rw h refl) (kept_of text) (kept_whole text)
 plain_again in_seq name.Alt text e = value attr.Alt (λ kept. kept_of kept ≡ Some kept) (Again in_seq) (λ kept h. rw h refl) (kept_of text) (kept_whole text)
 plain_again in_seq name.Title text e = value attr.Title (λ kept. kept_of kept ≡ Some kept) (Again in_seq) (λ kept h. rw h refl) (kept_of text) (kept_whole text)
+plain_again in_seq name.TargetElement text e = value attr.TargetElement (λ id. (id_of id ≡ Some id) × (trim id ≡ id)) (Again in_seq) (λ id h. rw (h.1, h.0) refl) (id_of (trim text)) (id_whole (trim text))
+plain_again in_seq name.AttributeName text e = value attr.AttributeName (λ name. (attribute_name_of name ≡ Some name) × (trim name ≡ name)) (Again in_seq) (λ name h. rw (h.1, h.0) refl) (attribute_name_of (trim text)) (attribute_name_whole (trim text))
+plain_again in_seq name.To text e = value attr.To (λ kept. kept_of kept ≡ Some kept) (Again in_seq) (λ kept h. rw h refl) (kept_of text) (kept_whole text)
 
 pub value_again : (in_seq : Bool) (n : AttrName) (text : List ℕ) → IfOk (value_of in_seq n text) (Again in_seq)
 value_again in_seq n text = cond_both (is_other_value n (trim text)) _ (plain_value_of in_seq n text) (λ r. IfOk r (Again in_seq)) (λ e. tt) (λ e. plain_again in_seq n text e)

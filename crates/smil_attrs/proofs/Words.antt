@@ -1,13 +1,15 @@
--- Ids and kept texts are read again, as values of attributes.
+-- Ids, names of attributes and kept texts are read again, as values of attributes.
 use Rattle.std.proofs.Common.{◌≡◌, ℕ, ◌+◌, ◌<◌, ◌≤◌, Bool, true, false, not, eqb, ltb, ◌&&◌, List, [], ◌∷◌, length, take, Some, None, refl, sym, ap, subst, ◌∙◌, arith}
-use Rattle.std.specs.Prelude.{IfSome}
-use Rattle.std.specs.List.{prefix_len}
+use Rattle.std.specs.Prelude.{IfSome, ◌||◌, nat_le, ◌==◌}
+use Rattle.std.specs.List.{prefix_len, list_all}
 use Rattle.std.proofs.lemmas.Bool.{cond_both, and_parts, eqb-true}
 use Rattle.std.proofs.lemmas.Bool.Decides.{nat_tests}
 use Rattle.std.proofs.lemmas.List.{take_all}
 use Rattle.smil_grammar.specs.Texts.{trim, is_white}
-use Rattle.smil_grammar.specs.Words.{is_initial, is_of_id, word_len, short_len, id_len}
-use Rattle.smil_grammar.specs.Values.{id_of, kept_of}
+use Rattle.smil_model.specs.declared.limits.TheConstants.{ID_BYTES}
+use Rattle.smil_grammar.specs.Words.{is_initial, is_of_id, is_of_name, word_len, short_len, id_len}
+use Rattle.smil_model.specs.document.Words.{is_word, is_attribute_name}
+use Rattle.smil_grammar.specs.Values.{id_of, kept_of, attribute_name_of}
 use Rattle.smil_lexis.proofs.Fronts.{Passes, passes_weaker}
 use Rattle.smil_lexis.proofs.Words.{passes_taken, initial_of_id}
 use Rattle.smil_lexis.proofs.Trims.{is_inked, untrimmed}
@@ -22,12 +24,12 @@ all_passes p text e = let all : take (prefix_len p text) text ≡ text = take_al
 whole_id : (text : List ℕ) → id_len false text ≡ length text → Passes is_of_id text
 whole_id [] e = tt
 whole_id (b ∷ bytes) e =
-    cond_both (is_initial b) (1 + prefix_len is_of_id bytes) 0 (λ n. short_len n n ≡ length (b ∷ bytes) → Passes is_of_id (b ∷ bytes))
+    cond_both (is_initial b) (1 + prefix_len is_of_id bytes) 0 (λ n. short_len ID_BYTES n n ≡ length (b ∷ bytes) → Passes is_of_id (b ∷ bytes))
     (λ i k. cond_both (ltb 64 (1 + prefix_len is_of_id bytes)) 0 (1 + prefix_len is_of_id bytes) (λ n. n ≡ length (b ∷ bytes) → Passes is_of_id (b ∷ bytes))
     (λ t m. absurd (omega arith)) (λ t m. (initial_of_id b i, all_passes is_of_id bytes (omega arith))) k)
     (λ i k. absurd (none b bytes k)) e
   where
-    none : (b : ℕ) (bytes : List ℕ) → short_len 0 0 ≡ length (b ∷ bytes) → ⊥
+    none : (b : ℕ) (bytes : List ℕ) → short_len ID_BYTES 0 0 ≡ length (b ∷ bytes) → ⊥
     none b bytes k = omega arith
 
 pub id_passes : (text : List ℕ) → IfSome (id_of text) (Passes is_of_id)
@@ -37,6 +39,33 @@ id_passes text = cond_both (not (eqb (length text) 0) && eqb (id_len false text)
 pub id_whole : (text : List ℕ) → IfSome (id_of text) (λ id. (id_of id ≡ Some id) × (trim id ≡ id))
 id_whole text = cond_both (not (eqb (length text) 0) && eqb (id_len false text) (length text)) (Some text) None (λ o. IfSome o (λ id. (id_of id ≡ Some id) × (trim id ≡ id)))
     (λ e. (rw e refl, untrimmed text (passes_weaker is_of_id is_inked id_inked text (whole_id text (eqb-true _ _ (and_parts _ _ e).1))))) (λ e. tt)
+
+-- a byte of the name of an attribute
+abbrev pub is_of_attribute : ℕ → Bool
+is_of_attribute b = is_of_name b || (b == 45)
+
+initial_of_attribute : (b : ℕ) → is_initial b ≡ true → is_of_attribute b ≡ true
+initial_of_attribute b h = grind (arith, nat_tests)
+
+attribute_inked : (b : ℕ) → is_of_attribute b ≡ true → is_inked b ≡ true
+attribute_inked b h = grind (arith, nat_tests)
+
+all_of : (p : ℕ → Bool) (text : List ℕ) → list_all p text ≡ true → Passes p text
+all_of p [] e = tt
+all_of p (b ∷ text) e = let parts = and_parts (p b) (list_all p text) e in (parts.0, all_of p text parts.1)
+
+name_of_attribute : (text : List ℕ) → is_attribute_name text ≡ true → Passes is_of_attribute text
+name_of_attribute [] e = tt
+name_of_attribute (b ∷ text) e =
+    let parts = and_parts (is_initial b) (list_all is_of_attribute text) (and_parts (is_word is_of_attribute (b ∷ text)) _ e).0 in
+    (initial_of_attribute b parts.0, all_of is_of_attribute text parts.1)
+
+pub attribute_name_passes : (text : List ℕ) → IfSome (attribute_name_of text) (Passes is_of_attribute)
+attribute_name_passes text = cond_both (is_attribute_name text) (Some text) None (λ o. IfSome o (Passes is_of_attribute)) (λ e. name_of_attribute text e) (λ e. tt)
+
+pub attribute_name_whole : (text : List ℕ) → IfSome (attribute_name_of text) (λ name. (attribute_name_of name ≡ Some name) × (trim name ≡ name))
+attribute_name_whole text = cond_both (is_attribute_name text) (Some text) None (λ o. IfSome o (λ name. (attribute_name_of name ≡ Some name) × (trim name ≡ name)))
+    (λ e. (rw e refl, untrimmed text (passes_weaker is_of_attribute is_inked attribute_inked text (name_of_attribute text e)))) (λ e. tt)
 
 pub kept_whole : (text : List ℕ) → IfSome (kept_of text) (λ kept. kept_of kept ≡ Some kept)
 kept_whole text = cond_both _ (Some text) None (λ o. IfSome o (λ kept. kept_of kept ≡ Some kept)) (λ e. rw e refl) (λ e. tt)

@@ -4,13 +4,14 @@ use Rattle.smil_model.specs.declared.document.Attr.{Attr}
 use Rattle.smil_model.specs.declared.document.Attr.TheVariants as attr
 use Rattle.smil_model.specs.declared.document.Dur.{Dur}
 use Rattle.smil_model.specs.declared.document.Dur.TheVariants as dur
+use Rattle.smil_model.specs.declared.times.TheConstants.{HORIZON}
 use Rattle.smil_model.specs.declared.times.Time.{Time}
 use Rattle.smil_model.specs.declared.times.Time.TheVariants as time
 use Rattle.smil_grammar.specs.Spellings.{CanWrite}
 
--- a clock value goes up to 10^12
+-- a clock value goes up to the horizon
 abbrev pub FitsClock : ℤ → Type 0
-FitsClock value = (pos 0 ≤ℤ value) × (value ≤ℤ pos 1_000_000_000_000)
+FitsClock value = (pos 0 ≤ℤ value) × (value ≤ℤ HORIZON)
 
 abbrev pub FitsDur : Dur → Type 0
 FitsDur (dur.Clock value) = FitsClock value

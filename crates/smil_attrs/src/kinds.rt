@@ -23,6 +23,7 @@ pub fn text(kind: Kind) -> &'static [u8]
         Kind::Animation => b"animation",
         Kind::TextStream => b"textstream",
         Kind::Ref => b"ref",
+        Kind::Set => b"set",
     }
 }
 
@@ -54,6 +55,8 @@ pub fn called(word: &[u8]) -> Option<Kind>
         Some(Kind::TextStream)
     } else if is(word, b"ref") {
         Some(Kind::Ref)
+    } else if is(word, b"set") {
+        Some(Kind::Set)
     } else {
         None
     }
@@ -63,9 +66,5 @@ pub fn called(word: &[u8]) -> Option<Kind>
 pub fn is_left_out(word: &[u8]) -> bool
     ensures { result ≡ is_other_kind word.now }
 {
-    is(word, b"switch")
-        || is(word, b"set")
-        || is(word, b"prefetch")
-        || is(word, b"smilText")
-        || is(word, b"body")
+    is(word, b"switch") || is(word, b"prefetch") || is(word, b"smilText") || is(word, b"body")
 }

@@ -12,9 +12,10 @@ mod spellings;
 mod values;
 
 pub use again::{attr_again, attrs_kept, node_again};
-pub use attribute::{read_attr, with_attr, without_attr};
-pub use lines::write_node;
+pub use attribute::read_attr;
+pub use lines::{read_header, write_header, write_node, write_node_2};
 pub use names::attr_name;
-pub use nodes::{read_kind, read_node};
+pub use nodes::{fits, read_kind, read_node, shape_attrs, shape_kind};
+pub use shape::Shape;
 pub use smil_grammar::{AttrFault, NodeFault};
-pub use smil_model::{Attr, AttrName};
+pub use smil_model::{Attr, AttrName, with_attr, without_attr};

@@ -1,18 +1,21 @@
 //! Node lines, as they are printed.
 
-ghost use Rattle.std.specs.Prelude.{◌≡◌, ◌++◌, ◌*◌, ℕ, replicate, flat_map, false, IfSome, OnOk, OnErr};
+ghost use Rattle.std.specs.Prelude.{◌≡◌, ◌++◌, ◌*◌, ℕ, replicate, flat_map, codes, decimal, false, IfSome, OnOk, OnErr};
 ghost use Rattle.smil_grammar.specs.Attributes.{names as all_names};
-ghost use Rattle.smil_grammar.specs.Spellings.{attr_at, value_text, attribute_text, node_text, Begins};
+ghost use Rattle.smil_grammar.specs.Outlines.{header_of};
+ghost use Rattle.smil_grammar.specs.Spellings.{attr_at, value_text, attribute_text, node_text, saved_node_text, header_text, Begins};
 ghost use Rattle.smil_grammar.specs.Allowed.{IsAttrs};
 
 use super::kinds;
 use super::spellings::put_attr;
-use smil_lexis::texts::append;
+use itoa::Buffer;
+use smil_lexis::texts::{append, past};
 use smil_model::{AttrName, Attrs, Bytes, Kind};
+use smil_time_list::offsets::count;
 use std::alloc::AllocError;
 
 // All attributes, in the order in which they are printed.
-const NAMES: [AttrName; 18] = [
+const NAMES: [AttrName; 23] = [
     AttrName::Id,
     AttrName::Begin,
     AttrName::Dur,
@@ -23,6 +26,8 @@ const NAMES: [AttrName; 18] = [
     AttrName::RepeatDur,
     AttrName::Restart,
     AttrName::Fill,
+    AttrName::RestartDefault,
+    AttrName::FillDefault,
     AttrName::Endsync,
     AttrName::Peers,
     AttrName::Higher,
@@ -31,6 +36,9 @@ const NAMES: [AttrName; 18] = [
     AttrName::Region,
     AttrName::Alt,
     AttrName::Title,
+    AttrName::TargetElement,
+    AttrName::AttributeName,
+    AttrName::To,
 ];
 
 #[tactic(auto, using(smil_lexis::proofs::Growing::begins_on))]
@@ -86,130 +94,114 @@ pub fn write_node(depth: u32, kind: Kind, attrs: &Attrs, out: &mut Bytes) -> Res
     }
 }
 
+// A number behind a text.
+#[tactic(auto, using(smil_lexis::proofs::Growing::begins_on))]
+fn put_number(text: &[u8], number: u32, out: &mut Bytes) -> Result<(), AllocError>
+    ensures ok { OnOk result (out.new ≡ out.old ++ text.now ++ decimal number) }
+    ensures err { OnErr result (Begins out.old out.new) }
+{
+    let mut buffer = Buffer::new();
+    append(out, text)?;
+    append(out, buffer.format(number).as_bytes())
+}
+
+#[tactic(auto, using(smil_lexis::proofs::Growing::begins_on))]
+fn put_node_2(
+    depth: u32,
+    kind: Kind,
+    serial: u32,
+    attrs: &Attrs,
+    out: &mut Bytes,
+) -> Result<(), AllocError>
+    requires { IsAttrs false kind attrs.now }
+    ensures ok { OnOk result (out.new ≡ out.old ++ saved_node_text depth kind serial attrs.now) }
+    ensures err { OnErr result (Begins out.old out.new) }
+{
+    put_indent(depth, out)?;
+    append(out, kinds::text(kind))?;
+    put_number(b" #", serial, out)?;
+    put_attrs(kind, attrs, out)
+}
+
+/// Appends the canonical line of a node with its serial: that of `write_node` with a space, `#` and the serial behind the
+/// kind. The attributes have to be the kind's, with values that their grammars have, and the serial is from 1 to
+/// 999,999,999. After a refusal `out` is as before.
+pub fn write_node_2(
+    depth: u32,
+    kind: Kind,
+    serial: u32,
+    attrs: &Attrs,
+    out: &mut Bytes,
+) -> Result<(), AllocError>
+    requires can_write { IsAttrs false kind attrs.now }
+    ensures ok { OnOk result (out.new ≡ out.old ++ saved_node_text depth kind serial attrs.now) }
+    ensures err { OnErr result (out.new ≡ out.old) }
+{
+    let before = out.len();
+    match put_node_2(depth, kind, serial, attrs, out) {
+        Ok(()) => Ok(()),
+        Err(fault) => {
+            out.cut_back(before);
+            Err(fault)
+        }
+    }
+}
+
+/// Appends the header of an outline with serials, `outline 2 next` and the next serial, from 1 to 999,999,999. No line end
+/// is appended. After a refusal `out` is as before.
+pub fn write_header(next: u32, out: &mut Bytes) -> Result<(), AllocError>
+    ensures ok { OnOk result (out.new ≡ out.old ++ header_text next) }
+    ensures err { OnErr result (out.new ≡ out.old) }
+{
+    let before = out.len();
+    match put_number(b"outline 2 next ", next, out) {
+        Ok(()) => Ok(()),
+        Err(fault) => {
+            out.cut_back(before);
+            Err(fault)
+        }
+    }
+}
+
+/// The next serial of the header of an outline with serials; none where the line is no such header. Its spaces are single
+/// ones, and the number has 1 to 9 digits and no leading zero.
+pub fn read_header(line: &[u8]) -> Option<u32>
+    ensures { result ≡ header_of line.now }
+{
+    if !line.starts_with(b"outline 2 next ") {
+        return None;
+    }
+    count(past(line, 15))
+}
+
 #[cfg(test)]
 mod tests {
     use super::*;
+    use crate::attribute::read_attr;
     use crate::nodes::read_node;
-    use smil_grammar::NodeFault;
-    use std::alloc::Global;
+    use smil_model::{Attr, Dur};
     use std::test::Fail;
 
-    fn printed(
-        alloc: Global,
-        parent: Option<Kind>,
-        depth: u32,
-        line: &[u8],
-    ) -> Result<Bytes, NodeFault> {
-        let (kind, attrs) = read_node(alloc, parent, line)?;
-        let mut out = Bytes::new(alloc);
-        write_node(depth, kind, &attrs, &mut out)?;
-        Ok(out)
+    #[test]
+    fn reads_an_attribute(rt: HostRuntime) {
+        let read = read_attr(rt.alloc(), Kind::Img, None, b"dur", b" 2s");
+        assert!(rt; matches!(read, Ok(Attr::Dur(Dur::Clock(2000)))));
     }
 
     #[test]
-    fn reads_and_prints_each_value(rt: HostRuntime) -> Result<(), Fail> {
-        let cases = [
-            ("img id=\"x-1.b\"", "img id=\"x-1.b\""),
-            (
-                "text begin=\" 3s; a\\.b.end - 1s ;click;a.click-2;repeat(2);a.repeat(3)+0s;indefinite\"",
-                "text begin=\"3000ms;a\\.b.end-1000ms;click;a.click-2000ms;repeat(2);a.repeat(3);indefinite\"",
-            ),
-            (
-                "brush end=\"-1.5s\" dur=\"\t00:02 \"",
-                "brush dur=\"2000ms\" end=\"-1500ms\"",
-            ),
-            (
-                "audio dur=\"media\" max=\"indefinite\"",
-                "audio dur=\"media\" max=\"indefinite\"",
-            ),
-            (
-                "video dur=\"indefinite\" min=\"0s\"",
-                "video dur=\"indefinite\" min=\"0ms\"",
-            ),
-            (
-                "ref max=\"1h\" min=\" 1.5\"",
-                "ref min=\"1500ms\" max=\"3600000ms\"",
-            ),
-            (
-                "animation repeatCount=\"2.50\"",
-                "animation repeatCount=\"2.5\"",
-            ),
-            (
-                "textstream repeatCount=\"3.0009\"",
-                "textstream repeatCount=\"3\"",
-            ),
-            ("seq repeatCount=\" 0.0019\"", "seq repeatCount=\"0.001\""),
-            ("par repeatCount=\"007.05\"", "par repeatCount=\"7.05\""),
-            (
-                "par repeatCount=\"indefinite\"",
-                "par repeatCount=\"indefinite\"",
-            ),
-            ("par repeatDur=\"00:01\"", "par repeatDur=\"1000ms\""),
-            (
-                "par repeatDur=\"indefinite \"",
-                "par repeatDur=\"indefinite\"",
-            ),
-            (
-                "img restart=\"always\" fill=\"remove\"",
-                "img restart=\"always\" fill=\"remove\"",
-            ),
-            (
-                "img fill=\"freeze\"  restart=\"never\" ",
-                "img restart=\"never\" fill=\"freeze\"",
-            ),
-            (
-                "img restart=\"whenNotActive\"",
-                "img restart=\"whenNotActive\"",
-            ),
-            ("img fill=\"hold\"", "img fill=\"hold\""),
-            ("img fill=\"auto\"", "img fill=\"auto\""),
-            ("par endsync=\"last\"", "par endsync=\"last\""),
-            ("par endsync=\" first\"", "par endsync=\"first\""),
-            ("excl endsync=\"all\"", "excl endsync=\"all\""),
-            ("excl endsync=\"x-1.b \"", "excl endsync=\"x-1.b\""),
-            (
-                "ref title=\"\" alt=\" é \" region=\"a=b;c\" src=\"m.mp3\"",
-                "ref src=\"m.mp3\" region=\"a=b;c\" alt=\" é \" title=\"\"",
-            ),
-        ];
-        for (line, want) in cases {
-            let out = printed(rt.alloc(), Some(Kind::Par), 0, line.as_bytes())?;
-            assert_eq!(rt; out.slice(), want.as_bytes(), "{line}");
-            let again = printed(rt.alloc(), Some(Kind::Par), 0, out.slice())?;
-            assert_eq!(rt; again.slice(), want.as_bytes(), "{line}, again");
-        }
-        Ok(())
-    }
-
-    #[test]
-    fn prints_classes_and_depths(rt: HostRuntime) -> Result<(), Fail> {
-        let cases = [
-            (0, "priorityClass", "priorityClass"),
-            (
-                1,
-                "priorityClass peers=\"stop\" id=\"c\"",
-                "  priorityClass id=\"c\" peers=\"stop\"",
-            ),
-            (
-                2,
-                "priorityClass peers=\"pause\"",
-                "    priorityClass peers=\"pause\"",
-            ),
-            (
-                3,
-                "priorityClass lower=\"defer\" higher=\"stop\" peers=\"defer\"",
-                "      priorityClass peers=\"defer\" higher=\"stop\" lower=\"defer\"",
-            ),
-            (
-                0,
-                "priorityClass peers=\"never\" higher=\"pause\" lower=\"never\"",
-                "priorityClass peers=\"never\" higher=\"pause\" lower=\"never\"",
-            ),
-        ];
-        for (depth, line, want) in cases {
-            let out = printed(rt.alloc(), Some(Kind::Excl), depth, line.as_bytes())?;
-            assert_eq!(rt; out.slice(), want.as_bytes(), "{line}");
-        }
+    fn reads_and_prints(rt: HostRuntime) -> Result<(), Fail> {
+        let Ok((kind, attrs)) = read_node(rt.alloc(), Some(Kind::Par), b"img id=\"x\"") else {
+            assert!(rt; false, "no node");
+            return Ok(());
+        };
+        let mut out = Bytes::new(rt.alloc());
+        write_node(1, kind, &attrs, &mut out)?;
+        write_node_2(0, kind, 12, &attrs, &mut out)?;
+        write_header(13, &mut out)?;
+        assert_eq!(rt;
+            out.slice(),
+            b"  img id=\"x\"img #12 id=\"x\"outline 2 next 13".as_slice()
+        );
         Ok(())
     }
 }

@@ -22,6 +22,8 @@ pub fn text(name: AttrName) -> &'static [u8]
         AttrName::RepeatDur => b"repeatDur",
         AttrName::Restart => b"restart",
         AttrName::Fill => b"fill",
+        AttrName::RestartDefault => b"restartDefault",
+        AttrName::FillDefault => b"fillDefault",
         AttrName::Endsync => b"endsync",
         AttrName::Peers => b"peers",
         AttrName::Higher => b"higher",
@@ -30,6 +32,9 @@ pub fn text(name: AttrName) -> &'static [u8]
         AttrName::Region => b"region",
         AttrName::Alt => b"alt",
         AttrName::Title => b"title",
+        AttrName::TargetElement => b"targetElement",
+        AttrName::AttributeName => b"attributeName",
+        AttrName::To => b"to",
     }
 }
 
@@ -56,6 +61,10 @@ fn called(name: &[u8]) -> Option<AttrName>
         Some(AttrName::Restart)
     } else if is(name, b"fill") {
         Some(AttrName::Fill)
+    } else if is(name, b"restartDefault") {
+        Some(AttrName::RestartDefault)
+    } else if is(name, b"fillDefault") {
+        Some(AttrName::FillDefault)
     } else if is(name, b"endsync") {
         Some(AttrName::Endsync)
     } else if is(name, b"peers") {
@@ -72,6 +81,12 @@ fn called(name: &[u8]) -> Option<AttrName>
         Some(AttrName::Alt)
     } else if is(name, b"title") {
         Some(AttrName::Title)
+    } else if is(name, b"targetElement") {
+        Some(AttrName::TargetElement)
+    } else if is(name, b"attributeName") {
+        Some(AttrName::AttributeName)
+    } else if is(name, b"to") {
+        Some(AttrName::To)
     } else {
         None
     }
@@ -85,6 +100,12 @@ fn has(kind: Kind, name: AttrName) -> bool
         AttrName::Endsync => matches!(kind, Kind::Par | Kind::Excl),
         AttrName::Peers | AttrName::Higher | AttrName::Lower => {
             matches!(kind, Kind::PriorityClass)
+        }
+        AttrName::TargetElement | AttrName::AttributeName | AttrName::To => {
+            matches!(kind, Kind::Set)
+        }
+        AttrName::Src | AttrName::Region | AttrName::Alt => {
+            !matches!(kind, Kind::PriorityClass | Kind::Set)
         }
         _ => !matches!(kind, Kind::PriorityClass),
     }
@@ -103,8 +124,6 @@ fn is_left_out(name: &[u8]) -> bool
         || is(name, b"syncMaster")
         || is(name, b"syncBehaviorDefault")
         || is(name, b"syncToleranceDefault")
-        || is(name, b"restartDefault")
-        || is(name, b"fillDefault")
         || is(name, b"pauseDisplay")
 }
 

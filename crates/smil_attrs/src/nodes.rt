@@ -6,11 +6,11 @@ ghost use Rattle.smil_grammar.specs.Nodes.{Written as WrittenText, Shape as Shap
 ghost use Rattle.smil_grammar.specs.Gives.{GivesNode};
 ghost use Rattle.smil_model.specs.document.Edits.{no_attrs};
 
-use super::attribute::{read_attr, with_attr};
+use super::attribute::read_attr;
 use super::kinds;
 use super::shape::{Shape, Written};
 use smil_grammar::{AttrFault, NodeFault};
-use smil_model::{Attr, Attrs, Kind};
+use smil_model::{Attr, Attrs, Kind, with_attr};
 use std::alloc::Global;
 
 // The column of a place, from 1.
@@ -54,8 +54,9 @@ fn attr(
     }
 }
 
-// The attributes of a line, from left to right.
-fn attrs(
+/// The attributes of a node line of this shape, from left to right, for a node of this kind below a parent, None being
+/// for the root. The first fault is answered, its column counted in bytes from 1, up to the greatest `u32`.
+pub fn shape_attrs(
     alloc: Global,
     parent: Option<Kind>,
     kind: Kind,
@@ -71,8 +72,9 @@ fn attrs(
     Ok(attrs)
 }
 
-// The kind of a line of this shape.
-fn kind(shape: &Shape<'_>) -> Result<Kind, NodeFault>
+/// The kind of a node line of this shape. A name that stands twice and an unknown kind are `BadOutline`; a kind of SMIL
+/// that is left out is `Unsupported`.
+pub fn shape_kind(shape: &Shape<'_>) -> Result<Kind, NodeFault>
     ensures { result ≡ kind_of_shape (Some shape.now) }
 {
     if shape.attributes.repeats() {
@@ -85,8 +87,8 @@ fn kind(shape: &Shape<'_>) -> Result<Kind, NodeFault>
     }
 }
 
-// Whether a parent can have a child of this kind, None being for the root's.
-fn fits(parent: Option<Kind>, kind: Kind) -> bool
+/// Whether a parent can have a child of this kind, None being for the root's.
+pub fn fits(parent: Option<Kind>, kind: Kind) -> bool
     ensures { result ≡ fits_in parent kind }
 {
     match parent {
@@ -104,15 +106,15 @@ pub fn read_kind(line: &[u8]) -> Result<Kind, NodeFault>
     ensures { result ≡ kind_of line.now }
 {
     match Shape::of(line) {
-        Some(shape) => kind(&shape),
+        Some(shape) => shape_kind(&shape),
         None => Err(NodeFault::BadOutline),
     }
 }
 
 /// The kind and the attributes of a node line without leading spaces, below a parent, None being for the
 /// root. The line's faults come first (`read_kind`), then a child that the parent's kind can't have
-/// (`BadPlace`), then the attributes' faults from left to right. What is read can be written. Columns are counted in bytes from 1, up to
-/// the greatest `u32`.
+/// (`BadPlace`), then the attributes' faults from left to right. What is read can be written. Columns are counted
+/// in bytes from 1, up to the greatest `u32`.
 pub fn read_node(
     alloc: Global,
     parent: Option<Kind>,
@@ -124,123 +126,10 @@ pub fn read_node(
     let Some(shape) = Shape::of(line) else {
         return Err(NodeFault::BadOutline);
     };
-    let kind = kind(&shape)?;
+    let kind = shape_kind(&shape)?;
     if !fits(parent, kind) {
         return Err(NodeFault::BadPlace);
     }
-    let attrs = attrs(alloc, parent, kind, &shape)?;
+    let attrs = shape_attrs(alloc, parent, kind, &shape)?;
     Ok((kind, attrs))
-}
-
-#[cfg(test)]
-mod tests {
-    use super::*;
-
-    fn fault(alloc: Global, parent: Option<Kind>, line: &[u8]) -> Option<NodeFault> {
-        read_node(alloc, parent, line).err()
-    }
-
-    #[test]
-    fn answers_shapes_and_kinds(rt: HostRuntime) {
-        let bad: [&[u8]; 14] = [
-            b"",
-            b" par",
-            b"foo",
-            b"Par",
-            b"par id",
-            b"par id=x",
-            b"par id=\"x",
-            b"par id=\"x\"src=\"y\"",
-            b"par =\"x\"",
-            b"par\tid=\"x\"",
-            b"par a b=\"x\"",
-            b"par \xff=\"x\"",
-            b"par colour=\"a\" colour=\"b\"",
-            b"switch id=\"x\" id=\"y\"",
-        ];
-        for line in bad {
-            assert_eq!(rt; read_kind(line), Err(NodeFault::BadOutline), "{line:?}");
-            assert_eq!(rt;
-                fault(rt.alloc(), None, line),
-                Some(NodeFault::BadOutline),
-                "{line:?}"
-            );
-        }
-        for line in ["switch", "set", "prefetch id=\"?\"", "smilText", "body"] {
-            let want = NodeFault::Unsupported { column: 1 };
-            assert_eq!(rt; read_kind(line.as_bytes()), Err(want), "{line}");
-            assert_eq!(rt;
-                fault(rt.alloc(), None, line.as_bytes()),
-                Some(want),
-                "{line}"
-            );
-        }
-        assert_eq!(rt; read_kind(b"img colour=\"?\""), Ok(Kind::Img));
-    }
-
-    #[test]
-    fn answers_columns(rt: HostRuntime) {
-        let cases = [
-            (None, "img", NodeFault::BadPlace),
-            (Some(Kind::Par), "priorityClass", NodeFault::BadPlace),
-            (
-                Some(Kind::PriorityClass),
-                "priorityClass",
-                NodeFault::BadPlace,
-            ),
-            (Some(Kind::Img), "img dur=\"x\"", NodeFault::BadPlace),
-            (
-                None,
-                "par dur=\"x\" colour=\"\"",
-                NodeFault::BadValue { column: 10 },
-            ),
-            (
-                None,
-                "par  colour=\"\" dur=\"x\"",
-                NodeFault::UnknownAttribute { column: 6 },
-            ),
-            (
-                None,
-                "par speed=\"\" dur=\"x\"",
-                NodeFault::Unsupported { column: 5 },
-            ),
-            (
-                None,
-                "par fill=\" default\"",
-                NodeFault::Unsupported { column: 11 },
-            ),
-            (
-                None,
-                "par begin=\"0s; id(x)\"",
-                NodeFault::Unsupported { column: 16 },
-            ),
-            (
-                None,
-                "par begin=\"0s;;1s\"",
-                NodeFault::BadValue { column: 15 },
-            ),
-            (
-                Some(Kind::Seq),
-                "img begin=\" -1s\"",
-                NodeFault::BadValue { column: 13 },
-            ),
-            (
-                Some(Kind::Excl),
-                "priorityClass begin=\"0s\"",
-                NodeFault::UnknownAttribute { column: 15 },
-            ),
-            (
-                None,
-                "par end=\";;;;;;;;;;;;;;;;;;;;;;;;;;;;;;;;\"",
-                NodeFault::TooManyItems { column: 10 },
-            ),
-        ];
-        for (parent, line, want) in cases {
-            assert_eq!(rt;
-                fault(rt.alloc(), parent, line.as_bytes()),
-                Some(want),
-                "{line}"
-            );
-        }
-    }
 }

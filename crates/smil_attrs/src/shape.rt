@@ -1,12 +1,14 @@
 //! The shape of node lines.
 
 ghost use Rattle.std.specs.Prelude.{◌≡◌, ◌<◌, ◌≤◌, ◌+◌, ◌-◌, ◌^◌, ℕ, Option, List, take, length, option_map, Some, None, IsSome, is_some, bytes_eq, if◌then◌else◌};
+ghost use Rattle.std.specs.Char.{is_ascii_digit};
 ghost use Rattle.std.specs.List.{prefix_len, list_all, list_any};
-ghost use Rattle.smil_grammar.specs.Nodes.{Written as WrittenText, is_space, is_no_space, is_of_kind, shape_of, is_named, attribute_at, repeats as repeats_name};
+ghost use Rattle.smil_grammar.specs.Nodes.{Written as WrittenText, is_space, is_no_space, is_of_kind, shaped, shape_of, saved_shape_of, attributes_at, pieces_of, is_named, attribute_at, repeats as repeats_name};
 ghost use Rattle.smil_attrs.specs.Left.{Passes, attributes_in, written_in};
 
-use smil_lexis::texts::{cut, is};
+use smil_lexis::texts::{behind, cut, is};
 use smil_lexis::utf8::is_utf8;
+use smil_time_list::offsets::count;
 use std::marker::Model;
 
 /// An attribute as it is written, with the places of its name and its value in the line.
@@ -185,17 +187,44 @@ fn kind_len(line: &[u8]) -> usize
         .count()
 }
 
+fn digits(text: &[u8]) -> usize
+    ensures len { result ≡ prefix_len is_ascii_digit text.now }
+    ensures within { result ≤ length text.now }
+{
+    text.iter().take_while(|byte| byte.is_ascii_digit()).count()
+}
+
 impl<'a> Shape<'a> {
-    /// The shape of a node line without leading spaces, where it has it.
-    pub fn of(line: &'a [u8]) -> Option<Shape<'a>>
-        ensures { result ≡ shape_of line.now }
+    // A kind, and what stands behind it from this place of the line on.
+    fn with(kind: &'a [u8], text: &'a [u8], place: usize) -> Option<Shape<'a>>
+        requires { place + length text.now < 2 ^ 64 }
+        ensures { result ≡ shaped kind.now (attributes_at place (pieces_of text.now)) }
     {
-        let len = kind_len(line);
-        let (kind, text) = line.split_at(len);
-        let attributes = Attributes { text, place: len };
+        let attributes = Attributes { text, place };
         if kind.is_empty() || !is_utf8(kind) || !attributes.is_shaped() {
             return None;
         }
         Some(Shape { kind, attributes })
+    }
+
+    /// The shape of a node line without leading spaces, where it has it.
+    pub fn of(line: &'a [u8]) -> Option<Shape<'a>>
+        ensures { result ≡ shape_of line.now }
+    {
+        let (kind, text) = line.split_at(kind_len(line));
+        Shape::with(kind, text, kind.len())
+    }
+
+    /// The shape of a node line whose serial stands behind its kind, as ` #7`, and that serial.
+    pub fn numbered(line: &'a [u8]) -> Option<(u32, Shape<'a>)>
+        ensures { result ≡ saved_shape_of line.now }
+    {
+        let (kind, rest) = line.split_at(kind_len(line));
+        let text = behind(behind(rest, b' ')?, b'#')?;
+        let len = digits(text);
+        let (digits, rest) = text.split_at(len);
+        let serial = count(digits)?;
+        let shape = Shape::with(kind, rest, kind.len() + 2 + len)?;
+        Some((serial, shape))
     }
 }

@@ -3,14 +3,17 @@
 ghost use Rattle.std.specs.Prelude.{◌≡◌, ◌++◌, ◌<◌, ◌∷◌, [], ℕ, List, Option, codes, option_map, nat_abs, IfSome, All, OnOk, OnErr, Some};
 ghost use Rattle.smil_grammar.specs.Attributes.{name_text};
 ghost use Rattle.smil_grammar.specs.Clock.{clock_text};
-ghost use Rattle.smil_grammar.specs.Spellings.{dur_text, time_text, decimals, count_text, restart_text, fill_text, endsync_text, act_text, list_text, attr_at, attr_text, value_text, attribute_text, CanWrite, Begins};
+ghost use Rattle.smil_grammar.specs.Spellings.{dur_text, time_text, decimals, count_text, restart_text, fill_text, restart_default_text, fill_default_text, endsync_text, act_text, list_text, attr_at, attr_text, value_text, attribute_text, CanWrite, Begins};
 ghost use Rattle.smil_attrs.specs.Fits.{FitsClock, FitsDur, FitsTime, FitsAttr};
 
 use super::names;
 use itoa::Buffer;
 use smil_clock_value::write_clock;
 use smil_lexis::texts::append;
-use smil_model::{Act, AttrName, Attrs, Bytes, Count, Dur, Endsync, Fill, Items, Restart, Time};
+use smil_model::{
+    Act, AttrName, Attrs, Bytes, Count, Dur, Endsync, Fill, FillDefault, Items, Restart,
+    RestartDefault, Time,
+};
 use smil_time_list::spellings::write_list;
 use std::alloc::AllocError;
 
@@ -21,6 +24,7 @@ fn restart(restart: Restart) -> &'static [u8]
         Restart::Always => b"always",
         Restart::WhenNotActive => b"whenNotActive",
         Restart::Never => b"never",
+        Restart::ByDefault => b"default",
     }
 }
 
@@ -32,6 +36,30 @@ fn fill(fill: Fill) -> &'static [u8]
         Fill::Freeze => b"freeze",
         Fill::Hold => b"hold",
         Fill::Auto => b"auto",
+        Fill::ByDefault => b"default",
+    }
+}
+
+fn restart_default(restart: RestartDefault) -> &'static [u8]
+    ensures { result.now ≡ restart_default_text restart }
+{
+    match restart {
+        RestartDefault::Always => b"always",
+        RestartDefault::WhenNotActive => b"whenNotActive",
+        RestartDefault::Never => b"never",
+        RestartDefault::Inherit => b"inherit",
+    }
+}
+
+fn fill_default(fill: FillDefault) -> &'static [u8]
+    ensures { result.now ≡ fill_default_text fill }
+{
+    match fill {
+        FillDefault::Remove => b"remove",
+        FillDefault::Freeze => b"freeze",
+        FillDefault::Hold => b"hold",
+        FillDefault::Auto => b"auto",
+        FillDefault::Inherit => b"inherit",
     }
 }
 
@@ -167,6 +195,34 @@ fn put_fill(name: AttrName, value: Option<Fill>, out: &mut Bytes) -> Result<(), 
     }
 }
 
+fn put_restart_default(
+    name: AttrName,
+    value: Option<RestartDefault>,
+    out: &mut Bytes,
+) -> Result<(), AllocError>
+    ensures ok { OnOk result (out.new ≡ out.old ++ attribute_text name (option_map restart_default_text value)) }
+    ensures err { OnErr result (Begins out.old out.new) }
+{
+    match value {
+        Some(value) => put_word(name, restart_default(value), out),
+        None => Ok(()),
+    }
+}
+
+fn put_fill_default(
+    name: AttrName,
+    value: Option<FillDefault>,
+    out: &mut Bytes,
+) -> Result<(), AllocError>
+    ensures ok { OnOk result (out.new ≡ out.old ++ attribute_text name (option_map fill_default_text value)) }
+    ensures err { OnErr result (Begins out.old out.new) }
+{
+    match value {
+        Some(value) => put_word(name, fill_default(value), out),
+        None => Ok(()),
+    }
+}
+
 fn put_act(name: AttrName, value: Option<Act>, out: &mut Bytes) -> Result<(), AllocError>
     ensures ok { OnOk result (out.new ≡ out.old ++ attribute_text name (option_map act_text value)) }
     ensures err { OnErr result (Begins out.old out.new) }
@@ -284,6 +340,8 @@ pub fn put_attr(name: AttrName, attrs: &Attrs, out: &mut Bytes) -> Result<(), Al
         AttrName::RepeatDur => put_limit(name, attrs.repeat_dur, out),
         AttrName::Restart => put_restart(name, attrs.restart, out),
         AttrName::Fill => put_fill(name, attrs.fill, out),
+        AttrName::RestartDefault => put_restart_default(name, attrs.restart_default, out),
+        AttrName::FillDefault => put_fill_default(name, attrs.fill_default, out),
         AttrName::Endsync => put_endsync(name, &attrs.endsync, out),
         AttrName::Peers => put_act(name, attrs.peers, out),
         AttrName::Higher => put_act(name, attrs.higher, out),
@@ -292,5 +350,8 @@ pub fn put_attr(name: AttrName, attrs: &Attrs, out: &mut Bytes) -> Result<(), Al
         AttrName::Region => put_text(name, &attrs.region, out),
         AttrName::Alt => put_text(name, &attrs.alt, out),
         AttrName::Title => put_text(name, &attrs.title, out),
+        AttrName::TargetElement => put_text(name, &attrs.target_element, out),
+        AttrName::AttributeName => put_text(name, &attrs.attribute_name, out),
+        AttrName::To => put_text(name, &attrs.to, out),
     }
 }

@@ -4,7 +4,7 @@ ghost use Rattle.std.specs.Prelude.{◌≡◌, ◌<◌, ◌&&◌, ℕ, Option, L
 ghost use Rattle.std.specs.List.{list_all};
 ghost use Rattle.smil_grammar.specs.Numbers.{with_fraction};
 ghost use Rattle.smil_grammar.specs.Lists.{list_of, is_begin};
-ghost use Rattle.smil_grammar.specs.Values.{restart_of, peers_of, higher_of, lower_of, fill_of, time_of, repeat_dur_of, dur_of, id_of, kept_of, count_of, endsync_of, short_number_of, thousandths as whole_thousandths, is_kept as is_kept_byte, is_other_value};
+ghost use Rattle.smil_grammar.specs.Values.{restart_of, restart_default_of, fill_default_of, attribute_name_of, peers_of, higher_of, lower_of, fill_of, time_of, repeat_dur_of, dur_of, id_of, kept_of, count_of, endsync_of, short_number_of, thousandths as whole_thousandths, is_kept as is_kept_byte, is_other_value};
 ghost use Rattle.smil_attrs.specs.Reads.{GivesValue, GivesItems};
 
 use smil_clock_value::clock_within;
@@ -13,7 +13,10 @@ use smil_lexis::numbers::{fraction, short};
 use smil_lexis::runs;
 use smil_lexis::texts::{copied, cut, is};
 use smil_lexis::utf8::is_utf8;
-use smil_model::{Act, AttrName, Bytes, Count, Dur, Edge, Endsync, Fill, Items, Restart, Time};
+use smil_model::{
+    Act, AttrName, Bytes, Count, Dur, Edge, Endsync, Fill, FillDefault, Items, Restart,
+    RestartDefault, Time,
+};
 use smil_time_list::lists::read_list;
 use std::alloc::Global;
 
@@ -30,6 +33,8 @@ pub fn restart(text: &[u8]) -> Option<Restart>
         Some(Restart::WhenNotActive)
     } else if is(text, b"never") {
         Some(Restart::Never)
+    } else if is(text, b"default") {
+        Some(Restart::ByDefault)
     } else {
         None
     }
@@ -47,6 +52,44 @@ pub fn fill(text: &[u8]) -> Option<Fill>
         Some(Fill::Hold)
     } else if is(text, b"auto") {
         Some(Fill::Auto)
+    } else if is(text, b"default") {
+        Some(Fill::ByDefault)
+    } else {
+        None
+    }
+}
+
+/// A value of `restartDefault`.
+pub fn restart_default(text: &[u8]) -> Option<RestartDefault>
+    ensures { result ≡ restart_default_of text.now }
+{
+    if is(text, b"always") {
+        Some(RestartDefault::Always)
+    } else if is(text, b"whenNotActive") {
+        Some(RestartDefault::WhenNotActive)
+    } else if is(text, b"never") {
+        Some(RestartDefault::Never)
+    } else if is(text, b"inherit") {
+        Some(RestartDefault::Inherit)
+    } else {
+        None
+    }
+}
+
+/// A value of `fillDefault`.
+pub fn fill_default(text: &[u8]) -> Option<FillDefault>
+    ensures { result ≡ fill_default_of text.now }
+{
+    if is(text, b"remove") {
+        Some(FillDefault::Remove)
+    } else if is(text, b"freeze") {
+        Some(FillDefault::Freeze)
+    } else if is(text, b"hold") {
+        Some(FillDefault::Hold)
+    } else if is(text, b"auto") {
+        Some(FillDefault::Auto)
+    } else if is(text, b"inherit") {
+        Some(FillDefault::Inherit)
     } else {
         None
     }
@@ -223,6 +266,16 @@ pub fn kept(alloc: Global, text: &[u8]) -> Result<Bytes, AttrFault>
     Ok(copied(alloc, text)?)
 }
 
+/// A value of `attributeName`.
+pub fn attribute_name(alloc: Global, text: &[u8]) -> Result<Bytes, AttrFault>
+    ensures { GivesValue result (attribute_name_of text.now) }
+{
+    if !runs::is_attribute_name(text) {
+        return Err(BAD);
+    }
+    Ok(copied(alloc, text)?)
+}
+
 /// The list of `begin` or `end`.
 pub fn list(alloc: Global, text: &[u8], side: Edge, seq_child: bool) -> Result<Items, AttrFault>
     ensures { GivesItems result (list_of (seq_child && is_begin side) text.now) }
@@ -242,8 +295,7 @@ pub fn is_left_out(name: AttrName, text: &[u8]) -> bool
 {
     match name {
         AttrName::Min | AttrName::Max | AttrName::Endsync => is(text, b"media"),
-        AttrName::Restart => is(text, b"default"),
-        AttrName::Fill => is(text, b"default") || is(text, b"transition"),
+        AttrName::Fill | AttrName::FillDefault => is(text, b"transition"),
         _ => false,
     }
 }

@@ -16,7 +16,7 @@ use Rattle.smil_grammar.specs.declared.read.Read.TheVariants.{Blank, Load, To}
 use Rattle.smil_grammar.specs.Nodes.{node_of}
 use Rattle.smil_model.specs.document.Edits.{no_attrs}
 use Rattle.smil_grammar.specs.Scripts.{line_of}
-use Rattle.smil_grammar.specs.Outlines.{outline_of, outline_text}
+use Rattle.smil_grammar.specs.Outlines.{outline_of, outline_text, saved_text}
 
 line : node_of (Some kind.Par) (codes "img id=\"b\"  dur=\"2s\" ") ≡ Ok (kind.Img, record no_attrs { id = Some (codes "b"); dur = Some (dur.Clock (pos 2000)) })
 unfolding is_utf8 chars encode
@@ -90,3 +90,39 @@ column = refl
 mixed : outline_of (codes "excl" ∷ codes "  priorityClass" ∷ codes "    img" ∷ codes "  img" ∷ []) ≡ Err refusal.BadPlace
 unfolding is_utf8 chars encode
 mixed = refl
+
+saved : Result Document Refusal → List ℕ
+saved (Ok document) = saved_text document
+saved (Err e) = []
+
+numbered : saved (outline_of (codes "outline 2 next 4" ∷ codes "par #1" ∷ codes "  img #3 id=\"b\" dur=\"1s\"" ∷ codes "  img #2" ∷ [])) ≡ codes "outline 2 next 4\npar #1\n  img #3 id=\"b\" dur=\"1000ms\"\n  img #2\n"
+unfolding is_utf8 chars encode digits saved
+numbered = refl
+
+past_the_header : outline_of (codes "outline 2 next 3" ∷ codes "par #1" ∷ codes "  img #3" ∷ []) ≡ Err refusal.BadSerial
+unfolding is_utf8 chars encode
+past_the_header = refl
+
+given_twice : outline_of (codes "outline 2 next 3" ∷ codes "par #1" ∷ codes "    img #1" ∷ []) ≡ Err refusal.BadSerial
+unfolding is_utf8 chars encode
+given_twice = refl
+
+kind_first : outline_of (codes "outline 2 next 3" ∷ codes "par #1" ∷ codes "  switch #1" ∷ []) ≡ Err (refusal.Unsupported 3)
+unfolding is_utf8 chars encode
+kind_first = refl
+
+no_serial : outline_of (codes "outline 2 next 3" ∷ codes "par" ∷ []) ≡ Err refusal.BadOutline
+unfolding is_utf8 chars encode
+no_serial = refl
+
+serial_of_version_1 : outline_of (codes "par #1" ∷ []) ≡ Err refusal.BadOutline
+unfolding is_utf8 chars encode
+serial_of_version_1 = refl
+
+other_header : outline_of (codes "outline 2 next 04" ∷ codes "par #1" ∷ []) ≡ Err refusal.BadOutline
+unfolding is_utf8 chars encode
+other_header = refl
+
+second_header : outline_of (codes "outline 2 next 4" ∷ codes "outline 2 next 4" ∷ []) ≡ Err refusal.BadOutline
+unfolding is_utf8 chars encode
+second_header = refl

@@ -1,7 +1,7 @@
 -- Lists as they are read, and their first faults.
 use Rattle.std.proofs.Common.{◌≡◌, [], ◌∷◌, Some, None, Ok, Err, true, false, refl}
 use Rattle.std.specs.Prelude.{codes, pos, negsuc, replicate}
-use Rattle.smil_model.specs.declared.document.Item.TheVariants.{Offset, Sync, Event, Repeat, Indefinite}
+use Rattle.smil_model.specs.declared.document.Item.TheVariants.{Offset, Sync, Event, Repeat, Key, Indefinite}
 use Rattle.smil_model.specs.declared.document.Edge.TheVariants.{Begin, End}
 use Rattle.smil_grammar.specs.declared.fault.ListFault.TheVariants.{Bad, Unsupported, TooManyItems}
 use Rattle.smil_grammar.specs.Lists.{list_of}
@@ -60,10 +60,13 @@ too_long = refl
 wallclock : list_of false (codes "0s;wallclock(1)") ≡ Err (Unsupported 3)
 wallclock = refl
 
-key : list_of false (codes "accesskey(") ≡ Err (Unsupported 0)
+key : list_of false (codes "accesskey(") ≡ Err (Bad 0)
 key = refl
 
-other_key : list_of false (codes " accessKey(a)+!") ≡ Err (Unsupported 1)
+either_key : list_of false (codes "accesskey(x);accessKey()) - 1s") ≡ Ok (Key 120 (pos 0) ∷ Key 41 (negsuc 999) ∷ [])
+either_key = refl
+
+other_key : list_of false (codes " accessKey(a)+!") ≡ Err (Bad 1)
 other_key = refl
 
 element : list_of false (codes "id(a)(begin)") ≡ Err (Unsupported 0)

@@ -22,6 +22,8 @@ name_of (attr.RepeatCount _) = name.RepeatCount
 name_of (attr.RepeatDur _) = name.RepeatDur
 name_of (attr.Restart _) = name.Restart
 name_of (attr.Fill _) = name.Fill
+name_of (attr.RestartDefault _) = name.RestartDefault
+name_of (attr.FillDefault _) = name.FillDefault
 name_of (attr.Endsync _) = name.Endsync
 name_of (attr.Peers _) = name.Peers
 name_of (attr.Higher _) = name.Higher
@@ -30,6 +32,9 @@ name_of (attr.Src _) = name.Src
 name_of (attr.Region _) = name.Region
 name_of (attr.Alt _) = name.Alt
 name_of (attr.Title _) = name.Title
+name_of (attr.TargetElement _) = name.TargetElement
+name_of (attr.AttributeName _) = name.AttributeName
+name_of (attr.To _) = name.To
 
 -- an attribute that some text is read as; in_seq says that it is of a child of a seq
 abbrev pub IsAttr : Bool → Attr → Type 0

@@ -1,5 +1,5 @@
 -- Which attributes a kind has, and how they are spelled.
-use Rattle.std.specs.Prelude.{ℕ, Bool, true, not, List, [], ◌∷◌, Option, Some, None, Result, Ok, Err, find, if◌then◌else◌, codes, bytes_eq}
+use Rattle.std.specs.Prelude.{ℕ, Bool, true, not, ◌&&◌, List, [], ◌∷◌, Option, Some, None, Result, Ok, Err, find, if◌then◌else◌, codes, bytes_eq}
 use Rattle.std.specs.List.{list_any}
 use Rattle.smil_model.specs.declared.document.Kind.{Kind}
 use Rattle.smil_model.specs.declared.document.Kind.TheVariants as kind
@@ -8,6 +8,7 @@ use Rattle.smil_model.specs.declared.document.AttrName.TheVariants as name
 use Rattle.smil_grammar.specs.declared.fault.AttrFault.{AttrFault}
 use Rattle.smil_grammar.specs.declared.fault.AttrFault.TheVariants.{UnknownAttribute, UnsupportedName}
 pub use Rattle.smil_model.specs.document.Document.{is_class_kind as is_class}
+use Rattle.smil_model.specs.document.Document.{is_set_kind}
 pub use Rattle.smil_model.specs.document.Values.{has_endsync}
 
 -- the word of a kind
@@ -24,10 +25,11 @@ kind_text kind.Video = codes "video"
 kind_text kind.Animation = codes "animation"
 kind_text kind.TextStream = codes "textstream"
 kind_text kind.Ref = codes "ref"
+kind_text kind.Set = codes "set"
 
 -- all kinds
 abbrev pub kinds : List Kind
-kinds = kind.Par ∷ kind.Seq ∷ kind.Excl ∷ kind.PriorityClass ∷ kind.Img ∷ kind.Text ∷ kind.Brush ∷ kind.Audio ∷ kind.Video ∷ kind.Animation ∷ kind.TextStream ∷ kind.Ref ∷ []
+kinds = kind.Par ∷ kind.Seq ∷ kind.Excl ∷ kind.PriorityClass ∷ kind.Img ∷ kind.Text ∷ kind.Brush ∷ kind.Audio ∷ kind.Video ∷ kind.Animation ∷ kind.TextStream ∷ kind.Ref ∷ kind.Set ∷ []
 
 -- the kind of a word
 abbrev pub kind_called : List ℕ → Option Kind
@@ -35,7 +37,7 @@ kind_called text = find (λ k. bytes_eq text (kind_text k)) kinds
 
 -- elements of SMIL that are left out
 abbrev pub is_other_kind : List ℕ → Bool
-is_other_kind text = list_any (bytes_eq text) (codes "switch" ∷ codes "set" ∷ codes "prefetch" ∷ codes "smilText" ∷ codes "body" ∷ [])
+is_other_kind text = list_any (bytes_eq text) (codes "switch" ∷ codes "prefetch" ∷ codes "smilText" ∷ codes "body" ∷ [])
 
 -- the word of an attribute
 abbrev pub name_text : AttrName → List ℕ
@@ -49,6 +51,8 @@ name_text name.RepeatCount = codes "repeatCount"
 name_text name.RepeatDur = codes "repeatDur"
 name_text name.Restart = codes "restart"
 name_text name.Fill = codes "fill"
+name_text name.RestartDefault = codes "restartDefault"
+name_text name.FillDefault = codes "fillDefault"
 name_text name.Endsync = codes "endsync"
 name_text name.Peers = codes "peers"
 name_text name.Higher = codes "higher"
@@ -57,29 +61,38 @@ name_text name.Src = codes "src"
 name_text name.Region = codes "region"
 name_text name.Alt = codes "alt"
 name_text name.Title = codes "title"
+name_text name.TargetElement = codes "targetElement"
+name_text name.AttributeName = codes "attributeName"
+name_text name.To = codes "to"
 
 -- all attributes, in the order in which they are printed
 abbrev pub names : List AttrName
-names = name.Id ∷ name.Begin ∷ name.Dur ∷ name.End ∷ name.Min ∷ name.Max ∷ name.RepeatCount ∷ name.RepeatDur ∷ name.Restart ∷ name.Fill ∷ name.Endsync
-    ∷ name.Peers ∷ name.Higher ∷ name.Lower ∷ name.Src ∷ name.Region ∷ name.Alt ∷ name.Title ∷ []
+names = name.Id ∷ name.Begin ∷ name.Dur ∷ name.End ∷ name.Min ∷ name.Max ∷ name.RepeatCount ∷ name.RepeatDur ∷ name.Restart ∷ name.Fill ∷ name.RestartDefault ∷ name.FillDefault ∷ name.Endsync
+    ∷ name.Peers ∷ name.Higher ∷ name.Lower ∷ name.Src ∷ name.Region ∷ name.Alt ∷ name.Title ∷ name.TargetElement ∷ name.AttributeName ∷ name.To ∷ []
 
 -- the attribute of a word
 abbrev pub name_called : List ℕ → Option AttrName
 name_called text = find (λ n. bytes_eq text (name_text n)) names
 
--- every node has an id, a priorityClass its three, and all others the rest
+-- every node has an id, a priorityClass its three, a set its three, and all others the rest; a set has no media
 abbrev pub has : Kind → AttrName → Bool
 has k name.Id = true
 has k name.Endsync = has_endsync k
 has k name.Peers = is_class k
 has k name.Higher = is_class k
 has k name.Lower = is_class k
+has k name.TargetElement = is_set_kind k
+has k name.AttributeName = is_set_kind k
+has k name.To = is_set_kind k
+has k name.Src = not (is_class k) && not (is_set_kind k)
+has k name.Region = not (is_class k) && not (is_set_kind k)
+has k name.Alt = not (is_class k) && not (is_set_kind k)
 has k _ = not (is_class k)
 
 -- attributes of SMIL that are left out
 abbrev pub is_other_name : List ℕ → Bool
 is_other_name text = list_any (bytes_eq text) (codes "speed" ∷ codes "accelerate" ∷ codes "decelerate" ∷ codes "autoReverse" ∷ codes "syncBehavior" ∷ codes "syncTolerance"
-    ∷ codes "syncMaster" ∷ codes "syncBehaviorDefault" ∷ codes "syncToleranceDefault" ∷ codes "restartDefault" ∷ codes "fillDefault" ∷ codes "pauseDisplay" ∷ [])
+    ∷ codes "syncMaster" ∷ codes "syncBehaviorDefault" ∷ codes "syncToleranceDefault" ∷ codes "pauseDisplay" ∷ [])
 
 -- the fault of a word that no attribute of the profile has
 abbrev pub unnamed : List ℕ → AttrFault

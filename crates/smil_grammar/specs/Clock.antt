@@ -1,7 +1,8 @@
 -- Clock values: `02:30:03.5`, `02:33`, `3.2h`, `45min`, `30s`, `5ms` and `12.467`, in milliseconds.
-use Rattle.std.specs.Prelude.{ℕ, ◌+◌, ◌*◌, ◌/◌, ℤ, pos, ◌||◌, List, ◌++◌, take, drop, Option, Some, None, Result, Ok, Err, Bool, nat_lt, ◌==◌, if◌then◌else◌, codes, decimal, bytes_eq}
+use Rattle.std.specs.Prelude.{ℕ, ◌+◌, ◌*◌, ◌/◌, ℤ, pos, nat_abs, ◌||◌, List, ◌++◌, take, drop, Option, Some, None, Result, Ok, Err, Bool, nat_lt, ◌==◌, if◌then◌else◌, codes, decimal, bytes_eq}
 use Rattle.std.specs.List.{prefix_len}
 use Rattle.std.specs.Char.{is_ascii_digit}
+use Rattle.smil_model.specs.declared.times.TheConstants.{HORIZON}
 use Rattle.smil_grammar.specs.Texts.{◌>>=◌, cut_at, point, colon}
 use Rattle.smil_grammar.specs.Numbers.{number_of, sixty_of, with_fraction}
 use Rattle.smil_grammar.specs.declared.fault.ClockFault.{ClockFault}
@@ -64,16 +65,16 @@ parted_or_count text (Some cut) = parted cut.0 cut.1 (cut_at colon cut.1)
 abbrev pub clock_of : List ℕ → Option ℕ
 clock_of text = parted_or_count text (cut_at colon text)
 
--- what reading gives: values go up to 10^12
+-- what reading gives: values go up to the horizon
 abbrev pub clock_answer : Option ℕ → Result ℤ ClockFault
 clock_answer None = Err Bad
-clock_answer (Some n) = if nat_lt 1_000_000_000_000 n then Err TooLong else Ok (pos n)
+clock_answer (Some n) = if nat_lt (nat_abs HORIZON) n then Err TooLong else Ok (pos n)
 
--- a number that isn't above 10^12
+-- a number that isn't above the horizon
 abbrev pub within : ℕ → Option ℕ
-within n = if nat_lt 1_000_000_000_000 n then None else Some n
+within n = if nat_lt (nat_abs HORIZON) n then None else Some n
 
--- a clock value inside other values and orders: one above 10^12 is as one outside the grammar
+-- a clock value inside other values and orders: one above the horizon is as one outside the grammar
 abbrev pub clock_within : List ℕ → Option ℕ
 clock_within text = clock_of text >>= within
 

@@ -10,7 +10,7 @@ use Rattle.smil_model.specs.shown.Orders.{Formats}
 use Rattle.smil_grammar.specs.Results.{◌>>=◌}
 use Rattle.smil_grammar.specs.Attributes.{attr_name_of}
 use Rattle.smil_grammar.specs.Nodes.{Written, is_seq, at_column, attr_of, kind_of, node_of}
-use Rattle.smil_grammar.specs.Outlines.{in_line, outline_text}
+use Rattle.smil_grammar.specs.Outlines.{in_line, outline_text, saved_text}
 
 -- an attribute whose name and value begin at these columns
 abbrev pub written_at : List ℕ → List ℕ → ℕ → ℕ → Written
@@ -46,4 +46,5 @@ formats = record {
   read_kind = kind_in_line;
   read_attrs = attrs_in_line;
   outline = outline_text;
+  saved = saved_text;
 }

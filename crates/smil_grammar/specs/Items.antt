@@ -1,12 +1,12 @@
--- Items of begin and end lists: `3s`, `-1s`, `a.begin`, `a\.b.end+2s`, `click`, `a.click`, `a.repeat(2)` and
--- `indefinite`. The name of the element of an item is None where the item names none.
+-- Items of begin and end lists: `3s`, `-1s`, `a.begin`, `a\.b.end+2s`, `click`, `a.click`, `a.repeat(2)`, `accesskey(x)`
+-- and `indefinite`. The name of the element of an item is None where the item names none.
 use Rattle.std.specs.Prelude.{◌≡◌, ℕ, ℤ, pos, neg_ℤ, Bool, true, false, not, ◌||◌, ◌&&◌, List, [], ◌∷◌, length, take, drop, Option, Some, None, option_map, Result, Ok, Err, nat_lt, ◌==◌, if◌then◌else◌, codes, bytes_eq}
 use Rattle.std.specs.List.{starts_with}
 use Rattle.std.specs.Bool.{nat_eq}
 use Rattle.std.specs.Option.{ok_or}
 use Rattle.std.specs.Char.{is_ascii_digit}
 use Rattle.smil_model.specs.declared.document.Item.{Item}
-use Rattle.smil_model.specs.declared.document.Item.TheVariants.{Offset, Sync, Event, Repeat, Indefinite}
+use Rattle.smil_model.specs.declared.document.Item.TheVariants.{Offset, Sync, Event, Repeat, Key, Indefinite}
 use Rattle.smil_model.specs.declared.document.Edge.{Edge}
 use Rattle.smil_model.specs.declared.document.Edge.TheVariants.{Begin, End}
 use Rattle.smil_grammar.specs.declared.fault.ItemFault.{ItemFault}
@@ -15,6 +15,7 @@ use Rattle.smil_grammar.specs.Texts.{◌>>=◌, cut_at, trim_front, behind, open
 use Rattle.smil_grammar.specs.Words.{id_len, name_len, unescaped}
 use Rattle.smil_grammar.specs.Numbers.{number_of}
 pub use Rattle.smil_grammar.specs.Clock.{within, clock_within}
+use Rattle.smil_model.specs.document.Words.{is_key}
 
 -- a sign is `+` or `-`
 abbrev pub is_sign : ℕ → Bool
@@ -91,15 +92,24 @@ subject_of text (Some rest) = of_element (unescaped (take (id_len true text) tex
 
 -- forms of SMIL that are left out, whatever stands behind these words
 abbrev pub is_left_out : List ℕ → Bool
-is_left_out text = starts_with nat_eq text (codes "wallclock(") || starts_with nat_eq text (codes "accesskey(")
-    || starts_with nat_eq text (codes "accessKey(") || starts_with nat_eq text (codes "id(")
+is_left_out text = starts_with nat_eq text (codes "wallclock(") || starts_with nat_eq text (codes "id(")
+
+-- an access key, in two spellings
+abbrev pub is_keyed : List ℕ → Bool
+is_keyed text = starts_with nat_eq text (codes "accesskey(") || starts_with nat_eq text (codes "accessKey(")
+
+-- what stands behind these words: the key, a parenthesis, and a tail
+abbrev pub key_of : List ℕ → Option Item
+key_of [] = None
+key_of (b ∷ text) = if is_key b then (behind close_parenthesis text >>= with_tail (Key b)) else None
 
 -- an item that begins with neither a digit nor a sign
 abbrev pub named_of : List ℕ → Result Item ItemFault
 named_of text =
     if is_left_out text then Err Unsupported
+    else (if is_keyed text then ok_or (key_of (drop 10 text)) Bad
     else (if bytes_eq text (codes "indefinite") then Ok Indefinite
-    else (if id_len true text == 0 then Err Bad else subject_of text (behind point (drop (id_len true text) text))))
+    else (if id_len true text == 0 then Err Bad else subject_of text (behind point (drop (id_len true text) text)))))
 
 -- an item without white space at its ends; offsets begin with a digit or a sign
 abbrev pub item_of : List ℕ → Result Item ItemFault

@@ -1,6 +1,7 @@
 -- Begin and end lists: items parted by `;`, with white space around each.
 use Rattle.std.specs.Prelude.{◌≡◌, ℕ, ◌+◌, ◌≤◌, All, pos, int_lt, Bool, true, false, List, [], ◌∷◌, length, Option, Some, None, unwrap_or, Result, Ok, Err, nat_lt, ◌==◌, if◌then◌else◌}
 use Rattle.std.specs.List.{prefix_len, slice_split}
+use Rattle.smil_model.specs.declared.limits.TheConstants.{ITEMS}
 use Rattle.smil_model.specs.declared.document.Item.{Item}
 use Rattle.smil_model.specs.declared.document.Item.TheVariants.{Offset}
 use Rattle.smil_model.specs.declared.document.Edge.{Edge}
@@ -39,9 +40,9 @@ items_from first place (piece ∷ pieces) = do
 abbrev pub pieces_of : List ℕ → List (List ℕ)
 pieces_of text = slice_split (λ b. b == semicolon) text
 
--- at most 32 items: their count comes before the items
+-- at most so many items: their count comes before the items
 abbrev pub few_items : Option ℕ → List ℕ → Result (List Item) ListFault
-few_items first text = if nat_lt 32 (length (pieces_of text)) then Err TooManyItems else items_from first 0 (pieces_of text)
+few_items first text = if nat_lt ITEMS (length (pieces_of text)) then Err TooManyItems else items_from first 0 (pieces_of text)
 
 -- one offset that isn't negative
 abbrev pub is_plain : List Item → Bool
@@ -66,7 +67,7 @@ list_of true text = few_items (Some (first_place text)) text >>= plain_at (first
 pub record IsList (seq_child : Bool) (items : List Item) : Type 0 where
   pub each : All IsItem items
   pub some : 1 ≤ length items
-  pub few : length items ≤ 32
+  pub few : length items ≤ ITEMS
   pub plain : seq_child ≡ true → is_plain items ≡ true
 
 -- what a call gave is the reading, unless memory ran out

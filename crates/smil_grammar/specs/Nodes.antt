@@ -1,7 +1,7 @@
 -- Node lines: a kind, and attributes as ` name="value"`. Behind the kind the line is cut at each quote: what
 -- stands before an opening quote is spaces, a name and `=`, what stands before a closing one is a value, and
 -- behind the last quote are spaces.
-use Rattle.std.specs.Prelude.{ℕ, ◌+◌, ◌-◌, Bool, true, false, not, ◌&&◌, ◌||◌, List, [], ◌∷◌, length, take, drop, Option, Some, None, Result, Ok, Err, nat_lt, min, ◌==◌, if◌then◌else◌, codes, bytes_eq}
+use Rattle.std.specs.Prelude.{ℕ, ◌+◌, ◌-◌, Bool, true, false, not, ◌&&◌, ◌||◌, List, [], ◌∷◌, length, take, drop, Option, Some, None, option_and_then, Result, Ok, Err, nat_lt, min, ◌==◌, if◌then◌else◌, codes, bytes_eq}
 use Rattle.std.specs.List.{prefix_len, slice_split, list_all, list_any}
 use Rattle.std.specs.Str.{is_utf8}
 use Rattle.smil_model.specs.declared.document.Kind.{Kind}
@@ -13,7 +13,9 @@ use Rattle.smil_grammar.specs.declared.fault.AttrFault.{AttrFault}
 use Rattle.smil_grammar.specs.declared.fault.AttrFault.TheVariants as attr
 use Rattle.smil_grammar.specs.declared.fault.NodeFault.{NodeFault}
 use Rattle.smil_grammar.specs.declared.fault.NodeFault.TheVariants.{BadOutline, Unsupported, BadPlace, UnknownAttribute, BadValue, TooManyItems, Memory}
-use Rattle.smil_grammar.specs.Texts.{space, quote}
+use Rattle.smil_grammar.specs.Texts.{space, quote, behind}
+use Rattle.smil_grammar.specs.Items.{count_of}
+use Rattle.std.specs.Char.{is_ascii_digit}
 use Rattle.smil_grammar.specs.Results.{◌>>=◌}
 use Rattle.smil_grammar.specs.Attributes.{kind_called, is_other_kind, attr_name_of, is_class}
 use Rattle.smil_grammar.specs.Values.{value_of}
@@ -75,6 +77,22 @@ abbrev pub shape_of : List ℕ → Option Shape
 shape_of line =
     let kind : ℕ = prefix_len is_of_kind line in
     shaped (take kind line) (attributes_at kind (pieces_of (drop kind line)))
+
+-- where serials are given: the shape without ` #` and the serial behind the kind, and that serial
+abbrev pub with_serial : Option ℕ → Option Shape → Option (ℕ × Shape)
+with_serial (Some serial) (Some shape) = Some (serial, shape)
+with_serial _ _ = None
+
+abbrev pub shape_behind : List ℕ → Option (List ℕ) → Option (ℕ × Shape)
+shape_behind kind None = None
+shape_behind kind (Some text) =
+    let digits : ℕ = prefix_len is_ascii_digit text in
+    with_serial (count_of (take digits text)) (shaped kind (attributes_at (length kind + 2 + digits) (pieces_of (drop digits text))))
+
+abbrev pub saved_shape_of : List ℕ → Option (ℕ × Shape)
+saved_shape_of line =
+    let kind : ℕ = prefix_len is_of_kind line in
+    shape_behind (take kind line) (option_and_then (behind 35) (behind space (drop kind line)))
 
 -- a name that stands twice
 abbrev pub repeats : List Written → Bool

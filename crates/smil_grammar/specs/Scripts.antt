@@ -8,6 +8,8 @@ use Rattle.smil_model.specs.declared.order.Who.{Who}
 use Rattle.smil_model.specs.declared.order.Who.TheVariants.{Id, Serial}
 use Rattle.smil_model.specs.declared.order.Refusal.{Refusal}
 use Rattle.smil_model.specs.declared.order.Refusal.TheVariants.{NotACommand, BadValue}
+use Rattle.smil_model.specs.declared.limits.TheConstants.{NAME_BYTES}
+use Rattle.smil_model.specs.document.Words.{is_key}
 use Rattle.smil_grammar.specs.declared.read.Read.{Read}
 use Rattle.smil_grammar.specs.declared.read.Read.TheVariants.{Blank, Load, Close, To}
 use Rattle.smil_grammar.specs.Texts.{◌>>=◌, is_white, cut_at, behind, quote}
@@ -41,10 +43,10 @@ is_ended line = list_all is_space line.text
 abbrev pub is_of_title : ℕ → Bool
 is_of_title b = is_of_name b || (b == 45)
 
--- a presentation's name: a letter, then letters, digits, `_` and `-`, at most 32 bytes, and neither `load` nor `close`
+-- a presentation's name: a letter, then letters, digits, `_` and `-`, at most so many bytes, and neither `load` nor `close`
 abbrev pub is_title : List ℕ → Bool
 is_title [] = false
-is_title (b ∷ bytes) = not (b == 95) && (word_len is_of_title (b ∷ bytes) == length (b ∷ bytes)) && nat_lt (length bytes) 32
+is_title (b ∷ bytes) = not (b == 95) && (word_len is_of_title (b ∷ bytes) == length (b ∷ bytes)) && nat_lt (length bytes) NAME_BYTES
     && not (list_any (bytes_eq (b ∷ bytes)) (codes "load" ∷ codes "close" ∷ []))
 
 -- a serial behind `#`, or an id
@@ -125,6 +127,18 @@ insert_line who line =
     let node : Word = skipped cut.1 in
     short_number_of cut.0.text >>= λ place. if length node.text == 0 then None else Some (given (order.Insert who place node.text (node.place + 1)))
 
+-- `key`: one byte, which is an access key
+abbrev pub key_in : List ℕ → Option ℕ
+key_in (b ∷ []) = if is_key b then Some b else None
+key_in _ = None
+
+abbrev pub key_line : Word → Option Reading
+key_line line = let cut : Word × Word = first_of line in key_in cut.0.text >>= λ key. at_end cut.1 (given (order.Key key))
+
+-- `stack`: the attribute's name
+abbrev pub stack_line : Who → Word → Option Reading
+stack_line who line = let cut : Word × Word = first_of line in attribute_of cut.0.text >>= λ name. at_end cut.1 (given (order.Stack who name))
+
 -- the order behind a presentation's name, by its first word
 abbrev pub order_line : List ℕ → Word → Option Reading
 order_line verb line =
@@ -139,7 +153,12 @@ order_line verb line =
     else (if bytes_eq verb (codes "show") then at_end line (given order.Show)
     else (if bytes_eq verb (codes "history") then with_who (λ who rest. at_end rest (given (order.History who))) line
     else (if bytes_eq verb (codes "text") then at_end line (given order.Text)
-    else None))))))))))
+    else (if bytes_eq verb (codes "key") then key_line line
+    else (if bytes_eq verb (codes "save") then at_end line (given order.Save)
+    else (if bytes_eq verb (codes "values") then at_end line (given order.Values)
+    else (if bytes_eq verb (codes "stack") then with_who stack_line line
+    else (if bytes_eq verb (codes "diary") then at_end line (given order.Diary)
+    else None)))))))))))))))
 
 -- a line without a reading is no command
 abbrev pub or_refused : Option Read → Result Read Refusal

@@ -2,7 +2,7 @@
 use Rattle.std.specs.Prelude.{◌≡◌, ◌≤◌, take, ℕ, zero, suc, ◌+◌, ◌*◌, ◌/◌, ◌%◌, ℤ, pos, negsuc, nat_abs, List, [], ◌∷◌, ◌++◌, length, replicate, flat_map, Option, Some, None, option_map, ◌==◌, if◌then◌else◌, codes, decimal}
 use Rattle.smil_model.specs.declared.document.Kind.{Kind}
 use Rattle.smil_model.specs.declared.document.Item.{Item}
-use Rattle.smil_model.specs.declared.document.Item.TheVariants.{Offset, Sync, Event, Repeat, Indefinite}
+use Rattle.smil_model.specs.declared.document.Item.TheVariants.{Offset, Sync, Event, Repeat, Key, Indefinite}
 use Rattle.smil_model.specs.declared.document.Edge.{Edge}
 use Rattle.smil_model.specs.declared.document.Edge.TheVariants.{Begin, End}
 use Rattle.smil_model.specs.declared.document.Dur.{Dur}
@@ -13,6 +13,10 @@ use Rattle.smil_model.specs.declared.document.Restart.{Restart}
 use Rattle.smil_model.specs.declared.document.Restart.TheVariants as restart
 use Rattle.smil_model.specs.declared.document.Fill.{Fill}
 use Rattle.smil_model.specs.declared.document.Fill.TheVariants as fill
+use Rattle.smil_model.specs.declared.document.RestartDefault.{RestartDefault}
+use Rattle.smil_model.specs.declared.document.RestartDefault.TheVariants as restart_default
+use Rattle.smil_model.specs.declared.document.FillDefault.{FillDefault}
+use Rattle.smil_model.specs.declared.document.FillDefault.TheVariants as fill_default
 use Rattle.smil_model.specs.declared.document.Endsync.{Endsync}
 use Rattle.smil_model.specs.declared.document.Endsync.TheVariants as endsync
 use Rattle.smil_model.specs.declared.document.Act.{Act}
@@ -22,6 +26,7 @@ use Rattle.smil_model.specs.declared.document.Attr.{Attr}
 use Rattle.smil_model.specs.declared.document.Attr.TheVariants as attr
 use Rattle.smil_model.specs.declared.document.AttrName.{AttrName}
 use Rattle.smil_model.specs.declared.document.AttrName.TheVariants as name
+use Rattle.smil_model.specs.declared.times.TheConstants.{HORIZON}
 use Rattle.smil_model.specs.declared.times.Time.{Time}
 use Rattle.smil_model.specs.declared.times.Time.TheVariants as time
 use Rattle.smil_grammar.specs.Texts.{space, quote, plus, minus, point, semicolon, backslash}
@@ -60,6 +65,7 @@ item_text (Offset offset) = offset_text offset
 item_text (Sync who edge offset) = escaped who ++ point ∷ (edge_text edge ++ tail_text offset)
 item_text (Event who name offset) = of_who who ++ (name ++ tail_text offset)
 item_text (Repeat who n offset) = of_who who ++ (codes "repeat(" ++ decimal n ++ codes ")" ++ tail_text offset)
+item_text (Key key offset) = codes "accesskey(" ++ (key ∷ []) ++ codes ")" ++ tail_text offset
 item_text Indefinite = codes "indefinite"
 
 -- a list: its items joined by `;`
@@ -94,12 +100,27 @@ abbrev pub restart_text : Restart → List ℕ
 restart_text restart.Always = codes "always"
 restart_text restart.WhenNotActive = codes "whenNotActive"
 restart_text restart.Never = codes "never"
+restart_text restart.ByDefault = codes "default"
 
 abbrev pub fill_text : Fill → List ℕ
 fill_text fill.Remove = codes "remove"
 fill_text fill.Freeze = codes "freeze"
 fill_text fill.Hold = codes "hold"
 fill_text fill.Auto = codes "auto"
+fill_text fill.ByDefault = codes "default"
+
+abbrev pub restart_default_text : RestartDefault → List ℕ
+restart_default_text restart_default.Always = codes "always"
+restart_default_text restart_default.WhenNotActive = codes "whenNotActive"
+restart_default_text restart_default.Never = codes "never"
+restart_default_text restart_default.Inherit = codes "inherit"
+
+abbrev pub fill_default_text : FillDefault → List ℕ
+fill_default_text fill_default.Remove = codes "remove"
+fill_default_text fill_default.Freeze = codes "freeze"
+fill_default_text fill_default.Hold = codes "hold"
+fill_default_text fill_default.Auto = codes "auto"
+fill_default_text fill_default.Inherit = codes "inherit"
 
 abbrev pub endsync_text : Endsync → List ℕ
 endsync_text endsync.Last = codes "last"
@@ -125,6 +146,8 @@ attr_text (attr.RepeatCount c) = count_text c
 attr_text (attr.RepeatDur t) = time_text t
 attr_text (attr.Restart r) = restart_text r
 attr_text (attr.Fill f) = fill_text f
+attr_text (attr.RestartDefault r) = restart_default_text r
+attr_text (attr.FillDefault f) = fill_default_text f
 attr_text (attr.Endsync e) = endsync_text e
 attr_text (attr.Peers a) = act_text a
 attr_text (attr.Higher a) = act_text a
@@ -133,6 +156,9 @@ attr_text (attr.Src text) = text
 attr_text (attr.Region text) = text
 attr_text (attr.Alt text) = text
 attr_text (attr.Title text) = text
+attr_text (attr.TargetElement id) = id
+attr_text (attr.AttributeName text) = text
+attr_text (attr.To text) = text
 
 -- the attribute of this name, where it is there
 abbrev pub attr_at : Attrs → AttrName → Option Attr
@@ -146,6 +172,8 @@ attr_at a name.RepeatCount = option_map attr.RepeatCount a.repeat_count
 attr_at a name.RepeatDur = option_map attr.RepeatDur a.repeat_dur
 attr_at a name.Restart = option_map attr.Restart a.restart
 attr_at a name.Fill = option_map attr.Fill a.fill
+attr_at a name.RestartDefault = option_map attr.RestartDefault a.restart_default
+attr_at a name.FillDefault = option_map attr.FillDefault a.fill_default
 attr_at a name.Endsync = option_map attr.Endsync a.endsync
 attr_at a name.Peers = option_map attr.Peers a.peers
 attr_at a name.Higher = option_map attr.Higher a.higher
@@ -154,6 +182,9 @@ attr_at a name.Src = option_map attr.Src a.src
 attr_at a name.Region = option_map attr.Region a.region
 attr_at a name.Alt = option_map attr.Alt a.alt
 attr_at a name.Title = option_map attr.Title a.title
+attr_at a name.TargetElement = option_map attr.TargetElement a.target_element
+attr_at a name.AttributeName = option_map attr.AttributeName a.attribute_name
+attr_at a name.To = option_map attr.To a.to
 
 -- the spelling of an attribute's value, where it is there
 abbrev pub value_text : Attrs → AttrName → Option (List ℕ)
@@ -165,12 +196,24 @@ attribute_text n None = []
 attribute_text n (Some value) = space ∷ (name_text n ++ codes "=\"" ++ value ++ quote ∷ [])
 
 -- two spaces per depth, the kind, and the attributes that are there, in their order
-abbrev pub node_text : ℕ → Kind → Attrs → List ℕ
-node_text depth kind attrs = replicate (2 * depth) space ++ kind_text kind ++ flat_map (λ n. attribute_text n (value_text attrs n)) names
+abbrev pub attributes_text : Attrs → List ℕ
+attributes_text attrs = flat_map (λ n. attribute_text n (value_text attrs n)) names
 
--- an offset within 10^12
+abbrev pub node_text : ℕ → Kind → Attrs → List ℕ
+node_text depth kind attrs = replicate (2 * depth) space ++ kind_text kind ++ attributes_text attrs
+
+-- the same with the node's serial behind the kind
+abbrev pub saved_node_text : ℕ → Kind → ℕ → Attrs → List ℕ
+saved_node_text depth kind serial attrs =
+    replicate (2 * depth) space ++ kind_text kind ++ codes " #" ++ decimal serial ++ attributes_text attrs
+
+-- the header of an outline with serials
+abbrev pub header_text : ℕ → List ℕ
+header_text next = codes "outline 2 next " ++ decimal next
+
+-- an offset within the horizon
 abbrev pub IsWithin : ℤ → Type 0
-IsWithin offset = nat_abs offset ≤ 1_000_000_000_000
+IsWithin offset = nat_abs offset ≤ nat_abs HORIZON
 
 -- an item that can be written
 abbrev pub CanWrite : Item → Type 0
@@ -178,6 +221,7 @@ CanWrite (Offset offset) = IsWithin offset
 CanWrite (Sync who edge offset) = IsWithin offset
 CanWrite (Event who name offset) = IsWithin offset
 CanWrite (Repeat who n offset) = IsWithin offset
+CanWrite (Key key offset) = IsWithin offset
 CanWrite Indefinite = Unit {0}
 
 -- where memory runs out, what was written before stays at the front

@@ -5,6 +5,7 @@ use Rattle.std.specs.Option.{ok_or}
 use Rattle.std.specs.Str.{is_utf8}
 use Rattle.smil_model.specs.declared.document.Attr.{Attr}
 pub use Rattle.smil_model.specs.document.Words.{is_kept}
+use Rattle.smil_model.specs.document.Words.{is_attribute_name}
 use Rattle.smil_model.specs.declared.document.Attr.TheVariants as attr
 use Rattle.smil_model.specs.declared.document.AttrName.{AttrName}
 use Rattle.smil_model.specs.declared.document.AttrName.TheVariants as name
@@ -16,6 +17,10 @@ use Rattle.smil_model.specs.declared.document.Restart.{Restart}
 use Rattle.smil_model.specs.declared.document.Restart.TheVariants as restart
 use Rattle.smil_model.specs.declared.document.Fill.{Fill}
 use Rattle.smil_model.specs.declared.document.Fill.TheVariants as fill
+use Rattle.smil_model.specs.declared.document.RestartDefault.{RestartDefault}
+use Rattle.smil_model.specs.declared.document.RestartDefault.TheVariants as restart_default
+use Rattle.smil_model.specs.declared.document.FillDefault.{FillDefault}
+use Rattle.smil_model.specs.declared.document.FillDefault.TheVariants as fill_default
 use Rattle.smil_model.specs.declared.document.Endsync.{Endsync}
 use Rattle.smil_model.specs.declared.document.Endsync.TheVariants as endsync
 use Rattle.smil_model.specs.declared.document.Act.{Act}
@@ -75,13 +80,27 @@ thousandths n = n.0 * 1000 + n.1
 abbrev pub count_of : List ℕ → Option Count
 count_of text = either (keyword ((codes "indefinite", count.Indefinite) ∷ []) text) (option_map count.Thousandths (option_map thousandths (with_fraction short_number_of 100 text) >>= above_zero))
 
--- `always`, `whenNotActive` or `never`
+-- `always`, `whenNotActive`, `never` or `default`
 abbrev pub restart_of : List ℕ → Option Restart
-restart_of text = keyword ((codes "always", restart.Always) ∷ (codes "whenNotActive", restart.WhenNotActive) ∷ (codes "never", restart.Never) ∷ []) text
+restart_of text = keyword ((codes "always", restart.Always) ∷ (codes "whenNotActive", restart.WhenNotActive) ∷ (codes "never", restart.Never) ∷ (codes "default", restart.ByDefault) ∷ []) text
 
--- `remove`, `freeze`, `hold` or `auto`
+-- `remove`, `freeze`, `hold`, `auto` or `default`
 abbrev pub fill_of : List ℕ → Option Fill
-fill_of text = keyword ((codes "remove", fill.Remove) ∷ (codes "freeze", fill.Freeze) ∷ (codes "hold", fill.Hold) ∷ (codes "auto", fill.Auto) ∷ []) text
+fill_of text = keyword ((codes "remove", fill.Remove) ∷ (codes "freeze", fill.Freeze) ∷ (codes "hold", fill.Hold) ∷ (codes "auto", fill.Auto) ∷ (codes "default", fill.ByDefault) ∷ []) text
+
+-- `always`, `whenNotActive`, `never` or `inherit`
+abbrev pub restart_default_of : List ℕ → Option RestartDefault
+restart_default_of text =
+    keyword ((codes "always", restart_default.Always) ∷ (codes "whenNotActive", restart_default.WhenNotActive) ∷ (codes "never", restart_default.Never) ∷ (codes "inherit", restart_default.Inherit) ∷ []) text
+
+-- `remove`, `freeze`, `hold`, `auto` or `inherit`
+abbrev pub fill_default_of : List ℕ → Option FillDefault
+fill_default_of text =
+    keyword ((codes "remove", fill_default.Remove) ∷ (codes "freeze", fill_default.Freeze) ∷ (codes "hold", fill_default.Hold) ∷ (codes "auto", fill_default.Auto) ∷ (codes "inherit", fill_default.Inherit) ∷ []) text
+
+-- the name of an attribute that a set sets
+abbrev pub attribute_name_of : List ℕ → Option (List ℕ)
+attribute_name_of text = if is_attribute_name text then Some text else None
 
 -- keywords go before ids
 abbrev pub endsync_of : List ℕ → Option Endsync
@@ -108,8 +127,8 @@ abbrev pub is_other_value : AttrName → List ℕ → Bool
 is_other_value name.Min text = bytes_eq text (codes "media")
 is_other_value name.Max text = bytes_eq text (codes "media")
 is_other_value name.Endsync text = bytes_eq text (codes "media")
-is_other_value name.Restart text = bytes_eq text (codes "default")
-is_other_value name.Fill text = bytes_eq text (codes "default") || bytes_eq text (codes "transition")
+is_other_value name.Fill text = bytes_eq text (codes "transition")
+is_other_value name.FillDefault text = bytes_eq text (codes "transition")
 is_other_value _ text = false
 
 -- faults of lists have their own places
@@ -137,6 +156,8 @@ plain_value_of in_seq name.RepeatCount text = of_value attr.RepeatCount (count_o
 plain_value_of in_seq name.RepeatDur text = of_value attr.RepeatDur (repeat_dur_of (trim text))
 plain_value_of in_seq name.Restart text = of_value attr.Restart (restart_of (trim text))
 plain_value_of in_seq name.Fill text = of_value attr.Fill (fill_of (trim text))
+plain_value_of in_seq name.RestartDefault text = of_value attr.RestartDefault (restart_default_of (trim text))
+plain_value_of in_seq name.FillDefault text = of_value attr.FillDefault (fill_default_of (trim text))
 plain_value_of in_seq name.Endsync text = of_value attr.Endsync (endsync_of (trim text))
 plain_value_of in_seq name.Peers text = of_value attr.Peers (peers_of (trim text))
 plain_value_of in_seq name.Higher text = of_value attr.Higher (higher_of (trim text))
@@ -145,6 +166,9 @@ plain_value_of in_seq name.Src text = of_value attr.Src (kept_of text)
 plain_value_of in_seq name.Region text = of_value attr.Region (kept_of text)
 plain_value_of in_seq name.Alt text = of_value attr.Alt (kept_of text)
 plain_value_of in_seq name.Title text = of_value attr.Title (kept_of text)
+plain_value_of in_seq name.TargetElement text = of_value attr.TargetElement (id_of (trim text))
+plain_value_of in_seq name.AttributeName text = of_value attr.AttributeName (attribute_name_of (trim text))
+plain_value_of in_seq name.To text = of_value attr.To (kept_of text)
 
 -- a value, where it isn't left out
 abbrev pub value_of : Bool → AttrName → List ℕ → Result Attr AttrFault

@@ -1,6 +1,7 @@
 -- Ids and names at the front of a text: `slide_1`, `a.b-c`, and in a reference `a\.b\-c`.
 use Rattle.std.specs.Prelude.{ℕ, ◌+◌, Bool, true, false, not, List, [], ◌∷◌, take, filter, count_by, nat_lt, ◌==◌, if◌then◌else◌}
 use Rattle.std.specs.List.{prefix_len}
+use Rattle.smil_model.specs.declared.limits.TheConstants.{ID_BYTES, EVENT_BYTES}
 pub use Rattle.smil_model.specs.document.Words.{underscore, is_initial, is_of_name, is_dash, is_of_id}
 use Rattle.smil_grammar.specs.Texts.{backslash}
 
@@ -26,16 +27,16 @@ reference_len (b ∷ bytes) = if is_initial b then 1 + escaped_len false bytes e
 abbrev pub unescaped : List ℕ → List ℕ
 unescaped text = filter (λ b. not (b == backslash)) text
 
--- ids and names have at most 64 bytes: a longer one is none
-abbrev pub short_len : ℕ → ℕ → ℕ
-short_len own n = if nat_lt 64 own then 0 else n
+-- ids and names have at most so many bytes: a longer one is none
+abbrev pub short_len : ℕ → ℕ → ℕ → ℕ
+short_len most own n = if nat_lt most own then 0 else n
 
 -- how many bytes the longest name at the front has, 0 where none stands there
 abbrev pub name_len : List ℕ → ℕ
-name_len text = short_len (word_len is_of_name text) (word_len is_of_name text)
+name_len text = short_len EVENT_BYTES (word_len is_of_name text) (word_len is_of_name text)
 
 -- how many bytes the longest id at the front has, written plainly or as in a reference, whose backslashes
 -- don't count for its own length
 abbrev pub id_len : Bool → List ℕ → ℕ
-id_len true text = short_len (count_by (λ b. not (b == backslash)) (take (reference_len text) text)) (reference_len text)
-id_len false text = short_len (word_len is_of_id text) (word_len is_of_id text)
+id_len true text = short_len ID_BYTES (count_by (λ b. not (b == backslash)) (take (reference_len text) text)) (reference_len text)
+id_len false text = short_len ID_BYTES (word_len is_of_id text) (word_len is_of_id text)

@@ -1,6 +1,7 @@
 //! Cutting texts, and writing them.
 
-ghost use Rattle.std.specs.Prelude.{◌≡◌, ◌<◌, ◌==◌, ◌++◌, length, position, option_map, IfSome, IfOk, bytes_eq, ◌≤◌, OnOk, OnErr};
+ghost use Rattle.smil_model.specs.document.Words.{is_key as is_key_byte};
+ghost use Rattle.std.specs.Prelude.{◌≡◌, ◌<◌, drop, ◌==◌, ◌++◌, length, position, option_map, IfSome, IfOk, bytes_eq, ◌≤◌, OnOk, OnErr};
 ghost use Rattle.std.specs.List.{suffix_len};
 ghost use Rattle.smil_grammar.specs.Texts.{cut_at, is_white as is_white_byte, trim_front as front_trimmed, trim as trimmed, behind as behind_byte};
 ghost use Rattle.smil_grammar.specs.Words.{unescaped as unescaped_bytes};
@@ -24,6 +25,13 @@ pub fn cut(bytes: &[u8], byte: u8) -> Option<(&[u8], &[u8])>
     let (front, _) = bytes.split_at(place);
     let (_, back) = bytes.split_at(place + 1);
     Some((front, back))
+}
+
+/// Whether a byte is an access key: one that is printed, other than `"`, `;` and `\`.
+pub fn is_key(byte: u8) -> bool
+    ensures { result ≡ is_key_byte byte }
+{
+    (33..=126).contains(&byte) && byte != b'"' && byte != b';' && byte != b'\\'
 }
 
 /// Appends a text. After a refusal `out` is as before.
@@ -95,6 +103,18 @@ pub fn trim(text: &[u8]) -> &[u8]
     let rest = trim_front(text);
     let (front, _) = rest.split_at(rest.len() - white_behind(rest));
     front
+}
+
+/// What stands past so many bytes.
+#[tactic(auto, using(std::proofs::lemmas::List::drop_all))]
+pub fn past(text: &[u8], count: usize) -> &[u8]
+    ensures { result.now ≡ drop count text.now }
+{
+    if count <= text.len() {
+        &text[count..]
+    } else {
+        &[]
+    }
 }
 
 /// What stands behind a byte, where it stands first.

@@ -4,7 +4,8 @@ use Rattle.std.proofs.lemmas.Bool.{cases_lt, cases_Bool}
 use Rattle.std.proofs.lemmas.Bool.Decides.{when_true, when_false}
 use Rattle.std.proofs.lemmas.List.{length-append, length-take, length-take-le, take-take, take_all, drop_all, drop_more, take-append-drop}
 use Rattle.std.specs.Str.Lines.{strip_carriage_return}
-use Rattle.smil_outside.specs.declared.line.TheConstants.{LINE_BYTES, INPUT_BYTES}
+use Rattle.smil_outside.specs.declared.line.TheConstants.{INPUT_BYTES}
+use Rattle.smil_model.specs.declared.limits.TheConstants.{LINE_BYTES}
 use Rattle.smil_outside.specs.declared.line.Line.{Line}
 use Rattle.smil_outside.specs.declared.line.Line.TheVariants.{Bytes, LongLine}
 use Rattle.smil_outside.specs.declared.line.Ending.TheVariants as ending

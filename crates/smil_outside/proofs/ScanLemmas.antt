@@ -4,7 +4,8 @@ use Rattle.std.proofs.Math.Seq.{take-append-add}
 use Rattle.std.proofs.lemmas.Bool.{cases_lt}
 use Rattle.std.proofs.lemmas.List.{append-nil, length-append, length-take, length-drop, take_all, take-append-drop, get_or_append_left, get_or-append_right, get_or-take, get_or-drop}
 use Rattle.std.specs.Io.KnownBytes.{Consumes, Keeps}
-use Rattle.smil_outside.specs.declared.line.TheConstants.{LINE_BYTES, INPUT_BYTES}
+use Rattle.smil_outside.specs.declared.line.TheConstants.{INPUT_BYTES}
+use Rattle.smil_model.specs.declared.limits.TheConstants.{LINE_BYTES}
 use Rattle.smil_outside.specs.Lines.{line_feed, HasNoLineFeed}
 use Rattle.smil_outside.specs.Reading.{within_limit}
 use Rattle.smil_outside.specs.Scan.{Scans, Stops, IsCutFront}

@@ -1,6 +1,7 @@
 -- What the answers of a reader say together: they are the lines of the bytes that were taken.
 use Rattle.std.specs.Prelude.{◌≡◌, ℕ, ◌<◌, ◌≤◌, List, [], ◌∷◌, ◌++◌, length, Option, None, Some}
-use Rattle.smil_outside.specs.declared.line.TheConstants.{LINE_BYTES, INPUT_BYTES}
+use Rattle.smil_outside.specs.declared.line.TheConstants.{INPUT_BYTES}
+use Rattle.smil_model.specs.declared.limits.TheConstants.{LINE_BYTES}
 use Rattle.smil_outside.specs.declared.line.Line.{Line}
 use Rattle.smil_outside.specs.declared.line.Line.TheVariants.{Bytes, LongLine, End, InputTooLong, ReadFault}
 use Rattle.smil_outside.specs.declared.line.Ending.{Ending}

@@ -1,7 +1,8 @@
 -- What a line reader has read, and what it answers.
 use Rattle.std.specs.Prelude.{◌≡◌, ℕ, ◌+◌, ◌-◌, ◌<◌, ◌≤◌, ◌⊎◌, List, [], ◌++◌, length, take, Option, None, Some}
 use Rattle.std.specs.Io.KnownBytes.{Consumes, IsAtEnd}
-use Rattle.smil_outside.specs.declared.line.TheConstants.{LINE_BYTES, INPUT_BYTES}
+use Rattle.smil_outside.specs.declared.line.TheConstants.{INPUT_BYTES}
+use Rattle.smil_model.specs.declared.limits.TheConstants.{LINE_BYTES}
 use Rattle.smil_outside.specs.declared.line.Line.{Line}
 use Rattle.smil_outside.specs.declared.line.Line.TheVariants.{Bytes, LongLine, End, InputTooLong, ReadFault}
 use Rattle.smil_outside.specs.declared.line.Ending.{Ending}

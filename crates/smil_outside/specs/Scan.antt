@@ -1,7 +1,8 @@
 -- What a reader holds, and how it looks for the end of a line.
 use Rattle.std.specs.Prelude.{◌≡◌, ◌≢◌, ℕ, ◌+◌, ◌<◌, ◌≤◌, List, [], ◌++◌, length, take, slice_index, Option, MatchBool}
 use Rattle.std.specs.Io.KnownBytes.{Consumes, IsAtEnd}
-use Rattle.smil_outside.specs.declared.line.TheConstants.{LINE_BYTES, INPUT_BYTES}
+use Rattle.smil_outside.specs.declared.line.TheConstants.{INPUT_BYTES}
+use Rattle.smil_model.specs.declared.limits.TheConstants.{LINE_BYTES}
 use Rattle.smil_outside.specs.declared.scan.Scan.{Scan}
 use Rattle.smil_outside.specs.declared.scan.Stop.{Stop}
 use Rattle.smil_outside.specs.declared.scan.Stop.TheVariants.{LineFeed, InputEnd, InputTooLong, Fault}

@@ -17,11 +17,12 @@ mod tests;
 mod window;
 
 pub use failed::Failed;
-pub use line::{INPUT_BYTES, LINE_BYTES, Line};
+pub use line::{INPUT_BYTES, Line};
 pub use line_reader::LineReader;
 pub use mem_sink::MemSink;
 pub use mem_source::MemSource;
 pub use sink::{Sink, write_all};
+pub use smil_model::LINE_BYTES;
 pub use source::Source;
 pub use std_sink::StdSink;
 pub use std_source::StdSource;

@@ -1,8 +1,5 @@
-// The answers of a line reader, and its limits.
+// The answers of a line reader, and the limit of its input.
 ghost use Rattle.std.specs.Prelude.{◌≡◌};
-
-/// The most bytes that a line may have, without its line feed and the carriage return before it.
-pub const LINE_BYTES: usize = 4_096;
 
 /// The most bytes that an input may have.
 pub const INPUT_BYTES: usize = 67_108_864;

@@ -3,10 +3,11 @@ ghost use Rattle.std.specs.Prelude.{◌≡◌, ◌≢◌, ◌⊎◌, ◌+◌, �
 ghost use Rattle.std.specs.Str.Lines.{strip_carriage_return};
 ghost use Rattle.smil_outside.specs.Faults.{HasRisen};
 
-use crate::line::{Ending, INPUT_BYTES, LINE_BYTES, Line};
+use crate::line::{Ending, INPUT_BYTES, Line};
 use crate::scan::{Stop, seek_line_end};
 use crate::source::Source;
 use crate::window::Window;
+use smil_model::LINE_BYTES;
 use std::alloc::{AllocError, Global};
 use std::marker::Model;
 

@@ -4,9 +4,10 @@ ghost use Rattle.smil_outside.specs.Faults.{HasRisen};
 ghost use Rattle.smil_outside.specs.Scan.{Scans};
 
 use crate::failed::Failed;
-use crate::line::{INPUT_BYTES, LINE_BYTES};
+use crate::line::INPUT_BYTES;
 use crate::source::Source;
 use crate::window::{WINDOW_BYTES, Window};
+use smil_model::LINE_BYTES;
 
 // Where a scan stopped.
 #[derive(Clone, Copy)]

@@ -66,29 +66,31 @@ fn whole_lines_come_before_a_fault(rt: HostRuntime) -> Result<(), Fail> {
     expect_lines(&rt, b"a\nb\nrest\n", 6, &[2], "1:a\n2:b\nReadFault")
 }
 
-#[test]
-fn long_lines(rt: HostRuntime) -> Result<(), Fail> {
-    for (len, end, wanted) in [
-        (4096, "\n", Line::Bytes),
-        (4096, "\r\n", Line::Bytes),
-        (4096, "\r", Line::LongLine),
-        (4097, "\n", Line::LongLine),
-        (4097, "", Line::LongLine),
-        (200_000, "\r\nnext", Line::LongLine),
-    ] {
-        for chunk in [1, 70_000] {
-            let mut bytes = vec![in rt.alloc(); b'x'; len]?;
-            bytes.extend_from_slice(end.as_bytes())?;
-            let mut source = MemSource::new(rt.alloc(), &bytes, chunk, &[])?;
-            let mut reader = LineReader::new(rt.alloc())?;
-            assert_eq!(rt; reader.next(&mut source), wanted, "{len} and {end:?}");
-            assert_eq!(rt; reader.number(), 1);
-        }
-    }
+// Reads the first line of so many bytes and this end.
+fn expect_first<R: AllocGlobal + Abort>(
+    rt: &R,
+    len: usize,
+    end: &str,
+    wanted: Line,
+) -> Result<(), Fail> {
+    let mut bytes = vec![in rt.alloc(); b'x'; len]?;
+    bytes.extend_from_slice(end.as_bytes())?;
+    let mut source = MemSource::new(rt.alloc(), &bytes, 70_000, &[])?;
+    let mut reader = LineReader::new(rt.alloc())?;
+    assert_eq!(rt; reader.next(&mut source), wanted, "{len} and {end:?}");
+    assert_eq!(rt; reader.number(), 1);
     Ok(())
 }
 
-// Gives lines of 64 bytes, until so many bytes are given.
+#[test]
+fn long_lines(rt: HostRuntime) -> Result<(), Fail> {
+    expect_first(&rt, 16_384, "\r\n", Line::Bytes)?;
+    expect_first(&rt, 16_385, "\n", Line::LongLine)?;
+    expect_first(&rt, 16_385, "", Line::LongLine)?;
+    expect_first(&rt, 200_000, "\r\nnext", Line::LongLine)
+}
+
+// Gives lines of 64 bytes, until so many bytes are given, or until there is room for less than 16.
 #[derive(Drop)]
 struct Lines {
     left: usize,
@@ -102,6 +104,9 @@ impl Source for Lines {
     ghost faults = { λ _. 0 };
 
     fn read(&mut self, buf: &mut [u8]) -> Result<usize, Failed> {
+        if buf.len() < 16 {
+            return Ok(0);
+        }
         let n = buf.len().min(self.left);
         for (place, byte) in buf.iter_mut().enumerate() {
             *byte = if place % 64 == 63 { b'\n' } else { b'x' };
@@ -143,7 +148,7 @@ fn writes_all_or_a_part(rt: HostRuntime) -> Result<(), Fail> {
     Ok(())
 }
 
-// A reader and a writer of one byte at a time, which fail once nothing is left.
+// A reader and a writer of one byte at a time, which fail once nothing is left: a write of the last byte at its flush.
 #[derive(Drop)]
 struct Pipe {
     left: usize,
@@ -171,6 +176,9 @@ impl Write for Pipe {
     }
 
     fn flush(&mut self) -> io::Result<()> {
+        if self.left == 0 {
+            return Err(Error::other("nothing is left"));
+        }
         Ok(())
     }
 }
@@ -182,6 +190,7 @@ fn over_std(rt: HostRuntime) -> Result<(), Fail> {
     assert_eq!(rt; found.as_slice(), b"1:\n2:\nReadFault".as_slice());
     let mut sink = StdSink::new(Pipe { left: 3 });
     assert_eq!(rt; write_all(&mut sink, b"ab"), Ok(()));
-    assert_eq!(rt; write_all(&mut sink, b"cd"), Err(Failed));
+    assert_eq!(rt; write_all(&mut sink, b"c"), Err(Failed));
+    assert_eq!(rt; write_all(&mut sink, b"d"), Err(Failed));
     Ok(())
 }

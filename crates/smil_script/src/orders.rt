@@ -38,6 +38,16 @@ pub fn order(alloc: Global, verb: &[u8], line: &Word<'_>) -> Result<Order, Refus
         verbs::history(alloc, line)
     } else if is(verb, b"text") {
         verbs::ended(line, Order::Text)
+    } else if is(verb, b"key") {
+        verbs::key(line)
+    } else if is(verb, b"save") {
+        verbs::ended(line, Order::Save)
+    } else if is(verb, b"values") {
+        verbs::ended(line, Order::Values)
+    } else if is(verb, b"stack") {
+        verbs::stack(alloc, line)
+    } else if is(verb, b"diary") {
+        verbs::ended(line, Order::Diary)
     } else {
         Err(Refusal::NotACommand)
     }

@@ -1,7 +1,7 @@
 //! Orders, each behind its verb.
 
 ghost use Rattle.std.specs.Prelude.{◌≡◌, ◌<◌, ◌+◌, ℤ, true, IfOk, IfSome, option_map, length};
-ghost use Rattle.smil_grammar.specs.Scripts.{with_clock, with_who, event_line, unset_line, set_line, insert_line, finish, given as given_reading, at_end, quoted as quoted_of};
+ghost use Rattle.smil_grammar.specs.Scripts.{with_clock, with_who, event_line, key_line, stack_line, unset_line, set_line, insert_line, finish, given as given_reading, at_end, quoted as quoted_of};
 ghost use Rattle.smil_model.specs.declared.order.Order.{Order as OrderValue};
 ghost use Rattle.smil_model.specs.declared.order.Order.TheVariants as order_value;
 ghost use Rattle.smil_model.specs.document.Values.{is_clock};
@@ -11,7 +11,7 @@ ghost use Rattle.smil_script.specs.Gives.{GivesRead, GivesWho, with_value};
 use super::word::{Word, is_spaces};
 use super::words;
 use smil_clock_value::clock_within;
-use smil_lexis::texts::{behind, cut};
+use smil_lexis::texts::{behind, cut, is_key};
 use smil_model::{Order, Refusal, Who};
 use std::alloc::Global;
 
@@ -182,6 +182,29 @@ pub fn insert(alloc: Global, line: &Word<'_>) -> Result<Order, Refusal>
         node: words::own(alloc, node.text)?,
         column: column(node.place),
     })
+}
+
+/// `key`: one byte, which is an access key.
+pub fn key(line: &Word<'_>) -> Result<Order, Refusal>
+    ensures reading { result ≡ finish (key_line line.now) }
+    ensures given { IfOk result IsGiven }
+{
+    let (word, rest) = line.first();
+    match word.text {
+        [key] if is_key(*key) => ended(&rest, Order::Key { key: *key }),
+        _ => Err(Refusal::NotACommand),
+    }
+}
+
+/// `stack`: an element and an attribute's name.
+pub fn stack(alloc: Global, line: &Word<'_>) -> Result<Order, Refusal>
+    ensures reading { GivesRead result (finish (with_who stack_line line.now)) }
+    ensures given { IfOk result IsGiven }
+{
+    let (who, line) = named(alloc, line)?;
+    let (word, rest) = line.first();
+    let attr = words::attribute(alloc, word.text)?;
+    ended(&rest, Order::Stack { who, attr })
 }
 
 /// `remove`: an element.

@@ -54,10 +54,7 @@ pub fn own(alloc: Global, text: &[u8]) -> Result<Bytes, Refusal>
     ensures same { IfOk result (λ bytes. bytes ≡ text.now) }
     ensures memory { IfErr result (λ refusal. refusal ≡ Memory) }
 {
-    match copied(alloc, text) {
-        Ok(bytes) => Ok(bytes),
-        Err(_) => Err(Refusal::Memory),
-    }
+    Ok(copied(alloc, text)?)
 }
 
 // An id that is all of a word.

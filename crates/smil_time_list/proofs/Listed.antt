@@ -10,7 +10,7 @@ use Rattle.std.proofs.lemmas.List.Elements.{All-from_recursion, recursion_from_A
 use Rattle.std.proofs.lemmas.List.Splits.{slice_split_none, slice_split_at, length-slice_split}
 use Rattle.std.proofs.lemmas.List.Sums.{suffix_len_is}
 use Rattle.smil_model.specs.declared.document.Item.{Item}
-use Rattle.smil_model.specs.declared.document.Item.TheVariants.{Offset, Sync, Event, Repeat, Indefinite}
+use Rattle.smil_model.specs.declared.document.Item.TheVariants.{Offset, Sync, Event, Repeat, Key, Indefinite}
 use Rattle.smil_model.specs.declared.document.Edge.TheVariants.{Begin, End}
 use Rattle.smil_grammar.specs.declared.fault.ItemFault.{ItemFault}
 use Rattle.smil_grammar.specs.declared.fault.ItemFault.TheVariants as fault
@@ -18,6 +18,7 @@ use Rattle.smil_grammar.specs.declared.fault.ListFault.{ListFault}
 use Rattle.smil_grammar.specs.declared.fault.ListFault.TheVariants.{TooManyItems}
 use Rattle.smil_grammar.specs.Texts.{is_white, trim_front, trim}
 use Rattle.smil_grammar.specs.Words.{is_of_name, is_of_id}
+use Rattle.smil_model.specs.document.Words.{is_key}
 use Rattle.smil_grammar.specs.Results.{◌>>=◌}
 use Rattle.smil_grammar.specs.Clock.{clock_text}
 use Rattle.smil_grammar.specs.Items.{item_of, IsItem}
@@ -42,6 +43,9 @@ name_ink b h = grind (arith, nat_tests)
 
 digit_ink : (b : ℕ) → is_ascii_digit b ≡ true → is_ink b ≡ true
 digit_ink b h = grind (arith, nat_tests)
+
+key_ink : (b : ℕ) → is_key b ≡ true → is_ink b ≡ true
+key_ink b h = grind (arith, nat_tests)
 
 number_ink : (n : ℕ) → n ≤ 1_000_000_000_000 → Passes is_ink (decimal n)
 number_ink n le = passes_weaker is_ascii_digit is_ink digit_ink (decimal n) (decimal_passes n (omega arith))
@@ -68,6 +72,11 @@ item_ink (Sync who Begin offset) h = id_inked who _ h.0 (refl, (refl, (refl, (re
 item_ink (Sync who End offset) h = id_inked who _ h.0 (refl, (refl, (refl, (refl, tail_ink offset h.1))))
 item_ink (Event who name offset) h = who_inked who _ h.0 (passes_on is_ink name _ (passes_weaker is_of_name is_ink name_ink name (all_of_name name h.1.word)) (tail_ink offset h.2))
 item_ink (Repeat who n offset) h = who_inked who _ h.0 (passes_on is_ink (codes "repeat(" ++ decimal n ++ codes ")") (tail_text offset) (passes_on is_ink (codes "repeat(" ++ decimal n) (codes ")") (refl, (refl, (refl, (refl, (refl, (refl, (refl, number_ink n (omega arith)))))))) (refl, tt)) (tail_ink offset h.3))
+item_ink (Key key offset) h =
+    passes_on is_ink (codes "accesskey(" ++ (key ∷ []) ++ codes ")") (tail_text offset)
+    (passes_on is_ink (codes "accesskey(" ++ (key ∷ [])) (codes ")")
+    (passes_on is_ink (codes "accesskey(") (key ∷ []) (refl, (refl, (refl, (refl, (refl, (refl, (refl, (refl, (refl, (refl, tt)))))))))) (key_ink key h.0, tt)) (refl, tt))
+    (tail_ink offset h.1)
 item_ink Indefinite h = (refl, (refl, (refl, (refl, (refl, (refl, (refl, (refl, (refl, (refl, tt))))))))))
 
 ink_no_white : (b : ℕ) → is_ink b ≡ true → is_white b ≡ false

@@ -6,7 +6,7 @@ use Rattle.std.specs.Option.{ok_or}
 use Rattle.std.proofs.lemmas.Bool.{cond_both, ltb-false, ltb-true, and_parts}
 use Rattle.std.proofs.lemmas.Bool.Decides.{nat_tests}
 use Rattle.smil_model.specs.declared.document.Item.{Item}
-use Rattle.smil_model.specs.declared.document.Item.TheVariants.{Offset, Sync, Event, Repeat, Indefinite}
+use Rattle.smil_model.specs.declared.document.Item.TheVariants.{Offset, Sync, Event, Repeat, Key, Indefinite}
 use Rattle.smil_model.specs.declared.document.Edge.{Edge}
 use Rattle.smil_model.specs.declared.document.Edge.TheVariants.{Begin, End}
 use Rattle.smil_grammar.specs.declared.fault.ItemFault.{ItemFault}
@@ -15,8 +15,9 @@ use Rattle.smil_grammar.specs.Texts.{◌>>=◌, cut_at, trim_front, behind, poin
 use Rattle.smil_grammar.specs.Words.{is_of_name, is_of_id, name_len, id_len, unescaped}
 use Rattle.smil_grammar.specs.Numbers.{number_after, number_of}
 use Rattle.smil_grammar.specs.Clock.{clock_of, within, clock_within}
-use Rattle.smil_grammar.specs.Items.{is_sign, with_sign, signed_of, offset_of, tail_of, with_tail, is_count, count_of, repeat_of, sync_of, word_of, what_of, of_element, is_left_out, subject_of, named_of, item_of, IsItem}
+use Rattle.smil_grammar.specs.Items.{is_sign, with_sign, signed_of, offset_of, tail_of, with_tail, is_count, count_of, repeat_of, sync_of, word_of, what_of, of_element, is_left_out, is_keyed, key_of, subject_of, named_of, item_of, IsItem}
 use Rattle.smil_grammar.specs.Spellings.{IsWithin, CanWrite}
+use Rattle.smil_model.specs.document.Words.{is_key}
 use Rattle.smil_lexis.proofs.Digits.{nine_below}
 use Rattle.smil_lexis.proofs.Words.{IsWord, name_word, id_word}
 
@@ -37,6 +38,7 @@ Printable (Offset offset) = IsWithin offset
 Printable (Sync who edge offset) = (IsWord is_of_id who) × (IsWithin offset)
 Printable (Event who name offset) = (IsWho who) × (IsEventName name) × (IsWithin offset)
 Printable (Repeat who n offset) = (IsWho who) × (0 < n) × (n < 1_000_000_000) × (IsWithin offset)
+Printable (Key key offset) = (is_key key ≡ true) × (IsWithin offset)
 Printable Indefinite = Unit {0}
 
 -- numbers
@@ -82,7 +84,7 @@ grows n (b ∷ digits) = cond_both (is_ascii_digit b) (number_after (n * 10 + (b
     weaker None low high le h = tt
     weaker (Some m) low high le h = omega arith
 
-abbrev IsCounted : ℕ → Type 0
+abbrev pub IsCounted : ℕ → Type 0
 IsCounted n = (0 < n) × (n < 1_000_000_000)
 
 count_both : (o : Option ℕ) → IfSome o (λ m. 1 ≤ m) → IfSome o (λ m. m < 1_000_000_000) → IfSome o IsCounted
@@ -105,7 +107,7 @@ counted (b ∷ digits) h =
     let both = and_parts (not (eqb b 48)) (ltb (length digits) 9) h in
     count_both (number_of (b ∷ digits)) (at_least_one b digits both.0) (nine_below (b ∷ digits) (omega (arith, ltb-true _ _ both.1)))
 
-count_small : (digits : List ℕ) → IfSome (count_of digits) IsCounted
+pub count_small : (digits : List ℕ) → IfSome (count_of digits) IsCounted
 count_small digits = cond_both (is_count digits) (number_of digits) None (λ o. IfSome o IsCounted) (λ e. counted digits e) (λ e. tt)
 
 -- items, from their tails to the whole
@@ -169,11 +171,17 @@ subject_gives : (text : List ℕ) (rest : Option (List ℕ)) → eqb (id_len tru
 subject_gives text None some = or_bad (what_of None text) (what_reads None text tt)
 subject_gives text (Some rest) some = element_gives (unescaped (take (id_len true text) text)) rest (id_word text (positive (id_len true text) some))
 
+key_reads : (text : List ℕ) → Reads (key_of text)
+key_reads [] = tt
+key_reads (b ∷ text) =
+    cond_both (is_key b) _ None Reads (λ e. then (behind 41 text) (λ _. Unit {0}) (with_tail (Key b)) (any (behind 41 text)) (λ tail _. with_tail_reads (Key b) (λ offset within. (e, within)) tail)) (λ e. tt)
+
 named_gives : (text : List ℕ) → Gives (named_of text)
 named_gives text =
     cond_both (is_left_out text) (Err Unsupported) _ Gives (λ e. tt) (λ e.
+    cond_both (is_keyed text) (ok_or (key_of (drop 10 text)) Bad) _ Gives (λ e. or_bad (key_of (drop 10 text)) (key_reads (drop 10 text))) (λ e.
     cond_both (bytes_eq text (codes "indefinite")) (Ok Indefinite) _ Gives (λ e. tt) (λ e.
-    cond_both (eqb (id_len true text) 0) (Err Bad) _ Gives (λ e. tt) (λ some. subject_gives text (behind point (drop (id_len true text) text)) some)))
+    cond_both (eqb (id_len true text) 0) (Err Bad) _ Gives (λ e. tt) (λ some. subject_gives text (behind point (drop (id_len true text) text)) some))))
 
 offset_gives : (o : Option ℤ) → IfSome o IsWithin → Gives (ok_or (option_map Offset o) Bad)
 offset_gives None h = tt
@@ -191,4 +199,5 @@ can_write (Offset offset) h = h
 can_write (Sync who edge offset) h = h.1
 can_write (Event who name offset) h = h.2
 can_write (Repeat who n offset) h = h.3
+can_write (Key key offset) h = h.1
 can_write Indefinite h = tt

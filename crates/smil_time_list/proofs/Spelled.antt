@@ -10,14 +10,14 @@ use Rattle.std.proofs.lemmas.Bool.Decides.{nat_tests}
 use Rattle.std.proofs.lemmas.List.{append-nil, take_at, drop_at}
 use Rattle.std.proofs.lemmas.Fmt.{first_decimal, length-decimal-le, decimal_nonempty}
 use Rattle.smil_model.specs.declared.document.Item.{Item}
-use Rattle.smil_model.specs.declared.document.Item.TheVariants.{Offset, Sync, Event, Repeat, Indefinite}
+use Rattle.smil_model.specs.declared.document.Item.TheVariants.{Offset, Sync, Event, Repeat, Key, Indefinite}
 use Rattle.smil_model.specs.declared.document.Edge.{Edge}
 use Rattle.smil_model.specs.declared.document.Edge.TheVariants.{Begin, End}
 use Rattle.smil_grammar.specs.declared.fault.ItemFault.TheVariants.{Bad}
 use Rattle.smil_grammar.specs.Texts.{is_white, cut_at, trim_front, behind, point}
 use Rattle.smil_grammar.specs.Words.{is_initial, is_of_name, is_dash, is_of_id, escaped_len, id_len}
 use Rattle.smil_grammar.specs.Clock.{clock_within, clock_text}
-use Rattle.smil_grammar.specs.Items.{is_sign, signed_of, tail_of, is_count, count_of, repeat_of, word_of, what_of, of_element, is_left_out, subject_of, named_of, item_of}
+use Rattle.smil_grammar.specs.Items.{is_sign, signed_of, tail_of, is_count, count_of, repeat_of, word_of, what_of, of_element, is_left_out, is_keyed, subject_of, named_of, item_of}
 use Rattle.smil_grammar.specs.Spellings.{escaped, offset_text, tail_text, edge_text, item_text, IsWithin}
 use Rattle.smil_lexis.proofs.Fronts.{Passes, passes_weaker, cut_front}
 use Rattle.smil_lexis.proofs.Decimals.{decimal_passes, number_of_decimal}
@@ -128,7 +128,11 @@ differs (w ∷ word) (c ∷ front) b rest h k = and_right _ _ (differs word fron
 
 left_in : (front rest : List ℕ) → Passes is_shut front → Ends rest → is_left_out (front ++ rest) ≡ false
 left_in front rest h k =
-    rw (not_called (codes "wallclock(") front rest refl h k, not_called (codes "accesskey(") front rest refl h k, not_called (codes "accessKey(") front rest refl h k, not_called (codes "id(") front rest refl h k) refl
+    rw (not_called (codes "wallclock(") front rest refl h k, not_called (codes "id(") front rest refl h k) refl
+
+no_key_in : (front rest : List ℕ) → Passes is_shut front → Ends rest → is_keyed (front ++ rest) ≡ false
+no_key_in front rest h k =
+    rw (not_called (codes "accesskey(") front rest refl h k, not_called (codes "accessKey(") front rest refl h k) refl
 
 -- an id as it is written in a reference
 
@@ -195,7 +199,7 @@ counted : (digits : List ℕ) → 48 < get_or digits 0 0 → 0 < length digits �
 counted [] large some few = absurd (omega arith)
 counted (b ∷ digits) large some few = grind (arith, nat_tests)
 
-count_read : (n : ℕ) → 0 < n → n < 1_000_000_000 → count_of (decimal n) ≡ Some n
+pub count_read : (n : ℕ) → 0 < n → n < 1_000_000_000 → count_of (decimal n) ≡ Some n
 count_read n some few = rw (counted (decimal n) (first_decimal n some (omega arith)) (decimal_nonempty n (omega arith)) (length-decimal-le 9 n (omega arith) few (omega arith))) (number_of_decimal n (omega arith))
 
 digit_no_close : (b : ℕ) → is_ascii_digit b ≡ true → not (eqb b 41) ≡ true
@@ -221,7 +225,8 @@ reference_read who rest h =
     let other : bytes_eq (escaped who ++ 46 ∷ rest) (codes "indefinite") ≡ false = differs (codes "indefinite") (escaped who) 46 rest (refl, (refl, (refl, (refl, (refl, (refl, (refl, (refl, (refl, (refl, tt)))))))))) refl in
     let len : id_len true (escaped who ++ 46 ∷ rest) ≡ length (escaped who) = id_len_of who (46 ∷ rest) h refl in
     let named : subject_of (escaped who ++ 46 ∷ rest) (Some rest) ≡ of_element who rest = rw (len, take_at (escaped who) (46 ∷ rest) (length (escaped who)) refl, read_again who h) refl in
-    reference_item who (46 ∷ rest) h ∙ rw (plain, other, len, some_escaped who h, drop_at (escaped who) (46 ∷ rest) (length (escaped who)) refl) named
+    let keyless : is_keyed (escaped who ++ 46 ∷ rest) ≡ false = no_key_in (escaped who) (46 ∷ rest) (escaped_passes is_shut of_id_shut refl who (all_of_id who h)) (refl, refl) in
+    reference_item who (46 ∷ rest) h ∙ rw (plain, keyless, other, len, some_escaped who h, drop_at (escaped who) (46 ∷ rest) (length (escaped who)) refl) named
 
 name_shut : (b : ℕ) → is_of_name b ≡ true → is_shut b ≡ true
 name_shut b h = of_id_shut b (name_of_id b h)
@@ -238,10 +243,11 @@ name_item (b ∷ bytes) rest h = named_item b (bytes ++ rest) h.0
 event_read : (name : List ℕ) (offset : ℤ) → IsEventName name → IsWithin offset → item_of (name ++ tail_text offset) ≡ Ok (Event None name offset)
 event_read name offset h small =
     let plain : is_left_out (name ++ tail_text offset) ≡ false = left_in name (tail_text offset) (passes_weaker is_of_name is_shut name_shut name (all_of_name name h.word)) (tail_ends offset) in
+    let keyless : is_keyed (name ++ tail_text offset) ≡ false = no_key_in name (tail_text offset) (passes_weaker is_of_name is_shut name_shut name (all_of_name name h.word)) (tail_ends offset) in
     let same : escaped name ≡ name = name_plain name (all_of_name name h.word) in
     let len : id_len true (name ++ tail_text offset) ≡ length name = subst (λ (t : List ℕ). id_len true (t ++ tail_text offset) ≡ length t) same (id_len_of name (tail_text offset) (name_as_id name h.word) (no_id offset)) in
     name_item name (tail_text offset) h.word
-    ∙ rw (plain, other_tail name offset h.not_indefinite, len, some_word is_of_name name h.word, drop_at name (tail_text offset) (length name) refl, no_point offset) (or_bad (event_at None name offset h small))
+    ∙ rw (plain, keyless, other_tail name offset h.not_indefinite, len, some_word is_of_name name h.word, drop_at name (tail_text offset) (length name) refl, no_point offset) (or_bad (event_at None name offset h small))
 
 name_kept : (who name : List ℕ) (offset : ℤ) → IsEventName name → of_element who (name ++ tail_text offset) ≡ ok_or (what_of (Some who) (name ++ tail_text offset)) Bad
 name_kept who name offset h = rw (not_called (codes "marker(") name (tail_text offset) refl (passes_weaker is_of_name is_shut name_shut name (all_of_name name h.word)) (tail_ends offset)) refl
@@ -264,4 +270,11 @@ item_read (Repeat None n offset) h = ap item_of (regroup (codes "repeat(") (deci
 item_read (Repeat (Some who) n offset) h =
     ap item_of (append_assoc (escaped who) (46 ∷ []) _ ∙ ap (λ (t : List ℕ). escaped who ++ 46 ∷ t) (regroup (codes "repeat(") (decimal n) (codes ")") (tail_text offset)))
     ∙ reference_read who (codes "repeat(" ++ (decimal n ++ 41 ∷ tail_text offset)) h.0 ∙ repeat_kept who (decimal n ++ 41 ∷ tail_text offset) ∙ or_bad (repeat_at (Some who) n offset h.1 h.2 h.3)
+item_read (Key key offset) h =
+    ap item_of (regroup (codes "accesskey(") (key ∷ []) (codes ")") (tail_text offset)) ∙ or_bad (rw (h.0, tail_read offset h.1) refl)
 item_read Indefinite h = refl
+
+-- three texts, appended one after another
+pub in_a_row : (before one two three a b c : List ℕ) → one ≡ before ++ a → two ≡ one ++ b → three ≡ two ++ c → three ≡ before ++ (a ++ b ++ c)
+in_a_row before one two three a b c first second third =
+    third ∙ ap (λ t. t ++ c) (second ∙ ap (λ t. t ++ b) first) ∙ ap (λ t. t ++ c) (append_assoc before a b) ∙ append_assoc before (a ++ b) c

@@ -1,16 +1,16 @@
 //! Items of begin and end lists.
 
-ghost use Rattle.std.specs.Prelude.{◌≡◌, ℕ, List, take, true, option_map};
+ghost use Rattle.std.specs.Prelude.{◌≡◌, ℕ, List, take, drop, true, option_map};
 ghost use Rattle.std.specs.Option.{ok_or};
 ghost use Rattle.smil_grammar.specs.declared.fault.ItemFault.TheVariants.{Bad};
 ghost use Rattle.smil_grammar.specs.Words.{id_len};
 ghost use Rattle.smil_model.specs.declared.document.Item.TheVariants.{Event};
-ghost use Rattle.smil_grammar.specs.Items.{item_of, GivesItem, sync_of, repeat_of, word_of, what_of, of_element as item_of_element, named_of, subject_of, with_tail, is_left_out as is_left_out_text};
+ghost use Rattle.smil_grammar.specs.Items.{item_of, GivesItem, sync_of, repeat_of, word_of, what_of, of_element as item_of_element, named_of, subject_of, with_tail, key_of, is_keyed as is_keyed_text, is_left_out as is_left_out_text};
 
 use super::offsets::{count, is_sign, offset, tail};
 use smil_grammar::ItemFault;
 use smil_lexis::runs;
-use smil_lexis::texts::{behind, copied, cut, is, unescaped};
+use smil_lexis::texts::{behind, copied, cut, is, is_key, past, unescaped};
 use smil_model::{Bytes, Edge, Item};
 use std::alloc::Global;
 
@@ -76,10 +76,26 @@ fn of_element(alloc: Global, who: Bytes, text: &[u8]) -> Result<Item, ItemFault>
 fn is_left_out(text: &[u8]) -> bool
     ensures { result ≡ is_left_out_text text.now }
 {
-    text.starts_with(b"wallclock(")
-        || text.starts_with(b"accesskey(")
-        || text.starts_with(b"accessKey(")
-        || text.starts_with(b"id(")
+    text.starts_with(b"wallclock(") || text.starts_with(b"id(")
+}
+
+fn is_keyed(text: &[u8]) -> bool
+    ensures { result ≡ is_keyed_text text.now }
+{
+    text.starts_with(b"accesskey(") || text.starts_with(b"accessKey(")
+}
+
+// The text stands behind the opening parenthesis.
+fn key(text: &[u8]) -> Option<Item>
+    ensures { result ≡ key_of text.now }
+{
+    match text {
+        [key, rest @ ..] if is_key(*key) => {
+            let offset = tail(behind(rest, b')')?)?;
+            Some(Item::Key { key: *key, offset })
+        }
+        _ => None,
+    }
 }
 
 // `id` is the longest id at the front of the text, and `rest` stands behind its point, where it has one.
@@ -98,6 +114,9 @@ fn named(alloc: Global, text: &[u8]) -> Result<Item, ItemFault>
 {
     if is_left_out(text) {
         return Err(ItemFault::Unsupported);
+    }
+    if is_keyed(text) {
+        return key(past(text, 10)).ok_or(ItemFault::Bad);
     }
     if is(text, b"indefinite") {
         return Ok(Item::Indefinite);

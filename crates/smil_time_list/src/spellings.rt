@@ -1,7 +1,8 @@
 //! Begin and end lists, as they are printed.
 
-ghost use Rattle.std.specs.Prelude.{◌≡◌, ℕ, ◌≤◌, ◌++◌, ℤ, pos, ◌≤ℤ◌, nat_abs, List, length, All, Some, OnOk, OnErr};
-ghost use Rattle.smil_model.specs.declared.document.Item.TheVariants.{Sync, Event, Repeat};
+ghost use Rattle.std.specs.Prelude.{◌≡◌, ℕ, ◌≤◌, ◌++◌, ℤ, pos, ◌≤ℤ◌, nat_abs, codes, List, [], ◌∷◌, length, All, Some, OnOk, OnErr};
+ghost use Rattle.smil_model.specs.declared.times.TheConstants.{HORIZON};
+ghost use Rattle.smil_model.specs.declared.document.Item.TheVariants.{Sync, Event, Repeat, Key};
 ghost use Rattle.smil_grammar.specs.Clock.{clock_text};
 ghost use Rattle.smil_grammar.specs.Spellings.{escaped, offset_text, tail_text, of_who, edge_text, item_text, list_text, IsWithin, CanWrite, Begins};
 ghost use Rattle.smil_time_list.specs.Joined.{next_text};
@@ -27,7 +28,7 @@ fn put_escaped(id: &[u8], out: &mut Bytes) -> Result<(), AllocError>
 
 fn put_signed(sign: &[u8], offset: i64, out: &mut Bytes) -> Result<(), AllocError>
     requires low { pos 0 ≤ℤ offset }
-    requires high { offset ≤ℤ pos 1_000_000_000_000 }
+    requires high { offset ≤ℤ HORIZON }
     ensures ok { OnOk result (out.new ≡ out.old ++ (sign.now ++ clock_text (nat_abs offset))) }
     ensures err { OnErr result (Begins out.old out.new) }
 {
@@ -126,6 +127,26 @@ fn put_repeat(who: &Option<Bytes>, n: u32, offset: i64, out: &mut Bytes) -> Resu
     put_tail(offset, out)
 }
 
+#[tactic(auto, using(smil_lexis::proofs::Growing::begins_on))]
+fn put_call(key: u8, out: &mut Bytes) -> Result<(), AllocError>
+    ensures ok { OnOk result (out.new ≡ out.old ++ (codes "accesskey(" ++ (key ∷ []) ++ codes ")")) }
+    ensures err { OnErr result (Begins out.old out.new) }
+{
+    append(out, b"accesskey(")?;
+    append(out, &[key])?;
+    append(out, b")")
+}
+
+#[tactic(auto, using(smil_lexis::proofs::Growing::begins_on))]
+fn put_key(key: u8, offset: i64, out: &mut Bytes) -> Result<(), AllocError>
+    requires { IsWithin offset }
+    ensures ok { OnOk result (out.new ≡ out.old ++ item_text (Key key offset)) }
+    ensures err { OnErr result (Begins out.old out.new) }
+{
+    put_call(key, out)?;
+    put_tail(offset, out)
+}
+
 fn put_item(item: &Item, out: &mut Bytes) -> Result<(), AllocError>
     requires { CanWrite item.now }
     ensures ok { OnOk result (out.new ≡ out.old ++ item_text item.now) }
@@ -136,6 +157,7 @@ fn put_item(item: &Item, out: &mut Bytes) -> Result<(), AllocError>
         Item::Sync { who, edge, offset } => put_sync(who, *edge, *offset, out),
         Item::Event { who, name, offset } => put_event(who, name, *offset, out),
         Item::Repeat { who, n, offset } => put_repeat(who, *n, *offset, out),
+        Item::Key { key, offset } => put_key(*key, *offset, out),
         Item::Indefinite => append(out, b"indefinite"),
     }
 }

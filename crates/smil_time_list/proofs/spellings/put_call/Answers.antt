@@ -1,0 +1,11 @@
+use Rattle.std.proofs.Common.{◌∙◌, ap, ◌++◌, ◌∷◌, []}
+use Rattle.std.specs.Prelude.{codes}
+use Rattle.std.proofs.lemmas.Result.{on_ok_weaker}
+use Rattle.smil_time_list.proofs.Spelled.{in_a_row}
+use Rattle.smil_time_list.proofs.spellings.put_call.Goals as goal
+
+pub returns-clause-ok : goal.returns-clause-ok
+returns-clause-ok c =
+    on_ok_weaker c.append-3.result
+    (λ last. in_a_row c.args.out.now c.append.new.out c.append-2.new.out c.append-3.new.out (codes "accesskey(") (c.args.key ∷ []) (codes ")") c.in_ok-append.ensures.ok c.in_ok-append-2.ensures.ok last)
+    c.append-3.ensures.ok
