@@ -3,14 +3,16 @@ use Rattle.std.proofs.Common.{◌≡◌, ℕ, zero, suc, ◌+◌, ◌-◌, ◌<�
 use mathlib.Core.Bool.{beq}
 use Rattle.std.specs.List.{slice_get}
 use Rattle.std.specs.Prelude.{OnOk, is_err}
+use Rattle.std.specs.List.{list_any}
+use Rattle.std.proofs.lemmas.Bool.{or_parts, ne_eqb}
 use Rattle.std.proofs.lemmas.List.Folds.{list_any-append}
 use Rattle.smil_model.specs.declared.document.Kind.{Kind}
 use Rattle.smil_model.specs.declared.document.Node.{Node}
 use Rattle.smil_grammar.specs.Attributes.{is_class}
 use Rattle.smil_grammar.specs.Results.{◌>>=◌}
-use Rattle.smil_grammar.specs.Outlines.{Outline, differ, last_of, mixes, with_line, with_lines}
-use Rattle.smil_outline.specs.Kept.{differs, serial_of, AreAlike, AreEarlier, IsKept, IsPlaced}
-use Rattle.smil_outline.specs.Steps.{with_node}
+use Rattle.smil_grammar.specs.Outlines.{Outline, no_lines, differ, last_of, mixes, with_line, with_lines, with_node}
+use Rattle.smil_model.specs.declared.limits.TheConstants.{NODES}
+use Rattle.smil_outline.specs.Kept.{differs, serial_of, is_known, AreAlike, AreKnown, IsKept, IsPlaced}
 use Rattle.smil_model.specs.declared.order.Refusal.{Refusal}
 
 -- the deepest node of a branch
@@ -23,14 +25,6 @@ deepest_is node [] = refl
 deepest_is node (child ∷ below) =
     let place : length (node ∷ child ∷ below) - 1 ≡ suc (length (child ∷ below) - 1) = omega arith in
     ap (slice_get (node ∷ child ∷ below)) place ∙ deepest_is child below
-
-rising : (nodes : List Node) (node : ℕ × Kind) (below : List (ℕ × Kind)) (d : ℕ) → AreAlike nodes (node ∷ below) → node.0 ≤ (deepest node (take d below)).0
-rising nodes node below zero h = omega arith
-rising nodes node [] (suc d) h = omega arith
-rising nodes node (child ∷ below) (suc d) h =
-    let up : node.0 < child.0 = h.0.rising in
-    let more : child.0 ≤ (deepest child (take d below)).0 = rising nodes child below d h.1 in
-    omega arith
 
 -- one more node, as a child and as none
 abbrev mixes_one : Node → ℕ → Kind → Bool
@@ -63,9 +57,6 @@ like_last : (last : Option (ℕ × Kind)) (kind other : Kind) → differs last k
 like_last None kind other h = refl
 like_last (Some last) kind other h = same_class (is_class last.1) (is_class kind) (is_class other) h
 
-apart : (a b : ℕ) → b < a → eqb a b ≡ false
-apart a b h = grind arith
-
 equal : (a b : ℕ) → a ≡ b → eqb a b ≡ true
 equal a b h = grind arith
 
@@ -77,71 +68,115 @@ one_child nodes n node last kind parent alike unmixed =
     ∙ ap (λ b. b || differ (is_class n.kind) (is_class kind)) (alike kind)
     ∙ like_last last n.kind kind (sym (alike n.kind) ∙ unmixed)
 
-new_is_alike : (nodes : List Node) (n : Node) → AreEarlier nodes → n.parent ≤ length nodes → n.serial ≡ length nodes + 1 → AreAlike (nodes ++ n ∷ []) ((n.serial, n.kind) ∷ [])
+-- ---- serials that are known
+
+pub other_serial : (nodes : List Node) (a b : ℕ) → is_known nodes a ≡ false → is_known nodes b ≡ true → eqb a b ≡ false
+other_serial nodes a b h k = ne_eqb _ _ (λ e. let same : is_known nodes a ≡ true = ap (is_known nodes) e ∙ k in cc)
+
+turned : (a b : ℕ) → eqb a b ≡ false → eqb b a ≡ false
+turned a b e = grind arith
+
+or_left : (a b : Bool) → a ≡ true → (a || b) ≡ true
+or_left true b h = refl
+or_left false b h = absurd cc
+
+or_right : (a b : Bool) → b ≡ true → (a || b) ≡ true
+or_right true b h = refl
+or_right false b h = h
+
+known_either : (a b c : Bool) → (a || b) ≡ true → (b ≡ true → c ≡ true) → (a || c) ≡ true
+known_either true b c h k = refl
+known_either false b c h k = k h
+
+pub known_on : (nodes : List Node) (n : Node) (serial : ℕ) → is_known nodes serial ≡ true → is_known (nodes ++ n ∷ []) serial ≡ true
+known_on nodes n serial h =
+    known_either (eqb serial 0) (list_any (λ (m : Node). eqb m.serial serial) nodes) (list_any (λ (m : Node). eqb m.serial serial) (nodes ++ n ∷ [])) h
+    (λ e. list_any-append (λ (m : Node). eqb m.serial serial) nodes (n ∷ []) ∙ or_left (list_any (λ (m : Node). eqb m.serial serial) nodes) _ e)
+
+pub known_self : (nodes : List Node) (n : Node) → is_known (nodes ++ n ∷ []) n.serial ≡ true
+known_self nodes n =
+    let own : eqb n.serial n.serial ≡ true = equal n.serial n.serial refl in
+    or_right (eqb n.serial 0) _ (list_any-append (λ (m : Node). eqb m.serial n.serial) nodes (n ∷ []) ∙ or_right (list_any (λ (m : Node). eqb m.serial n.serial) nodes) _ (or_left _ false own))
+
+pub unknown_before : (nodes : List Node) (n : Node) (serial : ℕ) → is_known (nodes ++ n ∷ []) serial ≡ false → is_known nodes serial ≡ false
+unknown_before nodes n serial h = by (is_known nodes serial) refl
+  where
+    by : (t : Bool) → is_known nodes serial ≡ t → t ≡ false
+    by false e = refl
+    by true e = let there = known_on nodes n serial e in absurd cc
+
+new_is_alike : (nodes : List Node) (n : Node) → AreKnown nodes → is_known nodes n.parent ≡ true → is_known nodes n.serial ≡ false → AreAlike (nodes ++ n ∷ []) ((n.serial, n.kind) ∷ [])
 new_is_alike nodes n earlier parent serial = (
   record {
-    among = omega (arith, length-append nodes (n ∷ []));
-    rising = tt;
-    alike = λ kind. no_child nodes n (n.serial, n.kind) kind false (not_itself kind) (earlier n.serial kind n.kind (omega arith));
+    known = known_self nodes n;
+    once = refl;
+    alike = λ kind. no_child nodes n (n.serial, n.kind) kind false (turned n.serial n.parent (other_serial nodes n.serial n.parent serial parent)) (earlier n.serial kind n.kind serial);
   },
   tt,
 )
-  where
-    not_itself : (kind : Kind) → eqb n.parent n.serial ≡ false
-    not_itself kind = grind arith
 
-below_is_alike : (nodes : List Node) (n : Node) (node : ℕ × Kind) (below : List (ℕ × Kind)) (d : ℕ) → AreEarlier nodes → AreAlike nodes (node ∷ below) → d ≤ length below
-    → n.serial ≡ length nodes + 1 → n.parent ≡ (deepest node (take d below)).0 → n.parent ≤ length nodes → mixes nodes (Some (deepest node (take d below))) n.kind ≡ false
+-- a branch with a new node below it has no serial twice
+once_on : (nodes : List Node) (node : ℕ × Kind) (below : List (ℕ × Kind)) (d serial : ℕ) (kind : Kind) → list_any (λ (other : ℕ × Kind). eqb other.0 node.0) below ≡ false → is_known nodes node.0 ≡ true → is_known nodes serial ≡ false
+    → list_any (λ (other : ℕ × Kind). eqb other.0 node.0) (take d below ++ (serial, kind) ∷ []) ≡ false
+once_on nodes node below zero serial kind once known new = rw (other_serial nodes serial node.0 new known) refl
+once_on nodes node [] (suc d) serial kind once known new = rw (other_serial nodes serial node.0 new known) refl
+once_on nodes node (child ∷ below) (suc d) serial kind once known new =
+    let parts = or_parts (eqb child.0 node.0) (list_any (λ (other : ℕ × Kind). eqb other.0 node.0) below) once in
+    rw (parts.0, once_on nodes node below d serial kind parts.1 known new) refl
+
+-- the deepest of those below is none of those above
+deepest_other : (node : ℕ × Kind) (child : ℕ × Kind) (below : List (ℕ × Kind)) (d : ℕ) → list_any (λ (other : ℕ × Kind). eqb other.0 node.0) (child ∷ below) ≡ false → eqb (deepest child (take d below)).0 node.0 ≡ false
+deepest_other node child below zero once = (or_parts (eqb child.0 node.0) (list_any (λ (other : ℕ × Kind). eqb other.0 node.0) below) once).0
+deepest_other node child [] (suc d) once = (or_parts (eqb child.0 node.0) false once).0
+deepest_other node child (next ∷ below) (suc d) once = deepest_other node next below d (or_parts (eqb child.0 node.0) (list_any (λ (other : ℕ × Kind). eqb other.0 node.0) (next ∷ below)) once).1
+
+below_is_alike : (nodes : List Node) (n : Node) (node : ℕ × Kind) (below : List (ℕ × Kind)) (d : ℕ) → AreKnown nodes → AreAlike nodes (node ∷ below) → d ≤ length below
+    → is_known nodes n.serial ≡ false → n.parent ≡ (deepest node (take d below)).0 → is_known nodes n.parent ≡ true → mixes nodes (Some (deepest node (take d below))) n.kind ≡ false
     → AreAlike (nodes ++ n ∷ []) (node ∷ take d below ++ (n.serial, n.kind) ∷ [])
-below_is_alike nodes n node below zero earlier h le serial parent among unmixed = (
+below_is_alike nodes n node below zero earlier h le serial parent known unmixed = (
   record {
-    among = omega (arith, length-append nodes (n ∷ []), h.0.among);
-    rising = omega (arith, h.0.among);
+    known = known_on nodes n node.0 h.0.known;
+    once = once_on nodes node below zero n.serial n.kind h.0.once h.0.known serial;
     alike = λ kind. one_child nodes n node (slice_get below 0) kind parent h.0.alike unmixed;
   },
-  new_is_alike nodes n earlier among serial,
+  new_is_alike nodes n earlier known serial,
 )
-below_is_alike nodes n node [] (suc d) earlier h le serial parent among unmixed = absurd (omega arith)
-below_is_alike nodes n node (child ∷ below) (suc d) earlier h le serial parent among unmixed =
-    let up : node.0 < child.0 = h.0.rising in
-    let down : child.0 ≤ (deepest child (take d below)).0 = rising nodes child below d h.1 in (
+below_is_alike nodes n node [] (suc d) earlier h le serial parent known unmixed = absurd (omega arith)
+below_is_alike nodes n node (child ∷ below) (suc d) earlier h le serial parent known unmixed =
+    let other : eqb n.parent node.0 ≡ false = subst (λ (p : ℕ). eqb p node.0 ≡ false) (sym parent) (deepest_other node child below d h.0.once) in (
       record {
-        among = omega (arith, length-append nodes (n ∷ []), h.0.among);
-        rising = up;
-        alike = λ kind. no_child nodes n node kind (differs (Some child) kind) (apart n.parent node.0 (omega arith)) (h.0.alike kind);
+        known = known_on nodes n node.0 h.0.known;
+        once = once_on nodes node (child ∷ below) (suc d) n.serial n.kind h.0.once h.0.known serial;
+        alike = λ kind. no_child nodes n node kind (differs (Some child) kind) other (h.0.alike kind);
       },
-      below_is_alike nodes n child below d earlier h.1 (omega arith) serial parent among unmixed,
+      below_is_alike nodes n child below d earlier h.1 (omega arith) serial parent known unmixed,
     )
 
-deepest_among : (nodes : List Node) (node : ℕ × Kind) (below : List (ℕ × Kind)) (d : ℕ) → AreAlike nodes (node ∷ below) → (deepest node (take d below)).0 ≤ length nodes
-deepest_among nodes node below zero h = h.0.among
-deepest_among nodes node [] (suc d) h = h.0.among
-deepest_among nodes node (child ∷ below) (suc d) h = deepest_among nodes child below d h.1
+deepest_known : (nodes : List Node) (node : ℕ × Kind) (below : List (ℕ × Kind)) (d : ℕ) → AreAlike nodes (node ∷ below) → is_known nodes (deepest node (take d below)).0 ≡ true
+deepest_known nodes node below zero h = h.0.known
+deepest_known nodes node [] (suc d) h = h.0.known
+deepest_known nodes node (child ∷ below) (suc d) h = deepest_known nodes child below d h.1
 
 -- the parent of a node below a branch stands on it
-pub parent_among : (nodes : List Node) (branch : List (ℕ × Kind)) (d : ℕ) → AreAlike nodes branch → serial_of (last_of (take d branch)) ≤ length nodes
-parent_among nodes branch zero h = omega arith
-parent_among nodes [] (suc d) h = omega arith
-parent_among nodes (node ∷ below) (suc d) h = rw (deepest_is node (take d below)) (deepest_among nodes node below d h)
+pub parent_known : (nodes : List Node) (branch : List (ℕ × Kind)) (d : ℕ) → AreAlike nodes branch → is_known nodes (serial_of (last_of (take d branch))) ≡ true
+parent_known nodes branch zero h = refl
+parent_known nodes [] (suc d) h = refl
+parent_known nodes (node ∷ below) (suc d) h = ap (λ (o : Option (ℕ × Kind)). is_known nodes (serial_of o)) (deepest_is node (take d below)) ∙ deepest_known nodes node below d h
 
-pub earlier_with : (nodes : List Node) (n : Node) → AreEarlier nodes → n.parent ≤ length nodes → AreEarlier (nodes ++ n ∷ [])
-earlier_with nodes n earlier among serial kind other lt =
-    let len : length (nodes ++ n ∷ []) ≡ length nodes + 1 = length-append nodes (n ∷ []) in
-    no_child nodes n (serial, other) kind false (later n.parent serial (omega arith)) (earlier serial kind other (omega arith))
-  where
-    later : (a b : ℕ) → a < b → eqb a b ≡ false
-    later a b h = grind arith
+pub known_with : (nodes : List Node) (n : Node) → AreKnown nodes → is_known nodes n.parent ≡ true → AreKnown (nodes ++ n ∷ [])
+known_with nodes n earlier parent serial kind other unknown =
+    let before : is_known nodes serial ≡ false = unknown_before nodes n serial unknown in
+    no_child nodes n (serial, other) kind false (turned serial n.parent (other_serial nodes serial n.parent before parent)) (earlier serial kind other before)
 
-pub alike_with : (nodes : List Node) (branch : List (ℕ × Kind)) (d : ℕ) (n : Node) → AreEarlier nodes → AreAlike nodes branch → d ≤ length branch
-    → n.serial ≡ length nodes + 1 → n.parent ≡ serial_of (last_of (take d branch)) → mixes nodes (last_of (take d branch)) n.kind ≡ false
+pub alike_with : (nodes : List Node) (branch : List (ℕ × Kind)) (d : ℕ) (n : Node) → AreKnown nodes → AreAlike nodes branch → d ≤ length branch
+    → is_known nodes n.serial ≡ false → n.parent ≡ serial_of (last_of (take d branch)) → is_known nodes n.parent ≡ true → mixes nodes (last_of (take d branch)) n.kind ≡ false
     → AreAlike (nodes ++ n ∷ []) (take d branch ++ (n.serial, n.kind) ∷ [])
-alike_with nodes branch zero n earlier h le serial parent unmixed = new_is_alike nodes n earlier (omega arith) serial
-alike_with nodes [] (suc d) n earlier h le serial parent unmixed = absurd (omega arith)
-alike_with nodes (node ∷ below) (suc d) n earlier h le serial parent unmixed =
+alike_with nodes branch zero n earlier h le serial parent known unmixed = new_is_alike nodes n earlier known serial
+alike_with nodes [] (suc d) n earlier h le serial parent known unmixed = absurd (omega arith)
+alike_with nodes (node ∷ below) (suc d) n earlier h le serial parent known unmixed =
     let last : last_of (node ∷ take d below) ≡ Some (deepest node (take d below)) = deepest_is node (take d below) in
     let of : n.parent ≡ (deepest node (take d below)).0 = parent ∙ ap serial_of last in
-    let among : (deepest node (take d below)).0 ≤ length nodes = deepest_among nodes node below d h in
-    below_is_alike nodes n node below d earlier h (omega arith) serial of (omega arith) (sym (ap (λ p. mixes nodes p n.kind) last) ∙ unmixed)
+    below_is_alike nodes n node below d earlier h (omega arith) serial of known (sym (ap (λ p. mixes nodes p n.kind) last) ∙ unmixed)
 
 mixed_below : (nodes : List Node) (node : ℕ × Kind) (below : List (ℕ × Kind)) (d : ℕ) (kind : Kind) → AreAlike nodes (node ∷ below) → d ≤ length below → mixes nodes (Some (deepest node (take d below))) kind ≡ differs (slice_get below d) kind
 mixed_below nodes node below zero kind h le = h.0.alike kind
@@ -155,12 +190,12 @@ mixed_at nodes [] (suc d) kind h some le = absurd (omega arith)
 mixed_at nodes (node ∷ below) (suc d) kind h some le =
     ap (λ p. mixes nodes p kind) (deepest_is node (take d below)) ∙ mixed_below nodes node below d kind h (omega arith)
 
--- the same of an outline that has these nodes and this branch
-pub mixed_in : (nodes : List Node) (branch : List (ℕ × Kind)) (now : Outline) (d : ℕ) (kind : Kind) (child : Option (ℕ × Kind)) → record { nodes = nodes; branch = branch } ≡ now → AreAlike nodes branch → 0 < d → d ≤ length now.branch → child ≡ slice_get branch d
+-- the same of an outline
+pub mixed_in : (inside now : Outline) (d : ℕ) (kind : Kind) (child : Option (ℕ × Kind)) → inside ≡ now → AreAlike inside.nodes inside.branch → 0 < d → d ≤ length now.branch → child ≡ slice_get inside.branch d
     → differs child kind ≡ mixes now.nodes (last_of (take d now.branch)) kind
-mixed_in nodes branch now d kind child e h some le at =
-    subst (λ (z : Outline). d ≤ length z.branch → differs child kind ≡ mixes z.nodes (last_of (take d z.branch)) kind) e
-    (λ near. ap (λ (last : Option (ℕ × Kind)). differs last kind) at ∙ sym (mixed_at nodes branch d kind h some near)) le
+mixed_in inside now d kind child same h some near at =
+    subst (λ (o : Outline). d ≤ length o.branch → differs child kind ≡ mixes o.nodes (last_of (take d o.branch)) kind) same
+    (λ short. ap (λ (last : Option (ℕ × Kind)). differs last kind) at ∙ sym (mixed_at inside.nodes inside.branch d kind h some short)) near
 
 pub differ_is : (a b : Bool) → not (beq a b) ≡ differ a b
 differ_is true true = refl
@@ -180,31 +215,35 @@ read_on [] line start before after h e =
     ap (λ (r : Result Outline Refusal). r >>= λ more. Ok more) (ap (λ (o : Outline). with_line o line) same ∙ e)
 read_on (first ∷ lines) line start before after h e = on_ok (with_line start first) lines (lines ++ line ∷ []) before after (λ o k. read_on lines line o before after k e) h
 
-kept_by : (nodes : List Node) (branch : List (ℕ × Kind)) (d : ℕ) (n : Node) (line : List ℕ) → IsKept nodes branch → d ≤ length branch → IsPlaced (record { nodes = nodes; branch = branch }) d n → length nodes < 2000
-    → with_line (record { nodes = nodes; branch = branch }) line ≡ Ok (with_node (record { nodes = nodes; branch = branch }) d n)
-    → IsKept (nodes ++ n ∷ []) (take d branch ++ (n.serial, n.kind) ∷ [])
-kept_by nodes branch d n line h near placed few reads =
-    let among : serial_of (last_of (take d branch)) ≤ length nodes = parent_among nodes branch d h.alike in
-    let below : n.parent ≤ length nodes = omega (arith, placed.parent) in
+-- one more node keeps what is true of a builder
+pub kept_with : (now : Outline) (d : ℕ) (n : Node) (line : List ℕ) → IsKept now → d ≤ length now.branch → IsPlaced now d n → length now.nodes < NODES → with_line now line ≡ Ok (with_node now d n) → IsKept (with_node now d n)
+kept_with now d n line h near placed few reads =
+    let known : is_known now.nodes n.parent ≡ true = ap (is_known now.nodes) placed.parent ∙ parent_known now.nodes now.branch d h.alike in
     record {
-      few = omega (arith, length-append nodes (n ∷ []));
-      read = (h.read.0 ++ line ∷ [], read_on h.read.0 line (record { nodes = []; branch = [] }) (record { nodes = nodes; branch = branch }) (with_node (record { nodes = nodes; branch = branch }) d n) h.read.1 reads);
-      earlier = earlier_with nodes n h.earlier below;
-      alike = alike_with nodes branch d n h.earlier h.alike near placed.serial placed.parent placed.unmixed;
+      few = omega (arith, length-append now.nodes (n ∷ []));
+      read = (h.read.0 ++ line ∷ [], read_on h.read.0 line no_lines now (with_node now d n) h.read.1 reads);
+      parents = known_with now.nodes n h.parents known;
+      alike = alike_with now.nodes now.branch d n h.parents h.alike near placed.serial placed.parent known placed.unmixed;
     }
 
--- one more node keeps what is true of a builder
-pub kept_with : (nodes pushed : List Node) (branch put : List (ℕ × Kind)) (now : Outline) (d : ℕ) (n : Node) (line : List ℕ) → record { nodes = nodes; branch = branch } ≡ now → IsKept nodes branch → d ≤ length now.branch → IsPlaced now d n → length now.nodes < 2000
-    → with_line now line ≡ Ok (with_node now d n)
-    → pushed ≡ nodes ++ n ∷ [] → put ≡ take d branch ++ (n.serial, n.kind) ∷ [] → IsKept pushed put
-kept_with nodes pushed branch put now d n line e h near placed few reads p q =
-    let back : now ≡ record { nodes = nodes; branch = branch } = sym e in
-    let near_back : d ≤ length branch = subst (λ (z : Outline). d ≤ length z.branch) back near in
-    let placed_back : IsPlaced (record { nodes = nodes; branch = branch }) d n = subst (λ (z : Outline). IsPlaced z d n) back placed in
-    let reads_back = subst (λ (z : Outline). with_line z line ≡ Ok (with_node z d n)) back reads in
-    let few_back : length nodes < 2000 = subst (λ (z : Outline). length z.nodes < 2000) back few in
-    subst (λ (z : List Node). IsKept z put) (sym p)
-    (subst (λ (z : List (ℕ × Kind)). IsKept (nodes ++ n ∷ []) z) (sym q) (kept_by nodes branch d n line h near_back placed_back few_back reads_back))
+-- the same of the parts of a builder that a node was put into
+pub kept_put : (inside now : Outline) (d : ℕ) (n : Node) (nodes : List Node) (branch : List (ℕ × Kind)) → inside ≡ now → nodes ≡ inside.nodes ++ n ∷ [] → branch ≡ take d inside.branch ++ (n.serial, n.kind) ∷ [] → IsKept (with_node now d n)
+    → IsKept (record { nodes = nodes; branch = branch; next = inside.next })
+kept_put inside now d n nodes branch same more longer h =
+    let all : with_node now d n ≡ record { nodes = nodes; branch = branch; next = inside.next } =
+    ap (λ (o : Outline). with_node o d n) (sym same)
+    ∙ ap (λ (ns : List Node). record { nodes = ns; branch = take d inside.branch ++ (n.serial, n.kind) ∷ []; next = inside.next }) (sym more)
+    ∙ ap (λ (b : List (ℕ × Kind)). record { nodes = nodes; branch = b; next = inside.next }) (sym longer) in
+    subst IsKept all h
+
+-- and so does a header
+pub kept_headed : (now : Outline) (next : ℕ) (line : List ℕ) → IsKept now → with_line now line ≡ Ok (record now { next = Some next }) → IsKept (record now { next = Some next })
+kept_headed now next line h reads = record {
+  few = h.few;
+  read = (h.read.0 ++ line ∷ [], read_on h.read.0 line no_lines now (record now { next = Some next }) h.read.1 reads);
+  parents = h.parents;
+  alike = h.alike;
+}
 
 pub where_ok : {T E P : Type 0} (r : Result T E) → is_err r ≡ false → OnOk r P → P
 where_ok (Ok x) e h = h

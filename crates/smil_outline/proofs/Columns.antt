@@ -1,6 +1,8 @@
 -- The columns of a node line's faults are those of its bytes, and at most three more.
-use Rattle.std.proofs.Common.{◌≡◌, ℕ, ◌+◌, ◌-◌, ◌<◌, ◌≤◌, ◌&&◌, Bool, true, false, eqb, ltb, List, [], ◌∷◌, length, take, drop, Option, Some, None, Result, Ok, Err, refl, arith, length-drop}
-use Rattle.std.specs.Prelude.{IfSome, IfErr, unwrap_or}
+use Rattle.std.proofs.Common.{◌≡◌, ℕ, ◌+◌, ◌-◌, ◌<◌, ◌≤◌, ◌&&◌, Bool, true, false, eqb, ltb, List, [], ◌∷◌, length, take, drop, Option, Some, None, Result, Ok, Err, refl, arith, length-drop, length-take}
+use Rattle.std.specs.Prelude.{IfSome, IfErr, unwrap_or, option_and_then}
+use Rattle.std.specs.Char.{is_ascii_digit}
+use Rattle.smil_model.specs.declared.limits.TheConstants.{LINE_BYTES}
 use Rattle.std.specs.List.{prefix_len, list_all, slice_split, onto_first}
 use Rattle.std.proofs.lemmas.Bool.{cond_both}
 use Rattle.std.proofs.lemmas.List.Sums.{prefix_len-le-length}
@@ -21,14 +23,15 @@ use Rattle.smil_grammar.specs.declared.fault.AttrFault.TheVariants as attr_fault
 use Rattle.smil_grammar.specs.declared.fault.NodeFault.{NodeFault}
 use Rattle.smil_grammar.specs.declared.fault.NodeFault.TheVariants as fault
 use Rattle.smil_grammar.specs.Results.{◌>>=◌}
-use Rattle.smil_grammar.specs.Texts.{is_white, trim}
+use Rattle.smil_grammar.specs.Texts.{is_white, trim, behind}
 use Rattle.smil_grammar.specs.Items.{item_of}
+use Rattle.smil_grammar.specs.Items.{count_of as count_in}
 use Rattle.smil_grammar.specs.Lists.{item_at, piece_at, items_from, few_items, pieces_of, is_plain, plain_at, list_of}
-use Rattle.smil_grammar.specs.Values.{id_of, dur_of, time_of, count_of, repeat_dur_of, restart_of, fill_of, endsync_of, peers_of, higher_of, lower_of, kept_of, is_other_value, of_list, of_value, plain_value_of, value_of}
+use Rattle.smil_grammar.specs.Values.{id_of, attribute_name_of, restart_default_of, fill_default_of, dur_of, time_of, count_of, repeat_dur_of, restart_of, fill_of, endsync_of, peers_of, higher_of, lower_of, kept_of, is_other_value, of_list, of_value, plain_value_of, value_of}
 use Rattle.smil_grammar.specs.Clock.{clock_within}
 use Rattle.smil_grammar.specs.Attributes.{attr_name_of, name_called, name_or, unnamed, is_other_name, has, kind_called, is_other_kind}
-use Rattle.smil_grammar.specs.Nodes.{is_space, is_of_kind, is_named, Written, attribute_at, attributes_at, with_written, Shape, shaped, shape_of, repeats, kind_or, kind_of_shape, kind_of, fits_in, is_seq, column_at, at_column, attribute_of, attr_of, attrs_from, attrs_of, node_of}
-use Rattle.smil_outline.specs.Steps.{IsNear}
+use Rattle.smil_grammar.specs.Nodes.{is_space, is_of_kind, is_named, Written, attribute_at, attributes_at, with_written, Shape, shaped, shape_of, with_serial, shape_behind, saved_shape_of, repeats, kind_or, kind_of_shape, column_at, at_column, attribute_of, attr_of, attrs_from}
+use Rattle.smil_outline.specs.Steps.{StandsWithin, AllWithin, IsInLine, IsNear}
 
 -- how long a text is that was cut into these pieces, and one more
 abbrev joined_len : List (List ℕ) → ℕ
@@ -119,6 +122,8 @@ plain_near in_seq name.RepeatCount text = of_value_near _ attr.RepeatCount (coun
 plain_near in_seq name.RepeatDur text = of_value_near _ attr.RepeatDur (repeat_dur_of (trim text))
 plain_near in_seq name.Restart text = of_value_near _ attr.Restart (restart_of (trim text))
 plain_near in_seq name.Fill text = of_value_near _ attr.Fill (fill_of (trim text))
+plain_near in_seq name.RestartDefault text = of_value_near _ attr.RestartDefault (restart_default_of (trim text))
+plain_near in_seq name.FillDefault text = of_value_near _ attr.FillDefault (fill_default_of (trim text))
 plain_near in_seq name.Endsync text = of_value_near _ attr.Endsync (endsync_of (trim text))
 plain_near in_seq name.Peers text = of_value_near _ attr.Peers (peers_of (trim text))
 plain_near in_seq name.Higher text = of_value_near _ attr.Higher (higher_of (trim text))
@@ -127,6 +132,9 @@ plain_near in_seq name.Src text = of_value_near _ attr.Src (kept_of text)
 plain_near in_seq name.Region text = of_value_near _ attr.Region (kept_of text)
 plain_near in_seq name.Alt text = of_value_near _ attr.Alt (kept_of text)
 plain_near in_seq name.Title text = of_value_near _ attr.Title (kept_of text)
+plain_near in_seq name.TargetElement text = of_value_near _ attr.TargetElement (id_of (trim text))
+plain_near in_seq name.AttributeName text = of_value_near _ attr.AttributeName (attribute_name_of (trim text))
+plain_near in_seq name.To text = of_value_near _ attr.To (kept_of text)
 
 value_near : (in_seq : Bool) (n : AttrName) (text : List ℕ) → IfErr (value_of in_seq n text) (AttrPlace (length text + 1))
 value_near in_seq n text = cond_both (is_other_value n (trim text)) (Err (attr_fault.UnsupportedValue 0)) (plain_value_of in_seq n text) (λ r. IfErr r (AttrPlace (length text + 1))) (λ e. omega arith) (λ e. plain_near in_seq n text)
@@ -149,14 +157,6 @@ FaultWithin n (fault.UnknownAttribute column) = column ≤ n
 FaultWithin n (fault.BadValue column) = column ≤ n
 FaultWithin n (fault.TooManyItems column) = column ≤ n
 FaultWithin n _ = Unit {0}
-
-record StandsWithin (n : ℕ) (w : Written) : Type 0 where
-  name : w.name_place ≤ n
-  value : w.value_place + length w.value ≤ n
-
-abbrev AllWithin : ℕ → List Written → Type 0
-AllWithin n [] = Unit {0}
-AllWithin n (w ∷ ws) = StandsWithin n w × AllWithin n ws
 
 column_near : (n place : ℕ) → place + 1 ≤ n → column_at place ≤ n
 column_near n place le = omega arith
@@ -203,13 +203,51 @@ shaped_near : (n : ℕ) (word : List ℕ) (attributes : Option (List Written)) �
 shaped_near n word None h = tt
 shaped_near n word (Some attributes) h = cond_both _ (Some (record { kind = word; attributes = attributes })) None (λ r. IfSome r (ShapeWithin n)) (λ e. h) (λ e. tt)
 
-shape_near : (line : List ℕ) → IfSome (shape_of line) (ShapeWithin (length line + 1))
-shape_near line =
+pieces_near : (n place : ℕ) (word text : List ℕ) → place + length text + 1 ≤ n → IfSome (shaped word (attributes_at place (slice_split (λ b. eqb b 34) text))) (ShapeWithin n)
+pieces_near n place word text le =
+    let len : joined_len (slice_split (λ b. eqb b 34) text) ≡ length text + 1 = split_len 34 text in
+    shaped_near n word (attributes_at place (slice_split (λ b. eqb b 34) text)) (attributes_near n place (slice_split (λ b. eqb b 34) text) (omega arith))
+
+pub plain_in_line : (line : List ℕ) → length line ≤ LINE_BYTES → IfSome (shape_of line) IsInLine
+plain_in_line line le =
     let kind : prefix_len is_of_kind line ≤ length line = prefix_len-le-length is_of_kind line in
-    let len : joined_len (slice_split (λ b. eqb b 34) (drop (prefix_len is_of_kind line) line)) ≡ length (drop (prefix_len is_of_kind line) line) + 1 = split_len 34 (drop (prefix_len is_of_kind line) line) in
-    let left : length (drop (prefix_len is_of_kind line) line) + prefix_len is_of_kind line ≡ length line = omega (arith, length-drop (prefix_len is_of_kind line) line) in
-    shaped_near (length line + 1) (take (prefix_len is_of_kind line) line) (attributes_at (prefix_len is_of_kind line) (slice_split (λ b. eqb b 34) (drop (prefix_len is_of_kind line) line)))
-    (attributes_near (length line + 1) (prefix_len is_of_kind line) (slice_split (λ b. eqb b 34) (drop (prefix_len is_of_kind line) line)) (omega arith))
+    pieces_near (LINE_BYTES + 1) (prefix_len is_of_kind line) (take (prefix_len is_of_kind line) line) (drop (prefix_len is_of_kind line) line) (omega (arith, length-drop (prefix_len is_of_kind line) line))
+
+behind_len : (wanted : ℕ) (text : List ℕ) → IfSome (behind wanted text) (λ rest. length rest + 1 ≡ length text)
+behind_len wanted [] = tt
+behind_len wanted (b ∷ text) = cond_both (eqb b wanted) (Some text) None (λ o. IfSome o (λ rest. length rest + 1 ≡ length (b ∷ text))) (λ e. omega arith) (λ e. tt)
+
+behind_both : (first : Option (List ℕ)) (n : ℕ) → IfSome first (λ rest. length rest + 1 ≡ n) → IfSome (option_and_then (behind 35) first) (λ rest. length rest + 2 ≡ n)
+behind_both None n h = tt
+behind_both (Some rest) n h = by (behind 35 rest) (behind_len 35 rest)
+  where
+    by : (o : Option (List ℕ)) → IfSome o (λ text. length text + 1 ≡ length rest) → IfSome o (λ text. length text + 2 ≡ n)
+    by None k = tt
+    by (Some text) k = omega (arith, h)
+
+numbered_near : (serial : Option ℕ) (shape : Option Shape) → IfSome shape IsInLine → IfSome (with_serial serial shape) (λ (s : ℕ × Shape). IsInLine s.1)
+numbered_near None None h = tt
+numbered_near None (Some shape) h = tt
+numbered_near (Some serial) None h = tt
+numbered_near (Some serial) (Some shape) h = h
+
+behind_near : (word : List ℕ) (text : Option (List ℕ)) → IfSome text (λ rest. length word + 2 + length rest ≤ LINE_BYTES) → IfSome (shape_behind word text) (λ (s : ℕ × Shape). IsInLine s.1)
+behind_near word None h = tt
+behind_near word (Some text) h =
+    let digits : prefix_len is_ascii_digit text ≤ length text = prefix_len-le-length is_ascii_digit text in
+    numbered_near (count_in (take (prefix_len is_ascii_digit text) text)) (shaped word (attributes_at (length word + 2 + prefix_len is_ascii_digit text) (slice_split (λ b. eqb b 34) (drop (prefix_len is_ascii_digit text) text))))
+    (pieces_near (LINE_BYTES + 1) (length word + 2 + prefix_len is_ascii_digit text) word (drop (prefix_len is_ascii_digit text) text) (omega (arith, h, length-drop (prefix_len is_ascii_digit text) text)))
+
+pub saved_in_line : (line : List ℕ) → length line ≤ LINE_BYTES → IfSome (saved_shape_of line) (λ (s : ℕ × Shape). IsInLine s.1)
+saved_in_line line le =
+    let kind : prefix_len is_of_kind line ≤ length line = prefix_len-le-length is_of_kind line in
+    let rest : List ℕ = drop (prefix_len is_of_kind line) line in
+    behind_near (take (prefix_len is_of_kind line) line) (option_and_then (behind 35) (behind 32 rest))
+    (fits (option_and_then (behind 35) (behind 32 rest)) (behind_both (behind 32 rest) (length rest) (behind_len 32 rest)))
+  where
+    fits : (o : Option (List ℕ)) → IfSome o (λ text. length text + 2 ≡ length (drop (prefix_len is_of_kind line) line)) → IfSome o (λ text. length (take (prefix_len is_of_kind line) line) + 2 + length text ≤ LINE_BYTES)
+    fits None h = tt
+    fits (Some text) h = omega (arith, h, le, length-drop (prefix_len is_of_kind line) line, length-take (prefix_len is_of_kind line) line)
 
 kind_or_near : (n : ℕ) (word : List ℕ) (called : Option Kind) → 1 ≤ n → IfErr (kind_or word called) (FaultWithin n)
 kind_or_near n word (Some k) le = tt
@@ -219,30 +257,21 @@ kind_shape_near : (n : ℕ) (shape : Option Shape) → 1 ≤ n → IfErr (kind_o
 kind_shape_near n None le = tt
 kind_shape_near n (Some shape) le = cond_both (repeats shape.attributes) (Err fault.BadOutline) (kind_or shape.kind (kind_called shape.kind)) (λ r. IfErr r (FaultWithin n)) (λ e. tt) (λ e. kind_or_near n shape.kind (kind_called shape.kind) le)
 
-attrs_of_near : (n : ℕ) (parent : Option Kind) (k : Kind) (shape : Option Shape) → IfSome shape (ShapeWithin n) → IfErr (attrs_of parent k shape) (FaultWithin (n + 2))
-attrs_of_near n parent k None h = tt
-attrs_of_near n parent k (Some shape) h =
-    cond_both (fits_in parent k) (attrs_from (is_seq parent) k no_attrs shape.attributes >>= λ attrs. Ok (k, attrs)) (Err fault.BadPlace) (λ r. IfErr r (FaultWithin (n + 2)))
-    (λ e. after (FaultWithin (n + 2)) (attrs_from (is_seq parent) k no_attrs shape.attributes) (λ attrs. Ok (k, attrs)) (attrs_near n (is_seq parent) k no_attrs shape.attributes h) (λ attrs. tt))
-    (λ e. tt)
+near_of : (given : NodeFault) → FaultWithin (LINE_BYTES + 3) given → IsNear given
+near_of fault.BadOutline h = tt
+near_of (fault.Unsupported column) h = h
+near_of fault.BadPlace h = tt
+near_of (fault.UnknownAttribute column) h = h
+near_of (fault.BadValue column) h = h
+near_of (fault.TooManyItems column) h = h
+near_of fault.Memory h = tt
 
-near_of : (n : ℕ) (given : NodeFault) → n ≤ 8192 → FaultWithin n given → IsNear given
-near_of n fault.BadOutline le h = tt
-near_of n (fault.Unsupported column) le h = omega arith
-near_of n fault.BadPlace le h = tt
-near_of n (fault.UnknownAttribute column) le h = omega arith
-near_of n (fault.BadValue column) le h = omega arith
-near_of n (fault.TooManyItems column) le h = omega arith
-near_of n fault.Memory le h = tt
+all_near : {A : Type 0} (r : Result A NodeFault) → IfErr r (FaultWithin (LINE_BYTES + 3)) → IfErr r IsNear
+all_near (Ok x) h = tt
+all_near (Err given) h = near_of given h
 
-all_near : {A : Type 0} (n : ℕ) (r : Result A NodeFault) → n ≤ 8192 → IfErr r (FaultWithin n) → IfErr r IsNear
-all_near n (Ok x) le h = tt
-all_near n (Err given) le h = near_of n given le h
+pub kind_is_near : (shape : Shape) → IfErr (kind_of_shape (Some shape)) IsNear
+kind_is_near shape = all_near (kind_of_shape (Some shape)) (kind_shape_near (LINE_BYTES + 3) (Some shape) (omega arith))
 
-pub kind_is_near : (line : List ℕ) → IfErr (kind_of line) IsNear
-kind_is_near line = all_near 1 (kind_of line) (omega arith) (kind_shape_near 1 (shape_of line) (omega arith))
-
-pub node_is_near : (parent : Option Kind) (line : List ℕ) → length line ≤ 4096 → IfErr (node_of parent line) IsNear
-node_is_near parent line le =
-    all_near (length line + 1 + 2) (node_of parent line) (omega arith)
-    (after (FaultWithin (length line + 1 + 2)) (kind_of line) (λ k. attrs_of parent k (shape_of line)) (kind_shape_near (length line + 1 + 2) (shape_of line) (omega arith)) (λ k. attrs_of_near (length line + 1) parent k (shape_of line) (shape_near line)))
+pub attrs_are_near : (in_seq : Bool) (k : Kind) (shape : Shape) → IsInLine shape → IfErr (attrs_from in_seq k no_attrs shape.attributes) IsNear
+attrs_are_near in_seq k shape h = all_near (attrs_from in_seq k no_attrs shape.attributes) (attrs_near (LINE_BYTES + 1) in_seq k no_attrs shape.attributes h)

@@ -13,3 +13,4 @@ pub mod Ranging
 pub mod Validity
 pub mod Placed
 pub mod Taken
+pub mod Migrating

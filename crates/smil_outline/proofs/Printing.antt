@@ -1,5 +1,5 @@
 -- A node line that is written has no control character.
-use Rattle.std.proofs.Common.{◌≡◌, ℕ, zero, suc, ◌+◌, ◌*◌, ◌/◌, ◌%◌, ◌<◌, ◌≤◌, Bool, true, false, not, eqb, ltb, leb, ◌&&◌, List, [], ◌∷◌, ◌++◌, length, replicate, flat_map, Option, Some, None, option_map, refl, ap, ◌∙◌, arith, decimal, append_assoc}
+use Rattle.std.proofs.Common.{◌≡◌, ℕ, zero, suc, ◌+◌, ◌*◌, ◌/◌, ◌%◌, ◌<◌, ◌≤◌, Bool, true, false, not, eqb, ltb, leb, ◌&&◌, List, [], ◌∷◌, ◌++◌, length, replicate, flat_map, Option, Some, None, option_map, refl, ap, subst, ◌∙◌, arith, decimal, append_assoc}
 use Rattle.std.specs.Prelude.{ℤ, pos, negsuc, codes, IfSome, All}
 use Rattle.std.specs.Char.{is_ascii_digit}
 use Rattle.std.specs.List.{AllByRecursion, list_all, slice_split}
@@ -15,17 +15,19 @@ use Rattle.smil_model.specs.declared.document.Attrs.{Attrs}
 use Rattle.smil_model.specs.declared.document.AttrName.{AttrName}
 use Rattle.smil_model.specs.declared.document.AttrName.TheVariants as name
 use Rattle.smil_model.specs.declared.document.Item.{Item}
-use Rattle.smil_model.specs.declared.document.Item.TheVariants.{Offset, Sync, Event, Repeat, Indefinite}
+use Rattle.smil_model.specs.declared.document.Item.TheVariants.{Offset, Sync, Event, Repeat, Key, Indefinite}
 use Rattle.smil_model.specs.declared.document.Edge.TheVariants.{Begin, End}
 use Rattle.smil_model.specs.declared.document.Dur.TheVariants as dur
 use Rattle.smil_model.specs.declared.document.Count.TheVariants as count
 use Rattle.smil_model.specs.declared.document.Restart.TheVariants as restart
 use Rattle.smil_model.specs.declared.document.Fill.TheVariants as fill
+use Rattle.smil_model.specs.declared.document.RestartDefault.TheVariants as restart_default
+use Rattle.smil_model.specs.declared.document.FillDefault.TheVariants as fill_default
 use Rattle.smil_model.specs.declared.document.Endsync.TheVariants as endsync
 use Rattle.smil_model.specs.declared.document.Act.{Act}
 use Rattle.smil_model.specs.declared.document.Act.TheVariants as act
 use Rattle.smil_model.specs.declared.times.Time.TheVariants as time
-use Rattle.smil_model.specs.document.Words.{is_of_name, is_of_id, is_kept, is_kept_text, is_id}
+use Rattle.smil_model.specs.document.Words.{is_of_name, is_of_id, is_kept, is_kept_text, is_id, is_key, is_attribute_name}
 use Rattle.smil_model.specs.document.Values.{is_item, is_list, is_clock}
 use Rattle.smil_grammar.specs.Attributes.{kind_text, name_text, names, has}
 use Rattle.smil_model.specs.declared.document.Node.{Node}
@@ -41,7 +43,9 @@ use Rattle.smil_lexis.proofs.Words.{IsWord, all_of_id}
 use Rattle.smil_time_list.proofs.Printable.{IsWho, Printable}
 use Rattle.smil_time_list.proofs.Spelled.{all_of_name, escaped_passes}
 use Rattle.smil_attrs.proofs.Counts.{digit_printed}
+use Rattle.smil_grammar.specs.Values.{attribute_name_of}
 use Rattle.smil_attrs.proofs.Unquoted.{tested}
+use Rattle.smil_attrs.proofs.Words.{is_of_attribute, attribute_name_passes}
 use Rattle.smil_outline.proofs.Fitting.{printable, clock_small, no_clock, id_word, IsInRange, AreInRange, in_range}
 
 -- a byte that is no control character
@@ -56,6 +60,12 @@ id_byte b h = grind (arith, nat_tests)
 
 name_byte : (b : ℕ) → is_of_name b ≡ true → is_shown b ≡ true
 name_byte b h = grind (arith, nat_tests)
+
+key_byte : (b : ℕ) → is_key b ≡ true → is_shown b ≡ true
+key_byte b h = grind (arith, nat_tests)
+
+attribute_byte : (b : ℕ) → is_of_attribute b ≡ true → is_shown b ≡ true
+attribute_byte b h = grind (arith, nat_tests)
 
 digit_byte : (b : ℕ) → is_ascii_digit b ≡ true → is_shown b ≡ true
 digit_byte b h = grind (arith, nat_tests)
@@ -90,6 +100,7 @@ item_shown (Sync who Begin offset) h = behind_id who _ h.0 (refl, passes_on is_s
 item_shown (Sync who End offset) h = behind_id who _ h.0 (refl, passes_on is_shown (codes "end") (tail_text offset) (tested is_shown (codes "end") refl) (tail_shown offset h.1))
 item_shown (Event who name offset) h = behind_who who _ h.0 (passes_on is_shown name _ (passes_weaker is_of_name is_shown name_byte name (all_of_name name h.1.word)) (tail_shown offset h.2))
 item_shown (Repeat who n offset) h = behind_who who _ h.0 (passes_on is_shown (codes "repeat(" ++ decimal n ++ codes ")") (tail_text offset) (passes_on is_shown (codes "repeat(" ++ decimal n) (codes ")") (passes_on is_shown (codes "repeat(") (decimal n) (tested is_shown (codes "repeat(") refl) (number_shown n (omega arith))) (refl, tt)) (tail_shown offset h.3))
+item_shown (Key key offset) h = passes_on is_shown (codes "accesskey(") (key ∷ (41 ∷ tail_text offset)) (tested is_shown (codes "accesskey(") refl) (key_byte key h.0, (refl, tail_shown offset h.1))
 item_shown Indefinite h = tested is_shown (codes "indefinite") refl
 
 items_shown : (items : List Item) → list_all is_item items ≡ true → IsShown (list_text items)
@@ -130,6 +141,11 @@ id_shown text h = passes_weaker is_of_id is_shown id_byte text (all_of_id text (
 kept_shown : (text : List ℕ) → is_kept_text text ≡ true → IsShown text
 kept_shown text h = passes_weaker is_kept is_shown kept_byte text (tested is_kept text (and_parts _ _ h).1)
 
+attribute_name_shown : (text : List ℕ) → is_attribute_name text ≡ true → IsShown text
+attribute_name_shown text h =
+    let known : attribute_name_of text ≡ Some text = rw h refl in
+    passes_weaker is_of_attribute is_shown attribute_byte text (subst (λ (o : Option (List ℕ)). IfSome o (Passes is_of_attribute)) known (attribute_name_passes text))
+
 value_shown : (in_seq : Bool) (given : Attr) → IsInRange in_seq given → IsShown (attr_text given)
 value_shown in_seq (attr.Id text) h = id_shown text h
 value_shown in_seq (attr.Begin items) h = list_shown items (and_parts (is_list items) _ h).0
@@ -155,10 +171,21 @@ value_shown in_seq (attr.RepeatDur time.Unresolved) h = tt
 value_shown in_seq (attr.Restart restart.Always) h = tested is_shown (codes "always") refl
 value_shown in_seq (attr.Restart restart.WhenNotActive) h = tested is_shown (codes "whenNotActive") refl
 value_shown in_seq (attr.Restart restart.Never) h = tested is_shown (codes "never") refl
+value_shown in_seq (attr.Restart restart.ByDefault) h = tested is_shown (codes "default") refl
 value_shown in_seq (attr.Fill fill.Remove) h = tested is_shown (codes "remove") refl
 value_shown in_seq (attr.Fill fill.Freeze) h = tested is_shown (codes "freeze") refl
 value_shown in_seq (attr.Fill fill.Hold) h = tested is_shown (codes "hold") refl
 value_shown in_seq (attr.Fill fill.Auto) h = tested is_shown (codes "auto") refl
+value_shown in_seq (attr.Fill fill.ByDefault) h = tested is_shown (codes "default") refl
+value_shown in_seq (attr.RestartDefault restart_default.Always) h = tested is_shown (codes "always") refl
+value_shown in_seq (attr.RestartDefault restart_default.WhenNotActive) h = tested is_shown (codes "whenNotActive") refl
+value_shown in_seq (attr.RestartDefault restart_default.Never) h = tested is_shown (codes "never") refl
+value_shown in_seq (attr.RestartDefault restart_default.Inherit) h = tested is_shown (codes "inherit") refl
+value_shown in_seq (attr.FillDefault fill_default.Remove) h = tested is_shown (codes "remove") refl
+value_shown in_seq (attr.FillDefault fill_default.Freeze) h = tested is_shown (codes "freeze") refl
+value_shown in_seq (attr.FillDefault fill_default.Hold) h = tested is_shown (codes "hold") refl
+value_shown in_seq (attr.FillDefault fill_default.Auto) h = tested is_shown (codes "auto") refl
+value_shown in_seq (attr.FillDefault fill_default.Inherit) h = tested is_shown (codes "inherit") refl
 value_shown in_seq (attr.Endsync endsync.Last) h = tested is_shown (codes "last") refl
 value_shown in_seq (attr.Endsync endsync.First) h = tested is_shown (codes "first") refl
 value_shown in_seq (attr.Endsync endsync.All) h = tested is_shown (codes "all") refl
@@ -170,6 +197,9 @@ value_shown in_seq (attr.Src text) h = kept_shown text h
 value_shown in_seq (attr.Region text) h = kept_shown text h
 value_shown in_seq (attr.Alt text) h = kept_shown text h
 value_shown in_seq (attr.Title text) h = kept_shown text h
+value_shown in_seq (attr.TargetElement text) h = id_shown text h
+value_shown in_seq (attr.AttributeName text) h = attribute_name_shown text h
+value_shown in_seq (attr.To text) h = kept_shown text h
 
 -- lines
 
@@ -192,6 +222,11 @@ name_shown name.Src = tested is_shown (32 ∷ (name_text name.Src ++ codes "=\""
 name_shown name.Region = tested is_shown (32 ∷ (name_text name.Region ++ codes "=\"")) refl
 name_shown name.Alt = tested is_shown (32 ∷ (name_text name.Alt ++ codes "=\"")) refl
 name_shown name.Title = tested is_shown (32 ∷ (name_text name.Title ++ codes "=\"")) refl
+name_shown name.RestartDefault = tested is_shown (32 ∷ (name_text name.RestartDefault ++ codes "=\"")) refl
+name_shown name.FillDefault = tested is_shown (32 ∷ (name_text name.FillDefault ++ codes "=\"")) refl
+name_shown name.TargetElement = tested is_shown (32 ∷ (name_text name.TargetElement ++ codes "=\"")) refl
+name_shown name.AttributeName = tested is_shown (32 ∷ (name_text name.AttributeName ++ codes "=\"")) refl
+name_shown name.To = tested is_shown (32 ∷ (name_text name.To ++ codes "=\"")) refl
 
 kind_shown : (k : Kind) → IsShown (kind_text k)
 kind_shown kind.Par = tested is_shown (kind_text kind.Par) refl
@@ -206,6 +241,7 @@ kind_shown kind.Video = tested is_shown (kind_text kind.Video) refl
 kind_shown kind.Animation = tested is_shown (kind_text kind.Animation) refl
 kind_shown kind.TextStream = tested is_shown (kind_text kind.TextStream) refl
 kind_shown kind.Ref = tested is_shown (kind_text kind.Ref) refl
+kind_shown kind.Set = tested is_shown (kind_text kind.Set) refl
 
 attribute_shown : (in_seq had : Bool) (n : AttrName) (o : Option Attr) → IfSome o (λ given. (had ≡ true) × IsInRange in_seq given) → IsShown (attribute_text n (option_map attr_text o))
 attribute_shown in_seq had n None h = tt

@@ -1,5 +1,5 @@
 -- What some text is read as fits the kinds of a node and its parent.
-use Rattle.std.proofs.Common.{◌≡◌, ℕ, ◌+◌, ◌<◌, ◌≤◌, Bool, true, false, not, eqb, ltb, leb, ◌&&◌, ◌||◌, List, [], ◌∷◌, length, take, Option, Some, None, option_map, is_some, Result, Ok, Err, refl, sym, subst, arith}
+use Rattle.std.proofs.Common.{◌≡◌, ℕ, ◌+◌, ◌<◌, ◌≤◌, Bool, true, false, not, cond, eqb, ltb, leb, ◌&&◌, ◌||◌, List, [], ◌∷◌, length, take, Option, Some, None, option_map, is_some, Result, Ok, Err, refl, sym, subst, arith}
 use Rattle.std.specs.Prelude.{ℤ, pos, negsuc, codes, bytes_eq, IfOk, IfSome, IsTrue}
 use Rattle.std.specs.List.{AllByRecursion, prefix_len, list_all}
 use Rattle.std.proofs.lemmas.Bool.{and_parts, not-true, not_from_true, le-leb, lt-ltb, ltb-false, eqb-true, cond_both}
@@ -14,7 +14,7 @@ use Rattle.smil_model.specs.declared.document.Attrs.{Attrs}
 use Rattle.smil_model.specs.declared.document.AttrName.{AttrName}
 use Rattle.smil_model.specs.declared.document.AttrName.TheVariants as name
 use Rattle.smil_model.specs.declared.document.Item.{Item}
-use Rattle.smil_model.specs.declared.document.Item.TheVariants.{Offset, Sync, Event, Repeat, Indefinite}
+use Rattle.smil_model.specs.declared.document.Item.TheVariants.{Offset, Sync, Event, Repeat, Key, Indefinite}
 use Rattle.smil_model.specs.declared.document.Dur.{Dur}
 use Rattle.smil_model.specs.declared.document.Dur.TheVariants as dur
 use Rattle.smil_model.specs.declared.document.Count.{Count}
@@ -25,18 +25,19 @@ use Rattle.smil_model.specs.declared.document.Act.{Act}
 use Rattle.smil_model.specs.declared.document.Act.TheVariants as act
 use Rattle.smil_model.specs.declared.times.Time.{Time}
 use Rattle.smil_model.specs.declared.times.Time.TheVariants as time
-use Rattle.smil_model.specs.document.Document.{is_class_kind}
-use Rattle.smil_model.specs.document.Words.{is_initial, is_of_name, is_of_id, is_word, is_id, is_event_name, is_kept_text}
-use Rattle.smil_model.specs.document.Values.{absent_or, is_clock, is_offset, is_item, is_list, is_plain_begin, is_begin, is_dur, is_bound, is_positive_bound, is_count, is_endsync, is_higher, is_lower, has_endsync, has_class_attrs, has_element_attrs, are_element_values, is_seq_parent, fit_kind}
+use Rattle.smil_model.specs.document.Document.{is_class_kind, is_set_kind}
+use Rattle.smil_model.specs.document.Words.{is_initial, is_of_name, is_of_id, is_word, is_id, is_event_name, is_attribute_name, is_kept_text}
+use Rattle.smil_model.specs.document.Values.{absent_or, is_clock, is_offset, is_item, is_list, is_plain_begin, is_begin, is_dur, is_bound, is_positive_bound, is_count, is_endsync, is_higher, is_lower, has_endsync, has_class_attrs, has_set_attrs, has_media_attrs, has_element_attrs, are_element_values, is_seq_parent, fit_kind}
 use Rattle.smil_grammar.specs.declared.fault.AttrFault.{AttrFault}
 use Rattle.smil_grammar.specs.declared.fault.ListFault.{ListFault}
 use Rattle.smil_grammar.specs.Texts.{◌>>=◌, trim}
+use Rattle.smil_model.specs.declared.limits.TheConstants.{ID_BYTES}
 use Rattle.smil_grammar.specs.Words.{short_len, id_len}
 use Rattle.smil_grammar.specs.Numbers.{with_fraction}
 use Rattle.smil_grammar.specs.Clock.{clock_within}
 use Rattle.smil_grammar.specs.Items.{IsItem}
 use Rattle.smil_grammar.specs.Lists.{is_plain, list_of, IsList}
-use Rattle.smil_grammar.specs.Values.{either, above_zero, short_number_of, thousandths, id_of, kept_of, dur_of, time_of, repeat_dur_of, count_of, restart_of, fill_of, endsync_of, peers_of, higher_of, lower_of, is_other_value, plain_value_of, value_of}
+use Rattle.smil_grammar.specs.Values.{either, above_zero, short_number_of, thousandths, id_of, attribute_name_of, restart_default_of, fill_default_of, kept_of, dur_of, time_of, repeat_dur_of, count_of, restart_of, fill_of, endsync_of, peers_of, higher_of, lower_of, is_other_value, plain_value_of, value_of}
 use Rattle.smil_grammar.specs.Nodes.{is_seq}
 use Rattle.smil_grammar.specs.Spellings.{IsWithin}
 use Rattle.smil_grammar.specs.Allowed.{name_of, IsAttr, IsAttrs}
@@ -67,12 +68,12 @@ all_pass p text e = let all : take (prefix_len p text) text ≡ text = take_all 
 whole_ranged : (text : List ℕ) → eqb (length text) 0 ≡ false → id_len false text ≡ length text → is_id text ≡ true
 whole_ranged [] some e = absurd cc
 whole_ranged (b ∷ bytes) some e =
-    cond_both (is_initial b) (1 + prefix_len is_of_id bytes) 0 (λ n. short_len n n ≡ length (b ∷ bytes) → is_id (b ∷ bytes) ≡ true)
+    cond_both (is_initial b) (1 + prefix_len is_of_id bytes) 0 (λ n. short_len ID_BYTES n n ≡ length (b ∷ bytes) → is_id (b ∷ bytes) ≡ true)
     (λ i k. cond_both (ltb 64 (1 + prefix_len is_of_id bytes)) 0 (1 + prefix_len is_of_id bytes) (λ n. n ≡ length (b ∷ bytes) → is_id (b ∷ bytes) ≡ true)
     (λ t m. absurd (omega arith)) (λ t m. word_ranged is_of_id (b ∷ bytes) (i, all_pass is_of_id bytes (omega arith), omega (arith, ltb-false _ _ t))) k)
     (λ i k. absurd (none b bytes k)) e
   where
-    none : (b : ℕ) (bytes : List ℕ) → short_len 0 0 ≡ length (b ∷ bytes) → ⊥
+    none : (b : ℕ) (bytes : List ℕ) → short_len ID_BYTES 0 0 ≡ length (b ∷ bytes) → ⊥
     none b bytes k = omega arith
 
 abbrev IsId : List ℕ → Type 0
@@ -87,6 +88,12 @@ IsKept text = is_kept_text text ≡ true
 
 kept_ranged : (text : List ℕ) → IfSome (kept_of text) IsKept
 kept_ranged text = cond_both _ (Some text) None (λ o. IfSome o IsKept) (λ e. e) (λ e. tt)
+
+abbrev IsName : List ℕ → Type 0
+IsName text = is_attribute_name text ≡ true
+
+attribute_name_ranged : (text : List ℕ) → IfSome (attribute_name_of text) IsName
+attribute_name_ranged text = cond_both (is_attribute_name text) (Some text) None (λ o. IfSome o IsName) (λ e. e) (λ e. tt)
 
 -- lists
 
@@ -106,6 +113,7 @@ item_ranged (Repeat who n offset) h =
     let some : leb 1 n ≡ true = le-leb _ _ (omega arith) in
     let few : leb n 999_999_999 ≡ true = le-leb _ _ (omega arith) in
     rw (who_ranged who h.0, some, few, offset_ranged offset h.3) refl
+item_ranged (Key key offset) h = rw (h.0, offset_ranged offset h.1) refl
 item_ranged Indefinite h = refl
 
 items_ranged : (items : List Item) → AllByRecursion IsItem items → list_all is_item items ≡ true
@@ -126,6 +134,7 @@ plain_ranged (Offset offset ∷ item ∷ items) h = absurd cc
 plain_ranged (Sync who edge offset ∷ items) h = absurd cc
 plain_ranged (Event who name offset ∷ items) h = absurd cc
 plain_ranged (Repeat who n offset ∷ items) h = absurd cc
+plain_ranged (Key key offset ∷ items) h = absurd cc
 plain_ranged (Indefinite ∷ items) h = absurd cc
 
 begin_ranged : (in_seq : Bool) (items : List Item) → IsList in_seq items → is_begin in_seq items ≡ true
@@ -232,6 +241,8 @@ any in_seq name.RepeatCount text e = value attr.RepeatCount CountIs (IsInRange i
 any in_seq name.RepeatDur text e = value attr.RepeatDur LengthIs (IsInRange in_seq) (λ x h. h) (repeat_dur_of (trim text)) (repeat_ranged (trim text))
 any in_seq name.Restart text e = any_value attr.Restart (IsInRange in_seq) (λ x. tt) (restart_of (trim text))
 any in_seq name.Fill text e = any_value attr.Fill (IsInRange in_seq) (λ x. tt) (fill_of (trim text))
+any in_seq name.RestartDefault text e = any_value attr.RestartDefault (IsInRange in_seq) (λ x. tt) (restart_default_of (trim text))
+any in_seq name.FillDefault text e = any_value attr.FillDefault (IsInRange in_seq) (λ x. tt) (fill_default_of (trim text))
 any in_seq name.Endsync text e = value attr.Endsync EndsyncIs (IsInRange in_seq) (λ x h. h) (endsync_of (trim text)) (endsync_ranged (trim text) e)
 any in_seq name.Peers text e = any_value attr.Peers (IsInRange in_seq) (λ x. tt) (peers_of (trim text))
 any in_seq name.Higher text e = value attr.Higher HigherIs (IsInRange in_seq) (λ x h. h) (higher_of (trim text)) (higher_ranged (trim text))
@@ -240,6 +251,9 @@ any in_seq name.Src text e = value attr.Src IsKept (IsInRange in_seq) (λ x h. h
 any in_seq name.Region text e = value attr.Region IsKept (IsInRange in_seq) (λ x h. h) (kept_of text) (kept_ranged text)
 any in_seq name.Alt text e = value attr.Alt IsKept (IsInRange in_seq) (λ x h. h) (kept_of text) (kept_ranged text)
 any in_seq name.Title text e = value attr.Title IsKept (IsInRange in_seq) (λ x h. h) (kept_of text) (kept_ranged text)
+any in_seq name.TargetElement text e = value attr.TargetElement IsId (IsInRange in_seq) (λ x h. h) (id_of (trim text)) (id_ranged (trim text))
+any in_seq name.AttributeName text e = value attr.AttributeName IsName (IsInRange in_seq) (λ x h. h) (attribute_name_of (trim text)) (attribute_name_ranged (trim text))
+any in_seq name.To text e = value attr.To IsKept (IsInRange in_seq) (λ x h. h) (kept_of text) (kept_ranged text)
 
 value_ranged : (in_seq : Bool) (n : AttrName) (text : List ℕ) → IfOk (value_of in_seq n text) (IsInRange in_seq)
 value_ranged in_seq n text = cond_both (is_other_value n (trim text)) _ (plain_value_of in_seq n text) (λ r. IfOk r (IsInRange in_seq)) (λ e. tt) (λ e. any in_seq n text e)
@@ -278,6 +292,22 @@ no_endsync kind.Video e = refl
 no_endsync kind.Animation e = refl
 no_endsync kind.TextStream e = refl
 no_endsync kind.Ref e = refl
+no_endsync kind.Set e = refl
+
+no_set : (k : Kind) → is_class_kind k ≡ true → is_set_kind k ≡ false
+no_set kind.Par e = refl
+no_set kind.Seq e = refl
+no_set kind.Excl e = refl
+no_set kind.PriorityClass e = refl
+no_set kind.Img e = refl
+no_set kind.Text e = refl
+no_set kind.Brush e = refl
+no_set kind.Audio e = refl
+no_set kind.Video e = refl
+no_set kind.Animation e = refl
+no_set kind.TextStream e = refl
+no_set kind.Ref e = refl
+no_set kind.Set e = absurd cc
 
 class_ranged : (in_seq : Bool) (k : Kind) (attrs : Attrs) → is_class_kind k ≡ true → IsAttrs in_seq k attrs
     → (not (has_element_attrs attrs) && absent_or is_higher attrs.higher && absent_or is_lower attrs.lower) ≡ true
@@ -292,17 +322,39 @@ class_ranged in_seq k attrs class h =
     let p_repeat_dur = gone attr.RepeatDur in_seq (not (is_class_kind k)) attrs.repeat_dur (h name.RepeatDur) other in
     let p_restart = gone attr.Restart in_seq (not (is_class_kind k)) attrs.restart (h name.Restart) other in
     let p_fill = gone attr.Fill in_seq (not (is_class_kind k)) attrs.fill (h name.Fill) other in
+    let media : (not (is_class_kind k) && not (is_set_kind k)) ≡ false = rw class refl in
+    let set = no_set k class in
+    let p_restart_default = gone attr.RestartDefault in_seq (not (is_class_kind k)) attrs.restart_default (h name.RestartDefault) other in
+    let p_fill_default = gone attr.FillDefault in_seq (not (is_class_kind k)) attrs.fill_default (h name.FillDefault) other in
     let p_endsync = gone attr.Endsync in_seq (has_endsync k) attrs.endsync (h name.Endsync) (no_endsync k class) in
-    let p_src = gone attr.Src in_seq (not (is_class_kind k)) attrs.src (h name.Src) other in
-    let p_region = gone attr.Region in_seq (not (is_class_kind k)) attrs.region (h name.Region) other in
-    let p_alt = gone attr.Alt in_seq (not (is_class_kind k)) attrs.alt (h name.Alt) other in
+    let p_src = gone attr.Src in_seq (not (is_class_kind k) && not (is_set_kind k)) attrs.src (h name.Src) media in
+    let p_region = gone attr.Region in_seq (not (is_class_kind k) && not (is_set_kind k)) attrs.region (h name.Region) media in
+    let p_alt = gone attr.Alt in_seq (not (is_class_kind k) && not (is_set_kind k)) attrs.alt (h name.Alt) media in
     let p_title = gone attr.Title in_seq (not (is_class_kind k)) attrs.title (h name.Title) other in
+    let p_target = gone attr.TargetElement in_seq (is_set_kind k) attrs.target_element (h name.TargetElement) set in
+    let p_name = gone attr.AttributeName in_seq (is_set_kind k) attrs.attribute_name (h name.AttributeName) set in
+    let p_to = gone attr.To in_seq (is_set_kind k) attrs.to (h name.To) set in
     let higher = in_range attr.Higher is_higher in_seq (is_class_kind k) (λ x r. r) attrs.higher (h name.Higher) in
     let lower = in_range attr.Lower is_lower in_seq (is_class_kind k) (λ x r. r) attrs.lower (h name.Lower) in
-    rw (p_begin, p_dur, p_end, p_min, p_max, p_repeat_count, p_repeat_dur, p_restart, p_fill, p_endsync, p_src, p_region, p_alt, p_title, higher, lower) refl
+    rw (p_begin, p_dur, p_end, p_min, p_max, p_repeat_count, p_repeat_dur, p_restart, p_fill, p_restart_default, p_fill_default, p_endsync, p_src, p_region, p_alt, p_title, p_target, p_name, p_to, higher, lower) refl
+
+parted : (in_seq : Bool) (k : Kind) (attrs : Attrs) → is_class_kind k ≡ false → IsAttrs in_seq k attrs → not (cond (is_set_kind k) (has_media_attrs attrs) (has_set_attrs attrs)) ≡ true
+parted in_seq k attrs class h =
+    cond_both (is_set_kind k) (has_media_attrs attrs) (has_set_attrs attrs) (λ t. not t ≡ true)
+    (λ set.
+    let other : (not (is_class_kind k) && not (is_set_kind k)) ≡ false = rw (class, set) refl in
+    let p_src = gone attr.Src in_seq (not (is_class_kind k) && not (is_set_kind k)) attrs.src (h name.Src) other in
+    let p_region = gone attr.Region in_seq (not (is_class_kind k) && not (is_set_kind k)) attrs.region (h name.Region) other in
+    let p_alt = gone attr.Alt in_seq (not (is_class_kind k) && not (is_set_kind k)) attrs.alt (h name.Alt) other in
+    rw (p_src, p_region, p_alt) refl)
+    (λ set.
+    let p_target = gone attr.TargetElement in_seq (is_set_kind k) attrs.target_element (h name.TargetElement) set in
+    let p_name = gone attr.AttributeName in_seq (is_set_kind k) attrs.attribute_name (h name.AttributeName) set in
+    let p_to = gone attr.To in_seq (is_set_kind k) attrs.to (h name.To) set in
+    rw (p_target, p_name, p_to) refl)
 
 element_ranged : (in_seq : Bool) (k : Kind) (attrs : Attrs) → is_class_kind k ≡ false → IsAttrs in_seq k attrs
-    → (not (has_class_attrs attrs) && are_element_values in_seq attrs && (has_endsync k || not (is_some attrs.endsync))) ≡ true
+    → (not (has_class_attrs attrs) && are_element_values in_seq attrs && (has_endsync k || not (is_some attrs.endsync)) && not (cond (is_set_kind k) (has_media_attrs attrs) (has_set_attrs attrs))) ≡ true
 element_ranged in_seq k attrs class h =
     let g_peers = gone attr.Peers in_seq (is_class_kind k) attrs.peers (h name.Peers) class in
     let g_higher = gone attr.Higher in_seq (is_class_kind k) attrs.higher (h name.Higher) class in
@@ -315,18 +367,22 @@ element_ranged in_seq k attrs class h =
     let p_repeat_count = in_range attr.RepeatCount is_count in_seq (not (is_class_kind k)) (λ x r. r) attrs.repeat_count (h name.RepeatCount) in
     let p_repeat_dur = in_range attr.RepeatDur is_positive_bound in_seq (not (is_class_kind k)) (λ x r. r) attrs.repeat_dur (h name.RepeatDur) in
     let p_endsync = in_range attr.Endsync is_endsync in_seq (has_endsync k) (λ x r. r) attrs.endsync (h name.Endsync) in
-    let p_src = in_range attr.Src is_kept_text in_seq (not (is_class_kind k)) (λ x r. r) attrs.src (h name.Src) in
-    let p_region = in_range attr.Region is_kept_text in_seq (not (is_class_kind k)) (λ x r. r) attrs.region (h name.Region) in
-    let p_alt = in_range attr.Alt is_kept_text in_seq (not (is_class_kind k)) (λ x r. r) attrs.alt (h name.Alt) in
+    let p_src = in_range attr.Src is_kept_text in_seq (not (is_class_kind k) && not (is_set_kind k)) (λ x r. r) attrs.src (h name.Src) in
+    let p_region = in_range attr.Region is_kept_text in_seq (not (is_class_kind k) && not (is_set_kind k)) (λ x r. r) attrs.region (h name.Region) in
+    let p_alt = in_range attr.Alt is_kept_text in_seq (not (is_class_kind k) && not (is_set_kind k)) (λ x r. r) attrs.alt (h name.Alt) in
     let p_title = in_range attr.Title is_kept_text in_seq (not (is_class_kind k)) (λ x r. r) attrs.title (h name.Title) in
+    let p_target = in_range attr.TargetElement is_id in_seq (is_set_kind k) (λ x r. r) attrs.target_element (h name.TargetElement) in
+    let p_name = in_range attr.AttributeName is_attribute_name in_seq (is_set_kind k) (λ x r. r) attrs.attribute_name (h name.AttributeName) in
+    let p_to = in_range attr.To is_kept_text in_seq (is_set_kind k) (λ x r. r) attrs.to (h name.To) in
+    let apart = parted in_seq k attrs class h in
     let last = left_out attr.Endsync in_seq (has_endsync k) attrs.endsync (h name.Endsync) in
-    rw (g_peers, g_higher, g_lower, p_begin, p_dur, p_end, p_min, p_max, p_repeat_count, p_repeat_dur, p_endsync, p_src, p_region, p_alt, p_title, last) refl
+    rw (g_peers, g_higher, g_lower, p_begin, p_dur, p_end, p_min, p_max, p_repeat_count, p_repeat_dur, p_endsync, p_src, p_region, p_alt, p_title, p_target, p_name, p_to, last, apart) refl
 
 pub ranges : (k : Kind) (parent : Option Kind) (attrs : Attrs) → IsAttrs (is_seq parent) k attrs → fit_kind k parent attrs ≡ true
 ranges k parent attrs h =
     let id = in_range attr.Id is_id (is_seq parent) true (λ x r. r) attrs.id (h name.Id) in
     let given : IsAttrs (is_seq_parent parent) k attrs = subst (λ (in_seq : Bool). IsAttrs in_seq k attrs) (sym (seq_same parent)) h in
     let rest =
-    cond_both (is_class_kind k) (not (has_element_attrs attrs) && absent_or is_higher attrs.higher && absent_or is_lower attrs.lower) (not (has_class_attrs attrs) && are_element_values (is_seq_parent parent) attrs && (has_endsync k || not (is_some attrs.endsync)))
+    cond_both (is_class_kind k) (not (has_element_attrs attrs) && absent_or is_higher attrs.higher && absent_or is_lower attrs.lower) (not (has_class_attrs attrs) && are_element_values (is_seq_parent parent) attrs && (has_endsync k || not (is_some attrs.endsync)) && not (cond (is_set_kind k) (has_media_attrs attrs) (has_set_attrs attrs)))
     (λ t. t ≡ true) (λ class. class_ranged (is_seq_parent parent) k attrs class given) (λ class. element_ranged (is_seq_parent parent) k attrs class given) in
     rw (id, rest) refl

@@ -1,24 +1,24 @@
 -- A printed node line is read as its node, where the node may stand.
-use Rattle.std.proofs.Common.{◌≡◌, ℕ, zero, suc, ◌+◌, ◌*◌, ◌<◌, ◌≤◌, Bool, true, false, not, cond, eqb, ltb, leb, ◌&&◌, ◌||◌, List, [], ◌∷◌, ◌++◌, length, take, drop, replicate, flat_map, Option, Some, None, option_map, is_some, Result, Ok, Err, refl, ap, subst, ◌∙◌, arith, append_assoc}
-use Rattle.std.specs.Prelude.{◌/◌, ◌%◌, unwrap_or, sum_by}
+use Rattle.std.proofs.Common.{◌≡◌, ℕ, zero, suc, ◌+◌, ◌*◌, ◌<◌, ◌≤◌, Bool, true, false, not, eqb, ltb, leb, ◌&&◌, ◌||◌, List, [], ◌∷◌, ◌++◌, length, take, drop, replicate, flat_map, Option, Some, None, option_map, is_some, Result, Ok, Err, refl, ap, ◌∙◌, arith, append_assoc}
+use Rattle.std.specs.Prelude.{◌/◌, ◌%◌, unwrap_or, sum_by, codes, bytes_eq}
 use Rattle.std.specs.List.{prefix_len}
 use Rattle.std.proofs.lemmas.Bool.{le-ltb, lt-leb, ne_eqb}
+use Rattle.smil_model.specs.declared.limits.TheConstants.{NODES, DEPTH, REFERENCES, LINE_BYTES}
 use Rattle.smil_model.specs.declared.document.Kind.{Kind}
 use Rattle.smil_model.specs.declared.document.Kind.TheVariants as kind
 use Rattle.smil_model.specs.declared.document.Node.{Node}
 use Rattle.smil_model.specs.declared.document.Attrs.{Attrs}
 use Rattle.smil_model.specs.declared.order.Refusal.{Refusal}
 use Rattle.smil_model.specs.declared.order.Refusal.TheVariants as refusal
-use Rattle.smil_model.specs.document.Edits.{no_attrs}
-use Rattle.smil_grammar.specs.declared.fault.NodeFault.{NodeFault}
-use Rattle.smil_grammar.specs.declared.fault.NodeFault.TheVariants as fault
+use Rattle.smil_model.specs.document.Limits.{limits}
 use Rattle.smil_grammar.specs.Results.{◌>>=◌}
 use Rattle.smil_grammar.specs.Attributes.{kind_text, names}
-use Rattle.smil_grammar.specs.Spellings.{value_text, attribute_text, node_text}
-use Rattle.smil_grammar.specs.Allowed.{IsAttrs}
-use Rattle.smil_grammar.specs.Nodes.{Shape, is_space, shape_of, kind_of, kind_of_shape, fits_in, is_seq, attrs_from, attrs_of}
-use Rattle.smil_grammar.specs.Outlines.{Outline, unless, in_line, mixes, has_id, references, attrs_in, last_of, node_at, with_line}
-use Rattle.smil_attrs.proofs.Noded.{node_read}
+use Rattle.smil_grammar.specs.Spellings.{value_text, attribute_text, node_text, saved_node_text}
+use Rattle.smil_grammar.specs.Nodes.{Shape, is_space, is_no_space, kind_of_shape, fits_in, is_seq}
+use Rattle.smil_grammar.specs.Outlines.{Outline, unless, in_line, mixes, has_id, references, attrs_in, last_of, is_bad_serial, opens_saved, shape_in, node_within, shape_within, with_node, with_line}
+use Rattle.smil_attrs.proofs.Noded.{IsShape}
+use Rattle.smil_attrs.proofs.Printed.{behind_kind, saved_parts}
+use Rattle.smil_outline.proofs.Parts.{as_node}
 
 -- ---- spaces
 
@@ -43,6 +43,7 @@ no_space kind.Video text = refl
 no_space kind.Animation text = refl
 no_space kind.TextStream text = refl
 no_space kind.Ref text = refl
+no_space kind.Set text = refl
 
 apart : (depth : ℕ) (k : Kind) (attrs : Attrs) → node_text depth k attrs ≡ replicate (2 * depth) 32 ++ node_text 0 k attrs
 apart depth k attrs = append_assoc (replicate (2 * depth) 32) (kind_text k) (flat_map (λ n. attribute_text n (value_text attrs n)) names)
@@ -53,50 +54,60 @@ line_spaces depth k attrs = ap (prefix_len is_space) (apart depth k attrs) ∙ s
 pub line_text : (depth : ℕ) (k : Kind) (attrs : Attrs) → drop (2 * depth) (node_text depth k attrs) ≡ node_text 0 k attrs
 line_text depth k attrs = ap (drop (2 * depth)) (apart depth k attrs) ∙ behind_spaces (2 * depth) (node_text 0 k attrs)
 
--- ---- the line without its spaces
+-- the same where the serial stands behind the kind
 
-pub record IsReading (parent : Option Kind) (k : Kind) (attrs : Attrs) (shape : Option Shape) : Type 0 where
-  pub shaped : is_some shape ≡ true
-  pub kind : kind_of_shape shape ≡ Ok k
-  pub given : (above : Option (ℕ × Kind)) → option_map (λ (n : ℕ × Kind). n.1) above ≡ parent → attrs_in above k shape ≡ Ok attrs
+saved_apart : (depth : ℕ) (k : Kind) (serial : ℕ) (attrs : Attrs) → saved_node_text depth k serial attrs ≡ replicate (2 * depth) 32 ++ saved_node_text 0 k serial attrs
+saved_apart depth k serial attrs = simp append_assoc
 
-abbrev both : Kind → Attrs → Result (Kind × Attrs) NodeFault
-both k attrs = Ok (k, attrs)
+pub saved_spaces : (depth : ℕ) (k : Kind) (serial : ℕ) (attrs : Attrs) → prefix_len is_space (saved_node_text depth k serial attrs) ≡ 2 * depth
+saved_spaces depth k serial attrs =
+    ap (prefix_len is_space) (saved_apart depth k serial attrs)
+    ∙ spaces_before (2 * depth) (saved_node_text 0 k serial attrs) (ap (prefix_len is_space) (saved_parts k serial (value_text attrs)) ∙ no_space k (behind_kind serial (value_text attrs)))
 
-reading : (parent : Option Kind) (k : Kind) (attrs : Attrs) (shape : Option Shape) → (kind_of_shape shape >>= λ k. attrs_of parent k shape) ≡ both k attrs → IsReading parent k attrs shape
-reading parent k attrs None h = absurd cc
-reading parent k attrs (Some shape) h = by_kind parent k attrs shape (kind_of_shape (Some shape)) refl h
-  where
-    by_attrs : (parent : Option Kind) (k other : Kind) (attrs : Attrs) (shape : Shape) (r : Result Attrs NodeFault) → attrs_from (is_seq parent) other no_attrs shape.attributes ≡ r → kind_of_shape (Some shape) ≡ Ok other
-        → (r >>= both other) ≡ both k attrs → IsReading parent k attrs (Some shape)
-    by_attrs parent k other attrs shape (Err e) a o h = absurd cc
-    by_attrs parent k other attrs shape (Ok given) a o h =
-        let pair : (other, given) ≡ (k, attrs) = cc in
-        let same : other ≡ k = ap (λ (p : Kind × Attrs). p.0) pair in
-        let alike : given ≡ attrs = ap (λ (p : Kind × Attrs). p.1) pair in
-        let whole : attrs_from (is_seq parent) k no_attrs shape.attributes ≡ Ok attrs = subst (λ (k : Kind). attrs_from (is_seq parent) k no_attrs shape.attributes ≡ Ok attrs) same (a ∙ ap (λ (x : Attrs). Ok x) alike) in
-        record {
-          shaped = refl;
-          kind = o ∙ ap (λ (x : Kind). Ok x) same;
-          given = λ above e. ap (λ (p : Option Kind). attrs_from (is_seq p) k no_attrs shape.attributes) e ∙ whole;
-        }
+pub saved_line_text : (depth : ℕ) (k : Kind) (serial : ℕ) (attrs : Attrs) → drop (2 * depth) (saved_node_text depth k serial attrs) ≡ saved_node_text 0 k serial attrs
+saved_line_text depth k serial attrs = ap (drop (2 * depth)) (saved_apart depth k serial attrs) ∙ behind_spaces (2 * depth) (saved_node_text 0 k serial attrs)
 
-    by_fit : (parent : Option Kind) (k other : Kind) (attrs : Attrs) (shape : Shape) (t : Bool) → kind_of_shape (Some shape) ≡ Ok other
-        → cond t (attrs_from (is_seq parent) other no_attrs shape.attributes >>= both other) (Err fault.BadPlace) ≡ both k attrs → IsReading parent k attrs (Some shape)
-    by_fit parent k other attrs shape false o h = absurd cc
-    by_fit parent k other attrs shape true o h = by_attrs parent k other attrs shape (attrs_from (is_seq parent) other no_attrs shape.attributes) refl o h
+-- ---- the first word
 
-    by_kind : (parent : Option Kind) (k : Kind) (attrs : Attrs) (shape : Shape) (r : Result Kind NodeFault) → kind_of_shape (Some shape) ≡ r → (r >>= λ k. attrs_of parent k (Some shape)) ≡ both k attrs → IsReading parent k attrs (Some shape)
-    by_kind parent k attrs shape (Err e) o h = absurd cc
-    by_kind parent k attrs shape (Ok other) o h = by_fit parent k other attrs shape (fits_in parent other) o h
+word_first : (b : ℕ) (text : List ℕ) → is_no_space b ≡ true → take (prefix_len is_no_space (b ∷ text)) (b ∷ text) ≡ b ∷ take (prefix_len is_no_space text) text
+word_first b text h =
+    let len : prefix_len is_no_space (b ∷ text) ≡ suc (prefix_len is_no_space text) = rw h (omega arith) in
+    ap (λ n. take n (b ∷ text)) len
 
-pub text_read : (parent : Option Kind) (k : Kind) (attrs : Attrs) → fits_in parent k ≡ true → IsAttrs (is_seq parent) k attrs → IsReading parent k attrs (shape_of (node_text 0 k attrs))
-text_read parent k attrs fits h = reading parent k attrs (shape_of (node_text 0 k attrs)) (node_read parent k attrs fits h)
+other_word : (b : ℕ) (text : List ℕ) → is_no_space b ≡ true → eqb b 111 ≡ false → bytes_eq (take (prefix_len is_no_space (b ∷ text)) (b ∷ text)) (codes "outline") ≡ false
+other_word b text h other = ap (λ word. bytes_eq word (codes "outline")) (word_first b text h) ∙ rw other refl
+
+-- no kind is `outline`
+pub no_header : (k : Kind) (text : List ℕ) → bytes_eq (take (prefix_len is_no_space (kind_text k ++ text)) (kind_text k ++ text)) (codes "outline") ≡ false
+no_header kind.Par text = other_word 112 (codes "ar" ++ text) refl refl
+no_header kind.Seq text = other_word 115 (codes "eq" ++ text) refl refl
+no_header kind.Excl text = other_word 101 (codes "xcl" ++ text) refl refl
+no_header kind.PriorityClass text = other_word 112 (codes "riorityClass" ++ text) refl refl
+no_header kind.Img text = other_word 105 (codes "mg" ++ text) refl refl
+no_header kind.Text text = other_word 116 (codes "ext" ++ text) refl refl
+no_header kind.Brush text = other_word 98 (codes "rush" ++ text) refl refl
+no_header kind.Audio text = other_word 97 (codes "udio" ++ text) refl refl
+no_header kind.Video text = other_word 118 (codes "ideo" ++ text) refl refl
+no_header kind.Animation text = other_word 97 (codes "nimation" ++ text) refl refl
+no_header kind.TextStream text = other_word 116 (codes "extstream" ++ text) refl refl
+no_header kind.Ref text = other_word 114 (codes "ef" ++ text) refl refl
+no_header kind.Set text = other_word 115 (codes "et" ++ text) refl refl
+
+and_none : (a b : Bool) → b ≡ false → (a && b) ≡ false
+and_none true b e = e
+and_none false b e = refl
+
+pub plain_opens_none : (outline : Outline) (depth : ℕ) (k : Kind) (attrs : Attrs) → opens_saved outline (node_text depth k attrs) ≡ false
+plain_opens_none outline depth k attrs =
+    let text : List ℕ = flat_map (λ n. attribute_text n (value_text attrs n)) names in
+    and_none (not (is_some outline.next) && eqb (length outline.nodes) 0) _
+    (ap (λ (n : ℕ). bytes_eq (take (prefix_len is_no_space (drop n (node_text depth k attrs))) (drop n (node_text depth k attrs))) (codes "outline")) (line_spaces depth k attrs)
+    ∙ ap (λ (rest : List ℕ). bytes_eq (take (prefix_len is_no_space rest) rest) (codes "outline")) (line_text depth k attrs) ∙ no_header k text)
 
 -- ---- the node, and the line
 
-abbrev pub made : List Node → List (ℕ × Kind) → Kind → Attrs → Node
-made nodes above k attrs = record { serial = length nodes + 1; kind = k; parent = unwrap_or (option_map (λ (n : ℕ × Kind). n.0) (last_of above)) 0; attrs = attrs }
+abbrev pub made : ℕ → List (ℕ × Kind) → Kind → Attrs → Node
+made serial above k attrs = record { serial = serial; kind = k; parent = unwrap_or (option_map (λ (n : ℕ × Kind). n.0) (last_of above)) 0; attrs = attrs }
 
 -- where a node may stand below these, and what a document can hold
 pub record IsRoom (nodes : List Node) (above : List (ℕ × Kind)) (k : Kind) (attrs : Attrs) : Type 0 where
@@ -104,45 +115,48 @@ pub record IsRoom (nodes : List Node) (above : List (ℕ × Kind)) (k : Kind) (a
   pub single_root : (eqb (length above) 0 && ltb 0 (length nodes)) ≡ false
   pub unmixed : mixes nodes (last_of above) k ≡ false
   pub own_id : has_id nodes attrs.id ≡ false
-  pub few : length nodes < 2000
-  pub light : sum_by (λ (n : Node). references n.attrs) nodes + references attrs ≤ 8000
+  pub few : length nodes < NODES
+  pub light : sum_by (λ (n : Node). references n.attrs) nodes + references attrs ≤ REFERENCES
 
-node_is : (outline : Outline) (spaces : ℕ) (above : List (ℕ × Kind)) (k : Kind) (attrs : Attrs) (text : List ℕ) → IsRoom outline.nodes above k attrs → attrs_in (last_of above) k (shape_of text) ≡ Ok attrs
-    → node_at outline spaces above k text ≡ Ok (made outline.nodes above k attrs)
-node_is outline spaces above k attrs text room read =
-    let few : leb 2000 (length outline.nodes) ≡ false = lt-leb _ _ room.few in
-    let light : ltb 8000 (sum_by (λ (n : Node). references n.attrs) outline.nodes + references attrs) ≡ false = le-ltb _ _ room.light in
+node_is : (outline : Outline) (spaces serial : ℕ) (above : List (ℕ × Kind)) (k : Kind) (attrs : Attrs) (shape : Shape) → IsRoom outline.nodes above k attrs → attrs_in (last_of above) k shape ≡ Ok attrs
+    → node_within limits outline spaces above k serial shape ≡ Ok (made serial above k attrs)
+node_is outline spaces serial above k attrs shape room read =
+    let few : leb NODES (length outline.nodes) ≡ false = lt-leb _ _ room.few in
+    let light : ltb REFERENCES (sum_by (λ (n : Node). references n.attrs) outline.nodes + references attrs) ≡ false = le-ltb _ _ room.light in
     rw (room.fits, room.single_root, room.unmixed, read, room.own_id, few, light) refl
 
-abbrev pub with_made : Outline → List (ℕ × Kind) → Node → Outline
-with_made outline above node = record { nodes = outline.nodes ++ node ∷ []; branch = above ++ (node.serial, node.kind) ∷ [] }
-
 -- the steps of a line
-abbrev steps : Outline → List ℕ → ℕ → List ℕ → ℕ → List (ℕ × Kind) → Result Outline Refusal
-steps outline line spaces text depth above = do
-  short ← unless (ltb 4096 (length line)) refusal.LongLine
-  shaped ← unless (not (is_some (shape_of text)) || eqb (spaces % 2) 1) refusal.BadOutline
-  kind ← in_line spaces (kind_of text)
+abbrev steps : Outline → ℕ → ℕ → Shape → ℕ → Result Outline Refusal
+steps outline spaces serial shape depth = do
+  even ← unless (eqb (spaces % 2) 1) refusal.BadOutline
+  kind ← in_line spaces (kind_of_shape (Some shape))
+  fresh ← unless (is_bad_serial outline outline.next serial) refusal.BadSerial
   near ← unless (ltb (length outline.branch) depth) refusal.DepthJump
-  flat ← unless (leb 32 depth) refusal.TooDeep
-  node ← node_at outline spaces above kind text
-  Ok (with_made outline above node)
+  flat ← unless (leb DEPTH depth) refusal.TooDeep
+  node ← node_within limits outline spaces (take depth outline.branch) kind serial shape
+  Ok (with_node outline depth node)
 
-pub line_read : (outline : Outline) (depth : ℕ) (k : Kind) (attrs : Attrs) → length (node_text depth k attrs) ≤ 4096 → depth < 32 → depth ≤ length outline.branch
-    → IsRoom outline.nodes (take depth outline.branch) k attrs → IsAttrs (is_seq (option_map (λ (n : ℕ × Kind). n.1) (last_of (take depth outline.branch)))) k attrs
-    → with_line outline (node_text depth k attrs) ≡ Ok (with_made outline (take depth outline.branch) (made outline.nodes (take depth outline.branch) k attrs))
-line_read outline depth k attrs short flat near room h =
-    let line = node_text depth k attrs in
+-- a node line of this depth and shape, where its serial is in order
+pub record IsShaped (outline : Outline) (depth serial : ℕ) (k : Kind) (attrs : Attrs) (line : List ℕ) (shape : Shape) : Type 0 where
+  pub short : length line ≤ LINE_BYTES
+  pub later : opens_saved outline line ≡ false
+  pub spaces : prefix_len is_space line ≡ 2 * depth
+  pub shaped : shape_in outline outline.next (drop (2 * depth) line) ≡ Some (serial, shape)
+  pub is : IsShape (is_seq (option_map (λ (n : ℕ × Kind). n.1) (last_of (take depth outline.branch)))) k attrs shape
+  pub fresh : is_bad_serial outline outline.next serial ≡ false
+
+pub line_read : (outline : Outline) (depth serial : ℕ) (k : Kind) (attrs : Attrs) (line : List ℕ) (shape : Shape) → IsShaped outline depth serial k attrs line shape → depth < 32 → depth ≤ length outline.branch
+    → IsRoom outline.nodes (take depth outline.branch) k attrs → with_line outline line ≡ Ok (with_node outline depth (made serial (take depth outline.branch) k attrs))
+line_read outline depth serial k attrs line shape s flat near room =
     let above = take depth outline.branch in
-    let parent = option_map (λ (n : ℕ × Kind). n.1) (last_of above) in
-    let read = text_read parent k attrs room.fits h in
     let half : 2 * depth / 2 ≡ depth = omega arith in
     let even : eqb (2 * depth % 2) 1 ≡ false = ne_eqb _ _ (λ e. omega arith) in
-    let not_long : ltb 4096 (length line) ≡ false = le-ltb _ _ short in
+    let not_long : ltb LINE_BYTES (length line) ≡ false = le-ltb _ _ s.short in
     let no_jump : ltb (length outline.branch) depth ≡ false = le-ltb _ _ near in
-    let not_deep : leb 32 depth ≡ false = lt-leb _ _ flat in
-    let node = node_is outline (2 * depth) above k attrs (node_text 0 k attrs) room (read.given (last_of above) refl) in
-    ap (λ (spaces : ℕ). steps outline line spaces (drop spaces line) (spaces / 2) (take (spaces / 2) outline.branch)) (line_spaces depth k attrs)
-    ∙ ap (λ (half : ℕ). steps outline line (2 * depth) (drop (2 * depth) line) half (take half outline.branch)) half
-    ∙ ap (λ (text : List ℕ). steps outline line (2 * depth) text depth above) (line_text depth k attrs)
-    ∙ rw (not_long, read.shaped, even, read.kind, no_jump, not_deep, node) refl
+    let not_deep : leb DEPTH depth ≡ false = lt-leb _ _ flat in
+    let node = node_is outline (2 * depth) serial above k attrs shape room s.is.read in
+    let all : steps outline (2 * depth) serial shape depth ≡ Ok (with_node outline depth (made serial above k attrs)) = rw (even, s.is.kind, s.fresh, no_jump, not_deep, node) refl in
+    as_node outline line not_long s.later
+    ∙ ap (λ (spaces : ℕ). shape_within limits outline spaces (shape_in outline outline.next (drop spaces line))) s.spaces
+    ∙ ap (shape_within limits outline (2 * depth)) s.shaped
+    ∙ ap (steps outline (2 * depth) serial shape) half ∙ all

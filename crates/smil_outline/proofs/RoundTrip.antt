@@ -1,8 +1,8 @@
 -- A valid document's canonical outline is read as the same nodes, each with its place as its serial.
-use Rattle.std.proofs.Common.{◌≡◌, ℕ, suc, ◌+◌, ◌<◌, ◌≤◌, Bool, true, false, not, cond, eqb, ltb, ◌&&◌, ◌||◌, List, [], ◌∷◌, ◌++◌, ◌-◌, length, take, map, reverse, Option, Some, None, option_map, Result, Ok, refl, sym, ap, subst, ◌∙◌, arith, length-append, append_assoc, add-one}
-use Rattle.std.specs.Prelude.{unwrap_or, sum_by, bytes_eq, filter, All, slice_get}
+use Rattle.std.proofs.Common.{◌≡◌, ℕ, zero, suc, ◌+◌, ◌<◌, ◌≤◌, Bool, true, false, not, cond, eqb, ltb, ◌&&◌, ◌||◌, List, [], ◌∷◌, ◌++◌, ◌-◌, length, take, map, reverse, Option, Some, None, option_map, Result, Ok, refl, sym, ap, subst, ◌∙◌, arith, length-append, append_assoc, add-one}
+use Rattle.std.specs.Prelude.{decimal, unwrap_or, sum_by, bytes_eq, filter, All, slice_get}
 use Rattle.std.specs.List.{list_any, list_all, AllByRecursion}
-use Rattle.std.proofs.lemmas.Bool.{and_parts, or_parts, eqb-true, eq-eqb, ltb-true, ne_eqb, cond_both}
+use Rattle.std.proofs.lemmas.Bool.{and_parts, or_parts, eqb-true, eq-eqb, ltb-true, lt-ltb, le-ltb, ne_eqb, cond_both}
 use Rattle.std.proofs.lemmas.List.{reverse-append, length-reverse, take_all, take-append-le, append-nil}
 use Rattle.std.proofs.lemmas.List.Sums.{sum_by-cons}
 use Rattle.std.proofs.lemmas.List.Folds.{list_any-append}
@@ -13,7 +13,7 @@ use Rattle.smil_model.specs.declared.document.Kind.TheVariants as kind
 use Rattle.smil_model.specs.declared.document.Node.{Node}
 use Rattle.smil_model.specs.declared.document.Attrs.{Attrs}
 use Rattle.smil_model.specs.declared.document.Item.{Item}
-use Rattle.smil_model.specs.declared.document.Item.TheVariants.{Offset, Sync, Event, Repeat, Indefinite}
+use Rattle.smil_model.specs.declared.document.Item.TheVariants.{Offset, Sync, Event, Repeat, Key, Indefinite}
 use Rattle.smil_model.specs.declared.order.Refusal.{Refusal}
 use Rattle.smil_model.specs.document.Document.{Document, is_class_kind, has_id, node_at as node_with}
 use Rattle.smil_model.specs.document.Words.{is_id}
@@ -21,15 +21,22 @@ use Rattle.smil_model.specs.document.Values.{absent_or}
 use Rattle.smil_model.specs.document.Defaults.{items_or}
 use Rattle.smil_model.specs.document.Valid.{open_from, IsDistinct, IsTree, IsValid, depth_of, kind_of, may_stand, same_test, agree_with, is_well_placed, has_fitting_attrs, is_other_with, is_id_taken, is_reference, references_of, references as all_references}
 use Rattle.smil_grammar.specs.Results.{◌>>=◌}
-use Rattle.smil_grammar.specs.Spellings.{node_text}
+use Rattle.smil_grammar.specs.Spellings.{node_text, saved_node_text, header_text}
 use Rattle.smil_grammar.specs.Allowed.{IsAttrs}
-use Rattle.smil_grammar.specs.Nodes.{fits_in, is_seq}
-use Rattle.smil_grammar.specs.Outlines.{Outline, mixes, differ, has_id as has_id_among, counted, references, last_of, depth_among, lines_from, with_line, with_lines, ended, outline_of}
+use Rattle.smil_grammar.specs.Attributes.{kind_text}
+use Rattle.smil_grammar.specs.Items.{count_of}
+use Rattle.smil_grammar.specs.Nodes.{Shape, shape_of, saved_shape_of, fits_in, is_seq}
+use Rattle.smil_model.specs.declared.limits.TheConstants.{LINE_BYTES}
+use Rattle.smil_grammar.specs.Outlines.{Outline, mixes, differ, has_id as has_id_among, counted, references, last_of, depth_among, lines_from, saved_lines_from, no_lines, with_header, with_line, with_lines, ended, outline_of}
 use Rattle.smil_outline.specs.Numbered.{number_of, renumbered}
+use Rattle.smil_outline.specs.Written.{saved_lines}
 use Rattle.smil_outline.proofs.Depths.{map_on, length_map, get_or_behind}
 use Rattle.smil_outline.proofs.Walks.{depths_back, IsWalked, next_depth, walk_on, walk_starts, depth_is}
 use Rattle.smil_outline.proofs.Fitting.{fits}
-use Rattle.smil_outline.proofs.Reading.{IsRoom, made, with_made, line_read}
+use Rattle.smil_attrs.proofs.Noded.{shape_from, shape_is, plain_shape, saved_shape}
+use Rattle.smil_outline.proofs.Reading.{IsRoom, made, IsShaped, line_spaces, line_text, saved_spaces, saved_line_text, plain_opens_none, line_read}
+use Rattle.smil_outline.proofs.Parts.{as_header}
+use Rattle.smil_time_list.proofs.Spelled.{count_read}
 use Rattle.smil_outline.proofs.Numbers.{place_of, counted as counted_at, number_is, number_none, number_once, differ_before}
 
 -- ---- kinds
@@ -55,6 +62,7 @@ root_fits kind.Video h = absurd cc
 root_fits kind.Animation h = absurd cc
 root_fits kind.TextStream h = absurd cc
 root_fits kind.Ref h = absurd cc
+root_fits kind.Set h = absurd cc
 
 pub stands : (parent : Option Kind) (k : Kind) → may_stand parent k ≡ true → fits_in parent k ≡ true
 stands None k h = root_fits k h
@@ -70,6 +78,7 @@ stands (Some kind.Video) k h = absurd (nothing (is_class_kind k) h)
 stands (Some kind.Animation) k h = absurd (nothing (is_class_kind k) h)
 stands (Some kind.TextStream) k h = absurd (nothing (is_class_kind k) h)
 stands (Some kind.Ref) k h = absurd (nothing (is_class_kind k) h)
+stands (Some kind.Set) k h = absurd (nothing (is_class_kind k) h)
 
 -- ---- lists of nodes
 
@@ -137,6 +146,7 @@ referred (Offset offset) items = omega arith
 referred (Sync who edge offset) items = omega arith
 referred (Event who name offset) items = omega arith
 referred (Repeat who n offset) items = omega arith
+referred (Key key offset) items = omega arith
 referred Indefinite items = omega arith
 
 in_items : (items : List Item) → sum_by counted items ≡ length (filter is_reference items)
@@ -150,15 +160,21 @@ in_list (Some items) = in_items items
 pub same_references : (n : Node) → references n.attrs ≡ references_of n
 same_references n = omega (arith, in_list n.attrs.begin, in_list n.attrs.«end»)
 
--- ---- the nodes with their places as serials
+-- ---- the nodes with the serials that the lines give them
 
-abbrev new : List Node → Node → Node
-new nodes n = record n { serial = number_of nodes n.serial; parent = number_of nodes n.parent }
+abbrev new : (ℕ → ℕ) → Node → Node
+new number n = record n { serial = number n.serial; parent = number n.parent }
 
-light : (nodes front : List Node) (n : Node) (rest : List Node) → sum_by (λ (m : Node). references m.attrs) (map (new nodes) front) + references n.attrs ≤ sum_by references_of (front ++ n ∷ rest)
-light nodes [] n rest = omega (arith, sum_by-cons references_of n rest, same_references n)
-light nodes (m ∷ front) n rest =
-    omega (arith, sum_by-cons (λ (x : Node). references x.attrs) (new nodes m) (map (new nodes) front), sum_by-cons references_of m (front ++ n ∷ rest), same_references m, light nodes front n rest)
+-- different nodes have different numbers, none of them 0, which stands for no node
+record IsNumbering (number : ℕ → ℕ) (nodes : List Node) : Type 0 where
+  once : (a b : ℕ) → number a ≡ number b → 0 < number b → a ≡ b
+  some : (serial : ℕ) → list_any (has_serial serial) nodes ≡ true → 0 < number serial
+  none : number 0 ≡ 0
+
+light : (number : ℕ → ℕ) (front : List Node) (n : Node) (rest : List Node) → sum_by (λ (m : Node). references m.attrs) (map (new number) front) + references n.attrs ≤ sum_by references_of (front ++ n ∷ rest)
+light number [] n rest = omega (arith, sum_by-cons references_of n rest, same_references n)
+light number (m ∷ front) n rest =
+    omega (arith, sum_by-cons (λ (x : Node). references x.attrs) (new number m) (map (new number) front), sum_by-cons references_of m (front ++ n ∷ rest), same_references m, light number front n rest)
 
 -- ids
 
@@ -170,22 +186,22 @@ no_id id m h e = by id m.attrs.id h e
     by (b ∷ bytes) None h e = refl
     by id (Some own) h e = e
 
-other_ids : (nodes front : List Node) (serial : ℕ) (id : List ℕ) → is_id id ≡ true → list_any (has_serial serial) front ≡ false → list_any (is_other_with serial id) front ≡ false
-    → list_any (λ (m : Node). bytes_eq (unwrap_or m.attrs.id []) id) (map (new nodes) front) ≡ false
-other_ids nodes [] serial id h e k = refl
-other_ids nodes (m ∷ front) serial id h e k =
+other_ids : (number : ℕ → ℕ) (front : List Node) (serial : ℕ) (id : List ℕ) → is_id id ≡ true → list_any (has_serial serial) front ≡ false → list_any (is_other_with serial id) front ≡ false
+    → list_any (λ (m : Node). bytes_eq (unwrap_or m.attrs.id []) id) (map (new number) front) ≡ false
+other_ids number [] serial id h e k = refl
+other_ids number (m ∷ front) serial id h e k =
     let serials = or_parts (has_serial serial m) (list_any (has_serial serial) front) e in
     let ids = or_parts (is_other_with serial id m) (list_any (is_other_with serial id) front) k in
     let own : has_id id m.attrs.id ≡ false = rw serials.0 at ids.0 in
-    rw (no_id id m h own, other_ids nodes front serial id h serials.1 ids.1) refl
+    rw (no_id id m h own, other_ids number front serial id h serials.1 ids.1) refl
 
-free_id : (nodes front : List Node) (n : Node) (rest : List Node) → absent_or is_id n.attrs.id ≡ true → list_any (has_serial n.serial) front ≡ false → is_id_taken (front ++ n ∷ rest) n.serial n.attrs.id ≡ false
-    → has_id_among (map (new nodes) front) n.attrs.id ≡ false
-free_id nodes front n rest h e k = by nodes front n.serial (n ∷ rest) n.attrs.id h e k
+free_id : (number : ℕ → ℕ) (front : List Node) (n : Node) (rest : List Node) → absent_or is_id n.attrs.id ≡ true → list_any (has_serial n.serial) front ≡ false → is_id_taken (front ++ n ∷ rest) n.serial n.attrs.id ≡ false
+    → has_id_among (map (new number) front) n.attrs.id ≡ false
+free_id number front n rest h e k = by number front n.serial (n ∷ rest) n.attrs.id h e k
   where
-    by : (nodes front : List Node) (serial : ℕ) (back : List Node) (own : Option (List ℕ)) → absent_or is_id own ≡ true → list_any (has_serial serial) front ≡ false → is_id_taken (front ++ back) serial own ≡ false → has_id_among (map (new nodes) front) own ≡ false
-    by nodes front serial back None h e k = refl
-    by nodes front serial back (Some id) h e k = other_ids nodes front serial id h e (none_front (is_other_with serial id) front back k)
+    by : (number : ℕ → ℕ) (front : List Node) (serial : ℕ) (back : List Node) (own : Option (List ℕ)) → absent_or is_id own ≡ true → list_any (has_serial serial) front ≡ false → is_id_taken (front ++ back) serial own ≡ false → has_id_among (map (new number) front) own ≡ false
+    by number front serial back None h e k = refl
+    by number front serial back (Some id) h e k = other_ids number front serial id h e (none_front (is_other_with serial id) front back k)
 
 -- children of one kind or the other
 
@@ -195,19 +211,19 @@ alike true false h = absurd cc
 alike false true h = absurd cc
 alike false false h = refl
 
-unmixed : (nodes front : List Node) (parent : ℕ) (k : Kind) → 0 < number_of nodes parent
+unmixed : (number : ℕ → ℕ) (nodes : List Node) → IsNumbering number nodes → (front : List Node) (parent : ℕ) (k : Kind) → 0 < number parent
     → list_all (λ (m : Node). not (eqb m.parent parent) || same_test (is_class_kind m.kind) (is_class_kind k)) front ≡ true
-    → list_any (λ (m : Node). eqb m.parent (number_of nodes parent) && differ (is_class_kind m.kind) (is_class_kind k)) (map (new nodes) front) ≡ false
-unmixed nodes [] parent k some h = refl
-unmixed nodes (m ∷ front) parent k some h =
+    → list_any (λ (m : Node). eqb m.parent (number parent) && differ (is_class_kind m.kind) (is_class_kind k)) (map (new number) front) ≡ false
+unmixed number nodes is [] parent k some h = refl
+unmixed number nodes is (m ∷ front) parent k some h =
     let parts = and_parts (not (eqb m.parent parent) || same_test (is_class_kind m.kind) (is_class_kind k)) (list_all (λ (m : Node). not (eqb m.parent parent) || same_test (is_class_kind m.kind) (is_class_kind k)) front) h in
-    rw (one nodes m parent k (eqb (number_of nodes m.parent) (number_of nodes parent)) refl some parts.0, unmixed nodes front parent k some parts.1) refl
+    rw (one number nodes is m parent k (eqb (number m.parent) (number parent)) refl some parts.0, unmixed number nodes is front parent k some parts.1) refl
   where
-    one : (nodes : List Node) (m : Node) (parent : ℕ) (k : Kind) (t : Bool) → eqb (number_of nodes m.parent) (number_of nodes parent) ≡ t → 0 < number_of nodes parent
-        → (not (eqb m.parent parent) || same_test (is_class_kind m.kind) (is_class_kind k)) ≡ true → (eqb (number_of nodes m.parent) (number_of nodes parent) && differ (is_class_kind m.kind) (is_class_kind k)) ≡ false
-    one nodes m parent k false t some h = rw t refl
-    one nodes m parent k true t some h =
-        let same : m.parent ≡ parent = number_once nodes m.parent parent (eqb-true _ _ t) some in
+    one : (number : ℕ → ℕ) (nodes : List Node) → IsNumbering number nodes → (m : Node) (parent : ℕ) (k : Kind) (t : Bool) → eqb (number m.parent) (number parent) ≡ t → 0 < number parent
+        → (not (eqb m.parent parent) || same_test (is_class_kind m.kind) (is_class_kind k)) ≡ true → (eqb (number m.parent) (number parent) && differ (is_class_kind m.kind) (is_class_kind k)) ≡ false
+    one number nodes is m parent k false t some h = rw t refl
+    one number nodes is m parent k true t some h =
+        let same : m.parent ≡ parent = is.once m.parent parent (eqb-true _ _ t) some in
         let here : eqb m.parent parent ≡ true = eq-eqb _ _ same in
         let both : same_test (is_class_kind m.kind) (is_class_kind k) ≡ true = rw here at h in
         rw t (alike (is_class_kind m.kind) (is_class_kind k) both)
@@ -217,28 +233,28 @@ unmixed nodes (m ∷ front) parent k some h =
 abbrev kind_with : List Node → ℕ → Kind
 kind_with nodes serial = unwrap_or (kind_of (node_with nodes serial)) kind.Par
 
-abbrev level : List Node → ℕ → ℕ × Kind
-level nodes serial = (number_of nodes serial, kind_with nodes serial)
+abbrev level : (ℕ → ℕ) → List Node → ℕ → ℕ × Kind
+level number nodes serial = (number serial, kind_with nodes serial)
 
-abbrev branch_of : List Node → List ℕ → List (ℕ × Kind)
-branch_of nodes opened = reverse (map (level nodes) opened)
+abbrev branch_of : (ℕ → ℕ) → List Node → List ℕ → List (ℕ × Kind)
+branch_of number nodes opened = reverse (map (level number nodes) opened)
 
-branch_on : (nodes : List Node) (serial : ℕ) (opened : List ℕ) → branch_of nodes (serial ∷ opened) ≡ branch_of nodes opened ++ level nodes serial ∷ []
-branch_on nodes serial opened = reverse-append (level nodes serial ∷ []) (map (level nodes) opened)
+branch_on : (number : ℕ → ℕ) (nodes : List Node) (serial : ℕ) (opened : List ℕ) → branch_of number nodes (serial ∷ opened) ≡ branch_of number nodes opened ++ level number nodes serial ∷ []
+branch_on number nodes serial opened = reverse-append (level number nodes serial ∷ []) (map (level number nodes) opened)
 
-length_branch : (nodes : List Node) (opened : List ℕ) → length (branch_of nodes opened) ≡ length opened
-length_branch nodes opened = length-reverse (map (level nodes) opened) ∙ length_map (level nodes) opened
+length_branch : (number : ℕ → ℕ) (nodes : List Node) (opened : List ℕ) → length (branch_of number nodes opened) ≡ length opened
+length_branch number nodes opened = length-reverse (map (level number nodes) opened) ∙ length_map (level number nodes) opened
 
 fewer : (opened : List ℕ) (parent : ℕ) → length (open_from parent opened) ≤ length opened
 fewer [] parent = omega arith
 fewer (s ∷ above) parent = cond_both (eqb s parent) (s ∷ above) (open_from parent above) (λ kept. length kept ≤ length (s ∷ above)) (λ e. omega arith) (λ e. omega (arith, fewer above parent))
 
 -- what is closed stands at the end of the branch
-kept_front : (nodes : List Node) (opened : List ℕ) (parent : ℕ) → take (length (open_from parent opened)) (branch_of nodes opened) ≡ branch_of nodes (open_from parent opened)
-kept_front nodes [] parent = refl
-kept_front nodes (s ∷ above) parent = cond_both (eqb s parent) (s ∷ above) (open_from parent above) (λ kept. take (length kept) (branch_of nodes (s ∷ above)) ≡ branch_of nodes kept)
-    (λ e. take_all (length (s ∷ above)) (branch_of nodes (s ∷ above)) (omega (arith, length_branch nodes (s ∷ above))))
-    (λ e. ap (take (length (open_from parent above))) (branch_on nodes s above) ∙ take_on (length (open_from parent above)) (branch_of nodes above) (level nodes s) (omega (arith, length_branch nodes above, fewer above parent)) ∙ kept_front nodes above parent)
+kept_front : (number : ℕ → ℕ) (nodes : List Node) (opened : List ℕ) (parent : ℕ) → take (length (open_from parent opened)) (branch_of number nodes opened) ≡ branch_of number nodes (open_from parent opened)
+kept_front number nodes [] parent = refl
+kept_front number nodes (s ∷ above) parent = cond_both (eqb s parent) (s ∷ above) (open_from parent above) (λ kept. take (length kept) (branch_of number nodes (s ∷ above)) ≡ branch_of number nodes kept)
+    (λ e. take_all (length (s ∷ above)) (branch_of number nodes (s ∷ above)) (omega (arith, length_branch number nodes (s ∷ above))))
+    (λ e. ap (take (length (open_from parent above))) (branch_on number nodes s above) ∙ take_on (length (open_from parent above)) (branch_of number nodes above) (level number nodes s) (omega (arith, length_branch number nodes above, fewer above parent)) ∙ kept_front number nodes above parent)
   where
     take_on : (count : ℕ) (xs : List (ℕ × Kind)) (x : ℕ × Kind) → count ≤ length xs → take count (xs ++ x ∷ []) ≡ take count xs
     take_on count xs x le = take-append-le count xs (x ∷ []) le
@@ -251,35 +267,35 @@ last_behind xs x =
     ap (slice_get (xs ++ x ∷ [])) place ∙ slice_get-get_or (xs ++ x ∷ []) (length xs) x (omega (arith, length-append xs (x ∷ []))) ∙ ap (λ y. Some y) (get_or_behind xs (x ∷ []) x)
 
 -- what stands above a node is its parent, as the definitions know it
-record IsBelow (nodes : List Node) (read : List Node) (n : Node) (above : List (ℕ × Kind)) : Type 0 where
+record IsBelow (number : ℕ → ℕ) (nodes : List Node) (read : List Node) (n : Node) (above : List (ℕ × Kind)) : Type 0 where
   kind : option_map (λ (m : ℕ × Kind). m.1) (last_of above) ≡ kind_of (node_with nodes n.parent)
-  serial : unwrap_or (option_map (λ (m : ℕ × Kind). m.0) (last_of above)) 0 ≡ number_of nodes n.parent
+  serial : unwrap_or (option_map (λ (m : ℕ × Kind). m.0) (last_of above)) 0 ≡ number n.parent
   single_root : (eqb (length above) 0 && ltb 0 (length read)) ≡ false
   unmixed : mixes read (last_of above) n.kind ≡ false
 
-root_below : (nodes : List Node) (n : Node) → n.parent ≡ 0 → list_any (has_serial 0) nodes ≡ false → IsBelow nodes [] n []
-root_below nodes n root none =
+root_below : (number : ℕ → ℕ) (nodes : List Node) → IsNumbering number nodes → (n : Node) → n.parent ≡ 0 → list_any (has_serial 0) nodes ≡ false → IsBelow number nodes [] n []
+root_below number nodes is n root none =
     let no_parent : list_any (has_serial n.parent) nodes ≡ false = subst (λ (s : ℕ). list_any (has_serial s) nodes ≡ false) (sym root) none in
     record {
       kind = sym (ap kind_of (none_found nodes n.parent no_parent));
-      serial = sym (number_none nodes n.parent no_parent);
+      serial = sym (ap number root ∙ is.none);
       single_root = refl;
       unmixed = refl;
     }
 
-child_below : (nodes front : List Node) (n : Node) (above : List ℕ) → list_any (has_serial n.parent) nodes ≡ true
+child_below : (number : ℕ → ℕ) (nodes : List Node) → IsNumbering number nodes → (front : List Node) (n : Node) (above : List ℕ) → list_any (has_serial n.parent) nodes ≡ true
     → list_all (λ (m : Node). not (eqb m.parent n.parent) || same_test (is_class_kind m.kind) (is_class_kind n.kind)) front ≡ true
-    → IsBelow nodes (map (new nodes) front) n (branch_of nodes (n.parent ∷ above))
-child_below nodes front n above there agree =
-    let last : last_of (branch_of nodes (n.parent ∷ above)) ≡ Some (level nodes n.parent) = ap (λ (xs : List (ℕ × Kind)). last_of xs) (branch_on nodes n.parent above) ∙ last_behind (branch_of nodes above) (level nodes n.parent) in
+    → IsBelow number nodes (map (new number) front) n (branch_of number nodes (n.parent ∷ above))
+child_below number nodes is front n above there agree =
+    let last : last_of (branch_of number nodes (n.parent ∷ above)) ≡ Some (level number nodes n.parent) = ap (λ (xs : List (ℕ × Kind)). last_of xs) (branch_on number nodes n.parent above) ∙ last_behind (branch_of number nodes above) (level number nodes n.parent) in
     let parent = some_found nodes n.parent there in
     let kinds : Some (kind_with nodes n.parent) ≡ kind_of (node_with nodes n.parent) = rw (parent.1) refl in
-    let deep : eqb (length (branch_of nodes (n.parent ∷ above))) 0 ≡ false = ne_eqb _ _ (λ e. omega (arith, length_branch nodes (n.parent ∷ above))) in
+    let deep : eqb (length (branch_of number nodes (n.parent ∷ above))) 0 ≡ false = ne_eqb _ _ (λ e. omega (arith, length_branch number nodes (n.parent ∷ above))) in
     record {
       kind = ap (option_map (λ (m : ℕ × Kind). m.1)) last ∙ kinds;
       serial = ap (λ (o : Option (ℕ × Kind)). unwrap_or (option_map (λ (m : ℕ × Kind). m.0) o) 0) last;
       single_root = rw deep refl;
-      unmixed = ap (λ (o : Option (ℕ × Kind)). mixes (map (new nodes) front) o n.kind) last ∙ unmixed nodes front n.parent n.kind (number_some nodes n.parent there) agree;
+      unmixed = ap (λ (o : Option (ℕ × Kind)). mixes (map (new number) front) o n.kind) last ∙ unmixed number nodes is front n.parent n.kind (is.some n.parent there) agree;
     }
 
 opens : (opened : List ℕ) (parent : ℕ) → list_any (λ s. eqb s parent) opened ≡ true → (above : List ℕ) × (open_from parent opened ≡ parent ∷ above)
@@ -315,30 +331,79 @@ no_zero : (nodes : List Node) (next : ℕ) → AllByRecursion (λ (n : Node). (0
 no_zero [] next h = refl
 no_zero (n ∷ nodes) next h = let some : eqb n.serial 0 ≡ false = ne_eqb _ _ (λ e. omega (arith, h.0.0)) in rw (some, no_zero nodes next h.1) refl
 
-below : (nodes before : List Node) (opened : List ℕ) (n : Node) (rest : List Node) → IsWalked before opened (n ∷ rest) → nodes ≡ reverse before ++ n ∷ rest → list_any (has_serial 0) nodes ≡ false → agree_with nodes n.parent n.kind ≡ true
-    → IsBelow nodes (map (new nodes) (reverse before)) n (branch_of nodes (open_from n.parent opened))
-below nodes before [] n rest walked all none agree =
-    subst (λ (before : List Node). IsBelow nodes (map (new nodes) (reverse before)) n []) (sym walked.tree.0) (root_below nodes n walked.tree.1.0 none)
-below nodes before (s ∷ above) n rest walked all none agree =
+below : (number : ℕ → ℕ) (nodes : List Node) → IsNumbering number nodes → (before : List Node) (opened : List ℕ) (n : Node) (rest : List Node) → IsWalked before opened (n ∷ rest) → nodes ≡ reverse before ++ n ∷ rest → list_any (has_serial 0) nodes ≡ false → agree_with nodes n.parent n.kind ≡ true
+    → IsBelow number nodes (map (new number) (reverse before)) n (branch_of number nodes (open_from n.parent opened))
+below number nodes is before [] n rest walked all none agree =
+    subst (λ (before : List Node). IsBelow number nodes (map (new number) (reverse before)) n []) (sym walked.tree.0) (root_below number nodes is n walked.tree.1.0 none)
+below number nodes is before (s ∷ above) n rest walked all none agree =
     let kept = opens (s ∷ above) n.parent walked.tree.0 in
     let depth : depth_among (depths_back before) n.parent ≡ suc (length kept.0) = next_depth before (s ∷ above) n rest walked ∙ ap (λ (xs : List ℕ). length xs) kept.1 in
     let there : list_any (has_serial n.parent) nodes ≡ true =
     subst (λ (xs : List Node). list_any (has_serial n.parent) xs ≡ true) (sym all) (some_front (has_serial n.parent) (reverse before) (n ∷ rest) (some_back (has_serial n.parent) before (among_some before n.parent (length kept.0) depth))) in
     let front = all_front (λ (m : Node). not (eqb m.parent n.parent) || same_test (is_class_kind m.kind) (is_class_kind n.kind)) (reverse before) (n ∷ rest)
     (subst (λ (xs : List Node). list_all (λ (m : Node). not (eqb m.parent n.parent) || same_test (is_class_kind m.kind) (is_class_kind n.kind)) xs ≡ true) all agree) in
-    subst (λ (opened : List ℕ). IsBelow nodes (map (new nodes) (reverse before)) n (branch_of nodes opened)) (sym kept.1) (child_below nodes (reverse before) n kept.0 there front)
+    subst (λ (opened : List ℕ). IsBelow number nodes (map (new number) (reverse before)) n (branch_of number nodes opened)) (sym kept.1) (child_below number nodes is (reverse before) n kept.0 there front)
 
 -- ---- one line
 
-abbrev so_far : List Node → List Node → List ℕ → Outline
-so_far nodes before opened = record { nodes = map (new nodes) (reverse before); branch = branch_of nodes opened }
+abbrev so_far : (ℕ → ℕ) → Option ℕ → List Node → List Node → List ℕ → Outline
+so_far number next nodes before opened = record { nodes = map (new number) (reverse before); branch = branch_of number nodes opened; next = next }
 
-line_at : (outline : Outline) (depth : ℕ) (above : List (ℕ × Kind)) (k : Kind) (attrs : Attrs) → take depth outline.branch ≡ above → length (node_text depth k attrs) ≤ 4096 → depth < 32 → depth ≤ length outline.branch
-    → IsRoom outline.nodes above k attrs → IsAttrs (is_seq (option_map (λ (n : ℕ × Kind). n.1) (last_of above))) k attrs
-    → with_line outline (node_text depth k attrs) ≡ Ok (with_made outline above (made outline.nodes above k attrs))
-line_at outline depth above k attrs e short flat near =
-    subst (λ (above : List (ℕ × Kind)). IsRoom outline.nodes above k attrs → IsAttrs (is_seq (option_map (λ (n : ℕ × Kind). n.1) (last_of above))) k attrs → with_line outline (node_text depth k attrs) ≡ Ok (with_made outline above (made outline.nodes above k attrs)))
-    e (line_read outline depth k attrs short flat near)
+-- an outline with one more node below these
+abbrev outline_on : Outline → List (ℕ × Kind) → Node → Outline
+outline_on outline above node = record outline { nodes = outline.nodes ++ node ∷ []; branch = above ++ (node.serial, node.kind) ∷ [] }
+
+abbrev read : Outline → Result Outline Refusal
+read outline = Ok outline
+
+abbrev in_seq : List (ℕ × Kind) → Bool
+in_seq above = is_seq (option_map (λ (n : ℕ × Kind). n.1) (last_of above))
+
+-- a node of this depth may stand below these
+record IsReady (outline : Outline) (depth : ℕ) (above : List (ℕ × Kind)) (k : Kind) (attrs : Attrs) : Type 0 where
+  taken : take depth outline.branch ≡ above
+  flat : depth < 32
+  near : depth ≤ length outline.branch
+  room : IsRoom outline.nodes above k attrs
+  own : IsAttrs (in_seq above) k attrs
+
+line_at : (outline : Outline) (depth serial : ℕ) (above : List (ℕ × Kind)) (k : Kind) (attrs : Attrs) (line : List ℕ) (shape : Shape) → IsReady outline depth above k attrs
+    → (IsAttrs (in_seq (take depth outline.branch)) k attrs → IsShaped outline depth serial k attrs line shape) → with_line outline line ≡ Ok (outline_on outline above (made serial above k attrs))
+line_at outline depth serial above k attrs line shape ready shaped =
+    let own : IsAttrs (in_seq (take depth outline.branch)) k attrs = subst (λ (xs : List (ℕ × Kind)). IsAttrs (in_seq xs) k attrs) (sym ready.taken) ready.own in
+    let room : IsRoom outline.nodes (take depth outline.branch) k attrs = subst (λ (xs : List (ℕ × Kind)). IsRoom outline.nodes xs k attrs) (sym ready.taken) ready.room in
+    line_read outline depth serial k attrs line shape (shaped own) ready.flat ready.near room
+    ∙ ap (λ (xs : List (ℕ × Kind)). read (outline_on outline xs (made serial xs k attrs))) ready.taken
+
+-- a line without a serial
+plain_shaped : (nodes : List Node) (branch : List (ℕ × Kind)) (depth : ℕ) (k : Kind) (attrs : Attrs) → length (node_text depth k attrs) ≤ LINE_BYTES → IsAttrs (in_seq (take depth branch)) k attrs
+    → IsShaped (record { nodes = nodes; branch = branch; next = None }) depth (length nodes + 1) k attrs (node_text depth k attrs) (shape_from (length (kind_text k)) k attrs)
+plain_shaped nodes branch depth k attrs short h =
+    let seq = in_seq (take depth branch) in
+    record {
+      short = short;
+      later = plain_opens_none (record { nodes = nodes; branch = branch; next = None }) depth k attrs;
+      spaces = line_spaces depth k attrs;
+      shaped = ap (λ (text : List ℕ). option_map (λ shape. (length nodes + 1, shape)) (shape_of text)) (line_text depth k attrs) ∙ ap (option_map (λ shape. (length nodes + 1, shape))) (plain_shape seq k attrs h);
+      is = shape_is seq k attrs (length (kind_text k)) h;
+      fresh = refl;
+    }
+
+-- a line with its serial, which no node before has
+saved_shaped : (nodes : List Node) (branch : List (ℕ × Kind)) (next depth serial : ℕ) (k : Kind) (attrs : Attrs) → length (saved_node_text depth k serial attrs) ≤ LINE_BYTES
+    → 0 < serial → serial < next → next ≤ 999_999_999 → list_any (has_serial serial) nodes ≡ false → IsAttrs (in_seq (take depth branch)) k attrs
+    → IsShaped (record { nodes = nodes; branch = branch; next = Some next }) depth serial k attrs (saved_node_text depth k serial attrs) (shape_from (length (kind_text k) + 2 + length (decimal serial)) k attrs)
+saved_shaped nodes branch next depth serial k attrs short some under few new h =
+    let seq = in_seq (take depth branch) in
+    let below : ltb serial next ≡ true = lt-ltb _ _ under in
+    record {
+      short = short;
+      later = refl;
+      spaces = saved_spaces depth k serial attrs;
+      shaped = ap saved_shape_of (saved_line_text depth k serial attrs) ∙ saved_shape seq k serial attrs h some (omega arith);
+      is = shape_is seq k attrs (length (kind_text k) + 2 + length (decimal serial)) h;
+      fresh = rw (below, new) refl;
+    }
 
 turned_twice : (nodes : List Node) → reverse (reverse nodes) ≡ nodes
 turned_twice [] = refl
@@ -371,92 +436,215 @@ sound document valid before n rest all distinct =
       free = none_at (λ (m : Node). is_id_taken nodes m.serial m.attrs.id) (reverse before) n rest (subst (λ (xs : List Node). list_any (λ (m : Node). is_id_taken nodes m.serial m.attrs.id) xs ≡ false) all valid.ids);
     }
 
-few_before : (nodes before : List Node) (n : Node) (rest : List Node) → nodes ≡ reverse before ++ n ∷ rest → length nodes ≤ 2000 → length (map (new nodes) (reverse before)) < 2000
-few_before nodes before n rest all le =
+few_before : (number : ℕ → ℕ) (nodes before : List Node) (n : Node) (rest : List Node) → nodes ≡ reverse before ++ n ∷ rest → length nodes ≤ 8000 → length (map (new number) (reverse before)) < 8000
+few_before number nodes before n rest all le =
     let len : length nodes ≡ length (reverse before) + length (n ∷ rest) = ap (λ (xs : List Node). length xs) all ∙ length-append (reverse before) (n ∷ rest) in
-    omega (arith, length_map (new nodes) (reverse before))
+    omega (arith, length_map (new number) (reverse before))
 
-room : (document : Document) → IsValid document → (before : List Node) (n : Node) (rest : List Node) (above : List (ℕ × Kind)) → document.nodes ≡ reverse before ++ n ∷ rest → IsSound document.nodes before n
-    → IsBelow document.nodes (map (new document.nodes) (reverse before)) n above → IsRoom (map (new document.nodes) (reverse before)) above n.kind n.attrs
-room document valid before n rest above all is under =
+room : (number : ℕ → ℕ) (document : Document) → IsValid document → (before : List Node) (n : Node) (rest : List Node) (above : List (ℕ × Kind)) → document.nodes ≡ reverse before ++ n ∷ rest → IsSound document.nodes before n
+    → IsBelow number document.nodes (map (new number) (reverse before)) n above → IsRoom (map (new number) (reverse before)) above n.kind n.attrs
+room number document valid before n rest above all is under =
     let nodes = document.nodes in
     let id : absent_or is_id n.attrs.id ≡ true = (and_parts (absent_or is_id n.attrs.id) _ is.fit).0 in
     let free : is_id_taken (reverse before ++ n ∷ rest) n.serial n.attrs.id ≡ false = subst (λ (xs : List Node). is_id_taken xs n.serial n.attrs.id ≡ false) all is.free in
-    let few : all_references nodes ≤ 8000 = valid.references in
+    let few : all_references nodes ≤ 32000 = valid.references in
     let sum : all_references nodes ≡ sum_by references_of (reverse before ++ n ∷ rest) = ap (sum_by references_of) all in
     record {
       fits = ap (λ (parent : Option Kind). fits_in parent n.kind) under.kind ∙ stands (kind_of (node_with nodes n.parent)) n.kind is.stand;
       single_root = under.single_root;
       unmixed = under.unmixed;
-      own_id = free_id nodes (reverse before) n rest id is.first free;
-      few = few_before nodes before n rest all valid.nodes;
-      light = omega (arith, light nodes (reverse before) n rest);
+      own_id = free_id number (reverse before) n rest id is.first free;
+      few = few_before number nodes before n rest all valid.nodes;
+      light = omega (arith, light number (reverse before) n rest);
     }
 
--- the node that is made is the node with its place as its serial
-made_is : (nodes before : List Node) (n : Node) (rest : List Node) (above : List (ℕ × Kind)) → nodes ≡ reverse before ++ n ∷ rest → list_any (has_serial n.serial) (reverse before) ≡ false
-    → IsBelow nodes (map (new nodes) (reverse before)) n above → made (map (new nodes) (reverse before)) above n.kind n.attrs ≡ new nodes n
-made_is nodes before n rest above all first under =
-    let serial : length (map (new nodes) (reverse before)) + 1 ≡ number_of nodes n.serial =
-    ap (λ (len : ℕ). len + 1) (length_map (new nodes) (reverse before)) ∙ add-one (length (reverse before)) ∙ sym (ap (λ (xs : List Node). number_of xs n.serial) all ∙ number_is (reverse before) n rest first) in
-    ap (λ (s : ℕ). record { serial = s; kind = n.kind; parent = unwrap_or (option_map (λ (m : ℕ × Kind). m.0) (last_of above)) 0; attrs = n.attrs }) serial
-    ∙ ap (λ (p : ℕ). record { serial = number_of nodes n.serial; kind = n.kind; parent = p; attrs = n.attrs }) under.serial
+-- the node that is made is the node with its number as its serial
+made_is : (number : ℕ → ℕ) (nodes read : List Node) (serial : ℕ) (n : Node) (above : List (ℕ × Kind)) → serial ≡ number n.serial → IsBelow number nodes read n above → made serial above n.kind n.attrs ≡ new number n
+made_is number nodes read serial n above same under =
+    ap (λ (s : ℕ). record { serial = s; kind = n.kind; parent = unwrap_or (option_map (λ (m : ℕ × Kind). m.0) (last_of above)) 0; attrs = n.attrs }) same
+    ∙ ap (λ (p : ℕ). record { serial = number n.serial; kind = n.kind; parent = p; attrs = n.attrs }) under.serial
 
-grown : (nodes before : List Node) (n : Node) (rest : List Node) (kept : List ℕ) → nodes ≡ reverse before ++ n ∷ rest → list_any (has_serial n.serial) (reverse before) ≡ false
-    → with_made (record { nodes = map (new nodes) (reverse before); branch = [] }) (branch_of nodes kept) (new nodes n) ≡ so_far nodes (n ∷ before) (n.serial ∷ kept)
-grown nodes before n rest kept all first =
-    let more : map (new nodes) (reverse before) ++ new nodes n ∷ [] ≡ map (new nodes) (reverse (n ∷ before)) =
-    sym (ap (map (new nodes)) (reverse-append (n ∷ []) before) ∙ map_on (new nodes) (reverse before) (n ∷ [])) in
+-- its place is its number
+place_is : (nodes before : List Node) (n : Node) (rest : List Node) → nodes ≡ reverse before ++ n ∷ rest → list_any (has_serial n.serial) (reverse before) ≡ false
+    → length (map (new (number_of nodes)) (reverse before)) + 1 ≡ number_of nodes n.serial
+place_is nodes before n rest all first =
+    ap (λ (len : ℕ). len + 1) (length_map (new (number_of nodes)) (reverse before)) ∙ add-one (length (reverse before)) ∙ sym (ap (λ (xs : List Node). number_of xs n.serial) all ∙ number_is (reverse before) n rest first)
+
+grown : (number : ℕ → ℕ) (next : Option ℕ) (nodes before : List Node) (n : Node) (rest : List Node) (kept opened : List ℕ) → nodes ≡ reverse before ++ n ∷ rest → list_any (has_serial n.serial) (reverse before) ≡ false
+    → outline_on (so_far number next nodes before opened) (branch_of number nodes kept) (new number n) ≡ so_far number next nodes (n ∷ before) (n.serial ∷ kept)
+grown number next nodes before n rest kept opened all first =
+    let more : map (new number) (reverse before) ++ new number n ∷ [] ≡ map (new number) (reverse (n ∷ before)) =
+    sym (ap (map (new number)) (reverse-append (n ∷ []) before) ∙ map_on (new number) (reverse before) (n ∷ [])) in
     let here : node_with nodes n.serial ≡ Some n = ap (λ (xs : List Node). node_with xs n.serial) all ∙ found (reverse before) n rest first in
     let kinds : n.kind ≡ kind_with nodes n.serial = sym (ap (λ (o : Option Node). unwrap_or (kind_of o) kind.Par) here) in
-    let longer : branch_of nodes kept ++ (number_of nodes n.serial, n.kind) ∷ [] ≡ branch_of nodes (n.serial ∷ kept) =
-    ap (λ (k : Kind). branch_of nodes kept ++ (number_of nodes n.serial, k) ∷ []) kinds ∙ sym (branch_on nodes n.serial kept) in
-    ap (λ (xs : List Node). record { nodes = xs; branch = branch_of nodes kept ++ (number_of nodes n.serial, n.kind) ∷ [] }) more
-    ∙ ap (λ (branch : List (ℕ × Kind)). record { nodes = map (new nodes) (reverse (n ∷ before)); branch = branch }) longer
+    let longer : branch_of number nodes kept ++ (number n.serial, n.kind) ∷ [] ≡ branch_of number nodes (n.serial ∷ kept) =
+    ap (λ (k : Kind). branch_of number nodes kept ++ (number n.serial, k) ∷ []) kinds ∙ sym (branch_on number nodes n.serial kept) in
+    ap (λ (xs : List Node). record { nodes = xs; branch = branch_of number nodes kept ++ (number n.serial, n.kind) ∷ []; next = next }) more
+    ∙ ap (λ (branch : List (ℕ × Kind)). record { nodes = map (new number) (reverse (n ∷ before)); branch = branch; next = next }) longer
 
-abbrev read : Outline → Result Outline Refusal
-read outline = Ok outline
+-- what stands before a node of a valid document
+record IsWithin (number : ℕ → ℕ) (document : Document) (before : List Node) (opened : List ℕ) (n : Node) (rest : List Node) : Type 0 where
+  valid : IsValid document
+  numbering : IsNumbering number document.nodes
+  walked : IsWalked before opened (n ∷ rest)
+  all : document.nodes ≡ reverse before ++ n ∷ rest
 
-step : (document : Document) → IsValid document → (before : List Node) (opened : List ℕ) (n : Node) (rest : List Node) → IsWalked before opened (n ∷ rest) → document.nodes ≡ reverse before ++ n ∷ rest
-    → length (node_text (depth_among (depths_back before) n.parent) n.kind n.attrs) ≤ 4096
-    → with_line (so_far document.nodes before opened) (node_text (depth_among (depths_back before) n.parent) n.kind n.attrs) ≡ Ok (so_far document.nodes (n ∷ before) (n.serial ∷ open_from n.parent opened))
-step document valid before opened n rest walked all short =
-    let nodes = document.nodes in
-    let outline = so_far nodes before opened in
-    let kept = open_from n.parent opened in
-    let above = branch_of nodes kept in
-    let is = sound document valid before n rest all walked.distinct in
-    let under = below nodes before opened n rest walked all (no_zero nodes document.next (recursion_from_All _ nodes valid.numbered.below)) is.agree in
-    let depth : depth_among (depths_back before) n.parent ≡ length kept = next_depth before opened n rest walked in
-    let taken : take (depth_among (depths_back before) n.parent) outline.branch ≡ above = ap (λ (d : ℕ). take d outline.branch) depth ∙ kept_front nodes opened n.parent in
-    let near : depth_among (depths_back before) n.parent ≤ length outline.branch = omega (arith, length_branch nodes opened, fewer opened n.parent) in
-    let attrs : IsAttrs (is_seq (option_map (λ (m : ℕ × Kind). m.1) (last_of above))) n.kind n.attrs =
-    subst (λ (parent : Option Kind). IsAttrs (is_seq parent) n.kind n.attrs) (sym under.kind) (fits n.kind (kind_of (node_with nodes n.parent)) n.attrs is.fit) in
-    line_at outline (depth_among (depths_back before) n.parent) above n.kind n.attrs taken short is.flat near (room document valid before n rest above all is under) attrs
-    ∙ ap (λ (node : Node). read (with_made outline above node)) (made_is nodes before n rest above all is.first under)
-    ∙ ap read (grown nodes before n rest kept all is.first)
+module _ (number : ℕ → ℕ) (next : Option ℕ) (document : Document) (before : List Node) (opened : List ℕ) (n : Node) (rest : List Node) (within : IsWithin number document before opened n rest) where
+  abbrev outline : Outline
+  outline = so_far number next document.nodes before opened
+
+  abbrev depth : ℕ
+  depth = depth_among (depths_back before) n.parent
+
+  abbrev kept : List ℕ
+  kept = open_from n.parent opened
+
+  abbrev above : List (ℕ × Kind)
+  above = branch_of number document.nodes kept
+
+  is_sound : IsSound document.nodes before n
+  is_sound = sound document within.valid before n rest within.all within.walked.distinct
+
+  under : IsBelow number document.nodes (map (new number) (reverse before)) n above
+  under =
+      below number document.nodes within.numbering before opened n rest within.walked within.all
+      (no_zero document.nodes document.next (recursion_from_All _ document.nodes within.valid.numbered.below)) is_sound.agree
+
+  ready : IsReady outline depth above n.kind n.attrs
+  ready =
+      let deep : depth ≡ length kept = next_depth before opened n rest within.walked in
+      record {
+        taken = ap (λ (d : ℕ). take d outline.branch) deep ∙ kept_front number document.nodes opened n.parent;
+        flat = is_sound.flat;
+        near = omega (arith, length_branch number document.nodes opened, fewer opened n.parent);
+        room = room number document within.valid before n rest above within.all is_sound under;
+        own = subst (λ (parent : Option Kind). IsAttrs (is_seq parent) n.kind n.attrs) (sym under.kind) (fits n.kind (kind_of (node_with document.nodes n.parent)) n.attrs is_sound.fit);
+      }
+
+  -- a line that is shaped as this node's is read as one more node
+  node_read : (serial : ℕ) (line : List ℕ) (shape : Shape) → serial ≡ number n.serial → (IsAttrs (in_seq (take depth outline.branch)) n.kind n.attrs → IsShaped outline depth serial n.kind n.attrs line shape)
+      → with_line outline line ≡ Ok (so_far number next document.nodes (n ∷ before) (n.serial ∷ kept))
+  node_read serial line shape same shaped =
+      line_at outline depth serial above n.kind n.attrs line shape ready shaped
+      ∙ ap (λ (node : Node). read (outline_on outline above node)) (made_is number document.nodes (map (new number) (reverse before)) serial n above same under)
+      ∙ ap read (grown number next document.nodes before n rest kept opened within.all is_sound.first)
 
 -- ---- all lines
-
-ended_is : (nodes read : List Node) (branch : List (ℕ × Kind)) → read ≡ nodes → 0 < length nodes → ended (record { nodes = map (new nodes) read; branch = branch }) ≡ Ok (renumbered nodes)
-ended_is nodes read branch e some =
-    let same : length (map (new nodes) nodes) ≡ length nodes = length_map (new nodes) nodes in
-    let not_empty : eqb (length (map (new nodes) nodes)) 0 ≡ false = ne_eqb _ _ (λ z. omega arith) in
-    ap (λ (xs : List Node). ended (record { nodes = map (new nodes) xs; branch = branch })) e ∙ rw (not_empty, same) refl
 
 some_node : (nodes : List Node) → IsTree nodes → 0 < length nodes
 some_node [] h = absurd h
 some_node (n ∷ nodes) h = omega arith
 
-read_on : (document : Document) → IsValid document → (before : List Node) (opened : List ℕ) (rest : List Node) → IsWalked before opened rest → document.nodes ≡ reverse before ++ rest
-    → AllByRecursion (λ (line : List ℕ). length line ≤ 4096) (lines_from (depths_back before) rest)
-    → (with_lines (so_far document.nodes before opened) (lines_from (depths_back before) rest) >>= ended) ≡ Ok (renumbered document.nodes)
-read_on document valid before opened [] walked all short =
-    ended_is document.nodes (reverse before) (branch_of document.nodes opened) (sym (all ∙ append-nil (reverse before))) (some_node document.nodes valid.numbered.tree)
-read_on document valid before opened (n ∷ rest) walked all short =
-    let next : document.nodes ≡ reverse (n ∷ before) ++ rest = all ∙ sym (append_assoc (reverse before) (n ∷ []) rest) ∙ ap (λ (xs : List Node). xs ++ rest) (sym (reverse-append (n ∷ []) before)) in
-    ap (λ (r : Result Outline Refusal). (r >>= λ more. with_lines more (lines_from (depths_back (n ∷ before)) rest)) >>= ended) (step document valid before opened n rest walked all short.0)
-    ∙ read_on document valid (n ∷ before) (n.serial ∷ open_from n.parent opened) rest (walk_on before opened n rest walked) next short.1
+one_more : (nodes before : List Node) (n : Node) (rest : List Node) → nodes ≡ reverse before ++ n ∷ rest → nodes ≡ reverse (n ∷ before) ++ rest
+one_more nodes before n rest all = all ∙ sym (append_assoc (reverse before) (n ∷ []) rest) ∙ ap (λ (xs : List Node). xs ++ rest) (sym (reverse-append (n ∷ []) before))
 
-pub outline_read : (document : Document) → IsValid document → All (λ (line : List ℕ). length line ≤ 4096) (lines_from [] document.nodes) → outline_of (lines_from [] document.nodes) ≡ Ok (renumbered document.nodes)
-outline_read document valid short = read_on document valid [] [] document.nodes (walk_starts document valid) refl (recursion_from_All (λ (line : List ℕ). length line ≤ 4096) (lines_from [] document.nodes) short)
+-- without serials
+
+by_places : (document : Document) → IsValid document → IsNumbering (number_of document.nodes) document.nodes
+by_places document valid = record {
+  once = number_once document.nodes;
+  some = number_some document.nodes;
+  none = number_none document.nodes 0 (no_zero document.nodes document.next (recursion_from_All _ document.nodes valid.numbered.below));
+}
+
+ended_is : (nodes read : List Node) (branch : List (ℕ × Kind)) → read ≡ nodes → 0 < length nodes → ended (record { nodes = map (new (number_of nodes)) read; branch = branch; next = None }) ≡ Ok (renumbered nodes)
+ended_is nodes read branch e some =
+    let same : length (map (new (number_of nodes)) nodes) ≡ length nodes = length_map (new (number_of nodes)) nodes in
+    let not_empty : eqb (length (map (new (number_of nodes)) nodes)) 0 ≡ false = ne_eqb _ _ (λ z. omega arith) in
+    ap (λ (xs : List Node). ended (record { nodes = map (new (number_of nodes)) xs; branch = branch; next = None })) e ∙ rw (not_empty, same) refl
+
+step : (document : Document) → IsValid document → (before : List Node) (opened : List ℕ) (n : Node) (rest : List Node) → IsWalked before opened (n ∷ rest) → document.nodes ≡ reverse before ++ n ∷ rest
+    → length (node_text (depth_among (depths_back before) n.parent) n.kind n.attrs) ≤ LINE_BYTES
+    → with_line (so_far (number_of document.nodes) None document.nodes before opened) (node_text (depth_among (depths_back before) n.parent) n.kind n.attrs)
+    ≡ Ok (so_far (number_of document.nodes) None document.nodes (n ∷ before) (n.serial ∷ open_from n.parent opened))
+step document valid before opened n rest walked all short =
+    let number = number_of document.nodes in
+    let within : IsWithin number document before opened n rest = record { valid = valid; numbering = by_places document valid; walked = walked; all = all } in
+    let is = sound document valid before n rest all walked.distinct in
+    let depth = depth_among (depths_back before) n.parent in
+    node_read number None document before opened n rest within (length (map (new number) (reverse before)) + 1) (node_text depth n.kind n.attrs) (shape_from (length (kind_text n.kind)) n.kind n.attrs)
+    (place_is document.nodes before n rest all is.first)
+    (plain_shaped (map (new number) (reverse before)) (branch_of number document.nodes opened) depth n.kind n.attrs short)
+
+read_on : (document : Document) → IsValid document → (before : List Node) (opened : List ℕ) (rest : List Node) → IsWalked before opened rest → document.nodes ≡ reverse before ++ rest
+    → AllByRecursion (λ (line : List ℕ). length line ≤ LINE_BYTES) (lines_from (depths_back before) rest)
+    → (with_lines (so_far (number_of document.nodes) None document.nodes before opened) (lines_from (depths_back before) rest) >>= ended) ≡ Ok (renumbered document.nodes)
+read_on document valid before opened [] walked all short =
+    ended_is document.nodes (reverse before) (branch_of (number_of document.nodes) document.nodes opened) (sym (all ∙ append-nil (reverse before))) (some_node document.nodes valid.numbered.tree)
+read_on document valid before opened (n ∷ rest) walked all short =
+    ap (λ (r : Result Outline Refusal). (r >>= λ more. with_lines more (lines_from (depths_back (n ∷ before)) rest)) >>= ended) (step document valid before opened n rest walked all short.0)
+    ∙ read_on document valid (n ∷ before) (n.serial ∷ open_from n.parent opened) rest (walk_on before opened n rest walked) (one_more document.nodes before n rest all) short.1
+
+pub outline_read : (document : Document) → IsValid document → All (λ (line : List ℕ). length line ≤ LINE_BYTES) (lines_from [] document.nodes) → outline_of (lines_from [] document.nodes) ≡ Ok (renumbered document.nodes)
+outline_read document valid short = read_on document valid [] [] document.nodes (walk_starts document valid) refl (recursion_from_All (λ (line : List ℕ). length line ≤ LINE_BYTES) (lines_from [] document.nodes) short)
+
+-- with serials
+
+abbrev own_number : ℕ → ℕ
+own_number serial = serial
+
+same_nodes : (nodes : List Node) → map (new own_number) nodes ≡ nodes
+same_nodes [] = refl
+same_nodes (n ∷ nodes) = ap (λ (ms : List Node). n ∷ ms) (same_nodes nodes)
+
+above_zero : (nodes : List Node) → list_any (has_serial 0) nodes ≡ false → (serial : ℕ) → list_any (has_serial serial) nodes ≡ true → 0 < serial
+above_zero nodes none zero there = absurd cc
+above_zero nodes none (suc serial) there = omega arith
+
+by_serials : (document : Document) → IsValid document → IsNumbering own_number document.nodes
+by_serials document valid = record {
+  once = λ a b e some. e;
+  some = above_zero document.nodes (no_zero document.nodes document.next (recursion_from_All _ document.nodes valid.numbered.below));
+  none = refl;
+}
+
+serial_at : (next : ℕ) (front : List Node) (n : Node) (rest : List Node) → AllByRecursion (λ (m : Node). (0 < m.serial) × (m.serial < next)) (front ++ n ∷ rest) → (0 < n.serial) × (n.serial < next)
+serial_at next [] n rest h = h.0
+serial_at next (m ∷ front) n rest h = serial_at next front n rest h.1
+
+header_read : (next : ℕ) → 0 < next → next ≤ 999_999_999 → length (header_text next) ≤ LINE_BYTES → with_line no_lines (header_text next) ≡ Ok (record { nodes = []; branch = []; next = Some next })
+header_read next some few short =
+    let not_long : ltb LINE_BYTES (length (header_text next)) ≡ false = le-ltb _ _ short in
+    let number : count_of (decimal next) ≡ Some next = count_read next some (omega arith) in
+    as_header no_lines (header_text next) not_long refl ∙ ap (with_header no_lines) number
+
+saved_ended : (nodes read : List Node) (branch : List (ℕ × Kind)) (next : ℕ) → read ≡ nodes → 0 < length nodes
+    → ended (record { nodes = map (new own_number) read; branch = branch; next = Some next }) ≡ Ok (record { nodes = nodes; next = next })
+saved_ended nodes read branch next e some =
+    let not_empty : eqb (length nodes) 0 ≡ false = ne_eqb _ _ (λ z. omega arith) in
+    ap (λ (xs : List Node). ended (record { nodes = xs; branch = branch; next = Some next })) (same_nodes read ∙ e) ∙ rw not_empty refl
+
+saved_step : (document : Document) → IsValid document → (before : List Node) (opened : List ℕ) (n : Node) (rest : List Node) → IsWalked before opened (n ∷ rest) → document.nodes ≡ reverse before ++ n ∷ rest
+    → length (saved_node_text (depth_among (depths_back before) n.parent) n.kind n.serial n.attrs) ≤ LINE_BYTES
+    → with_line (so_far own_number (Some document.next) document.nodes before opened) (saved_node_text (depth_among (depths_back before) n.parent) n.kind n.serial n.attrs)
+    ≡ Ok (so_far own_number (Some document.next) document.nodes (n ∷ before) (n.serial ∷ open_from n.parent opened))
+saved_step document valid before opened n rest walked all short =
+    let within : IsWithin own_number document before opened n rest = record { valid = valid; numbering = by_serials document valid; walked = walked; all = all } in
+    let is = sound document valid before n rest all walked.distinct in
+    let depth = depth_among (depths_back before) n.parent in
+    let bounds = serial_at document.next (reverse before) n rest
+    (subst (AllByRecursion (λ (m : Node). (0 < m.serial) × (m.serial < document.next))) all (recursion_from_All _ document.nodes valid.numbered.below)) in
+    let new_serial : list_any (has_serial n.serial) (map (new own_number) (reverse before)) ≡ false = ap (list_any (has_serial n.serial)) (same_nodes (reverse before)) ∙ is.first in
+    node_read own_number (Some document.next) document before opened n rest within n.serial (saved_node_text depth n.kind n.serial n.attrs)
+    (shape_from (length (kind_text n.kind) + 2 + length (decimal n.serial)) n.kind n.attrs) refl
+    (saved_shaped (map (new own_number) (reverse before)) (branch_of own_number document.nodes opened) document.next depth n.serial n.kind n.attrs short bounds.0 bounds.1 valid.numbered.next new_serial)
+
+saved_on : (document : Document) → IsValid document → (before : List Node) (opened : List ℕ) (rest : List Node) → IsWalked before opened rest → document.nodes ≡ reverse before ++ rest
+    → AllByRecursion (λ (line : List ℕ). length line ≤ LINE_BYTES) (saved_lines_from (depths_back before) rest)
+    → (with_lines (so_far own_number (Some document.next) document.nodes before opened) (saved_lines_from (depths_back before) rest) >>= ended) ≡ Ok document
+saved_on document valid before opened [] walked all short =
+    saved_ended document.nodes (reverse before) (branch_of own_number document.nodes opened) document.next (sym (all ∙ append-nil (reverse before))) (some_node document.nodes valid.numbered.tree)
+saved_on document valid before opened (n ∷ rest) walked all short =
+    ap (λ (r : Result Outline Refusal). (r >>= λ more. with_lines more (saved_lines_from (depths_back (n ∷ before)) rest)) >>= ended) (saved_step document valid before opened n rest walked all short.0)
+    ∙ saved_on document valid (n ∷ before) (n.serial ∷ open_from n.parent opened) rest (walk_on before opened n rest walked) (one_more document.nodes before n rest all) short.1
+
+first_serial : (next : ℕ) (nodes : List Node) → IsTree nodes → AllByRecursion (λ (m : Node). (0 < m.serial) × (m.serial < next)) nodes → 0 < next
+first_serial next [] tree h = absurd tree
+first_serial next (n ∷ nodes) tree h = omega (arith, h.0.0, h.0.1)
+
+pub saved_outline_read : (document : Document) → IsValid document → All (λ (line : List ℕ). length line ≤ LINE_BYTES) (saved_lines document) → outline_of (saved_lines document) ≡ Ok document
+saved_outline_read document valid short =
+    let lines = recursion_from_All (λ (line : List ℕ). length line ≤ LINE_BYTES) (saved_lines document) short in
+    let some = first_serial document.next document.nodes valid.numbered.tree (recursion_from_All _ document.nodes valid.numbered.below) in
+    ap (λ (r : Result Outline Refusal). (r >>= λ more. with_lines more (saved_lines_from [] document.nodes)) >>= ended) (header_read document.next some valid.numbered.next lines.0)
+    ∙ saved_on document valid [] [] document.nodes (walk_starts document valid) refl lines.1

@@ -1,9 +1,9 @@
 -- The first elements of a list, and one more.
-use Rattle.std.proofs.Common.{◌≡◌, ℕ, zero, suc, ◌+◌, ◌<◌, List, [], ◌∷◌, ◌++◌, length, take, Some, None, sym, ap, ◌∙◌, arith}
-use Rattle.std.specs.List.{slice_get, sum_by}
+use Rattle.std.proofs.Common.{◌≡◌, ℕ, zero, suc, ◌+◌, ◌<◌, ◌||◌, eqb, List, [], ◌∷◌, ◌++◌, length, take, map, Some, None, refl, sym, ap, ◌∙◌, arith}
+use Rattle.std.specs.List.{slice_get, sum_by, list_any}
 use Rattle.smil_model.specs.declared.document.Node.{Node}
-use Rattle.smil_model.specs.document.Document.{Document, with_node}
-use Rattle.std.proofs.lemmas.List.{take_more}
+use Rattle.smil_model.specs.document.Document.{Document, with_node, serials}
+use Rattle.std.proofs.lemmas.List.{take_more, take_at}
 use Rattle.std.proofs.lemmas.List.Sums.{sum_by_push}
 use Rattle.std.proofs.lemmas.Option.{slice_get_within, get_or_from_slice_get}
 
@@ -21,3 +21,23 @@ sum_taken f xs i x sum e h = ap (λ n. n + f x) h ∙ sym (sum_by_push f (take i
 pub copied_more : (nodes : List Node) (i : ℕ) (node copy : Node) (doc pushed new : Document) → slice_get nodes i ≡ Some node → copy ≡ node → doc.nodes ≡ take i nodes → pushed ≡ with_node doc copy → new ≡ pushed → new.nodes ≡ take (i + 1) nodes
 copied_more nodes i node copy doc pushed new e same so-far more is =
     ap (λ (d : Document). d.nodes) (is ∙ more) ∙ ap (λ (ns : List Node). ns ++ copy ∷ []) so-far ∙ ap (λ (n : Node). take i nodes ++ n ∷ []) same ∙ sym (taken nodes i node e)
+
+-- ---- serials
+
+pub serial_among : (nodes : List Node) (own : List ℕ) (serial : ℕ) → own ≡ serials nodes → list_any (λ s. eqb s serial) own ≡ list_any (λ (n : Node). eqb n.serial serial) nodes
+serial_among nodes own serial e = ap (list_any (λ s. eqb s serial)) e ∙ each nodes
+  where
+    each : (nodes : List Node) → list_any (λ s. eqb s serial) (serials nodes) ≡ list_any (λ (n : Node). eqb n.serial serial) nodes
+    each [] = refl
+    each (n ∷ nodes) = ap (λ b. eqb n.serial serial || b) (each nodes)
+
+pub serials_on : (nodes : List Node) (node : Node) → serials (nodes ++ node ∷ []) ≡ serials nodes ++ node.serial ∷ []
+serials_on [] node = refl
+serials_on (n ∷ nodes) node = ap (λ (others : List ℕ). n.serial ∷ others) (serials_on nodes node)
+
+serials_len : (nodes : List Node) → length (serials nodes) ≡ length nodes
+serials_len [] = refl
+serials_len (n ∷ nodes) = omega (arith, serials_len nodes)
+
+pub serials_back : (nodes : List Node) (own : List ℕ) (serial : ℕ) → own ≡ serials nodes → take (length nodes) (own ++ serial ∷ []) ≡ serials nodes
+serials_back nodes own serial e = ap (λ (xs : List ℕ). take (length nodes) (xs ++ serial ∷ [])) e ∙ take_at (serials nodes) (serial ∷ []) (length nodes) (serials_len nodes)

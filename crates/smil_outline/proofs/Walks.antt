@@ -11,10 +11,11 @@ use Rattle.smil_model.specs.declared.document.Node.{Node}
 use Rattle.smil_model.specs.declared.document.Kind.{Kind}
 use Rattle.smil_model.specs.document.Document.{Document, upwards, node_at as node_with}
 use Rattle.smil_model.specs.document.Valid.{open_from, IsTreeFrom, IsTree, IsDistinct, IsValid, depth_of, kind_of, may_stand, agree_with, is_well_placed, has_fitting_attrs}
-use Rattle.smil_grammar.specs.Spellings.{node_text, Begins}
+use Rattle.smil_grammar.specs.Spellings.{Begins}
+use Rattle.smil_outline.specs.Written.{line_text, lines_behind}
 use Rattle.smil_grammar.specs.Nodes.{is_seq}
 use Rattle.smil_grammar.specs.Allowed.{IsAttrs}
-use Rattle.smil_grammar.specs.Outlines.{depth_among, lines_from}
+use Rattle.smil_grammar.specs.Outlines.{depth_among}
 use Rattle.smil_lexis.proofs.Growing.{begins_on}
 use Rattle.smil_attrs.proofs.Kept.{attrs_anywhere}
 use Rattle.smil_outline.proofs.Fitting.{fits}
@@ -149,8 +150,16 @@ node_at nodes place n e =
     }
 
 -- what is left of the outline
-abbrev pub text_behind : List Node → List Node → List ℕ
-text_behind before rest = flat_map (λ line. line ++ 10 ∷ []) (lines_from (depths_back before) rest)
+abbrev pub text_behind : Bool → List Node → List Node → List ℕ
+text_behind saved before rest = flat_map (λ line. line ++ 10 ∷ []) (lines_behind saved (depths_back before) rest)
+
+first_line : (saved : Bool) (before : List Node) (n : Node) (rest : List Node) → text_behind saved before (n ∷ rest) ≡ (line_text saved (depth_among (depths_back before) n.parent) n ++ 10 ∷ []) ++ text_behind saved (n ∷ before) rest
+first_line true before n rest = refl
+first_line false before n rest = refl
+
+pub text_ends : (saved : Bool) (before : List Node) → text_behind saved before [] ≡ []
+text_ends true before = refl
+text_ends false before = refl
 
 abbrev pub IsWalkedTo : List Node → ℕ → List ℕ → Type 0
 IsWalkedTo nodes place opened = IsWalked (reverse (take place nodes)) opened (drop place nodes)
@@ -166,19 +175,19 @@ walk_goes_on nodes place opened n e h =
     let at = node_at nodes place n e in
     subst (λ (before : List Node). IsWalked before (n.serial ∷ open_from n.parent opened) (drop (place + 1) nodes)) (sym at.before) (walk_on (reverse (take place nodes)) opened n (drop (place + 1) nodes) (at_node nodes place opened n at h))
 
-pub text_goes_on : (nodes : List Node) (place : ℕ) (opened : List ℕ) (n : Node) (out new all : List ℕ) → slice_get nodes place ≡ Some n → IsWalkedTo nodes place opened
-    → out ++ text_behind (reverse (take place nodes)) (drop place nodes) ≡ all
-    → new ≡ out ++ node_text (length (open_from n.parent opened)) n.kind n.attrs ++ 10 ∷ []
-    → new ++ text_behind (reverse (take (place + 1) nodes)) (drop (place + 1) nodes) ≡ all
-text_goes_on nodes place opened n out new all e h so_far step =
+pub text_goes_on : (saved : Bool) (nodes : List Node) (place : ℕ) (opened : List ℕ) (n : Node) (out new all : List ℕ) → slice_get nodes place ≡ Some n → IsWalkedTo nodes place opened
+    → out ++ text_behind saved (reverse (take place nodes)) (drop place nodes) ≡ all
+    → new ≡ out ++ line_text saved (length (open_from n.parent opened)) n ++ 10 ∷ []
+    → new ++ text_behind saved (reverse (take (place + 1) nodes)) (drop (place + 1) nodes) ≡ all
+text_goes_on saved nodes place opened n out new all e h so_far step =
     let at = node_at nodes place n e in
     let before : List Node = reverse (take place nodes) in
-    let later : List ℕ = text_behind (n ∷ before) (drop (place + 1) nodes) in
-    let line : List ℕ = node_text (length (open_from n.parent opened)) n.kind n.attrs in
+    let later : List ℕ = text_behind saved (n ∷ before) (drop (place + 1) nodes) in
+    let line : List ℕ = line_text saved (length (open_from n.parent opened)) n in
     let depth : depth_among (depths_back before) n.parent ≡ length (open_from n.parent opened) = next_depth before opened n (drop (place + 1) nodes) (at_node nodes place opened n at h) in
-    let left : text_behind before (drop place nodes) ≡ (line ++ 10 ∷ []) ++ later =
-    ap (text_behind before) at.rest ∙ ap (λ (d : ℕ). (node_text d n.kind n.attrs ++ 10 ∷ []) ++ later) depth in
-    ap (λ (nodes_before : List Node). new ++ text_behind nodes_before (drop (place + 1) nodes)) at.before
+    let left : text_behind saved before (drop place nodes) ≡ (line ++ 10 ∷ []) ++ later =
+    ap (text_behind saved before) at.rest ∙ first_line saved before n (drop (place + 1) nodes) ∙ ap (λ (d : ℕ). (line_text saved d n ++ 10 ∷ []) ++ later) depth in
+    ap (λ (nodes_before : List Node). new ++ text_behind saved nodes_before (drop (place + 1) nodes)) at.before
     ∙ ap (λ (front : List ℕ). front ++ later) step
     ∙ ap (λ (front : List ℕ). front ++ later) (append_assoc out line (10 ∷ []))
     ∙ append_assoc out (line ++ 10 ∷ []) later

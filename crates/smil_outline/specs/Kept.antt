@@ -1,11 +1,11 @@
 -- What a builder keeps.
-use Rattle.std.specs.Prelude.{◌≡◌, ℕ, ◌+◌, ◌<◌, ◌≤◌, Bool, false, List, [], ◌∷◌, length, take, Option, Some, None, Ok, unwrap_or, option_map, slice_get, sum_by, bytes_eq}
+use Rattle.std.specs.Prelude.{◌≡◌, ℕ, ◌≤◌, Bool, true, false, ◌||◌, ◌==◌, List, [], ◌∷◌, length, take, Option, Some, None, Ok, unwrap_or, option_map, slice_get, sum_by, bytes_eq}
 use Rattle.std.specs.List.{list_any}
 use Rattle.smil_model.specs.declared.limits.TheConstants.{NODES}
 use Rattle.smil_model.specs.declared.document.Kind.{Kind}
 use Rattle.smil_model.specs.declared.document.Node.{Node}
 use Rattle.smil_grammar.specs.Attributes.{is_class}
-use Rattle.smil_grammar.specs.Outlines.{Outline, differ, last_of, mixes, references, with_lines}
+use Rattle.smil_grammar.specs.Outlines.{Outline, no_lines, differ, last_of, mixes, references, with_lines}
 
 -- the references of all nodes
 abbrev pub all_references : List Node → ℕ
@@ -28,38 +28,37 @@ differs (Some node) kind = differ (is_class node.1) (is_class kind)
 abbrev pub serial_of : Option (ℕ × Kind) → ℕ
 serial_of node = unwrap_or (option_map (λ (n : ℕ × Kind). n.0) node) 0
 
--- serials rise from the root down
-abbrev pub IsAbove : ℕ → Option (ℕ × Kind) → Type 0
-IsAbove serial None = Unit {0}
-IsAbove serial (Some node) = serial < node.0
+-- a serial that a node has, or the root's parent's
+abbrev pub is_known : List Node → ℕ → Bool
+is_known nodes serial = (serial == 0) || list_any (λ (n : Node). n.serial == serial) nodes
 
--- the children of a node on the branch are all classes, or none is, as the one on the branch
-pub record IsAlike (nodes : List Node) (node : ℕ × Kind) (child : Option (ℕ × Kind)) : Type 0 where
-  pub among : node.0 ≤ length nodes
-  pub rising : IsAbove node.0 child
-  pub alike : (kind : Kind) → mixes nodes (Some node) kind ≡ differs child kind
+-- the children of a node on the branch are all classes, or none is, as the one below it there; no other has its serial
+pub record IsAlike (nodes : List Node) (node : ℕ × Kind) (below : List (ℕ × Kind)) : Type 0 where
+  pub known : is_known nodes node.0 ≡ true
+  pub once : list_any (λ (other : ℕ × Kind). other.0 == node.0) below ≡ false
+  pub alike : (kind : Kind) → mixes nodes (Some node) kind ≡ differs (slice_get below 0) kind
 
 abbrev pub AreAlike : List Node → List (ℕ × Kind) → Type 0
 AreAlike nodes [] = Unit {0}
-AreAlike nodes (node ∷ below) = IsAlike nodes node (slice_get below 0) × AreAlike nodes below
+AreAlike nodes (node ∷ below) = IsAlike nodes node below × AreAlike nodes below
 
--- a serial that is still to come has no children
-abbrev pub AreEarlier : List Node → Type 0
-AreEarlier nodes = (serial : ℕ) (kind other : Kind) → length nodes < serial → mixes nodes (Some (serial, other)) kind ≡ false
+-- a serial that no node has has no children
+abbrev pub AreKnown : List Node → Type 0
+AreKnown nodes = (serial : ℕ) (kind other : Kind) → is_known nodes serial ≡ false → mixes nodes (Some (serial, other)) kind ≡ false
 
--- some lines are read as these nodes and this branch
-abbrev pub AreRead : List Node → List (ℕ × Kind) → Type 0
-AreRead nodes branch = (lines : List (List ℕ)) × (with_lines (record { nodes = []; branch = [] }) lines ≡ Ok (record { nodes = nodes; branch = branch }))
+-- some lines are read as this outline
+abbrev pub IsRead : Outline → Type 0
+IsRead outline = (lines : List (List ℕ)) × (with_lines no_lines lines ≡ Ok outline)
 
--- what is true of the nodes and the branch of a builder
-pub record IsKept (nodes : List Node) (branch : List (ℕ × Kind)) : Type 0 where
-  pub few : length nodes ≤ NODES
-  pub read : AreRead nodes branch
-  pub earlier : AreEarlier nodes
-  pub alike : AreAlike nodes branch
+-- what is true of the outline of a builder
+pub record IsKept (outline : Outline) : Type 0 where
+  pub few : length outline.nodes ≤ NODES
+  pub read : IsRead outline
+  pub parents : AreKnown outline.nodes
+  pub alike : AreAlike outline.nodes outline.branch
 
 -- a node that may stand at this depth
 pub record IsPlaced (outline : Outline) (depth : ℕ) (node : Node) : Type 0 where
-  pub serial : node.serial ≡ length outline.nodes + 1
+  pub serial : is_known outline.nodes node.serial ≡ false
   pub parent : node.parent ≡ serial_of (last_of (take depth outline.branch))
   pub unmixed : mixes outline.nodes (last_of (take depth outline.branch)) node.kind ≡ false

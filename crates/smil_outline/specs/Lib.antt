@@ -3,3 +3,5 @@ pub mod Open
 pub mod Gives
 pub mod Kept
 pub mod Steps
+pub mod Migration
+pub mod Written

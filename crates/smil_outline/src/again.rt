@@ -1,7 +1,7 @@
 //! What can be written, and what is written is read again.
 
 ghost use Rattle.std.specs.Prelude.{◌≡◌, ◌≤◌, ◌==◌, ℕ, List, [], ◌∷◌, ◌++◌, All, length, true, Option, Ok};
-ghost use Rattle.smil_grammar.specs.declared.limits.TheConstants.{LINE_BYTES};
+ghost use Rattle.smil_model.specs.declared.limits.TheConstants.{LINE_BYTES};
 ghost use Rattle.std.specs.List.{slice_split};
 ghost use Rattle.smil_model.specs.declared.document.Kind.{Kind};
 ghost use Rattle.smil_model.specs.declared.document.Attrs.{Attrs};
@@ -12,6 +12,8 @@ ghost use Rattle.smil_grammar.specs.Nodes.{is_seq};
 ghost use Rattle.smil_grammar.specs.Allowed.{IsAttrs};
 ghost use Rattle.smil_grammar.specs.Outlines.{lines_from, outline_text, outline_of};
 ghost use Rattle.smil_outline.specs.Numbered.{renumbered};
+ghost use Rattle.smil_outline.specs.Written.{saved_lines};
+ghost use Rattle.smil_outline.specs.Migration.{LinesMigrate, OutlinesMigrate};
 
 /// Attributes fit the kinds of a node and its parent exactly where each that is there is one of the kind's and some
 /// text is read as it.
@@ -27,13 +29,25 @@ pub fn outline_lines()
     ensures shown { (document : Document) → IsValid document → All (All (λ (b : ℕ). 32 ≤ b)) (lines_from [] document.nodes) }
 {}
 
-/// The canonical outline of a valid document none of whose lines has more than 4,096 bytes is read as the same
+/// The canonical outline of a valid document none of whose lines has more than 16,384 bytes is read as the same
 /// document, with serials from 1 in document order.
 pub fn outline_again()
     ensures { (document : Document) → IsValid document → All (λ (line : List ℕ). length line ≤ LINE_BYTES) (lines_from [] document.nodes) → outline_of (lines_from [] document.nodes) ≡ Ok (renumbered document.nodes) }
 {}
 
+/// What is saved of a valid document is read as that document, with its serials and its next serial, where no line of it
+/// has more than 16,384 bytes.
+pub fn saved_again()
+    ensures { (document : Document) → IsValid document → All (λ (line : List ℕ). length line ≤ LINE_BYTES) (saved_lines document) → outline_of (saved_lines document) ≡ Ok document }
+{}
+
 /// What an outline is read as is a valid document.
 pub fn outline_valid()
     ensures { (lines : List (List ℕ)) (document : Document) → outline_of lines ≡ Ok document → IsValid document }
+{}
+
+/// Within larger limits a line, and an outline, is read as within smaller ones, where it is refused for none of them.
+pub fn outlines_migrate()
+    ensures lines { LinesMigrate }
+    ensures outlines { OutlinesMigrate }
 {}

@@ -1,32 +1,34 @@
 //! Outlines, read line by line.
 
-ghost use Rattle.std.specs.Prelude.{◌≡◌, ◌≤◌, ◌<◌, ◌+◌, ◌==◌, ◌&&◌, ◌||◌, [], take, drop, length, Ok, false, nat_lt, IfOk, IfErr, OnOk, OnErr};
-ghost use Rattle.smil_model.specs.declared.limits.TheConstants.{REFERENCES};
+ghost use Rattle.std.specs.Prelude.{◌≡◌, ◌≤◌, ◌<◌, ◌+◌, ◌/◌, ◌==◌, [], take, length, Option, Some, None, Ok, true, false, nat_lt, IfOk, IfErr, IfSome, OnOk, OnErr};
+ghost use Rattle.smil_model.specs.declared.limits.TheConstants.{NODES, REFERENCES};
 ghost use Rattle.std.specs.List.{prefix_len};
-ghost use Rattle.smil_grammar.specs.Nodes.{is_space, kind_of};
+ghost use Rattle.smil_grammar.specs.Nodes.{is_space, is_no_space, kind_of_shape};
+ghost use Rattle.smil_model.specs.document.Limits.{limits};
 ghost use Rattle.smil_model.specs.document.Valid.{IsValid};
 ghost use Rattle.smil_grammar.specs.Attributes.{is_class as is_class_kind};
-ghost use Rattle.smil_grammar.specs.Outlines.{with_line, ended, last_of, in_line, mixes as mixes_among, references as references_of};
+ghost use Rattle.smil_grammar.specs.Outlines.{no_lines, with_line, with_header, header_of, opens_saved, shape_in, shape_within, version_of, is_bad_serial as is_bad_serial_in, is_misplaced as is_misplaced_in, ended, last_of, in_line, attrs_in, mixes as mixes_among, references as references_of};
 ghost use Rattle.smil_outline.specs.Gives.{GivesReading, GivesRefusal, GivesDocument};
-ghost use Rattle.smil_outline.specs.Kept.{all_references, serial_of, IsPlaced};
-ghost use Rattle.smil_outline.specs.Steps.{kind_at, attrs_at, attrs_below as attrs_below_parent, node_with as node_with_attrs, node_kept, depth_of, text_of};
+ghost use Rattle.smil_outline.specs.Kept.{all_references, serial_of, is_known, IsPlaced};
+ghost use Rattle.smil_outline.specs.Steps.{kind_at, attrs_at, node_with as node_with_attrs, node_kept, text_of, IsInLine};
 
 use super::branch::Branch;
 use super::nodes::Nodes;
 use super::refusals::refused;
-use smil_attrs::{read_kind, read_node};
-use smil_grammar::LINE_BYTES;
-use smil_model::{Attrs, DEPTH, Doc, Duplicate, Kind, NODES, Node, Refusal};
+use smil_attrs::{Shape, fits, read_header, shape_attrs, shape_kind};
+use smil_lexis::texts::is;
+use smil_model::{Attrs, DEPTH, Doc, Duplicate, Kind, LINE_BYTES, NODES, Node, Refusal};
 use std::alloc::{AllocError, Global};
 use std::marker::Model;
 
-/// Reads an outline line by line, seen as the nodes so far, and the serials and kinds of the last node and
-/// those above it, from the root down.
+/// Reads an outline line by line, seen as the nodes so far, the serials and kinds of the last node and those above
+/// it, from the root down, and the next serial where a header gives it.
 #[derive(Drop)]
 pub struct Builder {
     alloc: Global,
     nodes: Nodes,
     branch: Branch,
+    next: Option<u32>,
 }
 
 impl Model for Builder {
@@ -35,9 +37,9 @@ impl Model for Builder {
 
     ghost Value = { Outline };
 
-    ghost view = { λ a. record { nodes = a.nodes; branch = a.branch } };
+    ghost view = { λ a. record { nodes = a.nodes; branch = a.branch; next = a.next } };
 
-    ghost invariant = { λ a. IsKept a.nodes a.branch };
+    ghost invariant = { λ a. IsKept (record { nodes = a.nodes; branch = a.branch; next = a.next }) };
 }
 
 fn spaces(line: &[u8]) -> usize
@@ -47,33 +49,40 @@ fn spaces(line: &[u8]) -> usize
     line.iter().take_while(|byte| **byte == b' ').count()
 }
 
-// The kind of a line without its leading spaces.
-#[tactic(auto, using(crate::proofs::Columns::kind_is_near))]
-fn kind(spaces: usize, text: &[u8]) -> Result<Kind, Refusal>
-    requires { spaces ≤ LINE_BYTES }
-    ensures reading { result ≡ in_line spaces (kind_of text.now) }
-    ensures kind { IfOk result (λ kind. kind_of text.now ≡ Ok kind) }
+// How many bytes at the front belong to a word.
+fn word(text: &[u8]) -> usize
+    ensures len { result ≡ prefix_len is_no_space text.now }
+    ensures within { result ≤ length text.now }
 {
-    match read_kind(text) {
+    text.iter().take_while(|byte| **byte != b' ').count()
+}
+
+// The kind of a node line of this shape behind so many spaces.
+#[tactic(auto, using(crate::proofs::Columns::kind_is_near))]
+fn kind(spaces: usize, shape: &Shape<'_>) -> Result<Kind, Refusal>
+    requires { spaces ≤ LINE_BYTES }
+    ensures reading { result ≡ in_line spaces (kind_of_shape (Some shape.now)) }
+{
+    match shape_kind(shape) {
         Ok(kind) => Ok(kind),
         Err(fault) => Err(refused(spaces, fault)),
     }
 }
 
-// The attributes of a line without its leading spaces, whose kind this is, below this parent.
+// The attributes of a node line of this shape, below this parent.
 fn attrs_below(
     alloc: Global,
     spaces: usize,
     parent: Option<(u32, Kind)>,
     kind: Kind,
-    text: &[u8],
+    shape: &Shape<'_>,
 ) -> Result<Attrs, Refusal>
-    requires kind { kind_of text.now ≡ Ok kind }
-    requires short { spaces + length text.now ≤ LINE_BYTES }
-    ensures reading { GivesReading result (attrs_below_parent spaces parent kind text.now) }
+    requires short { spaces ≤ LINE_BYTES }
+    requires near { IsInLine shape.now }
+    ensures reading { GivesReading result (in_line spaces (attrs_in parent kind shape.now)) }
 {
-    match read_node(alloc, parent.map(|parent| parent.1), text) {
-        Ok((_, attrs)) => Ok(attrs),
+    match shape_attrs(alloc, parent.map(|parent| parent.1), kind, shape) {
+        Ok(attrs) => Ok(attrs),
         Err(fault) => Err(refused(spaces, fault)),
     }
 }
@@ -87,33 +96,76 @@ fn is_class(kind: Kind) -> bool
 impl Builder {
     /// The outline without a line.
     pub fn new(alloc: Global) -> Result<Builder, AllocError>
-        ensures nodes { IfOk result (λ builder. builder.nodes ≡ []) }
-        ensures branch { IfOk result (λ builder. builder.branch ≡ []) }
+        ensures { IfOk result (λ builder. builder ≡ no_lines) }
     {
         Ok(Builder {
             alloc,
             nodes: Nodes::new(alloc),
             branch: Branch::new(),
+            next: None,
         })
     }
 
-    // The kind of a line's node, where the line and its depth are in order.
-    fn kind(&self, line: &[u8]) -> Result<Kind, Refusal>
-        ensures reading { result ≡ kind_at self.now line.now }
-        ensures text { IfOk result (λ kind. kind_of (text_of line.now) ≡ Ok kind) }
-        ensures short { OnOk result (length line.now ≤ LINE_BYTES) }
-        ensures near { OnOk result (depth_of line.now ≤ length self.now.branch) }
-        ensures flat { OnOk result (depth_of line.now < DEPTH) }
+    /// The version of the outline: 2 exactly where a header line was pushed, and else 1.
+    pub fn version(&self) -> u32
+        ensures { result ≡ version_of self.now }
     {
-        if line.len() > LINE_BYTES {
-            return Err(Refusal::LongLine);
+        match self.next {
+            Some(_) => 2,
+            None => 1,
         }
-        let spaces = spaces(line);
+    }
+
+    // Whether a line is a first one whose first word is `outline`.
+    fn opens(&self, line: &[u8]) -> bool
+        ensures { result ≡ opens_saved self.now line.now }
+    {
+        let (_, text) = line.split_at(spaces(line));
+        let (word, _) = text.split_at(word(text));
+        self.next.is_none() && self.nodes.len() == 0 && is(word, b"outline")
+    }
+
+    // A node line without its leading spaces: its serial, which it gives or which is the next in document order, and
+    // its shape.
+    fn shape<'a>(&self, text: &'a [u8]) -> Option<(u32, Shape<'a>)>
+        requires { length text.now ≤ LINE_BYTES }
+        ensures reading { result ≡ shape_in self.now self.now.next text.now }
+        ensures near { IfSome result (λ shape. IsInLine shape.1) }
+    {
+        match self.next {
+            Some(_) => Shape::numbered(text),
+            None => {
+                let shape = Shape::of(text)?;
+                Some((self.nodes.len() as u32 + 1, shape))
+            }
+        }
+    }
+
+    // Whether a serial isn't below the next one, or a node has it already.
+    fn is_bad_serial(&self, serial: u32) -> bool
+        ensures { result ≡ is_bad_serial_in self.now self.now.next serial }
+    {
+        match self.next {
+            Some(next) => serial >= next || self.nodes.has_serial(serial),
+            None => false,
+        }
+    }
+
+    // The kind of a node, where its serial and its depth are in order.
+    fn kind(&self, spaces: usize, serial: u32, shape: &Shape<'_>) -> Result<Kind, Refusal>
+        requires { spaces ≤ LINE_BYTES }
+        ensures reading { result ≡ kind_at self.now spaces serial shape.now }
+        ensures fresh { OnOk result (is_bad_serial_in self.now self.now.next serial ≡ false) }
+        ensures near { OnOk result (spaces / 2 ≤ length self.now.branch) }
+        ensures flat { OnOk result (spaces / 2 < DEPTH) }
+    {
         if spaces % 2 == 1 {
             return Err(Refusal::BadOutline);
         }
-        let (_, text) = line.split_at(spaces);
-        let kind = kind(spaces, text)?;
+        let kind = kind(spaces, shape)?;
+        if self.is_bad_serial(serial) {
+            return Err(Refusal::BadSerial);
+        }
         if spaces / 2 > self.branch.len() {
             return Err(Refusal::DepthJump);
         }
@@ -138,37 +190,50 @@ impl Builder {
         }
     }
 
-    // Whether a node of this depth and kind can't stand beside the others.
-    fn is_misplaced(&self, depth: usize, kind: Kind) -> bool
-        requires { depth ≤ length self.now.branch }
-        ensures { result ≡ (((length (take depth self.now.branch) == 0) && nat_lt 0 (length self.now.nodes)) || mixes_among self.now.nodes (last_of (take depth self.now.branch)) kind) }
+    // Whether a node of this depth and kind may not stand below its parent.
+    fn is_misplaced(&self, depth: usize, parent: Option<(u32, Kind)>, kind: Kind) -> bool
+        requires near { depth ≤ length self.now.branch }
+        requires parent { parent ≡ last_of (take depth self.now.branch) }
+        ensures { result ≡ is_misplaced_in self.now (take depth self.now.branch) kind }
     {
-        (depth == 0 && self.nodes.len() > 0) || self.mixes(depth, kind)
+        !fits(parent.map(|parent| parent.1), kind)
+            || (depth == 0 && self.nodes.len() > 0)
+            || self.mixes(depth, kind)
     }
 
     // The attributes of a node of this kind below this parent, where it may stand there.
-    fn attrs(&self, line: &[u8], parent: Option<(u32, Kind)>, kind: Kind) -> Result<Attrs, Refusal>
-        requires parent { parent ≡ last_of (take (depth_of line.now) self.now.branch) }
-        requires kind { kind_of (text_of line.now) ≡ Ok kind }
-        requires short { length line.now ≤ LINE_BYTES }
-        requires near { depth_of line.now ≤ length self.now.branch }
-        ensures reading { GivesReading result (attrs_at self.now (prefix_len is_space line.now) (take (depth_of line.now) self.now.branch) kind (text_of line.now)) }
-        ensures unmixed { OnOk result (mixes_among self.now.nodes parent kind ≡ false) }
+    fn attrs(
+        &self,
+        spaces: usize,
+        parent: Option<(u32, Kind)>,
+        kind: Kind,
+        shape: &Shape<'_>,
+    ) -> Result<Attrs, Refusal>
+        requires short { spaces ≤ LINE_BYTES }
+        requires inside { IsInLine shape.now }
+        requires near { spaces / 2 ≤ length self.now.branch }
+        requires parent { parent ≡ last_of (take (spaces / 2) self.now.branch) }
+        ensures reading { GivesReading result (attrs_at self.now spaces (take (spaces / 2) self.now.branch) kind shape.now) }
+        ensures placed { OnOk result (is_misplaced_in self.now (take (spaces / 2) self.now.branch) kind ≡ false) }
     {
-        let spaces = spaces(line);
-        if self.is_misplaced(spaces / 2, kind) {
+        if self.is_misplaced(spaces / 2, parent, kind) {
             return Err(Refusal::BadPlace);
         }
-        let (_, text) = line.split_at(spaces);
-        attrs_below(self.alloc, spaces, parent, kind, text)
+        attrs_below(self.alloc, spaces, parent, kind, shape)
     }
 
     // The node with these attributes, within the limits of a document.
-    fn node(&self, parent: Option<(u32, Kind)>, kind: Kind, attrs: Attrs) -> Result<Node, Refusal>
-        ensures reading { result ≡ node_with_attrs self.now.nodes parent kind attrs }
+    fn node(
+        &self,
+        serial: u32,
+        parent: Option<(u32, Kind)>,
+        kind: Kind,
+        attrs: Attrs,
+    ) -> Result<Node, Refusal>
+        ensures reading { result ≡ node_with_attrs self.now.nodes serial parent kind attrs }
         ensures light { IfOk result (λ node. all_references self.now.nodes + references_of node.attrs ≤ REFERENCES) }
         ensures few { IfOk result (λ node. length self.now.nodes < NODES) }
-        ensures serial { IfOk result (λ node. node.serial ≡ length self.now.nodes + 1) }
+        ensures serial { IfOk result (λ node. node.serial ≡ serial) }
         ensures parent { IfOk result (λ node. node.parent ≡ serial_of parent) }
         ensures kind { IfOk result (λ node. node.kind ≡ kind) }
     {
@@ -182,51 +247,100 @@ impl Builder {
             return Err(Refusal::TooManyReferences);
         }
         Ok(Node {
-            serial: self.nodes.len() as u32 + 1,
+            serial,
             kind,
             parent: parent.map_or(0, |parent| parent.0),
             attrs,
         })
     }
 
-    // The node of a line.
-    fn line(&self, line: &[u8]) -> Result<Node, Refusal>
-        ensures reading { GivesReading (node_kept self.now (depth_of line.now) result) (with_line self.now line.now) }
-        ensures depth { IfOk result (λ node. (depth_of line.now ≤ length self.now.branch) × (depth_of line.now < DEPTH)) }
+    // The node of a line of this shape.
+    fn line(&self, spaces: usize, serial: u32, shape: &Shape<'_>) -> Result<Node, Refusal>
+        requires short { spaces ≤ LINE_BYTES }
+        requires inside { IsInLine shape.now }
+        ensures reading { GivesReading (node_kept self.now (spaces / 2) result) (shape_within limits self.now spaces (Some (serial, shape.now))) }
+        ensures near { OnOk result (spaces / 2 ≤ length self.now.branch) }
+        ensures flat { OnOk result (spaces / 2 < DEPTH) }
+        ensures fresh { OnOk result (is_bad_serial_in self.now self.now.next serial ≡ false) }
         ensures light { IfOk result (λ node. all_references self.now.nodes + references_of node.attrs ≤ REFERENCES) }
         ensures few { IfOk result (λ node. length self.now.nodes < NODES) }
-        ensures placed { IfOk result (IsPlaced self.now (depth_of line.now)) }
+        ensures serial { IfOk result (λ node. node.serial ≡ serial) }
+        ensures parent { IfOk result (λ node. node.parent ≡ serial_of (last_of (take (spaces / 2) self.now.branch))) }
+        ensures unmixed { IfOk result (λ node. mixes_among self.now.nodes (last_of (take (spaces / 2) self.now.branch)) node.kind ≡ false) }
     {
-        let kind = self.kind(line)?;
-        let parent = self.branch.above(spaces(line) / 2);
-        let attrs = self.attrs(line, parent, kind)?;
-        self.node(parent, kind, attrs)
+        let kind = self.kind(spaces, serial, shape)?;
+        let parent = self.branch.above(spaces / 2);
+        let attrs = self.attrs(spaces, parent, kind, shape)?;
+        self.node(serial, parent, kind, attrs)
     }
 
-    /// Reads one more line, without its line feed: two spaces for each level, and a node line
-    /// (`smil_attrs::read_node`). Refused, in this order: `LongLine` above 4,096 bytes; `BadOutline` for a line
-    /// that isn't of the shape of a node line, or has an odd number of spaces before it, a name twice or an
-    /// unknown kind; `Unsupported` for a kind that is left out; `DepthJump` more than one level below the line
-    /// before; `TooDeep` at depth 32; `BadPlace` for a second root, or where the parent can't have such a child;
-    /// an attribute's fault, with its column in the line from 1; `DuplicateId`; `TooManyElements` behind 2,000
-    /// nodes; `TooManyReferences` above 8,000. `Memory` may come at any line. After a refusal the builder is
-    /// as before.
+    // Reads a header.
+    fn open(&mut self, line: &[u8]) -> Result<(), Refusal>
+        requires short { length line.now ≤ LINE_BYTES }
+        requires first { opens_saved self.old line.now ≡ true }
+        ensures ok { OnOk result (with_line self.old line.now ≡ Ok self.new) }
+        ensures refusal { IfErr result (GivesRefusal (with_line self.old line.now)) }
+        ensures unchanged { OnErr result (self.new ≡ self.old) }
+    {
+        let Some(next) = read_header(line) else {
+            return Err(Refusal::BadOutline);
+        };
+        self.next = Some(next);
+        Ok(())
+    }
+
+    // Reads a node line.
+    fn add(&mut self, line: &[u8]) -> Result<(), Refusal>
+        requires short { length line.now ≤ LINE_BYTES }
+        requires later { opens_saved self.old line.now ≡ false }
+        ensures ok { OnOk result (with_line self.old line.now ≡ Ok self.new) }
+        ensures refusal { IfErr result (GivesRefusal (with_line self.old line.now)) }
+        ensures unchanged { OnErr result (self.new ≡ self.old) }
+    {
+        let spaces = spaces(line);
+        let (_, text) = line.split_at(spaces);
+        let Some((serial, shape)) = self.shape(text) else {
+            return Err(Refusal::BadOutline);
+        };
+        let node = self.line(spaces, serial, &shape)?;
+        let kind = node.kind;
+        if self.nodes.push(node).is_err() {
+            return Err(Refusal::Memory);
+        }
+        self.branch.put(spaces / 2, serial, kind);
+        Ok(())
+    }
+
+    /// Reads one more line, without its line feed: a header, as the first line alone, or a node line.
+    ///
+    /// The header `outline 2 next M` makes it an outline of version 2, whose node lines give their serials, each below
+    /// `M`, which is the next serial. Without it the serials are the places in document order, from 1. A node line has
+    /// two spaces for each level, the kind, in version 2 the serial as ` #7`, and attributes.
+    ///
+    /// Refused, in this order: `LongLine` above 16,384 bytes; `BadOutline` for a first line whose first word is
+    /// `outline` that is no header, and for a line that isn't of the shape of a node line, has no serial in version 2,
+    /// or has an odd number of spaces before it, a name twice or an unknown kind; `Unsupported` for a kind that is left
+    /// out; `BadSerial` in version 2 for a serial that isn't below the header's number, or that a node has already;
+    /// `DepthJump` more than one level below the line before; `TooDeep` at depth 32; `BadPlace` for a second root, or
+    /// where the parent can't have such a child; an attribute's fault, with its column in the line from 1;
+    /// `DuplicateId`; `TooManyElements` behind 8,000 nodes; `TooManyReferences` above 32,000. `Memory` may come at any
+    /// node line. After a refusal the builder is as before.
     pub fn push(&mut self, line: &[u8]) -> Result<(), Refusal>
         ensures ok { OnOk result (with_line self.old line.now ≡ Ok self.new) }
         ensures refusal { IfErr result (GivesRefusal (with_line self.old line.now)) }
         ensures unchanged { OnErr result (self.new ≡ self.old) }
     {
-        let node = self.line(line)?;
-        let (serial, kind) = (node.serial, node.kind);
-        if self.nodes.push(node).is_err() {
-            return Err(Refusal::Memory);
+        if line.len() > LINE_BYTES {
+            return Err(Refusal::LongLine);
         }
-        self.branch.put(spaces(line) / 2, serial, kind);
-        Ok(())
+        if self.opens(line) {
+            return self.open(line);
+        }
+        self.add(line)
     }
 
-    /// The document of the lines so far, whose next serial is one more than it has nodes. `BadOutline` exactly
-    /// where no line was read; `Memory` may come where there was one. The document is valid.
+    /// The document of the lines so far. Its next serial is the header's, or one more than it has nodes. `BadOutline`
+    /// exactly where no node line was read; `Memory` may come where there was one. The document is valid.
     pub fn finish(self) -> Result<Doc, Refusal>
         ensures document { GivesDocument result (ended self) }
         ensures valid { IfOk result IsValid }
@@ -235,7 +349,11 @@ impl Builder {
         if count == 0 {
             return Err(Refusal::BadOutline);
         }
-        match self.copied(count as u32 + 1) {
+        let next = match self.next {
+            Some(next) => next,
+            None => count as u32 + 1,
+        };
+        match self.copied(next) {
             Ok(doc) => Ok(doc),
             Err(_) => Err(Refusal::Memory),
         }
@@ -259,241 +377,20 @@ impl Builder {
 #[cfg(test)]
 mod tests {
     use super::*;
-    use smil_model::Bytes;
     use std::test::Fail;
 
-    // The builder behind these lines, or the first refusal.
-    fn read(alloc: Global, lines: &[&str]) -> Result<Builder, Refusal> {
-        let Ok(mut builder) = Builder::new(alloc) else {
-            return Err(Refusal::Memory);
-        };
-        for line in lines {
-            builder.push(line.as_bytes())?;
-        }
-        Ok(builder)
-    }
-
-    // The document of these lines, or the first refusal.
-    fn document(alloc: Global, lines: &[&str]) -> Result<Doc, Refusal> {
-        read(alloc, lines)?.finish()
-    }
-
     #[test]
-    fn reads(rt: HostRuntime) -> Result<(), Fail> {
+    fn reads_serials(rt: HostRuntime) -> Result<(), Fail> {
         let mut builder = Builder::new(rt.alloc())?;
-        builder.push(b"par")?;
-        builder.push(b"  excl id=\"x\"")?;
-        builder.push(b"    priorityClass")?;
-        builder.push(b"      img begin=\"x.begin;click\"")?;
-        builder.push(b"  text id=\"y.2\" fill=\"hold\"")?;
+        builder.push(b"outline 2 next 9")?;
+        builder.push(b"par #3")?;
+        builder.push(b"  img #1")?;
+        assert_eq!(rt; builder.push(b"  img #3"), Err(Refusal::BadSerial));
+        assert_eq!(rt; builder.push(b"  img #9"), Err(Refusal::BadSerial));
+        assert_eq!(rt; builder.version(), 2);
         let doc = builder.finish()?;
-        assert_eq!(rt; doc.len(), 5);
-        assert_eq!(rt; doc.next(), 6);
-        let places: [(u32, u32); 5] = [(1, 0), (2, 1), (3, 2), (4, 3), (5, 1)];
-        for (place, (serial, parent)) in places.into_iter().enumerate() {
-            match doc.get(place) {
-                Some(node) => {
-                    assert_eq!(rt; node.serial, serial);
-                    assert_eq!(rt; node.parent, parent);
-                }
-                None => assert!(rt; false, "node {serial}"),
-            }
-        }
-        Ok(())
-    }
-
-    // Each excl has classes alone or none, however deep its other descendants stand.
-    #[test]
-    fn reads_nested_excls(rt: HostRuntime) -> Result<(), Fail> {
-        let lines = [
-            "excl",
-            "  priorityClass",
-            "    excl",
-            "      img",
-            "      excl",
-            "        priorityClass",
-            "          img",
-            "        priorityClass",
-            "      img",
-            "    img",
-            "  priorityClass",
-        ];
-        assert_eq!(rt; document(rt.alloc(), &lines)?.len(), 11);
-        Ok(())
-    }
-
-    #[test]
-    fn refuses(rt: HostRuntime) -> Result<(), Fail> {
-        let cases: [(&[&str], Refusal); 19] = [
-            (&[], Refusal::BadOutline),
-            (&[""], Refusal::BadOutline),
-            (&[" par"], Refusal::BadOutline),
-            (&["par", "   img"], Refusal::BadOutline),
-            (&["par id=x"], Refusal::BadOutline),
-            (&["par id=\"x\" id=\"y\""], Refusal::BadOutline),
-            (&["foo"], Refusal::BadOutline),
-            (&["par", "  switch"], Refusal::Unsupported { column: 3 }),
-            (&["  par"], Refusal::DepthJump),
-            (&["par", "    img"], Refusal::DepthJump),
-            (&["par", "  seq", "      img"], Refusal::DepthJump),
-            (
-                &["par", "  img begin=\"1s;;2s\""],
-                Refusal::BadValue { column: 17 },
-            ),
-            (
-                &["par", "  img begin=\"wallclock(2008-12-01)\""],
-                Refusal::Unsupported { column: 14 },
-            ),
-            (
-                &["seq", "  img begin=\"-1s\""],
-                Refusal::BadValue { column: 14 },
-            ),
-            (
-                &["par", "  seq", "    img colour=\"red\""],
-                Refusal::UnknownAttribute { column: 9 },
-            ),
-            (&["par id=\"a\"", "  img id=\"a\""], Refusal::DuplicateId),
-            (
-                &["par", "  img id=\"a\"", "  seq", "    img id=\"a\""],
-                Refusal::DuplicateId,
-            ),
-            (
-                &["par id=\"a\"", "  img id=\"b\"", "  img id=\"a\""],
-                Refusal::DuplicateId,
-            ),
-            (&["img dur=\"?\""], Refusal::BadPlace),
-        ];
-        for (lines, want) in cases {
-            assert_eq!(rt; document(rt.alloc(), lines).err(), Some(want), "{lines:?}");
-        }
-        Ok(())
-    }
-
-    #[test]
-    fn refuses_bad_places(rt: HostRuntime) -> Result<(), Fail> {
-        let cases: [&[&str]; 14] = [
-            &["par", "par"],
-            &["par", "  img", "par"],
-            &["img"],
-            &["priorityClass"],
-            &["par", "  img", "    img dur=\"?\""],
-            &["par", "  priorityClass"],
-            &["seq", "  priorityClass"],
-            &["excl", "  img", "    priorityClass"],
-            &["excl", "  priorityClass", "    priorityClass"],
-            &["excl", "  priorityClass", "  img"],
-            &["excl", "  img", "  priorityClass"],
-            &["excl", "  priorityClass", "    par", "      img", "  par"],
-            &["excl", "  par", "    img", "    img", "  priorityClass"],
-            &[
-                "excl",
-                "  img",
-                "  img",
-                "  excl",
-                "    priorityClass",
-                "    img",
-            ],
-        ];
-        for lines in cases {
-            assert_eq!(rt;
-                document(rt.alloc(), lines).err(),
-                Some(Refusal::BadPlace),
-                "{lines:?}"
-            );
-        }
-        Ok(())
-    }
-
-    #[test]
-    fn is_32_deep(rt: HostRuntime) -> Result<(), Fail> {
-        let mut builder = Builder::new(rt.alloc())?;
-        let mut line = Bytes::new(rt.alloc());
-        for _depth in 0..32 {
-            let before = line.len();
-            line.append(b"seq")?;
-            builder.push(line.slice())?;
-            line.cut_back(before);
-            line.append(b"  ")?;
-        }
-        line.append(b"seq")?;
-        assert_eq!(rt; builder.push(line.slice()), Err(Refusal::TooDeep));
-        assert_eq!(rt; builder.finish()?.len(), 32);
-        Ok(())
-    }
-
-    #[test]
-    fn has_2000_nodes(rt: HostRuntime) -> Result<(), Fail> {
-        let mut builder = Builder::new(rt.alloc())?;
-        builder.push(b"par id=\"n1\"")?;
-        for number in 2..2001 {
-            let line = format!(in rt.alloc();
-                "  img id=\"n{number}\" begin=\"n1.end;click;focus\" end=\"n1.end\""
-            )?;
-            builder.push(line.as_bytes())?;
-        }
-        assert_eq!(rt; builder.push(b"  img id=\"n7\""), Err(Refusal::DuplicateId));
-        assert_eq!(rt; builder.push(b"  img"), Err(Refusal::TooManyElements));
-        let doc = builder.finish()?;
-        assert_eq!(rt; doc.len(), 2000);
-        assert_eq!(rt; doc.next(), 2001);
-        Ok(())
-    }
-
-    #[test]
-    fn has_8000_references(rt: HostRuntime) -> Result<(), Fail> {
-        let mut builder = Builder::new(rt.alloc())?;
-        builder.push(b"par")?;
-        let mut line = Bytes::of(rt.alloc(), b"  img end=\"click")?;
-        for _reference in 1..32 {
-            line.append(b";click")?;
-        }
-        line.append(b"\"")?;
-        for _image in 0..250 {
-            builder.push(line.slice())?;
-        }
-        assert_eq!(rt;
-            builder.push(b"  img begin=\"1s;click\""),
-            Err(Refusal::TooManyReferences)
-        );
-        builder.push(b"  img begin=\"1s;indefinite\" end=\"2s\"")?;
-        assert_eq!(rt; builder.finish()?.len(), 252);
-        Ok(())
-    }
-
-    #[test]
-    fn has_lines_of_4096_bytes(rt: HostRuntime) -> Result<(), Fail> {
-        let mut line = [b' '; 4097];
-        line[..3].copy_from_slice(b"par");
-        let mut builder = Builder::new(rt.alloc())?;
-        assert_eq!(rt; builder.push(&line), Err(Refusal::LongLine));
-        builder.push(&line[..4096])?;
-        assert_eq!(rt; builder.finish()?.len(), 1);
-        Ok(())
-    }
-
-    #[test]
-    fn stays_after_a_refusal(rt: HostRuntime) -> Result<(), Fail> {
-        let before = ["excl id=\"a\"", "  par id=\"b\"", "    img begin=\"click\""];
-        let mut builder = read(rt.alloc(), &before)?;
-        let refused = [
-            "  img id",
-            "  switch",
-            "        img",
-            "    img dur=\"?\"",
-            "excl",
-            "  priorityClass",
-            "      img",
-            "  img id=\"a\"",
-        ];
-        for line in refused {
-            assert!(rt; builder.push(line.as_bytes()).is_err(), "{line}");
-        }
-        builder.push(b"    seq id=\"c\"")?;
-        builder.push(b"  par id=\"d\"")?;
-        let mut plain = read(rt.alloc(), &before)?;
-        plain.push(b"    seq id=\"c\"")?;
-        plain.push(b"  par id=\"d\"")?;
-        assert_eq!(rt; builder.finish()?, plain.finish()?);
+        assert_eq!(rt; doc.len(), 2);
+        assert_eq!(rt; doc.next(), 9);
         Ok(())
     }
 }

@@ -10,6 +10,8 @@ mod references;
 mod refusals;
 mod writer;
 
-pub use again::{attrs_fit, outline_again, outline_lines, outline_valid};
+pub use again::{
+    attrs_fit, outline_again, outline_lines, outline_valid, outlines_migrate, saved_again,
+};
 pub use builder::Builder;
-pub use writer::write_doc;
+pub use writer::{write_doc, write_doc_2};

@@ -1,6 +1,8 @@
-//! The nodes of an outline, and what is asked of them at each line, which takes logarithmic time.
+//! The nodes of an outline, and what is asked of them at each line.
 
-ghost use Rattle.std.specs.Prelude.{◌≡◌, ◌≤◌, ◌+◌, [], ◌∷◌, ◌++◌, length, unwrap_or, not, nat_lt, OnOk, OnErr, option_copied, slice_get};
+ghost use Rattle.std.specs.Prelude.{◌≡◌, ◌≤◌, ◌+◌, [], ◌∷◌, ◌++◌, length, unwrap_or, not, ◌==◌, nat_lt, OnOk, OnErr, option_copied, slice_get};
+ghost use Rattle.std.specs.List.{list_any};
+ghost use Rattle.smil_model.specs.declared.document.Node.{Node};
 ghost use Rattle.smil_grammar.specs.Outlines.{has_id as has_id_among, references as references_of};
 ghost use Rattle.smil_outline.specs.Kept.{all_references};
 
@@ -17,6 +19,7 @@ pub struct Nodes {
     alloc: Global,
     nodes: Listed<Node>,
     ids: Ids,
+    serials: Vec<u32>,
     references: usize,
 }
 
@@ -24,13 +27,14 @@ impl Model for Nodes {
     ghost use Rattle.std.specs.Prelude.{◌≡◌, ℕ, ◌≤◌, List};
     ghost use Rattle.smil_model.specs.declared.limits.TheConstants.{REFERENCES};
     ghost use Rattle.smil_model.specs.declared.document.Node.{Node};
+    ghost use Rattle.smil_model.specs.document.Document.{serials as serials_of};
     ghost use Rattle.smil_outline.specs.Kept.{all_references, has, is_taken};
 
     ghost Value = { List Node };
 
     ghost view = { λ a. a.nodes };
 
-    ghost invariant = { λ a. (a.references ≡ all_references a.nodes) × (a.references ≤ REFERENCES) × ((id : List ℕ) → has a.ids id ≡ is_taken a.nodes id) };
+    ghost invariant = { λ a. (a.references ≡ all_references a.nodes) × (a.references ≤ REFERENCES) × ((id : List ℕ) → has a.ids id ≡ is_taken a.nodes id) × (a.serials.items ≡ serials_of a.nodes) };
 }
 
 // A node's id, which is empty where it has none.
@@ -52,6 +56,7 @@ impl Nodes {
             alloc,
             nodes: Listed::new(alloc),
             ids: Ids::new(alloc),
+            serials: Vec::new(alloc),
             references: 0,
         }
     }
@@ -70,7 +75,7 @@ impl Nodes {
         self.nodes.get(place)
     }
 
-    /// Whether a node with these attributes leaves at most 8,000 items that are neither offsets nor `indefinite`.
+    /// Whether a node with these attributes leaves at most 32,000 items that are neither offsets nor `indefinite`.
     pub fn has_room(&self, attrs: &Attrs) -> bool
         ensures { result ≡ not (nat_lt REFERENCES (all_references self.now + references_of attrs.now)) }
     {
@@ -89,7 +94,16 @@ impl Nodes {
         }
     }
 
+    /// Whether a node has this serial.
+    #[tactic(auto, using(crate::proofs::Taken::serial_among))]
+    pub fn has_serial(&self, serial: u32) -> bool
+        ensures { result ≡ list_any (λ (n : Node). n.serial == serial) self.now }
+    {
+        self.serials.iter().any(|own| *own == serial)
+    }
+
     /// Appends a node. After a refusal the nodes are as before.
+    #[tactic(auto, using(crate::proofs::Taken::serials_on, crate::proofs::Taken::serials_back))]
     pub fn push(&mut self, node: Node) -> Result<(), AllocError>
         requires light { all_references self.old + references_of node.attrs ≤ REFERENCES }
         ensures ok { OnOk result (self.new ≡ self.old ++ node ∷ []) }
@@ -98,9 +112,14 @@ impl Nodes {
         let more = references(&node.attrs);
         let id = Vec::from_slice(self.alloc, id_of(&node))?;
         let len = self.nodes.len();
-        self.nodes.push(node)?;
+        self.serials.push(node.serial)?;
+        if self.nodes.push(node).is_err() {
+            self.serials.truncate(len);
+            return Err(AllocError);
+        }
         if self.ids.put(id).is_err() {
             self.nodes.cut_back(len);
+            self.serials.truncate(len);
             return Err(AllocError);
         }
         self.references += more;

@@ -1,7 +1,7 @@
 //! Faults of node lines, as refusals of the outline's lines.
 
 ghost use Rattle.std.specs.Prelude.{◌≡◌, ◌≤◌, ◌+◌};
-ghost use Rattle.smil_grammar.specs.declared.limits.TheConstants.{LINE_BYTES};
+ghost use Rattle.smil_model.specs.declared.limits.TheConstants.{LINE_BYTES};
 ghost use Rattle.smil_grammar.specs.Outlines.{refused as refused_line};
 ghost use Rattle.smil_outline.specs.Steps.{IsNear};
 
@@ -11,7 +11,7 @@ use smil_model::Refusal;
 // A column behind so many spaces.
 fn behind(spaces: usize, column: u32) -> u32
     requires spaces { spaces ≤ LINE_BYTES }
-    requires column { column ≤ 8192 }
+    requires column { column ≤ LINE_BYTES + 3 }
     ensures { result ≡ spaces + column }
 {
     spaces as u32 + column

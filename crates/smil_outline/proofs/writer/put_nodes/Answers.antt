@@ -1,12 +1,12 @@
-use Rattle.std.proofs.Common.{rules, ◌≡◌, ◌≤◌, ◌+◌, List, Some, None, [], ◌∷◌, ◌++◌, drop, take, reverse, length, refl, sym, ap, subst, ◌∙◌, arith, append_assoc}
+use Rattle.std.proofs.Common.{rules, ℕ, ◌≡◌, ◌≤◌, ◌+◌, List, Some, None, [], ◌∷◌, ◌++◌, drop, take, reverse, length, refl, sym, ap, subst, ◌∙◌, arith, append_assoc}
 use Rattle.std.specs.Prelude.{slice_get, option_copied}
 use Rattle.std.proofs.lemmas.List.{append-nil, drop_all}
 use Rattle.smil_model.specs.declared.document.Node.{Node}
 use Rattle.smil_model.specs.document.Valid.{open_from}
-use Rattle.smil_grammar.specs.Spellings.{node_text, Begins}
-use Rattle.smil_grammar.specs.Outlines.{outline_text}
+use Rattle.smil_grammar.specs.Spellings.{Begins}
+use Rattle.smil_outline.specs.Written.{line_text, nodes_text}
 use Rattle.smil_outline.specs.Open.{upwards}
-use Rattle.smil_outline.proofs.Walks.{IsWalkedTo, text_behind, walk_starts, walk_goes_on, text_goes_on, is_shallow, can_write_at, none_left, begins_by, begins_more, begins_itself}
+use Rattle.smil_outline.proofs.Walks.{IsWalkedTo, text_behind, text_ends, walk_starts, walk_goes_on, text_goes_on, is_shallow, can_write_at, none_left, begins_by, begins_more, begins_itself}
 use Rattle.smil_outline.proofs.writer.put_nodes.Goals as goal
 use Rattle.smil_outline.proofs.writer.put_nodes.Goals.{in-Some+in_ok-put_next, in_default}
 
@@ -32,12 +32,12 @@ loop-place-preserved c = elim c.match-get.branch [
   | in-Some+in_ok-put_next w ↦
       let nodes : List Node = c.args.doc.now.nodes in
       let found : slice_get nodes c.loop-place.place ≡ Some w.in-Some.node.now = sym c.get.ensures ∙ ap option_copied w.in-Some.is in
-      let out : c.match-get.out ≡ c.loop-place.out ++ node_text (length (open_from w.in-Some.node.now.parent (upwards c.loop-place.branch))) w.in-Some.node.now.kind w.in-Some.node.now.attrs ++ 10 ∷ [] = w.out-is ∙ w.in_ok-put_next.ensures.ok in
+      let out : c.match-get.out ≡ c.loop-place.out ++ line_text c.args.saved (length (open_from w.in-Some.node.now.parent (upwards c.loop-place.branch))) w.in-Some.node.now ++ 10 ∷ [] = w.out-is ∙ w.in_ok-put_next.ensures.ok in
       let opened : upwards c.match-get.branch' ≡ w.in-Some.node.now.serial ∷ open_from w.in-Some.node.now.parent (upwards c.loop-place.branch) = ap upwards w.branch'-is ∙ w.in_ok-put_next.ensures.branch in
       record {
         walked = subst (IsWalkedTo nodes (c.loop-place.place + 1)) (sym opened) (walk_goes_on nodes c.loop-place.place (upwards c.loop-place.branch) w.in-Some.node.now found c.loop-place.invariant.walked);
-        text = text_goes_on nodes c.loop-place.place (upwards c.loop-place.branch) w.in-Some.node.now c.loop-place.out c.match-get.out (c.args.out.now ++ outline_text nodes) found c.loop-place.invariant.walked c.loop-place.invariant.text out;
-        begins = begins_more c.args.out.now c.loop-place.out c.match-get.out (node_text (length (open_from w.in-Some.node.now.parent (upwards c.loop-place.branch))) w.in-Some.node.now.kind w.in-Some.node.now.attrs ++ 10 ∷ []) c.loop-place.invariant.begins (out ∙ append_assoc c.loop-place.out (node_text (length (open_from w.in-Some.node.now.parent (upwards c.loop-place.branch))) w.in-Some.node.now.kind w.in-Some.node.now.attrs) (10 ∷ []));
+        text = text_goes_on c.args.saved nodes c.loop-place.place (upwards c.loop-place.branch) w.in-Some.node.now c.loop-place.out c.match-get.out (c.args.out.now ++ nodes_text c.args.saved nodes) found c.loop-place.invariant.walked c.loop-place.invariant.text out;
+        begins = begins_more c.args.out.now c.loop-place.out c.match-get.out (line_text c.args.saved (length (open_from w.in-Some.node.now.parent (upwards c.loop-place.branch))) w.in-Some.node.now ++ 10 ∷ []) c.loop-place.invariant.begins (out ∙ append_assoc c.loop-place.out (line_text c.args.saved (length (open_from w.in-Some.node.now.parent (upwards c.loop-place.branch))) w.in-Some.node.now) (10 ∷ []));
       }
   | in_default w ↦
       let past : slice_get c.args.doc.now.nodes c.loop-place.place ≡ None = sym c.get.ensures ∙ ap option_copied w.in_default.is in
@@ -53,4 +53,5 @@ pub returns-clause-ok : goal.returns-clause-ok
 returns-clause-ok c =
     let all : length c.args.doc.now.nodes ≤ c.loop-place.place = omega arith in
     let none : drop c.loop-place.place c.args.doc.now.nodes ≡ [] = drop_all c.loop-place.place c.args.doc.now.nodes all in
-    sym (append-nil c.loop-place.out) ∙ ap (λ (rest : List Node). c.loop-place.out ++ text_behind (reverse (take c.loop-place.place c.args.doc.now.nodes)) rest) (sym none) ∙ c.loop-place.invariant.text
+    let front : List Node = reverse (take c.loop-place.place c.args.doc.now.nodes) in
+    sym (append-nil c.loop-place.out) ∙ ap (λ (text : List ℕ). c.loop-place.out ++ text) (sym (text_ends c.args.saved front)) ∙ ap (λ (rest : List Node). c.loop-place.out ++ text_behind c.args.saved (reverse (take c.loop-place.place c.args.doc.now.nodes)) rest) (sym none) ∙ c.loop-place.invariant.text

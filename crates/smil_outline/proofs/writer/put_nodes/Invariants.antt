@@ -1,6 +1,6 @@
 use Rattle.std.proofs.Common.{◌≡◌, ◌++◌, take, drop, reverse}
 use Rattle.smil_grammar.specs.Spellings.{Begins}
-use Rattle.smil_grammar.specs.Outlines.{outline_text}
+use Rattle.smil_outline.specs.Written.{nodes_text}
 use Rattle.smil_outline.specs.Open.{upwards}
 use Rattle.smil_outline.proofs.Walks.{IsWalkedTo, text_behind}
 use Rattle.smil_outline.proofs.writer.put_nodes.Given as goal
@@ -8,6 +8,6 @@ use Rattle.smil_outline.proofs.writer.put_nodes.Given as goal
 abbrev pub invariant-loop-place : goal.invariant-loop-place
 invariant-loop-place l = record {
   walked : IsWalkedTo l.doc.nodes l.place (upwards l.branch);
-  text : l.out ++ text_behind (reverse (take l.place l.doc.nodes)) (drop l.place l.doc.nodes) ≡ l.fn.out ++ outline_text l.doc.nodes;
+  text : l.out ++ text_behind l.saved (reverse (take l.place l.doc.nodes)) (drop l.place l.doc.nodes) ≡ l.fn.out ++ nodes_text l.saved l.doc.nodes;
   begins : Begins l.fn.out l.out;
 }

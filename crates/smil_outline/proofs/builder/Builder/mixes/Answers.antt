@@ -8,7 +8,7 @@ pub returns-in-Some : goal.returns-in-Some
 returns-in-Some c =
     ap (λ b. not (beq b c.is_class-in-Some.result)) c.is_class.ensures ∙ ap (λ b. not (beq (is_class c.in-Some.last.1) b)) c.is_class-in-Some.ensures
     ∙ differ_is (is_class c.in-Some.last.1) (is_class c.args.kind)
-    ∙ mixed_in c.self.inside.nodes c.self.inside.branch c.args.self.now c.args.depth c.args.kind _ c.self.view_is c.self.invariant.alike (omega arith) c.requires c.in-Some.ensures
+    ∙ mixed_in _ c.args.self.now c.args.depth c.args.kind _ c.self.view_is c.self.invariant.alike (omega arith) c.requires c.in-Some.ensures
 
 pub returns-in-None : goal.returns-in-None
-returns-in-None c = mixed_in c.self.inside.nodes c.self.inside.branch c.args.self.now c.args.depth c.args.kind _ c.self.view_is c.self.invariant.alike (omega arith) c.requires c.in-None.ensures
+returns-in-None c = mixed_in _ c.args.self.now c.args.depth c.args.kind _ c.self.view_is c.self.invariant.alike (omega arith) c.requires c.in-None.ensures
