@@ -97,35 +97,14 @@ pub none_lent : (r : Option (Bor Node)) → ((x : Bor Node) → r ≡ Some x →
 none_lent None never = refl
 none_lent (Some x) never = absurd (never x refl)
 
-abbrev pub serial_found : Option Node → Option ℕ
-serial_found o = option_map (λ (n : Node). n.serial) o
-
-is_elem : (n : Node) (t : Bool) → is_class_kind n.kind ≡ t → is_element n ≡ not t
-is_elem n t e = ap not e
-
 -- the nearest element of a lineage that begins with an element, and with a priorityClass
-pub nearest_here : (nodes : List Node) → IsOrdered nodes → (s : ℕ) (n : Node) → node_at nodes s ≡ Some n → is_class_kind n.kind ≡ false → find is_element (lineage nodes s) ≡ Some n
+pub nearest_here : (nodes : List Node) → IsOrdered nodes → (s : ℕ) (n : Node) → node_at nodes s ≡ Some n → is_element n ≡ true → find is_element (lineage nodes s) ≡ Some n
 nearest_here nodes o s n at e =
-    ap (find is_element) (chain_of nodes o s n at) ∙ ap (λ t. cond t (Some n) (find is_element (lineage nodes n.parent))) (is_elem n false e)
+    ap (find is_element) (chain_of nodes o s n at) ∙ ap (λ t. cond t (Some n) (find is_element (lineage nodes n.parent))) e
 
-pub nearest_above : (nodes : List Node) → IsOrdered nodes → (s : ℕ) (n : Node) → node_at nodes s ≡ Some n → is_class_kind n.kind ≡ true → find is_element (lineage nodes s) ≡ find is_element (lineage nodes n.parent)
+pub nearest_above : (nodes : List Node) → IsOrdered nodes → (s : ℕ) (n : Node) → node_at nodes s ≡ Some n → is_element n ≡ false → find is_element (lineage nodes s) ≡ find is_element (lineage nodes n.parent)
 nearest_above nodes o s n at e =
-    ap (find is_element) (chain_of nodes o s n at) ∙ ap (λ t. cond t (Some n) (find is_element (lineage nodes n.parent))) (is_elem n true e)
-
--- whether this is the serial
-abbrev pub is_serial_of : ℕ → Option ℕ → Bool
-is_serial_of s None = false
-is_serial_of s (Some p) = p == s
-
-pub child_test : (nodes : List Node) → IsOrdered nodes → (s : ℕ) (n : Node) → node_at nodes n.serial ≡ Some n → is_class_kind n.kind ≡ false → (r : Option ℕ) → r ≡ serial_found (find is_element (lineage nodes n.parent)) → is_serial_of s r ≡ is_time_child nodes s n
-child_test nodes o s n known e r is =
-    ap (is_serial_of s) is ∙ same (find is_element (lineage nodes n.parent))
-    ∙ ap (λ c. has_serial s (find is_element c)) (sym (above_of nodes o n.serial n known))
-    ∙ ap (λ t. t && has_serial s (time_parent nodes n.serial)) (sym (is_elem n false e))
-  where
-    same : (x : Option Node) → is_serial_of s (serial_found x) ≡ has_serial s x
-    same None = refl
-    same (Some p) = refl
+    ap (find is_element) (chain_of nodes o s n at) ∙ ap (λ t. cond t (Some n) (find is_element (lineage nodes n.parent))) e
 
 -- ---- all that pass
 

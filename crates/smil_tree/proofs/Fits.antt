@@ -5,9 +5,9 @@ use Rattle.smil_model.specs.declared.document.Attrs.{Attrs}
 use Rattle.smil_model.specs.declared.document.AttrName.{AttrName}
 use Rattle.smil_model.specs.declared.document.AttrName.TheVariants as name
 use Rattle.smil_model.specs.declared.document.Kind.{Kind}
-use Rattle.smil_model.specs.document.Document.{is_class_kind}
-use Rattle.smil_model.specs.document.Words.{is_id, is_kept_text}
-use Rattle.smil_model.specs.document.Values.{fit_kind, absent_or, is_begin, is_dur, is_list, is_clock, is_bound, is_count, is_positive_bound, is_endsync, has_element_attrs, has_class_attrs, are_element_values, has_endsync, is_seq_parent, is_higher, is_lower}
+use Rattle.smil_model.specs.document.Document.{is_class_kind, is_set_kind}
+use Rattle.smil_model.specs.document.Words.{is_id, is_attribute_name, is_kept_text}
+use Rattle.smil_model.specs.document.Values.{fit_kind, absent_or, is_begin, is_dur, is_list, is_clock, is_bound, is_count, is_positive_bound, is_endsync, has_element_attrs, has_media_attrs, has_set_attrs, has_class_attrs, are_element_values, has_endsync, is_seq_parent, is_higher, is_lower}
 use Rattle.smil_model.specs.document.Edits.{without_attr}
 
 -- ---- tests of which one follows from another
@@ -88,6 +88,14 @@ module _ (attrs : Attrs) where
   fill_stays name.Fill = inr refl
   fill_stays _ = inl refl
 
+  restart_default_stays : (given : AttrName) → Stays (without_attr attrs given).restart_default attrs.restart_default
+  restart_default_stays name.RestartDefault = inr refl
+  restart_default_stays _ = inl refl
+
+  fill_default_stays : (given : AttrName) → Stays (without_attr attrs given).fill_default attrs.fill_default
+  fill_default_stays name.FillDefault = inr refl
+  fill_default_stays _ = inl refl
+
   endsync_stays : (given : AttrName) → Stays (without_attr attrs given).endsync attrs.endsync
   endsync_stays name.Endsync = inr refl
   endsync_stays _ = inl refl
@@ -120,26 +128,48 @@ module _ (attrs : Attrs) where
   title_stays name.Title = inr refl
   title_stays _ = inl refl
 
+  target_element_stays : (given : AttrName) → Stays (without_attr attrs given).target_element attrs.target_element
+  target_element_stays name.TargetElement = inr refl
+  target_element_stays _ = inl refl
+
+  attribute_name_stays : (given : AttrName) → Stays (without_attr attrs given).attribute_name attrs.attribute_name
+  attribute_name_stays name.AttributeName = inr refl
+  attribute_name_stays _ = inl refl
+
+  to_stays : (given : AttrName) → Stays (without_attr attrs given).to attrs.to
+  to_stays name.To = inr refl
+  to_stays _ = inl refl
+
   module _ (kind : Kind) (parent : Option Kind) (given : AttrName) where
     abbrev after : Attrs
     after = without_attr attrs given
 
+    media_attrs : Leads (has_media_attrs after) (has_media_attrs attrs)
+    media_attrs = either _ _ _ _ (either _ _ _ _ (some_old _ _ (src_stays given)) (some_old _ _ (region_stays given))) (some_old _ _ (alt_stays given))
+
+    set_attrs : Leads (has_set_attrs after) (has_set_attrs attrs)
+    set_attrs = either _ _ _ _ (either _ _ _ _ (some_old _ _ (target_element_stays given)) (some_old _ _ (attribute_name_stays given))) (some_old _ _ (to_stays given))
+
     element_attrs : Leads (has_element_attrs after) (has_element_attrs attrs)
-    element_attrs = either _ _ _ _ (either _ _ _ _ (either _ _ _ _ (either _ _ _ _ (either _ _ _ _ (either _ _ _ _ (either _ _ _ _ (either _ _ _ _ (either _ _ _ _ (either _ _ _ _ (either _ _ _ _ (either _ _ _ _ (either _ _ _ _ (some_old _ _ (begin_stays given)) (some_old _ _ (dur_stays given))) (some_old _ _ (end_stays given))) (some_old _ _ (min_stays given))) (some_old _ _ (max_stays given))) (some_old _ _ (repeat_count_stays given))) (some_old _ _ (repeat_dur_stays given))) (some_old _ _ (restart_stays given))) (some_old _ _ (fill_stays given))) (some_old _ _ (endsync_stays given))) (some_old _ _ (src_stays given))) (some_old _ _ (region_stays given))) (some_old _ _ (alt_stays given))) (some_old _ _ (title_stays given))
+    element_attrs = either _ _ _ _ (either _ _ _ _ (either _ _ _ _ (either _ _ _ _ (either _ _ _ _ (either _ _ _ _ (either _ _ _ _ (either _ _ _ _ (either _ _ _ _ (either _ _ _ _ (either _ _ _ _ (either _ _ _ _ (either _ _ _ _ (either _ _ _ _ (some_old _ _ (begin_stays given)) (some_old _ _ (dur_stays given))) (some_old _ _ (end_stays given))) (some_old _ _ (min_stays given))) (some_old _ _ (max_stays given))) (some_old _ _ (repeat_count_stays given))) (some_old _ _ (repeat_dur_stays given))) (some_old _ _ (restart_stays given))) (some_old _ _ (fill_stays given))) (some_old _ _ (restart_default_stays given))) (some_old _ _ (fill_default_stays given))) (some_old _ _ (endsync_stays given))) media_attrs) (some_old _ _ (title_stays given))) set_attrs
 
     class_attrs : Leads (has_class_attrs after) (has_class_attrs attrs)
     class_attrs = either _ _ _ _ (either _ _ _ _ (some_old _ _ (peers_stays given)) (some_old _ _ (higher_stays given))) (some_old _ _ (lower_stays given))
 
     values : Leads (are_element_values (is_seq_parent parent) attrs) (are_element_values (is_seq_parent parent) after)
-    values = both _ _ _ _ (both _ _ _ _ (both _ _ _ _ (both _ _ _ _ (both _ _ _ _ (both _ _ _ _ (both _ _ _ _ (both _ _ _ _ (both _ _ _ _ (both _ _ _ _ (both _ _ _ _ (passes_new (is_begin (is_seq_parent parent)) _ _ (begin_stays given)) (passes_new is_dur _ _ (dur_stays given))) (passes_new is_list _ _ (end_stays given))) (passes_new is_clock _ _ (min_stays given))) (passes_new is_bound _ _ (max_stays given))) (passes_new is_count _ _ (repeat_count_stays given))) (passes_new is_positive_bound _ _ (repeat_dur_stays given))) (passes_new is_endsync _ _ (endsync_stays given))) (passes_new is_kept_text _ _ (src_stays given))) (passes_new is_kept_text _ _ (region_stays given))) (passes_new is_kept_text _ _ (alt_stays given))) (passes_new is_kept_text _ _ (title_stays given))
+    values = both _ _ _ _ (both _ _ _ _ (both _ _ _ _ (both _ _ _ _ (both _ _ _ _ (both _ _ _ _ (both _ _ _ _ (both _ _ _ _ (both _ _ _ _ (both _ _ _ _ (both _ _ _ _ (both _ _ _ _ (both _ _ _ _ (both _ _ _ _ (passes_new (is_begin (is_seq_parent parent)) _ _ (begin_stays given)) (passes_new is_dur _ _ (dur_stays given))) (passes_new is_list _ _ (end_stays given))) (passes_new is_clock _ _ (min_stays given))) (passes_new is_bound _ _ (max_stays given))) (passes_new is_count _ _ (repeat_count_stays given))) (passes_new is_positive_bound _ _ (repeat_dur_stays given))) (passes_new is_endsync _ _ (endsync_stays given))) (passes_new is_kept_text _ _ (src_stays given))) (passes_new is_kept_text _ _ (region_stays given))) (passes_new is_kept_text _ _ (alt_stays given))) (passes_new is_kept_text _ _ (title_stays given))) (passes_new is_id _ _ (target_element_stays given))) (passes_new is_attribute_name _ _ (attribute_name_stays given))) (passes_new is_kept_text _ _ (to_stays given))
+
+    foreign : (t : Bool) → Leads (cond t (has_media_attrs after) (has_set_attrs after)) (cond t (has_media_attrs attrs) (has_set_attrs attrs))
+    foreign true = media_attrs
+    foreign false = set_attrs
 
     of_kind : (t : Bool) → Leads
-        (cond t (not (has_element_attrs attrs) && absent_or is_higher attrs.higher && absent_or is_lower attrs.lower) (not (has_class_attrs attrs) && are_element_values (is_seq_parent parent) attrs && (has_endsync kind || not (is_some attrs.endsync))))
-        (cond t (not (has_element_attrs after) && absent_or is_higher after.higher && absent_or is_lower after.lower) (not (has_class_attrs after) && are_element_values (is_seq_parent parent) after && (has_endsync kind || not (is_some after.endsync))))
+        (cond t (not (has_element_attrs attrs) && absent_or is_higher attrs.higher && absent_or is_lower attrs.lower) (not (has_class_attrs attrs) && are_element_values (is_seq_parent parent) attrs && (has_endsync kind || not (is_some attrs.endsync)) && not (cond (is_set_kind kind) (has_media_attrs attrs) (has_set_attrs attrs))))
+        (cond t (not (has_element_attrs after) && absent_or is_higher after.higher && absent_or is_lower after.lower) (not (has_class_attrs after) && are_element_values (is_seq_parent parent) after && (has_endsync kind || not (is_some after.endsync)) && not (cond (is_set_kind kind) (has_media_attrs after) (has_set_attrs after))))
     of_kind true =
         both _ _ _ _ (both _ _ _ _ (turned _ _ element_attrs) (passes_new is_higher _ _ (higher_stays given))) (passes_new is_lower _ _ (lower_stays given))
     of_kind false =
-        both _ _ _ _ (both _ _ _ _ (turned _ _ class_attrs) values) (either _ _ _ _ (same (has_endsync kind)) (turned _ _ (some_old _ _ (endsync_stays given))))
+        both _ _ _ _ (both _ _ _ _ (both _ _ _ _ (turned _ _ class_attrs) values) (either _ _ _ _ (same (has_endsync kind)) (turned _ _ (some_old _ _ (endsync_stays given))))) (turned _ _ (foreign (is_set_kind kind)))
 
     pub fit_without : fit_kind kind parent attrs ≡ true → fit_kind kind parent (without_attr attrs given) ≡ true
     fit_without = both _ _ _ _ (passes_new is_id _ _ (id_stays given)) (of_kind (is_class_kind kind))

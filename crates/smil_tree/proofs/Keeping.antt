@@ -7,13 +7,13 @@ use Rattle.smil_model.specs.declared.document.Node.{Node}
 use Rattle.smil_model.specs.declared.document.Attrs.{Attrs}
 use Rattle.smil_model.specs.declared.document.Attr.{Attr}
 use Rattle.smil_model.specs.declared.document.AttrName.{AttrName}
-use Rattle.smil_model.specs.document.Document.{Document, node_at, lineage, time_parent, has_serial, is_element, is_time_child}
+use Rattle.smil_model.specs.document.Document.{Document, node_at, lineage, time_parent, has_serial, is_element, is_time_child, serials}
 use Rattle.smil_model.specs.document.Values.{fit_kind}
 use Rattle.smil_model.specs.document.Valid.{IsValid, kind_of, has_fitting_attrs, references}
 use Rattle.smil_model.specs.document.Edits.{changed_at, with_attr, without_attr}
 use Rattle.smil_laws.proofs.Aside.{find_each}
 use Rattle.smil_tree.specs.Kept.{bears, IsTableOf, Keeps}
-use Rattle.smil_tree.specs.Kin.{Families, IsKinOf, serials}
+use Rattle.smil_tree.specs.Kin.{Families, IsKinOf}
 use Rattle.smil_tree.specs.Outcomes.{passes, may_take}
 use Rattle.smil_tree.proofs.Changed.{numbered_stays, once_stays, some_node, fewer_ids, fewer_references, references_change}
 use Rattle.smil_tree.proofs.Fits.{fit_without}

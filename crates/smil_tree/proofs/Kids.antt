@@ -1,12 +1,12 @@
 -- The children of a node stand behind it, and the span of a node ends with that of the last.
 use Rattle.std.proofs.Common.{◌≡◌, refl, sym, ◌∙◌, ap, subst, ℕ, zero, suc, ◌+◌, ◌-◌, ◌<◌, ◌≤◌, List, [], ◌∷◌, ◌++◌, Some, None, Bool, true, false, cond, length, filter, arith, append_assoc}
-use Rattle.std.specs.Prelude.{◌==◌, reverse, slice_get, is_some, IsSome, nat_lt}
+use Rattle.std.specs.Prelude.{◌==◌, reverse, slice_get, slice_range, is_some, IsSome, nat_lt}
 use Rattle.std.specs.List.{position, position_or_len, AllByRecursion}
 use Rattle.std.proofs.lemmas.Bool.{eqb-true, lt-ltb}
 use Rattle.std.proofs.lemmas.List.{reverse-append, length-append}
 use Rattle.std.proofs.lemmas.List.Elements.{filter-append}
 use Rattle.smil_model.specs.declared.document.Node.{Node}
-use Rattle.smil_model.specs.document.Document.{node_at}
+use Rattle.smil_model.specs.document.Document.{node_at, descendants, is_within, serials}
 use Rattle.smil_model.specs.document.Valid.{IsNumberedTree}
 use Rattle.smil_model.specs.document.Edits.{children, place_in, child_place}
 use Rattle.smil_laws.specs.Locality.{ParentsBefore}
@@ -14,14 +14,14 @@ use Rattle.smil_laws.specs.Edited.{IsOrdered}
 use Rattle.smil_laws.proofs.Numbered.{ordered}
 use Rattle.smil_laws.proofs.Aside.{each_reverse, find_true}
 use Rattle.smil_laws.proofs.Below.{reverse_twice}
-use Rattle.smil_tree.specs.Kin.{Families, IsKinOf, list_in, serials}
+use Rattle.smil_tree.specs.Kin.{Families, IsKinOf, list_in}
 use Rattle.smil_tree.proofs.Changed.{some_node}
 use Rattle.smil_tree.proofs.Owners.{around}
 use Rattle.smil_tree.proofs.Cuts.{get_seam}
 use Rattle.smil_tree.proofs.KinLists.{none_pass, filter_none}
 use Rattle.smil_tree.proofs.KinCallers.{parents_right, none_of}
 use Rattle.smil_tree.proofs.Stacks.{spanned_within}
-use Rattle.smil_tree.proofs.Spans.{spot, first_place, place_is, end_is, stack_of, end_childless, end_of_last}
+use Rattle.smil_tree.proofs.Spans.{spot, first_place, place_is, end_is, span_is, below_span, stack_of, end_childless, end_of_last}
 
 -- ---- those that pass
 
@@ -247,3 +247,19 @@ module _ (nodes : List Node) (next : ℕ) (numbered : IsNumberedTree (record { n
       let own : x.serial ≡ s = eqb-true x.serial s (find_true (λ (n : Node). n.serial == s) nodes x at) in
       subst (λ k. slice_get nodes (place_in nodes k) ≡ Some x) own
       (ap (slice_get nodes) (place_is nodes next numbered a.front x a.back a.before) ∙ ap (λ ns. slice_get ns (length a.front)) a.before ∙ get_seam a.front a.back x)
+
+  -- from the place of a node up to the end of its span stand the node and its descendants
+  pub span_told : (s : ℕ) → IsSome (node_at nodes s) → slice_range nodes (place_in nodes s) (child_place nodes s None) ≡ filter (λ (n : Node). is_within nodes s n.serial) nodes
+  span_told s known =
+      let x = some_node (node_at nodes s) known in
+      let a = around (λ attrs. attrs) s nodes x.0 numbered.distinct x.1 in
+      let own : x.0.serial ≡ s = eqb-true x.0.serial s (find_true (λ (n : Node). n.serial == s) nodes x.0 x.1) in
+      subst (λ k. slice_range nodes (place_in nodes k) (child_place nodes k None) ≡ filter (λ (n : Node). is_within nodes k n.serial) nodes) own
+      (span_is nodes next numbered a.front x.0 a.back a.before)
+
+  pub below_told : (s : ℕ) → IsSome (node_at nodes s) → slice_range nodes (place_in nodes s + 1) (child_place nodes s None) ≡ descendants nodes s
+  below_told s known =
+      let x = some_node (node_at nodes s) known in
+      let a = around (λ attrs. attrs) s nodes x.0 numbered.distinct x.1 in
+      let own : x.0.serial ≡ s = eqb-true x.0.serial s (find_true (λ (n : Node). n.serial == s) nodes x.0 x.1) in
+      subst (λ k. slice_range nodes (place_in nodes k + 1) (child_place nodes k None) ≡ descendants nodes k) own (below_span nodes next numbered a.front x.0 a.back a.before)

@@ -7,9 +7,9 @@ use Rattle.std.specs.declared.vec.Vec.{Vec}
 use Rattle.std.proofs.lemmas.Bool.{eqb-true}
 use Rattle.std.proofs.lemmas.List.Folds.{list_any-append}
 use Rattle.smil_model.specs.declared.document.Node.{Node}
-use Rattle.smil_model.specs.document.Document.{is_time_child}
+use Rattle.smil_model.specs.document.Document.{is_time_child, serials}
 use Rattle.smil_tree.specs.Held.{cut}
-use Rattle.smil_tree.specs.Kin.{Families, IsKinOf, serials, rows, list_in, list_of, AreListsOf, is_serial, Separates}
+use Rattle.smil_tree.specs.Kin.{Families, IsKinOf, rows, list_in, list_of, AreListsOf, is_serial, Separates}
 use Rattle.smil_tree.proofs.Making.{take-more_at}
 use Rattle.smil_tree.proofs.KinLists.{before, passing-between, passing-cut, passing-rest}
 

@@ -9,7 +9,7 @@ use Rattle.std.proofs.lemmas.List.Folds.{list_any-append}
 use Rattle.std.proofs.lemmas.List.Elements.{filter-append}
 use Rattle.std.specs.declared.vec.Vec.{Vec}
 use Rattle.smil_model.specs.declared.document.Node.{Node}
-use Rattle.smil_model.specs.document.Document.{lineage, time_parent, has_serial, is_element, is_time_child}
+use Rattle.smil_model.specs.document.Document.{lineage, time_parent, has_serial, is_element, is_time_child, serials, serial_of}
 use Rattle.smil_model.specs.document.Edits.{children}
 use Rattle.smil_model.specs.document.Valid.{IsDistinct}
 use Rattle.smil_laws.specs.Locality.{ParentsBefore}
@@ -21,7 +21,7 @@ use Rattle.smil_laws.proofs.Kept.{KeepsParents, parent_same, parent_kept}
 use Rattle.smil_laws.proofs.Lineages.{swap_eqb, upwards-rest, upwards-head}
 use Rattle.smil_laws.proofs.Members.{holds, held_each, held_reverse}
 use Rattle.smil_tree.specs.Held.{cut}
-use Rattle.smil_tree.specs.Kin.{serials, serial_of, is_serial, IsSubtree, AreListsOf, Separates}
+use Rattle.smil_tree.specs.Kin.{is_serial, IsSubtree, AreListsOf, Separates}
 use Rattle.smil_tree.proofs.Families.{drop_at, node_of_place, chain_of, none_up}
 use Rattle.smil_tree.proofs.KinLists.{each_left, each_right, none_pass, filter_none, filter_all, filter_each, parts}
 

@@ -5,6 +5,7 @@ pub mod Owners
 pub mod Making
 pub mod Changed
 pub mod Families
+pub mod Inherited
 pub mod Placings
 pub mod Stacks
 pub mod Spans

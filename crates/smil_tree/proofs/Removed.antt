@@ -7,7 +7,7 @@ use Rattle.std.proofs.lemmas.List.Sums.{sum_by-cons}
 use Rattle.std.proofs.lemmas.List.Elements.{recursion_from_All, All-from_recursion}
 use Rattle.smil_model.specs.declared.limits.TheConstants.{DEPTH}
 use Rattle.smil_model.specs.declared.document.Node.{Node}
-use Rattle.smil_model.specs.document.Document.{Document, node_at, lineage, is_within, is_element, time_parent}
+use Rattle.smil_model.specs.document.Document.{Document, node_at, lineage, is_within, is_element, time_parent, serial_of}
 use Rattle.smil_model.specs.document.Values.{fit_kind}
 use Rattle.smil_model.specs.document.Valid.{IsValid, IsTree, IsDistinct, depth_of, kind_of, may_stand, agree_with, is_well_placed, has_fitting_attrs, references, references_of}
 use Rattle.smil_model.specs.document.Edits.{node_removed, place_in, child_place}
@@ -17,7 +17,7 @@ use Rattle.smil_laws.proofs.Aside.{each_both, find_true}
 use Rattle.smil_laws.proofs.Members.{holds, each_chosen, each_kept, each_member}
 use Rattle.smil_tree.specs.Held.{cut}
 use Rattle.smil_tree.specs.Kept.{bears, IsTableOf, Keeps}
-use Rattle.smil_tree.specs.Kin.{Families, IsKinOf, IsSubtree, serial_of}
+use Rattle.smil_tree.specs.Kin.{Families, IsKinOf, IsSubtree}
 use Rattle.smil_tree.proofs.Families.{chain_of, above_of}
 use Rattle.smil_tree.proofs.Kids.{node_of_place}
 use Rattle.smil_tree.proofs.Making.{once_of, filter-at_most}

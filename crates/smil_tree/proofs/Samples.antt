@@ -2,7 +2,7 @@
 use Rattle.std.proofs.Common.{◌≡◌, ℕ, List, Option, Some, None, true, refl, ◌<◌, lit<, lit≤}
 use Rattle.std.specs.Prelude.{option_map}
 use Rattle.smil_model.specs.declared.document.Kind.{Kind}
-use Rattle.smil_model.specs.declared.document.Kind.TheVariants.{Par, Seq, Excl, PriorityClass, Img, Text, Brush, Audio, Video, Animation, TextStream, Ref}
+use Rattle.smil_model.specs.declared.document.Kind.TheVariants.{Par, Seq, Excl, PriorityClass, Img, Text, Brush, Audio, Video, Animation, TextStream, Ref, Set}
 use Rattle.smil_model.specs.document.Document.{node_at}
 use Rattle.smil_model.specs.document.Edits.{no_attrs}
 use Rattle.smil_model.specs.document.Values.{fit_kind}
@@ -41,6 +41,7 @@ none_fit Video parent = refl
 none_fit Animation parent = refl
 none_fit TextStream parent = refl
 none_fit Ref parent = refl
+none_fit Set parent = refl
 
 -- a node that is there may bear a child without attributes
 pub bears_none : (nodes : List Node) (parent serial : ℕ) (kind : Kind) → option_map (λ (n : Node). n.serial) (node_at nodes parent) ≡ Some serial → may_bear nodes parent kind no_attrs ≡ true

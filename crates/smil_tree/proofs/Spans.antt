@@ -1,25 +1,26 @@
 -- In a numbered tree: a node with what stands before and behind it, its place, the end of its span, and what an edit there
 -- leaves of the tree.
-use Rattle.std.proofs.Common.{◌≡◌, refl, sym, ◌∙◌, ap, subst, ℕ, suc, ◌+◌, ◌<◌, List, [], ◌∷◌, ◌++◌, Some, None, true, false, cond, length, filter, take, drop, arith, append_assoc}
-use Rattle.std.specs.Prelude.{◌==◌, ◌||◌, not, nat_lt, unwrap_or}
-use Rattle.std.specs.List.{position_or_len, AllByRecursion}
-use Rattle.std.proofs.Math.Seq.{take-append_seam, drop-append-add}
+use Rattle.std.proofs.Common.{◌≡◌, refl, sym, ◌∙◌, ap, subst, ℕ, suc, ◌+◌, ◌<◌, List, [], ◌∷◌, ◌++◌, Some, None, Bool, true, false, cond, length, filter, take, drop, arith, append_assoc}
+use Rattle.std.specs.Prelude.{◌==◌, ◌||◌, ◌-◌, not, nat_lt, unwrap_or, slice_range}
+use Rattle.std.specs.List.{list_any, position_or_len, AllByRecursion}
+use Rattle.std.proofs.Math.Seq.{take-append_seam, drop-append_seam, drop-append-add}
 use Rattle.std.proofs.lemmas.Bool.{or_parts, or_from, or_left, lt-ltb, eq-eqb, ne_eqb}
 use Rattle.std.proofs.lemmas.List.{length-append}
 use Rattle.std.proofs.lemmas.List.Elements.{recursion_from_All, filter-append}
 use Rattle.std.proofs.lemmas.List.Folds.{list_any-append}
 use Rattle.smil_model.specs.declared.document.Node.{Node}
-use Rattle.smil_model.specs.document.Document.{node_at, lineage, is_within}
+use Rattle.smil_model.specs.document.Document.{node_at, lineage, is_below, is_within, descendants, serials}
 use Rattle.smil_model.specs.document.Valid.{IsNumberedTree, IsTree, IsTreeFrom, IsDistinct, open_from}
 use Rattle.smil_model.specs.document.Edits.{place_in, child_place}
 use Rattle.smil_laws.specs.Edited.{IsOrdered}
+use Rattle.smil_laws.proofs.Ancestry.{below_none}
 use Rattle.smil_laws.proofs.Numbered.{ordered}
 use Rattle.smil_laws.proofs.Members.{holds}
 use Rattle.smil_laws.proofs.Lineages.{swap_eqb}
 use Rattle.smil_tree.specs.Held.{cut}
-use Rattle.smil_tree.proofs.Families.{no_chain}
+use Rattle.smil_tree.proofs.Families.{chain_of, no_chain}
 use Rattle.smil_tree.proofs.KinLists.{each_left, each_right}
-use Rattle.smil_tree.proofs.Stacks.{serials_of, opened_after, tree_parts, tree_joined, is_open, spanned, open_self, open_next, open_at, open_below, open_after, within_lineage, none_within, split, rest_whole, up_to_child, with_child, childless, span_left_out, put_before, put_behind}
+use Rattle.smil_tree.proofs.Stacks.{opened_after, tree_parts, tree_joined, is_open, spanned, open_self, open_next, open_at, open_below, open_after, within_lineage, none_within, split, rest_whole, up_to_child, with_child, childless, span_left_out, put_before, put_behind}
 
 -- ---- lists
 
@@ -77,13 +78,13 @@ module _ (nodes : List Node) (next : ℕ) (numbered : IsNumberedTree (record { n
   all_known = known_behind [] nodes numbered.distinct
 
   -- the root's lineage is the root
-  root_line : (root : Node) (ns : List Node) → nodes ≡ root ∷ ns → serials_of (lineage nodes root.serial) ≡ root.serial ∷ []
+  root_line : (root : Node) (ns : List Node) → nodes ≡ root ∷ ns → serials (lineage nodes root.serial) ≡ root.serial ∷ []
   root_line root ns is =
       let known : AllByRecursion (λ (n : Node). node_at nodes n.serial ≡ Some n) (root ∷ ns) = subst (λ (xs : List Node). AllByRecursion (λ (n : Node). node_at nodes n.serial ≡ Some n) xs) is all_known in
       let tree : IsTree (root ∷ ns) = subst IsTree is numbered.tree in
       open_self nodes o root known.0
-      ∙ ap (λ p. root.serial ∷ serials_of (lineage nodes p)) tree.0
-      ∙ ap (λ c. root.serial ∷ serials_of c) (no_chain nodes 0 no_zero)
+      ∙ ap (λ p. root.serial ∷ serials (lineage nodes p)) tree.0
+      ∙ ap (λ c. root.serial ∷ serials c) (no_chain nodes 0 no_zero)
 
   known_parts : (front back : List Node) → nodes ≡ front ++ back → AllByRecursion (λ (n : Node). node_at nodes n.serial ≡ Some n) front × AllByRecursion (λ (n : Node). node_at nodes n.serial ≡ Some n) back
   known_parts front back is = each_parts (λ (n : Node). node_at nodes n.serial ≡ Some n) front back (subst (λ (xs : List Node). AllByRecursion (λ (n : Node). node_at nodes n.serial ≡ Some n) xs) is all_known)
@@ -91,7 +92,7 @@ module _ (nodes : List Node) (next : ℕ) (numbered : IsNumberedTree (record { n
   -- what is open before nodes of which none is the root
   record Opened (root : Node) (front back : List Node) : Type 0 where
     last : ℕ
-    opened_is : opened_after (root.serial ∷ []) front ≡ serials_of (lineage nodes last)
+    opened_is : opened_after (root.serial ∷ []) front ≡ serials (lineage nodes last)
     first : IsTreeFrom (root.serial ∷ []) front
     rest : IsTreeFrom (opened_after (root.serial ∷ []) front) back
 
@@ -115,7 +116,7 @@ module _ (nodes : List Node) (next : ℕ) (numbered : IsNumberedTree (record { n
     pub before : holds x.serial front ≡ false
     pub behind : holds x.serial back ≡ false
     pub all_behind : AllByRecursion (λ (n : Node). node_at nodes n.serial ≡ Some n) back
-    pub tree : IsTreeFrom (serials_of (lineage nodes x.serial)) back
+    pub tree : IsTreeFrom (serials (lineage nodes x.serial)) back
 
   pub spot : (front : List Node) (x : Node) (back : List Node) → nodes ≡ front ++ x ∷ back → Spot front x back
   spot front x back is =
@@ -123,7 +124,7 @@ module _ (nodes : List Node) (next : ℕ) (numbered : IsNumberedTree (record { n
       let known = (known_parts front (x ∷ back) is).1 in
       record { known = known.0; before = distinct.before; behind = distinct.behind; all_behind = known.1; tree = by_front front is known.0 }
     where
-      by_front : (before : List Node) → nodes ≡ before ++ x ∷ back → node_at nodes x.serial ≡ Some x → IsTreeFrom (serials_of (lineage nodes x.serial)) back
+      by_front : (before : List Node) → nodes ≡ before ++ x ∷ back → node_at nodes x.serial ≡ Some x → IsTreeFrom (serials (lineage nodes x.serial)) back
       by_front [] e known =
           let whole : IsTree (x ∷ back) = subst IsTree e numbered.tree in
           subst (λ xs. IsTreeFrom xs back) (sym (root_line x back e)) whole.1
@@ -132,7 +133,7 @@ module _ (nodes : List Node) (next : ℕ) (numbered : IsNumberedTree (record { n
           subst (λ xs. IsTreeFrom xs back) (open_next nodes o (opened_after (root.serial ∷ []) before) at.last x at.opened_is known at.rest.0) at.rest.1
 
   abbrev pub stack_of : Node → List ℕ
-  stack_of x = serials_of (lineage nodes x.serial)
+  stack_of x = serials (lineage nodes x.serial)
 
   -- how many behind a node are within it
   abbrev pub inner : Node → List Node → ℕ
@@ -176,6 +177,59 @@ module _ (nodes : List Node) (next : ℕ) (numbered : IsNumberedTree (record { n
       let behind = (split nodes o x.serial (stack_of x) x.serial back refl s.all_behind s.tree s.behind).count in
       omega (arith, place_is front x back is, ap length within, behind)
 
+  -- ---- what stands in a span
+
+  within_is : (front : List Node) (x : Node) (back : List Node) → nodes ≡ front ++ x ∷ back → filter (λ (n : Node). is_within nodes x.serial n.serial) nodes ≡ x ∷ take (inner x back) back
+  within_is front x back is =
+      let s = spot front x back is in
+      ap (filter (λ (n : Node). is_within nodes x.serial n.serial)) is
+      ∙ filter-append (λ (n : Node). is_within nodes x.serial n.serial) front (x ∷ back)
+      ∙ ap (λ ms. ms ++ filter (λ (n : Node). is_within nodes x.serial n.serial) (x ∷ back)) (none_before front x back is)
+      ∙ ap (λ b. cond b (x ∷ filter (λ (n : Node). is_within nodes x.serial n.serial) back) (filter (λ (n : Node). is_within nodes x.serial n.serial) back)) (own_within x s.known)
+      ∙ ap (λ ms. x ∷ ms) ((split nodes o x.serial (stack_of x) x.serial back refl s.all_behind s.tree s.behind).inner)
+
+  pub span_is : (front : List Node) (x : Node) (back : List Node) → nodes ≡ front ++ x ∷ back → slice_range nodes (place_in nodes x.serial) (child_place nodes x.serial None) ≡ filter (λ (n : Node). is_within nodes x.serial n.serial) nodes
+  span_is front x back is =
+      let many : child_place nodes x.serial None - place_in nodes x.serial ≡ suc (inner x back) = omega (arith, place_is front x back is, end_is front x back is) in
+      ap (λ k. take k (drop (place_in nodes x.serial) nodes)) many
+      ∙ ap (λ k. take (suc (inner x back)) (drop k nodes)) (place_is front x back is)
+      ∙ ap (λ ns. take (suc (inner x back)) (drop (length front) ns)) is
+      ∙ ap (take (suc (inner x back))) (drop-append_seam front (x ∷ back))
+      ∙ sym (within_is front x back is)
+
+  below_within : (x : ℕ) (n : Node) → node_at nodes n.serial ≡ Some n → n.serial == x ≡ false → is_below nodes x n.serial ≡ is_within nodes x n.serial
+  below_within x n known other =
+      let chain = chain_of nodes o n.serial n known in
+      ap (λ (c : List Node). list_any (λ (a : Node). a.serial == x) (drop 1 c)) chain
+      ∙ sym (ap (list_any (λ (a : Node). a.serial == x)) chain ∙ ap (λ t. t || list_any (λ (a : Node). a.serial == x) (lineage nodes n.parent)) other)
+
+  below_same : (x : ℕ) (ns : List Node) → AllByRecursion (λ (n : Node). node_at nodes n.serial ≡ Some n) ns → holds x ns ≡ false → filter (λ (n : Node). is_below nodes x n.serial) ns ≡ filter (λ (n : Node). is_within nodes x n.serial) ns
+  below_same x [] known none = refl
+  below_same x (n ∷ ns) known none =
+      let parts = or_parts (n.serial == x) (holds x ns) none in
+      let rest = filter (λ (m : Node). is_below nodes x m.serial) ns in
+      ap (λ b. cond b (n ∷ rest) rest) (below_within x n known.0 parts.0) ∙ ap (λ ms. cond (is_within nodes x n.serial) (n ∷ ms) ms) (below_same x ns known.1 parts.1)
+
+  below_is : (front : List Node) (x : Node) (back : List Node) → nodes ≡ front ++ x ∷ back → descendants nodes x.serial ≡ take (inner x back) back
+  below_is front x back is =
+      let s = spot front x back is in
+      let below : Node → Bool = λ (n : Node). is_below nodes x.serial n.serial in
+      ap (filter below) is
+      ∙ filter-append below front (x ∷ back)
+      ∙ ap (λ ms. ms ++ filter below (x ∷ back)) (below_same x.serial front (known_parts front (x ∷ back) is).0 s.before ∙ none_before front x back is)
+      ∙ ap (λ b. cond b (x ∷ filter below back) (filter below back)) (below_none nodes o x.serial)
+      ∙ below_same x.serial back s.all_behind s.behind
+      ∙ (split nodes o x.serial (stack_of x) x.serial back refl s.all_behind s.tree s.behind).inner
+
+  pub below_span : (front : List Node) (x : Node) (back : List Node) → nodes ≡ front ++ x ∷ back → slice_range nodes (place_in nodes x.serial + 1) (child_place nodes x.serial None) ≡ descendants nodes x.serial
+  below_span front x back is =
+      let many : child_place nodes x.serial None - (place_in nodes x.serial + 1) ≡ inner x back = omega (arith, place_is front x back is, end_is front x back is) in
+      ap (λ k. take k (drop (place_in nodes x.serial + 1) nodes)) many
+      ∙ ap (λ k. take (inner x back) (drop (k + 1) nodes)) (place_is front x back is)
+      ∙ ap (λ ns. take (inner x back) (drop (length front + 1) ns)) is
+      ∙ ap (take (inner x back)) (drop-append-add front (x ∷ back) 1)
+      ∙ sym (below_is front x back is)
+
   -- ---- a node taken away with its descendants
 
   pub others_are : (front : List Node) (x : Node) (back : List Node) → nodes ≡ front ++ x ∷ back → filter (λ (n : Node). not (is_within nodes x.serial n.serial)) nodes ≡ front ++ drop (inner x back) back
@@ -204,7 +258,7 @@ module _ (nodes : List Node) (next : ℕ) (numbered : IsNumberedTree (record { n
       (span_left_out nodes o x.serial opened at.last (stack_of x) x.serial back at.opened_is
       (λ p h apart. open_below p x.parent opened
       (ap (is_open p) (open_at nodes o opened at.last x.parent at.opened_is at.rest.0)
-      ∙ sym (ap (λ u. u || is_open p (serials_of (lineage nodes x.parent))) (swap_eqb p x.serial apart))
+      ∙ sym (ap (λ u. u || is_open p (serials (lineage nodes x.parent))) (swap_eqb p x.serial apart))
       ∙ sym (ap (is_open p) (open_self nodes o x s.known)) ∙ h))
       refl (top_open x s.known) s.all_behind s.tree)
 

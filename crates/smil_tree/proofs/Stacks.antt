@@ -4,16 +4,13 @@ use Rattle.std.specs.Prelude.{◌==◌, ◌||◌, ◌⊎◌, reverse, not}
 use Rattle.std.specs.List.{list_any, AllByRecursion}
 use Rattle.std.proofs.lemmas.Bool.{or_parts, or_from, or_right, or_cases, eqb-true, eq-eqb}
 use Rattle.smil_model.specs.declared.document.Node.{Node}
-use Rattle.smil_model.specs.document.Document.{node_at, lineage, is_within}
+use Rattle.smil_model.specs.document.Document.{node_at, lineage, is_within, serials}
 use Rattle.smil_model.specs.document.Valid.{IsTreeFrom, open_from}
 use Rattle.smil_laws.specs.Edited.{IsOrdered}
 use Rattle.smil_laws.proofs.Lineages.{upwards-rest, upwards-head, swap_eqb}
 use Rattle.smil_laws.proofs.Ancestry.{below_none}
 use Rattle.smil_laws.proofs.Members.{holds}
 use Rattle.smil_tree.proofs.Families.{chain_of, above_of}
-
-abbrev pub serials_of : List Node → List ℕ
-serials_of ns = map (λ (n : Node). n.serial) ns
 
 -- what is open behind these nodes
 abbrev pub opened_after : List ℕ → List Node → List ℕ
@@ -102,49 +99,49 @@ rest_whole t (n ∷ ns) none = step (t n) none (rest_whole t ns)
 
 module _ (nodes : List Node) (o : IsOrdered nodes) where
   -- what is open from a member of a lineage on is the member's lineage
-  pub open_lineage : (chain : List Node) (t p : ℕ) → lineage nodes t ≡ chain → is_open p (serials_of chain) ≡ true → open_from p (serials_of chain) ≡ serials_of (lineage nodes p)
+  pub open_lineage : (chain : List Node) (t p : ℕ) → lineage nodes t ≡ chain → is_open p (serials chain) ≡ true → open_from p (serials chain) ≡ serials (lineage nodes p)
   open_lineage [] t p e h = cc
-  open_lineage (m ∷ rest) t p e h = step (m.serial == p) refl (or_cases (m.serial == p) (is_open p (serials_of rest)) h) (open_lineage rest m.parent p (upwards-rest (reverse nodes) t m rest o.first e))
+  open_lineage (m ∷ rest) t p e h = step (m.serial == p) refl (or_cases (m.serial == p) (is_open p (serials rest)) h) (open_lineage rest m.parent p (upwards-rest (reverse nodes) t m rest o.first e))
     where
       head : m.serial ≡ t
       head = upwards-head (reverse nodes) t m rest e
 
-      later : (m.serial == p ≡ false) → (m.serial == p ≡ true) ⊎ (is_open p (serials_of rest) ≡ true) → is_open p (serials_of rest) ≡ true
+      later : (m.serial == p ≡ false) → (m.serial == p ≡ true) ⊎ (is_open p (serials rest) ≡ true) → is_open p (serials rest) ≡ true
       later none (inl d) = cc
       later none (inr d) = d
 
-      step : (u : Bool) → m.serial == p ≡ u → (m.serial == p ≡ true) ⊎ (is_open p (serials_of rest) ≡ true) → (is_open p (serials_of rest) ≡ true → open_from p (serials_of rest) ≡ serials_of (lineage nodes p)) → cond u (m.serial ∷ serials_of rest) (open_from p (serials_of rest)) ≡ serials_of (lineage nodes p)
-      step true u c later_is = ap serials_of (sym e) ∙ ap (λ s. serials_of (lineage nodes s)) (sym head ∙ eqb-true m.serial p u)
+      step : (u : Bool) → m.serial == p ≡ u → (m.serial == p ≡ true) ⊎ (is_open p (serials rest) ≡ true) → (is_open p (serials rest) ≡ true → open_from p (serials rest) ≡ serials (lineage nodes p)) → cond u (m.serial ∷ serials rest) (open_from p (serials rest)) ≡ serials (lineage nodes p)
+      step true u c later_is = ap serials (sym e) ∙ ap (λ s. serials (lineage nodes s)) (sym head ∙ eqb-true m.serial p u)
       step false u c later_is = later_is (later u c)
 
-  pub open_at : (opened : List ℕ) (t p : ℕ) → opened ≡ serials_of (lineage nodes t) → is_open p opened ≡ true → open_from p opened ≡ serials_of (lineage nodes p)
+  pub open_at : (opened : List ℕ) (t p : ℕ) → opened ≡ serials (lineage nodes t) → is_open p opened ≡ true → open_from p opened ≡ serials (lineage nodes p)
   open_at opened t p is h = ap (open_from p) is ∙ open_lineage (lineage nodes t) t p refl (ap (is_open p) (sym is) ∙ h)
 
   -- what is open behind a node is its lineage
-  pub open_next : (opened : List ℕ) (t : ℕ) (n : Node) → opened ≡ serials_of (lineage nodes t) → node_at nodes n.serial ≡ Some n → is_open n.parent opened ≡ true → (n.serial ∷ open_from n.parent opened) ≡ serials_of (lineage nodes n.serial)
+  pub open_next : (opened : List ℕ) (t : ℕ) (n : Node) → opened ≡ serials (lineage nodes t) → node_at nodes n.serial ≡ Some n → is_open n.parent opened ≡ true → (n.serial ∷ open_from n.parent opened) ≡ serials (lineage nodes n.serial)
   open_next opened t n is known h =
-      ap (λ xs. n.serial ∷ xs) (open_at opened t n.parent is h) ∙ ap serials_of (sym (chain_of nodes o n.serial n known))
+      ap (λ xs. n.serial ∷ xs) (open_at opened t n.parent is h) ∙ ap serials (sym (chain_of nodes o n.serial n known))
 
   -- each of these is a node of the document
   abbrev pub Known : List Node → Type 0
   Known ns = AllByRecursion (λ (n : Node). node_at nodes n.serial ≡ Some n) ns
 
-  any_serial : (x : ℕ) (chain : List Node) → list_any (λ (a : Node). a.serial == x) chain ≡ is_open x (serials_of chain)
+  any_serial : (x : ℕ) (chain : List Node) → list_any (λ (a : Node). a.serial == x) chain ≡ is_open x (serials chain)
   any_serial x [] = refl
   any_serial x (m ∷ rest) = ap (λ t. (m.serial == x) || t) (any_serial x rest)
 
-  pub within_lineage : (x s : ℕ) → is_within nodes x s ≡ is_open x (serials_of (lineage nodes s))
+  pub within_lineage : (x s : ℕ) → is_within nodes x s ≡ is_open x (serials (lineage nodes s))
   within_lineage x s = any_serial x (lineage nodes s)
 
   -- a node is within x exactly where x is open behind it
-  pub within_open : (x : ℕ) (opened : List ℕ) (t : ℕ) (n : Node) → opened ≡ serials_of (lineage nodes t) → node_at nodes n.serial ≡ Some n → is_open n.parent opened ≡ true → is_within nodes x n.serial ≡ is_open x (n.serial ∷ open_from n.parent opened)
+  pub within_open : (x : ℕ) (opened : List ℕ) (t : ℕ) (n : Node) → opened ≡ serials (lineage nodes t) → node_at nodes n.serial ≡ Some n → is_open n.parent opened ≡ true → is_within nodes x n.serial ≡ is_open x (n.serial ∷ open_from n.parent opened)
   within_open x opened t n is known h = within_lineage x n.serial ∙ ap (is_open x) (sym (open_next opened t n is known h))
 
   -- a node is within itself, and above it stands the lineage of its parent, where it is not
-  pub open_self : (n : Node) → node_at nodes n.serial ≡ Some n → serials_of (lineage nodes n.serial) ≡ n.serial ∷ serials_of (lineage nodes n.parent)
-  open_self n known = ap serials_of (chain_of nodes o n.serial n known)
+  pub open_self : (n : Node) → node_at nodes n.serial ≡ Some n → serials (lineage nodes n.serial) ≡ n.serial ∷ serials (lineage nodes n.parent)
+  open_self n known = ap serials (chain_of nodes o n.serial n known)
 
-  pub not_above : (n : Node) → node_at nodes n.serial ≡ Some n → is_open n.serial (serials_of (lineage nodes n.parent)) ≡ false
+  pub not_above : (n : Node) → node_at nodes n.serial ≡ Some n → is_open n.serial (serials (lineage nodes n.parent)) ≡ false
   not_above n known =
       sym (any_serial n.serial (lineage nodes n.parent))
       ∙ ap (list_any (λ (a : Node). a.serial == n.serial)) (sym (above_of nodes o n.serial n known))
@@ -153,7 +150,7 @@ module _ (nodes : List Node) (o : IsOrdered nodes) where
   -- ---- the nodes within a node
 
   -- where x is not open and does not come, nothing is within it
-  pub none_within : (x : ℕ) (opened : List ℕ) (t : ℕ) (ns : List Node) → opened ≡ serials_of (lineage nodes t) → Known ns → IsTreeFrom opened ns → is_open x opened ≡ false → holds x ns ≡ false → filter (λ (n : Node). is_within nodes x n.serial) ns ≡ []
+  pub none_within : (x : ℕ) (opened : List ℕ) (t : ℕ) (ns : List Node) → opened ≡ serials (lineage nodes t) → Known ns → IsTreeFrom opened ns → is_open x opened ≡ false → holds x ns ≡ false → filter (λ (n : Node). is_within nodes x n.serial) ns ≡ []
   none_within x opened t [] is known tree shut absent = refl
   none_within x opened t (n ∷ ns) is known tree shut absent =
       let parts = or_parts (n.serial == x) (holds x ns) absent in
@@ -165,9 +162,10 @@ module _ (nodes : List Node) (o : IsOrdered nodes) where
   pub record Split (x : ℕ) (k : ℕ) (ns : List Node) : Type 0 where
     pub count : length (filter (λ (n : Node). is_within nodes x n.serial) ns) ≡ k
     pub others : filter (λ (n : Node). not (is_within nodes x n.serial)) ns ≡ drop k ns
+    pub inner : filter (λ (n : Node). is_within nodes x n.serial) ns ≡ take k ns
 
-  pub split : (x : ℕ) (opened : List ℕ) (t : ℕ) (ns : List Node) → opened ≡ serials_of (lineage nodes t) → Known ns → IsTreeFrom opened ns → holds x ns ≡ false → Split x (spanned x opened ns) ns
-  split x opened t [] is known tree absent = record { count = refl; others = refl }
+  pub split : (x : ℕ) (opened : List ℕ) (t : ℕ) (ns : List Node) → opened ≡ serials (lineage nodes t) → Known ns → IsTreeFrom opened ns → holds x ns ≡ false → Split x (spanned x opened ns) ns
+  split x opened t [] is known tree absent = record { count = refl; others = refl; inner = refl }
   split x opened t (n ∷ ns) is known tree absent = step (is_open x (n.serial ∷ open_from n.parent opened)) refl (split x (n.serial ∷ open_from n.parent opened) n.serial ns (open_next opened t n is known.0 tree.0) known.1 tree.1 parts.1)
     where
       parts : (n.serial == x ≡ false) × (holds x ns ≡ false)
@@ -185,6 +183,7 @@ module _ (nodes : List Node) (o : IsOrdered nodes) where
           record {
             count = ap (λ b. length (cond b (n ∷ inside) inside)) here ∙ ap suc rest.count;
             others = ap (λ b. cond (not b) (n ∷ outside) outside) here ∙ rest.others;
+            inner = ap (λ b. cond b (n ∷ inside) inside) here ∙ ap (λ ms. n ∷ ms) rest.inner;
           }
       step false e rest =
           let here : is_within nodes x n.serial ≡ false = within_open x opened t n is known.0 tree.0 ∙ e in
@@ -192,6 +191,7 @@ module _ (nodes : List Node) (o : IsOrdered nodes) where
           record {
             count = ap (λ b. length (cond b (n ∷ inside) inside)) here ∙ ap length none;
             others = ap (λ b. cond (not b) (n ∷ outside) outside) here ∙ ap (λ ms. n ∷ ms) (rest_whole (λ (m : Node). is_within nodes x m.serial) ns none);
+            inner = ap (λ b. cond b (n ∷ inside) inside) here ∙ none;
           }
 
   -- ---- the span of a node ends where that of its last child ends
@@ -216,31 +216,31 @@ module _ (nodes : List Node) (o : IsOrdered nodes) where
 
   -- where no child of x comes, x is open behind a node exactly where its child c is
   module _ (x c : Node) (known_x : node_at nodes x.serial ≡ Some x) (known_c : node_at nodes c.serial ≡ Some c) (child : c.parent ≡ x.serial) where
-    line_c : serials_of (lineage nodes c.serial) ≡ c.serial ∷ x.serial ∷ serials_of (lineage nodes x.parent)
+    line_c : serials (lineage nodes c.serial) ≡ c.serial ∷ x.serial ∷ serials (lineage nodes x.parent)
     line_c =
         open_self c known_c
-        ∙ ap (λ p. c.serial ∷ serials_of (lineage nodes p)) child
+        ∙ ap (λ p. c.serial ∷ serials (lineage nodes p)) child
         ∙ ap (λ xs. c.serial ∷ xs) (open_self x known_x)
 
-    both : (opened : List ℕ) (t p : ℕ) → opened ≡ serials_of (lineage nodes t) → is_open c.serial opened ≡ true → is_open p opened ≡ true → p == x.serial ≡ false → is_open x.serial (open_from p opened) ≡ is_open c.serial (open_from p opened)
+    both : (opened : List ℕ) (t p : ℕ) → opened ≡ serials (lineage nodes t) → is_open c.serial opened ≡ true → is_open p opened ≡ true → p == x.serial ≡ false → is_open x.serial (open_from p opened) ≡ is_open c.serial (open_from p opened)
     both opened t p is top h apart = by_test (is_open c.serial (open_from p opened)) refl
       where
-        line_p : open_from p opened ≡ serials_of (lineage nodes p)
+        line_p : open_from p opened ≡ serials (lineage nodes p)
         line_p = open_at opened t p is h
 
         -- p stands below x
         below : is_open c.serial (open_from p opened) ≡ false → is_open p (open_from c.serial opened) ≡ true → is_open x.serial (open_from p opened) ≡ false
         below none under =
-            let among : is_open p (c.serial ∷ x.serial ∷ serials_of (lineage nodes x.parent)) ≡ true = ap (is_open p) (sym (open_at opened t c.serial is top ∙ line_c)) ∙ under in
+            let among : is_open p (c.serial ∷ x.serial ∷ serials (lineage nodes x.parent)) ≡ true = ap (is_open p) (sym (open_at opened t c.serial is top ∙ line_c)) ∙ under in
             by_first (or_cases (c.serial == p) _ among)
           where
-            by_second : (x.serial == p ≡ true) ⊎ (is_open p (serials_of (lineage nodes x.parent)) ≡ true) → is_open x.serial (open_from p opened) ≡ false
+            by_second : (x.serial == p ≡ true) ⊎ (is_open p (serials (lineage nodes x.parent)) ≡ true) → is_open x.serial (open_from p opened) ≡ false
             by_second (inl d) = let never : true ≡ false = sym (eq-eqb p x.serial (sym (eqb-true x.serial p d))) ∙ apart in cc
             by_second (inr d) =
-                ap (is_open x.serial) (line_p ∙ sym (open_at (serials_of (lineage nodes x.parent)) x.parent p refl d))
-                ∙ closed_below x.serial p (serials_of (lineage nodes x.parent)) (not_above x known_x)
+                ap (is_open x.serial) (line_p ∙ sym (open_at (serials (lineage nodes x.parent)) x.parent p refl d))
+                ∙ closed_below x.serial p (serials (lineage nodes x.parent)) (not_above x known_x)
 
-            by_first : (c.serial == p ≡ true) ⊎ (is_open p (x.serial ∷ serials_of (lineage nodes x.parent)) ≡ true) → is_open x.serial (open_from p opened) ≡ false
+            by_first : (c.serial == p ≡ true) ⊎ (is_open p (x.serial ∷ serials (lineage nodes x.parent)) ≡ true) → is_open x.serial (open_from p opened) ≡ false
             by_first (inl d) =
                 let never : false ≡ true = sym none ∙ ap (λ q. is_open c.serial (open_from q opened)) (sym (eqb-true c.serial p d)) ∙ open_own c.serial opened top in
                 cc
@@ -249,14 +249,14 @@ module _ (nodes : List Node) (o : IsOrdered nodes) where
         by_test : (u : Bool) → is_open c.serial (open_from p opened) ≡ u → is_open x.serial (open_from p opened) ≡ u
         by_test true e =
             open_below x.serial c.serial (open_from p opened)
-            (ap (is_open x.serial) (open_at (open_from p opened) p c.serial line_p e ∙ line_c) ∙ or_right (c.serial == x.serial) _ (ap (λ u. u || is_open x.serial (serials_of (lineage nodes x.parent))) (eq-eqb x.serial x.serial refl)))
+            (ap (is_open x.serial) (open_at (open_from p opened) p c.serial line_p e ∙ line_c) ∙ or_right (c.serial == x.serial) _ (ap (λ u. u || is_open x.serial (serials (lineage nodes x.parent))) (eq-eqb x.serial x.serial refl)))
         by_test false e = by_side (either_below c.serial p opened top h)
           where
             by_side : (is_open c.serial (open_from p opened) ≡ true) ⊎ (is_open p (open_from c.serial opened) ≡ true) → is_open x.serial (open_from p opened) ≡ false
             by_side (inl d) = let never : false ≡ true = sym e ∙ d in cc
             by_side (inr d) = below e d
 
-    pub with_child : (opened : List ℕ) (t : ℕ) (ns : List Node) → opened ≡ serials_of (lineage nodes t) → Known ns → IsTreeFrom opened ns → is_open c.serial opened ≡ true → holds x.serial ns ≡ false → holds c.serial ns ≡ false → AllByRecursion (λ (n : Node). n.parent == x.serial ≡ false) ns → spanned x.serial opened ns ≡ spanned c.serial opened ns
+    pub with_child : (opened : List ℕ) (t : ℕ) (ns : List Node) → opened ≡ serials (lineage nodes t) → Known ns → IsTreeFrom opened ns → is_open c.serial opened ≡ true → holds x.serial ns ≡ false → holds c.serial ns ≡ false → AllByRecursion (λ (n : Node). n.parent == x.serial ≡ false) ns → spanned x.serial opened ns ≡ spanned c.serial opened ns
     with_child opened t [] is known tree top no_x no_c others = refl
     with_child opened t (n ∷ ns) is known tree top no_x no_c others =
         step (is_open c.serial (n.serial ∷ open_from n.parent opened)) refl same (λ still. with_child (n.serial ∷ open_from n.parent opened) n.serial ns (open_next opened t n is known.0 tree.0) known.1 tree.1 still parts_x.1 parts_c.1 others.1)
@@ -283,25 +283,25 @@ module _ (nodes : List Node) (o : IsOrdered nodes) where
             ∙ sym (ap (λ u. cond u (suc (spanned c.serial (n.serial ∷ open_from n.parent opened) ns)) 0) e)
 
   -- a node without children spans itself alone
-  pub childless : (x : Node) → node_at nodes x.serial ≡ Some x → (ns : List Node) → IsTreeFrom (serials_of (lineage nodes x.serial)) ns → holds x.serial ns ≡ false → AllByRecursion (λ (n : Node). n.parent == x.serial ≡ false) ns → spanned x.serial (serials_of (lineage nodes x.serial)) ns ≡ 0
+  pub childless : (x : Node) → node_at nodes x.serial ≡ Some x → (ns : List Node) → IsTreeFrom (serials (lineage nodes x.serial)) ns → holds x.serial ns ≡ false → AllByRecursion (λ (n : Node). n.parent == x.serial ≡ false) ns → spanned x.serial (serials (lineage nodes x.serial)) ns ≡ 0
   childless x known [] tree absent others = refl
   childless x known (n ∷ ns) tree absent others =
       let parts = or_parts (n.serial == x.serial) (holds x.serial ns) absent in
-      let shut : is_open x.serial (open_from n.parent (serials_of (lineage nodes x.serial))) ≡ false =
+      let shut : is_open x.serial (open_from n.parent (serials (lineage nodes x.serial))) ≡ false =
       ap (λ xs. is_open x.serial (open_from n.parent xs)) (open_self x known)
-      ∙ ap (λ u. is_open x.serial (cond u (x.serial ∷ serials_of (lineage nodes x.parent)) (open_from n.parent (serials_of (lineage nodes x.parent))))) (swap_eqb n.parent x.serial others.0)
-      ∙ closed_below x.serial n.parent (serials_of (lineage nodes x.parent)) (not_above x known) in
-      ap (λ u. cond u (suc (spanned x.serial (n.serial ∷ open_from n.parent (serials_of (lineage nodes x.serial))) ns)) 0) (or_from _ _ parts.0 shut)
+      ∙ ap (λ u. is_open x.serial (cond u (x.serial ∷ serials (lineage nodes x.parent)) (open_from n.parent (serials (lineage nodes x.parent))))) (swap_eqb n.parent x.serial others.0)
+      ∙ closed_below x.serial n.parent (serials (lineage nodes x.parent)) (not_above x known) in
+      ap (λ u. cond u (suc (spanned x.serial (n.serial ∷ open_from n.parent (serials (lineage nodes x.serial))) ns)) 0) (or_from _ _ parts.0 shut)
 
   -- ---- edits keep one tree
 
   -- what is open behind nodes is the lineage of the last of them
-  pub open_after : (opened : List ℕ) (t : ℕ) (ns : List Node) → opened ≡ serials_of (lineage nodes t) → Known ns → IsTreeFrom opened ns → (u : ℕ) × (opened_after opened ns ≡ serials_of (lineage nodes u))
+  pub open_after : (opened : List ℕ) (t : ℕ) (ns : List Node) → opened ≡ serials (lineage nodes t) → Known ns → IsTreeFrom opened ns → (u : ℕ) × (opened_after opened ns ≡ serials (lineage nodes u))
   open_after opened t [] is known tree = (t, is)
   open_after opened t (n ∷ ns) is known tree = open_after (n.serial ∷ open_from n.parent opened) n.serial ns (open_next opened t n is known.0 tree.0) known.1 tree.1
 
   -- the nodes behind a node's span stand where the node stood
-  pub span_left_out : (x : ℕ) (before : List ℕ) (s : ℕ) (opened : List ℕ) (t : ℕ) (ns : List Node) → before ≡ serials_of (lineage nodes s) → ((p : ℕ) → is_open p (serials_of (lineage nodes x)) ≡ true → p == x ≡ false → is_open p before ≡ true) → opened ≡ serials_of (lineage nodes t) → is_open x opened ≡ true → Known ns → IsTreeFrom opened ns → IsTreeFrom before (drop (spanned x opened ns) ns)
+  pub span_left_out : (x : ℕ) (before : List ℕ) (s : ℕ) (opened : List ℕ) (t : ℕ) (ns : List Node) → before ≡ serials (lineage nodes s) → ((p : ℕ) → is_open p (serials (lineage nodes x)) ≡ true → p == x ≡ false → is_open p before ≡ true) → opened ≡ serials (lineage nodes t) → is_open x opened ≡ true → Known ns → IsTreeFrom opened ns → IsTreeFrom before (drop (spanned x opened ns) ns)
   span_left_out x before s opened t [] at above is top known tree = tt
   span_left_out x before s opened t (n ∷ ns) at above is top known tree =
       step (is_open x (n.serial ∷ open_from n.parent opened)) refl (λ still. span_left_out x before s (n.serial ∷ open_from n.parent opened) n.serial ns at above (open_next opened t n is known.0 tree.0) still known.1 tree.1)
@@ -331,7 +331,7 @@ module _ (nodes : List Node) (o : IsOrdered nodes) where
       step false e rest = outside e
 
   -- a new node goes between where its parent is open and the next node's parent stays open
-  put_between : (opened : List ℕ) (t : ℕ) (m b : Node) (bs : List Node) → opened ≡ serials_of (lineage nodes t) → IsTreeFrom opened (b ∷ bs) → is_open m.parent opened ≡ true → is_open b.parent (open_from m.parent opened) ≡ true → m.serial == b.parent ≡ false → IsTreeFrom opened (m ∷ b ∷ bs)
+  put_between : (opened : List ℕ) (t : ℕ) (m b : Node) (bs : List Node) → opened ≡ serials (lineage nodes t) → IsTreeFrom opened (b ∷ bs) → is_open m.parent opened ≡ true → is_open b.parent (open_from m.parent opened) ≡ true → m.serial == b.parent ≡ false → IsTreeFrom opened (m ∷ b ∷ bs)
   put_between opened t m b bs is tree h next fresh =
       (h, (or_right (m.serial == b.parent) (is_open b.parent (open_from m.parent opened)) next, subst (λ xs. IsTreeFrom (b.serial ∷ xs) bs) (sym same) tree.1))
     where
@@ -342,13 +342,13 @@ module _ (nodes : List Node) (o : IsOrdered nodes) where
           ∙ sym (open_at opened t b.parent is tree.0)
 
   -- before a child of its parent
-  pub put_before : (opened : List ℕ) (t : ℕ) (m b : Node) (bs : List Node) → opened ≡ serials_of (lineage nodes t) → IsTreeFrom opened (b ∷ bs) → b.parent ≡ m.parent → m.serial == b.parent ≡ false → IsTreeFrom opened (m ∷ b ∷ bs)
+  pub put_before : (opened : List ℕ) (t : ℕ) (m b : Node) (bs : List Node) → opened ≡ serials (lineage nodes t) → IsTreeFrom opened (b ∷ bs) → b.parent ≡ m.parent → m.serial == b.parent ≡ false → IsTreeFrom opened (m ∷ b ∷ bs)
   put_before opened t m b bs is tree child fresh =
       let h : is_open m.parent opened ≡ true = ap (λ p. is_open p opened) (sym child) ∙ tree.0 in
       put_between opened t m b bs is tree h (ap (λ p. is_open p (open_from m.parent opened)) child ∙ open_own m.parent opened h) fresh
 
   -- behind all that is within its parent
-  pub put_behind : (m : Node) (opened : List ℕ) (t : ℕ) (ns : List Node) → opened ≡ serials_of (lineage nodes t) → Known ns → IsTreeFrom opened ns → is_open m.parent opened ≡ true → AllByRecursion (λ (n : Node). m.serial == n.parent ≡ false) ns → IsTreeFrom opened (take (spanned m.parent opened ns) ns ++ m ∷ drop (spanned m.parent opened ns) ns)
+  pub put_behind : (m : Node) (opened : List ℕ) (t : ℕ) (ns : List Node) → opened ≡ serials (lineage nodes t) → Known ns → IsTreeFrom opened ns → is_open m.parent opened ≡ true → AllByRecursion (λ (n : Node). m.serial == n.parent ≡ false) ns → IsTreeFrom opened (take (spanned m.parent opened ns) ns ++ m ∷ drop (spanned m.parent opened ns) ns)
   put_behind m opened t [] is known tree h fresh = (h, tt)
   put_behind m opened t (n ∷ ns) is known tree h fresh =
       step (is_open m.parent (n.serial ∷ open_from n.parent opened)) refl (λ still. put_behind m (n.serial ∷ open_from n.parent opened) n.serial ns (open_next opened t n is known.0 tree.0) known.1 tree.1 still fresh.1)

@@ -5,7 +5,7 @@ use Rattle.std.specs.Map.{lookup}
 use Rattle.std.specs.Vec.{vec_len, vec_capacity}
 use Rattle.std.specs.declared.vec.Vec.{Vec}
 use Rattle.smil_model.specs.declared.document.Node.{Node}
-use Rattle.smil_model.specs.document.Document.{is_within, time_children as time_children_of}
+use Rattle.smil_model.specs.document.Document.{is_within, time_children as time_children_of, serials}
 use Rattle.smil_model.specs.document.Edits.{children as children_of}
 use Rattle.smil_tree.specs.Held.{cut}
 
@@ -18,18 +18,10 @@ pub record Families : Type 0 where
 abbrev pub list_in : List (ℕ × List ℕ) → ℕ → List ℕ
 list_in table serial = unwrap_or (lookup (nat_eq serial) table) []
 
--- the serials of nodes, in their order
-abbrev pub serials : List Node → List ℕ
-serials nodes = map (λ (n : Node). n.serial) nodes
-
 -- they are the children and the time children of these nodes
 pub record IsKinOf (families : Families) (nodes : List Node) : Type 0 where
   pub children : (s : ℕ) → list_in families.children s ≡ serials (children_of nodes s)
   pub time_children : (s : ℕ) → list_in families.time_children s ≡ serials (time_children_of nodes s)
-
--- the serial of a node, if there is one
-abbrev pub serial_of : Option Node → Option ℕ
-serial_of node = option_map (λ (n : Node). n.serial) node
 
 -- whether there is a serial, and it is this one
 abbrev pub is_serial : ℕ → Option ℕ → Bool

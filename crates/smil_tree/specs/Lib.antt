@@ -1,4 +1,5 @@
 pub mod Held
+pub mod Inherited
 pub mod Kept
 pub mod Kin
 pub mod Outcomes

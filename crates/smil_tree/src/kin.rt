@@ -3,15 +3,15 @@
 ghost use Rattle.std.specs.Prelude.{◌≡◌, ℕ, ◌+◌, ◌≤◌, ◌==◌, Bool, [], length, take, filter, insert, slice_get, slice_range, Some, None, if◌then◌else◌, OnOk, OnErr};
 ghost use Rattle.std.specs.List.{list_any};
 ghost use Rattle.smil_model.specs.declared.document.Node.{Node as AnyNode};
-ghost use Rattle.smil_model.specs.document.Document.{is_element, time_parent as time_parent_in};
+ghost use Rattle.smil_model.specs.document.Document.{is_element, time_parent as time_parent_in, serials, serial_of};
 ghost use Rattle.smil_model.specs.document.Edits.{children};
 ghost use Rattle.smil_model.specs.document.Valid.{IsDistinct};
 ghost use Rattle.smil_laws.specs.Edited.{IsOrdered};
 ghost use Rattle.smil_tree.specs.Held.{cut};
-ghost use Rattle.smil_tree.specs.Kin.{IsKinOf, IsSubtree, serials, serial_of, is_serial, is_before, list_in, list_of, AreListsOf, HasRoom, Separates};
+ghost use Rattle.smil_tree.specs.Kin.{IsKinOf, IsSubtree, is_serial, is_before, list_in, list_of, AreListsOf, HasRoom, Separates};
 
 use crate::nodes::Nodes;
-use smil_model::{Kind, Node};
+use smil_model::Node;
 use std::alloc::{AllocError, Global};
 use std::collections::HashMap;
 use std::marker::Model;
@@ -106,9 +106,10 @@ impl Kin {
 fn if_element(node: &Node, time_parent: Option<u32>) -> Option<u32>
     ensures { result ≡ (if is_element node.now then time_parent else None) }
 {
-    match node.kind {
-        Kind::PriorityClass => None,
-        _ => time_parent,
+    if node.kind.is_element() {
+        time_parent
+    } else {
+        None
     }
 }
 

@@ -11,8 +11,7 @@ ghost use Rattle.slab.specs.Slab.{get, HasRoomFor};
 
 use indexmap::IndexMap;
 use slab::Slab;
-use smil_attrs::{with_attr, without_attr};
-use smil_model::{Attr, AttrName, Node};
+use smil_model::{Attr, AttrName, Node, with_attr, without_attr};
 use std::alloc::{AllocError, Global};
 use std::marker::Model;
 

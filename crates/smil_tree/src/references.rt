@@ -1,4 +1,4 @@
-//! Items that refer to an element or an event, counted.
+//! Items that refer to an element, an event or a key, counted.
 
 ghost use Rattle.std.specs.Prelude.{◌≡◌, ◌<◌, ◌^◌, length, filter};
 ghost use Rattle.smil_model.specs.document.Valid.{is_reference};
@@ -7,7 +7,7 @@ ghost use Rattle.smil_tree.specs.Kept.{listed_references, references_among};
 
 use smil_model::{Attr, AttrName, Attrs, Item, Items};
 
-/// How many items of attributes refer to an element or an event. It takes no memory.
+/// How many items of attributes refer to an element, an event or a key. It takes no memory.
 pub fn references_in(attrs: &Attrs) -> usize
     requires { references_among attrs.now < 2 ^ 64 }
     ensures { result ≡ references_among attrs.now }
@@ -62,12 +62,12 @@ fn among(items: &Items) -> usize
     count
 }
 
-// Whether an item refers to an element or an event.
+// Whether an item refers to an element, an event or a key.
 fn refers(item: &Item) -> bool
     ensures { result ≡ is_reference item.now }
 {
     match item {
-        Item::Sync { .. } | Item::Event { .. } | Item::Repeat { .. } => true,
+        Item::Sync { .. } | Item::Event { .. } | Item::Repeat { .. } | Item::Key { .. } => true,
         Item::Offset { .. } | Item::Indefinite => false,
     }
 }

@@ -1,5 +1,6 @@
 //! A document that is read and edited in place.
 
+mod defaults;
 mod edits;
 mod family;
 mod inserting;
@@ -10,7 +11,7 @@ mod spans;
 ghost use Rattle.std.specs.Prelude.{◌≡◌, ℕ, ◌<◌, ◌≤◌, ◌==◌, List, [], ◌∷◌, take, length, true, Some, IsSome, IfOk, OnOk, slice_get, option_map, sum_by};
 ghost use Rattle.std.specs.List.{position as first_place};
 ghost use Rattle.smil_model.specs.declared.document.Node.{Node as AnyNode};
-ghost use Rattle.smil_model.specs.document.Document.{Document, node_at, time_parent as time_parent_of, time_children};
+ghost use Rattle.smil_model.specs.document.Document.{Document, node_at, serial_of, time_parent as time_parent_of, time_children};
 ghost use Rattle.smil_model.specs.document.Valid.{IsValid, kind_of, references, references_of};
 ghost use Rattle.smil_model.specs.shown.Orders.{node_of};
 ghost use Rattle.smil_tree.specs.Kept.{IsTableOf, Keeps};
@@ -81,7 +82,7 @@ impl Tree {
 
     /// The serial of a node by its id or serial; None exactly where there is no such node. It takes no memory.
     pub fn find(&self, who: &Who) -> Option<u32>
-        ensures { result ≡ option_map (λ (n : AnyNode). n.serial) (node_of self.now.nodes who.now) }
+        ensures { result ≡ serial_of (node_of self.now.nodes who.now) }
     {
         match who {
             Who::Id(id) => self.ids.get(id.slice()),
@@ -99,7 +100,7 @@ impl Tree {
     /// The serial of the node at a place in document order, from 0; None exactly where the place is not below the number
     /// of nodes. It takes no memory.
     pub fn serial_at(&self, position: usize) -> Option<u32>
-        ensures { result ≡ option_map (λ (n : AnyNode). n.serial) (slice_get self.now.nodes position) }
+        ensures { result ≡ serial_of (slice_get self.now.nodes position) }
     {
         Some(self.nodes.at(position)?.serial)
     }

@@ -1,54 +1,92 @@
 //! The elements above and below a node.
 
-ghost use Rattle.std.specs.Prelude.{◌≡◌, ◌<◌, IsSome, slice_get, option_map, find, length, min, not};
-ghost use Rattle.smil_model.specs.declared.document.Node.{Node as AnyNode};
-ghost use Rattle.smil_model.specs.document.Document.{node_at, lineage, is_element, is_class_kind, time_parent, time_children};
+ghost use Rattle.std.specs.Prelude.{◌≡◌, ◌<◌, None, Some, IsSome, slice_get, find, length, min, if◌then◌else◌};
+ghost use Rattle.smil_model.specs.document.Document.{node_at, lineage, is_class_kind, is_element, serials, serial_of, time_parent, time_children};
+ghost use Rattle.smil_model.specs.document.Edits.{children};
+ghost use Rattle.smil_model.specs.happening.Queue.{class_of, parent_of};
 ghost use Rattle.smil_laws.specs.Edited.{IsOrdered};
 
 use super::Tree;
 use crate::nodes::Nodes;
-use smil_model::{DEPTH, Kind};
+use smil_model::{DEPTH, Node};
 
 impl Tree {
+    /// The serial of a node's parent; None exactly for the root. It takes no memory.
+    pub fn parent(&self, serial: u32) -> Option<u32>
+        requires { IsSome (node_at self.now.nodes serial) }
+        ensures { result ≡ serial_of (parent_of self.now.nodes (node_at self.now.nodes serial)) }
+    {
+        let parent = self.nodes.get(serial).unwrap().parent;
+        Some(self.nodes.get(parent)?.serial)
+    }
+
+    /// The serials of a node's children, priorityClasses included, in document order; none where there is no such node. It
+    /// takes no memory.
+    pub fn children(&self, serial: u32) -> &[u32]
+        ensures { result.now ≡ serials (children self.now.nodes serial) }
+    {
+        self.kin.children(serial)
+    }
+
+    /// The serial of the priorityClass that a node is a child of; None exactly where its parent is none. It takes no memory.
+    pub fn class_of(&self, serial: u32) -> Option<u32>
+        requires { IsSome (node_at self.now.nodes serial) }
+        ensures { result ≡ serial_of (class_of self.now.nodes serial) }
+    {
+        let parent = self.nodes.get(serial).unwrap().parent;
+        class_at(self.nodes.get(parent)?)
+    }
+
     /// The serial of a node's time parent, the nearest element above it; None exactly where there is none. It takes no
     /// memory.
     pub fn time_parent(&self, serial: u32) -> Option<u32>
         requires { IsSome (node_at self.now.nodes serial) }
-        ensures { result ≡ option_map (λ (n : AnyNode). n.serial) (time_parent self.now.nodes serial) }
+        ensures { result ≡ serial_of (time_parent self.now.nodes serial) }
     {
         let parent = self.nodes.get(serial).unwrap().parent;
         element_from(&self.nodes, parent)
+    }
+
+    /// The serials of an element's time children, the elements whose time parent it is, in document order; none for a
+    /// priorityClass, and where there is no such node. It takes no memory.
+    pub fn time_children(&self, serial: u32) -> &[u32]
+        ensures { result.now ≡ serials (time_children self.now.nodes serial) }
+    {
+        self.kin.time_children(serial)
     }
 
     /// The serial of the time child of a node at a place among its time children, from 0; None exactly where there are
     /// not so many. It takes no memory.
     pub fn time_child(&self, serial: u32, k: usize) -> Option<u32>
         requires { IsSome (node_at self.now.nodes serial) }
-        ensures { result ≡ option_map (λ (n : AnyNode). n.serial) (slice_get (time_children self.now.nodes serial) k) }
+        ensures { result ≡ serial_of (slice_get (time_children self.now.nodes serial) k) }
     {
-        self.kin.time_children(serial).get(k).copied()
+        self.time_children(serial).get(k).copied()
     }
 }
 
-/// Whether a kind is a priorityClass.
-pub fn is_class(kind: Kind) -> bool
-    ensures { result ≡ is_class_kind kind }
+// The serial of a node that is a priorityClass.
+fn class_at(node: &Node) -> Option<u32>
+    ensures { result ≡ (if is_class_kind node.now.kind then Some node.now.serial else None) }
 {
-    matches!(kind, Kind::PriorityClass)
+    if node.kind.is_element() {
+        None
+    } else {
+        Some(node.serial)
+    }
 }
 
 /// The serial of the nearest element among a node and those above it.
 pub fn element_from(nodes: &Nodes, serial: u32) -> Option<u32>
     requires { IsOrdered nodes.now }
-    ensures { result ≡ option_map (λ (n : AnyNode). n.serial) (find is_element (lineage nodes.now serial)) }
+    ensures { result ≡ serial_of (find is_element (lineage nodes.now serial)) }
 {
     let mut at = serial;
     while let Some(node) = nodes.get(at) {
-        if is_class(node.kind) {
-            at = node.parent;
-        } else {
+        if node.kind.is_element() {
             return Some(node.serial);
         }
+        at = node.parent;
     }
     None
 }

@@ -6,7 +6,7 @@ ghost use Rattle.smil_model.specs.document.Valid.{may_hold as may_hold_kind};
 ghost use Rattle.smil_tree.specs.Outcomes.{agrees_with_first, place_outcome};
 
 use super::Tree;
-use super::family::{height, is_class};
+use super::family::height;
 use crate::fault::TreeFault;
 use crate::nodes::Nodes;
 use smil_model::{DEPTH, Kind};
@@ -52,7 +52,7 @@ fn may_hold(parent: Kind, child: Kind) -> bool
     ensures { result ≡ may_hold_kind parent child }
 {
     match parent {
-        Kind::Par | Kind::Seq | Kind::PriorityClass => !is_class(child),
+        Kind::Par | Kind::Seq | Kind::PriorityClass => child.is_element(),
         Kind::Excl => true,
         _ => false,
     }
@@ -64,7 +64,7 @@ fn agrees(nodes: &Nodes, children: &[u32], kind: Kind) -> bool
     ensures { result ≡ agrees_with_first nodes.now (slice_get children.now 0) kind }
 {
     match children.first() {
-        Some(child) => is_class(nodes.get(*child).unwrap().kind) == is_class(kind),
+        Some(child) => nodes.get(*child).unwrap().kind.is_element() == kind.is_element(),
         None => true,
     }
 }

@@ -1,13 +1,30 @@
 //! Where the span of a node ends, which is the node with its descendants, and where a new child stands.
 
-ghost use Rattle.std.specs.Prelude.{◌≡◌, ℕ, ◌-◌, ◌<◌, None, IsSome, slice_get};
-ghost use Rattle.smil_model.specs.document.Document.{node_at};
-ghost use Rattle.smil_model.specs.document.Edits.{child_place, children};
+ghost use Rattle.std.specs.Prelude.{◌≡◌, ℕ, ◌+◌, ◌-◌, ◌<◌, None, IsSome, filter, slice_get, slice_range};
+ghost use Rattle.smil_model.specs.declared.document.Node.{Node as AnyNode};
+ghost use Rattle.smil_model.specs.document.Document.{node_at, descendants, is_within};
+ghost use Rattle.smil_model.specs.document.Edits.{child_place, children, place_in};
 ghost use Rattle.smil_model.specs.document.Valid.{IsValid};
 ghost use Rattle.smil_tree.specs.Kin.{IsKinOf};
 
+use super::Tree;
 use crate::kin::Kin;
 use crate::nodes::Nodes;
+
+impl Tree {
+    /// The place in document order, from 0, of a node, and the one behind the last of its descendants: from the first up to
+    /// the second stand the node and its descendants, and no others. It takes no memory.
+    pub fn span(&self, serial: u32) -> (usize, usize)
+        requires { IsSome (node_at self.now.nodes serial) }
+        ensures places { result ≡ (place_in self.now.nodes serial, child_place self.now.nodes serial None) }
+        ensures within { slice_range self.now.nodes result.0 result.1 ≡ filter (λ (n : AnyNode). is_within self.now.nodes serial n.serial) self.now.nodes }
+        ensures below { slice_range self.now.nodes (result.0 + 1) result.1 ≡ descendants self.now.nodes serial }
+    {
+        let start = self.nodes.place(serial).unwrap();
+        let past = end_of(&self.nodes, &self.kin, serial);
+        (start, past)
+    }
+}
 
 /// The place behind the last descendant of a node.
 pub fn end_of(nodes: &Nodes, kin: &Kin, serial: u32) -> usize

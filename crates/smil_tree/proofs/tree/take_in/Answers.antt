@@ -2,11 +2,11 @@ use Rattle.std.proofs.Common.{◌≡◌, ◌+◌, ◌≤◌, sym, ap, subst, ◌
 use Rattle.std.specs.Prelude.{slice_get, find}
 use Rattle.std.specs.Option.{option_copied}
 use Rattle.std.proofs.lemmas.List.{length-take-le}
-use Rattle.smil_model.specs.document.Document.{node_at, is_element}
+use Rattle.smil_model.specs.document.Document.{node_at, is_element, serial_of}
 use Rattle.smil_model.specs.document.Edits.{children}
 use Rattle.smil_laws.specs.Edited.{IsOrdered}
 use Rattle.smil_laws.proofs.Numbered.{ordered}
-use Rattle.smil_tree.specs.Kin.{IsKinOf, serial_of}
+use Rattle.smil_tree.specs.Kin.{IsKinOf}
 use Rattle.smil_tree.proofs.Cuts.{get_inserted}
 use Rattle.smil_tree.proofs.Families.{above_of, node_of_place}
 use Rattle.smil_tree.proofs.KinCallers.{ordered_take, leaf_at}

@@ -1,4 +1,5 @@
-use Rattle.std.proofs.Common.{ap, ◌∙◌, length, arith, nat_eq}
+use Rattle.std.proofs.Common.{ap, ◌∙◌, length, arith, nat_eq, Result, Ok, Err}
+use Rattle.std.specs.Prelude.{OnErr}
 use Rattle.std.specs.Map.{lookup}
 use Rattle.smil_model.specs.document.Document.{node_at}
 use Rattle.smil_tree.proofs.Holding.{held-moved, held-length, absent}
@@ -19,3 +20,11 @@ put-requires-clause-fresh c =
 
 pub put-requires-clause-was_held : goal.put-requires-clause-was_held
 put-requires-clause-was_held c = (held-moved c.self.inside.slab c.make_room.new.slab c.self.inside.order.entries c.make_room.new.order.entries c.make_room.ensures.slots c.make_room.ensures.entries c.self.invariant).0
+
+anyway : {X E A : Type 0} (r : Result X E) → A → OnErr r A
+anyway (Ok x) h = tt
+anyway (Err e) h = h
+
+pub returns-in_err-make_room-clause-err : goal.returns-in_err-make_room-clause-err
+returns-in_err-make_room-clause-err c =
+    anyway c.from_residual.result ((held-moved c.self.inside.slab c.make_room.new.slab c.self.inside.order.entries c.make_room.new.order.entries c.make_room.ensures.slots c.make_room.ensures.entries c.self.invariant).1 ∙ c.self.view_is)

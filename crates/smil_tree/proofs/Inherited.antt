@@ -1,0 +1,155 @@
+-- A default is stated by the node, or by those above it.
+use Rattle.std.proofs.Common.{◌≡◌, refl, sym, ◌∙◌, ap, ℕ, List, [], ◌∷◌, Option, Some, None, Bool, true, false, cond, filter}
+use Rattle.std.specs.Prelude.{◌==◌, unwrap_or, option_map, option_and_then}
+use Rattle.std.proofs.lemmas.Bool.{eqb-true}
+use Rattle.smil_model.specs.declared.document.Node.{Node}
+use Rattle.smil_model.specs.declared.document.Restart.{Restart}
+use Rattle.smil_model.specs.declared.document.Restart.TheVariants.{Always}
+use Rattle.smil_model.specs.declared.document.Restart.TheVariants as restart
+use Rattle.smil_model.specs.declared.document.RestartDefault.{RestartDefault}
+use Rattle.smil_model.specs.declared.document.RestartDefault.TheVariants as restart_default
+use Rattle.smil_model.specs.declared.document.Fill.{Fill}
+use Rattle.smil_model.specs.declared.document.Fill.TheVariants.{Auto}
+use Rattle.smil_model.specs.declared.document.Fill.TheVariants as fill
+use Rattle.smil_model.specs.declared.document.FillDefault.{FillDefault}
+use Rattle.smil_model.specs.declared.document.FillDefault.TheVariants as fill_default
+use Rattle.smil_model.specs.document.Document.{node_at, lineage, is_element}
+use Rattle.smil_model.specs.document.Defaults.{first_stated, restart_of, restart_or, restart_stated, fill_of, fill_or, fill_stated}
+use Rattle.smil_laws.specs.Edited.{IsOrdered}
+use Rattle.smil_tree.specs.Inherited.{stated_from, restart_from, fill_from, own_restart, own_fill}
+use Rattle.smil_laws.proofs.Aside.{find_true}
+use Rattle.smil_tree.proofs.Families.{chain_of, no_chain}
+
+-- a priorityClass states nothing
+abbrev pub own : {A : Type 0} → (Node → Option A) → Node → Option A
+own stated n = cond (is_element n) (stated n) None
+
+module _ {A : Type 0} (stated : Node → Option A) (without : A) (nodes : List Node) where
+  -- what stands above a missing node states nothing
+  pub from_none : (s : ℕ) → node_at nodes s ≡ None → stated_from stated without nodes s ≡ without
+  from_none s q = ap (λ l. first_stated stated without (filter is_element l)) (no_chain nodes s q)
+
+  -- a node states it, or its parent's lineage does
+  pub from_node : IsOrdered nodes → (s : ℕ) (n : Node) → node_at nodes s ≡ Some n → stated_from stated without nodes s ≡ unwrap_or (own stated n) (stated_from stated without nodes n.parent)
+  from_node o s n at = ap (λ l. first_stated stated without (filter is_element l)) (chain_of nodes o s n at) ∙ step (is_element n)
+    where
+      step : (t : Bool) → first_stated stated without (cond t (n ∷ filter is_element (lineage nodes n.parent)) (filter is_element (lineage nodes n.parent))) ≡ unwrap_or (cond t (stated n) None) (stated_from stated without nodes n.parent)
+      step true = refl
+      step false = refl
+
+  pub here : IsOrdered nodes → (s : ℕ) (n : Node) → node_at nodes s ≡ Some n → (v : A) → own stated n ≡ Some v → v ≡ stated_from stated without nodes s
+  here o s n at v q = sym (from_node o s n at ∙ ap (λ r. unwrap_or r (stated_from stated without nodes n.parent)) q)
+
+  pub above : IsOrdered nodes → (s : ℕ) (n : Node) → node_at nodes s ≡ Some n → own stated n ≡ None → stated_from stated without nodes n.parent ≡ stated_from stated without nodes s
+  above o s n at q = sym (from_node o s n at ∙ ap (λ r. unwrap_or r (stated_from stated without nodes n.parent)) q)
+
+pub none_left : {A : Type 0} (r : Option A) → ((x : A) → r ≡ Some x → ⊥) → r ≡ None
+none_left None never = refl
+none_left (Some x) never = absurd (never x refl)
+
+-- the first that is stated is no value that no node states
+never_first : {A : Type 0} (bad : A) (stated : Node → Option A) (without : A) → (without ≡ bad → ⊥) → ((n : Node) → stated n ≡ Some bad → ⊥) → (ns : List Node) → first_stated stated without ns ≡ bad → ⊥
+never_first bad stated without other never [] q = other q
+never_first bad stated without other never (n ∷ ns) q = step (stated n) refl q (never_first bad stated without other never ns)
+  where
+    step : (r : Option _) → stated n ≡ r → unwrap_or r (first_stated stated without ns) ≡ bad → (first_stated stated without ns ≡ bad → ⊥) → ⊥
+    step None e f rest = rest f
+    step (Some x) e f rest = never n (e ∙ ap Some f)
+
+-- ---- restart
+
+abbrev pub restart_by : Node → Option Restart
+restart_by n = option_and_then restart_stated n.attrs.restart_default
+
+no_default_restart : (d : Option RestartDefault) → option_and_then restart_stated d ≡ Some restart.ByDefault → ⊥
+no_default_restart None q = cc
+no_default_restart (Some restart_default.Always) q = cc
+no_default_restart (Some restart_default.WhenNotActive) q = cc
+no_default_restart (Some restart_default.Never) q = cc
+no_default_restart (Some restart_default.Inherit) q = cc
+
+pub restart_given : (nodes : List Node) (s : ℕ) → restart_from nodes s ≡ restart.ByDefault → ⊥
+restart_given nodes s = never_first restart.ByDefault restart_by Always (λ q. cc) (λ n. no_default_restart n.attrs.restart_default) (filter is_element (lineage nodes s))
+
+restart_falls : (r : Restart) (o : Option Restart) → own_restart o ≡ None → restart_or r o ≡ r
+restart_falls r None e = refl
+restart_falls r (Some restart.ByDefault) e = refl
+restart_falls r (Some restart.Always) e = absurd cc
+restart_falls r (Some restart.WhenNotActive) e = absurd cc
+restart_falls r (Some restart.Never) e = absurd cc
+
+restart_stays : (r : Restart) (o : Option Restart) (stated : Restart) → own_restart o ≡ Some stated → restart_or r o ≡ stated
+restart_stays r None stated e = absurd cc
+restart_stays r (Some restart.ByDefault) stated e = absurd cc
+restart_stays r (Some restart.Always) stated e = let same : restart.Always ≡ stated = cc in same
+restart_stays r (Some restart.WhenNotActive) stated e = let same : restart.WhenNotActive ≡ stated = cc in same
+restart_stays r (Some restart.Never) stated e = let same : restart.Never ≡ stated = cc in same
+
+pub own_restart_given : (o : Option Restart) → own_restart o ≡ Some restart.ByDefault → ⊥
+own_restart_given None e = cc
+own_restart_given (Some restart.ByDefault) e = cc
+own_restart_given (Some restart.Always) e = cc
+own_restart_given (Some restart.WhenNotActive) e = cc
+own_restart_given (Some restart.Never) e = cc
+
+at_restart : (nodes : List Node) (s : ℕ) (n : Node) → node_at nodes s ≡ Some n → (r : Restart) → restart_or (restart_from nodes s) n.attrs.restart ≡ r → Some r ≡ option_map (restart_of nodes) (node_at nodes s)
+at_restart nodes s n at r is =
+    let serial : n.serial ≡ s = eqb-true n.serial s (find_true (λ (m : Node). m.serial == s) nodes n at) in
+    ap Some (sym is ∙ ap (λ x. restart_or (restart_from nodes x) n.attrs.restart) (sym serial)) ∙ sym (ap (option_map (restart_of nodes)) at)
+
+pub restart_is : (nodes : List Node) (s : ℕ) (n : Node) → node_at nodes s ≡ Some n → (r : Restart) → r ≡ restart_from nodes s → own_restart n.attrs.restart ≡ None → Some r ≡ option_map (restart_of nodes) (node_at nodes s)
+restart_is nodes s n at r is none = at_restart nodes s n at r (restart_falls (restart_from nodes s) n.attrs.restart none ∙ sym is)
+
+pub restart_own : (nodes : List Node) (s : ℕ) (n : Node) → node_at nodes s ≡ Some n → (r : Restart) → own_restart n.attrs.restart ≡ Some r → Some r ≡ option_map (restart_of nodes) (node_at nodes s)
+restart_own nodes s n at r own = at_restart nodes s n at r (restart_stays (restart_from nodes s) n.attrs.restart r own)
+
+-- ---- fill
+
+abbrev pub fill_by : Node → Option Fill
+fill_by n = option_and_then fill_stated n.attrs.fill_default
+
+no_default_fill : (d : Option FillDefault) → option_and_then fill_stated d ≡ Some fill.ByDefault → ⊥
+no_default_fill None q = cc
+no_default_fill (Some fill_default.Remove) q = cc
+no_default_fill (Some fill_default.Freeze) q = cc
+no_default_fill (Some fill_default.Hold) q = cc
+no_default_fill (Some fill_default.Auto) q = cc
+no_default_fill (Some fill_default.Inherit) q = cc
+
+pub fill_given : (nodes : List Node) (s : ℕ) → fill_from nodes s ≡ fill.ByDefault → ⊥
+fill_given nodes s = never_first fill.ByDefault fill_by Auto (λ q. cc) (λ n. no_default_fill n.attrs.fill_default) (filter is_element (lineage nodes s))
+
+fill_falls : (r : Fill) (o : Option Fill) → own_fill o ≡ None → fill_or r o ≡ r
+fill_falls r None e = refl
+fill_falls r (Some fill.ByDefault) e = refl
+fill_falls r (Some fill.Remove) e = absurd cc
+fill_falls r (Some fill.Freeze) e = absurd cc
+fill_falls r (Some fill.Hold) e = absurd cc
+fill_falls r (Some fill.Auto) e = absurd cc
+
+fill_stays : (r : Fill) (o : Option Fill) (stated : Fill) → own_fill o ≡ Some stated → fill_or r o ≡ stated
+fill_stays r None stated e = absurd cc
+fill_stays r (Some fill.ByDefault) stated e = absurd cc
+fill_stays r (Some fill.Remove) stated e = let same : fill.Remove ≡ stated = cc in same
+fill_stays r (Some fill.Freeze) stated e = let same : fill.Freeze ≡ stated = cc in same
+fill_stays r (Some fill.Hold) stated e = let same : fill.Hold ≡ stated = cc in same
+fill_stays r (Some fill.Auto) stated e = let same : fill.Auto ≡ stated = cc in same
+
+pub own_fill_given : (o : Option Fill) → own_fill o ≡ Some fill.ByDefault → ⊥
+own_fill_given None e = cc
+own_fill_given (Some fill.ByDefault) e = cc
+own_fill_given (Some fill.Remove) e = cc
+own_fill_given (Some fill.Freeze) e = cc
+own_fill_given (Some fill.Hold) e = cc
+own_fill_given (Some fill.Auto) e = cc
+
+at_fill : (nodes : List Node) (s : ℕ) (n : Node) → node_at nodes s ≡ Some n → (r : Fill) → fill_or (fill_from nodes s) n.attrs.fill ≡ r → Some r ≡ option_map (fill_of nodes) (node_at nodes s)
+at_fill nodes s n at r is =
+    let serial : n.serial ≡ s = eqb-true n.serial s (find_true (λ (m : Node). m.serial == s) nodes n at) in
+    ap Some (sym is ∙ ap (λ x. fill_or (fill_from nodes x) n.attrs.fill) (sym serial)) ∙ sym (ap (option_map (fill_of nodes)) at)
+
+pub fill_is : (nodes : List Node) (s : ℕ) (n : Node) → node_at nodes s ≡ Some n → (r : Fill) → r ≡ fill_from nodes s → own_fill n.attrs.fill ≡ None → Some r ≡ option_map (fill_of nodes) (node_at nodes s)
+fill_is nodes s n at r is none = at_fill nodes s n at r (fill_falls (fill_from nodes s) n.attrs.fill none ∙ sym is)
+
+pub fill_own : (nodes : List Node) (s : ℕ) (n : Node) → node_at nodes s ≡ Some n → (r : Fill) → own_fill n.attrs.fill ≡ Some r → Some r ≡ option_map (fill_of nodes) (node_at nodes s)
+fill_own nodes s n at r own = at_fill nodes s n at r (fill_stays (fill_from nodes s) n.attrs.fill r own)
