@@ -63,6 +63,20 @@ impl Bounds {
         }
     }
 
+    /// The least length of a play, in milliseconds.
+    pub fn min(&self) -> i64
+        ensures { result ≡ self.now.min }
+    {
+        self.min
+    }
+
+    /// The greatest length of a play, in milliseconds; indefinite sets no bound.
+    pub fn max(&self) -> Time
+        ensures { result ≡ self.now.max }
+    {
+        self.max
+    }
+
     /// The intermediate active duration: the least of the repeat count's and the repeat duration's, and the simple
     /// duration where neither is given.
     pub fn intermediate(&self, simple: Time) -> Time
@@ -93,8 +107,9 @@ impl Bounds {
         self.within(play.first, self.intermediate_end(simple, play))
     }
 
-    /// Where the iterations or the repeat duration of a play end, whichever is first.
-    fn intermediate_end(&self, simple: Time, play: &Play) -> Time
+    /// Where the iterations or the repeat duration of a play end, whichever is first, on the element's own clock; `min` and
+    /// `max` are left aside. A simple duration of 0 ends where the present iteration starts.
+    pub fn intermediate_end(&self, simple: Time, play: &Play) -> Time
         ensures { result ≡ intermediate_end self.now simple play.now.first play.now.start play.now.iteration }
     {
         if simple == Time::At(0) {

@@ -3,6 +3,7 @@
 
 ghost use Rattle.std.specs.Prelude.{◌≡◌};
 ghost use Rattle.smil_model.specs.interval.Durations.{simple_duration, intermediate_duration, bounds_of};
+ghost use Rattle.smil_model.specs.document.Defaults.{takes_implicit};
 ghost use Rattle.smil_model.specs.interval.Durations;
 
 pub mod bounds;
@@ -24,13 +25,24 @@ pub fn simple(attrs: &Attrs, implicit: Time) -> Time
         Some(Dur::Indefinite) => Time::Indefinite,
         Some(Dur::Media) => implicit,
         None => {
-            let repeats = attrs.repeat_count.is_some() || attrs.repeat_dur.is_some();
-            if repeats || attrs.end.is_none() {
+            if takes_implicit(attrs) {
                 implicit
             } else {
                 Time::Indefinite
             }
         }
+    }
+}
+
+/// Whether the simple duration is the implicit one: with `dur="media"`, and without `dur` unless the element has an `end`
+/// and nothing that repeats. SMIL 3.0, "Defining the simple duration".
+pub fn takes_implicit(attrs: &Attrs) -> bool
+    ensures { result ≡ takes_implicit attrs.now attrs.now.dur }
+{
+    match attrs.dur {
+        Some(Dur::Media) => true,
+        Some(_) => false,
+        None => attrs.repeat_count.is_some() || attrs.repeat_dur.is_some() || attrs.end.is_none(),
     }
 }
 
@@ -50,64 +62,4 @@ pub fn active_end(attrs: &Attrs, simple: Time, play: &Play) -> Time
     ensures { result ≡ Durations.active_end (bounds_of attrs.now) simple play.now.first play.now.start play.now.iteration }
 {
     Bounds::of_attrs(attrs).active_end(simple, play)
-}
-
-#[cfg(test)]
-mod tests {
-    use super::*;
-    use smil_model::Count;
-
-    fn limited(count: Option<Count>, min: Option<i64>, max: Option<Time>) -> Attrs {
-        let mut attrs = Attrs::none();
-        attrs.repeat_count = count;
-        attrs.min = min;
-        attrs.max = max;
-        attrs
-    }
-
-    fn play(first: i64, start: i64, iteration: u32) -> Play {
-        Play {
-            begin: first,
-            first,
-            start,
-            iteration,
-            shift: Some(0),
-        }
-    }
-
-    #[test]
-    fn ends_of_repeated_plays(rt: HostRuntime) {
-        let thrice = limited(Some(Count::Thousandths(3000)), None, None);
-        let catching_up = play(-25_000, -5000, 2);
-        assert_eq!(rt; intermediate(&thrice, Time::At(10_000)), Time::At(30_000));
-        assert_eq!(rt;
-            active_end(&thrice, Time::At(10_000), &catching_up),
-            Time::At(5000)
-        );
-        let fraction = limited(Some(Count::Thousandths(2500)), None, None);
-        assert_eq!(rt; intermediate(&fraction, Time::At(4000)), Time::At(10_000));
-        assert_eq!(rt;
-            active_end(&fraction, Time::At(4000), &play(0, 8000, 2)),
-            Time::At(10_000)
-        );
-    }
-
-    #[test]
-    fn ends_within_min_and_max(rt: HostRuntime) {
-        let crossed = limited(None, Some(8000), Some(Time::At(5000)));
-        assert_eq!(rt;
-            active_end(&crossed, Time::At(6000), &play(0, 0, 0)),
-            Time::At(6000)
-        );
-        let both = limited(None, Some(5000), Some(Time::At(8000)));
-        assert_eq!(rt;
-            active_end(&both, Time::At(3000), &play(0, 0, 0)),
-            Time::At(5000)
-        );
-        assert_eq!(rt;
-            active_end(&both, Time::Unresolved, &play(0, 0, 0)),
-            Time::At(8000)
-        );
-        assert_eq!(rt; simple(&both, Time::At(7)), Time::At(7));
-    }
 }

@@ -4,8 +4,8 @@ use Rattle.std.specs.Prelude.{cond, ◌==◌, ◌||◌, ◌&&◌, ◌⊎◌, fil
 use Rattle.std.specs.List.{list_any}
 use Rattle.std.proofs.lemmas.Bool.{or_left, or_right, or_cases, and_parts, and_from, eqb-true, eq-eqb, ne_eqb, cases_eq, le-leb, leb-true}
 use Rattle.smil_model.specs.declared.document.Node.{Node}
-use Rattle.smil_model.specs.document.Document.{is_element, elements, node_at}
-use Rattle.smil_model.specs.document.Dependencies.{feeds, feeds_node, serials, leads_to}
+use Rattle.smil_model.specs.document.Document.{is_element, elements, node_at, serials}
+use Rattle.smil_model.specs.document.Dependencies.{feeds, feeds_node, leads_to}
 use Rattle.smil_model.specs.document.Closure.{has, rounds, closure}
 use Rattle.smil_model.specs.document.Valid.{IsDistinct}
 use Rattle.smil_model.specs.reach.Reach.{reads, reads_node}
@@ -55,7 +55,7 @@ module _ (link : ℕ → ℕ → Bool) (all set : List ℕ) (test : ℕ → Bool
 
 -- ---- elements
 
-any_filter : {A : Type 0} (t p : A → Bool) (xs : List A) → list_any p (filter t xs) ≡ list_any (λ x. t x && p x) xs
+pub any_filter : {A : Type 0} (t p : A → Bool) (xs : List A) → list_any p (filter t xs) ≡ list_any (λ x. t x && p x) xs
 any_filter t p [] = refl
 any_filter t p (x ∷ xs) = step (t x) (any_filter t p xs)
   where
@@ -63,7 +63,7 @@ any_filter t p (x ∷ xs) = step (t x) (any_filter t p xs)
     step true rest = ap (λ u. p x || u) rest
     step false rest = rest
 
-has_serials : (t : Node → Bool) (ns : List Node) (s : ℕ) → has (serials (filter t ns)) s ≡ list_any (λ (n : Node). t n && (n.serial == s)) ns
+pub has_serials : (t : Node → Bool) (ns : List Node) (s : ℕ) → has (serials (filter t ns)) s ≡ list_any (λ (n : Node). t n && (n.serial == s)) ns
 has_serials t [] s = refl
 has_serials t (n ∷ ns) s = step (t n) (has_serials t ns s)
   where
@@ -72,7 +72,7 @@ has_serials t (n ∷ ns) s = step (t n) (has_serials t ns s)
     step false q = q
 
 -- a node somewhere passes a test that some node passes
-any_there : (f : Node → Bool) (ns : List Node) → list_any f ns ≡ true → (i : ℕ) × (n : Node) × (slice_get ns i ≡ Some n) × (f n ≡ true)
+pub any_there : (f : Node → Bool) (ns : List Node) → list_any f ns ≡ true → (i : ℕ) × (n : Node) × (slice_get ns i ≡ Some n) × (f n ≡ true)
 any_there f [] q = cc
 any_there f (n ∷ ns) q = by_case (or_cases (f n) (list_any f ns) q) (any_there f ns)
   where
@@ -93,11 +93,11 @@ module _ (nodes : List Node) (distinct : IsDistinct nodes) where
   swap_and false true c = refl
   swap_and false false c = refl
 
-  any_alike : (f g : Node → Bool) → ((x : Node) → f x ≡ g x) → (xs : List Node) → list_any f xs ≡ list_any g xs
+  pub any_alike : (f g : Node → Bool) → ((x : Node) → f x ≡ g x) → (xs : List Node) → list_any f xs ≡ list_any g xs
   any_alike f g same [] = refl
   any_alike f g same (x ∷ xs) = ap (λ t. t || list_any f xs) (same x) ∙ ap (λ t. g x || t) (any_alike f g same xs)
 
-  element_one : (f : Node → Bool) (j : ℕ) (e : Node) → slice_get nodes j ≡ Some e → list_any (λ (c : Node). (c.serial == e.serial) && f c) (elements nodes) ≡ (is_element e && f e)
+  pub element_one : (f : Node → Bool) (j : ℕ) (e : Node) → slice_get nodes j ≡ Some e → list_any (λ (c : Node). (c.serial == e.serial) && f c) (elements nodes) ≡ (is_element e && f e)
   element_one f j e b =
       any_filter is_element (λ (c : Node). (c.serial == e.serial) && f c) nodes
       ∙ any_alike (λ (c : Node). is_element c && ((c.serial == e.serial) && f c)) (λ (c : Node). (c.serial == e.serial) && (is_element c && f c)) (λ c. swap_and (is_element c) (c.serial == e.serial) (f c)) nodes

@@ -6,7 +6,7 @@ use Rattle.std.proofs.lemmas.Bool.{or_from, eqb-true, eq-eqb, ne_eqb, cases_eq}
 use Rattle.std.proofs.lemmas.List.Folds.{list_any-append}
 use Rattle.smil_model.specs.declared.document.Node.{Node}
 use Rattle.smil_model.specs.declared.document.Item.{Item}
-use Rattle.smil_model.specs.declared.document.Item.TheVariants.{Offset, Sync, Event, Repeat, Indefinite}
+use Rattle.smil_model.specs.declared.document.Item.TheVariants.{Offset, Sync, Event, Repeat, Key, Indefinite}
 use Rattle.smil_model.specs.document.Document.{is_element, has_serial, has_kind, is_seq_kind, time_parent, is_time_child, time_children, just_before, previous_child, previous_in_seq, element_named, is_in_excl, target}
 use Rattle.smil_model.specs.document.Defaults.{items_or, begin_list, end_list}
 use Rattle.smil_model.specs.document.Dependencies.{has_implicit_duration, is_sync_with, all_items, feeds_node}
@@ -31,6 +31,15 @@ same_place (n ∷ ns) (suc j) zero e m d a b s =
     let one : n ≡ m = cc in
     let never : false ≡ true = sym (each_at (λ (x : Node). x.serial == n.serial ≡ false) ns j e (differ_each n.serial ns d.0) a) ∙ eq-eqb e.serial n.serial (sym s ∙ sym (ap (λ (x : Node). x.serial) one)) in absurd (cc)
 same_place (n ∷ ns) (suc j) (suc k) e m d a b s = ap suc (same_place ns j k e m d.1 a b s)
+
+-- a test that fails at what an absent list stands for
+pub all_any : (nodes : List Node) (test : Item → Bool) → test (Offset (pos 0)) ≡ false → test Indefinite ≡ false → (e : Node) → list_any test (all_items nodes e) ≡ (list_any test (items_or [] e.attrs.begin) || list_any test (items_or [] e.attrs.«end»))
+all_any nodes test t u e = list_any-append test (begin_list nodes e) (end_list e) ∙ ap (λ b. b || list_any test (end_list e)) (by_begin e.attrs.begin (is_in_excl nodes e.serial))
+  where
+    by_begin : (o : Option (List Item)) (b : Bool) → list_any test (items_or (cond b (Indefinite ∷ []) (Offset (pos 0) ∷ [])) o) ≡ list_any test (items_or [] o)
+    by_begin None true = ap (λ z. z || false) u
+    by_begin None false = ap (λ z. z || false) t
+    by_begin (Some items) b = refl
 
 module _ (nodes : List Node) (distinct : IsDistinct nodes) where
   serial_is : (j k : ℕ) (e m : Node) → slice_get nodes j ≡ Some e → slice_get nodes k ≡ Some m → (m.serial == e.serial) ≡ (j == k)
@@ -189,6 +198,7 @@ module _ (nodes : List Node) (distinct : IsDistinct nodes) where
     sync_is i x a (Sync who edge o) = ap (has_serial x.serial) (ids.node who) ∙ has_at i x (named who) a
     sync_is i x a (Event who name o) = refl
     sync_is i x a (Repeat who n o) = refl
+    sync_is i x a (Key key o) = refl
     sync_is i x a Indefinite = refl
 
     option_is : (i : ℕ) (x : Node) (o : Option Node) → is_option x.serial (option_map (λ (n : Node). n.serial) o) ≡ has_serial x.serial o
@@ -204,19 +214,11 @@ module _ (nodes : List Node) (distinct : IsDistinct nodes) where
     event_is i j x e a b (Sync who edge o) = refl
     event_is i j x e a b (Event who name o) = target_is i j x e a b who
     event_is i j x e a b (Repeat who n o) = target_is i j x e a b who
+    event_is i j x e a b (Key key o) = refl
     event_is i j x e a b Indefinite = refl
 
-    -- a test that fails at what an absent list stands for
-    all_any : (test : Item → Bool) → test (Offset (pos 0)) ≡ false → test Indefinite ≡ false → (e : Node) → list_any test (all_items nodes e) ≡ (list_any test (items_or [] e.attrs.begin) || list_any test (items_or [] e.attrs.«end»))
-    all_any test t u e = list_any-append test (begin_list nodes e) (end_list e) ∙ ap (λ b. b || list_any test (end_list e)) (by_begin e.attrs.begin (is_in_excl nodes e.serial))
-      where
-        by_begin : (o : Option (List Item)) (b : Bool) → list_any test (items_or (cond b (Indefinite ∷ []) (Offset (pos 0) ∷ [])) o) ≡ list_any test (items_or [] o)
-        by_begin None true = ap (λ z. z || false) u
-        by_begin None false = ap (λ z. z || false) t
-        by_begin (Some items) b = refl
-
     pub hears_is : (i j : ℕ) (x e : Node) → slice_get nodes i ≡ Some x → slice_get nodes j ≡ Some e → list_any (is_event_of nodes e.serial x.serial) (all_items nodes e) ≡ hears named j e i
-    hears_is i j x e a b = any_same (is_event_of nodes e.serial x.serial) (λ item. is_place i (source_of named j item)) (event_is i j x e a b) (all_items nodes e) ∙ all_any (λ item. is_place i (source_of named j item)) refl refl e
+    hears_is i j x e a b = any_same (is_event_of nodes e.serial x.serial) (λ item. is_place i (source_of named j item)) (event_is i j x e a b) (all_items nodes e) ∙ all_any nodes (λ item. is_place i (source_of named j item)) refl refl e
 
     module _ (tps : List (Option ℕ)) (children : List (List ℕ)) (previous : List (Option ℕ)) (table : IsTable nodes (λ n. time_parent nodes n.serial) tps) (under : AreTimeChildren nodes tps children) (befores : IsTable nodes (λ n. previous_in_seq nodes n.serial) previous) where
       pub follows_is : (i j : ℕ) (x e : Node) → slice_get nodes i ≡ Some x → slice_get nodes j ≡ Some e → feeds_node nodes x.serial e ≡ follows (row children j) (up previous j) named e i
@@ -224,7 +226,7 @@ module _ (nodes : List Node) (distinct : IsDistinct nodes) where
           ap (λ t. ((has_implicit_duration e && t) || has_serial x.serial (previous_in_seq nodes e.serial)) || list_any (is_sync_with nodes x.serial) (all_items nodes e)) (children_are tps children table under i j x e a b)
           ∙ ap (λ t. ((has_implicit_duration e && lists (row children j) i) || t) || list_any (is_sync_with nodes x.serial) (all_items nodes e)) (ap (has_serial x.serial) (befores.node j e b) ∙ has_at i x (up previous j) a)
           ∙ ap (λ t. ((has_implicit_duration e && lists (row children j) i) || is_place i (up previous j)) || t)
-          (any_same (is_sync_with nodes x.serial) (λ item. is_place i (named_by named item)) (sync_is i x a) (all_items nodes e) ∙ all_any (λ item. is_place i (named_by named item)) refl refl e)
+          (any_same (is_sync_with nodes x.serial) (λ item. is_place i (named_by named item)) (sync_is i x a) (all_items nodes e) ∙ all_any nodes (λ item. is_place i (named_by named item)) refl refl e)
           ∙ assoc ((has_implicit_duration e && lists (row children j) i) || is_place i (up previous j)) (leads_to_place (named_by named) (items_or [] e.attrs.begin) i) (leads_to_place (named_by named) (items_or [] e.attrs.«end») i)
         where
           assoc : (a b c : Bool) → (a || (b || c)) ≡ ((a || b) || c)

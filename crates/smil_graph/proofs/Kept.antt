@@ -7,10 +7,10 @@ use Rattle.std.proofs.Math.ListN.{get_or-eq_default}
 use Rattle.std.proofs.lemmas.Bool.{or_cases, and_parts, eqb-true}
 use Rattle.smil_model.specs.declared.document.Node.{Node}
 use Rattle.smil_model.specs.declared.document.Item.{Item}
-use Rattle.smil_model.specs.declared.document.Item.TheVariants.{Offset, Sync, Event, Repeat, Indefinite}
-use Rattle.smil_model.specs.document.Document.{is_element, elements, element_named, node_at, time_parent, previous_in_seq}
+use Rattle.smil_model.specs.declared.document.Item.TheVariants.{Offset, Sync, Event, Repeat, Key, Indefinite}
+use Rattle.smil_model.specs.document.Document.{is_element, elements, element_named, node_at, time_parent, previous_in_seq, serials}
 use Rattle.smil_model.specs.document.Defaults.{items_or}
-use Rattle.smil_model.specs.document.Dependencies.{feeds, feeds_node, has_implicit_duration, serials}
+use Rattle.smil_model.specs.document.Dependencies.{feeds, feeds_node, has_implicit_duration}
 use Rattle.smil_model.specs.document.Valid.{IsDistinct}
 use Rattle.smil_model.specs.reach.Reach.{reads, reads_node}
 use Rattle.smil_graph.specs.Links.{lists, row, links, that_have, IsRising, AreRows, AreLevels, StayBelow}
@@ -96,6 +96,7 @@ module _ (nodes : List Node) (distinct : IsDistinct nodes) (named : List ℕ →
   named_low i (Sync who edge o) e = ids.below who i (place_is i (named who) e)
   named_low i (Event who name o) e = cc
   named_low i (Repeat who n o) e = cc
+  named_low i (Key key o) e = cc
   named_low i Indefinite e = cc
 
   target_low : (i j : ℕ) → j < length nodes → (who : Option (List ℕ)) → is_place i (target_place named j who) ≡ true → i < length nodes
@@ -107,6 +108,7 @@ module _ (nodes : List Node) (distinct : IsDistinct nodes) (named : List ℕ →
   source_low i j l (Sync who edge o) e = cc
   source_low i j l (Event who name o) e = target_low i j l who e
   source_low i j l (Repeat who n o) e = target_low i j l who e
+  source_low i j l (Key key o) e = cc
   source_low i j l Indefinite e = cc
 
   in_both : (of : Item → Option ℕ) (i : ℕ) → ((item : Item) → is_place i (of item) ≡ true → i < length nodes) → (e : Node) → (leads_to_place of (items_or [] e.attrs.begin) i || leads_to_place of (items_or [] e.attrs.«end») i) ≡ true → i < length nodes
@@ -299,7 +301,7 @@ row_map f none (r ∷ rows) zero = refl
 row_map f none (r ∷ rows) (suc i) = row_map f none rows i
 
 pub readers_are : (nodes : List Node) → IsDistinct nodes → (heads : List (List ℕ)) → AreHeads nodes heads → AreReaders nodes (map (serials_of_places nodes) heads)
-readers_are nodes distinct heads are i x a is =
+readers_are nodes distinct heads are i x a =
     row_map (serials_of_places nodes) refl heads i
     ∙ ap (serials_of_places nodes) (are.each i (there_below nodes i x a))
     ∙ serials_filter nodes (λ j. reads_place nodes j i) (reads nodes x.serial) same

@@ -16,3 +16,5 @@ pub mod Kept
 pub mod Within
 pub mod Samples
 pub mod Ranked
+pub mod Positions
+pub mod Keyed

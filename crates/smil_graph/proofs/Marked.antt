@@ -6,15 +6,15 @@ use Rattle.std.proofs.lemmas.Bool.{or_left, or_right, and_from, eq-eqb}
 use Rattle.std.proofs.lemmas.List.Folds.{list_any-append}
 use Rattle.smil_model.specs.declared.document.Node.{Node}
 use Rattle.smil_model.specs.declared.document.Item.{Item}
-use Rattle.smil_model.specs.declared.document.Item.TheVariants.{Offset, Sync, Event, Repeat, Indefinite}
+use Rattle.smil_model.specs.declared.document.Item.TheVariants.{Offset, Sync, Event, Repeat, Key, Indefinite}
 use Rattle.smil_model.specs.declared.document.Edge.{Edge}
 use Rattle.smil_model.specs.declared.document.Edge.TheVariants.{Begin, End}
 use Rattle.smil_model.specs.document.Document.{is_element, element_named, has_serial, is_in_excl}
-use Rattle.smil_model.specs.document.Defaults.{items_or, begin_list, end_list}
+use Rattle.smil_model.specs.document.Defaults.{items_or, begin_list, end_list, items_of}
 use Rattle.smil_model.specs.document.Dependencies.{feeds_node, is_looped, is_looped_to, is_sync_with, all_items}
 use Rattle.smil_model.specs.document.Valid.{IsDistinct}
 use Rattle.smil_graph.specs.Places.{at_place, IsIndex, named_by, is_on_level, side_of, marks_of, HaveMarks}
-use Rattle.smil_graph.specs.Graph.{items_of, is_looped_item}
+use Rattle.smil_graph.specs.Graph.{is_looped_item}
 use Rattle.smil_graph.specs.Kept.{AreMarks, AreElementLevels}
 use Rattle.smil_graph.proofs.Nodes.{there, there_below}
 use Rattle.smil_graph.proofs.Fed.{feeds_is, there_any_item}
@@ -30,6 +30,7 @@ module _ (nodes : List Node) (distinct : IsDistinct nodes) (named : List ℕ →
   item_is j e b is (Offset o) member = refl
   item_is j e b is (Event who name o) member = refl
   item_is j e b is (Repeat who n o) member = refl
+  item_is j e b is (Key key o) member = refl
   item_is j e b is Indefinite member = refl
   item_is j e b is (Sync who edge o) member = by_place (named who) refl
     where

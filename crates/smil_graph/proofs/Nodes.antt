@@ -36,6 +36,14 @@ each_at P [] p x each q = cc
 each_at P (y ∷ ys) zero x each q = let same : y ≡ x = cc in rw (← same) each.0
 each_at P (y ∷ ys) (suc p) x each q = each_at P ys p x each.1 q
 
+pub find_place : (t : Node → Bool) (ns : List Node) (n : Node) → find t ns ≡ Some n → (k : ℕ) × (slice_get ns k ≡ Some n)
+find_place t [] n q = cc
+find_place t (m ∷ ms) n q = step (t m) q (find_place t ms n)
+  where
+    step : (b : Bool) → cond b (Some m) (find t ms) ≡ Some n → (find t ms ≡ Some n → (k : ℕ) × (slice_get ms k ≡ Some n)) → (k : ℕ) × (slice_get (m ∷ ms) k ≡ Some n)
+    step true r later = (0, r)
+    step false r later = let found = later r in (suc found.0, found.1)
+
 -- an index has the last k nodes
 pub record IsFilled {K : Type 0} (test : K → Node → Bool) (nodes : List Node) (k : ℕ) (index : K → Option ℕ) : Type 0 where
   pub node : (q : K) → find (test q) (drop (length nodes - k) nodes) ≡ at_place nodes (index q)

@@ -14,8 +14,8 @@ use Rattle.std.proofs.lemmas.List.Elements.{filter-append, All-from_recursion}
 use Rattle.std.proofs.lemmas.List.FromFn.{get_or-map-range_with_len}
 use Rattle.std.proofs.lemmas.List.Sorted.{ranks_by, sorted_far, IsPermutation-map, All-permutation}
 use Rattle.smil_model.specs.declared.document.Node.{Node}
-use Rattle.smil_model.specs.document.Document.{is_element, elements, node_at, has_serial, time_parent, is_time_child, previous_in_seq, has_kind, is_seq_kind}
-use Rattle.smil_model.specs.document.Dependencies.{feeds, feeds_node, has_implicit_duration, all_items, is_sync_with, leads_to, serials}
+use Rattle.smil_model.specs.document.Document.{is_element, elements, node_at, has_serial, time_parent, is_time_child, previous_in_seq, has_kind, is_seq_kind, serials}
+use Rattle.smil_model.specs.document.Dependencies.{feeds, feeds_node, has_implicit_duration, all_items, is_sync_with, leads_to}
 use Rattle.smil_model.specs.document.Valid.{IsDistinct}
 use Rattle.smil_graph.specs.declared.ordered.Rank.{Rank}
 use Rattle.smil_graph.specs.Graph.{follows_unlooped, GoesForward, IsOrder}
@@ -25,7 +25,7 @@ use Rattle.smil_graph.specs.Places.{is_place, up, has_element, is_element_at, be
 use Rattle.smil_graph.specs.Ranks.{rank_of, rank_cmp, height_under, AreHeights}
 use Rattle.smil_graph.proofs.Answered.{element_at, only_element}
 use Rattle.smil_graph.proofs.Lists.{front_push, end_push}
-use Rattle.smil_graph.proofs.Nodes.{there_below}
+use Rattle.smil_graph.proofs.Nodes.{there_below, find_place}
 use Rattle.smil_graph.proofs.Pushed.{range_more}
 use Rattle.smil_graph.proofs.Ranges.{filter_below}
 use Rattle.smil_graph.proofs.Follow.{same_place, any_one, has_at, previous_is, previous_low}
@@ -169,14 +169,6 @@ serials_map nodes (r ∷ rs) each = step (slice_get nodes r.place) refl (each 0 
         ap (λ z. with_serial z (serials_of_places nodes (map (λ (q : Rank). q.place) rs))) e
         ∙ ap (λ ss. n.serial ∷ ss) later
         ∙ sym (ap (λ z. serial_or z ∷ map (λ (q : Rank). serial_in nodes q.place) rs) e)
-
-find_place : (t : Node → Bool) (ns : List Node) (n : Node) → find t ns ≡ Some n → (k : ℕ) × (slice_get ns k ≡ Some n)
-find_place t [] n q = cc
-find_place t (m ∷ ms) n q = step (t m) q (find_place t ms n)
-  where
-    step : (b : Bool) → cond b (Some m) (find t ms) ≡ Some n → (find t ms ≡ Some n → (k : ℕ) × (slice_get ms k ≡ Some n)) → (k : ℕ) × (slice_get (m ∷ ms) k ≡ Some n)
-    step true r later = (0, r)
-    step false r later = let found = later r in (suc found.0, found.1)
 
 -- ---- the order
 

@@ -38,7 +38,7 @@ rows_step test k rows new so here = record {
 
 -- ---- one item more
 
-take_item : (items : List Item) (k : ℕ) (item : Item) → slice_get items k ≡ Some item → take (suc k) items ≡ take k items ++ item ∷ []
+pub take_item : (items : List Item) (k : ℕ) (item : Item) → slice_get items k ≡ Some item → take (suc k) items ≡ take k items ++ item ∷ []
 take_item [] k item q = cc
 take_item (x ∷ xs) zero item q = let same : x ≡ item = cc in ap (λ y. y ∷ []) same
 take_item (x ∷ xs) (suc k) item q = ap (λ ys. x ∷ ys) (take_item xs k item q)

@@ -4,18 +4,17 @@ use Rattle.std.specs.Prelude.{cond, ◌==◌, ◌||◌, ◌&&◌, ◌⊎◌, fil
 use Rattle.std.specs.List.{list_any}
 use Rattle.std.proofs.lemmas.Bool.{or_left, or_right, or_cases, and_parts, and_from, eqb-true, eq-eqb}
 use Rattle.smil_model.specs.declared.document.Node.{Node}
-use Rattle.smil_model.specs.document.Document.{Document, is_element, elements, node_at, upwards, ancestors, time_parent, is_within, has_serial}
-use Rattle.smil_model.specs.document.Dependencies.{serials}
+use Rattle.smil_model.specs.document.Document.{Document, is_element, elements, node_at, upwards, ancestors, time_parent, is_within, has_serial, serials}
 use Rattle.smil_model.specs.document.Closure.{has, closure, rounds}
 use Rattle.smil_model.specs.document.Valid.{IsDistinct, IsNumberedTree}
-use Rattle.smil_model.specs.reach.Reach.{reads, reads_node, is_near, shares_parent, near, down}
+use Rattle.smil_model.specs.reach.Reach.{reads, reads_node, is_near, shares_parent, near}
 use Rattle.smil_laws.proofs.Aside.{find_true, each_reverse}
 use Rattle.smil_laws.proofs.Below.{IsChain}
 use Rattle.smil_laws.proofs.Closures.{is_closed, has_set, has_filter}
 use Rattle.smil_laws.proofs.Rounds.{find-serial}
 use Rattle.smil_graph.specs.Links.{lists, links, with_place, IsKept, IsReached, IsRising}
 use Rattle.smil_graph.specs.Places.{at_place, is_place, up, has_element, is_element_at, reads_place, reads_from, IsTable, IsIndex, AreTimeChildren}
-use Rattle.smil_graph.specs.Kept.{AreHeads, AreNear, takes_turns, top_of, serials_of_places}
+use Rattle.smil_graph.specs.Kept.{AreHeads, AreElements, AreNear, AreOf, reach_of, takes_turns, top_of, serials_of_places}
 use Rattle.smil_graph.proofs.Lists.{lists_one}
 use Rattle.smil_graph.proofs.Nodes.{there, there_below, each_at, none_each, upwards_none, parent_place, chain_of, above, by_parent}
 use Rattle.smil_graph.proofs.Ranges.{filter_below, lists_filter, rising_is}
@@ -277,12 +276,12 @@ module _ (document : Document) (tree : IsNumberedTree document) (index : ℕ →
 
   -- ---- the reach
 
-  module _ (heads : List (List ℕ)) (are : AreHeads document.nodes heads) (place : ℕ) (x : Node) (here : slice_get document.nodes place ≡ Some x) (starts found : List ℕ) (begins : AreNear document.nodes place starts) (reached : IsReached heads starts found) where
+  module _ (heads : List (List ℕ)) (are : AreHeads document.nodes heads) (set starts found : List ℕ) (inside : AreElements document.nodes starts) (begins : AreOf document.nodes set starts) (reached : IsReached heads starts found) where
     abbrev every : List ℕ
     every = serials (elements nodes)
 
     abbrev is_reached : ℕ → Bool
-    is_reached s = has (closure (reads nodes) every (near nodes x.serial)) s
+    is_reached s = has (closure (reads nodes) every set) s
 
     abbrev reached_at : Option Node → Bool
     reached_at None = false
@@ -306,15 +305,15 @@ module _ (document : Document) (tree : IsNumberedTree document) (index : ℕ →
         ∙ q
 
     begun : (k : ℕ) → lists starts k ≡ true → reached_at (slice_get nodes k) ≡ true
-    begun k q = by_node (slice_get nodes k) refl (begins.elements k q)
+    begun k q = by_node (slice_get nodes k) refl (inside k q)
       where
         by_node : (o : Option Node) → slice_get nodes k ≡ o → is_element_at nodes k ≡ true → reached_at (slice_get nodes k) ≡ true
         by_node None e r = let never : false ≡ true = sym (ap has_element e) ∙ r in absurd (cc)
         by_node (Some m) e r =
             let is : is_element m ≡ true = sym (ap has_element e) ∙ r in
             let known : has every m.serial ≡ true = all_has nodes distinct k m e is in
-            let is_in : has (near nodes x.serial) m.serial ≡ true = has_filter (is_near nodes x.serial) every m.serial known (sym (begins.near k x m here e is) ∙ q) in
-            ap reached_at e ∙ and_from _ _ is (has_set (reads nodes) every (near nodes x.serial) m.serial known is_in)
+            let is_in : has set m.serial ≡ true = sym (begins.listed k m e is) ∙ q in
+            ap reached_at e ∙ and_from _ _ is (has_set (reads nodes) every set m.serial known is_in)
 
     kept : IsKept heads (λ k. reached_at (slice_get nodes k))
     kept k l t q = by_node (slice_get nodes k) refl t
@@ -325,7 +324,7 @@ module _ (document : Document) (tree : IsNumberedTree document) (index : ℕ →
             let n = link_parts k l m e q in
             let inside = and_parts (is_element m) (is_reached m.serial) (sym (ap reached_at e) ∙ r) in
             ap reached_at n.1
-            ∙ and_from _ _ n.2 (is_closed (reads nodes) every (near nodes x.serial) m.serial (n.0).serial inside.1 (reads_is nodes distinct m.serial l n.0 n.1 ∙ and_from _ _ n.2 n.3) (all_has nodes distinct l n.0 n.1 n.2))
+            ∙ and_from _ _ n.2 (is_closed (reads nodes) every set m.serial (n.0).serial inside.1 (reads_is nodes distinct m.serial l n.0 n.1 ∙ and_from _ _ n.2 n.3) (all_has nodes distinct l n.0 n.1 n.2))
 
     found_is : (k : ℕ) → lists found k ≡ true → reached_at (slice_get nodes k) ≡ true
     found_is k q = reached.least (λ j. reached_at (slice_get nodes j)) begun kept k q
@@ -334,11 +333,10 @@ module _ (document : Document) (tree : IsNumberedTree document) (index : ℕ →
     found_at None = false
     found_at (Some p) = lists found p
 
-    start_found : (s : ℕ) → has (near nodes x.serial) s ≡ true → found_at (index s) ≡ true
+    start_found : (s : ℕ) → has set s ≡ true → found_at (index s) ≡ true
     start_found s q =
-        let parts = filter_parts (is_near nodes x.serial) every s q in
-        let e = all_there nodes distinct s parts.0 in
-        let start : lists starts e.0 ≡ true = begins.near e.0 x e.1 here e.2 e.3 ∙ ap (is_near nodes x.serial) e.4 ∙ parts.1 in
+        let e = all_there nodes distinct s (begins.known s q) in
+        let start : lists starts e.0 ≡ true = begins.listed e.0 e.1 e.2 e.3 ∙ ap (has set) e.4 ∙ q in
         ap (λ u. found_at (index u)) (sym e.4) ∙ ap found_at (place_of nodes distinct index all e.0 e.1 e.2) ∙ reached.begun e.0 start
 
     next_found : (y z : ℕ) → found_at (index y) ≡ true → reads nodes y z ≡ true → has every z ≡ true → found_at (index z) ≡ true
@@ -356,7 +354,7 @@ module _ (document : Document) (tree : IsNumberedTree document) (index : ℕ →
     same_at k m at =
         same_truth (lists found k) (is_element m && is_reached m.serial)
         (λ q. sym (ap reached_at at) ∙ found_is k q)
-        (λ q. sym (ap found_at (place_of nodes distinct index all k m at)) ∙ in_closure (reads nodes) every (near nodes x.serial) (λ s. found_at (index s)) start_found next_found m.serial (and_parts (is_element m) (is_reached m.serial) q).1)
+        (λ q. sym (ap found_at (place_of nodes distinct index all k m at)) ∙ in_closure (reads nodes) every set (λ s. found_at (index s)) start_found next_found m.serial (and_parts (is_element m) (is_reached m.serial) q).1)
 
     in_range : (k : ℕ) → lists found k ≡ true → k < length nodes
     in_range k q = by_node (slice_get nodes k) refl (found_is k q)
@@ -366,11 +364,11 @@ module _ (document : Document) (tree : IsNumberedTree document) (index : ℕ →
         by_node (Some m) e r = there_below nodes k m e
 
     -- the places that were found, in document order, are those of the reach
-    pub reach_is : (sorted : List ℕ) → IsRising sorted → ((i : ℕ) → lists sorted i ≡ lists found i) → serials_of_places document.nodes sorted ≡ down document.nodes x.serial
+    pub reach_is : (sorted : List ℕ) → IsRising sorted → ((i : ℕ) → lists sorted i ≡ lists found i) → serials_of_places document.nodes sorted ≡ reach_of document.nodes set
     reach_is sorted up_to same =
         ap (serials_of_places nodes) (rising_is (lists found) (length nodes) 0 sorted up_to (λ i q. (omega arith, omega (arith, in_range i (sym (same i) ∙ q)))) (λ i l h. same i))
         ∙ serials_filter nodes (lists found) is_reached same_at
-        ∙ own_members (λ y. has (rounds (reads nodes) every (length every) (near nodes x.serial)) y || list_any (λ z. reads nodes z y) (rounds (reads nodes) every (length every) (near nodes x.serial))) every
+        ∙ own_members (λ y. has (rounds (reads nodes) every (length every) set) y || list_any (λ z. reads nodes z y) (rounds (reads nodes) every (length every) set)) every
 
 element_low : (nodes : List Node) (place : ℕ) → is_element_at nodes place ≡ true → place < length nodes
 element_low nodes place is = by_node (slice_get nodes place) refl is
@@ -379,8 +377,19 @@ element_low nodes place is = by_node (slice_get nodes place) refl is
     by_node None e q = let never : false ≡ true = sym (ap has_element e) ∙ q in absurd (cc)
     by_node (Some x) e q = there_below nodes place x e
 
-pub near_low : (nodes : List Node) (place : ℕ) (starts : List ℕ) → AreNear nodes place starts → (i : ℕ) → lists starts i ≡ true → i < length nodes
-near_low nodes place starts begins i q = element_low nodes i (begins.elements i q)
+pub starts_low : (nodes : List Node) (starts : List ℕ) → AreElements nodes starts → (i : ℕ) → lists starts i ≡ true → i < length nodes
+starts_low nodes starts inside i q = element_low nodes i (inside i q)
+
+-- the elements near one are those of the set that its reach begins with
+pub near_are : (nodes : List Node) → IsDistinct nodes → (place : ℕ) (starts : List ℕ) (x : Node) → slice_get nodes place ≡ Some x → AreNear nodes place starts → AreOf nodes (near nodes x.serial) starts
+near_are nodes distinct place starts x here begins = record {
+  known = λ s q. (filter_parts (is_near nodes x.serial) (serials (elements nodes)) s q).0;
+  listed = λ j e b is.
+      begins.near j x e here b is
+      ∙ same_truth (is_near nodes x.serial e.serial) (has (near nodes x.serial) e.serial)
+      (λ q. has_filter (is_near nodes x.serial) (serials (elements nodes)) e.serial (all_has nodes distinct j e b is) q)
+      (λ q. (filter_parts (is_near nodes x.serial) (serials (elements nodes)) e.serial q).1);
+}
 
 pub top_below : (nodes : List Node) (tps : List (Option ℕ)) → IsTable nodes (λ n. time_parent nodes n.serial) tps → (place : ℕ) → is_element_at nodes place ≡ true → top_of nodes (up tps place) place < length nodes
 top_below nodes tps table place is = by_parent (up tps place) refl

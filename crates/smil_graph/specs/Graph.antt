@@ -1,25 +1,22 @@
 -- What the graph of a document answers.
-use Rattle.std.specs.Prelude.{◌≡◌, ℕ, ◌<◌, List, filter, length, Bool, true, false, not, ◌&&◌, ◌||◌, ◌==◌, Option, Some, None, is_some, slice_get, slice_index_or}
+use Rattle.std.specs.Prelude.{◌≡◌, ℕ, ◌<◌, List, filter, length, Bool, true, false, not, ◌&&◌, ◌||◌, ◌==◌, Option, Some, None, slice_get, slice_index_or}
 use Rattle.std.specs.List.{list_any}
 use Rattle.std.specs.List.Sorted.{IsPermutation}
 use Rattle.smil_model.specs.declared.document.Node.{Node}
 use Rattle.smil_model.specs.declared.document.Item.{Item}
 use Rattle.smil_model.specs.declared.document.Edge.{Edge}
 use Rattle.smil_model.specs.declared.document.Edge.TheVariants.{Begin, End}
-use Rattle.smil_model.specs.document.Document.{elements, node_at, has_serial, is_time_child, previous_in_seq}
-use Rattle.smil_model.specs.document.Defaults.{begin_list, end_list}
-use Rattle.smil_model.specs.document.Dependencies.{has_implicit_duration, all_items, is_sync_with, is_looped, leads_to, serials}
+use Rattle.smil_model.specs.document.Document.{elements, node_at, has_serial, is_time_child, previous_in_seq, serials}
+use Rattle.smil_model.specs.document.Defaults.{begin_list, end_list, items_of}
+use Rattle.smil_model.specs.document.Dependencies.{has_implicit_duration, all_items, is_sync_with, is_looped, leads_to}
 use Rattle.smil_model.specs.reach.Reach.{reads}
 
-abbrev pub is_element_of : List Node → ℕ → Bool
-is_element_of nodes serial = is_some (node_at (elements nodes) serial)
+-- the nodes of a document with an order of the elements
+pub record OrderedNodes : Type 0 where
+  pub nodes : List Node
+  pub order : List ℕ
 
 -- ---- looped references
-
--- the items of one side of an element
-abbrev pub items_of : List Node → Edge → Node → List Item
-items_of nodes Begin e = begin_list nodes e
-items_of nodes End e = end_list e
 
 -- where there is no item it is not looped
 abbrev pub is_looped_item : List Node → ℕ → Option Item → Bool

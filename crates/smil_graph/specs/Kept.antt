@@ -1,15 +1,21 @@
 -- What a graph keeps of its document, by places.
-use Rattle.std.specs.Prelude.{◌≡◌, ℕ, ◌<◌, ◌≤◌, List, [], ◌∷◌, length, filter, Bool, true, false, ◌==◌, ◌&&◌, ◌||◌, if◌then◌else◌, Option, Some, None, slice_get, slice_index_or}
-use Rattle.std.specs.List.{range_with_len}
+use Rattle.std.specs.Prelude.{◌≡◌, ℕ, ◌<◌, ◌≤◌, List, [], ◌∷◌, length, filter, Bool, true, false, ◌==◌, ◌&&◌, ◌||◌, if◌then◌else◌, Option, Some, None, nat_eq, slice_get, slice_index_or}
+use Rattle.std.specs.HashMap.{get}
+use Rattle.std.specs.List.{list_any, position, range_with_len}
 use Rattle.smil_model.specs.declared.document.Node.{Node}
+use Rattle.smil_model.specs.declared.document.Item.{Item}
+use Rattle.smil_model.specs.declared.document.Item.TheVariants.{Key}
 use Rattle.smil_model.specs.declared.document.Edge.{Edge}
 use Rattle.smil_model.specs.declared.document.Edge.TheVariants.{Begin, End}
-use Rattle.smil_model.specs.document.Document.{Document, is_element, node_at, time_parent, has_kind, is_seq_kind, is_excl_kind}
-use Rattle.smil_model.specs.document.Dependencies.{feeds, leads_to}
-use Rattle.smil_model.specs.reach.Reach.{is_near}
-use Rattle.smil_graph.specs.Links.{row, lists}
+use Rattle.smil_model.specs.document.Document.{Document, is_element, elements, serials, node_at, time_parent, has_kind, is_seq_kind, is_excl_kind}
+use Rattle.smil_model.specs.document.Dependencies.{feeds, leads_to, all_items}
+use Rattle.smil_model.specs.document.Closure.{closure, has}
+use Rattle.smil_model.specs.reach.Reach.{reads, is_near, is_key_item}
+use Rattle.smil_graph.specs.declared.tables.Tables.{Tables}
+use Rattle.smil_graph.specs.Links.{row, lists, links, AreRows}
 use Rattle.smil_graph.specs.Places.{reads_place, is_element_at, IsIndex, IsTable, AreTimeChildren}
-use Rattle.smil_graph.specs.Graph.{items_of, is_looped_item, readers_of, IsOrder}
+use Rattle.smil_graph.specs.Graph.{is_looped_item, readers_of, IsOrder}
+use Rattle.smil_model.specs.document.Defaults.{items_of, items_or}
 
 -- what rows have at a place that may be absent
 abbrev pub marked_at : List (List Bool) → Option ℕ → ℕ → Bool
@@ -39,7 +45,7 @@ pub record AreHeads (nodes : List Node) (rows : List (List ℕ)) : Type 0 where
 
 -- and their serials
 abbrev pub AreReaders : List Node → List (List ℕ) → Type 0
-AreReaders nodes rows = (i : ℕ) (x : Node) → slice_get nodes i ≡ Some x → is_element x ≡ true → row rows i ≡ readers_of nodes x.serial
+AreReaders nodes rows = (i : ℕ) (x : Node) → slice_get nodes i ≡ Some x → row rows i ≡ readers_of nodes x.serial
 
 -- the serials of the nodes at places
 abbrev pub with_serial : Option Node → List ℕ → List ℕ
@@ -64,14 +70,69 @@ pub record AreNear (nodes : List Node) (place : ℕ) (places : List ℕ) : Type 
   pub elements : (j : ℕ) → lists places j ≡ true → is_element_at nodes j ≡ true
   pub near : (j : ℕ) (x e : Node) → slice_get nodes place ≡ Some x → slice_get nodes j ≡ Some e → is_element e ≡ true → lists places j ≡ is_near nodes x.serial e.serial
 
--- what is kept: places by serial, time parents, time children, looped begins and ends, who reads whom, and an order
-pub record AreTables (document : Document) (places : ℕ → Option ℕ) (parents : List (Option ℕ)) (children : List (List ℕ)) (begins ends : List (List Bool)) (heads readers : List (List ℕ)) (order : List ℕ) : Type 0 where
-  pub indexed : IsIndex document.nodes (node_at document.nodes) places
-  pub above : IsTable document.nodes (λ n. time_parent document.nodes n.serial) parents
-  pub count : length children ≡ length document.nodes
-  pub under : AreTimeChildren document.nodes parents children
-  pub begun : AreMarks document.nodes Begin begins
-  pub ended : AreMarks document.nodes End ends
-  pub headed : AreHeads document.nodes heads
-  pub read : AreReaders document.nodes readers
-  pub ordered : IsOrder document.nodes order
+-- the elements whose serials are in a set, and those that read them, and so on
+abbrev pub reach_of : List Node → List ℕ → List ℕ
+reach_of nodes set = closure (reads nodes) (serials (elements nodes)) set
+
+abbrev pub AreElements : List Node → List ℕ → Type 0
+AreElements nodes places = (j : ℕ) → lists places j ≡ true → is_element_at nodes j ≡ true
+
+-- the places of the elements whose serials are in a set, which has serials of elements alone
+pub record AreOf (nodes : List Node) (set places : List ℕ) : Type 0 where
+  pub known : (s : ℕ) → has set s ≡ true → has (serials (elements nodes)) s ≡ true
+  pub listed : (j : ℕ) (e : Node) → slice_get nodes j ≡ Some e → is_element e ≡ true → lists places j ≡ has set e.serial
+
+-- the place that is given, if there is an element
+abbrev pub element_place : List Node → Option ℕ → Option ℕ
+element_place nodes None = None
+element_place nodes (Some place) = if is_element_at nodes place then Some place else None
+
+-- ---- keys
+
+-- the key that an item waits for
+abbrev pub key_of : Item → Option ℕ
+key_of (Key key offset) = Some key
+key_of _ = None
+
+-- whether the node has an item for the key
+abbrev pub has_key_item : ℕ → Node → Bool
+has_key_item key e =
+    list_any (is_key_item key) (items_or [] e.attrs.begin)
+    || list_any (is_key_item key) (items_or [] e.attrs.«end»)
+
+-- whether there is an element with an item for the key
+abbrev pub waits : List Node → ℕ → Option Node → Bool
+waits nodes key None = false
+waits nodes key (Some e) = is_element e && list_any (is_key_item key) (all_items nodes e)
+
+-- for each key the places of the elements with an item for it
+abbrev pub AreWaiting : List Node → List (List ℕ) → Type 0
+AreWaiting nodes rows = AreRows 256 (λ key place. waits nodes key (slice_get nodes place)) rows
+
+-- the place is put into the rows that pass, and else they are as before
+pub record AreWithPlace (test : ℕ → Bool) (place : ℕ) (old new : List (List ℕ)) : Type 0 where
+  pub count : length new ≡ length old
+  pub each : (i j : ℕ) → links new i j ≡ (links old i j || (test i && (j == place)))
+
+-- ---- ranks
+
+-- the place of each serial in an order
+abbrev pub AreRanks : List ℕ → (ℕ → Option ℕ) → Type 0
+AreRanks order ranks = (s : ℕ) → ranks s ≡ position (λ t. t == s) order
+
+-- ---- tables
+
+-- what is kept: places by serial, time parents, time children, looped begins and ends, who reads whom, who waits for
+-- which key, and an order with ranks
+pub record AreTables (document : Document) (t : Tables) : Type 0 where
+  pub indexed : IsIndex document.nodes (node_at document.nodes) (get nat_eq t.places)
+  pub above : IsTable document.nodes (λ n. time_parent document.nodes n.serial) t.time_parents.items
+  pub count : length t.time_children.items ≡ length document.nodes
+  pub under : AreTimeChildren document.nodes t.time_parents.items t.time_children.items
+  pub begun : AreMarks document.nodes Begin t.begins.items
+  pub ended : AreMarks document.nodes End t.ends.items
+  pub headed : AreHeads document.nodes t.heads.items
+  pub read : AreReaders document.nodes t.readers.items
+  pub waiting : AreWaiting document.nodes t.waiting.items
+  pub ordered : IsOrder document.nodes t.order
+  pub ranked : AreRanks t.order (get nat_eq t.ranks)

@@ -1,5 +1,5 @@
 -- Documents of the tests.
-use Rattle.std.specs.Prelude.{ℕ, pos, List, [], ◌∷◌, Option, Some, codes}
+use Rattle.std.specs.Prelude.{ℕ, pos, List, [], ◌∷◌, Some, codes}
 use Rattle.smil_model.specs.declared.document.Node.{Node}
 use Rattle.smil_model.specs.declared.document.Attrs.{Attrs}
 use Rattle.smil_model.specs.declared.document.Kind.{Kind}
@@ -7,8 +7,7 @@ use Rattle.smil_model.specs.declared.document.Kind.TheVariants.{Par, Excl, Prior
 use Rattle.smil_model.specs.declared.document.Edge.{Edge}
 use Rattle.smil_model.specs.declared.document.Edge.TheVariants.{Begin, End}
 use Rattle.smil_model.specs.declared.document.Item.{Item}
-use Rattle.smil_model.specs.declared.document.Item.TheVariants.{Offset, Sync, Event}
-use Rattle.smil_model.specs.declared.document.Dur.{Dur}
+use Rattle.smil_model.specs.declared.document.Item.TheVariants.{Offset, Sync, Event, Key}
 use Rattle.smil_model.specs.declared.document.Dur.TheVariants.{Clock}
 use Rattle.smil_model.specs.document.Document.{Document}
 use Rattle.smil_model.specs.document.Edits.{no_attrs}
@@ -19,11 +18,8 @@ made serial kind parent attrs = record { serial = serial; kind = kind; parent = 
 abbrev pub named : ℕ → Attrs
 named letter = record no_attrs { id = Some (letter ∷ []) }
 
-abbrev pub lasting : Option Dur → Attrs
-lasting dur = record no_attrs { dur = dur }
-
 abbrev pub minute : Attrs
-minute = lasting (Some (Clock (pos 60_000)))
+minute = record no_attrs { dur = Some (Clock (pos 60_000)) }
 
 abbrev pub beginning : Attrs → List Item → Attrs
 beginning attrs items = record attrs { begin = Some items }
@@ -34,32 +30,18 @@ ending attrs items = record attrs { «end» = Some items }
 abbrev pub sync : ℕ → Edge → Item
 sync letter edge = Sync (letter ∷ []) edge (pos 0)
 
--- a and b begin at each other's begins or ends, a at 0 besides; c ends at its own begin
-abbrev pub circle : Edge → Document
-circle edge = record {
+-- a and b begin at each other's ends, a at 0 besides; c ends at its own begin
+abbrev pub circle : Document
+circle = record {
   nodes =
       made 1 Par 0 minute
-      ∷ made 2 Audio 1 (beginning (named 97) (Offset (pos 0) ∷ sync 98 edge ∷ []))
-      ∷ made 3 Audio 1 (beginning (named 98) (sync 97 edge ∷ []))
+      ∷ made 2 Audio 1 (beginning (named 97) (Offset (pos 0) ∷ sync 98 End ∷ []))
+      ∷ made 3 Audio 1 (beginning (named 98) (sync 97 End ∷ []))
       ∷ made 4 Img 1 (ending (named 99) (sync 99 Begin ∷ [])) ∷ [];
   next = 5;
 }
 
--- a child that begins at the end of its par
-abbrev pub held : Option Dur → Document
-held dur = record {
-  nodes = made 1 Par 0 (record (lasting dur) { id = Some (112 ∷ []) }) ∷ made 2 Text 1 (beginning no_attrs (sync 112 End ∷ [])) ∷ [];
-  next = 3;
-}
-
--- a par of two pars with an image each
-abbrev pub pars : Document
-pars = record {
-  nodes = made 1 Par 0 minute ∷ made 2 Par 1 minute ∷ made 3 Img 2 minute ∷ made 4 Par 1 minute ∷ made 5 Img 4 minute ∷ [];
-  next = 6;
-}
-
--- a par that an excl may pause, with a child that is read from outside
+-- a par that an excl may pause, with a child that waits for a key and is read from outside
 abbrev pub paused : Document
 paused = record {
   nodes =
@@ -67,7 +49,7 @@ paused = record {
       ∷ made 2 Excl 1 minute
       ∷ made 3 PriorityClass 2 no_attrs
       ∷ made 4 Par 3 no_attrs
-      ∷ made 5 Audio 4 (named 110)
+      ∷ made 5 Audio 4 (beginning (named 110) (Key 120 (pos 0) ∷ []))
       ∷ made 6 Text 3 (beginning no_attrs (Event (Some (107 ∷ [])) (codes "click") (pos 0) ∷ []))
       ∷ made 7 Text 1 (beginning no_attrs (sync 110 End ∷ []))
       ∷ made 8 Img 1 (named 107) ∷ [];

@@ -12,7 +12,8 @@ ghost use Rattle.smil_model.specs.document.Valid.{IsNumberedTree, IsDistinct};
 
 use super::outline::{is_element, place_at, previous_in_seqs};
 use super::row::{Row, push_all, push_one, row_at};
-use smil_model::{Attrs, Bytes, Doc, Dur, Item, Items, Node};
+use smil_duration::takes_implicit;
+use smil_model::{Attrs, Bytes, Doc, Item, Items, Node};
 use std::alloc::{AllocError, Global};
 use std::collections::HashMap;
 
@@ -133,17 +134,6 @@ fn push_heard_by(
     }
     push_heard(row, &node.attrs.begin, ids, place)?;
     push_heard(row, &node.attrs.end, ids, place)
-}
-
-/// Whether the simple duration is the implicit one.
-fn takes_implicit(attrs: &Attrs) -> bool
-    ensures { result ≡ defaults.takes_implicit attrs.now attrs.now.dur }
-{
-    match attrs.dur {
-        Some(Dur::Media) => true,
-        Some(_) => false,
-        None => attrs.repeat_count.is_some() || attrs.repeat_dur.is_some() || attrs.end.is_none(),
-    }
 }
 
 /// Appends the places of the elements to whose begins or ends the items refer.

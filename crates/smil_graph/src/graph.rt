@@ -1,26 +1,28 @@
 //! The graph of a document.
 
-ghost use Rattle.std.specs.Prelude.{◌≡◌, ◌++◌, ℕ, Some, true, take, nat_eq, slice_get, OnOk, OnErr, IfOk};
+ghost use Rattle.std.specs.Prelude.{◌≡◌, ◌==◌, ◌++◌, ℕ, List, Some, true, take, nat_eq, slice_get, OnOk, OnErr, IfOk};
 ghost use Rattle.std.specs.HashMap.{get};
+ghost use Rattle.std.specs.List.{position};
 ghost use Rattle.smil_model.specs.document.Valid.{IsNumberedTree};
 ghost use Rattle.smil_model.specs.reach.Reach as model;
-ghost use Rattle.smil_graph.specs.Graph.{is_element_of, looped_at, readers_of, IsOrder};
+ghost use Rattle.smil_graph.specs.Graph.{looped_at, readers_of, IsOrder};
 ghost use Rattle.smil_model.specs.declared.document.Node.{Node as AnyNode};
-ghost use Rattle.smil_graph.specs.Kept.{marked_at, row_of, AreTables};
+ghost use Rattle.smil_graph.specs.Kept.{marked_at, row_of, element_place, reach_of, AreElements, AreOf, AreTables};
 ghost use Rattle.smil_graph.specs.Places.{is_element_at};
 
 use super::near::near;
-use super::row::Row;
+use super::outline::is_element_at;
+use super::row::{Row, row_at};
 use super::search::search;
-use super::tables::{Tables, serials_at, tables_of};
+use super::tables::{Tables, serials_at, tables_like, tables_of};
 use smil_model::{Doc, Duplicate, Edge, Serials};
 use smil_tree::Tree;
 use std::alloc::{AllocError, Global};
 use std::collections::HashMap;
 use std::marker::Model;
 
-/// The graph of a document, seen as the document's nodes: which elements read which, which references are looped, and in
-/// what order to take the elements.
+/// The graph of a document, seen as the document's nodes with an order of the elements: which elements read which, which
+/// references are looped, and in what order to take the elements.
 #[derive(Debug, Drop)]
 pub struct Graph {
     doc: Doc,
@@ -29,22 +31,26 @@ pub struct Graph {
 }
 
 impl Model for Graph {
-    ghost use Rattle.std.specs.Prelude.{List, nat_eq};
-    ghost use Rattle.std.specs.HashMap.{get};
-    ghost use Rattle.smil_model.specs.declared.document.Node.{Node};
     ghost use Rattle.smil_model.specs.document.Valid.{IsNumberedTree};
+    ghost use Rattle.smil_graph.specs.Graph.{OrderedNodes};
     ghost use Rattle.smil_graph.specs.Kept.{AreTables};
 
-    ghost Value = { List Node };
+    ghost Value = { OrderedNodes };
 
-    ghost view = { λ a. a.doc.nodes };
+    ghost view = { λ a. record { nodes = a.doc.nodes; order = a.tables.order } };
 
-    ghost invariant = { λ a. IsNumberedTree a.doc × AreTables a.doc (get nat_eq a.tables.places) a.tables.time_parents.items a.tables.time_children.items a.tables.begins.items a.tables.ends.items a.tables.heads.items a.tables.readers.items a.tables.order };
+    ghost invariant = { λ a. IsNumberedTree a.doc × AreTables a.doc a.tables };
 }
 
 impl Duplicate for Graph {
     fn copy(&self) -> Result<Self, AllocError> {
-        Graph::of_doc(self.alloc, &self.doc)
+        let doc = self.doc.copy()?;
+        let tables = tables_like(self.alloc, &doc, &self.tables)?;
+        Ok(Graph {
+            doc,
+            tables,
+            alloc: self.alloc,
+        })
     }
 }
 
@@ -52,7 +58,7 @@ impl Graph {
     /// The graph of the document that a tree stands for, unless memory runs out. The time grows about as the number of nodes
     /// and references.
     pub fn of(alloc: Global, tree: &Tree) -> Result<Graph, AllocError>
-        ensures { IfOk result (λ graph. graph ≡ tree.now.nodes) }
+        ensures { IfOk result (λ graph. graph.nodes ≡ tree.now.nodes) }
     {
         Graph::over(alloc, tree.doc_copy()?)
     }
@@ -61,7 +67,7 @@ impl Graph {
     /// out. It keeps a copy of the document. The time grows about as the number of nodes and references.
     pub fn of_doc(alloc: Global, doc: &Doc) -> Result<Graph, AllocError>
         requires { IsNumberedTree doc.now }
-        ensures { IfOk result (λ graph. graph ≡ doc.now.nodes) }
+        ensures { IfOk result (λ graph. graph.nodes ≡ doc.now.nodes) }
     {
         Graph::over(alloc, doc.copy()?)
     }
@@ -69,7 +75,7 @@ impl Graph {
     /// The graph of a document that it keeps.
     fn over(alloc: Global, doc: Doc) -> Result<Graph, AllocError>
         requires { IsNumberedTree doc }
-        ensures { IfOk result (λ graph. graph ≡ doc.nodes) }
+        ensures { IfOk result (λ graph. graph.nodes ≡ doc.nodes) }
     {
         let tables = tables_of(alloc, &doc)?;
         Ok(Graph { doc, tables, alloc })
@@ -78,7 +84,7 @@ impl Graph {
     /// Whether an item, counted from 0, of the begins or ends of an element is a looped reference; false for an item of
     /// another kind, past the last item, and for a serial of no element. It takes no memory.
     pub fn looped(&self, serial: u32, side: Edge, item: usize) -> bool
-        ensures { result ≡ looped_at self.now serial side item }
+        ensures { result ≡ looped_at self.now.nodes serial side item }
     {
         let place = place_of(&self.tables.places, serial);
         match side {
@@ -88,10 +94,9 @@ impl Graph {
     }
 
     /// The elements that read an element, in document order: those whose times follow from its times, and those with an
-    /// event or repeat item that means it. It takes no memory.
+    /// event or repeat item that means it; none for a serial of no element. It takes no memory.
     pub fn readers(&self, serial: u32) -> &[u32]
-        requires { is_element_of self.now serial ≡ true }
-        ensures { result.now ≡ readers_of self.now serial }
+        ensures { result.now ≡ readers_of self.now.nodes serial }
     {
         row_of(
             self.tables.readers.as_slice(),
@@ -101,19 +106,26 @@ impl Graph {
 
     /// The elements in an order in which each dependency that is not looped goes forward. It takes no memory.
     pub fn order(&self) -> &[u32]
-        ensures { IsOrder self.now result.now }
+        ensures kept { result.now ≡ self.now.order }
+        ensures order { IsOrder self.now.nodes result.now }
     {
         self.tables.order.slice()
     }
 
-    /// Appends the reach of an element, in document order. Where memory runs out `out` is as before. It takes time and
-    /// memory for what is reached and for those that read it.
+    /// The place of an element in the order, from 0; None exactly for a serial of no element. It takes no memory.
+    pub fn place_in_order(&self, serial: u32) -> Option<usize>
+        ensures { result ≡ position (λ s. s == serial) self.now.order }
+    {
+        place_of(&self.tables.ranks, serial)
+    }
+
+    /// Appends the reach of an element, in document order; nothing for a serial of no element. Where memory runs out `out`
+    /// is as before. It takes time and memory for what is reached and for those that read it.
     pub fn down(&self, serial: u32, out: &mut Serials) -> Result<(), AllocError>
-        requires { is_element_of self.now serial ≡ true }
-        ensures ok { OnOk result (out.new ≡ out.old ++ model.down self.now serial) }
+        ensures ok { OnOk result (out.new ≡ out.old ++ model.down_from self.now.nodes (Some serial)) }
         ensures err { OnErr result (out.new ≡ out.old) }
     {
-        match place_of(&self.tables.places, serial) {
+        match element_place(&self.doc, &self.tables.places, serial) {
             Some(place) => {
                 let reach = reach_at(self.alloc, &self.doc, &self.tables, place)?;
                 append(out, reach.slice())
@@ -121,12 +133,24 @@ impl Graph {
             None => Ok(()),
         }
     }
+
+    /// Appends the reach of an access key, in document order: the elements that have an item for the key, and with each one
+    /// those that read it. Where memory runs out `out` is as before. It takes time and memory for what is reached and for
+    /// those that read it.
+    pub fn down_key(&self, key: u8, out: &mut Serials) -> Result<(), AllocError>
+        ensures ok { OnOk result (out.new ≡ out.old ++ model.down_key self.now.nodes key) }
+        ensures err { OnErr result (out.new ≡ out.old) }
+    {
+        let starts = row_at(self.tables.waiting.as_slice(), key as usize);
+        let reach = reach_from(self.alloc, &self.doc, &self.tables, starts)?;
+        append(out, reach.slice())
+    }
 }
 
 /// The reach of the element at a place, in document order.
 fn reach_at(alloc: Global, doc: &Doc, tables: &Tables, place: usize) -> Result<Row<u32>, AllocError>
     requires tree { IsNumberedTree doc.now }
-    requires tables { AreTables doc.now (get nat_eq tables.now.places) tables.now.time_parents.items tables.now.time_children.items tables.now.begins.items tables.now.ends.items tables.now.heads.items tables.now.readers.items tables.now.order }
+    requires tables { AreTables doc.now tables.now }
     requires element { is_element_at doc.now.nodes place ≡ true }
     ensures { IfOk result (λ reach. (x : AnyNode) → slice_get doc.now.nodes place ≡ Some x → reach ≡ model.down doc.now.nodes x.serial) }
 {
@@ -137,9 +161,34 @@ fn reach_at(alloc: Global, doc: &Doc, tables: &Tables, place: usize) -> Result<R
         tables.time_children.as_slice(),
         place,
     )?;
-    let mut found = search(alloc, tables.heads.as_slice(), starts.as_slice())?;
+    reach_from(alloc, doc, tables, starts.as_slice())
+}
+
+/// What is reached from the elements at these places, in document order.
+fn reach_from(
+    alloc: Global,
+    doc: &Doc,
+    tables: &Tables,
+    starts: &[usize],
+) -> Result<Row<u32>, AllocError>
+    requires tree { IsNumberedTree doc.now }
+    requires tables { AreTables doc.now tables.now }
+    requires elements { AreElements doc.now.nodes starts.now }
+    ensures { IfOk result (λ reach. (set : List ℕ) → AreOf doc.now.nodes set starts.now → reach ≡ reach_of doc.now.nodes set) }
+{
+    let mut found = search(alloc, tables.heads.as_slice(), starts)?;
     found.sort_unstable()?;
     serials_at(alloc, doc, found.as_slice())
+}
+
+/// The place of a serial that is an element's.
+fn element_place(doc: &Doc, places: &HashMap<u32, usize>, serial: u32) -> Option<usize>
+    ensures { result ≡ element_place doc.now.nodes (get nat_eq places.now serial) }
+{
+    match place_of(places, serial) {
+        Some(place) if is_element_at(doc, place) => Some(place),
+        _ => None,
+    }
 }
 
 /// Appends these serials. Where memory runs out the list is as before.

@@ -10,6 +10,7 @@ mod near;
 mod ordered;
 mod outline;
 mod places;
+mod ranks;
 mod row;
 mod search;
 mod stack;
@@ -17,5 +18,6 @@ mod tables;
 #[cfg(test)]
 mod tests;
 mod turned;
+mod waiting;
 
 pub use graph::Graph;

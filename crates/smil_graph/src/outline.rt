@@ -17,10 +17,7 @@ use std::collections::HashMap;
 pub fn is_element(node: &Node) -> bool
     ensures { result ≡ model.is_element node.now }
 {
-    match node.kind {
-        Kind::PriorityClass => false,
-        _ => true,
-    }
+    node.kind.is_element()
 }
 
 /// For each node the place of its parent.

@@ -48,6 +48,17 @@ impl<T: Drop> Row<T> {
     }
 }
 
+/// The row of these serials.
+pub fn row_of(alloc: Global, serials: &[u32]) -> Result<Row<u32>, AllocError>
+    ensures { IfOk result (λ row. row ≡ serials.now) }
+{
+    let mut row = Row::new(alloc);
+    for serial in serials {
+        row.push(*serial)?;
+    }
+    Ok(row)
+}
+
 /// So many empty rows.
 pub fn empty_rows(alloc: Global, count: usize) -> Result<Vec<Row<usize>>, AllocError>
     ensures count { IfOk result (λ rows. length rows.items ≡ count) }

@@ -1,12 +1,13 @@
 //! What a graph keeps of its document.
 
-ghost use Rattle.std.specs.Prelude.{◌≡◌, List, nat_eq, length, bytes_eq, IfOk};
-ghost use Rattle.std.specs.HashMap.{get, get_by};
+ghost use Rattle.std.specs.Prelude.{◌≡◌, List, length, bytes_eq, IfOk};
+ghost use Rattle.std.specs.HashMap.{get_by};
 ghost use Rattle.smil_model.specs.document.Document.{element_named};
 ghost use Rattle.smil_model.specs.document.Valid.{IsNumberedTree, IsDistinct};
 ghost use Rattle.smil_model.specs.declared.document.Node.{Node};
 ghost use Rattle.smil_graph.specs.Links.{AreRows, StayBelow};
 ghost use Rattle.smil_graph.specs.Places.{IsIndex, feeds_place};
+ghost use Rattle.smil_graph.specs.Graph.{IsOrder};
 ghost use Rattle.smil_graph.specs.Kept.{AreElementLevels, AreHeads, AreReaders, AreTables, serials_of_places};
 
 use super::feeders::{feeders, sources};
@@ -15,8 +16,10 @@ use super::looped::looped_marks;
 use super::ordered::ordered;
 use super::outline::{parents, time_children, time_parents};
 use super::places::{id_places, serial_places};
-use super::row::Row;
+use super::ranks::ranks_of;
+use super::row::{Row, row_of};
 use super::turned::turned;
+use super::waiting::waiting;
 use smil_model::{Doc, Edge};
 use std::alloc::{AllocError, Global};
 use std::collections::HashMap;
@@ -31,13 +34,15 @@ pub struct Tables {
     pub ends: Vec<Row<bool>>,
     pub heads: Vec<Row<usize>>,
     pub readers: Vec<Row<u32>>,
+    pub waiting: Vec<Row<usize>>,
     pub order: Row<u32>,
+    pub ranks: HashMap<u32, usize>,
 }
 
 /// What the graph of a document keeps.
 pub fn tables_of(alloc: Global, doc: &Doc) -> Result<Tables, AllocError>
     requires { IsNumberedTree doc.now }
-    ensures { IfOk result (λ t. AreTables doc.now (get nat_eq t.places) t.time_parents.items t.time_children.items t.begins.items t.ends.items t.heads.items t.readers.items t.order) }
+    ensures { IfOk result (λ t. AreTables doc.now t) }
 {
     let places = serial_places(alloc, doc)?;
     let parents = parents(alloc, doc, &places)?;
@@ -53,16 +58,33 @@ pub fn tables_of(alloc: Global, doc: &Doc) -> Result<Tables, AllocError>
     )?;
     let levels = element_levels(alloc, feeders.as_slice())?;
     let heads = heads(alloc, doc, feeders.as_slice(), &ids)?;
+    let order = ordered(alloc, doc, levels.as_slice(), time_parents.as_slice())?;
     Ok(Tables {
         begins: looped_marks(alloc, doc, &ids, levels.as_slice(), Edge::Begin)?,
         ends: looped_marks(alloc, doc, &ids, levels.as_slice(), Edge::End)?,
         readers: readers(alloc, doc, heads.as_slice())?,
-        order: ordered(alloc, doc, levels.as_slice(), time_parents.as_slice())?,
+        waiting: waiting(alloc, doc)?,
+        ranks: ranks_of(alloc, order.slice())?,
+        order,
         places,
         time_parents,
         time_children,
         heads,
     })
+}
+
+/// What the graph of a document keeps, with the order that other tables of it have.
+pub fn tables_like(alloc: Global, doc: &Doc, other: &Tables) -> Result<Tables, AllocError>
+    requires tree { IsNumberedTree doc.now }
+    requires ordered { IsOrder doc.now.nodes other.now.order }
+    ensures tables { IfOk result (λ t. AreTables doc.now t) }
+    ensures order { IfOk result (λ t. t.order ≡ other.now.order) }
+{
+    let mut tables = tables_of(alloc, doc)?;
+    let order = row_of(alloc, other.order.slice())?;
+    tables.ranks = ranks_of(alloc, order.slice())?;
+    tables.order = order;
+    Ok(tables)
 }
 
 /// A level for each node, from the rows of what each element's times follow from.

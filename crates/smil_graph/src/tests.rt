@@ -1,15 +1,12 @@
 //! Graphs of small documents.
 
-ghost use Rattle.std.specs.Prelude.{◌≡◌, [], ◌∷◌, Some, pos, true, codes, IfOk, OnOk};
+ghost use Rattle.std.specs.Prelude.{◌≡◌, [], ◌∷◌, Some, pos, codes, IfOk, OnOk};
 ghost use Rattle.smil_model.specs.declared.document.Item.TheVariants.{Event};
 ghost use Rattle.smil_model.specs.document.Document.{with_node};
-ghost use Rattle.smil_model.specs.document.Valid.{IsValid};
-ghost use Rattle.smil_graph.specs.Graph.{is_element_of};
 ghost use Rattle.smil_graph.specs.Samples as samples;
 
 use super::Graph;
 use smil_model::{Attrs, Bytes, Doc, Duplicate, Dur, Edge, Item, Items, Kind, Node, Serials};
-use smil_outline::Builder;
 use std::alloc::{AllocError, Global};
 use std::test::Fail;
 
@@ -34,19 +31,12 @@ fn named(alloc: Global, letter: u8) -> Result<Attrs, AllocError>
     Ok(attrs)
 }
 
-// A duration.
-fn lasting(dur: Option<Dur>) -> Attrs
-    ensures { result ≡ samples.lasting dur }
-{
-    let mut attrs = Attrs::none();
-    attrs.dur = dur;
-    attrs
-}
-
 fn minute() -> Attrs
     ensures { result ≡ samples.minute }
 {
-    lasting(Some(Dur::Clock(60_000)))
+    let mut attrs = Attrs::none();
+    attrs.dur = Some(Dur::Clock(60_000));
+    attrs
 }
 
 // A reference to the element whose id is this letter.
@@ -68,23 +58,28 @@ fn beginning(mut attrs: Attrs, items: Items) -> Attrs
     attrs
 }
 
-// Whether an item is looped, without what the contract says of it, so that no proof computes it.
+// The calls without what their contracts say, so that no proof computes it.
 fn is_looped(graph: &Graph, serial: u32, side: Edge, item: usize) -> bool {
     graph.looped(serial, side, item)
 }
 
-fn readers(graph: &Graph, serial: u32) -> &[u32]
-    requires { is_element_of graph.now serial ≡ true }
-{
+fn readers(graph: &Graph, serial: u32) -> &[u32] {
     graph.readers(serial)
 }
 
-// What the graph reaches from an element.
-fn reach(alloc: Global, graph: &Graph, serial: u32) -> Result<Serials, AllocError>
-    requires { is_element_of graph.now serial ≡ true }
-{
+fn place(graph: &Graph, serial: u32) -> Option<usize> {
+    graph.place_in_order(serial)
+}
+
+fn reach(alloc: Global, graph: &Graph, serial: u32) -> Result<Serials, AllocError> {
     let mut out = Serials::new(alloc);
     graph.down(serial, &mut out)?;
+    Ok(out)
+}
+
+fn reach_of_key(alloc: Global, graph: &Graph, key: u8) -> Result<Serials, AllocError> {
+    let mut out = Serials::new(alloc);
+    graph.down_key(key, &mut out)?;
     Ok(out)
 }
 
@@ -96,13 +91,13 @@ fn listed(alloc: Global, serials: &[u32]) -> Result<Serials, AllocError> {
     Ok(list)
 }
 
-fn circle(alloc: Global, edge: Edge) -> Result<Doc, AllocError>
-    ensures { IfOk result (λ doc. doc ≡ samples.circle edge) }
+fn circle(alloc: Global) -> Result<Doc, AllocError>
+    ensures { IfOk result (λ doc. doc ≡ samples.circle) }
 {
     let mut doc = Doc::new(alloc, 5);
     put(&mut doc, 1, Kind::Par, 0, minute())?;
     let mut begins = Items::new(alloc, Item::Offset { offset: 0 })?;
-    begins.push(sync(alloc, b'b', edge)?)?;
+    begins.push(sync(alloc, b'b', Edge::End)?)?;
     put(
         &mut doc,
         2,
@@ -110,7 +105,7 @@ fn circle(alloc: Global, edge: Edge) -> Result<Doc, AllocError>
         1,
         beginning(named(alloc, b'a')?, begins),
     )?;
-    let begins = Items::new(alloc, sync(alloc, b'a', edge)?)?;
+    let begins = Items::new(alloc, sync(alloc, b'a', Edge::End)?)?;
     put(
         &mut doc,
         3,
@@ -124,88 +119,25 @@ fn circle(alloc: Global, edge: Edge) -> Result<Doc, AllocError>
     Ok(doc)
 }
 
-fn circle_graph(alloc: Global, edge: Edge) -> Result<Graph, AllocError>
-    ensures { IfOk result (λ graph. graph ≡ (samples.circle edge).nodes) }
-{
-    let doc = circle(alloc, edge)?;
+fn circle_graph(alloc: Global) -> Result<Graph, AllocError> {
+    let doc = circle(alloc)?;
     Graph::of_doc(alloc, &doc)
 }
 
-// By ends the cycle is legal, by begins neither begins: in both all of its references are looped.
+// All references of a legal cycle are looped, and one to the element itself; a copy answers the same.
 #[test]
 fn a_cycle_and_a_self_reference(rt: HostRuntime) -> Result<(), Fail> {
-    for edge in [Edge::End, Edge::Begin] {
-        let graph = circle_graph(rt.alloc(), edge)?;
-        assert!(rt; !is_looped(&graph, 2, Edge::Begin, 0));
-        assert!(rt; is_looped(&graph, 2, Edge::Begin, 1));
-        assert!(rt; is_looped(&graph, 3, Edge::Begin, 0));
-        assert!(rt; is_looped(&graph, 4, Edge::End, 0));
-        assert_eq!(rt; readers(&graph, 2), [3].as_slice());
-        assert_eq!(rt; readers(&graph, 4), [4].as_slice());
-        assert_eq!(rt;
-            reach(rt.alloc(), &graph, 2)?,
-            listed(rt.alloc(), &[1, 2, 3])?
-        );
-    }
-    Ok(())
-}
-
-fn held(alloc: Global, dur: Option<Dur>) -> Result<Doc, AllocError>
-    ensures { IfOk result (λ doc. doc ≡ samples.held dur) }
-{
-    let mut doc = Doc::new(alloc, 3);
-    let mut root = lasting(dur);
-    root.id = Some(Bytes::of(alloc, b"p")?);
-    put(&mut doc, 1, Kind::Par, 0, root)?;
-    let begins = Items::new(alloc, sync(alloc, b'p', Edge::End)?)?;
-    put(&mut doc, 2, Kind::Text, 1, beginning(Attrs::none(), begins))?;
-    Ok(doc)
-}
-
-fn held_graph(alloc: Global, dur: Option<Dur>) -> Result<Graph, AllocError>
-    ensures { IfOk result (λ graph. graph ≡ (samples.held dur).nodes) }
-{
-    let doc = held(alloc, dur)?;
-    Graph::of_doc(alloc, &doc)
-}
-
-#[test]
-fn a_dur_taken_away_closes_a_cycle(rt: HostRuntime) -> Result<(), Fail> {
-    let graph = held_graph(rt.alloc(), Some(Dur::Clock(10_000)))?;
+    let graph = circle_graph(rt.alloc())?.copy()?;
     assert!(rt; !is_looped(&graph, 2, Edge::Begin, 0));
-    assert_eq!(rt; graph.order(), [1, 2].as_slice());
-    assert_eq!(rt; readers(&graph, 2), [].as_slice());
-    let graph = held_graph(rt.alloc(), None)?.copy()?;
-    assert!(rt; is_looped(&graph, 2, Edge::Begin, 0));
-    assert_eq!(rt; graph.order(), [2, 1].as_slice());
-    assert_eq!(rt; readers(&graph, 2), [1].as_slice());
-    Ok(())
-}
-
-fn pars_graph(alloc: Global) -> Result<Graph, AllocError>
-    ensures { IfOk result (λ graph. graph ≡ samples.pars.nodes) }
-{
-    let mut doc = Doc::new(alloc, 6);
-    put(&mut doc, 1, Kind::Par, 0, minute())?;
-    put(&mut doc, 2, Kind::Par, 1, minute())?;
-    put(&mut doc, 3, Kind::Img, 2, minute())?;
-    put(&mut doc, 4, Kind::Par, 1, minute())?;
-    put(&mut doc, 5, Kind::Img, 4, minute())?;
-    Graph::of_doc(alloc, &doc)
-}
-
-#[test]
-fn reaches_of_a_par_of_pars(rt: HostRuntime) -> Result<(), Fail> {
-    let graph = pars_graph(rt.alloc())?;
-    assert_eq!(rt;
-        reach(rt.alloc(), &graph, 1)?,
-        listed(rt.alloc(), &[1, 2, 3, 4, 5])?
-    );
+    assert!(rt; is_looped(&graph, 2, Edge::Begin, 1));
+    assert!(rt; is_looped(&graph, 3, Edge::Begin, 0));
+    assert!(rt; is_looped(&graph, 4, Edge::End, 0));
+    assert_eq!(rt; readers(&graph, 2), [3].as_slice());
+    assert_eq!(rt; readers(&graph, 4), [4].as_slice());
     assert_eq!(rt;
         reach(rt.alloc(), &graph, 2)?,
         listed(rt.alloc(), &[1, 2, 3])?
     );
-    assert_eq!(rt; reach(rt.alloc(), &graph, 3)?, listed(rt.alloc(), &[2, 3])?);
     Ok(())
 }
 
@@ -232,7 +164,20 @@ fn paused(alloc: Global) -> Result<Doc, AllocError>
     put(&mut doc, 2, Kind::Excl, 1, minute())?;
     put(&mut doc, 3, Kind::PriorityClass, 2, Attrs::none())?;
     put(&mut doc, 4, Kind::Par, 3, Attrs::none())?;
-    put(&mut doc, 5, Kind::Audio, 4, named(alloc, b'n')?)?;
+    let key = Items::new(
+        alloc,
+        Item::Key {
+            key: b'x',
+            offset: 0,
+        },
+    )?;
+    put(
+        &mut doc,
+        5,
+        Kind::Audio,
+        4,
+        beginning(named(alloc, b'n')?, key),
+    )?;
     put(
         &mut doc,
         6,
@@ -246,53 +191,26 @@ fn paused(alloc: Global) -> Result<Doc, AllocError>
     Ok(doc)
 }
 
-fn paused_graph(alloc: Global) -> Result<Graph, AllocError>
-    ensures { IfOk result (λ graph. graph ≡ samples.paused.nodes) }
-{
+fn paused_graph(alloc: Global) -> Result<Graph, AllocError> {
     let doc = paused(alloc)?;
     Graph::of_doc(alloc, &doc)
 }
 
-// The second child of the excl's class reaches the excl, the first with its child, and what reads that from outside.
+// The second child of the excl's class reaches the excl, the first with its child, and what reads that from outside; the
+// key reaches the child that waits for it, and what reads that. The class is no element.
 #[test]
 fn a_paused_par_is_read_from_outside(rt: HostRuntime) -> Result<(), Fail> {
     let graph = paused_graph(rt.alloc())?;
     assert_eq!(rt; readers(&graph, 5), [4, 7].as_slice());
-    assert_eq!(rt; readers(&graph, 8), [6].as_slice());
+    assert_eq!(rt; readers(&graph, 3), [].as_slice());
+    assert_eq!(rt; place(&graph, 3), None);
     assert_eq!(rt;
         reach(rt.alloc(), &graph, 6)?,
         listed(rt.alloc(), &[2, 4, 5, 6, 7])?
     );
     assert_eq!(rt;
-        reach(rt.alloc(), &graph, 8)?,
-        listed(rt.alloc(), &[1, 6, 8])?
+        reach_of_key(rt.alloc(), &graph, b'x')?,
+        listed(rt.alloc(), &[4, 5, 7])?
     );
-    Ok(())
-}
-
-// A par with so many elements, each of which begins with the one before it.
-fn chain(alloc: Global, count: usize) -> Result<Doc, Fail>
-    ensures { IfOk result IsValid }
-{
-    let mut builder = Builder::new(alloc)?;
-    builder.push(b"par id=\"s0\" dur=\"60s\"")?;
-    for place in 0..count {
-        let next = place.wrapping_add(1);
-        let line = format!(in alloc; "  img id=\"s{next}\" begin=\"s{place}.begin\"")?;
-        builder.push(line.as_bytes())?;
-    }
-    Ok(builder.finish()?)
-}
-
-// No call goes as deep as the chain is long.
-#[test]
-fn a_long_chain(rt: HostRuntime) -> Result<(), Fail> {
-    let doc = chain(rt.alloc(), 1_999)?;
-    let graph = Graph::of_doc(rt.alloc(), &doc)?;
-    let order = graph.order();
-    assert_eq!(rt; order.len(), 2_000);
-    assert_eq!(rt; order.first().copied(), Some(1));
-    assert_eq!(rt; order.last().copied(), Some(2_000));
-    assert!(rt; !is_looped(&graph, 1_000, Edge::Begin, 0));
     Ok(())
 }

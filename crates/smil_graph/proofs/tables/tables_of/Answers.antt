@@ -7,7 +7,7 @@ pub element_levels-requires : goal.element_levels-requires
 element_levels-requires c = rw c.as_slice-5.ensures.value (rows_stay (length c.args.doc.now.nodes) (feeds_place c.args.doc.now.nodes) c.in_ok-feeders.feeders.items c.in_ok-feeders.ensures (λ i j l q. feeds_low c.args.doc.now.nodes i j q))
 
 pub ordered-requires-clause-time_parents : goal.ordered-requires-clause-time_parents
-ordered-requires-clause-time_parents c = rw c.as_slice-11.ensures.value c.in_ok-time_parents.ensures
+ordered-requires-clause-time_parents c = rw c.as_slice-8.ensures.value c.in_ok-time_parents.ensures
 
 pub returns : goal.returns
 returns c = record {
@@ -19,5 +19,7 @@ returns c = record {
   ended = c.in_ok-looped_marks-2.ensures;
   headed = c.in_ok-heads.ensures;
   read = c.in_ok-readers.ensures;
-  ordered = c.in_ok-ordered.ensures;
+  waiting = c.in_ok-waiting.ensures;
+  ordered = c.in_ok-order.ensures;
+  ranked = rw c.slice.ensures at c.in_ok-ranks_of.ensures;
 }

@@ -1,0 +1,5 @@
+use Rattle.smil_graph.proofs.Keyed.{IsWaitingTo}
+use Rattle.smil_graph.proofs.waiting.waiting.Given as goal
+
+abbrev pub invariant-loop-place : goal.invariant-loop-place
+invariant-loop-place l = IsWaitingTo l.doc.nodes l.place l.rows.items

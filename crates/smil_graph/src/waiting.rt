@@ -1,0 +1,82 @@
+//! Which elements wait for which key.
+
+ghost use Rattle.std.specs.Prelude.{◌≡◌, ◌≤◌, ◌&&◌, [], length, OnOk, IfOk};
+ghost use Rattle.std.specs.List.{list_any};
+ghost use Rattle.smil_model.specs.document.Defaults.{items_or};
+ghost use Rattle.smil_model.specs.document.Document.{is_element};
+ghost use Rattle.smil_model.specs.reach.Reach.{is_key_item};
+ghost use Rattle.smil_graph.specs.Kept.{has_key_item, key_of, AreWaiting, AreWithPlace};
+ghost use Rattle.smil_graph.specs.Places.{is_place};
+
+use super::row::{Row, empty_rows, push_at};
+use smil_model::{Doc, Item, Items, Node};
+use std::alloc::{AllocError, Global};
+
+/// How many keys there are: one for each byte.
+const KEYS: usize = 256;
+
+/// For each key a row of the places of the elements that have an item for it.
+pub fn waiting(alloc: Global, doc: &Doc) -> Result<Vec<Row<usize>>, AllocError>
+    ensures { IfOk result (λ rows. AreWaiting doc.now.nodes rows.items) }
+{
+    let mut rows = empty_rows(alloc, KEYS)?;
+    for place in 0..doc.len() {
+        if let Some(node) = doc.get(place) {
+            push_waits(&mut rows, node, place)?;
+        }
+    }
+    Ok(rows)
+}
+
+/// Puts the place of an element into the row of each key for which it has an item; that of a priorityClass into none.
+fn push_waits(rows: &mut Vec<Row<usize>>, node: &Node, place: usize) -> Result<(), AllocError>
+    requires { 256 ≤ length rows.old.items }
+    ensures { OnOk result (AreWithPlace (λ key. is_element node.now && has_key_item key node.now) place rows.old.items rows.new.items) }
+{
+    if !node.kind.is_element() {
+        return Ok(());
+    }
+    push_keys(rows, &node.attrs.begin, place)?;
+    push_keys(rows, &node.attrs.end, place)
+}
+
+/// Puts a place into the row of each key for which there is an item.
+fn push_keys(
+    rows: &mut Vec<Row<usize>>,
+    items: &Option<Items>,
+    place: usize,
+) -> Result<(), AllocError>
+    requires { 256 ≤ length rows.old.items }
+    ensures { OnOk result (AreWithPlace (λ key. list_any (is_key_item key) (items_or [] items.now)) place rows.old.items rows.new.items) }
+{
+    let Some(items) = items else {
+        return Ok(());
+    };
+    for k in 0..items.len() {
+        if let Some(item) = items.get(k) {
+            push_key(rows, key_of(item), place)?;
+        }
+    }
+    Ok(())
+}
+
+/// The key that an item waits for.
+fn key_of(item: &Item) -> Option<u8>
+    ensures { result ≡ key_of item.now }
+{
+    match item {
+        Item::Key { key, .. } => Some(*key),
+        _ => None,
+    }
+}
+
+/// Puts a place into the row of a key, if there is one.
+fn push_key(rows: &mut Vec<Row<usize>>, key: Option<u8>, place: usize) -> Result<(), AllocError>
+    requires { 256 ≤ length rows.old.items }
+    ensures { OnOk result (AreWithPlace (λ i. is_place i key) place rows.old.items rows.new.items) }
+{
+    match key {
+        Some(key) => push_at(rows, key as usize, place),
+        None => Ok(()),
+    }
+}
