@@ -9,26 +9,27 @@ use Rattle.smil_model.specs.declared.document.Node.{Node}
 use Rattle.smil_model.specs.declared.diary.Entry.{Entry}
 use Rattle.smil_model.specs.declared.diary.LogEntry.{LogEntry}
 use Rattle.smil_model.specs.diary.Diary.{History}
-use Rattle.smil_kept.specs.declared.kept.Kept.{Kept}
+use Rattle.smil_instance_rows.specs.declared.item_times.InstanceTime.{InstanceTime}
 use Rattle.smil_model.specs.document.Document.{is_element, elements, node_at, lineage, ancestors, has_serial}
 use Rattle.smil_model.specs.document.Valid.{IsDistinct}
 use Rattle.smil_model.specs.reach.Reach.{is_option}
-use Rattle.smil_kept.specs.declared.source.Source.{Source}
-use Rattle.smil_kept.specs.declared.source.Source.TheVariants as source
-use Rattle.smil_kept.specs.declared.table.Cell.{Cell}
-use Rattle.smil_kept.specs.Settled.{Row}
-use Rattle.smil_kept.specs.Contract.{place_in}
-use Rattle.smil_kept.specs.Sources.{base_of, is_under, is_reset_with, items_of, item_under, source_by, source_under, source_at, concerns_under, concerns_cell, AreThose}
-use Rattle.smil_kept.specs.TakenIn.{BasesAreElements, trimmed}
-use Rattle.smil_kept.specs.Table.{HasCell}
+use Rattle.smil_instances.specs.declared.source.Source.{Source}
+use Rattle.smil_instances.specs.declared.source.Source.TheVariants as source
+use Rattle.smil_instance_rows.specs.declared.cell.Cell.{Cell}
+use Rattle.smil_instance_rows.specs.Rows.{Row}
+use Rattle.smil_instance_rows.specs.Readings.{place_in}
+use Rattle.smil_instances.specs.Sources.{base_of, is_under, is_reset_with, item_under, source_by, source_under, source_at, is_keyed, concerns_under, concerns_cell, AreThose}
+use Rattle.smil_model.specs.document.Defaults.{items_of}
+use Rattle.smil_instances.specs.Updates.{BasesAreElements, remaining}
+use Rattle.smil_instance_rows.specs.Changes.{HasCell}
 use Rattle.smil_laws.proofs.Aside.{each_reverse}
 use Rattle.smil_laws.proofs.Below.{each_upwards, differ_each}
 use Rattle.smil_laws.proofs.Lineages.{swap_eqb}
 use Rattle.smil_laws.proofs.Members.{each_kept}
 use Rattle.smil_stretch.proofs.Above.{each_at}
 use Rattle.smil_graph.proofs.Answered.{element_at, only_element}
-use Rattle.smil_concern.specs.Concerns.{Concerned, AreConcernsOf, source_in, cells_in}
-use Rattle.smil_instances.specs.Taking.{Shape, shape_of, shape_in, AreRowsOf, IsCellOf, HasItem, is_concerned_cell, concerned_under, trimmed_at, trimmed_under}
+use Rattle.smil_instances.specs.Dependents.{DocumentDependents, AreDependentsOf, cells_in, keys_cell, source_in}
+use Rattle.smil_instances.specs.Intake.{Shape, shape_of, shape_in, AreRowsOf, IsCellOf, HasItem, is_concerned_cell, concerned_under, keyed_by, remaining_at, remaining_under}
 use Rattle.smil_instances.proofs.Extents.{item_cell, serial_there}
 
 -- ---- elements by their places
@@ -92,8 +93,8 @@ serial_of_some None who q = cc
 serial_of_some (Some e) who q = (e, refl, cc)
 
 module _ (nodes : List Node) (distinct : IsDistinct nodes) where
-  pub cell_known : (rows : List Row) (concerns : List Concerned) (cell : Cell) (who : ℕ) (s : Source) → AreRowsOf nodes rows → AreConcernsOf nodes concerns → option_map (λ (r : Row). r.serial) (slice_get rows cell.row) ≡ Some who → s ≡ source_in concerns cell → IsCellOf nodes cell who s
-  cell_known rows concerns cell who s are known q is =
+  pub cell_known : (rows : List Row) (dependents : DocumentDependents) (cell : Cell) (who : ℕ) (s : Source) → AreRowsOf nodes rows → AreDependentsOf nodes dependents → option_map (λ (r : Row). r.serial) (slice_get rows cell.row) ≡ Some who → s ≡ source_in dependents.rows cell → IsCellOf nodes cell who s
+  cell_known rows dependents cell who s are known q is =
       let e = serial_of_some (slice_get (elements nodes) cell.row) who (sym (serial_there nodes rows (elements nodes) cell.row are) ∙ q) in
       record {
         element = e.0;
@@ -105,12 +106,12 @@ module _ (nodes : List Node) (distinct : IsDistinct nodes) where
       }
 
   -- what is still kept for it
-  pub trimmed_here : (log : List LogEntry) (diary : List Entry) (cell : Cell) (who : ℕ) (s : Source) → IsCellOf nodes cell who s → (kept : List Kept) → trimmed (record { nodes = nodes; log = log; diary = diary }) who s kept ≡ trimmed_at (record { nodes = nodes; log = log; diary = diary }) cell kept
+  pub trimmed_here : (log : List LogEntry) (diary : List Entry) (cell : Cell) (who : ℕ) (s : Source) → IsCellOf nodes cell who s → (kept : List InstanceTime) → remaining (record { nodes = nodes; log = log; diary = diary }) who s kept ≡ remaining_at (record { nodes = nodes; log = log; diary = diary }) cell kept
   trimmed_here log diary cell who s is kept =
       let h : History = record { nodes = nodes; log = log; diary = diary } in
-      ap (λ n. trimmed h n s kept) (sym is.serial)
-      ∙ ap (λ t. trimmed h is.element.serial t kept) is.source_is
-      ∙ sym (ap (λ o. trimmed_under h cell o kept) is.here)
+      ap (λ n. remaining h n s kept) (sym is.serial)
+      ∙ ap (λ t. remaining h is.element.serial t kept) is.source_is
+      ∙ sym (ap (λ o. remaining_under h cell o kept) is.here)
 
   -- what it names is a node
   pub base_known : BasesAreElements → (cell : Cell) (e : Node) (of : ℕ) → slice_get (elements nodes) cell.row ≡ Some e → base_of (source_at nodes cell) ≡ Some of → is_some (node_at (elements nodes) of) ≡ true
@@ -170,6 +171,7 @@ module _ (nodes : List Node) (distinct : IsDistinct nodes) where
     no_reset e source.Start = no_child e
     no_reset e (source.Syncbase of edge) = ap (λ t. t || is_under nodes x of) (no_child e) ∙ no_child of
     no_reset e (source.Eventbase of) = no_child e
+    no_reset e (source.Key key) = no_child e
     no_reset e source.Nothing = refl
 
     and_false : (t : Bool) → (t && false) ≡ false
@@ -177,10 +179,10 @@ module _ (nodes : List Node) (distinct : IsDistinct nodes) where
     and_false false = refl
 
     -- an entry on no element concerns nothing
-    pub unconcerned : BasesAreElements → (birth : Bool) (cell : Cell) → is_concerned_cell nodes birth (Some x) cell ≡ false
-    unconcerned law birth cell = by (slice_get (elements nodes) cell.row) refl
+    pub unconcerned : BasesAreElements → (birth : Bool) (key : Option ℕ) (cell : Cell) → is_concerned_cell nodes birth (Some x) key cell ≡ false
+    unconcerned law birth key cell = by (slice_get (elements nodes) cell.row) refl
       where
-        by : (o : Option Node) → slice_get (elements nodes) cell.row ≡ o → concerned_under nodes birth (Some x) cell o ≡ false
+        by : (o : Option Node) → slice_get (elements nodes) cell.row ≡ o → concerned_under nodes birth (Some x) key cell o ≡ false
         by None q = refl
         by (Some e) q =
             ap (λ t. t || (birth && is_reset_with nodes x e.serial (source_at nodes cell))) (other_base (base_of (source_at nodes cell)) (λ of r. base_known law cell e of q r))
@@ -188,20 +190,28 @@ module _ (nodes : List Node) (distinct : IsDistinct nodes) where
             ∙ and_false birth
 
   -- no entry on nothing concerns anything
-  pub nothing_concerned : (birth : Bool) (cell : Cell) → is_concerned_cell nodes birth None cell ≡ false
+  nothing_concerned : (birth : Bool) (cell : Cell) → is_concerned_cell nodes birth None None cell ≡ false
   nothing_concerned birth cell = by (slice_get (elements nodes) cell.row)
     where
-      by : (o : Option Node) → concerned_under nodes birth None cell o ≡ false
+      by : (o : Option Node) → concerned_under nodes birth None None cell o ≡ false
       by None = refl
       by (Some e) = refl
 
   -- the same by the definition of the cells
-  same_test : (birth : Bool) (x : ℕ) (cell : Cell) → is_concerned_cell nodes birth (Some x) cell ≡ concerns_cell nodes birth x cell
-  same_test birth x cell = by (slice_get (elements nodes) cell.row)
+  same_test : (birth : Bool) (x : ℕ) (key : Option ℕ) (cell : Cell) → is_concerned_cell nodes birth (Some x) key cell ≡ concerns_cell nodes birth x cell
+  same_test birth x key cell = by (slice_get (elements nodes) cell.row)
     where
-      by : (o : Option Node) → concerned_under nodes birth (Some x) cell o ≡ concerns_under nodes birth x cell o
+      by : (o : Option Node) → concerned_under nodes birth (Some x) key cell o ≡ concerns_under nodes birth x cell o
       by None = refl
       by (Some e) = refl
+
+  -- and by that of the cells of a key
+  same_key : (birth : Bool) (key : ℕ) (cell : Cell) → is_concerned_cell nodes birth None (Some key) cell ≡ keys_cell nodes key cell
+  same_key birth key cell = by (slice_get (elements nodes) cell.row) refl
+    where
+      by : (o : Option Node) → slice_get (elements nodes) cell.row ≡ o → concerned_under nodes birth None (Some key) cell o ≡ is_keyed (Some key) (source_under nodes cell o)
+      by None q = refl
+      by (Some e) q = ap (λ o. is_keyed (Some key) (source_under nodes cell o)) q
 
   -- ---- rows by serials
 
@@ -247,17 +257,19 @@ module _ (nodes : List Node) (distinct : IsDistinct nodes) where
   -- ---- the cells
 
   -- for an entry on the element of a row
-  pub those_of : (rows : List Row) (concerns : List Concerned) (birth : Bool) (who place : ℕ) → AreRowsOf nodes rows → AreConcernsOf nodes concerns → place_in rows who ≡ Some place → AreThose (is_concerned_cell nodes birth (Some who)) (cells_in concerns place birth)
-  those_of rows concerns birth who place are known at = λ cell.
+  pub those_of : (rows : List Row) (dependents : DocumentDependents) (birth : Bool) (who : ℕ) (key : Option ℕ) (place : ℕ) → AreRowsOf nodes rows → AreDependentsOf nodes dependents → place_in rows who ≡ Some place → AreThose (is_concerned_cell nodes birth (Some who) key) (cells_in dependents.rows place birth)
+  those_of rows dependents birth who key place are known at = λ cell.
       let e = placed_row rows (elements nodes) who place are at in
       known.cells place e.0 birth e.1 cell
       ∙ ap (λ x. cond (concerns_cell nodes birth x cell) 1 0) e.2
-      ∙ ap (λ t. cond t 1 0) (sym (same_test birth who cell))
+      ∙ ap (λ t. cond t 1 0) (sym (same_test birth who key cell))
 
   -- for an entry on no element
-  pub those_unplaced : BasesAreElements → (rows : List Row) (birth : Bool) (who : ℕ) → AreRowsOf nodes rows → place_in rows who ≡ None → AreThose (is_concerned_cell nodes birth (Some who)) []
-  those_unplaced law rows birth who are at = λ cell.
-      sym (ap (λ t. cond t 1 0) (unconcerned who (unplaced_row rows (elements nodes) who are at) law birth cell))
+  pub those_unplaced : BasesAreElements → (rows : List Row) (birth : Bool) (who : ℕ) (key : Option ℕ) → AreRowsOf nodes rows → place_in rows who ≡ None → AreThose (is_concerned_cell nodes birth (Some who) key) []
+  those_unplaced law rows birth who key are at = λ cell.
+      sym (ap (λ t. cond t 1 0) (unconcerned who (unplaced_row rows (elements nodes) who are at) law birth key cell))
 
-  pub those_none : (birth : Bool) → AreThose (is_concerned_cell nodes birth None) []
-  those_none birth = λ cell. sym (ap (λ t. cond t 1 0) (nothing_concerned birth cell))
+  -- for an entry on no element, which may be a press of a key
+  pub those_keyed : (dependents : DocumentDependents) (birth : Bool) (key : Option ℕ) → AreDependentsOf nodes dependents → AreThose (is_concerned_cell nodes birth None key) (keyed_by dependents key)
+  those_keyed dependents birth None known = λ cell. sym (ap (λ t. cond t 1 0) (nothing_concerned birth cell))
+  those_keyed dependents birth (Some key) known = λ cell. known.keyed key cell ∙ ap (λ t. cond t 1 0) (sym (same_key birth key cell))

@@ -10,13 +10,15 @@ use Rattle.smil_model.specs.declared.document.Item.{Item}
 use Rattle.smil_model.specs.declared.document.Node.{Node}
 use Rattle.smil_model.specs.document.Document.{elements}
 use Rattle.smil_model.specs.diary.Diary.{History}
-use Rattle.smil_kept.specs.declared.kept.Kept.{Kept}
-use Rattle.smil_kept.specs.declared.table.Cell.{Cell}
-use Rattle.smil_kept.specs.Cells.{side_of, list_of, with_list}
-use Rattle.smil_kept.specs.Settled.{Row, kept_of, row_of, settled_rows}
-use Rattle.smil_kept.specs.Sources.{is_cell, is_same_edge, items_of}
-use Rattle.smil_kept.specs.Table.{row_at, no_row, HasCell, cell_of, with_cell}
-use Rattle.smil_instances.specs.Taking.{Shape, shape_of, shape_in, AreRowsOf}
+use Rattle.smil_instance_rows.specs.declared.item_times.InstanceTime.{InstanceTime}
+use Rattle.smil_instance_rows.specs.declared.cell.Cell.{Cell}
+use Rattle.smil_instance_rows.specs.Cells.{side_of, list_of, with_list}
+use Rattle.smil_instance_rows.specs.Rows.{Row}
+use Rattle.smil_instances.specs.SettledTimes.{instances_of, row_of, settled_rows}
+use Rattle.smil_instances.specs.Sources.{is_cell, is_same_edge}
+use Rattle.smil_model.specs.document.Defaults.{items_of}
+use Rattle.smil_instance_rows.specs.Changes.{row_at, no_row, HasCell, cell_of, with_cell}
+use Rattle.smil_instances.specs.Intake.{Shape, shape_of, shape_in, AreRowsOf}
 
 set_length : {A : Type 0} (xs : List A) (i : ℕ) (x : A) → length (set xs i x) ≡ length xs
 set_length [] i x = refl
@@ -25,7 +27,7 @@ set_length (y ∷ ys) (suc i) x = ap suc (set_length ys i x)
 
 -- ---- the shape stays
 
-listed_shape : (row : Row) (side : Edge) (item : ℕ) (kept : List Kept) → shape_of (with_list row side item kept) ≡ shape_of row
+listed_shape : (row : Row) (side : Edge) (item : ℕ) (kept : List InstanceTime) → shape_of (with_list row side item kept) ≡ shape_of row
 listed_shape row Begin item kept = ap (λ n. record { serial = row.serial; begins = n; ends = length row.ends }) (set_length row.begins item kept)
 listed_shape row End item kept = ap (λ n. record { serial = row.serial; begins = length row.begins; ends = n }) (set_length row.ends item kept)
 
@@ -34,7 +36,7 @@ set_shape [] i row q = refl
 set_shape (r ∷ rs) zero row q = ap (λ s. s ∷ map shape_of rs) q
 set_shape (r ∷ rs) (suc i) row q = ap (λ ss. shape_of r ∷ ss) (set_shape rs i row q)
 
-pub cell_shape : (rows : List Row) (cell : Cell) (kept : List Kept) → map shape_of (with_cell rows cell kept) ≡ map shape_of rows
+pub cell_shape : (rows : List Row) (cell : Cell) (kept : List InstanceTime) → map shape_of (with_cell rows cell kept) ≡ map shape_of rows
 cell_shape rows cell kept =
     set_shape rows cell.row (with_list (row_at rows cell.row) cell.side cell.item kept)
     (listed_shape (row_at rows cell.row) cell.side cell.item kept)
@@ -115,13 +117,13 @@ set_other (y ∷ ys) zero (suc j) x d ne = refl
 set_other (y ∷ ys) (suc i) zero x d ne = refl
 set_other (y ∷ ys) (suc i) (suc j) x d ne = set_other ys i j x d (λ q. ne (ap suc q))
 
-other_list : (row : Row) (s t : Edge) (m n : ℕ) (kept : List Kept) → (t ≡ s → n ≡ m → ⊥) → list_of (with_list row s m kept) t n ≡ list_of row t n
+other_list : (row : Row) (s t : Edge) (m n : ℕ) (kept : List InstanceTime) → (t ≡ s → n ≡ m → ⊥) → list_of (with_list row s m kept) t n ≡ list_of row t n
 other_list row Begin Begin m n kept ne = set_other row.begins m n kept [] (ne refl)
 other_list row End End m n kept ne = set_other row.ends m n kept [] (ne refl)
 other_list row Begin End m n kept ne = refl
 other_list row End Begin m n kept ne = refl
 
-other_at : (rows : List Row) (i j : ℕ) (s t : Edge) (m n : ℕ) (kept : List Kept) → Apart i j s t m n → list_of (row_at (set rows i (with_list (row_at rows i) s m kept)) j) t n ≡ list_of (row_at rows j) t n
+other_at : (rows : List Row) (i j : ℕ) (s t : Edge) (m n : ℕ) (kept : List InstanceTime) → Apart i j s t m n → list_of (row_at (set rows i (with_list (row_at rows i) s m kept)) j) t n ≡ list_of (row_at rows j) t n
 other_at [] i j s t m n kept ne = refl
 other_at (r ∷ rs) zero zero s t m n kept ne = other_list r s t m n kept (ne refl)
 other_at (r ∷ rs) zero (suc j) s t m n kept ne = refl
@@ -129,7 +131,7 @@ other_at (r ∷ rs) (suc i) zero s t m n kept ne = refl
 other_at (r ∷ rs) (suc i) (suc j) s t m n kept ne = other_at rs i j s t m n kept (λ q. ne (ap suc q))
 
 -- another cell is as before
-pub other_cell : (rows : List Row) (c d : Cell) (kept : List Kept) → is_cell d c ≡ false → cell_of (with_cell rows c kept) d ≡ cell_of rows d
+pub other_cell : (rows : List Row) (c d : Cell) (kept : List InstanceTime) → is_cell d c ≡ false → cell_of (with_cell rows c kept) d ≡ cell_of rows d
 other_cell rows c d kept q = other_at rows c.row d.row c.side d.side c.item d.item kept (apart c d q)
 
 -- ---- which cells there are
@@ -205,25 +207,25 @@ module _ (nodes : List Node) where
 -- ---- rows of a history
 
 module _ (h : History) where
-  abbrev pub kept_item : Node → Edge → Option Item → List Kept
+  abbrev pub kept_item : Node → Edge → Option Item → List InstanceTime
   kept_item e side None = []
-  kept_item e side (Some item) = kept_of h e side item
+  kept_item e side (Some item) = instances_of h e side item
 
-  abbrev pub kept_under : Edge → ℕ → Option Node → List Kept
+  abbrev pub kept_under : Edge → ℕ → Option Node → List InstanceTime
   kept_under side item None = []
   kept_under side item (Some e) = kept_item e side (slice_get (items_of h.nodes side e) item)
 
-  abbrev pub kept_in : Cell → List Kept
+  abbrev pub kept_in : Cell → List InstanceTime
   kept_in cell = kept_under cell.side cell.item (slice_get (elements h.nodes) cell.row)
 
-  of_item : (e : Node) (side : Edge) (o : Option Item) → unwrap_or (option_map (kept_of h e side) o) [] ≡ kept_item e side o
+  of_item : (e : Node) (side : Edge) (o : Option Item) → unwrap_or (option_map (instances_of h e side) o) [] ≡ kept_item e side o
   of_item e side None = refl
   of_item e side (Some item) = refl
 
-  of_items : (e : Node) (side : Edge) (items : List Item) (item : ℕ) → get_or (map (kept_of h e side) items) item [] ≡ kept_item e side (slice_get items item)
+  of_items : (e : Node) (side : Edge) (items : List Item) (item : ℕ) → get_or (map (instances_of h e side) items) item [] ≡ kept_item e side (slice_get items item)
   of_items e side items item =
-      sym (unwrap_or-slice_get (map (kept_of h e side) items) item [])
-      ∙ ap (λ o. unwrap_or o []) (slice_get-map (kept_of h e side) items item)
+      sym (unwrap_or-slice_get (map (instances_of h e side) items) item [])
+      ∙ ap (λ o. unwrap_or o []) (slice_get-map (instances_of h e side) items item)
       ∙ of_item e side (slice_get items item)
 
   of_row : (side : Edge) (item : ℕ) (o : Option Node) → list_of (unwrap_or (option_map (row_of h) o) no_row) side item ≡ kept_under side item o
@@ -244,8 +246,8 @@ module _ (h : History) where
 
   row_shape : (e : Node) → shape_of (row_of h e) ≡ shape_in h.nodes e
   row_shape e =
-      ap (λ n. record { serial = e.serial; begins = n; ends = length (map (kept_of h e End) (items_of h.nodes End e)) }) (map_length (kept_of h e Begin) (items_of h.nodes Begin e))
-      ∙ ap (λ n. record { serial = e.serial; begins = length (items_of h.nodes Begin e); ends = n }) (map_length (kept_of h e End) (items_of h.nodes End e))
+      ap (λ n. record { serial = e.serial; begins = n; ends = length (map (instances_of h e End) (items_of h.nodes End e)) }) (map_length (instances_of h e Begin) (items_of h.nodes Begin e))
+      ∙ ap (λ n. record { serial = e.serial; begins = length (items_of h.nodes Begin e); ends = n }) (map_length (instances_of h e End) (items_of h.nodes End e))
 
   rows_shape : (es : List Node) → map shape_of (map (row_of h) es) ≡ map (shape_in h.nodes) es
   rows_shape [] = refl

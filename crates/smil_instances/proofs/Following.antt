@@ -9,19 +9,19 @@ use Rattle.smil_model.specs.declared.document.Kind.{Kind}
 use Rattle.smil_model.specs.declared.document.Node.{Node}
 use Rattle.smil_model.specs.document.Document.{Document, is_class_kind, is_element, node_at}
 use Rattle.smil_model.specs.document.Valid.{IsDistinct, kind_of}
-use Rattle.smil_model.specs.diary.Diary.{History, with_past}
+use Rattle.smil_model.specs.diary.Diary.{History, with_past, with_entry, last_moment}
 use Rattle.smil_model.specs.diary.Lawful.{has_element, is_rising_from, is_lawful_step, AllLawful, IsLawful}
 use Rattle.smil_laws.proofs.LawfulSteps.{append_empty}
 use Rattle.smil_model.specs.declared.diary.LogEntry.{LogEntry}
 use Rattle.smil_stretch.specs.declared.clock.NodeClock.{NodeClock}
-use Rattle.smil_stretch.specs.Clocks.{AreClocksOf, IsLawfulFor, MayFollow, last_moment, with_entry}
-use Rattle.smil_kept.proofs.InOrder.{same_last}
-use Rattle.smil_hearing.specs.Entry.{IsAtHand}
+use Rattle.smil_stretch.specs.Clocks.{AreClocksOf, IsLawfulFor, MayFollow}
+use Rattle.smil_instance_rows.proofs.InOrder.{same_last}
+use Rattle.smil_instances.specs.Entry.{IsAtHand}
 use Rattle.smil_stretch.proofs.Idle.{entry_there}
 use Rattle.smil_stretch.proofs.Moments.{last_from}
 use Rattle.smil_graph.proofs.Answered.{element_at, only_element}
-use Rattle.smil_instances.specs.Settled.{IsSettled, KeptInstances}
-use Rattle.smil_instances.specs.Taking.{history_of}
+use Rattle.smil_instances.specs.Instances.{IsSettled, SettledInstances}
+use Rattle.smil_instances.specs.Intake.{history_of}
 use Rattle.smil_instances.proofs.Rebuilt.{lawful_of}
 
 -- ---- elements
@@ -119,6 +119,6 @@ module _ (document : Document) (log : List LogEntry) (diary : List Entry) (clock
     may_by = record { past = history_of document log diary; known = known; lawful = lawful_with }
 
 -- what is before an entry, by the list with it
-pub taken_by : (document : Document) (log : List LogEntry) (value : KeptInstances) (diary front before : List Entry) (y x : Entry) → IsSettled value document log diary → front ≡ diary ++ y ∷ [] → front ≡ before ++ x ∷ [] → IsSettled value document log before
+pub taken_by : (document : Document) (log : List LogEntry) (value : SettledInstances) (diary front before : List Entry) (y x : Entry) → IsSettled value document log diary → front ≡ diary ++ y ∷ [] → front ≡ before ++ x ∷ [] → IsSettled value document log before
 taken_by document log value diary front before y x settled is as' =
     subst (IsSettled value document log) (same_last diary before y x (sym is ∙ as')).0 settled

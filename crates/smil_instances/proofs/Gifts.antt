@@ -13,15 +13,15 @@ use Rattle.smil_model.specs.declared.document.Item.{Item}
 use Rattle.smil_model.specs.declared.document.Item.TheVariants.{Offset, Indefinite}
 use Rattle.smil_model.specs.declared.document.Node.{Node}
 use Rattle.smil_model.specs.document.Document.{elements, node_at, is_in_excl, previous_in_seq}
-use Rattle.smil_model.specs.document.Defaults.{items_or}
+use Rattle.smil_model.specs.document.Defaults.{items_or, items_of, stated_list}
 use Rattle.smil_model.specs.diary.Diary.{History}
-use Rattle.smil_kept.specs.declared.kept.Kept.{Kept}
-use Rattle.smil_kept.specs.declared.source.Source.{Source}
-use Rattle.smil_kept.specs.declared.source.Source.TheVariants as source
-use Rattle.smil_kept.specs.declared.table.Add.{Add}
-use Rattle.smil_kept.specs.declared.table.Cell.{Cell}
-use Rattle.smil_kept.specs.Sources.{items_of, source_by, source_of, syncbase_or}
-use Rattle.smil_instances.specs.Taking.{IsCellOf, IsUnstated, add_to, adds_to, default_of, given_item, given_to, given_under, stated_in, stated_list}
+use Rattle.smil_instance_rows.specs.declared.item_times.InstanceTime.{InstanceTime}
+use Rattle.smil_instances.specs.declared.source.Source.{Source}
+use Rattle.smil_instances.specs.declared.source.Source.TheVariants as source
+use Rattle.smil_instance_rows.specs.declared.cell.Add.{Add}
+use Rattle.smil_instance_rows.specs.declared.cell.Cell.{Cell}
+use Rattle.smil_instances.specs.Sources.{source_by, source_of, syncbase_or}
+use Rattle.smil_instances.specs.Intake.{IsCellOf, IsUnstated, add_to, adds_to, default_of, given_item, given_to, given_under, stated_in}
 use Rattle.smil_instances.proofs.Concerned.{source_here}
 
 -- ---- the item of a cell
@@ -99,10 +99,10 @@ module _ (nodes : List Node) (cell : Cell) (who : ℕ) (s : Source) (is : IsCell
 -- ---- many cells
 
 module _ (h : History) (y : Entry) where
-  abbrev pub one_add : Cell → Option Kept → List Add
+  abbrev pub one_add : Cell → Option InstanceTime → List Add
   one_add cell o = cons_option (add_to cell o) []
 
-  pub more_adds : (cells : List Cell) (i : ℕ) (d : Cell) (o : Option Kept) → i < length cells → o ≡ given_to h y (get_or cells i d) → adds_to h y (take (i + 1) cells) ≡ adds_to h y (take i cells) ++ one_add (get_or cells i d) o
+  pub more_adds : (cells : List Cell) (i : ℕ) (d : Cell) (o : Option InstanceTime) → i < length cells → o ≡ given_to h y (get_or cells i d) → adds_to h y (take (i + 1) cells) ≡ adds_to h y (take i cells) ++ one_add (get_or cells i d) o
   more_adds cells i d o inside q =
       ap (adds_to h y) (take_more cells i d inside)
       ∙ filter_map-append (λ c. add_to c (given_to h y c)) (take i cells) (get_or cells i d ∷ [])

@@ -9,11 +9,11 @@ use Rattle.smil_model.specs.declared.diary.LogEntry.{LogEntry}
 use Rattle.smil_model.specs.document.Document.{Document}
 use Rattle.smil_model.specs.diary.Diary.{History}
 use Rattle.smil_model.specs.diary.Lawful.{is_rising_from}
-use Rattle.smil_kept.specs.Laws.{IsUpTo}
+use Rattle.smil_instances.specs.Laws.{IsUpTo}
 use Rattle.smil_stretch.specs.declared.clock.NodeClock.{NodeClock}
 use Rattle.smil_stretch.proofs.Moments.{le_both}
-use Rattle.smil_hearing.specs.Entry.{IsAtHand, IsEntryOf}
-use Rattle.smil_instances.specs.Taking.{history_of}
+use Rattle.smil_instances.specs.Entry.{IsAtHand, IsEntryOf}
+use Rattle.smil_instances.specs.Intake.{history_of}
 
 last_same : {A : Type 0} (xs ys : List A) (x y : A) → xs ++ x ∷ [] ≡ ys ++ y ∷ [] → (xs ≡ ys) × (x ≡ y)
 last_same [] [] x y q = (refl, cc)

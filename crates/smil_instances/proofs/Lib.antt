@@ -1,11 +1,44 @@
-mod Concerned
-mod Extents
-mod Following
-mod Gifts
-mod Hands
-mod Placed
-mod Readings
-mod Rebuilt
-mod Starting
-mod Taken
-mod Updates
+pub mod Bases
+pub mod BeginLists
+pub mod Begins
+pub mod Begun
+pub mod Births
+pub mod BySource
+pub mod Changes
+pub mod Concerned
+pub mod DependentsSamples
+pub mod EdgeTimes
+pub mod EntryTimes
+pub mod Extents
+pub mod Following
+pub mod Gifts
+pub mod Growth
+pub mod Hands
+pub mod Heard
+pub mod Iterations
+pub mod Keyed
+pub mod LastEntry
+pub mod Lists
+pub mod Logs
+pub mod Moment
+pub mod Named
+pub mod Note
+pub mod Past
+pub mod Placed
+pub mod Places
+pub mod Readings
+pub mod Rebuilt
+pub mod Resets
+pub mod Samples
+pub mod Sensitive
+pub mod Siblings
+pub mod Spreading
+pub mod Starting
+pub mod Sums
+pub mod Taken
+pub mod Targets
+pub mod Times
+pub mod Told
+pub mod Unconcerned
+pub mod Untouched
+pub mod Updates

@@ -1,13 +1,14 @@
 -- Elements among the first nodes.
-use Rattle.std.proofs.Common.{◌≡◌, refl, sym, ◌∙◌, ap, ℕ, zero, suc, ◌+◌, List, [], ◌∷◌, ◌++◌, Option, Some, None, Bool, true, false, length, take, map, arith}
-use Rattle.std.specs.Prelude.{cond, slice_get, option_map, ◌==◌, filter}
+use Rattle.std.proofs.Common.{◌≡◌, refl, sym, ◌∙◌, ap, ℕ, zero, suc, ◌+◌, List, [], ◌∷◌, ◌++◌, Some, None, Bool, true, false, length, take, map, arith}
+use Rattle.std.specs.Prelude.{cond, slice_get, option_map, ◌==◌}
 use Rattle.std.proofs.lemmas.List.{length-map}
 use Rattle.std.proofs.lemmas.Option.{same_Some}
 use Rattle.smil_model.specs.declared.document.Node.{Node}
 use Rattle.smil_model.specs.document.Document.{elements, is_element, node_at}
 use Rattle.smil_model.specs.diary.Diary.{History}
-use Rattle.smil_kept.specs.Contract.{place_in}
-use Rattle.smil_kept.specs.Settled.{Row, row_of}
+use Rattle.smil_instance_rows.specs.Readings.{place_in}
+use Rattle.smil_instance_rows.specs.Rows.{Row}
+use Rattle.smil_instances.specs.SettledTimes.{row_of}
 
 -- the elements with one node more
 pub elements_more : (ns : List Node) (k : ℕ) (n : Node) → slice_get ns k ≡ Some n → elements (take (k + 1) ns) ≡ elements (take k ns) ++ cond (is_element n) (n ∷ []) []

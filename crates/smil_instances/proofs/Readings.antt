@@ -3,7 +3,6 @@ use Rattle.std.proofs.Common.{◌≡◌, refl, sym, ◌∙◌, ap, ℕ, List, []
 use Rattle.std.specs.Prelude.{ℤ, ◌==◌}
 use Rattle.std.specs.Option.{option_map_or}
 use Rattle.std.proofs.lemmas.Bool.{eqb-true}
-use Rattle.smil_model.specs.declared.times.Time.{Time}
 use Rattle.smil_model.specs.declared.times.Time.TheVariants.{At}
 use Rattle.smil_model.specs.declared.diary.Entry.{Entry}
 use Rattle.smil_model.specs.declared.diary.LogEntry.{LogEntry}
@@ -14,18 +13,19 @@ use Rattle.smil_model.specs.document.Document.{Document, elements, node_at}
 use Rattle.smil_model.specs.diary.Diary.{History}
 use Rattle.smil_model.specs.interval.Instances.{settled_begins, settled_ends}
 use Rattle.smil_laws.proofs.Aside.{find_true}
-use Rattle.smil_kept.specs.Contract.{begins_in, ends_in, row_in, row_times, times_in}
-use Rattle.smil_kept.specs.Laws.{RowsTell, RowsTellInstances}
-use Rattle.smil_kept.specs.Merged.{begins_of}
-use Rattle.smil_kept.specs.Settled.{Row, settled_rows}
-use Rattle.smil_instances.specs.Settled.{IsSettled, KeptInstances, settled_times}
-use Rattle.smil_instances.specs.Taking.{history_of}
+use Rattle.smil_instance_rows.specs.Readings.{begins_in, ends_in, row_in, row_times, times_in}
+use Rattle.smil_instances.specs.Laws.{RowsTell, RowsTellInstances}
+use Rattle.smil_instance_rows.specs.Values.{begins_of}
+use Rattle.smil_instance_rows.specs.Rows.{Row}
+use Rattle.smil_instances.specs.SettledTimes.{settled_rows}
+use Rattle.smil_instances.specs.Instances.{IsSettled, SettledInstances, settled_times}
+use Rattle.smil_instances.specs.Intake.{history_of}
 
 begin_times : (o : Option Row) → option_map_or (λ (r : Row). row_times r Begin) o [] ≡ map At (option_map_or (λ (r : Row). begins_of r.begins) o [])
 begin_times None = refl
 begin_times (Some r) = refl
 
-module _ (value : KeptInstances) (document : Document) (log : List LogEntry) (diary : List Entry) (now : ℤ) (who : ℕ) (e : Node) (law : RowsTellInstances) (settled : IsSettled value document log diary) (here : node_at (elements document.nodes) who ≡ Some e) where
+module _ (value : SettledInstances) (document : Document) (log : List LogEntry) (diary : List Entry) (now : ℤ) (who : ℕ) (e : Node) (law : RowsTellInstances) (settled : IsSettled value document log diary) (here : node_at (elements document.nodes) who ≡ Some e) where
   abbrev h : History
   h = history_of document log diary
 

@@ -1,22 +1,20 @@
 -- A diary taken in from its first entry on.
-use Rattle.std.proofs.Common.{◌≡◌, refl, sym, ◌∙◌, ap, subst, ℕ, ◌+◌, List, [], ◌∷◌, ◌++◌, Some, true, length, take, arith}
+use Rattle.std.proofs.Common.{◌≡◌, refl, sym, ◌∙◌, ap, subst, ℕ, ◌+◌, List, [], ◌∷◌, ◌++◌, Some, take}
 use Rattle.std.specs.Prelude.{slice_get}
-use Rattle.std.proofs.lemmas.List.{length_push}
 use Rattle.smil_model.specs.declared.diary.Entry.{Entry}
 use Rattle.smil_model.specs.declared.diary.LogEntry.{LogEntry}
 use Rattle.smil_model.specs.declared.diary.Step.{Step}
 use Rattle.smil_model.specs.declared.diary.Step.TheVariants.{Began, Repeated, Ended, Cut, Paused, Resumed, Deferred, Passed, Logged}
 use Rattle.smil_model.specs.declared.document.Node.{Node}
 use Rattle.smil_model.specs.document.Document.{Document}
-use Rattle.smil_model.specs.diary.Diary.{History, with_past, up_to}
+use Rattle.smil_model.specs.diary.Diary.{History, with_past, with_entry}
 use Rattle.smil_model.specs.diary.Lawful.{AllLawful, IsLawful, is_lawful_step}
 use Rattle.smil_stretch.specs.declared.clock.NodeClock.{NodeClock}
-use Rattle.smil_stretch.specs.Clocks.{AreClocksOf, IsLawfulFor, with_entry}
+use Rattle.smil_stretch.specs.Clocks.{AreClocksOf, IsLawfulFor}
 use Rattle.smil_stretch.proofs.Diaries.{lawful_first}
 use Rattle.smil_stretch.proofs.Idle.{next_first}
-use Rattle.smil_hearing.specs.Entry.{IsAtHand}
-use Rattle.smil_kept.specs.Settled.{Row, settled_rows}
-use Rattle.smil_instances.specs.Taking.{history_of}
+use Rattle.smil_instances.specs.Entry.{IsAtHand}
+use Rattle.smil_instances.specs.Intake.{history_of}
 
 -- ---- lawful with any log
 

@@ -1,5 +1,5 @@
 -- Rows before the first entry.
-use Rattle.std.proofs.Common.{◌≡◌, refl, sym, ◌∙◌, ap, subst, ℕ, zero, suc, ◌+◌, ◌<◌, List, [], ◌∷◌, ◌++◌, Option, Some, None, Bool, true, false, length, take, map, append_assoc, arith}
+use Rattle.std.proofs.Common.{◌≡◌, refl, sym, ◌∙◌, ap, ℕ, zero, suc, ◌+◌, List, [], ◌∷◌, ◌++◌, Option, Some, None, Bool, true, false, length, take, map, append_assoc, arith}
 use Rattle.std.specs.Prelude.{OnOk, Result, Ok, Err, cond, get_or, pos, set, slice_get}
 use Rattle.std.proofs.lemmas.List.{length-append}
 use Rattle.std.proofs.lemmas.Option.{same_Some}
@@ -11,25 +11,26 @@ use Rattle.smil_model.specs.declared.document.Item.TheVariants.{Offset, Indefini
 use Rattle.smil_model.specs.declared.diary.LogEntry.{LogEntry}
 use Rattle.smil_model.specs.declared.times.Time.{Time}
 use Rattle.smil_model.specs.document.Document.{Document, elements, is_in_excl}
-use Rattle.smil_model.specs.document.Defaults.{begin_list, end_list, items_or}
-use Rattle.smil_kept.specs.declared.kept.Kept.{Kept}
-use Rattle.smil_kept.specs.declared.source.Source.{Source}
-use Rattle.smil_kept.specs.declared.source.Source.TheVariants.{Nothing}
-use Rattle.smil_kept.specs.declared.table.Cell.{Cell}
-use Rattle.smil_kept.specs.Cells.{list_of, side_of, with_item, with_list}
-use Rattle.smil_kept.specs.Settled.{Row, kept_of, row_of}
-use Rattle.smil_kept.specs.Sources.{item_under, items_of, source_by, source_of, source_under}
-use Rattle.smil_concern.specs.Concerns.{AreConcernsOf, Concerned, source_in}
+use Rattle.smil_model.specs.document.Defaults.{begin_list, end_list, items_or, items_of}
+use Rattle.smil_instance_rows.specs.declared.item_times.InstanceTime.{InstanceTime}
+use Rattle.smil_instances.specs.declared.source.Source.{Source}
+use Rattle.smil_instances.specs.declared.source.Source.TheVariants.{Nothing}
+use Rattle.smil_instance_rows.specs.declared.cell.Cell.{Cell}
+use Rattle.smil_instance_rows.specs.Cells.{list_of, side_of, with_item, with_list}
+use Rattle.smil_instance_rows.specs.Rows.{Row}
+use Rattle.smil_instances.specs.SettledTimes.{instances_of, row_of}
+use Rattle.smil_instances.specs.Sources.{item_under, source_by, source_of, source_under}
+use Rattle.smil_instances.specs.Dependents.{DocumentDependents, AreDependentsOf, source_in}
 use Rattle.smil_instances.specs.Idle.{idle_kept, with_items}
-use Rattle.smil_instances.specs.Taking.{history_of}
+use Rattle.smil_instances.specs.Intake.{history_of}
 
 -- ---- one item more
 
-last_set : (xs : List (List Kept)) (k : Kept) → set (xs ++ [] ∷ []) (length xs) (get_or (xs ++ [] ∷ []) (length xs) [] ++ k ∷ []) ≡ xs ++ (k ∷ []) ∷ []
+last_set : (xs : List (List InstanceTime)) (k : InstanceTime) → set (xs ++ [] ∷ []) (length xs) (get_or (xs ++ [] ∷ []) (length xs) [] ++ k ∷ []) ≡ xs ++ (k ∷ []) ∷ []
 last_set [] k = refl
 last_set (x ∷ xs) k = ap (λ ys. x ∷ ys) (last_set xs k)
 
-pub item_added : (row : Row) (side : Edge) (item : ℕ) (k : Kept) → item ≡ length (side_of row side) → with_list (with_item row side) side item (list_of (with_item row side) side item ++ k ∷ []) ≡ with_items row side ((k ∷ []) ∷ [])
+pub item_added : (row : Row) (side : Edge) (item : ℕ) (k : InstanceTime) → item ≡ length (side_of row side) → with_list (with_item row side) side item (list_of (with_item row side) side item ++ k ∷ []) ≡ with_items row side ((k ∷ []) ∷ [])
 item_added row Begin item k q =
     ap (λ i. with_list (with_item row Begin) Begin i (list_of (with_item row Begin) Begin i ++ k ∷ [])) q
     ∙ ap (λ xs. record row { begins = xs }) (last_set row.begins k)
@@ -37,7 +38,7 @@ item_added row End item k q =
     ap (λ i. with_list (with_item row End) End i (list_of (with_item row End) End i ++ k ∷ [])) q
     ∙ ap (λ xs. record row { ends = xs }) (last_set row.ends k)
 
-pub more_items : (row : Row) (side : Edge) (xs ys : List (List Kept)) → with_items (with_items row side xs) side ys ≡ with_items row side (xs ++ ys)
+pub more_items : (row : Row) (side : Edge) (xs ys : List (List InstanceTime)) → with_items (with_items row side xs) side ys ≡ with_items row side (xs ++ ys)
 more_items row Begin xs ys = ap (λ zs. record row { begins = zs }) (append_assoc row.begins xs ys)
 more_items row End xs ys = ap (λ zs. record row { ends = zs }) (append_assoc row.ends xs ys)
 
@@ -45,11 +46,11 @@ pub no_items : (row : Row) (side : Edge) → side_of row side ≡ [] → row ≡
 no_items row Begin q = ap (λ zs. record row { begins = zs }) (q ∙ ap (λ zs. zs ++ []) (sym q))
 no_items row End q = ap (λ zs. record row { ends = zs }) (q ∙ ap (λ zs. zs ++ []) (sym q))
 
-pub items_grow : (row : Row) (side : Edge) (x : List Kept) → length (side_of (with_items row side (x ∷ [])) side) ≡ length (side_of row side) + 1
+pub items_grow : (row : Row) (side : Edge) (x : List InstanceTime) → length (side_of (with_items row side (x ∷ [])) side) ≡ length (side_of row side) + 1
 items_grow row Begin x = length-append row.begins (x ∷ [])
 items_grow row End x = length-append row.ends (x ∷ [])
 
-pub map_more : {A : Type 0} (f : A → List Kept) (xs : List A) (i : ℕ) (x : A) → slice_get xs i ≡ Some x → map f (take i xs) ++ f x ∷ [] ≡ map f (take (i + 1) xs)
+pub map_more : {A : Type 0} (f : A → List InstanceTime) (xs : List A) (i : ℕ) (x : A) → slice_get xs i ≡ Some x → map f (take i xs) ++ f x ∷ [] ≡ map f (take (i + 1) xs)
 map_more f [] i x q = cc
 map_more f (y ∷ ys) zero x q = ap (λ z. f z ∷ []) (sym (same_Some y x q))
 map_more f (y ∷ ys) (suc i) x q =
@@ -63,24 +64,24 @@ on_ok (Err e) a f = tt
 
 -- ---- the source of an item
 
-pub source_here : (nodes : List Node) (concerns : List Concerned) (cell : Cell) (e : Node) (i : Item) → AreConcernsOf nodes concerns → slice_get (elements nodes) cell.row ≡ Some e → slice_get (items_of nodes cell.side e) cell.item ≡ Some i → source_in concerns cell ≡ source_of nodes e.serial i
-source_here nodes concerns cell e i are here there =
+pub source_here : (nodes : List Node) (dependents : DocumentDependents) (cell : Cell) (e : Node) (i : Item) → AreDependentsOf nodes dependents → slice_get (elements nodes) cell.row ≡ Some e → slice_get (items_of nodes cell.side e) cell.item ≡ Some i → source_in dependents.rows cell ≡ source_of nodes e.serial i
+source_here nodes dependents cell e i are here there =
     are.sources cell ∙ ap (source_under nodes cell) here ∙ ap (source_by nodes e.serial) (ap (item_under nodes cell) here ∙ there)
 
 -- ---- the item that stands for a begin list
 
-module _ (document : Document) (log : List LogEntry) (e : Node) (concerns : List Concerned) (place : ℕ) (are : AreConcernsOf document.nodes concerns) (here : slice_get (elements document.nodes) place ≡ Some e) (none : e.attrs.begin ≡ None) where
+module _ (document : Document) (log : List LogEntry) (e : Node) (dependents : DocumentDependents) (place : ℕ) (are : AreDependentsOf document.nodes dependents) (here : slice_get (elements document.nodes) place ≡ Some e) (none : e.attrs.begin ≡ None) where
   abbrev first : Cell
   first = record { row = place; side = Begin; item = 0 }
 
-  abbrev kept_for : Item → List Kept
-  kept_for item = kept_of (history_of document log []) e Begin item
+  abbrev kept_for : Item → List InstanceTime
+  kept_for item = instances_of (history_of document log []) e Begin item
 
-  pub default_kept : (s : Source) (t : Option Time) → s ≡ source_in concerns first → (s ≡ source_of document.nodes e.serial (Offset (pos 0)) → kept_for (Offset (pos 0)) ≡ idle_kept t) → (s ≡ Nothing → t ≡ None) → idle_kept t ∷ [] ≡ map kept_for (begin_list document.nodes e)
+  pub default_kept : (s : Source) (t : Option Time) → s ≡ source_in dependents.rows first → (s ≡ source_of document.nodes e.serial (Offset (pos 0)) → kept_for (Offset (pos 0)) ≡ idle_kept t) → (s ≡ Nothing → t ≡ None) → idle_kept t ∷ [] ≡ map kept_for (begin_list document.nodes e)
   default_kept s t same kept nothing = by_excl (is_in_excl document.nodes e.serial) (ap (items_or (cond (is_in_excl document.nodes e.serial) (Indefinite ∷ []) (Offset (pos 0) ∷ []))) none)
     where
       source_is : (i : Item) → begin_list document.nodes e ≡ i ∷ [] → s ≡ source_of document.nodes e.serial i
-      source_is i q = same ∙ source_here document.nodes concerns first e i are here (ap (λ is. slice_get is 0) q)
+      source_is i q = same ∙ source_here document.nodes dependents first e i are here (ap (λ is. slice_get is 0) q)
 
       by_excl : (b : Bool) → begin_list document.nodes e ≡ cond b (Indefinite ∷ []) (Offset (pos 0) ∷ []) → idle_kept t ∷ [] ≡ map kept_for (begin_list document.nodes e)
       by_excl true q = ap (λ o. idle_kept o ∷ []) (nothing (source_is Indefinite q)) ∙ ap (map kept_for) (sym q)
@@ -94,9 +95,9 @@ begin_items nodes e items q = sym (ap (items_or (cond (is_in_excl nodes e.serial
 pub end_items : (e : Node) (o : Option (List Item)) → e.attrs.«end» ≡ o → items_or [] o ≡ end_list e
 end_items e o q = sym (ap (items_or []) q)
 
-pub row_made : (document : Document) (log : List LogEntry) (place serial : ℕ) (e x : Node) (none begun made : Row) → slice_get (elements document.nodes) place ≡ Some e → slice_get (elements document.nodes) place ≡ Some x → e.serial ≡ serial → none ≡ record { serial = serial; begins = []; ends = [] } → begun ≡ with_items none Begin (map (kept_of (history_of document log []) e Begin) (begin_list document.nodes e)) → made ≡ with_items begun End (map (kept_of (history_of document log []) e End) (end_list e)) → made ≡ row_of (history_of document log []) x
+pub row_made : (document : Document) (log : List LogEntry) (place serial : ℕ) (e x : Node) (none begun made : Row) → slice_get (elements document.nodes) place ≡ Some e → slice_get (elements document.nodes) place ≡ Some x → e.serial ≡ serial → none ≡ record { serial = serial; begins = []; ends = [] } → begun ≡ with_items none Begin (map (instances_of (history_of document log []) e Begin) (begin_list document.nodes e)) → made ≡ with_items begun End (map (instances_of (history_of document log []) e End) (end_list e)) → made ≡ row_of (history_of document log []) x
 row_made document log place serial e x none begun made here there same is_none is_begun is_made =
     is_made
-    ∙ ap (λ r. with_items r End (map (kept_of (history_of document log []) e End) (end_list e))) (is_begun ∙ ap (λ r. with_items r Begin (map (kept_of (history_of document log []) e Begin) (begin_list document.nodes e))) is_none)
+    ∙ ap (λ r. with_items r End (map (instances_of (history_of document log []) e End) (end_list e))) (is_begun ∙ ap (λ r. with_items r Begin (map (instances_of (history_of document log []) e Begin) (begin_list document.nodes e))) is_none)
     ∙ ap (λ s. record (row_of (history_of document log []) e) { serial = s }) (sym same)
     ∙ ap (row_of (history_of document log [])) (same_Some e x (sym here ∙ there))

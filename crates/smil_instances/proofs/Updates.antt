@@ -4,28 +4,28 @@ use Rattle.std.specs.Prelude.{cond, map, fold, filter_map, count_by, option_to_l
 use Rattle.std.specs.List.{cons_option}
 use Rattle.std.proofs.lemmas.List.Sums.{sum_by-cons}
 use Rattle.smil_model.specs.diary.Diary.{History}
-use Rattle.smil_kept.specs.declared.kept.Kept.{Kept}
-use Rattle.smil_kept.specs.declared.table.Add.{Add}
-use Rattle.smil_kept.specs.declared.table.Cell.{Cell}
-use Rattle.smil_kept.specs.Order.{IsNotAfter}
-use Rattle.smil_kept.specs.Settled.{Row}
-use Rattle.smil_kept.specs.Sources.{is_cell}
-use Rattle.smil_kept.specs.Table.{HasCell, cell_of, with_cell, with_add, with_adds, Fits}
-use Rattle.smil_kept.proofs.Places.{append_nil}
-use Rattle.smil_kept.proofs.Tables.{cell_with}
-use Rattle.smil_instances.specs.Taking.{shape_of, add_to, trimmed_at, with_trim}
+use Rattle.smil_instance_rows.specs.declared.item_times.InstanceTime.{InstanceTime}
+use Rattle.smil_instance_rows.specs.declared.cell.Add.{Add}
+use Rattle.smil_instance_rows.specs.declared.cell.Cell.{Cell}
+use Rattle.smil_instance_rows.specs.Places.{IsNotAfter}
+use Rattle.smil_instance_rows.specs.Rows.{Row}
+use Rattle.smil_instances.specs.Sources.{is_cell}
+use Rattle.smil_instance_rows.specs.Changes.{HasCell, cell_of, with_cell, with_add, with_adds, Fits}
+use Rattle.smil_instances.proofs.Places.{append_nil}
+use Rattle.smil_instance_rows.proofs.Tables.{cell_with}
+use Rattle.smil_instances.specs.Intake.{shape_of, add_to, remaining_at, with_remainder}
 use Rattle.smil_instances.proofs.Extents.{cell_shape, other_cell, same_cell, cell_itself, has_too}
 
 pub count_first : (test : Cell → Bool) (c : Cell) (cs : List Cell) → count_by test (c ∷ cs) ≡ cond (test c) 1 0 + count_by test cs
 count_first test c cs = sum_by-cons (λ x. cond (test x) 1 0) c cs
 
 -- a change of one cell
-pub record IsUpdate (step : List Row → Cell → List Row) (change : Cell → List Kept → List Kept) : Type 0 where
+pub record IsUpdate (step : List Row → Cell → List Row) (change : Cell → List InstanceTime → List InstanceTime) : Type 0 where
   pub shape : (rows : List Row) (c : Cell) → map shape_of (step rows c) ≡ map shape_of rows
   pub other : (rows : List Row) (c d : Cell) → is_cell d c ≡ false → cell_of (step rows c) d ≡ cell_of rows d
   pub own : (rows : List Row) (c : Cell) → HasCell rows c → cell_of (step rows c) c ≡ change c (cell_of rows c)
 
-module _ (step : List Row → Cell → List Row) (change : Cell → List Kept → List Kept) (is : IsUpdate step change) where
+module _ (step : List Row → Cell → List Row) (change : Cell → List InstanceTime → List InstanceTime) (is : IsUpdate step change) where
   pub all_shape : (rows : List Row) (cells : List Cell) → map shape_of (fold step rows cells) ≡ map shape_of rows
   all_shape rows [] = refl
   all_shape rows (c ∷ cs) = all_shape (step rows c) cs ∙ is.shape rows c
@@ -55,11 +55,11 @@ module _ (step : List Row → Cell → List Row) (change : Cell → List Kept �
 -- ---- trims
 
 module _ (h : History) where
-  pub trims : IsUpdate (with_trim h) (trimmed_at h)
+  pub trims : IsUpdate (with_remainder h) (remaining_at h)
   trims = record {
-    shape = λ rows c. cell_shape rows c (trimmed_at h c (cell_of rows c));
-    other = λ rows c d q. other_cell rows c d (trimmed_at h c (cell_of rows c)) q;
-    own = λ rows c has. cell_with rows c (trimmed_at h c (cell_of rows c)) has;
+    shape = λ rows c. cell_shape rows c (remaining_at h c (cell_of rows c));
+    other = λ rows c d q. other_cell rows c d (remaining_at h c (cell_of rows c)) q;
+    own = λ rows c has. cell_with rows c (remaining_at h c (cell_of rows c)) has;
   }
 
 -- ---- adds
@@ -68,25 +68,25 @@ pub adds_shape : (rows : List Row) (more : List Add) → map shape_of (with_adds
 adds_shape rows [] = refl
 adds_shape rows (a ∷ more) = adds_shape (with_add rows a) more ∙ cell_shape rows a.cell (cell_of rows a.cell ++ a.kept ∷ [])
 
-module _ (give : Cell → Option Kept) where
+module _ (give : Cell → Option InstanceTime) where
   abbrev pub adds : List Cell → List Add
   adds cells = filter_map (λ c. add_to c (give c)) cells
 
-  abbrev pub with_some : List Row → Cell → Option Kept → List Row
+  abbrev pub with_some : List Row → Cell → Option InstanceTime → List Row
   with_some rows c None = rows
   with_some rows c (Some kept) = with_cell rows c (cell_of rows c ++ kept ∷ [])
 
   abbrev pub with_given : List Row → Cell → List Row
   with_given rows c = with_some rows c (give c)
 
-  abbrev pub and_given : Cell → List Kept → List Kept
+  abbrev pub and_given : Cell → List InstanceTime → List InstanceTime
   and_given c kept = kept ++ option_to_list (give c)
 
   pub each_add : (rows : List Row) (cells : List Cell) → with_adds rows (adds cells) ≡ fold with_given rows cells
   each_add rows [] = refl
   each_add rows (c ∷ cs) = by (give c) (each_add (with_some rows c (give c)) cs)
     where
-      by : (o : Option Kept) → with_adds (with_some rows c o) (adds cs) ≡ fold with_given (with_some rows c o) cs → with_adds rows (cons_option (add_to c o) (adds cs)) ≡ fold with_given (with_some rows c o) cs
+      by : (o : Option InstanceTime) → with_adds (with_some rows c o) (adds cs) ≡ fold with_given (with_some rows c o) cs → with_adds rows (cons_option (add_to c o) (adds cs)) ≡ fold with_given (with_some rows c o) cs
       by None later = later
       by (Some kept) later = later
 
@@ -97,22 +97,22 @@ module _ (give : Cell → Option Kept) where
     own = λ rows c has. own rows c has (give c);
   }
     where
-      shape : (rows : List Row) (c : Cell) (o : Option Kept) → map shape_of (with_some rows c o) ≡ map shape_of rows
+      shape : (rows : List Row) (c : Cell) (o : Option InstanceTime) → map shape_of (with_some rows c o) ≡ map shape_of rows
       shape rows c None = refl
       shape rows c (Some kept) = cell_shape rows c (cell_of rows c ++ kept ∷ [])
 
-      other : (rows : List Row) (c d : Cell) → is_cell d c ≡ false → (o : Option Kept) → cell_of (with_some rows c o) d ≡ cell_of rows d
+      other : (rows : List Row) (c d : Cell) → is_cell d c ≡ false → (o : Option InstanceTime) → cell_of (with_some rows c o) d ≡ cell_of rows d
       other rows c d q None = refl
       other rows c d q (Some kept) = other_cell rows c d (cell_of rows c ++ kept ∷ []) q
 
-      own : (rows : List Row) (c : Cell) → HasCell rows c → (o : Option Kept) → cell_of (with_some rows c o) c ≡ cell_of rows c ++ option_to_list o
+      own : (rows : List Row) (c : Cell) → HasCell rows c → (o : Option InstanceTime) → cell_of (with_some rows c o) c ≡ cell_of rows c ++ option_to_list o
       own rows c has None = sym (append_nil (cell_of rows c))
       own rows c has (Some kept) = cell_with rows c (cell_of rows c ++ kept ∷ []) has
 
   -- a cell of these rows, with nothing of a later place than what it is given
   pub record IsReady (rows : List Row) (c : Cell) : Type 0 where
     pub has : HasCell rows c
-    pub order : (kept : Kept) → give c ≡ Some kept → IsNotAfter kept.place (cell_of rows c)
+    pub order : (kept : InstanceTime) → give c ≡ Some kept → IsNotAfter kept.place (cell_of rows c)
 
   still_ready : (rows others : List Row) (d : Cell) → map shape_of rows ≡ map shape_of others → cell_of others d ≡ cell_of rows d → IsReady rows d → IsReady others d
   still_ready rows others d shape same ready = record {
@@ -139,7 +139,7 @@ module _ (give : Cell → Option Kept) where
       first true q (inr once) = once.1
       first false q any = let never : false ≡ true = sym q ∙ cell_itself c in cc
 
-      by : (o : Option Kept) → give c ≡ o → (((d : Cell) → (count_by (is_cell d) cs ≡ 0) ⊎ ((count_by (is_cell d) cs ≡ 1) × IsReady (with_some rows c o) d)) → Fits (with_some rows c o) (adds cs)) → Fits rows (cons_option (add_to c o) (adds cs))
+      by : (o : Option InstanceTime) → give c ≡ o → (((d : Cell) → (count_by (is_cell d) cs ≡ 0) ⊎ ((count_by (is_cell d) cs ≡ 1) × IsReady (with_some rows c o) d)) → Fits (with_some rows c o) (adds cs)) → Fits rows (cons_option (add_to c o) (adds cs))
       by None q later = later (λ d. at_rest rows refl (λ x r. refl) d (is_cell d c) refl (at_count d))
       by (Some kept) q later =
           let ready = first (is_cell c c) refl (at_count c) in

@@ -6,17 +6,17 @@ use Rattle.smil_model.specs.declared.document.Edge.{Edge}
 use Rattle.smil_model.specs.declared.document.Edge.TheVariants.{Begin, End}
 use Rattle.smil_model.specs.declared.document.Item.{Item}
 use Rattle.smil_model.specs.document.Document.{elements, node_at}
-use Rattle.smil_kept.specs.declared.kept.Kept.{Kept}
-use Rattle.smil_kept.specs.Settled.{Row, kept_at}
-use Rattle.smil_kept.specs.Sources.{items_of}
+use Rattle.smil_instance_rows.specs.declared.item_times.InstanceTime.{InstanceTime}
+use Rattle.smil_instance_rows.specs.Rows.{Row, instance_at}
+use Rattle.smil_model.specs.document.Defaults.{items_of}
 
 -- what is kept where a time is known before the first entry
-abbrev pub idle_kept : Option Time → List Kept
+abbrev pub idle_kept : Option Time → List InstanceTime
 idle_kept None = []
-idle_kept (Some t) = kept_at 0 t ∷ []
+idle_kept (Some t) = instance_at 0 t ∷ []
 
--- the row with the kept times of more items
-abbrev pub with_items : Row → Edge → List (List Kept) → Row
+-- the row with the instance times of more items
+abbrev pub with_items : Row → Edge → List (List InstanceTime) → Row
 with_items row Begin items = record { serial = row.serial; begins = row.begins ++ items; ends = row.ends }
 with_items row End items = record { serial = row.serial; begins = row.begins; ends = row.ends ++ items }
 

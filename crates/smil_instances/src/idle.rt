@@ -8,23 +8,28 @@ ghost use Rattle.smil_model.specs.declared.document.Edge.TheVariants as edge;
 ghost use Rattle.smil_model.specs.declared.document.Item.TheVariants as item;
 ghost use Rattle.smil_model.specs.document.Document.{Document, elements, is_element, node_at};
 ghost use Rattle.smil_model.specs.document.Defaults.{begin_list, end_list};
-ghost use Rattle.smil_kept.specs.Cells.{side_of};
-ghost use Rattle.smil_kept.specs.Settled.{kept_of, row_of, settled_rows};
-ghost use Rattle.smil_kept.specs.Sources.{source_of};
-ghost use Rattle.smil_kept.specs.declared.source.Source.TheVariants as from;
-ghost use Rattle.smil_concern.specs.Concerns.{AreConcernsOf};
+ghost use Rattle.smil_instance_rows.specs.Cells.{side_of};
+ghost use Rattle.smil_instances.specs.SettledTimes.{instances_of, row_of, settled_rows};
+ghost use Rattle.smil_instances.specs.Sources.{source_of};
+ghost use Rattle.smil_instances.specs.declared.source.Source.TheVariants as from;
+ghost use Rattle.smil_instances.specs.Dependents.{AreDependentsOf};
 ghost use Rattle.smil_instances.specs.Idle.{IsElementAt, IsListOf, idle_kept, with_items};
-ghost use Rattle.smil_instances.specs.Taking.{history_of};
+ghost use Rattle.smil_instances.specs.Intake.{history_of};
 
-use smil_concern::Concerns;
-use smil_kept::{Cell, Kept, KeptRow, Rows, Source};
+use super::dependents::Dependents;
+use super::source::Source;
+use smil_instance_rows::{Cell, InstanceRow, InstanceTime, Rows};
 use smil_model::{Edge, Item, Items, Kind, Time, later};
 use smil_tree::Tree;
 use std::alloc::{AllocError, Global};
 
 /// The rows of a document to which nothing has happened yet.
-pub(crate) fn idle_rows(alloc: Global, tree: &Tree, concerns: &Concerns) -> Result<Rows, AllocError>
-    requires { AreConcernsOf tree.now.nodes concerns.now }
+pub(crate) fn idle_rows(
+    alloc: Global,
+    tree: &Tree,
+    dependents: &Dependents,
+) -> Result<Rows, AllocError>
+    requires { AreDependentsOf tree.now.nodes dependents.now }
     ensures { (log : List AnyLogEntry) → IfOk result (λ rows. rows ≡ settled_rows (history_of tree.now log [])) }
 {
     tree.valid();
@@ -32,7 +37,7 @@ pub(crate) fn idle_rows(alloc: Global, tree: &Tree, concerns: &Concerns) -> Resu
     let mut node = 0;
     while let Some(serial) = tree.serial_at(node) {
         if is_element(tree, serial) {
-            let row = idle_row(alloc, tree, concerns, rows.len(), serial)?;
+            let row = idle_row(alloc, tree, dependents, rows.len(), serial)?;
             rows.push(row)?;
         }
         node += 1;
@@ -52,66 +57,66 @@ fn is_element(tree: &Tree, serial: u32) -> bool
 fn idle_row(
     alloc: Global,
     tree: &Tree,
-    concerns: &Concerns,
+    dependents: &Dependents,
     place: usize,
     serial: u32,
-) -> Result<KeptRow, AllocError>
-    requires concerns { AreConcernsOf tree.now.nodes concerns.now }
+) -> Result<InstanceRow, AllocError>
+    requires dependents { AreDependentsOf tree.now.nodes dependents.now }
     requires element { IsElementAt tree.now.nodes place serial }
     ensures { (log : List AnyLogEntry) (e : AnyNode) → slice_get (elements tree.now.nodes) place ≡ Some e → IfOk result (λ row. row ≡ row_of (history_of tree.now log []) e) }
 {
-    let mut row = KeptRow::new(alloc, serial);
+    let mut row = InstanceRow::new(alloc, serial);
     let attrs = tree.attrs(serial);
-    push_begins(&mut row, concerns, place, &attrs.begin)?;
-    push_ends(&mut row, concerns, place, &attrs.end)?;
+    push_begins(&mut row, dependents, place, &attrs.begin)?;
+    push_ends(&mut row, dependents, place, &attrs.end)?;
     Ok(row)
 }
 
 /// Appends the items of the begin list of an element, with this `begin`, to a row without begins.
 fn push_begins(
-    row: &mut KeptRow,
-    concerns: &Concerns,
+    row: &mut InstanceRow,
+    dependents: &Dependents,
     place: usize,
     begin: &Option<Items>,
 ) -> Result<(), AllocError>
     requires { row.old.begins ≡ [] }
-    ensures { (document : Document) (log : List AnyLogEntry) (e : AnyNode) → AreConcernsOf document.nodes concerns.now → slice_get (elements document.nodes) place ≡ Some e → e.attrs.begin ≡ begin.now → OnOk result (row.new ≡ with_items row.old edge.Begin (map (kept_of (history_of document log []) e edge.Begin) (begin_list document.nodes e))) }
+    ensures { (document : Document) (log : List AnyLogEntry) (e : AnyNode) → AreDependentsOf document.nodes dependents.now → slice_get (elements document.nodes) place ≡ Some e → e.attrs.begin ≡ begin.now → OnOk result (row.new ≡ with_items row.old edge.Begin (map (instances_of (history_of document log []) e edge.Begin) (begin_list document.nodes e))) }
 {
     match begin {
-        Some(items) => push_list(row, concerns, place, Edge::Begin, items),
-        None => push_default(row, concerns, place),
+        Some(items) => push_list(row, dependents, place, Edge::Begin, items),
+        None => push_default(row, dependents, place),
     }
 }
 
 /// Appends the items of the end list of an element, with this `end`, to a row without ends.
 fn push_ends(
-    row: &mut KeptRow,
-    concerns: &Concerns,
+    row: &mut InstanceRow,
+    dependents: &Dependents,
     place: usize,
     end: &Option<Items>,
 ) -> Result<(), AllocError>
     requires { row.old.ends ≡ [] }
-    ensures { (document : Document) (log : List AnyLogEntry) (e : AnyNode) → AreConcernsOf document.nodes concerns.now → slice_get (elements document.nodes) place ≡ Some e → e.attrs.«end» ≡ end.now → OnOk result (row.new ≡ with_items row.old edge.End (map (kept_of (history_of document log []) e edge.End) (end_list e))) }
+    ensures { (document : Document) (log : List AnyLogEntry) (e : AnyNode) → AreDependentsOf document.nodes dependents.now → slice_get (elements document.nodes) place ≡ Some e → e.attrs.«end» ≡ end.now → OnOk result (row.new ≡ with_items row.old edge.End (map (instances_of (history_of document log []) e edge.End) (end_list e))) }
 {
     match end {
-        Some(items) => push_list(row, concerns, place, Edge::End, items),
+        Some(items) => push_list(row, dependents, place, Edge::End, items),
         None => Ok(()),
     }
 }
 
 /// Appends the items of a begin or end list to a row that has none on that side.
 fn push_list(
-    row: &mut KeptRow,
-    concerns: &Concerns,
+    row: &mut InstanceRow,
+    dependents: &Dependents,
     place: usize,
     side: Edge,
     items: &Items,
 ) -> Result<(), AllocError>
     requires { side_of row.old side ≡ [] }
-    ensures { (document : Document) (log : List AnyLogEntry) (e : AnyNode) → AreConcernsOf document.nodes concerns.now → IsListOf document.nodes place e side items.now → OnOk result (row.new ≡ with_items row.old side (map (kept_of (history_of document log []) e side) items.now)) }
+    ensures { (document : Document) (log : List AnyLogEntry) (e : AnyNode) → AreDependentsOf document.nodes dependents.now → IsListOf document.nodes place e side items.now → OnOk result (row.new ≡ with_items row.old side (map (instances_of (history_of document log []) e side) items.now)) }
 {
     for item in 0..items.len() {
-        let source = concerns.source(Cell {
+        let source = dependents.source(Cell {
             row: place,
             side,
             item,
@@ -124,11 +129,15 @@ fn push_list(
 
 /// Appends the item that stands for a begin list where there is none to a row without begins: an offset of 0, or
 /// `indefinite` in a child of an excl, whose source is nothing.
-fn push_default(row: &mut KeptRow, concerns: &Concerns, place: usize) -> Result<(), AllocError>
+fn push_default(
+    row: &mut InstanceRow,
+    dependents: &Dependents,
+    place: usize,
+) -> Result<(), AllocError>
     requires { row.old.begins ≡ [] }
-    ensures { (document : Document) (log : List AnyLogEntry) (e : AnyNode) → AreConcernsOf document.nodes concerns.now → slice_get (elements document.nodes) place ≡ Some e → e.attrs.begin ≡ None → OnOk result (row.new ≡ with_items row.old edge.Begin (map (kept_of (history_of document log []) e edge.Begin) (begin_list document.nodes e))) }
+    ensures { (document : Document) (log : List AnyLogEntry) (e : AnyNode) → AreDependentsOf document.nodes dependents.now → slice_get (elements document.nodes) place ≡ Some e → e.attrs.begin ≡ None → OnOk result (row.new ≡ with_items row.old edge.Begin (map (instances_of (history_of document log []) e edge.Begin) (begin_list document.nodes e))) }
 {
-    let source = concerns.source(Cell {
+    let source = dependents.source(Cell {
         row: place,
         side: Edge::Begin,
         item: 0,
@@ -138,7 +147,7 @@ fn push_default(row: &mut KeptRow, concerns: &Concerns, place: usize) -> Result<
 
 /// Appends an item to a side that has so many, with the time that is known for it before the first entry, if any.
 fn push_item(
-    row: &mut KeptRow,
+    row: &mut InstanceRow,
     side: Edge,
     item: usize,
     time: Option<Time>,
@@ -148,7 +157,7 @@ fn push_item(
 {
     row.push_item(side)?;
     match time {
-        Some(time) => row.add(side, item, Kept { place: 0, time }),
+        Some(time) => row.add(side, item, InstanceTime { place: 0, time }),
         None => Ok(()),
     }
 }
@@ -156,7 +165,7 @@ fn push_item(
 /// The time that is known for an item with this source before the first entry: an offset's from the start of the time
 /// parent, and an `indefinite` end.
 fn idle_time(item: &Item, side: Edge, source: Source) -> Option<Time>
-    ensures { (document : Document) (log : List AnyLogEntry) (e : AnyNode) → source ≡ source_of document.nodes e.serial item.now → kept_of (history_of document log []) e side item.now ≡ idle_kept result }
+    ensures { (document : Document) (log : List AnyLogEntry) (e : AnyNode) → source ≡ source_of document.nodes e.serial item.now → instances_of (history_of document log []) e side item.now ≡ idle_kept result }
 {
     match (item, side) {
         (Item::Offset { offset }, _) => time_from_start(source, *offset),
@@ -167,7 +176,7 @@ fn idle_time(item: &Item, side: Edge, source: Source) -> Option<Time>
 
 /// The time that is known for an offset with this source before the first entry.
 fn time_from_start(source: Source, offset: i64) -> Option<Time>
-    ensures kept { (document : Document) (log : List AnyLogEntry) (e : AnyNode) (side : AnyEdge) → source ≡ source_of document.nodes e.serial (item.Offset offset) → kept_of (history_of document log []) e side (item.Offset offset) ≡ idle_kept result }
+    ensures kept { (document : Document) (log : List AnyLogEntry) (e : AnyNode) (side : AnyEdge) → source ≡ source_of document.nodes e.serial (item.Offset offset) → instances_of (history_of document log []) e side (item.Offset offset) ≡ idle_kept result }
     ensures nothing { source ≡ from.Nothing → result ≡ None }
 {
     match source {

@@ -6,21 +6,23 @@ ghost use Rattle.smil_model.specs.declared.diary.LogEntry.{LogEntry as AnyLogEnt
 ghost use Rattle.smil_model.specs.declared.document.Node.{Node as AnyNode};
 ghost use Rattle.smil_model.specs.document.Document.{Document, elements, node_at};
 ghost use Rattle.smil_model.specs.interval.Instances.{settled_begins, settled_ends};
-ghost use Rattle.smil_kept.specs.Contract.{begins_in, ends_in, first_after, first_from, is_any, times_in};
-ghost use Rattle.smil_kept.specs.Settled.{settled_rows};
+ghost use Rattle.smil_instance_rows.specs.Readings.{begins_in, ends_in, first_after, first_from, times_in};
+ghost use Rattle.smil_model.specs.interval.Intervals.{has_any};
+ghost use Rattle.smil_instances.specs.SettledTimes.{settled_rows};
 ghost use Rattle.smil_stretch.specs.Clocks.{IsLawfulFor};
-ghost use Rattle.smil_hearing.specs.Entry.{IsAtHand};
-ghost use Rattle.smil_concern.specs.Concerns.{AreConcernsOf};
-ghost use Rattle.smil_instances.specs.Settled.{IsSettled, settled_times};
-ghost use Rattle.smil_instances.specs.Taking.{history_of};
+ghost use Rattle.smil_graph.specs.Graph.{OrderedNodes};
+ghost use Rattle.smil_instances.specs.Entry.{IsAtHand};
+ghost use Rattle.smil_instances.specs.Dependents.{AreDependentsOf};
+ghost use Rattle.smil_instances.specs.Instances.{IsSettled, settled_times};
+ghost use Rattle.smil_instances.specs.Intake.{history_of};
 
+use super::dependents::Dependents;
 use super::idle::idle_rows;
-use super::taking::take_in;
-use smil_concern::Concerns;
+use super::intake::take_in;
+use super::laws::rows_tell_instances;
 use smil_diary::Book;
 use smil_graph::Graph;
-use smil_kept::Rows;
-use smil_kept::laws::rows_tell_instances;
+use smil_instance_rows::Rows;
 use smil_model::{Duplicate, Edge, Entry, Log, Time};
 use smil_stretch::Clocks;
 use smil_tree::Tree;
@@ -32,23 +34,23 @@ use std::marker::Model;
 #[derive(Drop)]
 pub struct Instances {
     rows: Rows,
-    concerns: Concerns,
+    dependents: Dependents,
     alloc: Global,
 }
 
 impl Model for Instances {
-    ghost use Rattle.smil_instances.specs.Settled.{KeptInstances};
+    ghost use Rattle.smil_instances.specs.Instances.{SettledInstances};
 
-    ghost Value = { KeptInstances };
+    ghost Value = { SettledInstances };
 
-    ghost view = { λ a. record { rows = a.rows; concerns = a.concerns } };
+    ghost view = { λ a. record { rows = a.rows; dependents = a.dependents } };
 }
 
 impl Duplicate for Instances {
     fn copy(&self) -> Result<Self, AllocError> {
         Ok(Instances {
             rows: self.rows.copy()?,
-            concerns: self.concerns.copy()?,
+            dependents: self.dependents.copy()?,
             alloc: self.alloc,
         })
     }
@@ -59,13 +61,13 @@ impl Instances {
     /// tree. It takes memory for each item and for each element that an item names.
     // An item names at most one element, so that the tree alone tells what each follows from.
     pub fn new(alloc: Global, tree: &Tree, _graph: &Graph) -> Result<Instances, AllocError>
-        requires { _graph.now ≡ tree.now.nodes }
+        requires { _graph.now.nodes ≡ tree.now.nodes }
         ensures { (log : List AnyLogEntry) → IfOk result (λ value. IsSettled value tree.now log []) }
     {
-        let concerns = Concerns::of(alloc, tree)?;
+        let dependents = Dependents::of(alloc, tree)?;
         Ok(Instances {
-            rows: idle_rows(alloc, tree, &concerns)?,
-            concerns,
+            rows: idle_rows(alloc, tree, &dependents)?,
+            dependents,
             alloc,
         })
     }
@@ -86,18 +88,18 @@ impl Instances {
         ensures err { OnErr result (self.new ≡ self.old) }
     {
         let rows = &mut self.rows;
-        take_in(self.alloc, rows, &self.concerns, tree, clocks, log, book)
+        take_in(self.alloc, rows, &self.dependents, tree, clocks, log, book)
     }
 
     /// Makes these the instance times of the book, whatever they were: the same as noting its entries one after another
     /// from the first. The document is the one that `new` was given. Where memory runs out all is as before.
     pub fn rebuild(&mut self, tree: &Tree, log: &Log, book: &Book) -> Result<(), AllocError>
         requires lawful { IsLawfulFor tree.now book.now }
-        requires document { AreConcernsOf tree.now.nodes self.old.concerns }
+        requires document { AreDependentsOf tree.now.nodes self.old.dependents }
         ensures ok { OnOk result (IsSettled self.new tree.now log.now book.now) }
         ensures err { OnErr result (self.new ≡ self.old) }
     {
-        self.rows = rows_of(self.alloc, tree, &self.concerns, log, book)?;
+        self.rows = rows_of(self.alloc, tree, &self.dependents, log, book)?;
         Ok(())
     }
 
@@ -143,8 +145,8 @@ impl Instances {
 
     /// Whether an element has any end. It takes no memory.
     pub fn any_end(&self, who: u32) -> bool
-        ensures value { result ≡ is_any (ends_in self.now.rows who) }
-        ensures model { (document : Document) (log : List AnyLogEntry) (diary : List AnyEntry) (now : ℤ) (e : AnyNode) → IsSettled self.now document log diary → node_at (elements document.nodes) who ≡ Some e → result ≡ is_any (settled_ends (history_of document log diary) now e) }
+        ensures value { result ≡ has_any (ends_in self.now.rows who) }
+        ensures model { (document : Document) (log : List AnyLogEntry) (diary : List AnyEntry) (now : ℤ) (e : AnyNode) → IsSettled self.now document log diary → node_at (elements document.nodes) who ≡ Some e → result ≡ has_any (settled_ends (history_of document log diary) now e) }
     {
         rows_tell_instances();
         self.rows.any_end(who)
@@ -155,21 +157,21 @@ impl Instances {
 fn rows_of(
     alloc: Global,
     tree: &Tree,
-    concerns: &Concerns,
+    dependents: &Dependents,
     log: &Log,
     book: &Book,
 ) -> Result<Rows, AllocError>
     requires lawful { IsLawfulFor tree.now book.now }
-    requires document { AreConcernsOf tree.now.nodes concerns.now }
+    requires document { AreDependentsOf tree.now.nodes dependents.now }
     ensures { IfOk result (λ rows. rows ≡ settled_rows (history_of tree.now log.now book.now)) }
 {
-    let mut rows = idle_rows(alloc, tree, concerns)?;
+    let mut rows = idle_rows(alloc, tree, dependents)?;
     let mut front = Book::new(alloc);
     let mut clocks = Clocks::of(alloc, tree, &front)?;
     for place in 0..book.len() {
         let entry = book.entry(place).unwrap();
         push(&mut front, entry)?;
-        take_in(alloc, &mut rows, concerns, tree, &clocks, log, &front)?;
+        take_in(alloc, &mut rows, dependents, tree, &clocks, log, &front)?;
         clocks.follow(entry);
     }
     Ok(rows)

@@ -1,13 +1,37 @@
-//! The instance times that a diary alone gives, kept while entries are appended.
+//! The instance times that a diary alone gives, kept while entries are appended: what the times of each item follow from,
+//! which items an entry concerns, which of these hear it, and what it gives to them.
 #![tactic(auto)]
 
-mod giving;
+mod additions;
+mod before;
+mod carried;
+mod contribution;
+mod dependents;
+mod dependents_row;
+mod edge_times;
+mod elements;
+mod fill;
+mod fresh;
 mod idle;
 pub mod instances;
-mod taking;
-mod trimming;
+mod intake;
+mod keys;
+pub mod laws;
+mod occurrence;
+mod remainder;
+mod sensitivity;
+mod source;
+mod sources;
+mod starts;
 
+pub use contribution::given;
+pub use dependents::Dependents;
 pub use instances::Instances;
+pub use occurrence::occurs;
+pub use sensitivity::hears;
+pub use source::Source;
 
+#[cfg(test)]
+mod dependents_tests;
 #[cfg(test)]
 mod tests;

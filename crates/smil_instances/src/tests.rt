@@ -1,22 +1,24 @@
-//! Worked diaries of small documents: each is noted entry by entry, and made anew at each front.
+//! A worked diary of a small document, noted entry by entry, and made anew at each front.
 
 ghost use Rattle.std.specs.Prelude.{◌≡◌, List, [], ◌∷◌, ◌++◌, true, ◌&&◌, int_le, IfOk, IsSome, OnOk};
 ghost use Rattle.smil_model.specs.declared.diary.LogEntry.{LogEntry as AnyLogEntry};
 ghost use Rattle.smil_model.specs.declared.times.TheConstants.{HORIZON as LIMIT};
-ghost use Rattle.smil_model.specs.document.Document.{is_class_kind, node_at};
+ghost use Rattle.smil_model.specs.document.Document.{is_class_kind, node_at, with_node};
 ghost use Rattle.smil_model.specs.diary.Lawful.{has_element, is_lawful_step, may_begin as may_begin_in};
-ghost use Rattle.smil_stretch.specs.Clocks.{AreClocksOf, IsLawfulFor, last_moment as last_moment_of};
-ghost use Rattle.smil_concern.specs.Concerns.{AreConcernsOf};
-ghost use Rattle.smil_instances.specs.Settled.{IsSettled};
-ghost use Rattle.smil_instances.specs.Taking.{history_of};
+ghost use Rattle.smil_stretch.specs.Clocks.{AreClocksOf, IsLawfulFor};
+ghost use Rattle.smil_model.specs.diary.Diary.{last_moment as last_moment_of};
+ghost use Rattle.smil_instances.specs.Dependents.{AreDependentsOf};
+ghost use Rattle.smil_instances.specs.Sample.{begins, ends, made, sample};
+ghost use Rattle.smil_instances.specs.Instances.{IsSettled};
+ghost use Rattle.smil_instances.specs.Intake.{history_of};
 
 use super::Instances;
 use smil_diary::Book;
 use smil_graph::Graph;
 use smil_model::{
-    Bytes, Duplicate, Edge, Entry, HORIZON, Happening, Kind, Log, LogEntry, NODES, Step, Time, Who,
+    Attrs, Bytes, Doc, Duplicate, Edge, Entry, HORIZON, Happening, Item, Items, Kind, Log,
+    LogEntry, NODES, Node, Step, Time, Who,
 };
-use smil_outline::Builder;
 use smil_stretch::Clocks;
 use smil_tree::Tree;
 use std::alloc::{AllocError, Global};
@@ -149,8 +151,8 @@ fn compare_anew(
     anew: &mut Instances,
 ) -> Result<(), Fail>
     requires lawful { IsLawfulFor tree.now front.now }
-    requires document { AreConcernsOf tree.now.nodes anew.old.concerns }
-    ensures { OnOk result (AreConcernsOf tree.now.nodes anew.new.concerns) }
+    requires document { AreDependentsOf tree.now.nodes anew.old.dependents }
+    ensures { OnOk result (AreDependentsOf tree.now.nodes anew.new.dependents) }
 {
     anew.rebuild(tree, log, front)?;
     if tell_the_same(tree, instances, anew) {
@@ -172,7 +174,7 @@ fn take_all(
 ) -> Result<(), Fail>
     requires settled { IsSettled instances.old tree.now log.now front.old }
     requires known { AreClocksOf clocks.old (history_of tree.now log.now front.old) }
-    requires document { AreConcernsOf tree.now.nodes anew.old.concerns }
+    requires document { AreDependentsOf tree.now.nodes anew.old.dependents }
 {
     for entry in entries {
         take_next(tree, log, front, clocks, instances, *entry)?;
@@ -205,59 +207,110 @@ fn tells(instances: &Instances, who: u32, begins: &[i64], ends: &[Time]) -> bool
     instances.begins(who) == begins && instances.ends(who) == ends
 }
 
-// The first begin or end from a value on, and that after it.
-fn firsts(instances: &Instances, who: u32, side: Edge, value: i64) -> [Time; 2] {
-    [
-        instances.first_from(who, side, value),
-        instances.first_after(who, side, value),
-    ]
+// Appends a node.
+pub(crate) fn put(
+    doc: &mut Doc,
+    serial: u32,
+    kind: Kind,
+    parent: u32,
+    attrs: Attrs,
+) -> Result<(), AllocError>
+    ensures { OnOk result (doc.new ≡ with_node doc.old (made serial kind parent attrs)) }
+{
+    doc.push(Node {
+        serial,
+        kind,
+        parent,
+        attrs,
+    })
 }
 
-fn any_end(instances: &Instances, who: u32) -> bool {
-    instances.any_end(who)
+// A second after the key x, and seven seconds after the begin of the image with the id b.
+fn begin_items(alloc: Global) -> Result<Items, AllocError>
+    ensures { IfOk result (λ list. list ≡ begins) }
+{
+    let mut list = Items::new(
+        alloc,
+        Item::Key {
+            key: b'x',
+            offset: 1000,
+        },
+    )?;
+    list.push(Item::Sync {
+        who: Bytes::of(alloc, b"b")?,
+        edge: Edge::Begin,
+        offset: 7000,
+    })?;
+    Ok(list)
 }
 
-// The document of an outline.
-fn tree_of(alloc: Global, lines: &[&str]) -> Result<Tree, Fail> {
-    let mut builder = Builder::new(alloc)?;
-    for line in lines {
-        builder.push(line.as_bytes())?;
-    }
-    let doc = builder.finish()?;
-    Ok(Tree::of_doc(alloc, &doc)?)
+// The key y, a click on the image with the id b, or never.
+fn end_items(alloc: Global) -> Result<Items, AllocError>
+    ensures { IfOk result (λ list. list ≡ ends) }
+{
+    let mut list = Items::new(
+        alloc,
+        Item::Key {
+            key: b'y',
+            offset: 0,
+        },
+    )?;
+    list.push(Item::Event {
+        who: Some(Bytes::of(alloc, b"b")?),
+        name: Bytes::of(alloc, b"c")?,
+        offset: 0,
+    })?;
+    list.push(Item::Indefinite)?;
+    Ok(list)
 }
 
-// The log of clicks on an element.
-fn clicks(alloc: Global, who: u32, moments: &[i64]) -> Result<Log, AllocError> {
+// A par of an image with the id b, and of one with these lists.
+fn document(alloc: Global) -> Result<Doc, AllocError>
+    ensures { IfOk result (λ doc. doc ≡ sample) }
+{
+    let mut doc = Doc::new(alloc, 4);
+    put(&mut doc, 1, Kind::Par, 0, Attrs::none())?;
+    let mut attrs = Attrs::none();
+    attrs.id = Some(Bytes::of(alloc, b"b")?);
+    put(&mut doc, 2, Kind::Img, 1, attrs)?;
+    let mut attrs = Attrs::none();
+    attrs.begin = Some(begin_items(alloc)?);
+    attrs.end = Some(end_items(alloc)?);
+    put(&mut doc, 3, Kind::Img, 1, attrs)?;
+    Ok(doc)
+}
+
+fn tree(alloc: Global) -> Result<Tree, AllocError> {
+    let doc = document(alloc)?;
+    Tree::of_doc(alloc, &doc)
+}
+
+// A press of a key.
+fn press(log: &mut Log, moment: i64, key: u8) -> Result<(), AllocError> {
+    log.push(LogEntry {
+        moment,
+        what: Happening::Key { key },
+    })
+}
+
+// The keys x and y, a click on the image with the id b, and the key x again.
+fn log(alloc: Global) -> Result<Log, AllocError> {
     let mut log = Log::new(alloc);
-    for moment in moments {
-        let name = Bytes::of(alloc, b"click")?;
-        log.push(LogEntry {
-            moment: *moment,
-            what: Happening::Event { who, name },
-        })?;
-    }
+    press(&mut log, 1000, b'x')?;
+    press(&mut log, 2500, b'y')?;
+    let name = Bytes::of(alloc, b"c")?;
+    log.push(LogEntry {
+        moment: 3000,
+        what: Happening::Event { who: 2, name },
+    })?;
+    press(&mut log, 4000, b'x')?;
     Ok(log)
 }
 
-fn began(moment: i64, who: u32, begin: i64) -> Entry {
+fn began(moment: i64, who: u32) -> Entry {
     Entry {
         moment,
-        step: Step::Began { who, begin },
-    }
-}
-
-fn ended(moment: i64, who: u32, end: i64) -> Entry {
-    Entry {
-        moment,
-        step: Step::Ended { who, end },
-    }
-}
-
-fn cut(moment: i64, who: u32) -> Entry {
-    Entry {
-        moment,
-        step: Step::Cut { who },
+        step: Step::Began { who, begin: moment },
     }
 }
 
@@ -268,217 +321,33 @@ fn logged(moment: i64, place: u32) -> Entry {
     }
 }
 
-// The end of b by a click at 4 s places the begin of c two seconds before it.
-#[test]
-fn a_begin_moves_into_the_past(rt: HostRuntime) -> Result<(), Fail> {
-    let alloc = rt.alloc();
-    let lines = [
-        "par",
-        "  video id=\"b\" dur=\"10s\" end=\"click\"",
-        "  text id=\"c\" begin=\"b.end-2s\" dur=\"5s\"",
-    ];
-    let tree = tree_of(alloc, &lines)?;
-    let log = clicks(alloc, 2, &[4000])?;
-    let entries = [
-        began(0, 1, 0),
-        began(0, 2, 0),
-        logged(4000, 0),
-        began(4000, 3, 2000),
-        ended(4000, 2, 4000),
-        ended(7000, 3, 7000),
-        ended(7000, 1, 7000),
-    ];
-    let before = played(alloc, &tree, &log, &entries[..4])?;
-    assert!(rt; tells(&before, 2, &[0], &[Time::At(4000)]));
-    assert!(rt; tells(&before, 3, &[], &[]));
-    let after = played(alloc, &tree, &log, &entries)?;
-    assert!(rt; tells(&after, 2, &[0], &[Time::At(4000)]));
-    assert!(rt; tells(&after, 3, &[2000], &[]));
-    Ok(())
-}
-
-// A click begins what it ends, unless that may not begin while it is active.
-#[test]
-fn one_event_in_both_lists(rt: HostRuntime) -> Result<(), Fail> {
-    let alloc = rt.alloc();
-    let lines = [
-        "par dur=\"60s\"",
-        "  text id=\"a\" begin=\"k.click\" end=\"k.click\" dur=\"10s\"",
-        "  text id=\"b\" begin=\"k.click\" end=\"k.click\" dur=\"10s\" restart=\"whenNotActive\"",
-        "  img id=\"k\" dur=\"indefinite\"",
-    ];
-    let tree = tree_of(alloc, &lines)?;
-    let log = clicks(alloc, 4, &[1000, 2000, 3000])?;
-    let entries = [
-        began(0, 1, 0),
-        began(0, 4, 0),
+// All begin and hear the log.
+fn entries() -> [Entry; 7] {
+    [
+        began(0, 1),
+        began(0, 2),
         logged(1000, 0),
-        began(1000, 2, 1000),
-        began(1000, 3, 1000),
-        logged(2000, 1),
-        ended(2000, 3, 2000),
-        ended(2000, 2, 2000),
-        began(2000, 2, 2000),
+        began(2000, 3),
+        logged(2500, 1),
         logged(3000, 2),
-        ended(3000, 2, 3000),
-        began(3000, 2, 3000),
-        began(3000, 3, 3000),
-    ];
-    let instances = played(alloc, &tree, &log, &entries)?;
-    assert!(rt; tells(&instances, 2, &[1000, 2000, 3000], &[]));
-    assert!(rt; tells(&instances, 3, &[1000, 3000], &[Time::At(2000)]));
-    Ok(())
+        logged(4000, 3),
+    ]
 }
 
-// The end of n at 8 s on the clock of m, which stood for four seconds, is at 12 s outside.
+// The presses of keys are heard while both images play; a copy tells the same.
 #[test]
-fn a_paused_parent_read_from_outside(rt: HostRuntime) -> Result<(), Fail> {
+fn keys_are_heard(rt: HostRuntime) -> Result<(), Fail> {
     let alloc = rt.alloc();
-    let lines = [
-        "par id=\"r\" dur=\"60s\"",
-        "  excl id=\"e\" dur=\"indefinite\"",
-        "    priorityClass peers=\"pause\"",
-        "      par id=\"m\" begin=\"0s\"",
-        "        audio id=\"n\" begin=\"2s\" dur=\"6s\"",
-        "      text id=\"q\" begin=\"k.click\" dur=\"4s\"",
-        "  text id=\"o\" begin=\"n.end+1s\" dur=\"2s\"",
-        "  img id=\"k\" dur=\"indefinite\"",
-    ];
-    let tree = tree_of(alloc, &lines)?;
-    let log = clicks(alloc, 8, &[3000])?;
-    let paused = Entry {
-        moment: 3000,
-        step: Step::Paused { who: 4 },
-    };
-    let resumed = Entry {
-        moment: 7000,
-        step: Step::Resumed { who: 4 },
-    };
-    let entries = [
-        began(0, 1, 0),
-        began(0, 2, 0),
-        began(0, 4, 0),
-        began(0, 8, 0),
-        began(2000, 5, 2000),
-        logged(3000, 0),
-        paused,
-        began(3000, 6, 3000),
-        ended(7000, 6, 7000),
-        resumed,
-        ended(12_000, 5, 8000),
-        ended(12_000, 4, 12_000),
-        began(13_000, 7, 13_000),
-        ended(15_000, 7, 15_000),
-    ];
-    let instances = played(alloc, &tree, &log, &entries)?;
-    assert!(rt; tells(&instances, 5, &[2000], &[]));
-    assert!(rt; tells(&instances, 6, &[3000], &[]));
-    assert!(rt; tells(&instances, 7, &[13_000], &[]));
-    Ok(())
-}
-
-// A further iteration of p forgets the click, and begins k anew.
-#[test]
-fn a_repeat_forgets_an_event(rt: HostRuntime) -> Result<(), Fail> {
-    let alloc = rt.alloc();
-    let lines = [
-        "par id=\"p\" dur=\"10s\" repeatCount=\"2\"",
-        "  text id=\"a\" begin=\"k.click\" dur=\"indefinite\"",
-        "  img id=\"k\" dur=\"indefinite\"",
-    ];
-    let tree = tree_of(alloc, &lines)?;
-    let log = clicks(alloc, 3, &[3000])?;
-    let repeated = Entry {
-        moment: 10_000,
-        step: Step::Repeated {
-            who: 1,
-            start: 10_000,
-        },
-    };
-    let entries = [
-        began(0, 1, 0),
-        began(0, 3, 0),
-        logged(3000, 0),
-        began(3000, 2, 3000),
-        cut(10_000, 3),
-        cut(10_000, 2),
-        repeated,
-        began(10_000, 3, 10_000),
-    ];
-    let before = played(alloc, &tree, &log, &entries[..6])?;
-    assert!(rt; tells(&before, 2, &[3000], &[]));
-    assert!(rt; tells(&before, 3, &[0], &[]));
-    let after = played(alloc, &tree, &log, &entries)?;
-    assert!(rt; tells(&after, 2, &[], &[]));
-    assert!(rt; tells(&after, 3, &[10_000], &[]));
-    Ok(())
-}
-
-// The begin and the end of b are kept for e, whose time parent begins after both.
-#[test]
-fn a_reference_before_birth(rt: HostRuntime) -> Result<(), Fail> {
-    let alloc = rt.alloc();
-    let lines = [
-        "par dur=\"20s\"",
-        "  img id=\"b\" dur=\"3s\"",
-        "  seq",
-        "    img dur=\"4s\"",
-        "    par dur=\"10s\"",
-        "      img id=\"e\" begin=\"b.begin+1s;b.end+5s\" dur=\"1s\"",
-    ];
-    let tree = tree_of(alloc, &lines)?;
-    let log = Log::new(alloc);
-    let entries = [
-        began(0, 1, 0),
-        began(0, 2, 0),
-        began(0, 3, 0),
-        began(0, 4, 0),
-        ended(3000, 2, 3000),
-        ended(4000, 4, 4000),
-        began(4000, 5, 4000),
-        began(8000, 6, 8000),
-        ended(9000, 6, 9000),
-    ];
-    let instances = played(alloc, &tree, &log, &entries)?;
-    assert!(rt; tells(&instances, 5, &[4000], &[]));
-    assert!(rt; tells(&instances, 6, &[1000, 8000], &[]));
-    Ok(())
-}
-
-// The times of an element that can be ended, and of one that cannot, and those of a copy.
-#[test]
-fn first_times_and_any_end(rt: HostRuntime) -> Result<(), Fail> {
-    let alloc = rt.alloc();
-    let lines = [
-        "par",
-        "  img begin=\"1s;b.click+0.5s\" end=\"b.end;indefinite\"",
-        "  img id=\"b\" dur=\"3s\"",
-    ];
-    let tree = tree_of(alloc, &lines)?;
-    let log = clicks(alloc, 3, &[2000])?;
-    let entries = [
-        began(0, 1, 0),
-        began(0, 3, 0),
-        began(1000, 2, 1000),
-        logged(2000, 0),
-        ended(2500, 2, 2500),
-        began(2500, 2, 2500),
-        ended(3000, 3, 3000),
-    ];
-    let instances = played(alloc, &tree, &log, &entries)?;
+    let instances = played(alloc, &tree(alloc)?, &log(alloc)?, &entries())?;
     let copy = instances.copy()?;
-    for times in [&instances, &copy] {
-        assert!(rt; tells(times, 2, &[1000, 2500], &[Time::At(3000), Time::Indefinite]));
-        assert_eq!(rt;
-            firsts(times, 2, Edge::Begin, 2500),
-            [Time::At(2500), Time::Unresolved]
-        );
-        assert_eq!(rt;
-            firsts(times, 2, Edge::End, 3000),
-            [Time::At(3000), Time::Indefinite]
-        );
-        assert!(rt; any_end(times, 2));
-        assert!(rt; !any_end(times, 3));
-    }
+    assert!(rt; tells(&copy, 2, &[0], &[]));
+    assert!(rt;
+        tells(
+            &copy,
+            3,
+            &[2000, 5000, 7000],
+            &[Time::At(2500), Time::At(3000), Time::Indefinite]
+        )
+    );
     Ok(())
 }

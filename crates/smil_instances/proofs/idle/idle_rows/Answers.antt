@@ -9,9 +9,10 @@ use Rattle.smil_tree.proofs.Making.{fresh_at}
 use Rattle.smil_stretch.proofs.Above.{node_of}
 use Rattle.smil_stretch.proofs.Idle.{node_found, node_inside, node_known, none_left}
 use Rattle.smil_stretch.proofs.Placed.{IsFound}
-use Rattle.smil_kept.specs.Contract.{place_in}
-use Rattle.smil_kept.specs.Settled.{Row, row_of}
-use Rattle.smil_instances.specs.Taking.{history_of}
+use Rattle.smil_instance_rows.specs.Readings.{place_in}
+use Rattle.smil_instance_rows.specs.Rows.{Row}
+use Rattle.smil_instances.specs.SettledTimes.{row_of}
+use Rattle.smil_instances.specs.Intake.{history_of}
 use Rattle.smil_instances.proofs.Placed.{element_here, row_absent, rows_more, rows_same}
 use Rattle.smil_instances.proofs.idle.idle_rows.Goals as goal
 use Rattle.smil_instances.proofs.idle.idle_rows.Goals.{then-is_element+in_ok-row+in_ok-push, else-is_element}

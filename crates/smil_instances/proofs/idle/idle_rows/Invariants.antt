@@ -1,8 +1,8 @@
 use Rattle.std.proofs.Common.{◌≡◌, ◌-◌, List, [], length, map, take}
 use Rattle.smil_model.specs.declared.diary.LogEntry.{LogEntry}
 use Rattle.smil_model.specs.document.Document.{elements}
-use Rattle.smil_kept.specs.Settled.{row_of}
-use Rattle.smil_instances.specs.Taking.{history_of}
+use Rattle.smil_instances.specs.SettledTimes.{row_of}
+use Rattle.smil_instances.specs.Intake.{history_of}
 use Rattle.smil_instances.proofs.idle.idle_rows.Given as goal
 
 -- the rows of the elements among the first nodes

@@ -2,15 +2,15 @@ use Rattle.std.proofs.Common.{◌≡◌, List, [], length, take, map}
 use Rattle.smil_model.specs.declared.diary.LogEntry.{LogEntry}
 use Rattle.smil_model.specs.declared.document.Node.{Node}
 use Rattle.smil_model.specs.document.Document.{Document}
-use Rattle.smil_kept.specs.Cells.{side_of}
-use Rattle.smil_kept.specs.Settled.{kept_of}
-use Rattle.smil_concern.specs.Concerns.{AreConcernsOf}
+use Rattle.smil_instance_rows.specs.Cells.{side_of}
+use Rattle.smil_instances.specs.SettledTimes.{instances_of}
+use Rattle.smil_instances.specs.Dependents.{AreDependentsOf}
 use Rattle.smil_instances.specs.Idle.{IsListOf, with_items}
-use Rattle.smil_instances.specs.Taking.{history_of}
+use Rattle.smil_instances.specs.Intake.{history_of}
 use Rattle.smil_instances.proofs.idle.push_list.Given as goal
 
 -- the row with the first items
 abbrev pub invariant-loop-item : goal.invariant-loop-item
 invariant-loop-item l =
     (length (side_of l.row l.side) ≡ l.item)
-    × ((document : Document) (log : List LogEntry) (e : Node) → AreConcernsOf document.nodes l.concerns → IsListOf document.nodes l.place e l.side l.items → l.row ≡ with_items l.fn.row l.side (map (kept_of (history_of document log []) e l.side) (take l.item l.items)))
+    × ((document : Document) (log : List LogEntry) (e : Node) → AreDependentsOf document.nodes l.dependents → IsListOf document.nodes l.place e l.side l.items → l.row ≡ with_items l.fn.row l.side (map (instances_of (history_of document log []) e l.side) (take l.item l.items)))

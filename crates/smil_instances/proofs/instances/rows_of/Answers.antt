@@ -3,8 +3,8 @@ use Rattle.std.specs.Prelude.{is_some, slice_get}
 use Rattle.smil_model.specs.declared.diary.Entry.{Entry}
 use Rattle.smil_stretch.specs.Clocks.{AreClocksOf}
 use Rattle.smil_stretch.proofs.Idle.{entry_there}
-use Rattle.smil_kept.specs.Settled.{settled_rows}
-use Rattle.smil_instances.specs.Taking.{history_of}
+use Rattle.smil_instances.specs.SettledTimes.{settled_rows}
+use Rattle.smil_instances.specs.Intake.{history_of}
 use Rattle.smil_instances.proofs.Rebuilt.{at_hand, lawful_of, next_front, next_is, next_lawful}
 use Rattle.smil_instances.proofs.instances.rows_of.Goals as goal
 

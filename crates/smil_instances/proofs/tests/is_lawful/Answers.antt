@@ -1,5 +1,5 @@
 use Rattle.std.proofs.Common.{◌≡◌, ◌∙◌, sym}
-use Rattle.smil_hearing.proofs.Targets.{known_node}
+use Rattle.smil_instances.proofs.Targets.{known_node}
 use Rattle.smil_instances.proofs.tests.is_lawful.Goals as goal
 
 pub may_begin-requires : goal.may_begin-requires

@@ -1,6 +1,6 @@
 use Rattle.std.proofs.Common.{◌≡◌, sym, subst}
 use Rattle.smil_stretch.specs.Clocks.{AreClocksOf}
-use Rattle.smil_instances.specs.Taking.{history_of}
+use Rattle.smil_instances.specs.Intake.{history_of}
 use Rattle.smil_instances.proofs.Following.{hand_by, lawful_by, lawful_with, may_by, taken_by}
 use Rattle.smil_instances.proofs.tests.take_next.Goals as goal
 

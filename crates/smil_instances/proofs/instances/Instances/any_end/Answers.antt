@@ -1,9 +1,10 @@
 use Rattle.std.proofs.Common.{◌∙◌, ap}
-use Rattle.smil_instances.specs.Settled.{KeptInstances}
-use Rattle.smil_kept.specs.Contract.{ends_in, is_any}
+use Rattle.smil_instances.specs.Instances.{SettledInstances}
+use Rattle.smil_instance_rows.specs.Readings.{ends_in}
+use Rattle.smil_model.specs.interval.Intervals.{has_any}
 use Rattle.smil_instances.proofs.Readings.{ends_told}
 use Rattle.smil_instances.proofs.instances.Instances.any_end.Goals as goal
 
 pub returns-clause-model : goal.returns-clause-model
 returns-clause-model c = λ document log diary now e settled here.
-    c.any_end.ensures ∙ ap is_any (ap (λ (v : KeptInstances). ends_in v.rows c.args.who) c.self.view_is ∙ ends_told c.args.self.now document log diary now c.args.who e c.rows_tell_instances.ensures settled here)
+    c.any_end.ensures ∙ ap has_any (ap (λ (v : SettledInstances). ends_in v.rows c.args.who) c.self.view_is ∙ ends_told c.args.self.now document log diary now c.args.who e c.rows_tell_instances.ensures settled here)

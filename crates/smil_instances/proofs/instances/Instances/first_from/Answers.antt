@@ -1,7 +1,7 @@
 use Rattle.std.proofs.Common.{◌∙◌, ap, w64}
 use Rattle.std.proofs.lemmas.Int.{to_z-of_z}
-use Rattle.smil_instances.specs.Settled.{KeptInstances}
-use Rattle.smil_kept.specs.Contract.{first_from, times_in}
+use Rattle.smil_instances.specs.Instances.{SettledInstances}
+use Rattle.smil_instance_rows.specs.Readings.{first_from, times_in}
 use Rattle.smil_instances.proofs.Readings.{times_told}
 use Rattle.smil_instances.proofs.instances.Instances.first_from.Goals as goal
 
@@ -9,4 +9,4 @@ pub returns-clause-model : goal.returns-clause-model
 returns-clause-model c = λ document log diary now e settled here.
     c.first_from.ensures
     ∙ ap (λ v. first_from v (times_in c.self.inside.rows c.args.who c.args.side)) (to_z-of_z w64 c.args.value c.ranges.value)
-    ∙ ap (first_from c.args.value) (ap (λ (v : KeptInstances). times_in v.rows c.args.who c.args.side) c.self.view_is ∙ times_told c.args.self.now document log diary now c.args.who e c.rows_tell_instances.ensures settled here c.args.side)
+    ∙ ap (first_from c.args.value) (ap (λ (v : SettledInstances). times_in v.rows c.args.who c.args.side) c.self.view_is ∙ times_told c.args.self.now document log diary now c.args.who e c.rows_tell_instances.ensures settled here c.args.side)

@@ -1,7 +1,0 @@
-mod Begun
-mod Growth
-mod Lists
-mod Named
-mod Samples
-mod Siblings
-mod Spreading

@@ -1,7 +1,0 @@
-use Rattle.std.proofs.Common.{◌≡◌, take, map}
-use Rattle.smil_kept.specs.Sources.{source_of}
-use Rattle.smil_concern.proofs.source.sources_of.Given as goal
-
--- the sources of the first items
-abbrev pub invariant-loop-place : goal.invariant-loop-place
-invariant-loop-place l = l.sources.items ≡ map (source_of l.tree.nodes l.who) (take l.place l.items)

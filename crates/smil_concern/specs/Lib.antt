@@ -1,3 +1,0 @@
-pub mod Concerns
-pub mod Sample
-pub mod Spread

@@ -1,5 +1,0 @@
-pub mod Sums
-pub mod EdgeTimes
-pub mod Births
-pub mod BySource
-pub mod LastEntry

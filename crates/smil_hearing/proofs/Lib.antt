@@ -1,6 +1,0 @@
-mod Past
-mod Iterations
-pub mod Targets
-mod BeginLists
-mod Sensitive
-mod Heard

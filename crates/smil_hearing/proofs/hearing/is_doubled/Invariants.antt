@@ -1,7 +1,0 @@
-use Rattle.std.proofs.Common.{◌≡◌, false, take}
-use Rattle.std.specs.List.{list_any}
-use Rattle.smil_model.specs.interval.Instances.{is_same_event}
-use Rattle.smil_hearing.proofs.hearing.is_doubled.Given as goal
-
-abbrev pub invariant-loop-place : goal.invariant-loop-place
-invariant-loop-place l = list_any (is_same_event l.tree.nodes l.who l.item) (take l.place l.begin) ≡ false

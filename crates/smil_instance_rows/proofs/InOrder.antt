@@ -1,0 +1,88 @@
+-- Instance times in the order of their places.
+use Rattle.std.proofs.Common.{◌≡◌, sym, refl, ◌∙◌, ap, ℕ, suc, ◌≤◌, ◌<◌, List, [], ◌∷◌, ◌++◌, length, Bool, true, false, Option, Some, None, arith}
+use Rattle.std.specs.Prelude.{cond, get_or, drop, nat_le}
+use Rattle.smil_model.specs.declared.times.Time.{Time}
+use Rattle.smil_instance_rows.specs.declared.item_times.InstanceTime.{InstanceTime}
+use Rattle.smil_instance_rows.specs.Rows.{from_place}
+use Rattle.smil_instance_rows.specs.Rising.{IsOrder, poured}
+use Rattle.smil_instance_rows.specs.Values.{values_of, with_value, without_value}
+use Rattle.smil_instance_rows.specs.Places.{IsInOrder, last_part, Replaces, IsUndone}
+use Rattle.smil_instance_rows.proofs.Rising.{taken_put, default_free}
+use Rattle.smil_instance_rows.proofs.Merge.{first_value}
+
+from_all : (place : ℕ) (ks : List InstanceTime) → ((j : ℕ) (d : InstanceTime) → j < length ks → place ≤ (get_or ks j d).place) → from_place place ks ≡ ks
+from_all place [] all = refl
+from_all place (k ∷ ks) all =
+    let here : place ≤ k.place = all 0 k (omega arith) in
+    let yes : nat_le place k.place ≡ true = grind (arith, here) in
+    ap (λ t. cond t (k ∷ from_place place ks) (from_place place ks)) yes
+    ∙ ap (λ rest. k ∷ rest) (from_all place ks (λ j d inside. all (suc j) d (omega (arith, inside))))
+
+-- nothing is taken out where the first stays
+pub from_front : (place : ℕ) (ks : List InstanceTime) (first : InstanceTime) → IsInOrder ks → first ≡ get_or ks 0 first → place ≤ first.place → from_place place ks ≡ ks
+from_front place ks first order is_first late =
+    from_all place ks (λ j d inside. let up : (get_or ks 0 first).place ≤ (get_or ks j first).place = order 0 j first (omega arith) inside in let one : first.place ≡ (get_or ks 0 first).place = ap (λ (k : InstanceTime). k.place) is_first in let same : (get_or ks j first).place ≡ (get_or ks j d).place = ap (λ (k : InstanceTime). k.place) (default_free ks j first d inside) in omega (arith, up, one, late, same))
+
+pub rest_in_order : (ks : List InstanceTime) → IsInOrder ks → IsInOrder (drop 1 ks)
+rest_in_order [] order = order
+rest_in_order (k ∷ ks) order = λ i j d le inside. order (suc i) (suc j) d (omega (arith, le)) (omega (arith, inside))
+
+-- the first taken out
+pub cut_first : (place : ℕ) (first : InstanceTime) (ks : List InstanceTime) → first.place < place → from_place place (first ∷ ks) ≡ from_place place ks
+cut_first place first ks early =
+    let no : nat_le place first.place ≡ false = grind (arith, early) in
+    ap (λ t. cond t (first ∷ from_place place ks) (from_place place ks)) no
+
+-- ---- the last alone
+
+pub last_of_more : (first : InstanceTime) (ks : List InstanceTime) → 0 < length ks → last_part (first ∷ ks) ≡ last_part ks
+last_of_more first [] some = absurd (omega (arith, some))
+last_of_more first (k ∷ ks) some = refl
+
+pub last_of_few : (ks : List InstanceTime) → length ks ≤ 1 → ks ≡ last_part ks
+last_of_few [] few = refl
+last_of_few (k ∷ []) few = refl
+last_of_few (k ∷ l ∷ ls) few = absurd (omega (arith, few))
+
+pub last_of_pushed : (ks : List InstanceTime) (last : InstanceTime) → last_part (ks ++ last ∷ []) ≡ last ∷ []
+last_of_pushed [] last = refl
+last_of_pushed (k ∷ []) last = refl
+last_of_pushed (k ∷ l ∷ ls) last = last_of_pushed (l ∷ ls) last
+
+-- ---- the last
+
+tail_of : {A : Type 0} (x y : A) (xs ys : List A) → x ∷ xs ≡ y ∷ ys → (x ≡ y) × (xs ≡ ys)
+tail_of x y xs ys q = (cc, cc)
+
+no_end : {A : Type 0} {G : Type 0} (ys : List A) (z : A) → [] ≡ ys ++ z ∷ [] → G
+no_end [] z q = cc
+no_end (y ∷ ys) z q = cc
+
+pub same_last : {A : Type 0} (xs ys : List A) (x y : A) → xs ++ x ∷ [] ≡ ys ++ y ∷ [] → (xs ≡ ys) × (x ≡ y)
+same_last [] [] x y q = (refl, (tail_of x y [] [] q).0)
+same_last [] (b ∷ ys) x y q = no_end ys y (tail_of x b [] (ys ++ y ∷ []) q).1
+same_last (a ∷ xs) [] x y q = no_end xs x (sym (tail_of a y (xs ++ x ∷ []) [] q).1)
+same_last (a ∷ xs) (b ∷ ys) x y q =
+    let parts = tail_of a b (xs ++ x ∷ []) (ys ++ y ∷ []) q in
+    let rest = same_last xs ys x y parts.1 in
+    (ap (λ z. z ∷ xs) parts.0 ∙ ap (λ zs. b ∷ zs) rest.0, rest.1)
+
+-- ---- what stands for the values
+
+module _ {A : Type 0} (le : A → A → Bool) (order : IsOrder le) (choose : Time → Option A) where
+  without_with : (o : Option A) (xs : List A) → without_value le o (with_value le o xs) ≡ xs
+  without_with None xs = refl
+  without_with (Some x) xs = taken_put le order x xs
+
+  -- the first taken out, with its value
+  pub replaces_rest : (ks : List InstanceTime) (k : InstanceTime) (ls : List InstanceTime) (old new : List A) → Replaces le choose ks (k ∷ ls) old new → Replaces le choose ks ls old (without_value le (choose k.time) new)
+  replaces_rest ks k ls old new so = λ others same.
+      ap (without_value le (choose k.time)) (so others same ∙ first_value le order choose (choose k.time) (values_of choose ls) others)
+      ∙ without_with (choose k.time) (poured le (values_of choose ls) others)
+
+  -- the last taken out, with its value
+  pub undone_last : (kept kept' : List InstanceTime) (own : InstanceTime) (old : List A) → kept ≡ kept' ++ own ∷ [] → IsUndone le choose kept kept' old (without_value le (choose own.time) old)
+  undone_last kept kept' own old was = λ first last others is put.
+      let parts = same_last kept' first own last (sym was ∙ is) in
+      let value : choose own.time ≡ choose last.time = ap (λ (k : InstanceTime). choose k.time) parts.1 in
+      (parts.0, ap (λ o. without_value le o old) value ∙ ap (without_value le (choose last.time)) put ∙ without_with (choose last.time) others)

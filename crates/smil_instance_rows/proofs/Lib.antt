@@ -1,0 +1,6 @@
+pub mod InOrder
+pub mod Merge
+pub mod Rising
+pub mod Serials
+pub mod Sides
+pub mod Tables

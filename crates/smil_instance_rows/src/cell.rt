@@ -1,0 +1,19 @@
+//! Where a instance time stands among all elements.
+
+use super::item_times::InstanceTime;
+use smil_model::Edge;
+
+/// An item of an element: the element's place among the rows, the side, and the item's place.
+#[derive(Clone, Copy, Debug, PartialEq, Eq)]
+pub struct Cell {
+    pub row: usize,
+    pub side: Edge,
+    pub item: usize,
+}
+
+/// A instance time to be added to an item.
+#[derive(Clone, Copy, Debug, PartialEq, Eq)]
+pub struct Add {
+    pub cell: Cell,
+    pub kept: InstanceTime,
+}

@@ -1,0 +1,23 @@
+//! Rows of instance times: for each element, side and item the times that are kept, and for each side their values in
+//! rising order.
+#![tactic(auto)]
+
+pub mod adds;
+pub mod cell;
+mod copies;
+pub mod instant;
+pub mod item_times;
+pub mod row;
+pub mod rows;
+pub mod side;
+pub mod sorted;
+
+pub use adds::add_each;
+pub use cell::{Add, Cell};
+pub use copies::copy_each;
+pub use instant::Instant;
+pub use item_times::{InstanceTime, ItemTimes};
+pub use row::InstanceRow;
+pub use rows::Rows;
+pub use side::Side;
+pub use sorted::Sorted;

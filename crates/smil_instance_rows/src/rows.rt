@@ -1,0 +1,288 @@
+//! The instance times of all elements.
+
+ghost use Rattle.std.specs.Prelude.{◌≡◌, List, [], ◌∷◌, ◌++◌, OnOk, OnErr, ◌<◌, length, None, option_copied, option_map, slice_get};
+ghost use Rattle.smil_instance_rows.specs.Rows.{from_place, Row};
+ghost use Rattle.smil_instance_rows.specs.Places.{IsNotAfter, EndsWith, last_part};
+ghost use Rattle.smil_instance_rows.specs.Changes.{HasCell, cell_of, with_cell};
+ghost use Rattle.smil_instance_rows.specs.Readings.{place_in, row_in, begins_in, ends_in, times_in, first_from, first_after};
+ghost use Rattle.smil_model.specs.interval.Intervals.{has_any};
+
+use super::cell::Cell;
+use super::copies::copy_each;
+use super::item_times::InstanceTime;
+use super::row::InstanceRow;
+use smil_model::{Duplicate, Edge, Time};
+use std::alloc::{AllocError, Global};
+use std::collections::HashMap;
+use std::marker::Model;
+
+/// The instance times of all elements, with the places of their rows by serial; seen as the list of the rows.
+#[derive(Drop)]
+pub struct Rows {
+    rows: Vec<InstanceRow>,
+    places: HashMap<u32, usize>,
+}
+
+impl Model for Rows {
+    ghost use Rattle.std.specs.Prelude.{◌≡◌, ℕ, List, nat_eq};
+    ghost use Rattle.std.specs.HashMap.{get};
+    ghost use Rattle.smil_instance_rows.specs.Rows.{Row};
+    ghost use Rattle.smil_instance_rows.specs.Readings.{place_in};
+
+    ghost Value = { List Row };
+
+    ghost view = { λ a. a.rows.items };
+
+    ghost invariant = { λ a. (who : ℕ) → get nat_eq a.places who ≡ place_in a.rows.items who };
+}
+
+impl Duplicate for Rows {
+    fn copy(&self) -> Result<Self, AllocError> {
+        Ok(Rows {
+            rows: copy_each(*self.rows.allocator(), &self.rows)?,
+            places: self.places.clone()?,
+        })
+    }
+}
+
+impl Rows {
+    /// No rows. It takes no memory.
+    pub fn new(alloc: Global) -> Rows
+        ensures { result ≡ [] }
+    {
+        Rows {
+            rows: Vec::new(alloc),
+            places: HashMap::new(alloc),
+        }
+    }
+
+    /// How many rows there are. It takes no memory.
+    pub fn len(&self) -> usize
+        ensures { result ≡ length self.now }
+    {
+        self.rows.len()
+    }
+
+    /// Appends the row of an element that has none. Where memory runs out all is as before.
+    pub fn push(&mut self, row: InstanceRow) -> Result<(), AllocError>
+        requires { place_in self.old row.serial ≡ None }
+        ensures ok { OnOk result (self.new ≡ self.old ++ row ∷ []) }
+        ensures err { OnErr result (self.new ≡ self.old) }
+    {
+        let serial = row.serial();
+        let place = self.len();
+        self.rows.push(row)?;
+        match self.places.insert(serial, place) {
+            Ok(_) => Ok(()),
+            Err(_) => {
+                self.rows.pop();
+                Err(AllocError)
+            }
+        }
+    }
+
+    /// Adds a instance time to an item. Where memory runs out all is as before.
+    pub fn add(&mut self, cell: Cell, last: InstanceTime) -> Result<(), AllocError>
+        requires cell { HasCell self.old cell }
+        requires order { IsNotAfter last.place (cell_of self.old cell) }
+        ensures ok { OnOk result (self.new ≡ with_cell self.old cell (cell_of self.old cell ++ last ∷ [])) }
+        ensures err { OnErr result (self.new ≡ self.old) }
+    {
+        self.rows[cell.row].add(cell.side, cell.item, last)
+    }
+
+    /// Takes out of an item what is of places before this one. It takes no memory.
+    pub fn cut(&mut self, cell: Cell, place: usize)
+        requires { HasCell self.old cell }
+        ensures { self.new ≡ with_cell self.old cell (from_place place (cell_of self.old cell)) }
+    {
+        self.rows[cell.row].cut(cell.side, cell.item, place);
+    }
+
+    /// Takes out of an item all but the last instance time. It takes no memory.
+    pub fn keep_last(&mut self, cell: Cell)
+        requires { HasCell self.old cell }
+        ensures { self.new ≡ with_cell self.old cell (last_part (cell_of self.old cell)) }
+    {
+        self.rows[cell.row].keep_last(cell.side, cell.item);
+    }
+
+    /// Takes the last instance time out of an item. It takes no memory.
+    pub fn undo(&mut self, cell: Cell)
+        requires cell { HasCell self.old cell }
+        requires some { 0 < length (cell_of self.old cell) }
+        ensures { EndsWith (cell_of self.old cell) (λ first last. self.new ≡ with_cell self.old cell first) }
+    {
+        self.rows[cell.row].undo(cell.side, cell.item);
+    }
+
+    /// The begins of an element, in rising order; none where it has no row. It takes no memory.
+    pub fn begins(&self, who: u32) -> &[i64]
+        ensures { result.now ≡ begins_in self.now who }
+    {
+        match self.row(who) {
+            Some(row) => row.begins(),
+            None => &[],
+        }
+    }
+
+    /// The ends of an element, in rising order, with indefinite last; none where it has no row. It takes no memory.
+    pub fn ends(&self, who: u32) -> &[Time]
+        ensures { result.now ≡ ends_in self.now who }
+    {
+        match self.row(who) {
+            Some(row) => row.ends(),
+            None => &[],
+        }
+    }
+
+    /// The first begin or end of an element that is not less than the value; unresolved exactly where there is none. It
+    /// takes no memory, and log n steps for n of them.
+    pub fn first_from(&self, who: u32, side: Edge, value: i64) -> Time
+        ensures { result ≡ first_from value (times_in self.now who side) }
+    {
+        match self.row(who) {
+            Some(row) => row.first_from(side, value),
+            None => Time::Unresolved,
+        }
+    }
+
+    /// The first begin or end of an element that is greater than the value; unresolved exactly where there is none. It
+    /// takes no memory, and log n steps for n of them.
+    pub fn first_after(&self, who: u32, side: Edge, value: i64) -> Time
+        ensures { result ≡ first_after value (times_in self.now who side) }
+    {
+        match self.row(who) {
+            Some(row) => row.first_after(side, value),
+            None => Time::Unresolved,
+        }
+    }
+
+    /// Whether an element has any end. It takes no memory.
+    pub fn any_end(&self, who: u32) -> bool
+        ensures { result ≡ has_any (ends_in self.now who) }
+    {
+        match self.row(who) {
+            Some(row) => row.any_end(),
+            None => false,
+        }
+    }
+
+    /// The place of the row of an element, from 0; None exactly where it has none. It takes no memory.
+    pub fn place(&self, who: u32) -> Option<usize>
+        ensures { result ≡ place_in self.now who }
+    {
+        self.places.get(&who).copied()
+    }
+
+    /// The serial of the element of a row, by the row's place from 0; None exactly where the place is not below the number of
+    /// rows. It takes no memory.
+    pub fn serial_at(&self, place: usize) -> Option<u32>
+        ensures { result ≡ option_map (λ (r : Row). r.serial) (slice_get self.now place) }
+    {
+        Some(self.at(place)?.serial())
+    }
+
+    /// The row of an element, if it has one.
+    fn row(&self, who: u32) -> Option<&InstanceRow>
+        ensures { option_copied result ≡ row_in self.now who }
+    {
+        match self.places.get(&who) {
+            Some(place) => self.at(*place),
+            None => None,
+        }
+    }
+
+    /// The row at a place from 0; None exactly where the place is not below the number of rows.
+    fn at(&self, place: usize) -> Option<&InstanceRow>
+        ensures { option_copied result ≡ slice_get self.now place }
+    {
+        self.rows.get(place)
+    }
+}
+
+#[cfg(test)]
+mod tests {
+    use super::*;
+    use std::test::Fail;
+
+    const BEGINS: Cell = Cell {
+        row: 0,
+        side: Edge::Begin,
+        item: 0,
+    };
+
+    const ENDS: Cell = Cell {
+        row: 0,
+        side: Edge::End,
+        item: 0,
+    };
+
+    #[test]
+    fn read_by_element(rt: HostRuntime) -> Result<(), Fail> {
+        let mut row = InstanceRow::new(rt.alloc(), 7);
+        row.push_item(Edge::Begin)?;
+        row.push_item(Edge::End)?;
+        let mut rows = Rows::new(rt.alloc());
+        rows.push(row)?;
+        rows.add(
+            BEGINS,
+            InstanceTime {
+                place: 0,
+                time: Time::At(5),
+            },
+        )?;
+        rows.add(
+            ENDS,
+            InstanceTime {
+                place: 0,
+                time: Time::Indefinite,
+            },
+        )?;
+        assert_eq!(rt; rows.begins(7), [5].as_slice());
+        assert_eq!(rt; rows.ends(7), [Time::Indefinite].as_slice());
+        assert_eq!(rt; rows.first_from(7, Edge::Begin, 5), Time::At(5));
+        assert_eq!(rt; rows.first_after(7, Edge::Begin, 5), Time::Unresolved);
+        assert_eq!(rt; rows.first_after(7, Edge::End, 5), Time::Indefinite);
+        assert!(rt; rows.any_end(7));
+        assert!(rt; !rows.any_end(8));
+        Ok(())
+    }
+
+    #[test]
+    fn places_and_serials(rt: HostRuntime) -> Result<(), Fail> {
+        let mut rows = Rows::new(rt.alloc());
+        rows.push(InstanceRow::new(rt.alloc(), 7))?;
+        rows.push(InstanceRow::new(rt.alloc(), 9))?;
+        assert_eq!(rt; rows.place(7), Some(0));
+        assert_eq!(rt; rows.place(9), Some(1));
+        assert_eq!(rt; rows.place(8), None);
+        assert_eq!(rt; rows.serial_at(0), Some(7));
+        assert_eq!(rt; rows.serial_at(1), Some(9));
+        assert_eq!(rt; rows.serial_at(2), None);
+        Ok(())
+    }
+
+    #[test]
+    fn copies_stay(rt: HostRuntime) -> Result<(), Fail> {
+        let mut row = InstanceRow::new(rt.alloc(), 7);
+        row.push_item(Edge::Begin)?;
+        let mut rows = Rows::new(rt.alloc());
+        rows.push(row)?;
+        rows.add(
+            BEGINS,
+            InstanceTime {
+                place: 0,
+                time: Time::At(5),
+            },
+        )?;
+        let copy = rows.copy()?;
+        assert_eq!(rt; copy.len(), 1);
+        assert_eq!(rt; copy.place(7), Some(0));
+        assert_eq!(rt; copy.begins(7), [5].as_slice());
+        rows.cut(BEGINS, 1);
+        assert_eq!(rt; rows.begins(7), [].as_slice());
+        assert_eq!(rt; copy.begins(7), [5].as_slice());
+        Ok(())
+    }
+}

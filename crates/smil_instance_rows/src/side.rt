@@ -1,0 +1,120 @@
+//! The instance times of one list of items, and their values in rising order.
+
+ghost use Rattle.std.specs.Prelude.{◌≡◌, List, [], ◌∷◌, ◌++◌, OnOk, OnErr, ◌<◌, length, get_or, set, not, find};
+ghost use Rattle.smil_instance_rows.specs.Rows.{from_place};
+ghost use Rattle.smil_instance_rows.specs.Values.{merged};
+ghost use Rattle.smil_instance_rows.specs.Places.{IsNotAfter, EndsWith, last_part};
+
+use super::copies::copy_each;
+use super::instant::Instant;
+use super::item_times::{InstanceTime, ItemTimes, add, cut, keep_last, undo};
+use super::sorted::Sorted;
+use smil_model::Duplicate;
+use std::alloc::{AllocError, Global};
+use std::marker::Model;
+
+/// The instance times of each item of a begin or end list, seen as a list of lists.
+#[derive(Drop)]
+pub struct Side<T: Instant> {
+    items: Vec<ItemTimes>,
+    sorted: Sorted<T>,
+}
+
+impl<T: Instant> Model for Side<T> {
+    ghost use Rattle.std.specs.Prelude.{◌≡◌, List};
+    ghost use Rattle.smil_instance_rows.specs.declared.item_times.InstanceTime.{InstanceTime};
+    ghost use Rattle.smil_instance_rows.specs.Values.{merged};
+
+    ghost Value = { List (List InstanceTime) };
+
+    ghost view = { λ a. a.items.items };
+
+    ghost invariant = { λ a. a.sorted ≡ merged T.at_most T.choose a.items.items };
+}
+
+impl<T: Instant> Duplicate for Side<T> {
+    fn copy(&self) -> Result<Self, AllocError> {
+        Ok(Side {
+            items: copy_each(*self.items.allocator(), &self.items)?,
+            sorted: self.sorted.copy()?,
+        })
+    }
+}
+
+impl<T: Instant> Side<T> {
+    /// A list of no items. It takes no memory.
+    pub fn new(alloc: Global) -> Side<T>
+        ensures { result ≡ [] }
+    {
+        Side {
+            items: Vec::new(alloc),
+            sorted: Sorted::new(alloc),
+        }
+    }
+
+    /// Appends an item for which nothing is kept. Where memory runs out all is as before.
+    pub fn push_item(&mut self) -> Result<(), AllocError>
+        ensures ok { OnOk result (self.new ≡ self.old ++ [] ∷ []) }
+        ensures err { OnErr result (self.new ≡ self.old) }
+    {
+        let alloc = *self.items.allocator();
+        self.items.push(ItemTimes::new(alloc))?;
+        Ok(())
+    }
+
+    /// Adds a instance time to an item. Where memory runs out all is as before.
+    pub fn add(&mut self, item: usize, last: InstanceTime) -> Result<(), AllocError>
+        requires item { item < length self.old }
+        requires order { IsNotAfter last.place (get_or self.old item []) }
+        ensures ok { OnOk result (self.new ≡ set self.old item (get_or self.old item [] ++ last ∷ [])) }
+        ensures err { OnErr result (self.new ≡ self.old) }
+    {
+        add(&mut self.items[item], &mut self.sorted, last)
+    }
+
+    /// Takes out of an item what is of places before this one. It takes no memory.
+    pub fn cut(&mut self, item: usize, place: usize)
+        requires { item < length self.old }
+        ensures { self.new ≡ set self.old item (from_place place (get_or self.old item [])) }
+    {
+        cut(&mut self.items[item], &mut self.sorted, place);
+    }
+
+    /// Takes out of an item all but the last instance time. It takes no memory.
+    pub fn keep_last(&mut self, item: usize)
+        requires { item < length self.old }
+        ensures { self.new ≡ set self.old item (last_part (get_or self.old item [])) }
+    {
+        keep_last(&mut self.items[item], &mut self.sorted);
+    }
+
+    /// Takes the last instance time out of an item. It takes no memory.
+    pub fn undo(&mut self, item: usize)
+        requires item { item < length self.old }
+        requires some { 0 < length (get_or self.old item []) }
+        ensures { EndsWith (get_or self.old item []) (λ first last. self.new ≡ set self.old item first) }
+    {
+        undo(&mut self.items[item], &mut self.sorted);
+    }
+
+    /// The values of all items, in rising order. It takes no memory.
+    pub fn values(&self) -> &[T]
+        ensures { result.now ≡ merged T.at_most T.choose self.now }
+    {
+        self.sorted.as_slice()
+    }
+
+    /// The first value that is not less than this one; None exactly where there is none. It takes no memory.
+    pub fn first_from(&self, value: T) -> Option<T>
+        ensures { result ≡ find (T.at_most value) (merged T.at_most T.choose self.now) }
+    {
+        self.sorted.first_from(value)
+    }
+
+    /// The first value that is greater than this one; None exactly where there is none. It takes no memory.
+    pub fn first_after(&self, value: T) -> Option<T>
+        ensures { result ≡ find (λ other. not (T.at_most other value)) (merged T.at_most T.choose self.now) }
+    {
+        self.sorted.first_after(value)
+    }
+}

@@ -1,0 +1,127 @@
+-- The rows of elements before any cell is noted.
+use Rattle.std.proofs.Common.{◌≡◌, refl, sym, ◌∙◌, ap, subst, ℕ, zero, suc, List, [], ◌∷◌, Option, Some, None, Bool, true, false, cond, map, length, get_or, take, ◌++◌, ◌+◌, ◌<◌, ◌≤◌, arith}
+use Rattle.std.specs.Prelude.{◌==◌, not, slice_get, option_map, pos}
+use Rattle.std.specs.List.{AllByRecursion}
+use Rattle.std.proofs.lemmas.Bool.{eqb-true}
+use Rattle.std.proofs.lemmas.List.{map-append}
+use Rattle.std.proofs.lemmas.List.Elements.{filter-append}
+use Rattle.std.proofs.lemmas.Option.{slice_get-map, get_or_from_slice_get}
+use Rattle.smil_model.specs.declared.document.Node.{Node}
+use Rattle.smil_model.specs.declared.document.Attrs.{Attrs}
+use Rattle.smil_model.specs.declared.document.Kind.{Kind}
+use Rattle.smil_model.specs.declared.document.Edge.TheVariants.{End}
+use Rattle.smil_model.specs.declared.document.Item.TheVariants.{Offset, Indefinite}
+use Rattle.smil_model.specs.document.Document.{Document, elements, is_class_kind, is_element, is_in_excl, node_at, previous_in_seq, serials}
+use Rattle.smil_model.specs.document.Defaults.{begin_list, end_list, items_or}
+use Rattle.smil_model.specs.document.Valid.{IsDistinct, IsNumberedTree, kind_of}
+use Rattle.smil_laws.proofs.Aside.{find_true}
+use Rattle.smil_laws.proofs.Members.{each_kept}
+use Rattle.smil_tree.proofs.Families.{node_of_place}
+use Rattle.smil_tree.proofs.Spans.{all_known}
+use Rattle.smil_instances.specs.declared.source.Source.{Source}
+use Rattle.smil_instances.specs.declared.source.Source.TheVariants as source
+use Rattle.smil_instances.specs.Sources.{source_of, syncbase_or}
+use Rattle.smil_instances.proofs.Lists.{take_next}
+use Rattle.smil_instances.specs.Spread.{fresh_row, without_cells}
+
+pub each_at : {A : Type 0} (P : A → Type 0) (xs : List A) (i : ℕ) (x : A) → AllByRecursion P xs → slice_get xs i ≡ Some x → P x
+each_at P [] i x each at = cc
+each_at P (y ∷ ys) zero x each at = let one : y ≡ x = cc in subst P one each.0
+each_at P (y ∷ ys) (suc i) x each at = each_at P ys i x each.1 at
+
+-- an element at its place is the node with its serial
+pub element_known : (document : Document) → IsNumberedTree document → (i : ℕ) (n : Node) → slice_get (elements document.nodes) i ≡ Some n → node_at document.nodes n.serial ≡ Some n
+element_known document numbered i n at =
+    each_at (λ (m : Node). node_at document.nodes m.serial ≡ Some m) (elements document.nodes) i n
+    (each_kept (λ (m : Node). node_at document.nodes m.serial ≡ Some m) is_element document.nodes (all_known document.nodes document.next numbered)) at
+
+-- the element whose serial stands at a place
+pub record IsAt (ns : List Node) (i who : ℕ) : Type 0 where
+  pub node : Node
+  pub at : slice_get ns i ≡ Some node
+  pub serial : who ≡ node.serial
+
+serial_at : (ns : List Node) (i : ℕ) → i < length (serials ns) → IsAt ns i (get_or (serials ns) i 0)
+serial_at [] i below = absurd (omega (arith, below))
+serial_at (n ∷ ns) zero below = record { node = n; at = refl; serial = refl }
+serial_at (n ∷ ns) (suc i) below = let rest = serial_at ns i (omega (arith, below)) in record { node = rest.node; at = rest.at; serial = rest.serial }
+
+pub at_place : (ns : List Node) (whos : List ℕ) (i : ℕ) → whos ≡ serials ns → i < length whos → IsAt ns i (get_or whos i 0)
+at_place ns whos i is below = subst (λ (xs : List ℕ). IsAt ns i (get_or xs i 0)) (sym is) (serial_at ns i (subst (λ (xs : List ℕ). i < length xs) is below))
+
+pub mapped_at : {A : Type 0} (f : Node → A) (ns : List Node) (xs : List A) (i : ℕ) (n : Node) (d : A) → xs ≡ map f ns → slice_get ns i ≡ Some n → get_or xs i d ≡ f n
+mapped_at f ns xs i n d is at = get_or_from_slice_get xs i (f n) d (ap (λ ys. slice_get ys i) is ∙ slice_get-map f ns i ∙ ap (option_map f) at)
+
+pub element_at : (document : Document) → IsNumberedTree document → (i who : ℕ) → (is : IsAt (elements document.nodes) i who) → node_at document.nodes who ≡ Some is.node
+element_at document numbered i who is = ap (node_at document.nodes) is.serial ∙ element_known document numbered i is.node is.at
+
+own_serial : (nodes : List Node) (who : ℕ) (n : Node) → node_at nodes who ≡ Some n → n.serial ≡ who
+own_serial nodes who n at = eqb-true n.serial who (find_true (λ (m : Node). m.serial == who) nodes n at)
+
+module _ (nodes : List Node) (who : ℕ) where
+  by_default : (d : Source) → d ≡ syncbase_or source.Start End (previous_in_seq nodes who) → (t : Bool) → cond t source.Nothing d ∷ [] ≡ map (source_of nodes who) (cond t (Indefinite ∷ []) (Offset (pos 0) ∷ []))
+  by_default d is true = refl
+  by_default d is false = ap (λ s. s ∷ []) is
+
+  -- without a begin list
+  pub default_begins : (attrs : Attrs) (d : Source) → Some attrs ≡ option_map (λ (n : Node). n.attrs) (node_at nodes who) → attrs.begin ≡ None → d ≡ syncbase_or source.Start End (previous_in_seq nodes who) → Some (cond (is_in_excl nodes who) source.Nothing d ∷ []) ≡ option_map (λ (e : Node). map (source_of nodes who) (begin_list nodes e)) (node_at nodes who)
+  default_begins attrs d q none is = by_node (node_at nodes who) refl q
+    where
+      by_node : (o : Option Node) → node_at nodes who ≡ o → Some attrs ≡ option_map (λ (n : Node). n.attrs) o → Some (cond (is_in_excl nodes who) source.Nothing d ∷ []) ≡ option_map (λ (e : Node). map (source_of nodes who) (begin_list nodes e)) o
+      by_node None at r = cc
+      by_node (Some e) at r =
+          let same : attrs ≡ e.attrs = cc in
+          let absent : e.attrs.begin ≡ None = ap (λ (a : Attrs). a.begin) (sym same) ∙ none in
+          ap Some
+          (by_default d is (is_in_excl nodes who)
+          ∙ ap (λ s. map (source_of nodes who) (cond (is_in_excl nodes s) (Indefinite ∷ []) (Offset (pos 0) ∷ []))) (sym (own_serial nodes who e at))
+          ∙ ap (λ o. map (source_of nodes who) (items_or (cond (is_in_excl nodes e.serial) (Indefinite ∷ []) (Offset (pos 0) ∷ [])) o)) (sym absent))
+
+  pub row_is : (begins ends : List Source) → Some begins ≡ option_map (λ (e : Node). map (source_of nodes who) (begin_list nodes e)) (node_at nodes who) → Some ends ≡ option_map (λ (e : Node). map (source_of nodes who) (end_list e)) (node_at nodes who) → Some (without_cells begins ends) ≡ option_map (fresh_row nodes) (node_at nodes who)
+  row_is begins ends q r = by_node (node_at nodes who) refl q r
+    where
+      by_node : (o : Option Node) → node_at nodes who ≡ o → Some begins ≡ option_map (λ (e : Node). map (source_of nodes who) (begin_list nodes e)) o → Some ends ≡ option_map (λ (e : Node). map (source_of nodes who) (end_list e)) o → Some (without_cells begins ends) ≡ option_map (fresh_row nodes) o
+      by_node None at a b = cc
+      by_node (Some e) at a b =
+          let x : begins ≡ map (source_of nodes who) (begin_list nodes e) = cc in
+          let y : ends ≡ map (source_of nodes who) (end_list e) = cc in
+          ap Some
+          (ap (λ bs. without_cells bs ends) (x ∙ ap (λ s. map (source_of nodes s) (begin_list nodes e)) (sym (own_serial nodes who e at)))
+          ∙ ap (without_cells (map (source_of nodes e.serial) (begin_list nodes e))) (y ∙ ap (λ s. map (source_of nodes s) (end_list e)) (sym (own_serial nodes who e at))))
+
+pub same_some : {A : Type 0} (x y : A) → Some x ≡ Some y → x ≡ y
+same_some x y q = cc
+
+pub found_at : (ns : List Node) (i who : ℕ) → Some who ≡ option_map (λ (n : Node). n.serial) (slice_get ns i) → IsAt ns i who
+found_at ns i who q = by_node (slice_get ns i) refl q
+  where
+    by_node : (o : Option Node) → slice_get ns i ≡ o → Some who ≡ option_map (λ (n : Node). n.serial) o → IsAt ns i who
+    by_node None at r = cc
+    by_node (Some n) at r = record { node = n; at = at; serial = cc }
+
+pub found_known : (nodes : List Node) (i who : ℕ) → IsDistinct nodes → (is : IsAt nodes i who) → node_at nodes who ≡ Some is.node
+found_known nodes i who d is = ap (node_at nodes) is.serial ∙ node_of_place nodes i is.node d is.at
+
+pub elements_next : (nodes : List Node) (i : ℕ) (n : Node) → slice_get nodes i ≡ Some n → serials (elements (take (i + 1) nodes)) ≡ serials (elements (take i nodes)) ++ cond (is_element n) (n.serial ∷ []) []
+elements_next nodes i n at =
+    ap (λ xs. serials (elements xs)) (take_next nodes i n at)
+    ∙ ap serials (filter-append is_element (take i nodes) (n ∷ []))
+    ∙ map-append (λ (m : Node). m.serial) (elements (take i nodes)) (elements (n ∷ []))
+    ∙ ap (λ xs. serials (elements (take i nodes)) ++ xs) (one (is_element n))
+  where
+    one : (t : Bool) → serials (cond t (n ∷ []) []) ≡ cond t (n.serial ∷ []) []
+    one true = refl
+    one false = refl
+
+-- with the node's serial pushed, if it is an element
+pub elements_more : (nodes : List Node) (i who : ℕ) (kind : Kind) (t : Bool) (old new : List ℕ) → IsDistinct nodes → IsAt nodes i who → Some kind ≡ kind_of (node_at nodes who) → t ≡ not (is_class_kind kind) → old ≡ serials (elements (take i nodes)) → new ≡ old ++ cond t (who ∷ []) [] → new ≡ serials (elements (take (i + 1) nodes))
+elements_more nodes i who kind t old new d is k e so q =
+    q ∙ ap (λ xs. xs ++ cond t (who ∷ []) []) so
+    ∙ ap (λ s. serials (elements (take i nodes)) ++ cond t (s ∷ []) []) is.serial
+    ∙ ap (λ u. serials (elements (take i nodes)) ++ cond u (is.node.serial ∷ []) []) (e ∙ ap (λ x. not (is_class_kind x)) (same_some kind is.node.kind (k ∙ ap kind_of (found_known nodes i who d is))))
+    ∙ sym (elements_next nodes i is.node is.at)
+
+pub none_left : (ns : List Node) (k : ℕ) → None ≡ option_map (λ (n : Node). n.serial) (slice_get ns k) → length ns ≤ k
+none_left [] k q = omega arith
+none_left (n ∷ ns) zero q = cc
+none_left (n ∷ ns) (suc k) q = let rest = none_left ns k q in omega (arith, rest)

@@ -1,0 +1,206 @@
+-- The time child before another is the last one before it in document order.
+use Rattle.std.proofs.Common.{◌≡◌, refl, sym, ◌∙◌, ap, ℕ, zero, suc, ◌+◌, take, drop, length, ◌≤◌, arith, List, [], ◌∷◌, ◌++◌, Option, Some, None, Bool, true, false, cond}
+use Rattle.std.specs.Prelude.{◌==◌, ◌&&◌, ◌||◌, filter, nat_lt, slice_get, option_and_then}
+use Rattle.std.specs.List.{AllByRecursion, list_any}
+use Rattle.std.proofs.lemmas.Bool.{or_parts, eq-eqb, eqb-true, lt-ltb}
+use Rattle.std.proofs.lemmas.List.{take-append-drop, append-nil}
+use Rattle.std.proofs.lemmas.List.Elements.{filter-append}
+use Rattle.std.proofs.lemmas.Option.{slice_get-map, slice_get_within}
+use Rattle.smil_model.specs.declared.document.Node.{Node}
+use Rattle.smil_model.specs.document.Document.{elements, is_element, is_time_child, just_before, has_serial, previous_child, time_children, time_parent, serials, serial_of}
+use Rattle.smil_model.specs.document.Valid.{IsDistinct}
+use Rattle.smil_model.specs.reach.Reach.{is_option}
+use Rattle.smil_tree.proofs.Families.{drop_at}
+use Rattle.smil_instances.proofs.Begun.{each_at}
+use Rattle.smil_instances.proofs.Lists.{take_next}
+
+abbrev pub last_or : Option Node → List Node → Option Node
+last_or before [] = before
+last_or before (n ∷ ns) = last_or (Some n) ns
+
+-- the last one
+abbrev pub last_of : List Node → Option Node
+last_of ns = last_or None ns
+
+last_push : (before : Option Node) (ns : List Node) (n : Node) → last_or before (ns ++ n ∷ []) ≡ Some n
+last_push before [] n = refl
+last_push before (m ∷ ms) n = last_push (Some m) ms n
+
+-- of those before a node, whose serial none of them has
+before_here : (s : ℕ) (before : Option Node) (ns : List Node) (n : Node) (rest : List Node) → list_any (λ (m : Node). m.serial == s) ns ≡ false → n.serial == s ≡ true → just_before s before (ns ++ n ∷ rest) ≡ last_or before ns
+before_here s before [] n rest none here = ap (λ t. cond t before (just_before s (Some n) rest)) here
+before_here s before (m ∷ ms) n rest none here =
+    let parts = or_parts (m.serial == s) (list_any (λ (k : Node). k.serial == s) ms) none in
+    ap (λ t. cond t before (just_before s (Some m) (ms ++ n ∷ rest))) parts.0 ∙ before_here s (Some m) ms n rest parts.1 here
+
+-- ---- serials are distinct among the elements too
+
+any_filter : (t p : Node → Bool) (ns : List Node) → list_any p ns ≡ false → list_any p (filter t ns) ≡ false
+any_filter t p [] none = refl
+any_filter t p (n ∷ ns) none =
+    let parts = or_parts (p n) (list_any p ns) none in step (t n) parts.0 (any_filter t p ns parts.1)
+  where
+    step : (u : Bool) → p n ≡ false → list_any p (filter t ns) ≡ false → list_any p (cond u (n ∷ filter t ns) (filter t ns)) ≡ false
+    step true here rest = ap (λ v. v || list_any p (filter t ns)) here ∙ rest
+    step false here rest = rest
+
+distinct_filter : (t : Node → Bool) (ns : List Node) → IsDistinct ns → IsDistinct (filter t ns)
+distinct_filter t [] d = tt
+distinct_filter t (n ∷ ns) d = step (t n) (distinct_filter t ns d.1)
+  where
+    step : (u : Bool) → IsDistinct (filter t ns) → IsDistinct (cond u (n ∷ filter t ns) (filter t ns))
+    step true rest = (any_filter t (λ (m : Node). m.serial == n.serial) ns d.0, rest)
+    step false rest = rest
+
+pub distinct_elements : (nodes : List Node) → IsDistinct nodes → IsDistinct (elements nodes)
+distinct_elements nodes d = distinct_filter is_element nodes d
+
+among : (ns : List Node) (i : ℕ) (n : Node) (s : ℕ) → slice_get ns i ≡ Some n → list_any (λ (m : Node). m.serial == s) ns ≡ false → n.serial == s ≡ false
+among [] i n s at none = cc
+among (m ∷ ms) zero n s at none =
+    let one : m ≡ n = cc in ap (λ (x : Node). x.serial == s) (sym one) ∙ (or_parts (m.serial == s) (list_any (λ (k : Node). k.serial == s) ms) none).0
+among (m ∷ ms) (suc i) n s at none = among ms i n s at (or_parts (m.serial == s) (list_any (λ (k : Node). k.serial == s) ms) none).1
+
+turned : (a b : ℕ) → a == b ≡ b == a
+turned a b = grind arith
+
+-- none of those before it has its serial
+none_before : (ns : List Node) (i : ℕ) (n : Node) → IsDistinct ns → slice_get ns i ≡ Some n → list_any (λ (m : Node). m.serial == n.serial) (take i ns) ≡ false
+none_before [] i n d at = cc
+none_before (m ∷ ms) zero n d at = refl
+none_before (m ∷ ms) (suc i) n d at =
+    ap (λ t. t || list_any (λ (k : Node). k.serial == n.serial) (take i ms)) (turned m.serial n.serial ∙ among ms i n m.serial at d.0)
+    ∙ none_before ms i n d.1 at
+
+pub one_place : (ns : List Node) (i j : ℕ) (n m : Node) → IsDistinct ns → slice_get ns i ≡ Some n → slice_get ns j ≡ Some m → m.serial == n.serial ≡ true → j ≡ i
+one_place [] i j n m d a b q = cc
+one_place (x ∷ xs) zero zero n m d a b q = refl
+one_place (x ∷ xs) zero (suc j) n m d a b q =
+    let one : x ≡ n = cc in
+    let never : true ≡ false = sym q ∙ ap (λ (y : Node). m.serial == y.serial) (sym one) ∙ among xs j m x.serial b d.0 in cc
+one_place (x ∷ xs) (suc i) zero n m d a b q =
+    let one : x ≡ m = cc in
+    let never : true ≡ false = sym q ∙ turned m.serial n.serial ∙ ap (λ (y : Node). n.serial == y.serial) (sym one) ∙ among xs i n x.serial a d.0 in cc
+one_place (x ∷ xs) (suc i) (suc j) n m d a b q = ap suc (one_place xs i j n m d.1 a b q)
+
+-- ---- the time children among the elements
+
+module _ (nodes : List Node) where
+  all_elements : (p : ℕ) (ns : List Node) → filter (is_time_child nodes p) (elements ns) ≡ filter (is_time_child nodes p) ns
+  all_elements p [] = refl
+  all_elements p (n ∷ ns) = step (is_element n) refl (all_elements p ns)
+    where
+      step : (t : Bool) → is_element n ≡ t → filter (is_time_child nodes p) (elements ns) ≡ filter (is_time_child nodes p) ns → filter (is_time_child nodes p) (cond t (n ∷ elements ns) (elements ns)) ≡ cond (is_time_child nodes p n) (n ∷ filter (is_time_child nodes p) ns) (filter (is_time_child nodes p) ns)
+      step true e rest = ap (λ xs. cond (is_time_child nodes p n) (n ∷ xs) xs) rest
+      step false e rest = rest ∙ sym (ap (λ u. cond (u && has_serial p (time_parent nodes n.serial)) (n ∷ filter (is_time_child nodes p) ns) (filter (is_time_child nodes p) ns)) e)
+
+  is_element_at : (ns : List Node) (i : ℕ) (n : Node) → slice_get (elements ns) i ≡ Some n → is_element n ≡ true
+  is_element_at ns i n at = each_at (λ (m : Node). is_element m ≡ true) (elements ns) i n (each_passes ns) at
+    where
+      each_passes : (ms : List Node) → AllByRecursion (λ (m : Node). is_element m ≡ true) (elements ms)
+      each_passes [] = tt
+      each_passes (m ∷ ms) = step (is_element m) refl (each_passes ms)
+        where
+          step : (t : Bool) → is_element m ≡ t → AllByRecursion (λ (k : Node). is_element k ≡ true) (elements ms) → AllByRecursion (λ (k : Node). is_element k ≡ true) (cond t (m ∷ elements ms) (elements ms))
+          step true e rest = (e, rest)
+          step false e rest = rest
+
+  module _ (distinct : IsDistinct nodes) (i : ℕ) (n : Node) (at : slice_get (elements nodes) i ≡ Some n) where
+    child_is : (p : ℕ) → is_time_child nodes p n ≡ has_serial p (time_parent nodes n.serial)
+    child_is p = ap (λ t. t && has_serial p (time_parent nodes n.serial)) (is_element_at nodes i n at)
+
+    split : elements nodes ≡ take i (elements nodes) ++ n ∷ drop (i + 1) (elements nodes)
+    split = sym (take-append-drop i (elements nodes)) ∙ ap (λ xs. take i (elements nodes) ++ xs) (drop_at (elements nodes) i n at)
+
+    before_is : (q : Node) → time_parent nodes n.serial ≡ Some q → just_before n.serial None (time_children nodes q.serial) ≡ last_of (filter (is_time_child nodes q.serial) (take i (elements nodes)))
+    before_is q under =
+        ap (just_before n.serial None) (sym (all_elements q.serial nodes) ∙ ap (filter test) split ∙ filter-append test (take i (elements nodes)) (n ∷ drop (i + 1) (elements nodes)) ∙ ap (λ t. filter test (take i (elements nodes)) ++ cond t (n ∷ filter test (drop (i + 1) (elements nodes))) (filter test (drop (i + 1) (elements nodes)))) passes)
+        ∙ before_here n.serial None (filter test (take i (elements nodes))) n (filter test (drop (i + 1) (elements nodes)))
+        (any_filter test (λ (m : Node). m.serial == n.serial) (take i (elements nodes)) (none_before (elements nodes) i n (distinct_elements nodes distinct) at))
+        (eq-eqb n.serial n.serial refl)
+      where
+        test : Node → Bool
+        test = is_time_child nodes q.serial
+
+        passes : test n ≡ true
+        passes = child_is q.serial ∙ ap (has_serial q.serial) under ∙ eq-eqb q.serial q.serial refl
+
+    pub before_told : (last : ℕ → Option ℕ) → ((p : ℕ) → last p ≡ serial_of (last_of (filter (is_time_child nodes p) (take i (elements nodes))))) → option_and_then last (serial_of (time_parent nodes n.serial)) ≡ serial_of (previous_child nodes (time_parent nodes n.serial) n.serial)
+    before_told last all = by_node (time_parent nodes n.serial) refl
+      where
+        by_node : (o : Option Node) → time_parent nodes n.serial ≡ o → option_and_then last (serial_of o) ≡ serial_of (previous_child nodes o n.serial)
+        by_node None under = refl
+        by_node (Some q) under = all q.serial ∙ ap serial_of (sym (before_is q under))
+
+    pub last_told : (old new : ℕ → Option ℕ) → ((p : ℕ) → old p ≡ serial_of (last_of (filter (is_time_child nodes p) (take i (elements nodes))))) → ((p : ℕ) → new p ≡ cond (is_option p (serial_of (time_parent nodes n.serial))) (Some n.serial) (old p)) → (p : ℕ) → new p ≡ serial_of (last_of (filter (is_time_child nodes p) (take (i + 1) (elements nodes))))
+    last_told old new all step p =
+        step p ∙ by_test (has_serial p (time_parent nodes n.serial)) refl
+        ∙ ap (λ t. serial_of (last_of (filter (is_time_child nodes p) (take i (elements nodes)) ++ cond t (n ∷ []) []))) (sym (child_is p))
+        ∙ ap (λ xs. serial_of (last_of xs)) (sym (filter-append (is_time_child nodes p) (take i (elements nodes)) (n ∷ [])))
+        ∙ ap (λ xs. serial_of (last_of (filter (is_time_child nodes p) xs))) (sym (take_next (elements nodes) i n at))
+      where
+        same_test : (o : Option Node) → is_option p (serial_of o) ≡ has_serial p o
+        same_test None = refl
+        same_test (Some q) = turned p q.serial
+
+        by_test : (t : Bool) → has_serial p (time_parent nodes n.serial) ≡ t → cond (is_option p (serial_of (time_parent nodes n.serial))) (Some n.serial) (old p) ≡ serial_of (last_of (filter (is_time_child nodes p) (take i (elements nodes)) ++ cond t (n ∷ []) []))
+        by_test true e = ap (λ t. cond t (Some n.serial) (old p)) (same_test (time_parent nodes n.serial) ∙ e) ∙ ap serial_of (sym (last_push None (filter (is_time_child nodes p) (take i (elements nodes))) n))
+        by_test false e =
+            ap (λ t. cond t (Some n.serial) (old p)) (same_test (time_parent nodes n.serial) ∙ e) ∙ all p
+            ∙ ap (λ xs. serial_of (last_of xs)) (sym (append-nil (filter (is_time_child nodes p) (take i (elements nodes)))))
+
+-- ---- places
+
+module _ (nodes : List Node) (distinct : IsDistinct nodes) (i : ℕ) (n : Node) (at : slice_get (elements nodes) i ≡ Some n) where
+  pub place_told : (old new : ℕ → Option ℕ) → ((row who : ℕ) → is_option row (old who) ≡ (nat_lt row i && is_option who (slice_get (serials (elements nodes)) row))) → new n.serial ≡ Some i → ((who : ℕ) → n.serial == who ≡ false → new who ≡ old who) → (row who : ℕ) → is_option row (new who) ≡ (nat_lt row (i + 1) && is_option who (slice_get (serials (elements nodes)) row))
+  place_told old new all here others row who =
+      by_who (n.serial == who) refl ∙ ap (λ o. nat_lt row (i + 1) && is_option who o) (sym (slice_get-map (λ (m : Node). m.serial) (elements nodes) row))
+    where
+      nothing : (t : Bool) → (t && false) ≡ false
+      nothing true = refl
+      nothing false = refl
+
+      own : (t : Bool) → row == i ≡ t → n.serial ≡ who → (o : Option Node) → slice_get (elements nodes) row ≡ o → t ≡ (nat_lt row (i + 1) && is_option who (serial_of o))
+      own true e same o q =
+          let r : row ≡ i = eqb-true row i e in
+          let it : o ≡ Some n = sym q ∙ ap (slice_get (elements nodes)) r ∙ at in
+          sym (ap (λ t. t && is_option who (serial_of o)) (lt-ltb row (i + 1) (omega (arith, r))) ∙ ap (λ x. is_option who (serial_of x)) it ∙ eq-eqb who n.serial (sym same))
+      own false e same None q = sym (nothing (nat_lt row (i + 1)))
+      own false e same (Some m) q = by_same (who == m.serial) refl
+        where
+          by_same : (t : Bool) → who == m.serial ≡ t → false ≡ (nat_lt row (i + 1) && (who == m.serial))
+          by_same true f =
+              let j : row ≡ i = one_place (elements nodes) i row n m (distinct_elements nodes distinct) at q (turned m.serial n.serial ∙ ap (λ s. s == m.serial) same ∙ f) in
+              let never : false ≡ true = sym e ∙ eq-eqb row i j in cc
+          by_same false f = sym (ap (λ t. nat_lt row (i + 1) && t) f ∙ nothing (nat_lt row (i + 1)))
+
+      later : (t : Bool) → row == i ≡ t → n.serial == who ≡ false → (o : Option Node) → slice_get (elements nodes) row ≡ o → (nat_lt row i && is_option who (serial_of o)) ≡ (nat_lt row (i + 1) && is_option who (serial_of o))
+      later true e apart o q =
+          let r : row ≡ i = eqb-true row i e in
+          let it : o ≡ Some n = sym q ∙ ap (slice_get (elements nodes)) r ∙ at in
+          let no : is_option who (serial_of o) ≡ false = ap (λ x. is_option who (serial_of x)) it ∙ turned who n.serial ∙ apart in
+          ap (λ t. nat_lt row i && t) no ∙ nothing (nat_lt row i) ∙ sym (ap (λ t. nat_lt row (i + 1) && t) no ∙ nothing (nat_lt row (i + 1)))
+      later false e apart o q = ap (λ t. t && is_option who (serial_of o)) (same_less e)
+        where
+          same_less : row == i ≡ false → nat_lt row i ≡ nat_lt row (i + 1)
+          same_less f = grind (arith, f)
+
+      by_who : (t : Bool) → n.serial == who ≡ t → is_option row (new who) ≡ (nat_lt row (i + 1) && is_option who (serial_of (slice_get (elements nodes) row)))
+      by_who true e =
+          let same : n.serial ≡ who = eqb-true n.serial who e in
+          ap (is_option row) (ap new (sym same) ∙ here) ∙ own (row == i) refl same (slice_get (elements nodes) row) refl
+      by_who false e =
+          ap (is_option row) (others who e) ∙ all row who
+          ∙ ap (λ o. nat_lt row i && is_option who o) (slice_get-map (λ (m : Node). m.serial) (elements nodes) row)
+          ∙ later (row == i) refl e (slice_get (elements nodes) row) refl
+
+pub all_below : (whos : List ℕ) (i row who : ℕ) → length whos ≤ i → (nat_lt row i && is_option who (slice_get whos row)) ≡ is_option who (slice_get whos row)
+all_below whos i row who most = by_serial (slice_get whos row) refl
+  where
+    nothing : (t : Bool) → (t && false) ≡ false
+    nothing true = refl
+    nothing false = refl
+
+    by_serial : (o : Option ℕ) → slice_get whos row ≡ o → (nat_lt row i && is_option who o) ≡ is_option who o
+    by_serial None q = nothing (nat_lt row i)
+    by_serial (Some s) q = let below = slice_get_within whos row s q in ap (λ t. t && is_option who (Some s)) (lt-ltb row i (omega (arith, below, most)))

@@ -1,0 +1,38 @@
+use Rattle.std.proofs.Common.{sym, ◌∙◌, ap, get_or, take, [], ◌∷◌, ◌++◌, Some, None, Vec, Global}
+use Rattle.std.proofs.lemmas.List.{take_all}
+use Rattle.smil_instances.proofs.Places.{append_nil}
+use Rattle.smil_instance_rows.specs.declared.cell.Add.{Add}
+use Rattle.smil_instance_rows.specs.declared.cell.Cell.{Cell}
+use Rattle.smil_model.specs.declared.document.Edge.TheVariants.{Begin}
+use Rattle.smil_instances.specs.Intake.{adds_to, history_of}
+use Rattle.smil_instances.proofs.Gifts.{more_adds}
+use Rattle.smil_instances.proofs.additions.adds_of.Goals as goal
+use Rattle.smil_instances.proofs.additions.adds_of.Goals.{in-Some+in_ok-push, in_default}
+
+abbrev no_cell : Cell
+no_cell = record { row = 0; side = Begin; item = 0 }
+
+pub loop-cell-preserved : goal.loop-cell-preserved
+loop-cell-preserved c = λ before y q.
+    let past = history_of c.args.tree.now c.args.log.now before in
+    let cells = c.args.cells.now in
+    let i = c.loop-cell.cell-index in
+    let rest = c.loop-cell.invariant before y q in
+    elim c.match-given_to.branch [
+      | in-Some+in_ok-push w ↦
+          let one : Add = record { cell = get_or cells i no_cell; kept = w.in-Some.kept } in
+          ap (λ (v : Vec Add Global). v.items) w.adds-is
+          ∙ w.in_ok-push.ensures.items
+          ∙ ap (λ xs. xs ++ one ∷ []) rest
+          ∙ sym (more_adds past y cells i no_cell (Some w.in-Some.kept) c.loop-cell-test.true (w.in-Some.ensures before y q))
+      | in_default w ↦
+          ap (λ (v : Vec Add Global). v.items) w.adds-is
+          ∙ rest
+          ∙ sym (append_nil (adds_to past y (take i cells)))
+          ∙ sym (more_adds past y cells i no_cell None c.loop-cell-test.true (w.in_default.ensures before y q))
+    ]
+
+pub returns : goal.returns
+returns c = λ before y q.
+    c.loop-cell.invariant before y q
+    ∙ ap (adds_to (history_of c.args.tree.now c.args.log.now before) y) (take_all c.loop-cell.cell-index c.args.cells.now c.loop-cell-test.false)

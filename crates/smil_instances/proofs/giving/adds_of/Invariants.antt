@@ -1,9 +1,0 @@
-use Rattle.std.proofs.Common.{◌≡◌, List, [], ◌∷◌, ◌++◌, take}
-use Rattle.smil_model.specs.declared.diary.Entry.{Entry}
-use Rattle.smil_instances.specs.Taking.{adds_to, history_of}
-use Rattle.smil_instances.proofs.giving.adds_of.Given as goal
-
-abbrev pub invariant-loop-cell : goal.invariant-loop-cell
-invariant-loop-cell l =
-    (before : List Entry) (y : Entry) → l.book ≡ before ++ y ∷ []
-    → l.adds.items ≡ adds_to (history_of l.tree l.log before) y (take l.cell-index l.cells)

@@ -1,0 +1,72 @@
+use Rattle.std.proofs.Common.{◌≡◌, sym, ◌∙◌, ap, subst, List}
+use Rattle.std.specs.Prelude.{map}
+use Rattle.smil_model.specs.declared.diary.Entry.{Entry}
+use Rattle.smil_model.specs.reach.Reach.{key_of, subject_of}
+use Rattle.smil_instances.specs.SettledTimes.{settled_rows}
+use Rattle.smil_instances.specs.Sources.{is_birth, AreThose}
+use Rattle.smil_instance_rows.specs.Changes.{with_adds, Fits}
+use Rattle.smil_instances.specs.Intake.{adds_to, history_of, is_concerned_cell, shape_of, with_remainders}
+use Rattle.smil_instances.proofs.Extents.{settled_shape}
+use Rattle.smil_instances.proofs.Hands.{at_hand, timely}
+use Rattle.smil_instances.proofs.Taken.{adds_fit, taken_in, those_have_items}
+use Rattle.smil_instances.proofs.Updates.{adds_shape}
+use Rattle.smil_instances.proofs.intake.take_in.Goals as goal
+
+pub concerned-cells-requires-clause-rows : goal.concerned-cells-requires-clause-rows
+concerned-cells-requires-clause-rows c =
+    let hand = c.requires.hand in
+    ap (map shape_of) (c.requires.rows hand.past.diary hand.entry hand.is_entry.same_diary)
+    ∙ settled_shape (history_of c.args.tree.now c.args.log.now hand.past.diary)
+
+pub adds_of-requires-clause-rows : goal.adds_of-requires-clause-rows
+adds_of-requires-clause-rows c =
+    let hand = c.requires.hand in
+    ap (map shape_of) (c.requires.rows hand.past.diary hand.entry hand.is_entry.same_diary)
+    ∙ settled_shape (history_of c.args.tree.now c.args.log.now hand.past.diary)
+
+pub add_each-requires : goal.add_each-requires
+add_each-requires c =
+    let hand = c.requires.hand in
+    let before = hand.past.diary in
+    let y = hand.entry in
+    let q = hand.is_entry.same_diary in
+    let nodes = c.args.tree.now.nodes in
+    let log = c.args.log.now in
+    let cells = c.concerned-cells.result.now in
+    subst (Fits c.args.rows.now) (sym (c.as_slice.ensures.value ∙ c.in_ok-adds.ensures before y q))
+    (adds_fit nodes log before y cells
+    (subst (λ (z : Entry). AreThose (is_concerned_cell nodes (is_birth z.step) (subject_of log z.step) (key_of log z.step)) cells) (c.last_of-entry.ensures before y q) c.concerned-cells.ensures.those)
+    c.args.rows.now (c.requires.rows before y q))
+
+pub trim_each-requires-clause-cells : goal.trim_each-requires-clause-cells
+trim_each-requires-clause-cells c =
+    let step = c.last_of-entry.result.step in
+    those_have_items c.args.tree.now.nodes (is_birth step) (subject_of c.args.log.now step) (key_of c.args.log.now step) c.concerned-cells.result.now c.concerned-cells.ensures.those
+
+pub trim_each-requires-clause-rows : goal.trim_each-requires-clause-rows
+trim_each-requires-clause-rows c =
+    let hand = c.requires.hand in
+    ap (map shape_of) c.in_ok-add_each.ensures.ok
+    ∙ adds_shape c.args.rows.now c.as_slice.result.now
+    ∙ ap (map shape_of) (c.requires.rows hand.past.diary hand.entry hand.is_entry.same_diary)
+    ∙ settled_shape (history_of c.args.tree.now c.args.log.now hand.past.diary)
+
+pub returns-clause-ok : goal.returns-clause-ok
+returns-clause-ok c =
+    let hand = c.requires.hand in
+    let before = hand.past.diary in
+    let y = hand.entry in
+    let q = hand.is_entry.same_diary in
+    let document = c.args.tree.now in
+    let log = c.args.log.now in
+    let book = c.args.book.now in
+    let rows = c.args.rows.now in
+    let cells = c.concerned-cells.result.now in
+    let past = history_of document log before in
+    let those = subst (λ (z : Entry). AreThose (is_concerned_cell document.nodes (is_birth z.step) (subject_of log z.step) (key_of log z.step)) cells) (c.last_of-entry.ensures before y q) c.concerned-cells.ensures.those in
+    let added = with_adds rows (adds_to past y cells) in
+    c.trim_each.ensures log
+    ∙ ap (λ rs. with_remainders (history_of document log book) rs cells) (c.in_ok-add_each.ensures.ok ∙ ap (with_adds rows) (c.as_slice.ensures.value ∙ c.in_ok-adds.ensures before y q))
+    ∙ subst (λ (diary : List Entry). with_remainders (history_of document log diary) added cells ≡ settled_rows (history_of document log diary)) (sym q)
+    (taken_in document.nodes log before y cells those rows (c.requires.rows before y q) c.entries_are_taken_in.ensures c.only_concerned_items_change.ensures
+    (timely past y document c.args.clocks.now log book (at_hand document c.args.clocks.now log book before y hand q)))

@@ -1,0 +1,29 @@
+use Rattle.std.proofs.Common.{◌≡◌, sym, ap, ◌∙◌, ◌≤◌, length, arith, ◌+◌}
+use Rattle.std.specs.Prelude.{slice_get}
+use Rattle.smil_instances.specs.Dependents.{ElementDependents, source_in, source_or, source_under, sources_of}
+use Rattle.smil_instances.specs.Keys.{first_keys, goes_to_key, is_for_key, side_keys}
+use Rattle.smil_instances.specs.Spread.{one_if}
+use Rattle.smil_instances.proofs.Keyed.{all_of_side, by_rows, keys_same, keys_then}
+use Rattle.smil_instances.proofs.Spreading.{items_next, row_there}
+use Rattle.smil_instances.proofs.keys.note_side.Goals as goal
+
+pub loop-item-preserved : goal.loop-item-preserved
+loop-item-preserved c =
+    let rows = c.args.rows.now in
+    let row = c.args.row in
+    let side = c.args.side in
+    let item = c.loop-item.item in
+    let s = c.source-source.result in
+    let r = c.index-rows-row-in-loop-item.result in
+    let is : s ≡ source_in rows (record { row = row; side = side; item = item }) =
+    c.source-source.ensures ∙ sym (ap (source_under (record { row = row; side = side; item = item })) (row_there rows row r c.index-rows-row-in-loop-item.is c.requires)) in
+    keys_then (first_keys rows row side item) (goes_to_key s (record { row = row; side = side; item = item })) (first_keys rows row side (item + 1))
+    c.args.keys.now.items c.loop-item.keys.items c.note_key.new.keys.items c.loop-item.invariant c.in_ok-note_key.ensures
+    (λ key d. ap (λ t. one_if (first_keys rows row side item key d) + one_if t) (by_rows rows s (record { row = row; side = side; item = item }) is key d) ∙ items_next row side item (is_for_key rows key) d)
+
+pub returns : goal.returns
+returns c =
+    let same : length c.sources-item-end.result.now ≡ length (sources_of c.index-rows-row.result c.args.side) = ap length c.sources-item-end.ensures in
+    let most : length (sources_of c.index-rows-row.result c.args.side) ≤ c.loop-item.item = omega (arith, same, c.loop-item-test.false) in
+    keys_same (first_keys c.args.rows.now c.args.row c.args.side c.loop-item.item) (side_keys c.args.rows.now c.args.row c.args.side) c.args.keys.now.items c.loop-item.keys.items c.loop-item.invariant
+    (all_of_side c.args.rows.now c.args.row c.args.side c.index-rows-row.result c.loop-item.item c.index-rows-row.is c.requires most)

@@ -1,0 +1,18 @@
+use Rattle.std.proofs.Common.{sym, ◌∙◌, ap, get_or}
+use Rattle.std.proofs.lemmas.List.Sums.{fold_more}
+use Rattle.smil_instance_rows.specs.declared.cell.Cell.{Cell}
+use Rattle.smil_model.specs.declared.document.Edge.TheVariants.{Begin}
+use Rattle.smil_instances.specs.Intake.{history_of, with_remainder}
+use Rattle.smil_instances.proofs.remainder.trim_each.Goals as goal
+
+abbrev no_cell : Cell
+no_cell = record { row = 0; side = Begin; item = 0 }
+
+pub loop-cell-preserved : goal.loop-cell-preserved
+loop-cell-preserved c = record {
+  value = λ log.
+      c.trim_at.ensures.value log
+      ∙ ap (λ rows. with_remainder (history_of c.args.tree.now log c.args.book.now) rows (get_or c.args.cells.now c.loop-cell.cell-index no_cell)) (c.loop-cell.invariant.value log)
+      ∙ sym (fold_more (with_remainder (history_of c.args.tree.now log c.args.book.now)) c.args.rows.now c.args.cells.now c.loop-cell.cell-index no_cell c.loop-cell-test.true);
+  rows = c.trim_at.ensures.rows;
+}

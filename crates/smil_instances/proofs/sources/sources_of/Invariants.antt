@@ -1,0 +1,7 @@
+use Rattle.std.proofs.Common.{◌≡◌, take, map}
+use Rattle.smil_instances.specs.Sources.{source_of}
+use Rattle.smil_instances.proofs.sources.sources_of.Given as goal
+
+-- the sources of the first items
+abbrev pub invariant-loop-place : goal.invariant-loop-place
+invariant-loop-place l = l.sources.items ≡ map (source_of l.tree.nodes l.who) (take l.place l.items)

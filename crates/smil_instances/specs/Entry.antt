@@ -1,0 +1,24 @@
+-- The last entry of a diary, with what was before it.
+use Rattle.std.specs.Prelude.{◌≡◌, List, [], ◌∷◌, ◌++◌}
+use Rattle.smil_model.specs.declared.diary.Entry.{Entry}
+use Rattle.smil_model.specs.declared.diary.LogEntry.{LogEntry}
+use Rattle.smil_model.specs.document.Document.{Document}
+use Rattle.smil_model.specs.diary.Diary.{History, with_entry}
+use Rattle.smil_model.specs.diary.Lawful.{IsLawful}
+use Rattle.smil_stretch.specs.declared.clock.NodeClock.{NodeClock}
+use Rattle.smil_stretch.specs.Clocks.{AreClocksOf}
+
+-- the history before an entry, by what is at hand once it was appended: the document, the clocks before it, the log, and
+-- the diary with it
+pub record IsEntryOf (h : History) (y : Entry) (document : Document) (clocks : List NodeClock) (log : List LogEntry) (diary : List Entry) : Type 0 where
+  pub same_nodes : h.nodes ≡ document.nodes
+  pub same_log : h.log ≡ log
+  pub same_diary : diary ≡ h.diary ++ y ∷ []
+  pub lawful : IsLawful (with_entry h y)
+  pub known : AreClocksOf clocks h
+
+-- there are such a history and entry
+pub record IsAtHand (document : Document) (clocks : List NodeClock) (log : List LogEntry) (diary : List Entry) : Type 0 where
+  pub past : History
+  pub entry : Entry
+  pub is_entry : IsEntryOf past entry document clocks log diary

@@ -1,0 +1,42 @@
+//! The time that an entry gives to an item for the begins or the ends of an element.
+
+ghost use Rattle.std.specs.Prelude.{◌≡◌};
+ghost use Rattle.smil_model.specs.diary.Diary.{History};
+ghost use Rattle.smil_model.specs.interval.Instances;
+ghost use Rattle.smil_model.specs.Times.{IsMoment};
+ghost use Rattle.smil_instances.specs.Contribution.{AreClocksAt};
+
+use super::carried::carried;
+use smil_duration::moved;
+use smil_model::{Edge, Entry, Step, Time};
+use smil_stretch::Clocks;
+
+/// The time that an entry gives to an item of `who` with this offset for the begins, or for the ends and cuts, of `of`, in
+/// milliseconds on the clock of the time parent of `who`; None exactly where it is none of them. It takes no memory.
+pub fn edge_time(
+    clocks: &Clocks,
+    entry: Entry,
+    who: u32,
+    of: u32,
+    edge: Edge,
+    offset: i64,
+) -> Option<Time>
+    requires { IsMoment entry.moment }
+    ensures { (h : History) → AreClocksAt h clocks.now entry.moment → result ≡ Instances.edge_time h who of offset entry.moment edge entry.step }
+{
+    let own = clocks.outer(who, entry.moment);
+    let other = clocks.outer(of, entry.moment);
+    match edge {
+        Edge::Begin => match entry.step {
+            Step::Began { who: on, begin } if on == of => {
+                Some(carried(begin, other, own, offset))
+            }
+            _ => None,
+        },
+        Edge::End => match entry.step {
+            Step::Ended { who: on, end } if on == of => Some(carried(end, other, own, offset)),
+            Step::Cut { who: on } if on == of => Some(moved(own, offset)),
+            _ => None,
+        },
+    }
+}

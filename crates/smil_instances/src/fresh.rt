@@ -1,0 +1,115 @@
+//! The rows of a document's elements before any cell is noted.
+
+ghost use Rattle.std.specs.Prelude.{◌≡◌, Some, IfOk, IsSome, map, option_map, if◌then◌else◌, length};
+ghost use Rattle.smil_model.specs.declared.document.Node.{Node as AnyNode};
+ghost use Rattle.smil_model.specs.declared.document.Edge.TheVariants.{End};
+ghost use Rattle.smil_model.specs.document.Document.{elements, is_in_excl, node_at, previous_child, previous_in_seq, time_parent, serials, serial_of};
+ghost use Rattle.smil_model.specs.document.Defaults.{begin_list, end_list};
+ghost use Rattle.smil_instances.specs.Sources.{source_of, syncbase_or};
+ghost use Rattle.smil_instances.specs.declared.source.Source.TheVariants as source;
+ghost use Rattle.smil_instances.specs.Spread.{fresh_row, fresh_rows};
+
+use super::dependents_row::DependentsRow;
+use super::source::Source;
+use super::sources::{kind_above, sources_of};
+use smil_model::{Edge, Kind};
+use smil_tree::Tree;
+use std::alloc::{AllocError, Global};
+
+/// The rows of the elements, with the sources of their items.
+pub fn fresh_rows(
+    alloc: Global,
+    tree: &Tree,
+    whos: &[u32],
+    befores: &[Option<u32>],
+) -> Result<Vec<DependentsRow>, AllocError>
+    requires whos { whos.now ≡ serials (elements tree.now.nodes) }
+    requires befores { befores.now ≡ map (λ (n : AnyNode). serial_of (previous_child tree.now.nodes (time_parent tree.now.nodes n.serial) n.serial)) (elements tree.now.nodes) }
+    ensures { IfOk result (λ rows. rows.items ≡ fresh_rows tree.now.nodes) }
+{
+    tree.valid();
+    let mut rows = Vec::with_capacity(alloc, whos.len())?;
+    for (place, who) in whos.iter().enumerate() {
+        rows.push(fresh_row(alloc, tree, *who, befores[place])?)?;
+    }
+    Ok(rows)
+}
+
+/// The row of an element, by its serial and the time child before it.
+fn fresh_row(
+    alloc: Global,
+    tree: &Tree,
+    who: u32,
+    before: Option<u32>,
+) -> Result<DependentsRow, AllocError>
+    requires known { IsSome (node_at tree.now.nodes who) }
+    requires before { before ≡ serial_of (previous_child tree.now.nodes (time_parent tree.now.nodes who) who) }
+    ensures { IfOk result (λ row. Some row ≡ option_map (fresh_row tree.now.nodes) (node_at tree.now.nodes who)) }
+{
+    let by_offset = source_by_offset(tree, who, before);
+    let begins = begin_sources(alloc, tree, who, by_offset)?;
+    let ends = end_sources(alloc, tree, who, by_offset)?;
+    Ok(DependentsRow::new(alloc, begins, ends))
+}
+
+/// The source of an offset alone: the end of the child before in a seq, and else the start of the time parent's iteration.
+fn source_by_offset(tree: &Tree, who: u32, before: Option<u32>) -> Source
+    requires known { IsSome (node_at tree.now.nodes who) }
+    requires before { before ≡ serial_of (previous_child tree.now.nodes (time_parent tree.now.nodes who) who) }
+    ensures { result ≡ syncbase_or source.Start End (previous_in_seq tree.now.nodes who) }
+{
+    match (kind_above(tree, who), before) {
+        (Some(Kind::Seq), Some(of)) => Source::Syncbase {
+            of,
+            edge: Edge::End,
+        },
+        _ => Source::Start,
+    }
+}
+
+/// The sources of the items of an element's begin list.
+fn begin_sources(
+    alloc: Global,
+    tree: &Tree,
+    who: u32,
+    by_offset: Source,
+) -> Result<Vec<Source>, AllocError>
+    requires known { IsSome (node_at tree.now.nodes who) }
+    requires by_offset { by_offset ≡ syncbase_or source.Start End (previous_in_seq tree.now.nodes who) }
+    ensures { IfOk result (λ sources. Some sources.items ≡ option_map (λ (e : AnyNode). map (source_of tree.now.nodes who) (begin_list tree.now.nodes e)) (node_at tree.now.nodes who)) }
+{
+    if let Some(items) = &tree.attrs(who).begin {
+        return sources_of(alloc, tree, who, items, by_offset);
+    }
+    let mut sources = Vec::new(alloc);
+    sources.push(begin_by_default(tree, who, by_offset))?;
+    Ok(sources)
+}
+
+/// The source of the one item of an element without a begin list: nothing in an excl, and else that of an offset.
+fn begin_by_default(tree: &Tree, who: u32, by_offset: Source) -> Source
+    requires { IsSome (node_at tree.now.nodes who) }
+    ensures { result ≡ (if is_in_excl tree.now.nodes who then source.Nothing else by_offset) }
+{
+    match kind_above(tree, who) {
+        Some(Kind::Excl) => Source::Nothing,
+        _ => by_offset,
+    }
+}
+
+/// The sources of the items of an element's end list.
+fn end_sources(
+    alloc: Global,
+    tree: &Tree,
+    who: u32,
+    by_offset: Source,
+) -> Result<Vec<Source>, AllocError>
+    requires known { IsSome (node_at tree.now.nodes who) }
+    requires by_offset { by_offset ≡ syncbase_or source.Start End (previous_in_seq tree.now.nodes who) }
+    ensures { IfOk result (λ sources. Some sources.items ≡ option_map (λ (e : AnyNode). map (source_of tree.now.nodes who) (end_list e)) (node_at tree.now.nodes who)) }
+{
+    match &tree.attrs(who).end {
+        Some(items) => sources_of(alloc, tree, who, items, by_offset),
+        None => Ok(Vec::new(alloc)),
+    }
+}

@@ -1,0 +1,78 @@
+//! What is no longer kept for items after the last entry of a diary.
+
+ghost use Rattle.std.specs.Prelude.{◌≡◌, ℕ, Some, List, IsSome};
+ghost use Rattle.smil_model.specs.declared.diary.LogEntry.{LogEntry as AnyLogEntry};
+ghost use Rattle.smil_model.specs.document.Document.{node_at, time_parent};
+ghost use Rattle.smil_model.specs.diary.Diary.{birth_under};
+ghost use Rattle.smil_instances.specs.Sources.{base_of};
+ghost use Rattle.smil_instance_rows.specs.Changes.{cell_of, with_cell, HasCell};
+ghost use Rattle.smil_instances.specs.Updates.{remaining};
+ghost use Rattle.smil_instances.specs.Dependents.{AreDependentsOf};
+ghost use Rattle.smil_instances.specs.Intake.{history_of, HasItem, HaveItems, IsCellOf, with_remainder, with_remainders, AreRowsOf};
+
+use super::dependents::Dependents;
+use super::laws::bases_are_elements;
+use super::source::Source;
+use smil_diary::Book;
+use smil_instance_rows::{Cell, Rows};
+use smil_tree::Tree;
+
+/// Takes out of each of these items what is no longer kept, by the births in the book. It takes no memory.
+pub(crate) fn trim_each(
+    rows: &mut Rows,
+    cells: &[Cell],
+    dependents: &Dependents,
+    tree: &Tree,
+    book: &Book,
+)
+    requires cells { HaveItems tree.now.nodes cells.now }
+    requires dependents { AreDependentsOf tree.now.nodes dependents.now }
+    requires rows { AreRowsOf tree.now.nodes rows.old }
+    ensures { (log : List AnyLogEntry) → rows.new ≡ with_remainders (history_of tree.now log book.now) rows.old cells.now }
+{
+    for cell in cells {
+        trim_at(rows, *cell, dependents, tree, book);
+    }
+}
+
+/// Takes out of an item what is no longer kept.
+fn trim_at(rows: &mut Rows, cell: Cell, dependents: &Dependents, tree: &Tree, book: &Book)
+    requires cell { HasItem tree.now.nodes cell }
+    requires dependents { AreDependentsOf tree.now.nodes dependents.now }
+    requires rows { AreRowsOf tree.now.nodes rows.old }
+    ensures value { (log : List AnyLogEntry) → rows.new ≡ with_remainder (history_of tree.now log book.now) rows.old cell }
+    ensures rows { AreRowsOf tree.now.nodes rows.new }
+{
+    tree.valid();
+    bases_are_elements();
+    let who = rows.serial_at(cell.row).unwrap();
+    trim(rows, cell, who, dependents.source(cell), tree, book);
+}
+
+/// Takes out of an item of this element with this source what is no longer kept.
+fn trim(rows: &mut Rows, cell: Cell, who: u32, source: Source, tree: &Tree, book: &Book)
+    requires has { HasCell rows.old cell }
+    requires cell { IsCellOf tree.now.nodes cell who source }
+    requires base { (of : ℕ) → base_of source ≡ Some of → IsSome (node_at tree.now.nodes of) }
+    ensures { (log : List AnyLogEntry) → rows.new ≡ with_cell rows.old cell (remaining (history_of tree.now log book.now) who source (cell_of rows.old cell)) }
+{
+    match source {
+        Source::Start => rows.keep_last(cell),
+        Source::Syncbase { of, .. } => {
+            let place = birth(tree, book, who).min(birth(tree, book, of));
+            rows.cut(cell, place);
+        }
+        Source::Eventbase { .. } | Source::Key { .. } => {
+            rows.cut(cell, birth(tree, book, who));
+        }
+        Source::Nothing => {}
+    }
+}
+
+/// The birth of an element.
+fn birth(tree: &Tree, book: &Book, who: u32) -> usize
+    requires { IsSome (node_at tree.now.nodes who) }
+    ensures { result ≡ birth_under (time_parent tree.now.nodes who) book.now }
+{
+    book.birth(tree.time_parent(who))
+}

@@ -1,0 +1,158 @@
+//! Whether an element hears an event for an item of its lists.
+
+ghost use Rattle.std.specs.Prelude.{◌≡◌, ◌<◌, ◌&&◌, not, ℕ, List, length, true, Some};
+ghost use Rattle.std.specs.List.{list_any};
+ghost use Rattle.smil_model.specs.declared.diary.Entry.{Entry as AnyEntry};
+ghost use Rattle.smil_model.specs.declared.diary.LogEntry.{LogEntry};
+ghost use Rattle.smil_model.specs.declared.document.Node.{Node as AnyNode};
+ghost use Rattle.smil_model.specs.document.Document.{elements, node_at, target};
+ghost use Rattle.smil_model.specs.document.Defaults.{begin_list, restart_of};
+ghost use Rattle.smil_model.specs.diary.Diary.{History, is_alive as alive_in};
+ghost use Rattle.smil_model.specs.diary.Clocks.{outer_stands};
+ghost use Rattle.smil_model.specs.diary.Lawful.{has_element};
+ghost use Rattle.smil_model.specs.interval.Instances as instances;
+ghost use Rattle.smil_stretch.specs.Clocks.{AreClocksOf};
+ghost use Rattle.smil_instances.specs.Before.{IsBefore};
+ghost use Rattle.smil_instances.specs.Entry.{IsAtHand, IsEntryOf};
+ghost use Rattle.smil_instances.specs.Occurrence.{target_of, is_always};
+
+use super::before::{was_active, was_alive};
+use smil_diary::Book;
+use smil_model::{Bytes, Edge, Item, Restart};
+use smil_stretch::Clocks;
+use smil_tree::Tree;
+
+/// Whether an element hears an event for an item of its begin list or end list, by what had happened before the last entry
+/// of the book (SMIL 3.0 Timing, event sensitivity). The element hears none while its time parent is not active or the clock
+/// of its time parent stands. While it is not active it hears its begin items alone. While it is active, one that may always
+/// restart hears its begin items, and those end items that are for no event of a begin item, and any other hears its end
+/// items alone. An access key is heard as an event is. `of` is the element that an event or repeat item means; a key is on
+/// none. It takes no memory.
+pub fn hears(
+    tree: &Tree,
+    clocks: &Clocks,
+    book: &Book,
+    who: u32,
+    side: Edge,
+    item: &Item,
+    of: Option<u32>,
+) -> bool
+    requires hand { (log : List LogEntry) × IsAtHand tree.now clocks.now log book.now }
+    requires element { has_element tree.now.nodes who ≡ true }
+    requires means { of ≡ target_of tree.now.nodes who item.now }
+    ensures { (h : History) (y : AnyEntry) (e : AnyNode) → IsEntryOf h y tree.now clocks.now h.log book.now → node_at (elements h.nodes) who ≡ Some e → result ≡ instances.hears h e side item.now }
+{
+    is_awake(tree, clocks, book, who)
+        && is_sensitive(tree, was_active(book, who), who, side, item, of)
+}
+
+// Whether an element was alive before the last entry of the book, and the clock of its time parent ran.
+fn is_awake(tree: &Tree, clocks: &Clocks, book: &Book, who: u32) -> bool
+    requires some { 0 < length book.now }
+    requires element { has_element tree.now.nodes who ≡ true }
+    ensures { (h : History) (y : AnyEntry) → h.nodes ≡ tree.now.nodes → IsBefore h y book.now → AreClocksOf clocks.now h → result ≡ (alive_in h who && not (outer_stands h who)) }
+{
+    was_alive(tree, book, who) && !clocks.outer_stands(who)
+}
+
+// Whether an element of a document, which is active or not, is sensitive to events for an item.
+fn is_sensitive(
+    tree: &Tree,
+    active: bool,
+    who: u32,
+    side: Edge,
+    item: &Item,
+    of: Option<u32>,
+) -> bool
+    requires element { has_element tree.now.nodes who ≡ true }
+    requires means { of ≡ target_of tree.now.nodes who item.now }
+    ensures { (e : AnyNode) → node_at (elements tree.now.nodes) who ≡ Some e → result ≡ instances.is_sensitive active (restart_of tree.now.nodes e) side (list_any (instances.is_same_event tree.now.nodes e.serial item.now) (begin_list tree.now.nodes e)) }
+{
+    match side {
+        Edge::Begin => !active || always_restarts(tree, who),
+        Edge::End => active && !(always_restarts(tree, who) && is_doubled(tree, who, item, of)),
+    }
+}
+
+// Whether an element may always restart.
+fn always_restarts(tree: &Tree, who: u32) -> bool
+    requires element { has_element tree.now.nodes who ≡ true }
+    ensures { (e : AnyNode) → node_at (elements tree.now.nodes) who ≡ Some e → result ≡ is_always (restart_of tree.now.nodes e) }
+{
+    tree.valid();
+    let restart = tree.restart_of(who);
+    matches!(restart, Restart::Always)
+}
+
+// Whether a begin item of an element is for the same event as an item.
+fn is_doubled(tree: &Tree, who: u32, item: &Item, of: Option<u32>) -> bool
+    requires element { has_element tree.now.nodes who ≡ true }
+    requires means { of ≡ target_of tree.now.nodes who item.now }
+    ensures { (e : AnyNode) → node_at (elements tree.now.nodes) who ≡ Some e → result ≡ list_any (instances.is_same_event tree.now.nodes who item.now) (begin_list tree.now.nodes e) }
+{
+    tree.valid();
+    let Some(begin) = &tree.attrs(who).begin else {
+        return false;
+    };
+    for place in 0..begin.len() {
+        if is_same_event(tree, who, item, of, begin.get(place).unwrap()) {
+            return true;
+        }
+    }
+    false
+}
+
+// Whether two items of an element are for the same event of the element `of`, which the first one means, or for the same
+// key.
+fn is_same_event(tree: &Tree, who: u32, item: &Item, of: Option<u32>, other: &Item) -> bool
+    requires element { has_element tree.now.nodes who ≡ true }
+    requires means { of ≡ target_of tree.now.nodes who item.now }
+    ensures { result ≡ instances.is_same_event tree.now.nodes who item.now other.now }
+{
+    match (item, other) {
+        (
+            Item::Event { name, .. },
+            Item::Event {
+                who: named,
+                name: other_name,
+                ..
+            },
+        ) => means(tree, who, named, of) && name.slice() == other_name.slice(),
+        (
+            Item::Repeat { n, .. },
+            Item::Repeat {
+                who: named,
+                n: m,
+                ..
+            },
+        ) => { means(tree, who, named, of) && n == m }
+        (Item::Key { key, .. }, Item::Key { key: other_key, .. }) => key == other_key,
+        _ => false,
+    }
+}
+
+// Whether an item of an element means the element `of`, by the id that the item has; none means no element.
+fn means(tree: &Tree, who: u32, named: &Option<Bytes>, of: Option<u32>) -> bool
+    requires { (x : ℕ) → of ≡ Some x → has_element tree.now.nodes x ≡ true }
+    ensures { result ≡ instances.same_target of (target tree.now.nodes who named.now) }
+{
+    let Some(of) = of else {
+        return false;
+    };
+    match named {
+        Some(id) => bears(tree, of, id.slice()),
+        None => of == who,
+    }
+}
+
+// Whether an element has this id.
+fn bears(tree: &Tree, who: u32, id: &[u8]) -> bool
+    requires { has_element tree.now.nodes who ≡ true }
+    ensures { result ≡ instances.same_target (Some who) (target tree.now.nodes who (Some id.now)) }
+{
+    tree.valid();
+    match &tree.attrs(who).id {
+        Some(own) => own.slice() == id,
+        None => false,
+    }
+}

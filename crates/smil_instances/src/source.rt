@@ -1,0 +1,18 @@
+//! What the times of an item follow from.
+
+use smil_model::Edge;
+
+/// What the times of an item follow from (SMIL 3.0 Timing, the forms of begin and end values).
+#[derive(Clone, Copy, Debug, PartialEq, Eq)]
+pub enum Source {
+    /// The start of the time parent's iteration.
+    Start,
+    /// The begin or the end of the element with the serial `of`.
+    Syncbase { of: u32, edge: Edge },
+    /// The events or the repeats of the element with the serial `of`.
+    Eventbase { of: u32 },
+    /// The presses of an access key.
+    Key { key: u8 },
+    /// Nothing that happens: no element has the id, or the item is `indefinite`.
+    Nothing,
+}

@@ -1,5 +1,0 @@
-use Rattle.smil_kept.proofs.Taken.{taken_in}
-use Rattle.smil_kept.proofs.laws.entries_are_taken_in.Goals as goal
-
-pub returns : goal.returns
-returns c = λ h y e side item timely. taken_in h y e side item timely

@@ -1,5 +1,0 @@
-use Rattle.smil_kept.proofs.Begins.{are_merged}
-use Rattle.smil_kept.proofs.laws.instances_are_merged.Goals as goal
-
-pub returns : goal.returns
-returns c = λ h intervals now e. are_merged h intervals now e

@@ -1,5 +1,0 @@
-use Rattle.smil_kept.proofs.Concerned.{unconcerned}
-use Rattle.smil_kept.proofs.laws.only_concerned_items_change.Goals as goal
-
-pub returns : goal.returns
-returns c = λ h y e side item timely free. unconcerned h y e side item timely free
