@@ -1,0 +1,11 @@
+pub mod Clocked
+pub mod Since
+pub mod Shown
+pub mod Stepped
+pub mod Rows
+pub mod Taken
+pub mod Children
+pub mod Before
+pub mod OwnRows
+pub mod Turned
+pub mod Idle

@@ -1,0 +1,34 @@
+//! What is kept of one element.
+
+use smil_model::Time;
+
+/// A finished interval, in milliseconds: on the time parent's clock, and in document time.
+#[derive(Clone, Copy, Debug, PartialEq, Eq)]
+pub struct PastInterval {
+    pub begin: i64,
+    /// The end, or what the time parent's clock showed at the cut.
+    pub finish: i64,
+    pub shown_begin: i64,
+    pub shown_finish: i64,
+    pub was_cut: bool,
+}
+
+/// What a diary says of the plays of an element, in milliseconds.
+#[derive(Clone, Copy, Debug, PartialEq, Eq)]
+pub struct Played {
+    /// The begin of the present play on the time parent's clock, and in document time; None where there is none.
+    pub begun: Option<i64>,
+    pub shown_begun: Option<i64>,
+    /// The play start of the last play and the start of its last iteration, on the element's own clock.
+    pub first: i64,
+    pub start: i64,
+    /// The first and the last interval that finished since birth.
+    pub first_finished: Option<PastInterval>,
+    pub last_finished: Option<PastInterval>,
+    /// The begin that an excl has put off, in document time.
+    pub shown_deferred: Option<i64>,
+    /// The greatest begin since birth that an excl let pass, on the time parent's clock.
+    pub passed: Option<i64>,
+    /// The last length of the element's media that the diary tells.
+    pub length: Time,
+}
