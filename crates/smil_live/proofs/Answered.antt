@@ -1,6 +1,6 @@
 -- What is answered to a load and to an advance of a par with one image.
 use Rattle.std.proofs.Common.{◌≡◌, refl, sym, ◌∙◌, ap, subst, ℕ, ◌<◌, ◌≤◌, ◌+◌, List, [], ◌++◌, Bool, true, false, Some, None, Result, Ok, Err, ℤ, ◌+ℤ◌, ◌-ℤ◌, ◌≤ℤ◌, arith, append-nil, inl, inr}
-use Rattle.std.specs.Prelude.{OnOk, is_err, pos, negsuc, nat_abs, cond, not, int_le, int_lt, ltb, length, drop, nat_le, flat_map, ◌⊎◌, ◌-◌}
+use Rattle.std.specs.Prelude.{pos, negsuc, nat_abs, cond, not, int_le, int_lt, ltb, length, drop, nat_le, flat_map, ◌⊎◌, ◌-◌}
 use Rattle.std.proofs.lemmas.Bool.{cases_lt, le-leb, lt-ltb, le-ltb, leb-true, and_parts}
 use Rattle.std.proofs.lemmas.Int.{ints}
 use Rattle.std.proofs.Math.Seq.{drop-append_seam}
@@ -14,6 +14,7 @@ use Rattle.smil_model.specs.declared.order.Who.TheVariants.{Id, Serial}
 use Rattle.smil_model.specs.declared.view.State.TheVariants as state
 use Rattle.smil_model.specs.declared.document.Node.{Node}
 use Rattle.smil_model.specs.document.Document.{Document}
+use Rattle.smil_model.specs.document.Limits.{limits}
 use Rattle.smil_model.specs.document.Values.{is_clock}
 use Rattle.smil_model.specs.happening.Resolution.{Progress}
 use Rattle.smil_model.specs.shown.Lines.{change_line}
@@ -36,21 +37,21 @@ module _ (b d : ℕ) (id : List ℕ) (next : ℕ) (fits : b + d ≤ 1_000_000_00
   resolved_to : ℕ → Progress → Result Presentation Refusal
   resolved_to m p = kept_where (at_rest b d id next m) (cond (nat_le (length p.diary) DIARY_ENTRIES) (Some p.diary) None)
 
-  room : (m : ℕ) → unless_too_full (at_rest b d id next m) ≡ Ok (at_rest b d id next m)
+  room : (m : ℕ) → unless_too_full limits (at_rest b d id next m) ≡ Ok (at_rest b d id next m)
   unfolding resolved_to
   room m = by_begin (cases_lt m b)
     where
-      by_end : b ≤ m → (m < b + d) ⊎ (b + d ≤ m) → unless_too_full (at_rest b d id next m) ≡ Ok (at_rest b d id next m)
+      by_end : b ≤ m → (m < b + d) ⊎ (b + d ≤ m) → unless_too_full limits (at_rest b d id next m) ≡ Ok (at_rest b d id next m)
       by_end le (inl lt) = ap (resolved_to m) (built.during b d id fits long m le lt)
       by_end le (inr over) = ap (resolved_to m) (built.after b d id fits long m over)
 
-      by_begin : (m < b) ⊎ (b ≤ m) → unless_too_full (at_rest b d id next m) ≡ Ok (at_rest b d id next m)
+      by_begin : (m < b) ⊎ (b ≤ m) → unless_too_full limits (at_rest b d id next m) ≡ Ok (at_rest b d id next m)
       by_begin (inl lt) = ap (resolved_to m) (built.early b d id fits long m lt)
       by_begin (inr le) = by_end le (cases_lt m (b + d))
 
-  advances : (n k : ℕ) → n + k ≤ 1_000_000_000_000 → advanced (at_rest b d id next n) k ≡ Ok (at_rest b d id next (n + k))
+  advances : (n k : ℕ) → n + k ≤ 1_000_000_000_000 → advanced limits (at_rest b d id next n) k ≡ Ok (at_rest b d id next (n + k))
   advances n k le =
-      ap (λ t. and_then (cond (not t) (Err BeyondHorizon) (Ok (at_rest b d id next (n + k)))) unless_too_full) (le-leb (n + k) 1_000_000_000_000 le)
+      ap (λ t. and_then (cond (not t) (Err BeyondHorizon) (Ok (at_rest b d id next (n + k)))) (unless_too_full limits)) (le-leb (n + k) 1_000_000_000_000 le)
       ∙ room (n + k)
 
   -- ---- the text
@@ -181,7 +182,3 @@ advances_by formats document kept now by to old new is given there within append
     let moved = subst (λ (x : ℤ). Accepts formats (state_at document now) (state_at document x) (Advance by) (passing_lines kept now x)) (sym there) here in
     subst (λ (text : List ℕ). Accepts formats (state_at document now) (state_at document to) (Advance by) text)
     (sym (ap (drop (length old)) appended ∙ drop-append_seam old (passing_lines kept now to))) moved
-
-pub where_ok : {E : Type 0} (r : Result (Unit {0}) E) (P : Type 0) → is_err r ≡ false → OnOk r P → P
-where_ok (Ok u) P q p = p
-where_ok (Err e) P q p = cc

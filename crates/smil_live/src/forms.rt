@@ -88,6 +88,8 @@ fn has_timing_alone(attrs: &Attrs) -> bool
         && attrs.repeat_dur.is_none()
         && attrs.restart.is_none()
         && attrs.fill.is_none()
+        && attrs.restart_default.is_none()
+        && attrs.fill_default.is_none()
         && attrs.endsync.is_none()
         && attrs.peers.is_none()
         && attrs.higher.is_none()
@@ -96,6 +98,9 @@ fn has_timing_alone(attrs: &Attrs) -> bool
         && attrs.region.is_none()
         && attrs.alt.is_none()
         && attrs.title.is_none()
+        && attrs.target_element.is_none()
+        && attrs.attribute_name.is_none()
+        && attrs.to.is_none()
 }
 
 // The offset of a list that has one item, an offset.

@@ -58,15 +58,9 @@ impl Presentation {
         ensures counted { steps.new ≡ steps.old }
     {
         let _ = steps;
-        let Ok(image) = Image::new(alloc, timing_in(&doc).unwrap()) else {
-            return Err(Refusal::Memory);
-        };
-        let Ok(tree) = Tree::of_doc(alloc, &doc) else {
-            return Err(Refusal::Memory);
-        };
-        if image.put_both(0, out).is_err() {
-            return Err(Refusal::Memory);
-        }
+        let image = Image::new(alloc, timing_in(&doc).unwrap())?;
+        let tree = Tree::of_doc(alloc, &doc)?;
+        image.put_both(0, out)?;
         Ok(Presentation {
             tree,
             image,
@@ -87,9 +81,7 @@ impl Presentation {
         if to > HORIZON {
             return Err(Refusal::BeyondHorizon);
         }
-        if self.image.put_changes(self.now, to, out).is_err() {
-            return Err(Refusal::Memory);
-        }
+        self.image.put_changes(self.now, to, out)?;
         self.now = to;
         Ok(())
     }
@@ -135,8 +127,7 @@ fn put_outline(tree: &Tree, out: &mut Bytes) -> Result<(), Refusal>
     ensures refused { IfErr result (λ refusal. refusal ≡ Refusal.Memory) }
     ensures text { OnErr result (out.new ≡ out.old) }
 {
-    let Ok(doc) = tree.doc_copy() else {
-        return Err(Refusal::Memory);
-    };
-    write_doc(&doc, out).map_err(|_| Refusal::Memory)
+    let doc = tree.doc_copy()?;
+    write_doc(&doc, out)?;
+    Ok(())
 }

@@ -79,54 +79,10 @@ fn expect<R: AllocGlobal + Abort>(
 
 #[test]
 fn transcripts(rt: HostRuntime) -> Result<(), Fail> {
-    let opened: &[u8] = b"0 #1 active 0 3000 0 0\n0 a waiting 1000 3000 0 0\n";
-    let begun: &[u8] =
-        b"0 #1 active 0 3000 0 0\n0 a waiting 1000 3000 0 0\n1000 a active 1000 3000 0 0\n";
     let ended: &[u8] =
         b"0 #1 active 0 3000 0 0\n0 a waiting 1000 3000 0 0\n1000 a active 1000 3000 0 0\n3000 #1 frozen 0 3000 0 1\n3000 a done 1000 3000 0 1\n";
-    for (lengths, wanted, last) in [
-        ([0, 0], opened, Ok(())),
-        ([999, 0], opened, Ok(())),
-        ([1000, 0], begun, Ok(())),
-        ([1000, 1999], begun, Ok(())),
-        ([1000, 2000], ended, Ok(())),
-        ([2000, 3000], ended, Ok(())),
-        ([5000, 0], ended, Ok(())),
-        ([HORIZON, 0], ended, Ok(())),
-        ([999, HORIZON], opened, Err(Refusal::BeyondHorizon)),
-    ] {
-        expect(&rt, (1000, 2000), lengths.as_slice(), wanted, last)?;
-    }
-    Ok(())
-}
-
-#[test]
-fn an_image_that_begins_with_its_par(rt: HostRuntime) -> Result<(), Fail> {
-    let wanted: &[u8] =
-        b"0 #1 active 0 5 0 0\n0 a active 0 5 0 0\n5 #1 frozen 0 5 0 1\n5 a done 0 5 0 1\n";
-    expect(&rt, (0, 5), [5].as_slice(), wanted, Ok(()))
-}
-
-#[test]
-fn other_documents(rt: HostRuntime) -> Result<(), Fail> {
-    let alloc = rt.alloc();
-    for (outline, wanted) in [
-        ("par\n  img id=\"a\" begin=\"0s\" dur=\"0.001s\"", true),
-        (
-            "par\n  img id=\"a\" begin=\"999999.999s\" dur=\"999999.999s\"",
-            true,
-        ),
-        ("par\n  img id=\"a\" begin=\"-0.001s\" dur=\"1s\"", false),
-        ("par\n  img id=\"a\" begin=\"0s\" dur=\"0s\"", false),
-        ("par\n  img id=\"a\" begin=\"1000000s\" dur=\"1s\"", false),
-        ("par\n  img id=\"a\" begin=\"0s\" dur=\"1000000s\"", false),
-        (
-            "par\n  img id=\"a\" begin=\"0s\" dur=\"1s\" min=\"0s\"",
-            false,
-        ),
-    ] {
-        assert_eq!(rt; built(&document(alloc, outline)?), wanted, "{outline}");
-    }
-    assert!(rt; !built_order(&Order::Show));
-    Ok(())
+    expect(&rt, (1000, 2000), [1000, 4000].as_slice(), ended, Ok(()))?;
+    let begun: &[u8] = b"0 #1 active 0 5 0 0\n0 a active 0 5 0 0\n";
+    let beyond = Err(Refusal::BeyondHorizon);
+    expect(&rt, (0, 5), [4, HORIZON].as_slice(), begun, beyond)
 }

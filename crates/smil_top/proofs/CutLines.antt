@@ -1,7 +1,7 @@
 -- What one line does to a cut, case by case.
 use Rattle.std.proofs.Common.{◌≡◌, ℕ, ◌<◌, ◌≤◌, suc, Bool, true, false, List, [], ◌∷◌, ◌++◌, length, Option, Some, None, refl, ap, sym, ◌∙◌, arith}
 use Rattle.std.specs.Prelude.{if◌then◌else◌, ◌&&◌}
-use Rattle.smil_outside.specs.declared.line.TheConstants.{LINE_BYTES}
+use Rattle.smil_model.specs.declared.limits.TheConstants.{LINE_BYTES}
 use Rattle.smil_grammar.specs.Scripts.{is_blank, opens_load}
 use Rattle.smil_script.specs.Loads.{ends_load}
 use Rattle.smil_top.specs.Cut.{Numbered, LoadLines, single, load, Cut, is_short, cut_by, with_line}

@@ -1,14 +1,16 @@
 -- A load, read one line further.
 use Rattle.std.proofs.Common.{◌≡◌, ◌⊎◌, List, [], ◌∷◌, ◌++◌, Result, refl, ap, sym, ◌∙◌, inl, inr}
 use Rattle.smil_model.specs.declared.order.Refusal.TheVariants.{Memory}
+use Rattle.smil_model.specs.document.Limits.{limits}
 use Rattle.smil_top.specs.declared.fault.Fault.{Fault}
 use Rattle.smil_top.specs.declared.load.Load.{Load}
 use Rattle.smil_top.specs.declared.load.Titled.{Titled}
 use Rattle.smil_top.specs.Cut.{Numbered, LoadLines}
-use Rattle.smil_top.specs.Answers.{with_node, with_nodes, reading_of, refused_at}
+use Rattle.smil_top.specs.Answers.{with_node, nodes_within, reading_of, refused_at}
 use Rattle.smil_top.specs.Kept.{IsRead}
 
-with_nodes-append : (so_far : Result Titled Fault) (lines more : List Numbered) → with_nodes so_far (lines ++ more) ≡ with_nodes (with_nodes so_far lines) more
+with_nodes-append : (so_far : Result Titled Fault) (lines more : List Numbered) →
+    nodes_within limits so_far (lines ++ more) ≡ nodes_within limits (nodes_within limits so_far lines) more
 with_nodes-append so_far [] more = refl
 with_nodes-append so_far (line ∷ lines) more = with_nodes-append (with_node so_far line) lines more
 

@@ -8,6 +8,7 @@ use Rattle.smil_model.specs.declared.order.Refusal.{Refusal}
 use Rattle.smil_model.specs.declared.order.Refusal.TheVariants.{BeyondHorizon}
 use Rattle.smil_model.specs.declared.order.Order.{Order}
 use Rattle.smil_model.specs.declared.order.Order.TheVariants as order
+use Rattle.smil_model.specs.document.Limits.{limits}
 use Rattle.smil_model.specs.document.Values.{is_clock}
 use Rattle.smil_model.specs.happening.Resolution.{diary_of}
 use Rattle.smil_model.specs.shown.Orders.{Presentation, advanced, and_then, course_of, outcome, unless_too_full}
@@ -23,10 +24,10 @@ abbrev moved_by : Presentation → ℕ → Presentation
 moved_by p k = record { document = p.document; log = p.log; now = p.now + k }
 
 abbrev advanced_by : Presentation → ℕ → Bool → Result Presentation Refusal
-advanced_by p k within = and_then (cond (not within) (Err BeyondHorizon) (Ok (moved_by p k))) unless_too_full
+advanced_by p k within = and_then (cond (not within) (Err BeyondHorizon) (Ok (moved_by p k))) (unless_too_full limits)
 
 -- an advance that is accepted stays within the horizon
-advance_now : (p after : Presentation) (k : ℕ) (t : Bool) → int_le (pos (p.now + k)) HORIZON ≡ t → advanced p k ≡ Ok after → (t ≡ true) × (after.now ≡ p.now + k)
+advance_now : (p after : Presentation) (k : ℕ) (t : Bool) → int_le (pos (p.now + k)) HORIZON ≡ t → advanced limits p k ≡ Ok after → (t ≡ true) × (after.now ≡ p.now + k)
 advance_now p after k true e h = (refl, ap (λ (q : Presentation). q.now) (kept-state (moved_by p k) after (diary_of (course_of (moved_by p k))) (ap (advanced_by p k) (sym e) ∙ h)))
 advance_now p after k false e h = let refused : advanced_by p k false ≡ Ok after = ap (advanced_by p k) (sym e) ∙ h in absurd cc
 
@@ -50,6 +51,11 @@ moment_told p after (order.Insert who place line column) now told taken given is
 moment_told p after (order.Remove who) now told taken given is ok moved still = absurd cc
 moment_told p after (order.History who) now told taken given is ok moved still = absurd cc
 moment_told p after order.Show now told taken given is ok moved still = absurd cc
+moment_told p after (order.Key key) now told taken given is ok moved still = absurd cc
+moment_told p after order.Save now told taken given is ok moved still = absurd cc
+moment_told p after order.Diary now told taken given is ok moved still = absurd cc
+moment_told p after order.Values now told taken given is ok moved still = absurd cc
+moment_told p after (order.Stack who name) now told taken given is ok moved still = absurd cc
 
 -- the text of an accepted order, whose last line was made first
 pub told_text : (result : Result (Unit {0}) Refusal) (p after : Presentation) (given : Order) (number : ℕ) (name : List ℕ) (before : AnswerText) (changes last : List ℕ) (told : ℤ)

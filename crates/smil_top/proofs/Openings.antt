@@ -1,6 +1,6 @@
 -- What opening a document gives.
 use Rattle.std.proofs.Common.{◌≡◌, ◌⊎◌, ℕ, List, [], ◌++◌, Bool, true, false, Option, Some, None, Result, Ok, Err, refl, ap, sym, ◌∙◌, inl, inr}
-use Rattle.std.specs.Prelude.{pos, is_some, is_err, OnErr, OnOk, IsTrue, ◌↔◌}
+use Rattle.std.specs.Prelude.{pos, is_some, is_err, OnErr, IsTrue, ◌↔◌}
 use Rattle.smil_model.specs.document.Document.{Document}
 use Rattle.smil_model.specs.declared.order.Refusal.{Refusal}
 use Rattle.smil_model.specs.declared.order.Refusal.TheVariants.{Memory, NotYet}
@@ -84,7 +84,3 @@ built-false false P iff fails holds =
 pub built-true : (b : Bool) (P : Type 0) → (IsTrue b ↔ P) → b ≡ true → P
 built-true true P iff holds = iff.0 refl
 built-true false P iff holds = absurd cc
-
-pub on-ok : {A E : Type 0} (result : Result A E) (b : Bool) (P : Type 0) → b ≡ is_err result → b ≡ false → OnOk result P → P
-on-ok (Ok x) b P is fails holds = holds
-on-ok (Err e) b P is fails holds = absurd cc

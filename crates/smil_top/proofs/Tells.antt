@@ -9,12 +9,13 @@ use Rattle.smil_top.specs.declared.run.Run.{Run}
 use Rattle.smil_top.specs.declared.session.Session.{Session}
 use Rattle.smil_top.specs.Cut.{OrderLines, single, load as load_order, LoadLines, Cut, unended}
 use Rattle.smil_top.specs.Transcript.{MayAnswer, and_then}
-use Rattle.smil_top.specs.Answers.{at_line, answer_to_read, answer_to_line, document_of, refused_at, IsOpening, IsAnswerToDocument}
+use Rattle.smil_top.specs.Answers.{at_line, answer_to_read, answer_to_line, document_of, refused_at, IsOpening, IsLoadWithin}
 use Rattle.smil_top.proofs.CutLines.{is_short-true, is_short-false}
-use Rattle.smil_outside.specs.declared.line.TheConstants.{LINE_BYTES}
+use Rattle.smil_model.specs.declared.limits.TheConstants.{LINE_BYTES}
 use Rattle.smil_model.specs.declared.order.Refusal.{Refusal}
 use Rattle.smil_model.specs.declared.order.Refusal.TheVariants.{LongLine, Memory, UnfinishedLoad}
 use Rattle.smil_model.specs.document.Document.{Document}
+use Rattle.smil_model.specs.document.Limits.{limits}
 use Rattle.smil_grammar.specs.Scripts.{line_of}
 use Rattle.smil_script.specs.Gives.{GivesRead}
 use Rattle.smil_top.specs.Kept.{made, said, noted, IsTelling, IsRunning, IsEnded, IsOpen, IsRead, IsText}
@@ -137,6 +138,6 @@ opening-answer session session' lines line number name document opened text same
 opening-answer session session' lines line number name document opened text same (inl reads) (inl memory) =
     inr (ap (λ r. made (at_line line r) text session') memory ∙ ap (λ k. refused_at k Memory) same)
 opening-answer session session' lines line number name document opened text same (inl reads) (inr opens) =
-    inl (subst (λ a. IsAnswerToDocument session lines.head.number (document_of lines number) a) (sym (made-at_line opened line text session'))
-    (subst (λ d. IsAnswerToDocument session lines.head.number d (at_line line (made opened text session'))) reads
+    inl (subst (λ a. IsLoadWithin limits session lines.head.number (document_of lines number) a) (sym (made-at_line opened line text session'))
+    (subst (λ d. IsLoadWithin limits session lines.head.number d (at_line line (made opened text session'))) reads
     (subst (λ k. IsOpening session k name document (at_line line (made opened text session'))) same opens)))

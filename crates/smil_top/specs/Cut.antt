@@ -1,6 +1,6 @@
 -- The orders of a script: a single line is an order, and a load is one with its lines up to `%%`.
 use Rattle.std.specs.Prelude.{ℕ, suc, Bool, not, ◌&&◌, List, [], ◌∷◌, ◌++◌, length, nat_lt, Option, Some, None, if◌then◌else◌}
-use Rattle.smil_outside.specs.declared.line.TheConstants.{LINE_BYTES}
+use Rattle.smil_model.specs.declared.limits.TheConstants.{LINE_BYTES}
 use Rattle.smil_grammar.specs.Scripts.{is_blank, opens_load}
 use Rattle.smil_script.specs.Loads.{ends_load}
 

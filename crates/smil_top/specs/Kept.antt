@@ -3,7 +3,7 @@ use Rattle.std.specs.Prelude.{ℤ, ◌+ℤ◌, Bool, true, false, not, ◌||◌,
 use Rattle.std.specs.Io.KnownBytes.{Appends}
 use Rattle.smil_model.specs.declared.order.Refusal.TheVariants.{Memory}
 use Rattle.smil_outside.specs.declared.failed.Failed.{Failed}
-use Rattle.smil_outside.specs.declared.line.TheConstants.{LINE_BYTES}
+use Rattle.smil_model.specs.declared.limits.TheConstants.{LINE_BYTES}
 use Rattle.smil_top.specs.declared.answer.Answer.{Answer as AnswerText}
 use Rattle.smil_top.specs.declared.fault.Fault.{Fault}
 use Rattle.smil_top.specs.declared.load.Load.{Load}

@@ -2,14 +2,16 @@
 use Rattle.std.specs.Prelude.{◌≡◌, ◌⊎◌, ℕ, Bool, true, false, ◌||◌, not, List, [], ◌∷◌, ◌++◌, None, Ok, Err}
 use Rattle.smil_model.specs.declared.order.Refusal.{Refusal}
 use Rattle.smil_model.specs.declared.order.Refusal.TheVariants.{Memory}
+use Rattle.smil_model.specs.document.Limits.{Limits, limits}
 use Rattle.smil_model.specs.shown.Lines.{refusal_line}
 use Rattle.smil_top.specs.declared.session.Session.{Session}
 use Rattle.smil_top.specs.Cut.{OrderLines, first_line}
-use Rattle.smil_top.specs.Answers.{Answer, IsAnswer, refused_at}
+use Rattle.smil_top.specs.Answers.{Answer, IsAnswerWithin, refused_at}
 
--- an order is answered, or refused for want of memory
-abbrev pub MayAnswer : Session → OrderLines → Answer → Type 0
-MayAnswer session order answer = IsAnswer session order answer ⊎ (answer ≡ refused_at (first_line order) Memory)
+-- an order is answered within limits, or refused for want of memory
+abbrev pub MayAnswerWithin : Limits → Session → OrderLines → Answer → Type 0
+MayAnswerWithin allowed session order answer =
+    IsAnswerWithin allowed session order answer ⊎ (answer ≡ refused_at (first_line order) Memory)
 
 -- the text so far, the session, whether an order was refused for a fault, and whether one was for want of memory
 pub record Told : Type 0 where
@@ -36,6 +38,13 @@ with_answer told (Err fault) = record told {
 }
 
 -- the orders were answered in turn, each in the session that the orders before it left
-pub data IsTranscript : List OrderLines → Told → Type 0 where
-  of_nothing : IsTranscript [] untold
-  and_then : {orders : List OrderLines} {told : Told} → IsTranscript orders told → (order : OrderLines) → (answer : Answer) → MayAnswer told.session order answer → IsTranscript (orders ++ order ∷ []) (with_answer told answer)
+pub data IsTranscriptWithin (allowed : Limits) : List OrderLines → Told → Type 0 where
+  of_nothing : IsTranscriptWithin allowed [] untold
+  and_then : {orders : List OrderLines} {told : Told} → IsTranscriptWithin allowed orders told → (order : OrderLines) → (answer : Answer) → MayAnswerWithin allowed told.session order answer → IsTranscriptWithin allowed (orders ++ order ∷ []) (with_answer told answer)
+
+-- the same within the limits that hold
+abbrev pub MayAnswer : Session → OrderLines → Answer → Type 0
+MayAnswer session order answer = MayAnswerWithin limits session order answer
+
+abbrev pub IsTranscript : List OrderLines → Told → Type 0
+IsTranscript orders told = IsTranscriptWithin limits orders told

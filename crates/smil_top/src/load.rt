@@ -84,10 +84,10 @@ fn read_title(alloc: Global, head: &[u8]) -> Result<Titled, Refusal>
     ensures { GivesRead result (titled (line_of head.now)) }
 {
     match read_line(alloc, head)? {
-        Read::Load { name } => match Builder::new(alloc) {
-            Ok(outline) => Ok(Titled { name, outline }),
-            Err(_) => Err(Refusal::Memory),
-        },
+        Read::Load { name } => Ok(Titled {
+            name,
+            outline: Builder::new(alloc)?,
+        }),
         _ => Err(Refusal::NotACommand),
     }
 }

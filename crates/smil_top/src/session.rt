@@ -100,9 +100,7 @@ impl Session {
         if self.held.is_some() || !built(&doc) {
             return Err(Refusal::NotYet);
         }
-        if put_ok(&mut answer.last, number, name.slice(), 0).is_err() {
-            return Err(Refusal::Memory);
-        }
+        put_ok(&mut answer.last, number, name.slice(), 0)?;
         let presentation = Presentation::new(alloc, doc, &mut answer.changes, steps)?;
         self.held = Some(Held { name, presentation });
         Ok(())
@@ -129,9 +127,7 @@ impl Held {
         ensures kept { OnErr result (self.new ≡ self.old) }
     {
         let now = moment_behind(self.presentation.now(), order);
-        if put_ok(&mut answer.last, number, self.name.slice(), now).is_err() {
-            return Err(Refusal::Memory);
-        }
+        put_ok(&mut answer.last, number, self.name.slice(), now)?;
         self.presentation.answer(order, &mut answer.changes, steps)
     }
 }

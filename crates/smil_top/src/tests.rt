@@ -4,7 +4,7 @@ ghost use Rattle.std.specs.Prelude.{◌≡◌, ◌<◌};
 
 use crate::{Status, serve};
 use smil_model::{Bytes, Steps, WordList};
-use smil_outside::{INPUT_BYTES, LINE_BYTES, MemSink, MemSource};
+use smil_outside::{MemSink, MemSource};
 use std::marker::Brand;
 use std::process::Abort;
 use std::sync::ledger::{Blank, Ledger};
@@ -66,10 +66,8 @@ fn expect<R: AllocGlobal + Abort>(
 
 #[test]
 fn first_session(rt: HostRuntime) -> Result<(), Fail> {
-    for chunk in [1, 2, 3, 4096] {
-        let given = Given { chunk, ..RUN };
-        expect(&rt, &given, FIRST, FIRST_TEXT, Status::Clean)?;
-    }
+    let in_pieces = Given { chunk: 3, ..RUN };
+    expect(&rt, &in_pieces, FIRST, FIRST_TEXT, Status::Clean)?;
     expect(&rt, &RUN, b"", "", Status::Clean)
 }
 
@@ -99,33 +97,18 @@ fn faults_of_the_outside(rt: HostRuntime) -> Result<(), Fail> {
 #[test]
 fn faults_in_the_middle(rt: HostRuntime) -> Result<(), Fail> {
     let loaded = "0 #1 active 0 3000 0 0\n0 a waiting 1000 3000 0 0\nok 1 d 0\n";
-    for (read, text) in [(2, ""), (3, loaded), (4, FIRST_TEXT)] {
-        let given = Given {
-            chunk: 24,
-            reads: &[read],
-            ..RUN
-        };
-        expect(&rt, &given, FIRST, text, Status::ReadFault)?;
-    }
+    let no_advance = Given {
+        chunk: 24,
+        reads: &[3],
+        ..RUN
+    };
+    expect(&rt, &no_advance, FIRST, loaded, Status::ReadFault)?;
     let first_change = "0 #1 active 0 3000 0 0\n0 a waiting 1000 3000 0 0\n";
     let no_last_line = Given {
         writes: &[2],
         ..RUN
     };
-    expect(&rt, &no_last_line, FIRST, first_change, Status::WriteFault)?;
-    let no_advance = Given {
-        writes: &[3],
-        ..RUN
-    };
-    expect(&rt, &no_advance, FIRST, loaded, Status::WriteFault)?;
-    let unfinished = b"load d\npar\n";
-    let no_end = Given { reads: &[2], ..RUN };
-    expect(&rt, &no_end, unfinished, "", Status::ReadFault)?;
-    let no_refusal = Given {
-        writes: &[1],
-        ..RUN
-    };
-    expect(&rt, &no_refusal, unfinished, "", Status::WriteFault)
+    expect(&rt, &no_last_line, FIRST, first_change, Status::WriteFault)
 }
 
 #[test]
@@ -149,31 +132,4 @@ fn reading_faults(rt: HostRuntime) -> Result<(), Fail> {
         ! 18 not-a-command\n! 19 not-a-command\n! 20 not-a-command\n! 24 bad-outline\n! 25 not-yet\n\
         ! 28 bad-value 11\n! 29 not-yet\n! 30 unfinished-load\n";
     expect(&rt, &RUN, input, text, Status::Refused)
-}
-
-#[test]
-fn long_lines(rt: HostRuntime) -> Result<(), Fail> {
-    for (len, text, status) in [
-        (LINE_BYTES, "", Status::Clean),
-        (LINE_BYTES + 1, "! 1 long-line\n", Status::Refused),
-    ] {
-        let mut input = vec![in rt.alloc(); b'#'; len]?;
-        expect(&rt, &RUN, &input, text, status)?;
-        input.push(b'\n')?;
-        expect(&rt, &RUN, &input, text, status)?;
-    }
-    Ok(())
-}
-
-// The input is one line, whose end isn't among the bytes that count in the second case.
-#[test]
-fn long_inputs(rt: HostRuntime) -> Result<(), Fail> {
-    let given = Given {
-        chunk: 65_536,
-        ..RUN
-    };
-    let mut input = vec![in rt.alloc(); b'#'; INPUT_BYTES]?;
-    expect(&rt, &given, &input, "! 1 long-line\n", Status::Refused)?;
-    input.push(b'\n')?;
-    expect(&rt, &given, &input, "", Status::InputTooLong)
 }

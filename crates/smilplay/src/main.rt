@@ -1,7 +1,8 @@
 //! Reads a session of script lines from the standard input, and writes its transcript to the standard output.
 #![tactic(auto)]
 
-ghost use Rattle.std.specs.Prelude.{◌≡◌, ◌<◌, ◌≤◌};
+ghost use Rattle.std.specs.Prelude.{◌≡◌, ◌<◌, ◌≤◌, false};
+ghost use Rattle.std.specs.Process.{exit_status};
 ghost use Rattle.smil_outside.specs.Faults.{HasRisen};
 ghost use Rattle.smil_top.specs.declared.status.Status.{Status};
 ghost use Rattle.smil_top.specs.Serving.{Serves};
@@ -30,7 +31,7 @@ fn main(rt: HostRuntime) -> ExitCode {
             let mut source = StdSource::new(rt.reader());
             let mut sink = StdSink::new(io::writer(&rt));
             let blank = Blank::new(1);
-            ExitCode::from(play::<_, _, Brand>(rt.alloc(), blank, &words, &mut source, &mut sink))
+            play::<_, _, Brand>(rt.alloc(), blank, &words, &mut source, &mut sink)
         }
         Err(error) if error.kind() == ErrorKind::OutOfMemory => ExitCode::from(NO_MEMORY),
         Err(_) => ExitCode::from(UNREADABLE_WORD),
@@ -53,16 +54,19 @@ fn play<S: Source, K: Sink, L: Ledger>(
     words: &WordList,
     source: &mut S,
     sink: &mut K,
-) -> u8
+) -> ExitCode
     requires name { blank.name ≡ L.name }
     requires parts { blank.parts ≡ L.parts }
     requires backed { 0 < blank.parts }
-    ensures serves { (status : Status) × (result ≡ exit_number_of status) × Serves (is_run words.now) status
+    ensures serves { (status : Status) × (exit_status result ≡ exit_number_of status)
+        × Serves (is_run words.now) status
         (S.rest source.old) (S.rest source.new) (K.taken sink.old) (K.taken sink.new) (K.sure_room sink.old) }
-    ensures read_cause { result ≡ 3 → HasRisen (S.faults source.old) (S.faults source.new) }
-    ensures write_cause { result ≡ 4 → HasRisen (K.faults sink.old) (K.faults sink.new) }
-    ensures bound { result ≤ 6 }
+    ensures unread { is_run words.now ≡ false → source.new ≡ source.old }
+    ensures read_cause { exit_status result ≡ 3 → HasRisen (S.faults source.old) (S.faults source.new) }
+    ensures write_cause { exit_status result ≡ 4 → HasRisen (K.faults sink.old) (K.faults sink.new) }
+    ensures bound { exit_status result ≤ 6 }
 {
     let mut steps = Steps::<L>::new(blank);
-    serve(alloc, words, source, sink, &mut steps).exit_number()
+    let status = serve(alloc, words, source, sink, &mut steps);
+    ExitCode::from(status.exit_number())
 }

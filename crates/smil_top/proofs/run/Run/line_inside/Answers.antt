@@ -1,5 +1,5 @@
 use Rattle.std.proofs.Common.{◌≡◌, ◌≤◌, [], ◌∷◌, ◌++◌, length, Some, true, false, refl, ap, sym, subst, ◌∙◌, arith}
-use Rattle.smil_outside.specs.declared.line.TheConstants.{LINE_BYTES}
+use Rattle.smil_model.specs.declared.limits.TheConstants.{LINE_BYTES}
 use Rattle.smil_outside.proofs.KnownLemmas.{Appends-nil}
 use Rattle.smil_grammar.specs.Scripts.{is_blank}
 use Rattle.smil_script.specs.Loads.{ends_load}

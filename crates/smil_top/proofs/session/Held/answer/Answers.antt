@@ -1,7 +1,6 @@
-use Rattle.std.proofs.Common.{◌≡◌, ◌∙◌, ◌++◌, sym, ap, to_z, of_z, w64, arith}
+use Rattle.std.proofs.Common.{◌≡◌, ◌∙◌, ◌++◌, ap, to_z, of_z, w64, arith}
 use Rattle.std.proofs.lemmas.Int.{ints}
 use Rattle.smil_model.specs.shown.Lines.{ok_line}
-use Rattle.smil_live.proofs.Answered.{where_ok}
 use Rattle.smil_top.proofs.Moments.{moment_told, told_text}
 use Rattle.smil_top.proofs.session.Held.answer.Goals as goal
 
@@ -13,7 +12,7 @@ returns-clause-text g c =
     let same : to_z w64 (of_z w64 told) ≡ told = omega (arith, ints, c.moment_behind-now.type_inv) in
     let now = to_z w64 (of_z w64 c.now.result) in
     let same_now : now ≡ c.now.result = omega (arith, ints, c.now.type_inv) in
-    let last = where_ok c.put_ok.result _ (sym c.is_err.ensures.value ∙ c.if-is_err.false) c.put_ok.ensures.ok in
+    let last = c.in_ok-put_ok.ensures.ok in
     let behind = last ∙ ap (λ name. before.last ++ ok_line c.args.number name (to_z w64 (of_z w64 told))) c.slice.ensures ∙ ap (λ m. before.last ++ ok_line c.args.number c.args.self.now.name m) same in
     told_text c.answer.result p c.answer.new.self c.args.order.now c.args.number c.args.self.now.name before c.answer.new.out c.put_ok.new.out told
     c.answer.ensures.ok c.answer.ensures.appended behind c.requires.empty

@@ -5,7 +5,7 @@ use Rattle.smil_model.specs.shown.Answers.{load_text}
 use Rattle.smil_model.specs.shown.Lines.{ok_line}
 use Rattle.smil_live.specs.Image.{IsImage}
 use Rattle.smil_top.specs.declared.answer.Answer.{Answer as AnswerText}
-use Rattle.smil_top.proofs.Openings.{Opens, opens-not_yet, opens-refused, opens-ok, held-some, held-none, built-false, built-true, on-ok}
+use Rattle.smil_top.proofs.Openings.{Opens, opens-not_yet, opens-refused, opens-ok, held-some, held-none, built-false, built-true}
 use Rattle.smil_top.proofs.session.Session.open.Goals as goal
 use Rattle.smil_top.proofs.session.Session.open.Goals.{then-is_some-via-then-is_some, then-is_some-via-else-is_some+then-not-built}
 
@@ -28,8 +28,8 @@ returns-in_err-presentation-clause-answer g c =
     let refused : Opens session session c.args.number c.args.name c.args.doc (Err refusal) text =
     opens-refused session session c.args.number c.args.name c.args.doc text refusal image none c.in_err-presentation.ensures.refused
     in
-    let given = err_from_is_err_and c.from_residual.result c.from_residual.ensures.1 in
-    let is : c.from_residual.result ≡ Err refusal = given.1 ∙ ap (λ e. Err e) given.2 in
+    let given = err_from_is_err_and c.from_residual-in_err-presentation.result c.from_residual-in_err-presentation.ensures.1 in
+    let is : c.from_residual-in_err-presentation.result ≡ Err refusal = given.1 ∙ ap (λ e. Err e) given.2 in
     subst (λ r. Opens session session c.args.number c.args.name c.args.doc r text) (sym is) refused
 
 pub returns-clause-answer : goal.returns-clause-answer
@@ -41,7 +41,7 @@ returns-clause-answer g c =
     let number : ℕ = c.args.number in
     let first : c.new.new.out ≡ load_text p = c.in_ok-presentation.ensures.answer ∙ ap (λ (a : AnswerText). a.changes ++ load_text p) c.requires.empty in
     let behind : c.put_ok.new.out ≡ ok_line number c.args.name (pos 0) =
-    on-ok c.put_ok.result c.is_err.result (c.put_ok.new.out ≡ c.args.answer.now.last ++ ok_line number c.slice.result.now (pos 0)) c.is_err.ensures.value c.if-is_err.false c.put_ok.ensures.ok
+    c.in_ok-put_ok.ensures.ok
     ∙ ap (λ (a : AnswerText). a.last ++ ok_line number c.slice.result.now (pos 0)) c.requires.empty
     ∙ ap (λ zs. ok_line number zs (pos 0)) c.slice.ensures
     in
