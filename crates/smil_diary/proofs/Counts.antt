@@ -11,8 +11,7 @@ use Rattle.smil_model.specs.declared.document.Node.{Node}
 use Rattle.smil_model.specs.diary.Diary.{History, gives_birth, later_place, iteration_after, iteration_from, is_step, last_step}
 use Rattle.smil_model.specs.diary.Plays.{Plays, Mark, Finished, plays, play_after, is_birth_under, finish_with}
 use Rattle.smil_model.specs.diary.Clocks.{outer}
-use Rattle.smil_model.specs.document.Document.{time_parent}
-use Rattle.smil_diary.specs.Readings.{serial_of}
+use Rattle.smil_model.specs.document.Document.{time_parent, serial_of}
 use Rattle.smil_diary.proofs.LastPlaces.{fold-fusion, last-drop, drop_place}
 use Rattle.smil_diary.proofs.Rising.{count-cons}
 

@@ -7,10 +7,10 @@ use Rattle.std.specs.Option.{option_map_or}
 use Rattle.smil_model.specs.declared.diary.Entry.{Entry}
 use Rattle.smil_model.specs.declared.diary.StepKind.TheVariants as kind
 use Rattle.smil_model.specs.declared.document.Node.{Node}
-use Rattle.smil_model.specs.document.Document.{time_parent}
+use Rattle.smil_model.specs.document.Document.{time_parent, serial_of}
 use Rattle.smil_model.specs.diary.Diary.{History, last_place, gives_birth, birth_under, lives_under, is_active, is_paused, deferral_after, is_deferred, iteration, iteration_from, is_step, last_step}
 use Rattle.smil_diary.specs.Places.{is_later, later_of, is_from}
-use Rattle.smil_diary.specs.Readings.{IsOf, serial_of}
+use Rattle.smil_diary.specs.Readings.{IsOf}
 use Rattle.smil_diary.specs.Kept.{element_of, paused_by, birth_by, decision_by, deferred_by, last_of}
 use Rattle.smil_diary.proofs.LastPlaces.{birth-last, paused-last, deferral-last, decision-last}
 use Rattle.smil_diary.proofs.Elements.{last-of, playing}

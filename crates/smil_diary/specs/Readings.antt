@@ -3,12 +3,8 @@ use Rattle.std.specs.Prelude.{◌≡◌, ℕ, suc, List, Option, Some, None, opt
 use Rattle.std.specs.Option.{option_map_or}
 use Rattle.smil_model.specs.declared.diary.Entry.{Entry}
 use Rattle.smil_model.specs.declared.document.Node.{Node}
-use Rattle.smil_model.specs.document.Document.{time_parent}
+use Rattle.smil_model.specs.document.Document.{time_parent, serial_of}
 use Rattle.smil_model.specs.diary.Diary.{History, gives_birth, last_place}
-
--- the serial of a time parent, where there is one
-abbrev pub serial_of : Option Node → Option ℕ
-serial_of node = option_map (λ (n : Node). n.serial) node
 
 -- the history has this diary, and its document gives the element this time parent
 pub record IsOf (h : History) (diary : List Entry) (who : ℕ) (parent : Option ℕ) : Type 0 where

@@ -114,82 +114,15 @@ fn first_below(held: &[Held], rank: u32) -> Option<usize>
 #[cfg(test)]
 mod tests {
     use super::*;
-    use crate::decide;
-    use smil_model::{Act, Class};
     use std::test::Fail;
 
-    /// Whether the queue holds just these children, the next one first.
-    fn holds_just(queue: &Queue, wanted: &[u32]) -> Result<bool, AllocError> {
-        let mut copy = queue.copy()?;
-        let all = wanted.iter().all(|&who| copy.take_first() == Some(who));
-        Ok(all && copy.take_first().is_none())
-    }
-
     #[test]
-    fn by_class(rt: HostRuntime) -> Result<(), Fail> {
-        let mut queue = Queue::new(rt.alloc(), 5)?;
-        queue.defer(4, 1);
+    fn copies(rt: HostRuntime) -> Result<(), Fail> {
+        let mut queue = Queue::new(rt.alloc(), 1)?;
         queue.pause(5, 1);
-        queue.defer(6, 1);
-        queue.pause(7, 0);
-        queue.defer(8, 0);
         let mut copy = queue.copy()?;
-        assert_eq!(rt; copy.take_first(), Some(7));
-        assert_eq!(rt; copy.take_first(), Some(8));
         assert_eq!(rt; copy.take_first(), Some(5));
-        assert!(rt; copy.leave(6));
-        assert!(rt; !copy.leave(6));
-        assert_eq!(rt; copy.take_first(), Some(4));
-        assert_eq!(rt; copy.take_first(), None);
-        Ok(())
-    }
-
-    #[test]
-    fn four_begins_at_one_moment(rt: HostRuntime) -> Result<(), Fail> {
-        let never = Class {
-            rank: 0,
-            peers: Act::Never,
-            higher: Act::Pause,
-            lower: Act::Defer,
-        };
-        let usual = Class {
-            rank: 1,
-            peers: Act::Stop,
-            ..never
-        };
-        let mut queue = Queue::new(rt.alloc(), 5)?;
-        // 6 plays, of the usual class; 3 and 4 are of the class above, 7 is of the same one, and 9 of the one below
-        assert_eq!(rt; decide(usual, 0), Act::Pause);
-        queue.pause(6, 1);
-        assert!(rt; holds_just(&queue, &[6])?);
-        assert_eq!(rt; decide(never, 0), Act::Never);
-        assert!(rt; holds_just(&queue, &[6])?);
-        assert_eq!(rt; decide(never, 1), Act::Defer);
-        queue.defer(7, 1);
-        assert!(rt; holds_just(&queue, &[6, 7])?);
-        assert_eq!(rt; decide(never, 2), Act::Defer);
-        queue.defer(9, 2);
-        assert!(rt; holds_just(&queue, &[6, 7, 9])?);
-        Ok(())
-    }
-
-    #[test]
-    fn pause_among_peers(rt: HostRuntime) -> Result<(), Fail> {
-        let class = Class {
-            rank: 0,
-            peers: Act::Pause,
-            higher: Act::Pause,
-            lower: Act::Defer,
-        };
-        let mut queue = Queue::new(rt.alloc(), 3)?;
-        assert_eq!(rt; decide(class, 0), Act::Pause);
-        queue.pause(4, 0);
-        queue.pause(5, 0);
-        assert!(rt; holds_just(&queue, &[5, 4])?);
-        queue.defer(6, 0);
-        assert!(rt; holds_just(&queue, &[5, 4, 6])?);
         assert_eq!(rt; queue.take_first(), Some(5));
-        assert!(rt; holds_just(&queue, &[4, 6])?);
         Ok(())
     }
 }

@@ -2,8 +2,6 @@
 #![tactic(auto)]
 
 mod states;
-#[cfg(test)]
-mod tests;
 mod views;
 
 pub use smil_model::ViewFacts;

@@ -9,11 +9,11 @@ use Rattle.smil_model.specs.declared.diary.LogEntry.{LogEntry}
 use Rattle.smil_model.specs.declared.diary.Step.{Step}
 use Rattle.smil_model.specs.declared.diary.Step.TheVariants.{Began, Ended, Cut, Paused, Resumed}
 use Rattle.smil_model.specs.declared.document.Node.{Node}
-use Rattle.smil_model.specs.diary.Diary.{History, active_after, is_active, paused_after, is_paused, is_alive, with_past, up_to}
+use Rattle.smil_model.specs.diary.Diary.{History, active_after, is_active, paused_after, is_paused, is_alive, with_past, up_to, with_entry}
 use Rattle.smil_model.specs.diary.Lawful.{has_element, may_begin, is_lawful_step, is_rising_from, AllLawful, IsLawful}
 use Rattle.smil_laws.proofs.Lineages.{swap_eqb}
 use Rattle.smil_laws.proofs.LawfulSteps.{pausing, active_push, pausing_push, append_empty}
-use Rattle.smil_stretch.specs.Clocks.{with_entry, ends_pause}
+use Rattle.smil_stretch.specs.Clocks.{ends_pause}
 use Rattle.smil_stretch.specs.Kept.{Turns}
 use Rattle.smil_stretch.specs.Laws.{changes_clocks}
 use Rattle.smil_stretch.proofs.Moments.{rising_push}

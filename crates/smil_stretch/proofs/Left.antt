@@ -7,10 +7,10 @@ use Rattle.smil_model.specs.declared.diary.Step.{Step}
 use Rattle.smil_model.specs.declared.diary.Step.TheVariants.{Paused, Resumed, Ended, Cut}
 use Rattle.smil_model.specs.declared.document.Node.{Node}
 use Rattle.smil_model.specs.document.Document.{is_element, lineage}
-use Rattle.smil_model.specs.diary.Diary.{History, is_paused}
+use Rattle.smil_model.specs.diary.Diary.{History, is_paused, with_entry, last_moment}
 use Rattle.smil_model.specs.diary.Clocks.{run, stands}
 use Rattle.smil_stretch.specs.declared.clock.NodeClock.{NodeClock}
-use Rattle.smil_stretch.specs.Clocks.{shown, clock_by, last_moment, clock_of, node_clock, with_entry, ends_pause}
+use Rattle.smil_stretch.specs.Clocks.{shown, clock_by, clock_of, node_clock, ends_pause}
 use Rattle.smil_stretch.specs.Laws.{changes_clocks, OtherEntriesLeaveClocks}
 use Rattle.smil_stretch.proofs.Moments.{clock_with, clock_same}
 use Rattle.smil_stretch.proofs.Diaries.{lawful_last, stays}

@@ -9,11 +9,11 @@ use Rattle.std.proofs.lemmas.List.Elements.{filter-append}
 use Rattle.std.proofs.lemmas.List.Sums.{fold_push}
 use Rattle.smil_model.specs.declared.diary.Entry.{Entry}
 use Rattle.smil_model.specs.declared.times.TheConstants.{HORIZON}
-use Rattle.smil_model.specs.diary.Diary.{History}
+use Rattle.smil_model.specs.diary.Diary.{History, with_entry, last_moment}
 use Rattle.smil_model.specs.diary.Lawful.{is_rising_from, IsLawful}
 use Rattle.smil_model.specs.diary.Clocks.{until, stands_by, elapsed, run, stands}
 use Rattle.smil_stretch.specs.declared.clock.Clock.TheVariants.{Runs}
-use Rattle.smil_stretch.specs.Clocks.{shown, clock_by, last_moment, clock_of, with_entry}
+use Rattle.smil_stretch.specs.Clocks.{shown, clock_by, clock_of}
 use Rattle.smil_stretch.specs.Kept.{Fits}
 
 -- ---- orders

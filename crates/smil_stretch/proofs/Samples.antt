@@ -4,9 +4,9 @@ use Rattle.std.proofs.lemmas.List.Elements.{All-from_recursion}
 use Rattle.smil_model.specs.declared.diary.Step.TheVariants.{Paused, Cut}
 use Rattle.smil_model.specs.declared.document.Node.{Node}
 use Rattle.smil_model.specs.document.Valid.{IsValid}
-use Rattle.smil_model.specs.diary.Diary.{History}
+use Rattle.smil_model.specs.diary.Diary.{History, with_entry}
 use Rattle.smil_model.specs.diary.Lawful.{IsLawful}
-use Rattle.smil_stretch.specs.Clocks.{with_entry, IsHistoryOf}
+use Rattle.smil_stretch.specs.Clocks.{IsHistoryOf}
 use Rattle.smil_stretch.specs.Sample.{sample, at, begun, nested}
 
 pub sample_valid : IsValid sample

@@ -9,14 +9,14 @@ use Rattle.std.proofs.lemmas.List.Folds.{find_at}
 use Rattle.std.proofs.lemmas.Option.{slice_get-map, slice_get_past, slice_get_read}
 use Rattle.smil_model.specs.declared.document.Node.{Node}
 use Rattle.smil_model.specs.document.Document.{node_at, lineage, upwards, is_element, elements, time_parent}
-use Rattle.smil_model.specs.diary.Diary.{History, is_paused}
+use Rattle.smil_model.specs.diary.Diary.{History, is_paused, last_moment}
 use Rattle.smil_model.specs.diary.Lawful.{has_element}
 use Rattle.smil_model.specs.diary.Clocks.{until, elapsed, run, outer, outer_under, stands, stands_under, outer_stands}
 use Rattle.smil_laws.proofs.Lineages.{skip}
 use Rattle.smil_laws.proofs.Aside.{find_true}
 use Rattle.smil_laws.proofs.Members.{holds, held_reverse, found_held}
 use Rattle.smil_stretch.specs.declared.clock.NodeClock.{NodeClock}
-use Rattle.smil_stretch.specs.Clocks.{shown, is_standing, clock_by, last_moment, clock_of, node_clock, parent_place, AreClocksOf}
+use Rattle.smil_stretch.specs.Clocks.{shown, is_standing, clock_by, clock_of, node_clock, parent_place, AreClocksOf}
 use Rattle.smil_stretch.specs.Kept.{clock_at, at_place, parent_at, shown_by, stands_by, paused_by}
 use Rattle.smil_stretch.proofs.Moments.{run_later}
 use Rattle.smil_stretch.proofs.Above.{known_element}

@@ -9,7 +9,7 @@ use Rattle.smil_model.specs.declared.diary.Entry.{Entry}
 use Rattle.smil_model.specs.declared.document.Node.{Node}
 use Rattle.smil_model.specs.document.Document.{node_at, is_element, upwards, lineage, time_parent}
 use Rattle.smil_model.specs.document.Valid.{IsDistinct, IsTree}
-use Rattle.smil_model.specs.diary.Diary.{History, is_paused}
+use Rattle.smil_model.specs.diary.Diary.{History, is_paused, with_entry, last_moment}
 use Rattle.smil_model.specs.diary.Lawful.{IsLawful}
 use Rattle.smil_model.specs.diary.Clocks.{run, stands}
 use Rattle.smil_laws.specs.Edited.{IsOrdered}
@@ -18,7 +18,7 @@ use Rattle.smil_laws.proofs.Aside.{map_all, each_drop, each_reverse}
 use Rattle.smil_laws.proofs.Below.{each_upwards}
 use Rattle.smil_diary.specs.Places.{is_from}
 use Rattle.smil_stretch.specs.declared.clock.NodeClock.{NodeClock}
-use Rattle.smil_stretch.specs.Clocks.{shown, clock_by, last_moment, clock_of, node_clock, clocks_of, parent_place, with_entry}
+use Rattle.smil_stretch.specs.Clocks.{shown, clock_by, clock_of, node_clock, clocks_of, parent_place}
 use Rattle.smil_stretch.specs.Kept.{at_place, stands_by, IsTurned, Turns}
 use Rattle.smil_stretch.proofs.Moments.{clock_with, clock_same}
 use Rattle.smil_stretch.proofs.Above.{any_in, any_under, none_in, node_of, each_at, others_before, others_after, lineage_before, any_node, known_element, Clear, Known, clear_after}

@@ -13,12 +13,13 @@ use Rattle.smil_model.specs.declared.diary.Entry.{Entry}
 use Rattle.smil_model.specs.declared.document.Node.{Node}
 use Rattle.smil_model.specs.declared.times.TheConstants.{HORIZON}
 use Rattle.smil_model.specs.document.Document.{is_element}
-use Rattle.smil_model.specs.diary.Diary.{History}
+use Rattle.smil_model.specs.diary.Diary.{History, with_entry, last_moment}
 use Rattle.smil_model.specs.diary.Lawful.{has_element, IsLawful}
 use Rattle.smil_laws.proofs.Numbered.{ordered}
 use Rattle.smil_laws.proofs.Members.{found_held}
 use Rattle.smil_stretch.specs.declared.clock.NodeClock.{NodeClock}
-use Rattle.smil_stretch.specs.Clocks.{IsMoment, last_moment, node_clock, clocks_of, with_entry, AreClocksOf}
+use Rattle.smil_stretch.specs.Clocks.{node_clock, clocks_of, AreClocksOf}
+use Rattle.smil_model.specs.Times.{IsMoment}
 use Rattle.smil_stretch.specs.Kept.{Fits, AllFit, ArePlacesOf, IsTurned, Turns}
 use Rattle.smil_stretch.proofs.Moments.{IsTimed, timed_of, le_from, clock_fits}
 use Rattle.smil_stretch.proofs.Placed.{place, IsFound, found_at}

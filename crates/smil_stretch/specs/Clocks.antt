@@ -8,22 +8,12 @@ use Rattle.smil_model.specs.declared.diary.Step.TheVariants.{Resumed, Ended, Cut
 use Rattle.smil_model.specs.declared.document.Node.{Node}
 use Rattle.smil_model.specs.document.Document.{Document, is_element, time_parent}
 use Rattle.smil_model.specs.document.Valid.{IsNumberedTree}
-use Rattle.smil_model.specs.diary.Diary.{History, is_paused, up_to}
+use Rattle.smil_model.specs.diary.Diary.{History, is_paused, up_to, with_entry, last_moment}
 use Rattle.smil_model.specs.diary.Lawful.{IsLawful}
 use Rattle.smil_model.specs.diary.Clocks.{run, stands}
 use Rattle.smil_stretch.specs.declared.clock.Clock.{Clock}
 use Rattle.smil_stretch.specs.declared.clock.Clock.TheVariants.{Runs, Stands}
 use Rattle.smil_stretch.specs.declared.clock.NodeClock.{NodeClock}
-
--- a moment from the first to the horizon
-pub record IsMoment (moment : ℤ) : Type 0 where
-  pub low : pos 0 ≤ℤ moment
-  pub high : moment ≤ℤ HORIZON
-
--- a time not farther from the first moment than the horizon is, before it or after it
-pub record IsNear (time : ℤ) : Type 0 where
-  pub low : neg_ℤ HORIZON ≤ℤ time
-  pub high : time ≤ℤ HORIZON
 
 -- a time on a clock that can be carried to another: from -10^13 to 10^13
 pub record IsCarried (time : ℤ) : Type 0 where
@@ -44,10 +34,6 @@ is_standing (Stands at) = true
 abbrev pub clock_by : Bool → ℤ → ℤ → Clock
 clock_by true time moment = Stands time
 clock_by false time moment = Runs (moment -ℤ time)
-
--- the moment of the last entry, and 0 where there is none
-abbrev pub last_moment : List Entry → ℤ
-last_moment diary = fold (λ before (x : Entry). x.moment) (pos 0) diary
 
 -- the clock of an element since the last entry
 abbrev pub clock_of : History → ℕ → Clock
@@ -70,10 +56,6 @@ node_clock h n = record {
 -- the clocks of all nodes, in document order
 abbrev pub clocks_of : History → List NodeClock
 clocks_of h = map (node_clock h) h.nodes
-
--- the history with one entry more
-abbrev pub with_entry : History → Entry → History
-with_entry h y = up_to h (h.diary ++ y ∷ [])
 
 -- a history of this document with this diary, which is lawful for it
 pub record IsHistoryOf (h : History) (document : Document) (diary : List Entry) : Type 0 where

@@ -3,10 +3,10 @@ use Rattle.std.specs.Prelude.{◌≡◌, List, Bool, true, false}
 use Rattle.smil_model.specs.declared.diary.Entry.{Entry}
 use Rattle.smil_model.specs.declared.diary.Step.{Step}
 use Rattle.smil_model.specs.declared.diary.Step.TheVariants.{Paused, Resumed, Ended, Cut}
-use Rattle.smil_model.specs.diary.Diary.{History, is_paused}
+use Rattle.smil_model.specs.diary.Diary.{History, is_paused, with_entry}
 use Rattle.smil_model.specs.diary.Lawful.{IsLawful}
 use Rattle.smil_stretch.specs.declared.clock.NodeClock.{NodeClock}
-use Rattle.smil_stretch.specs.Clocks.{AreClocksOf, with_entry}
+use Rattle.smil_stretch.specs.Clocks.{AreClocksOf}
 
 -- a pause does, and a resume, an end or a cut of a paused element
 abbrev pub changes_clocks : History → Step → Bool

@@ -1,7 +1,8 @@
 //! The clock of one node.
 
 ghost use Rattle.std.specs.Prelude.{◌≡◌, IfSome};
-ghost use Rattle.smil_stretch.specs.Clocks.{IsMoment, IsNear, clock_by, shown, is_standing};
+ghost use Rattle.smil_stretch.specs.Clocks.{clock_by, shown, is_standing};
+ghost use Rattle.smil_model.specs.Times.{IsMoment, IsNear};
 ghost use Rattle.smil_stretch.specs.Kept.{Fits, shown_by, stands_by};
 
 /// A clock, in milliseconds.

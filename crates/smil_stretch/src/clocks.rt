@@ -5,13 +5,14 @@ ghost use Rattle.std.specs.Option.{option_or};
 ghost use Rattle.std.specs.HashMap.{get};
 ghost use Rattle.smil_model.specs.document.Document.{node_at};
 ghost use Rattle.smil_model.specs.document.Valid.{IsNumberedTree};
-ghost use Rattle.smil_model.specs.diary.Diary.{History, is_paused as paused_in};
+ghost use Rattle.smil_model.specs.diary.Diary.{History, is_paused as paused_in, with_entry, last_moment};
 ghost use Rattle.smil_model.specs.diary.Lawful.{IsLawful, has_element};
 ghost use Rattle.smil_model.specs.diary.Clocks.{run as run_of, outer as outer_of, stands as stands_of, outer_stands as outer_stands_of, to_document as document_time, between as between_clocks};
 ghost use Rattle.smil_model.specs.declared.diary.Entry.{Entry as AnyEntry};
 ghost use Rattle.smil_model.specs.declared.diary.Step.{Step as AnyStep};
 ghost use Rattle.smil_model.specs.declared.diary.Step.TheVariants as step;
-ghost use Rattle.smil_stretch.specs.Clocks.{AreClocksOf, IsCarried, IsHistoryOf, IsLawfulFor, IsMoment, IsNear, MayEndPause, MayFollow, ends_pause, last_moment, parent_place, with_entry};
+ghost use Rattle.smil_stretch.specs.Clocks.{AreClocksOf, IsCarried, IsHistoryOf, IsLawfulFor, MayEndPause, MayFollow, ends_pause, parent_place};
+ghost use Rattle.smil_model.specs.Times.{IsMoment, IsNear};
 ghost use Rattle.smil_stretch.specs.Kept.{AllFit, ArePlacesOf, Fits, MayTurn, Turns, clock_at, idle_clock, parent_at};
 
 use super::clock::{Clock, NodeClock, shown_by, stands_by};

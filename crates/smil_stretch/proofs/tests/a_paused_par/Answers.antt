@@ -1,6 +1,7 @@
 use Rattle.std.proofs.Common.{sym, subst, refl}
 use Rattle.smil_model.specs.declared.diary.Step.TheVariants.{Paused, Cut}
-use Rattle.smil_stretch.specs.Clocks.{IsHistoryOf, with_entry}
+use Rattle.smil_stretch.specs.Clocks.{IsHistoryOf}
+use Rattle.smil_model.specs.diary.Diary.{with_entry}
 use Rattle.smil_stretch.specs.Sample.{sample, at}
 use Rattle.smil_stretch.proofs.Samples.{after_begun, begun_history, paused_lawful, cut_lawful}
 use Rattle.smil_stretch.proofs.tests.a_paused_par.Goals as goal

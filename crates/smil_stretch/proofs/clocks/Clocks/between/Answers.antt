@@ -3,7 +3,7 @@ use Rattle.std.specs.Prelude.{◌≤ℤ◌}
 use mir.Syntax.{w64}
 use Rattle.std.proofs.lemmas.Int.{ints, to_z-of_z}
 use Rattle.smil_model.specs.diary.Clocks.{outer}
-use Rattle.smil_stretch.specs.Clocks.{last_moment}
+use Rattle.smil_model.specs.diary.Diary.{last_moment}
 use Rattle.smil_stretch.proofs.clocks.Clocks.between.Goals as goal
 
 pub returns : goal.returns

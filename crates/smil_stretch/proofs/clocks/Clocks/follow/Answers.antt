@@ -3,7 +3,8 @@ use mir.Syntax.{w64}
 use mir.Val.{SFits}
 use Rattle.std.proofs.lemmas.Int.{to_z-of_z}
 use Rattle.smil_model.specs.diary.Lawful.{IsLawful}
-use Rattle.smil_stretch.specs.Clocks.{AreClocksOf, with_entry, ends_pause}
+use Rattle.smil_stretch.specs.Clocks.{AreClocksOf, ends_pause}
+use Rattle.smil_model.specs.diary.Diary.{with_entry}
 use Rattle.smil_stretch.proofs.Diaries.{lawful_last, ended_known}
 use Rattle.smil_stretch.proofs.Left.{others_leave, plain, not_paused, ending}
 use Rattle.smil_stretch.proofs.clocks.Clocks.follow.Goals as goal

@@ -9,10 +9,11 @@ use Rattle.std.proofs.lemmas.List.{take_at}
 use Rattle.std.proofs.lemmas.Option.{slice_get_read}
 use Rattle.std.proofs.lemmas.List.Quantifiers.{position-Some}
 use Rattle.smil_model.specs.declared.diary.Entry.{Entry}
-use Rattle.smil_model.specs.diary.Diary.{History}
+use Rattle.smil_model.specs.diary.Diary.{History, with_entry}
 use Rattle.smil_model.specs.diary.Lawful.{IsLawful}
 use Rattle.smil_stretch.specs.declared.clock.NodeClock.{NodeClock}
-use Rattle.smil_stretch.specs.Clocks.{IsMoment, AreClocksOf, clocks_of, with_entry}
+use Rattle.smil_stretch.specs.Clocks.{AreClocksOf, clocks_of}
+use Rattle.smil_model.specs.Times.{IsMoment}
 use Rattle.smil_stretch.specs.Kept.{AllFit, ArePlacesOf, IsTurned, Turns}
 use Rattle.smil_stretch.proofs.Turning.{entry_moment, known_place, some_lent, turned_from, clocks_with, places_same, all_fit}
 use Rattle.smil_stretch.proofs.clocks.Clocks.turn.Goals as goal
