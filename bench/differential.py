@@ -1,14 +1,18 @@
 #!/usr/bin/env python3
-"""differential.py --oracle DIR [--seed S] [--cases N] [--keep DIR] -- PROGRAM
+"""differential.py --oracle DIR [--seed S] [--cases N] [--keep DIR] [--folder DIR] -- PROGRAM
 
 Random scripts, answered by PROGRAM (with the word `run`) and by the reference
 model in DIR; text and status are compared. A difference is printed and, with
---keep, written to a folder. The forms that aren't built yet are refused
-`not-yet` here as the program refuses them. Three kinds of script in turn:
-lines with small faults as the model's own generator makes them, loads,
-advances and outlines of the built form in many spellings, and both mixed; every fifth
-script has ten loads with a value near the grammar, and now and then one a load
-that is near a limit."""
+--keep, written to a folder. What can be read and isn't built yet is refused
+`not-yet` here as the program refuses it. Some scripts go one by one: loads,
+advances and outlines of the built form in many spellings, also with small
+faults. The others go many at a time, parted by lines `%%`, which end a load
+that stands open: lines with small faults as the model's own generator makes
+them, loads with a value near the grammar, outlines with serials, script lines
+of each order near the grammar, and loads that are near a limit.
+
+With --folder nothing is run: each input is written there with the model's text
+beside it, as NAME and NAME.stdout, for `rt try --cases` (readers_compare.sh)."""
 import argparse
 import os
 import random
@@ -22,7 +26,8 @@ def arguments():
     parser.add_argument('--seed', type=int, default=1)
     parser.add_argument('--cases', type=int, default=1000)
     parser.add_argument('--keep')
-    parser.add_argument('program', nargs='+')
+    parser.add_argument('--folder')
+    parser.add_argument('program', nargs='*')
     return parser.parse_args()
 
 
@@ -32,8 +37,18 @@ import diff  # noqa: E402
 import grammar  # noqa: E402
 import session  # noqa: E402
 
-REQUEST = 3
+
+
+class Built(int):
+    """What of the model's last state the program has: all but wall clock items and content selection."""
+
+    def __ge__(self, other):
+        return other not in (17, 19) and int.__ge__(self, other)
+
+
+REQUEST = Built(20)
 BELOW = 10 ** 9
+TOGETHER = 100
 
 
 def is_built(doc):
@@ -41,6 +56,8 @@ def is_built(doc):
     if len(doc.nodes) != 2:
         return False
     root, image = doc.nodes
+    if (root.serial, image.serial, doc.next) != (1, 2, 3):
+        return False
     if root.kind != 'par' or root.attrs or image.kind != 'img':
         return False
     if set(image.attrs) != {'id', 'begin', 'dur'}:
@@ -109,7 +126,12 @@ def load(r, name):
     lines.append(odd(r, '  ', [' ', '', '    ', '\t']) + odd(r, 'img', ['text', 'switch', 'par'])
                  + r.choice([' '] * 5 + ['   ']) + ' '.join(attributes) + r.choice(['', '', '  ']))
     if r.random() < 0.1:
-        lines.insert(r.randint(1, 3), r.choice(['', '# x', ' # x', '   ', '  img', '\t', 'x' * 4097, '#' * 4097]))
+        lines.insert(r.randint(1, 3), r.choice(['', '# x', ' # x', '   ', '  img', '\t', 'x' * 16385, '#' * 16385]))
+    if r.random() < 0.15:
+        serials = odd(r, ' #1 #2 3', [' #2 #1 3', ' #1 #2 4', ' #1 #1 3', ' #1 #3 3', ' #0 #1 3']).split()
+        lines[1:1] = ['outline 2 next ' + serials[2]]
+        lines[2:4] = [line.replace(kind, '%s %s' % (kind, serial), 1)
+                      for line, kind, serial in zip(lines[2:4], ('par', 'img'), serials)]
     if r.random() < 0.97:
         lines.append(r.choice(['%%'] * 9 + [' %%  ']))
     return lines
@@ -120,7 +142,7 @@ def order(r, name):
     if r.random() < 0.7:
         return usual if r.random() < 0.8 else '%s text' % name
     return r.choice(['other advance 1s', '%s advance', '%s advance 1x', '%s show', 'close %s', '%%%%', '# %s advance 1s', '',
-                     '%s  advance   1s ', 'x' * 4097, '%s text x', '%s event a click', '%s seek 5s', '%s text', 'close 9',
+                     '%s  advance   1s ', 'x' * 16385, '%s text x', '%s event a click', '%s seek 5s', '%s text', 'close 9',
                      '%s advance 1000000000s', '%s advance 999999999.999s', '%s advance 1000000000001ms', 'load %s x',
                      '%s set a dur "1s"', '%s history a', '\t', '%s\tadvance 1s', '%s insert #1 2 img', '%s advance 1s 2s',
                      '%s media a 1s', '%s unset a dur', '%s remove a']).replace('%s', name).replace('%%%%', '%%')
@@ -143,9 +165,9 @@ def at_the_limits(r):
     if kind == 0:
         lines = ['  ' * depth + 'seq' for depth in range(r.choice([31, 32, 33, 34]))]
     elif kind == 1:
-        lines = ['par'] + ['  img'] * r.choice([1998, 1999, 2000])
+        lines = ['par'] + ['  img'] * r.choice([7998, 7999, 8000])
     elif kind == 2:
-        lists = ['  img begin="%s"' % ';'.join(['click'] * 32)] * 249 + ['  img begin="%s"' % ';'.join(['click'] * 31)]
+        lists = ['  img begin="%s"' % ';'.join(['click'] * 32)] * 999 + ['  img begin="%s"' % ';'.join(['click'] * 31)]
         lines = ['par'] + lists + ['  img end="%s"' % ';'.join(['a.end', '1s', 'indefinite', 'repeat(2)'][:r.randint(1, 4)])]
     elif kind == 3:
         lines = ['excl'] + r.choices(['  priorityClass', '  img', '    img', '    priorityClass', '  par', '      text'], k=4)
@@ -156,7 +178,8 @@ def at_the_limits(r):
 
 ITEMS = ['0', '5s', '-1.5s', '+ 2min', '1h', '00:10', '02:30:03.25', '3ms', '0.0009999', '1000000000s', '1000000001s', 'a.begin',
          'a\\.b.end', 'a\\-1.end + 1s', '_x.begin-2ms', 'click', 'a.click', 'a.DOMActivate - 00:01', 'repeat(2)', 'a.repeat(12)+1s',
-         'repeat(0)', 'indefinite', 'wallclock(2008)', 'accesskey(a)', 'accessKey(a)', 'id(a)', 'a.marker(m)', 'begin', 'a.begin.end', '']
+         'repeat(0)', 'indefinite', 'wallclock(2008)', 'accesskey(a)', 'accessKey(a)+1s', 'accesskey())', 'accesskey(;)',
+         'accesskey(ab)', 'accessKey( )', 'accesskey(a) - 00:01', 'accesskey(~)', 'accesskey(\\)', 'id(a)', 'a.marker(m)', 'begin', 'a.begin.end', '']
 NEAR = '0123456789.:+-;;\\()  \thminsabegindrpt_\x01\x7f\xe9'
 
 
@@ -169,34 +192,92 @@ def near(r, text):
 
 
 def values(r):
-    """Loads with one value near the grammar each; what can be read is not built, so each is refused."""
+    """Loads with one value near the grammar each."""
     lines = []
     for _ in range(10):
-        name = r.choice(['begin', 'begin', 'end', 'dur', 'min', 'max', 'repeatCount', 'repeatDur', 'endsync', 'id', 'fill'])
+        name = r.choice(['begin', 'begin', 'end'] + list(grammar.ORDER))
         if name in ('begin', 'end'):
             value = r.choice([';', ' ; ', ';\t']).join(r.choice(ITEMS) for _ in range(r.choice([1, 1, 2, 3, 32, 33])))
         elif name in ('dur', 'min', 'max', 'repeatDur'):
             value = r.choice(ITEMS[:11] + ['media', 'indefinite', '0', '999999999999', '99999999999999999999999ms'])
         else:
-            value = r.choice(['2.5', '0.001', '0.0009', '1234567890', 'indefinite', 'first', 'all', 'a-1', 'x' * 64, 'x' * 65, 'hold', 'default'])
-        lines += ['load d', r.choice(['par', 'par', 'seq', 'excl']), '  %s %s="%s"' % (r.choice(['img', 'par', 'excl']), name, near(r, value)), '%%']
+            value = r.choice(['2.5', '0.001', '0.0009', '1234567890', 'indefinite', 'first', 'all', 'a-1', 'x' * 64, 'x' * 65, 'hold',
+                              'default', 'inherit', 'never', 'whenNotActive', 'freeze', 'transition', 'x.y', '_z', '-z'])
+        kind = r.choice(['img', 'par', 'excl', 'set', 'set', 'priorityClass', 'audio'])
+        lines += ['load d', r.choice(['par', 'par', 'seq', 'excl']), '  %s %s="%s"' % (kind, name, near(r, value)), '%%']
     return '\n'.join(lines).encode('latin-1') + b'\n'
 
 
-def script(r, case):
-    if case % 50 == 49:
-        return at_the_limits(r)
-    if case % 5 == 4:
-        return values(r)
-    if case % 3 == 0:
-        return b'\n'.join(diff.fuzz(r, REQUEST)[1]) + b'\n'
-    if case % 3 == 1:
-        return built(r)
-    lines = built(r).split(b'\n')
-    for _ in range(r.randint(1, 3)):
+def changed(r, lines, times):
+    for _ in range(r.choice(times)):
         place = r.randrange(len(lines))
         lines[place] = diff.change(r, lines[place])
-    return b'\n'.join(lines)
+    return lines
+
+
+def saved(r):
+    """Loads of outlines with serials, some of them faulty."""
+    lines = []
+    for _ in range(4):
+        doc = diff.good_case(r, r.choice([2, 4, 9]), REQUEST).doc()
+        serials = [n.serial for n in doc.nodes]
+        fresh = r.sample(range(1, r.choice([len(serials) + 1, len(serials) + 3, 1000])), len(serials)) \
+            if r.random() < 0.7 else list(serials)
+        if r.random() < 0.2:
+            fresh[r.randrange(len(fresh))] = r.choice([1, 2, 3, 999999999, 1000000000])
+        new = dict(zip(serials, fresh))
+        new[0] = 0
+        nodes = [grammar.Node(new[n.serial], n.kind, n.parent, n.attrs) for n in doc.nodes]
+        depth, outline = {0: -1}, []
+        for n, old in zip(nodes, doc.nodes):
+            depth[old.serial] = depth[old.parent] + 1
+            outline.append(grammar.write_node(depth[old.serial], n.kind, n.attrs, n.serial))
+        next_serial = max(fresh) + r.choice([0, 1, 1, 1, 1, 5])
+        header = b'outline 2 next %d' % next_serial
+        if r.random() < 0.1:
+            header = r.choice([b' ' + header, header + b' ', b'outline', b'outline 1 next 9', b'outline 2 next 0', b'outlined',
+                               b'outline 2 next 01', b'outline  2 next 9', header + b'\t', b'outline 2', b'OUTLINE 2 next 9'])
+        lines += [b'load d'] + changed(r, [header] + outline, [0, 0, 1, 1, 2]) + [b'%%', b'd text', b'd advance 1s']
+    return b'\n'.join(lines) + b'\n'
+
+
+ORDERS = [b'd advance 1s', b'd seek 00:10', b'd event a click', b'd event #3 x_1', b'd media a 5ms', b'd set a dur "1s"', b'd unset a dur',
+          b'd insert a 1 img id="x"', b'd remove #12', b'd show', b'd history a.b-1', b'd text', b'd key x', b'd key #', b'd key ;', b'd save',
+          b'd values', b'd stack a region', b'd stack #9 x-1', b'd diary', b'close d', b'load d', b'load d at 2008-12-01T12:00:00Z',
+          b'prefer captions on', b'show key ~']
+
+
+def orders(r):
+    """Script lines near the grammar."""
+    return b'\n'.join(changed(r, [r.choice(ORDERS)], [0, 1, 1, 2])[0] for _ in range(10)) + b'\n'
+
+
+def alone(r):
+    """A script of the built form, which is played."""
+    data = built(r)
+    return data if r.random() < 0.5 else b'\n'.join(changed(r, data.split(b'\n'), [1, 2, 3]))
+
+
+def read_together(r, case):
+    """A script of which little is played."""
+    if case % 500 == 499:
+        return at_the_limits(r)
+    return r.choice([values, saved, orders, lambda r: b'\n'.join(diff.fuzz(r, REQUEST)[1]) + b'\n'])(r)
+
+
+def scripts():
+    """The inputs in turn, each with the number of scripts in it."""
+    case = 0
+    while case < ARGS.cases:
+        r = random.Random('%d %d' % (ARGS.seed, case))
+        if case % (50 * TOGETHER) < TOGETHER:
+            yield case, 1, alone(r)
+            case += 1
+            continue
+        count = min(TOGETHER, ARGS.cases - case)
+        yield case, count, b'\n%%\n'.join(
+            read_together(random.Random('%d %d' % (ARGS.seed, case + k)), case + k) for k in range(count))
+        case += count
 
 
 def answer_of_model(data, limits):
@@ -206,28 +287,57 @@ def answer_of_model(data, limits):
     return told.text(), 1 if told.refused else 0
 
 
+def fewer(lines, differs):
+    """The lines without those that the difference doesn't need."""
+    size = len(lines) // 2
+    while size:
+        place = 0
+        while place < len(lines):
+            rest = lines[:place] + lines[place + size:]
+            if rest and differs(rest):
+                lines = rest
+            else:
+                place += size
+        size //= 2
+    return lines
+
+
+def write(name, data):
+    with open(name, 'wb') as out:
+        out.write(data)
+
+
 def main():
     limits = grammar.Limits(REQUEST)
-    seen, texts = {}, 0
-    for case in range(ARGS.cases):
-        r = random.Random('%d %d' % (ARGS.seed, case))
-        data = script(r, case)
-        want = answer_of_model(data, limits)
+    seen, answers = {}, 0
+
+    def told(data):
         run = subprocess.run(ARGS.program + ['run'], input=data, capture_output=True)
+        return run.stdout, run.returncode
+
+    def differs(lines):
+        data = b'\n'.join(lines)
+        return told(data) != answer_of_model(data, limits)
+    for case, count, data in scripts():
+        want = answer_of_model(data, limits)
         for line in want[0].split(b'\n'):
-            if line.startswith(b'! '):
-                word = line.split()[2].decode()
+            word = line.split()[2].decode() if line.startswith(b'! ') else 'ok' if line.startswith(b'ok ') else None
+            if word:
                 seen[word] = seen.get(word, 0) + 1
-            elif line.startswith(b'ok '):
-                seen['ok'] = seen.get('ok', 0) + 1
-        if (run.stdout, run.returncode) != want:
-            print('DIFFERENT: seed %d case %d\n%r\nmodel %r\nprogram %r' % (
-                ARGS.seed, case, data, want, (run.stdout, run.returncode)))
+                answers += 1
+        if ARGS.folder:
+            name = os.path.join(ARGS.folder, 'case%06d' % case)
+            write(name, data)
+            write(name + '.stdout', want[0])
+        elif told(data) != want:
+            data = b'\n'.join(fewer(data.split(b'\n'), differs))
+            print('DIFFERENT: seed %d case %d, %d scripts\n%r\nmodel %r\nprogram %r' % (
+                ARGS.seed, case, count, data, answer_of_model(data, limits), told(data)))
             if ARGS.keep:
-                with open(os.path.join(ARGS.keep, '%d-%d.in' % (ARGS.seed, case)), 'wb') as out:
-                    out.write(data)
+                write(os.path.join(ARGS.keep, '%d-%d.in' % (ARGS.seed, case)), data)
             sys.exit(1)
-    print('%d scripts, 0 differences; %s' % (ARGS.cases, ', '.join('%s %d' % (word, seen[word]) for word in sorted(seen))))
+    print('%d scripts, %d answers%s; %s' % (
+        ARGS.cases, answers, '' if ARGS.folder else ', 0 differences', ', '.join('%s %d' % (word, seen[word]) for word in sorted(seen))))
 
 
 main()

@@ -4,7 +4,8 @@
 Makes cases for kept instance times: random documents with logs and diaries, and
 what the reference model in DIR says of each element's settled begins and ends
 after each entry, without repetitions. A diary is that of the resolution, or one
-of arbitrary lawful entries among those of the resolution. FOLDER gets for each
+of arbitrary lawful entries among those of the resolution. Access keys stand among
+the items of most documents, and presses of them in the logs. FOLDER gets for each
 file of cases NAME, the input, and NAME.stdout, the text that is wanted."""
 import argparse
 import os
@@ -25,8 +26,9 @@ from model import Play, Scene, TooFull, World, is_number  # noqa: E402
 
 LETTER = {'Began': 'b', 'Repeated': 'r', 'Ended': 'e', 'Cut': 'c', 'Paused': 'p',
           'Resumed': 'u', 'Deferred': 'f', 'Passed': 's', 'Logged': 'l'}
-laws.LIMITS = grammar.Limits(13)
+laws.LIMITS = grammar.Limits(20)
 BOUND = 120
+KEYS = 'xyz'
 
 
 class Settled(Scene):
@@ -38,11 +40,26 @@ class Settled(Scene):
         return super().children_start(p)
 
 
+def with_keys(case, r):
+    """Puts access keys into lists of some elements, and presses of them into the log."""
+    for _, parent in case.root.walk():
+        for line in parent.kids:
+            for side in ('begin', 'end'):
+                may_hear = line.kind != 'priorityClass' and (side == 'end' or parent.kind != 'seq')
+                if may_hear and r.random() < 0.3:
+                    tail = r.choice(['', '', '+%s' % laws.clock(r), '-%s' % laws.clock(r)])
+                    item = 'accesskey(%s)%s' % (r.choice(KEYS), tail)
+                    line.attrs[side] = ';'.join(filter(None, [line.attrs.get(side), item]))
+    for _ in range(r.choice([1, 2, 4, 8])):
+        case.log.append((r.randint(0, case.now), 'key', None, ord(r.choice(KEYS))))
+    case.log.sort(key=lambda entry: entry[0])
+
+
 def resolved(case, world):
     """The entries of the resolution."""
     play = Play(world, BOUND)
     try:
-        play.to([x for x in case.real_log() if x[1] != 'key'], case.now)
+        play.to(case.real_log(), case.now)
     except TooFull:
         pass
     return play.log, play.scene.diary.entries
@@ -59,7 +76,7 @@ def arbitrary(case, world, r):
             due = [k for k in scene.keys() if k[0] <= moment]
             entries = scene.group(min(due)) if due else []
         else:
-            entries = [given(scene, moment, step, line, v, log)]
+            entries = [given(scene, moment, step, line, v, log, r)]
         for entry in entries:
             if entry is None or not laws.lawful(scene, entry):
                 break
@@ -67,8 +84,11 @@ def arbitrary(case, world, r):
     return log, scene.diary.entries
 
 
-def given(scene, moment, step, line, v, log):
-    """An arbitrary entry on the element of a line."""
+def given(scene, moment, step, line, v, log, r):
+    """An arbitrary entry on the element of a line, or a press of a key."""
+    if step == 'Logged' and r.random() < 0.6:
+        log.append((moment, 'key', None, ord(r.choice(KEYS))))
+        return (moment, 'Logged', None, len(log) - 1)
     e = getattr(line, 'serial', None)
     if e not in scene.world.is_element:
         return None
@@ -98,6 +118,8 @@ def case_text(case, doc, log, entries):
     for moment, what, who, value in log:
         if what == 'event':
             given_lines.append('v %d %d %s' % (moment, who, value.decode()))
+        elif what == 'key':
+            given_lines.append('k %d %d' % (moment, value))
         else:
             given_lines.append('m %d %d %d' % (moment, who, value))
     scene = Settled(World(doc), log)
@@ -115,10 +137,12 @@ def main():
     r = random.Random(ARGS.seed)
     os.makedirs(ARGS.out, exist_ok=True)
     texts = [([], []) for _ in range(ARGS.files)]
-    made = entries_made = 0
+    made = entries_made = presses = 0
     while made < ARGS.cases:
         laws.CHOSEN[0] = r.choice(sorted(laws.PROFILE))
         case = laws.random_case(r, r.choice([4, 8, 12]))
+        if made % 4 < 3:
+            with_keys(case, r)
         try:
             doc = case.doc()
         except grammar.Refusal:
@@ -133,12 +157,13 @@ def main():
         texts[made % ARGS.files][1].extend(wanted)
         made += 1
         entries_made += len(entries)
+        presses += sum(step == 'Logged' and log[place][1] == 'key' for _, step, _, place in entries)
     for k, (given_lines, wanted) in enumerate(texts):
         with open('%s/case%03d' % (ARGS.out, k), 'w') as file:
             file.write('\n'.join(given_lines) + '\n')
         with open('%s/case%03d.stdout' % (ARGS.out, k), 'w') as file:
             file.write('\n'.join(wanted) + '\n')
-    print('%d cases, %d entries' % (made, entries_made))
+    print('%d cases, %d entries, %d presses of keys' % (made, entries_made, presses))
 
 
 if __name__ == '__main__':

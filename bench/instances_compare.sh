@@ -5,7 +5,7 @@
 # its diaries come from outside. Its last line counts the files: `differs=0` where all is the same.
 set -eu
 . "$(dirname "$0")/program.sh"
-new_program compare_instances smil_model smil_laws smil_grammar smil_lexis smil_clock_value smil_time_list smil_attrs smil_outline smil_tree smil_graph smil_diary smil_stretch smil_duration smil_kept smil_hearing smil_given smil_concern smil_instances
+new_program compare_instances smil_model smil_laws smil_grammar smil_lexis smil_clock_value smil_time_list smil_attrs smil_outline smil_tree smil_graph smil_diary smil_stretch smil_duration smil_instance_rows smil_instances
 python3 "$here/bench/instances_cases.py" --oracle "$1" --out "$work/cases" --seed "${2:-1}" --cases "${3:-1000}" --files "${4:-5}"
 cat > "$program/src/main.rt" <<'RT'
 #![tactic(auto)]
@@ -82,7 +82,7 @@ fn step_of(kind: &str, who: i64, value: i64) -> Option<Step> {
     }
 }
 
-/// Reads a line of the log: an event, or the length of media.
+/// Reads a line of the log: an event, a press of a key, or the length of media.
 fn log_line(case: &mut Case, line: &str) -> Option<()> {
     let (moment, who, rest) = words(line)?;
     let who = u32::try_from(number(who)?).ok()?;
@@ -90,6 +90,10 @@ fn log_line(case: &mut Case, line: &str) -> Option<()> {
         Happening::Event {
             who,
             name: Bytes::of(case.alloc, rest.as_bytes()).ok()?,
+        }
+    } else if line.starts_with('k') {
+        Happening::Key {
+            key: u8::try_from(who).ok()?,
         }
     } else {
         Happening::Media {

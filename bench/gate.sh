@@ -1,0 +1,13 @@
+#!/bin/sh
+# gate.sh [LOG]: runs `rt ci` on this checkout, and prints what each part of it takes as a table: processor seconds of each
+# crate's proof, of its tests' proof and of its must-fail edits, and the longest chain of crates by the clock. What an
+# earlier run on this machine passed is not proved again: for a run from nothing take a machine that has kept nothing.
+# The log of the run goes to LOG.
+set -eu
+cd "$(dirname "$0")/.."
+log=${1:-gate.log}
+rt ci > "$log" 2>&1 &
+gate=$!
+python3 bench/gate_times.py "$gate" crates.txt
+wait "$gate" || true
+tail -n 1 "$log"

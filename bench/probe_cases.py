@@ -1,0 +1,912 @@
+#!/usr/bin/env python3
+"""probe_cases.py --oracle DIR --out FOLDER [--seed S] [--cases N] [--files N] [--kind KIND..]
+
+Makes cases, a line each, and what the reference model in DIR answers to them:
+FOLDER gets for each file of cases NAME, the input, and NAME.stdout, the text that
+is wanted. No value comes from the program. It prints how many cases there are of
+each kind."""
+import argparse
+import os
+import random
+import sys
+
+parser = argparse.ArgumentParser()
+parser.add_argument('--oracle', required=True)
+parser.add_argument('--out', required=True)
+parser.add_argument('--seed', type=int, default=1)
+parser.add_argument('--cases', type=int, default=1000)
+parser.add_argument('--files', type=int, default=1)
+parser.add_argument('--kind', nargs='*')
+ARGS = parser.parse_args()
+sys.path.insert(0, ARGS.oracle)
+import grammar  # noqa: E402
+import laws  # noqa: E402
+import model  # noqa: E402
+from model import INDEFINITE, UNRESOLVED, Play, Scene, TooFull, World, is_number  # noqa: E402
+
+REQUEST = 20
+HORIZON = model.HORIZON
+laws.LIMITS = grammar.Limits(REQUEST)
+LETTER = {'Began': 'b', 'Repeated': 'r', 'Ended': 'e', 'Cut': 'c', 'Paused': 'p',
+          'Resumed': 'u', 'Deferred': 'f', 'Passed': 's', 'Logged': 'l'}
+STEPS = ('Began', 'Repeated', 'Ended', 'Cut', 'Paused', 'Resumed', 'Deferred', 'Passed')
+# the refusals of an order, by their numbers from 1
+REFUSALS = ('long-line not-a-command unfinished-load bad-outline depth-jump too-deep bad-place '
+            'unknown-attribute unsupported bad-value too-many-items duplicate-id too-many-elements '
+            'too-many-references no-presentation name-taken too-many-presentations no-element root '
+            'not-continuous log-full beyond-horizon diary-full memory not-yet bad-serial '
+            'no-anchor').split()
+
+
+# ------------------------------------------------------------------- printing
+
+def time_text(t):
+    return 'indefinite' if t == INDEFINITE else 'unresolved' if t == UNRESOLVED else '%d' % t
+
+
+def maybe(t, text=str):
+    return '-' if t is None else text(t)
+
+
+def interval_text(iv):
+    return '-' if iv is None else '%d %s' % (iv[0], time_text(iv[1]))
+
+
+def flag(b):
+    return '1' if b else '0'
+
+
+# --------------------------------------------------------------------- values
+
+NUMBERS = [0, 0, 1, 2, 3, 5, 1000, 2000, 4000, 10000, -1, -5, -1000, HORIZON, HORIZON - 1, -HORIZON, 1 - HORIZON]
+
+
+def number(r):
+    k = r.random()
+    return r.choice(NUMBERS) if k < 0.5 else r.randint(-20, 20) if k < 0.8 else r.randint(-HORIZON, HORIZON)
+
+
+def length(r):
+    return abs(number(r))
+
+
+def time(r):
+    k = r.random()
+    return INDEFINITE if k < 0.12 else UNRESOLVED if k < 0.24 else number(r)
+
+
+class Bare:
+    """An object with the fields that are given."""
+
+    def __init__(self, **fields):
+        self.__dict__.update(fields)
+
+
+# ---------------------------------------------------------------------- times
+
+def later_case(t, by):
+    return 'later %s %d' % (time_text(t), by), time_text(model.later(t, by))
+
+
+def order_case(a, b):
+    return ('order %s %s' % (time_text(a), time_text(b)),
+            '%s %s' % (time_text(model.least(a, b)), time_text(model.greatest(a, b))))
+
+
+def times(r):
+    return later_case(time(r), number(r)) if r.random() < 0.5 else order_case(time(r), time(r))
+
+
+# ---------------------------------------------------------------------- texts
+
+def clock_case(text):
+    try:
+        value = grammar.read_clock(text.encode())
+        wanted = '%d %s' % (value, grammar.write_clock(value).decode())
+    except grammar.TooLong:
+        wanted = 'too-long'
+    except grammar.Bad:
+        wanted = 'bad'
+    return 'clock ' + text, wanted
+
+
+def list_case(side, seq, text):
+    try:
+        wanted = grammar.write_list(grammar.read_list(text.encode(), side, seq, REQUEST)).decode()
+    except grammar.ListFault as fault:
+        wanted = fault.word + ('' if fault.word == 'too-many-items' else ' %d' % fault.place)
+    return 'list %s %s %s' % (side, flag(seq), text), wanted
+
+
+def node_wanted(parent, line):
+    try:
+        shape = grammar.read_shape(line)
+    except grammar.Bad:
+        raise grammar.Refusal('bad-outline')
+    kind = grammar.node_kind(shape, REQUEST)
+    if grammar.bad_place(parent, [], kind):
+        raise grammar.Refusal('bad-place')
+    return kind, grammar.node_attrs(shape, kind, parent, REQUEST)
+
+
+def refusal_text(refusal):
+    return refusal.word + ('' if refusal.column is None else ' %d' % refusal.column)
+
+
+def node_case(parent, text):
+    try:
+        kind, attrs = node_wanted(parent, text.encode())
+        wanted = grammar.write_node(0, kind, attrs).decode()
+    except grammar.Refusal as refusal:
+        wanted = refusal_text(refusal)
+    return 'node %s %s' % (parent or '-', text), wanted
+
+
+def who_text(who):
+    return '# %d' % who[1] if who[0] == 'serial' else who[1].decode()
+
+
+def order_text(order):
+    word = order[0]
+    if word in ('show', 'text', 'save', 'diary', 'values'):
+        return word
+    if word in ('advance', 'seek', 'key'):
+        return '%s %d' % order
+    if word == 'insert':
+        _, who, place, node, column = order
+        return 'insert %s %d %d %s' % (who_text(who), place, column, node.decode())
+    if word == 'set':
+        _, who, attr, value, attr_column, column = order
+        return 'set %s %s %d %d %s' % (who_text(who), attr.decode(), attr_column, column, value.decode())
+    rest = ''.join(' ' + (x.decode() if isinstance(x, bytes) else '%d' % x) for x in order[2:])
+    return '%s %s%s' % (word, who_text(order[1]), rest)
+
+
+def script_case(text):
+    line = text.encode()
+    words = []
+    if grammar.is_blank(line):
+        words.append('blank')
+    if grammar.opens_load(line):
+        words.append('opens')
+    if grammar.ends_load(line):
+        words.append('ends')
+    if not grammar.is_blank(line):
+        try:
+            read = grammar.read_line(line, REQUEST)
+            words.append(read[0] + ' ' + read[1].decode())
+            if read[0] == 'to':
+                words.append(order_text(read[2]))
+        except grammar.Refusal as refusal:
+            words.append(refusal_text(refusal))
+    return 'script ' + text, ' '.join(words)
+
+
+def clock_text(r):
+    digits = r.choice(['0', '1', '5', '05', '59', '60', '7', '12', '100', '999', '1000000000', '277777778',
+                       '1000000000000', '1000000000001', '0000000000000000000012'])
+    fraction = r.choice(['', '', '', '.5', '.0001', '.123456789', '.9999999999', '.'])
+    k = r.random()
+    if k < 0.6:
+        return digits + fraction + r.choice(['', 'h', 'min', 's', 'ms', 'ms', 's', 'm'])
+    two = r.choice(['00', '05', '59', '60', '5'])
+    return (digits + ':' if k < 0.8 else '') + two + ':' + r.choice(['00', '30', '59', '60']) + fraction
+
+
+def ident(r):
+    return r.choice(['a', 'slide1', 'x_y', '_', 'a.b', 'a-b', 'repeat', 'begin', '1a', 'a' * 64, 'a' * 65])
+
+
+def reference(r):
+    return ident(r).replace('.', r.choice(['\\.', '\\.', '.'])).replace('-', r.choice(['\\-', '\\-', '-']))
+
+
+def tail_text(r):
+    gap = r.choice(['', '', ' ', '\t '])
+    return r.choice(['', '', gap + r.choice('+-') + gap + clock_text(r)])
+
+
+def item_text(r):
+    k = r.random()
+    if k < 0.25:
+        return r.choice(['', '+', '-', '- ']) + clock_text(r)
+    if k < 0.5:
+        return reference(r) + r.choice(['.begin', '.end', '.begin', '.end', '.Begin']) + tail_text(r)
+    if k < 0.7:
+        who = reference(r) + '.' if r.random() < 0.6 else ''
+        return who + r.choice(['click', 'beginEvent', 'endEvent', 'my_event2', 'begin', 'repeat', 'e' * 65]) + tail_text(r)
+    if k < 0.8:
+        who = reference(r) + '.' if r.random() < 0.6 else ''
+        return who + 'repeat(%s)' % r.choice(['1', '2', '0', '01', '999999999', '1234567890', '']) + tail_text(r)
+    if k < 0.88:
+        return r.choice(['accesskey(', 'accessKey(', 'accesskey']) + r.choice(['x', '1', ';', '"', ' ', 'é', '']) + ')' + tail_text(r)
+    return r.choice(['indefinite', 'wallclock(2026)', 'id(a)', 'a.marker(b)', '', ' ', 'Indefinite', 'prev.begin'])
+
+
+def list_text(r):
+    count = r.choice([1, 1, 1, 2, 2, 3, 4, 31, 32, 33]) if r.random() < 0.3 else r.choice([1, 1, 2, 3])
+    gap = r.choice(['', '', ' ', '\t'])
+    return (gap + ';' + gap).join(item_text(r) for _ in range(count)) + gap
+
+
+def changed(r, text):
+    """Up to two bytes of a text changed."""
+    for _ in range(r.choice([0, 0, 1, 2])):
+        if not text:
+            return text
+        at = r.randrange(len(text))
+        text = text[:at] + r.choice(['', ' ', ';', '.', '+', '0', 'a', '"', ':', '(', ')', '\\', '#', '=', 'é']) + text[at + r.choice([0, 1]):]
+    return text
+
+
+VALUES = {'restart': ['always', 'whenNotActive', 'never', 'default', 'Never'],
+          'fill': ['remove', 'freeze', 'hold', 'auto', 'default', 'transition'],
+          'restartDefault': ['always', 'whenNotActive', 'never', 'inherit', 'default'],
+          'fillDefault': ['remove', 'freeze', 'hold', 'auto', 'inherit', 'transition'],
+          'endsync': ['last', 'first', 'all', 'media', 'a', 'a b'], 'peers': ['stop', 'pause', 'defer', 'never', 'x'],
+          'higher': ['stop', 'pause', 'defer'], 'lower': ['defer', 'never', 'pause'],
+          'repeatCount': ['indefinite', '1', '2.5', '0', '0.0009', '0.001', '123456789', '1234567890', '.5', '1.'],
+          'src': ['a.png', '', 'é ü', 'a&b'], 'to': ['', 'x']}
+
+
+def value_text(r, name):
+    if name in ('begin', 'end'):
+        return list_text(r)
+    if name in ('dur', 'min', 'max', 'repeatDur'):
+        return r.choice([clock_text(r), clock_text(r), 'media', 'indefinite', ' 5s ', '0'])
+    if name in ('id', 'targetElement', 'attributeName'):
+        return ident(r)
+    return r.choice(VALUES.get(name, VALUES['src'] + ['x']))
+
+
+def node_text(r, kind):
+    names = list(grammar.attrs_of(kind, REQUEST)) if kind in grammar.kinds(REQUEST) else ['id', 'begin']
+    chosen = r.sample(names, min(len(names), r.choice([0, 1, 1, 2, 3, 5])))
+    if r.random() < 0.1:
+        chosen.insert(0, r.choice(['speed', 'foo', 'endsync', 'peers', 'id', 'syncMaster', 'to']))
+    gap = r.choice([' ', ' ', ' ', '  '])
+    return kind + ''.join('%s%s="%s"' % (gap, n, value_text(r, n).replace('"', '')) for n in chosen)
+
+
+def texts(r):
+    k = r.random()
+    if k < 0.25:
+        return clock_case(changed(r, clock_text(r)))
+    if k < 0.5:
+        return list_case(r.choice(['begin', 'end']), r.random() < 0.3, changed(r, list_text(r)))
+    if k < 0.75:
+        kinds = list(grammar.kinds(REQUEST)) + ['switch', 'prefetch', 'body', 'smilText', 'foo']
+        parent = r.choice([None, 'par', 'par', 'seq', 'excl', 'priorityClass', 'img', 'set'])
+        text = changed(r, node_text(r, r.choice(kinds))).lstrip(' ')
+        return node_case(parent, text)
+    return script_case(changed(r, script_text(r)))
+
+
+def script_text(r):
+    name = r.choice(['d', 'd', 'deck-1', 'a_b', '1a', 'x' * 32, 'x' * 33, 'close', 'load'])
+    who = r.choice(['#1', '#999999999', '#0', '#1234567890', 'a', 'a.b', '#', 'a b', '1'])
+    clock = clock_text(r)
+    verb = r.choice(['advance %s' % clock, 'seek %s' % clock, 'event %s %s' % (who, r.choice(['click', 'beginEvent', 'end', '1'])),
+                     'media %s %s' % (who, clock), 'key %s' % r.choice(['x', '"', 'xy', '', 'é']),
+                     'set %s %s "%s"' % (who, r.choice(['begin', 'dur', 'é']), r.choice(['5s', '', 'a b'])),
+                     'set %s begin 5s' % who, 'unset %s %s' % (who, r.choice(['begin', 'a"b'])),
+                     'insert %s %s %s' % (who, r.choice(['1', '0', '123456789', '1234567890', 'x']), r.choice(['img', 'img dur="5s"', ''])),
+                     'remove %s' % who, 'history %s' % who, 'show', 'text', 'save', 'diary', 'values',
+                     'stack %s %s' % (who, r.choice(['region', 'a"'])), 'shows', ''])
+    line = r.choice(['%s %s' % (name, verb)] * 8 + ['load %s' % name, 'close %s' % name, '%%', ' %% ', '# x', '', ' \t', 'load', 'loads d'])
+    return line if r.random() < 0.8 else ' ' + line.replace(' ', '  ') + ' '
+
+
+# ------------------------------------------------------------------- outlines
+
+def outline_case(lines):
+    builder, k = grammar.Builder(laws.LIMITS), 0
+    try:
+        for k, line in enumerate(lines):
+            builder.push(line.encode())
+        k = len(lines)
+        wanted = ''.join(line.decode() + '|' for line in grammar.write_doc(builder.finish()))
+    except grammar.Refusal as refusal:
+        wanted = '%d %s' % (k, refusal_text(refusal))
+    return 'outline ' + '|'.join(lines), wanted
+
+
+def outlines(r):
+    """A random document, in which up to two lines are changed, moved or made deeper."""
+    laws.CHOSEN[0] = r.choice(sorted(laws.PROFILE))
+    lines = laws.random_case(r, r.choice([4, 8, 12])).lines()
+    for _ in range(r.choice([0, 0, 1, 1, 2])):
+        k = r.randrange(len(lines))
+        what = r.random()
+        if what < 0.3:
+            lines[k] = changed(r, lines[k])
+        elif what < 0.5:
+            lines[k] = r.choice(['  ', ' ', '    ', '  ' * 32]) + lines[k]
+        elif what < 0.7:
+            lines.insert(k, lines[r.randrange(len(lines))])
+        elif what < 0.85:
+            lines[k] = '  ' * r.randint(0, 3) + node_text(r, r.choice(list(grammar.kinds(REQUEST)) + ['switch', 'foo']))
+        else:
+            lines[k] = lines[k].lstrip(' ')
+    return outline_case([line.replace('|', '/') for line in lines])
+
+
+# ------------------------------------------------------------------ durations
+
+class Alone(Scene):
+    """One element with attributes, an implicit duration and a play."""
+
+    def __init__(self, attrs, implicit=UNRESOLVED, play=None):
+        self.world = World(grammar.Doc([grammar.Node(1, 'par', 0, attrs)], 2))
+        self.given, self.play = implicit, play
+
+    def implicit(self, e, J):
+        return self.given
+
+    def facts(self, e):
+        return self.play
+
+
+def line_attrs(text):
+    return node_wanted(None, text.encode())[1]
+
+
+def simple_case(implicit, line):
+    return 'simple %s %s' % (time_text(implicit), line), time_text(Alone(line_attrs(line), implicit).simple(1, None))
+
+
+def intermediate_case(simple, line):
+    return 'intermediate %s %s' % (time_text(simple), line), time_text(Alone(line_attrs(line)).intermediate(1, simple))
+
+
+def active_end_case(simple, first, start, iteration, line):
+    play = Bare(first=first, start=start, iteration=iteration)
+    return ('active-end %s %d %d %d %s' % (time_text(simple), first, start, iteration, line),
+            time_text(Alone(line_attrs(line), play=play).active_end(1, simple)))
+
+
+def simple_time(r):
+    t = time(r)
+    return abs(t) if is_number(t) else t
+
+
+def limits_text(r):
+    out = 'par'
+    if r.random() < 0.4:
+        out += ' repeatCount="%s"' % r.choice(['1', '2', '2.5', '0.001', '0.333', '999999999', 'indefinite', '3'])
+    if r.random() < 0.3:
+        out += ' repeatDur="%s"' % r.choice(['%dms' % max(1, length(r)), 'indefinite'])
+    if r.random() < 0.35:
+        out += ' min="%dms"' % length(r)
+    if r.random() < 0.35:
+        out += ' max="%s"' % r.choice(['%dms' % length(r), 'indefinite'])
+    if r.random() < 0.3:
+        out += ' dur="%s"' % r.choice(['%dms' % length(r), 'media', 'indefinite'])
+    if r.random() < 0.3:
+        out += ' end="%s"' % r.choice(['5s', 'indefinite', 'click'])
+    return out
+
+
+def durations(r):
+    k, line = r.random(), limits_text(r)
+    if k < 0.2:
+        return simple_case(time(r), line)
+    if k < 0.45:
+        return intermediate_case(simple_time(r), line)
+    return active_end_case(simple_time(r), number(r), number(r), r.choice([0, 0, 1, 2, 5, 1000000]), line)
+
+
+# ------------------------------------------------------------------ intervals
+
+class Waiting(Scene):
+    """One element with facts and instance times."""
+
+    def __init__(self, facts, begins, ends):
+        f = facts
+        attrs = {}
+        if f.end_list != 'absent':
+            attrs['end'] = ()
+        if f.count is not None:
+            attrs['repeatCount'] = 'indefinite' if f.count == INDEFINITE else f.count
+        if f.repeat is not None:
+            attrs['repeatDur'] = 'indefinite' if f.repeat == INDEFINITE else f.repeat
+        self.world = Bare(attrs={1: attrs}, min={1: f.min}, max={1: f.max}, restart=lambda e: f.restart)
+        self.moment = 0
+        self.f, self.times = f, {'begin': begins, 'end': ends}
+
+    def facts(self, e):
+        return self.f
+
+    def instances(self, e, side, J):
+        return self.times[side]
+
+    def simple(self, e, J):
+        return self.f.simple
+
+    def outer(self, e, m):
+        return self.f.shift or 0
+
+    def run(self, e, m):
+        return 0
+
+
+class Facts:
+    def __init__(self, alive=True, deferred=False, play=None, parent_start=0, last=None, passed=None, end_list='absent',
+                 restart='always', min=0, max=INDEFINITE, simple=2000, count=None, repeat=None):
+        self.alive, self.deferred, self.parent_start = alive, deferred, parent_start
+        self.last, self.passed, self.end_list, self.restart = last, passed, end_list, restart
+        self.min, self.max, self.simple, self.count, self.repeat = min, max, simple, count, repeat
+        self.play = play
+        self.active = play is not None
+        self.begun, self.first, self.start, self.iteration, self.shift = play or (None, None, None, 0, 0)
+        self.paused = self.active and self.shift is None
+        self.end_hears, self.restart_always = end_list == 'hearing', restart == 'always'
+
+    def text(self):
+        play = maybe(self.play, lambda p: ','.join('%d' % x for x in p[:4]) + ',' + maybe(p[4]))
+        last = maybe(self.last, lambda l: '%d,%s' % (l[0], time_text(l[1])))
+        return ' '.join([flag(self.alive), flag(self.deferred), play, '%d' % self.parent_start, last, maybe(self.passed),
+                         self.end_list, self.restart, '%d' % self.min, time_text(self.max), time_text(self.simple),
+                         maybe(self.count, time_text), maybe(self.repeat, time_text)])
+
+
+def interval_case(f, begins, ends):
+    s = Waiting(f, begins, ends)
+    wanted = interval_text(s.interval(1, None))
+    if f.last is None:
+        wanted += ' -'
+    if not f.active:
+        wanted += ' ' + interval_text(s.first_or_next(1, None))
+    begin_text = ','.join('%d' % b for b in begins) or '-'
+    return 'interval %s %s %s' % (f.text(), begin_text, ','.join(map(time_text, ends)) or '-'), wanted
+
+
+def near(r):
+    return r.randint(-12, 12)
+
+
+def intervals(r):
+    small = r.random() < 0.8
+    pick = near if small else number
+    play = None
+    if r.random() < 0.25:
+        play = (pick(r), pick(r), pick(r), r.choice([0, 0, 1, 2]), r.choice([None, 0, pick(r), pick(r)]))
+    last = None
+    if r.random() < 0.45:
+        begin = pick(r)
+        last = (begin, begin + r.choice([0, 0, 1, 2, 5]))
+    low = r.choice([0, 0, 0, 3, 10]) if small else length(r)
+    high = r.choice([INDEFINITE, INDEFINITE, INDEFINITE, low, low + 2, low + 9])
+    f = Facts(r.random() < 0.9, r.random() < 0.1, play, r.choice([0, 0, pick(r)]), last,
+              pick(r) if r.random() < 0.15 else None, r.choice(['absent', 'absent', 'hearing', 'plain', 'plain']),
+              r.choice(['always', 'always', 'whenNotActive', 'never']), low, high,
+              r.choice([0, 1, 2, 3, 5, INDEFINITE, UNRESOLVED]) if small else simple_time(r),
+              r.choice([None, None, 2500, 2000, 500, INDEFINITE]), r.choice([None, None, None, 4, 7, INDEFINITE]))
+    begins = sorted(pick(r) for _ in range(r.choice([0, 1, 1, 2, 3, 5])))
+    ends = sorted([pick(r) for _ in range(r.choice([0, 0, 1, 2, 3]))] + [INDEFINITE] * r.choice([0, 0, 1]))
+    if f.end_list == 'absent':
+        ends = []
+    return interval_case(f, begins, ends)
+
+
+# -------------------------------------------------------------------- endsync
+
+class Ending(Scene):
+    """A container with the ends of its children."""
+
+    def __init__(self, kind, rule, kids):
+        named = [k for k, kid in enumerate(kids) if kid[0]]
+        self.world = Bare(kind={0: kind}, attrs={0: {'endsync': ('id', b'x') if rule == 'child' else rule}},
+                          ids={b'x': named[0]} if named else {})
+        self.kids = kids
+
+    def latest_end(self, c, J):
+        return self.kids[c][2]
+
+    def first_end(self, c, J):
+        return self.kids[c][1]
+
+
+def endsync_case(kind, rule, start, kids):
+    text = 'endsync %s %s %d' % (kind, rule, start)
+    text += ''.join(' %s,%s,%s' % (flag(n), maybe(f, time_text), maybe(l, time_text)) for n, f, l in kids)
+    if not kids:
+        return text, '0'
+    value = Ending(kind, rule, kids).endsync(0, list(range(len(kids))), start, None)
+    return text, time_text(model.greatest(model.later(value, -start), 0))
+
+
+def endsyncs(r):
+    kids = []
+    for _ in range(r.choice([0, 1, 1, 2, 3, 4])):
+        kids.append((r.random() < 0.3, None if r.random() < 0.25 else time(r), None if r.random() < 0.25 else time(r)))
+    return endsync_case(r.choice(['par', 'par', 'seq', 'excl']), r.choice(['last', 'first', 'all', 'child']), number(r), kids)
+
+
+# ----------------------------------------------------------------------- excl
+
+def decide_case(rank, peers, higher, lower, newcomer):
+    s = Scene.__new__(Scene)
+    s.world = Bare(attrs={5: {'peers': peers, 'higher': higher, 'lower': lower}}, class_of={1: 5}, rank={1: rank, 2: newcomer})
+    return 'decide %d %s %s %s %d' % (rank, peers, higher, lower, newcomer), s.decide(1, 2)
+
+
+def queue_case(steps):
+    """Steps of a queue by a diary of its children: a child that is in the queue enters no second time."""
+    s = Scene.__new__(Scene)
+    s.diary = model.Diary([])
+    s.world = Bare(time_children={0: []}, rank={})
+    words, wanted = [], []
+    s.diary.append((0, 'Began', 0, 0))
+
+    def entry(step, who):
+        s.diary.append((0, step, who, None))
+
+    for what, who, rank in steps:
+        now = s.queue(0)
+        if what == 't':
+            words.append('t')
+            wanted.append(maybe(now[0] if now else None))
+            if now:
+                entry('Resumed', now[0])
+        elif what == 'l':
+            words.append('l%d' % who)
+            wanted.append(flag(who in now))
+            entry('Ended', who)
+        elif who not in now:
+            if who not in s.world.rank:
+                s.world.time_children[0].append(who)
+                s.world.rank[who] = rank
+            words.append('%s%d,%d' % (what, who, s.world.rank[who]))
+            entry('Paused' if what == 'p' else 'Deferred', who)
+    if not words:
+        return queue_case([('t', 0, 0)])
+    return 'queue ' + ' '.join(words), ' '.join(wanted + ['/'] + ['%d' % who for who in s.queue(0)])
+
+
+def excls(r):
+    acts = ['stop', 'pause', 'defer', 'never']
+    if r.random() < 0.3:
+        return decide_case(r.randint(0, 3), r.choice(acts), r.choice(acts), r.choice(acts), r.randint(0, 3))
+    return queue_case([(r.choice('ppdddtl'), r.randint(1, 8), r.randint(0, 3)) for _ in range(r.choice([1, 3, 6, 12, 20]))])
+
+
+# ----------------------------------------------------------------------- keys
+
+def key_text(k):
+    return '%d,%d,%d,%d,%s' % (k[0], k[1], k[2], k[3], flag(k[4]))
+
+
+def turned(k):
+    """The key as the model compares it."""
+    value, kind, position, serial, repeat = k
+    return (value, kind, position if kind == 2 else -position, 1 if repeat else 0, serial)
+
+
+def told_key(k):
+    return '-' if k is None else '%d %d %s' % (k[0], k[3], flag(k[4]))
+
+
+def before_case(a, b):
+    return 'before %s %s' % (key_text(a), key_text(b)), flag(turned(a)[:4] < turned(b)[:4])
+
+
+def least_case(keys):
+    least = min(keys, key=lambda k: turned(k)[:4]) if keys else None
+    return ('least-key ' + ' '.join(map(key_text, keys))).rstrip(), told_key(least)
+
+
+def due_case(steps):
+    here, words, wanted = set(), [], []
+    for what, k in steps:
+        words.append(what + key_text(k) if what in '+-' else what)
+        if what == '+':
+            here.add(k)
+        elif what == '-':
+            wanted.append(flag(k in here))
+            here.discard(k)
+        elif what == '?':
+            wanted.append(told_key(min(here, key=turned) if here else None))
+    return 'due ' + ' '.join(words), ' '.join(wanted)
+
+
+def a_key(r):
+    position = r.randint(0, 4)
+    kind = r.choice([1, 1, 2, 2, 3])
+    value = r.choice([0, 0, 0, 1, 1, -3, 1000]) if r.random() < 0.9 else number(r)
+    return (value, kind, position, position + 1, kind == 1 and r.random() < 0.4)
+
+
+def keys(r):
+    k = r.random()
+    if k < 0.3:
+        return before_case(a_key(r), a_key(r))
+    if k < 0.5:
+        return least_case([a_key(r) for _ in range(r.choice([0, 1, 2, 3, 5, 8]))])
+    return due_case([(r.choice('++++---???='), a_key(r)) for _ in range(r.choice([2, 5, 10, 25]))] + [('?', a_key(r))])
+
+
+# -------------------------------------------------------------------- diaries
+
+def readings(scene, e):
+    parent = scene.world.time_parent[e]
+    out = ['%d' % scene.birth(e), flag(scene.active(e)), flag(scene.paused(e)), flag(scene.deferred(e)),
+           '%d' % scene.iteration(e), '%d' % len(scene.finishes(e))]
+    for step in STEPS:
+        place = scene.last(e, step)
+        out.append('-' if place < 0 else '%d' % place)
+    return '?%d,%s' % (e, maybe(parent)), ' '.join(out)
+
+
+def scene_of(world, log, entries):
+    scene = Scene(world, log)
+    for entry in entries:
+        scene.append(entry)
+    return scene
+
+
+def lawful_diary(r, size):
+    """A world, a log and the entries of the resolution, or arbitrary lawful ones."""
+    while True:
+        laws.CHOSEN[0] = r.choice(sorted(laws.PROFILE))
+        case = laws.random_case(r, size)
+        try:
+            world = World(case.doc())
+        except grammar.Refusal:
+            continue
+        if r.random() < 0.5:
+            play = Play(world, 60)
+            try:
+                play.to(case.real_log(), case.now)
+            except TooFull:
+                pass
+            return world, play.log, play.scene.diary.entries
+        return (world,) + arbitrary(case, world, r)
+
+
+def arbitrary(case, world, r):
+    """Groups of the resolution, and lawful entries between them."""
+    scene, moment = Scene(world, []), 0
+    log = scene.diary.log
+    for step_moment, step, line, v in case.script:
+        moment += step_moment
+        scene.go(moment)
+        if r.random() < 0.6:
+            due = [k for k in scene.keys() if k[0] <= moment]
+            entries = scene.group(min(due)) if due else []
+        else:
+            entries = [given(scene, moment, step, line, v, log)]
+        for entry in entries:
+            if entry is None or not laws.lawful(scene, entry):
+                break
+            scene.append(entry)
+    return log, scene.diary.entries
+
+
+def given(scene, moment, step, line, v, log):
+    """An arbitrary entry on the element of a line."""
+    e = getattr(line, 'serial', None)
+    if e not in scene.world.is_element:
+        return None
+    if step == 'Logged':
+        log.append((moment, 'event', e, b'click'))
+        return (moment, 'Logged', None, len(log) - 1)
+    if step in ('Began', 'Deferred', 'Passed', 'Ended'):
+        return (moment, step, e, scene.outer(e, moment) + v)
+    if step == 'Repeated':
+        return (moment, step, e, scene.run(e, moment) + v)
+    return (moment, step, e, None)
+
+
+def step_text(entry):
+    _, step, who, value = entry
+    return LETTER[step] + '%d' % (value if step == 'Logged' else who)
+
+
+def book_case(r, world, log, entries, queries=6):
+    """The entries, cut back and pushed again here and there, with readings of elements on the way."""
+    words, wanted, scene, k = [], [], Scene(world, log), 0
+    asked = sorted(r.sample(range(len(entries) + 1), min(queries, len(entries) + 1)))
+    while True:
+        if asked and asked[0] <= k:
+            asked.pop(0)
+            for e in r.sample(world.elements, min(3, len(world.elements))):
+                word, answer = readings(scene, e)
+                words.append(word)
+                wanted.append(answer)
+            if r.random() < 0.1:
+                words.append('=')
+            if k and r.random() < 0.3:
+                k = r.randrange(k)
+                words.append('<%d' % k)
+                scene = scene_of(world, log, entries[:k])
+                asked.insert(0, k)
+            continue
+        if k == len(entries):
+            break
+        words.append(step_text(entries[k]))
+        scene.append(entries[k])
+        k += 1
+    return 'book ' + ' '.join(words), ' '.join(wanted + ['%d' % k])
+
+
+def diaries(r):
+    world, log, entries = lawful_diary(r, r.choice([4, 8, 12]))
+    return book_case(r, world, log, list(entries))
+
+
+# ------------------------------------------------------------------ documents
+
+def graph_lines(world):
+    """For each element its readers, its reach, and which of its items are looped."""
+    for e in world.elements:
+        readers = [x for x in world.elements if x in world.edges[e] or x in world.event_readers[e]]
+        reach = sorted(world.down(e), key=lambda x: world.position[x])
+        marks = ''.join(flag(world.looped_marks.get((e, side, k), False))
+                        for side in ('begin', 'end') for k in range(len(world.attrs[e].get(side, ()))))
+        yield '%d:%s /%s / %s' % (e, ''.join(' %d' % x for x in readers), ''.join(' %d' % x for x in reach), marks)
+
+
+def clock_lines(scene):
+    """For each element its clock and its time parent's, and whether these stand."""
+    for e in scene.world.elements:
+        yield '%d: %d %d %s %s' % (e, scene.run(e, scene.moment), scene.outer(e, scene.moment), flag(scene.stands(e)),
+                                   flag(scene.outer_stands(e)))
+
+
+def documents(r):
+    """A document with its graph, and its clocks after each entry of a lawful diary and some time later."""
+    world, log, entries = lawful_diary(r, r.choice([4, 8, 12]))
+    lines = ['doc'] + [line.decode() for line in grammar.write_doc(world.doc)] + ['%%']
+    wanted, scene = list(graph_lines(world)), Scene(world, log)
+    for moment, step, who, value in entries:
+        lines.append('d %s %d %d %d' % (LETTER[step], moment, who or 0, value or 0))
+        scene.go(moment)
+        scene.append((moment, step, who, value))
+        later = moment + r.choice([0, 0, 1, 7, HORIZON - moment])
+        lines.append('at %d' % later)
+        scene.go(later)
+        wanted.extend(clock_lines(scene))
+    lines.append('end')
+    wanted.append('end %d' % len(entries))
+    return '\n'.join(lines), '\n'.join(wanted)
+
+
+# ---------------------------------------------------------------------- views
+
+class Seen(Scene):
+    """An element, 1, under a time parent, 0, with the facts of its view."""
+
+    def __init__(self, v):
+        self.v = v
+        self.moment = 0
+        places = [] if v.last is None else [0]
+        self.f = Bare(active=v.active, paused=v.paused, deferred=v.deferred is not None, last=v.last, finish_places=places)
+        self.world = Bare(time_parent={1: 0}, kind={0: 'seq'}, effective_fill=lambda e: v.fill)
+        self.diary = Bare(entries=[(0, 'Cut' if v.cut else 'Ended', 1, 0)])
+
+    def facts(self, e):
+        return self.f
+
+    def iteration(self, e, upto=None):
+        return self.v.iteration
+
+    def active(self, e, upto=None):
+        return self.v.active if e else self.v.shows and not self.v.frozen
+
+    def displaced(self, e, p, place):
+        return self.v.displaced
+
+    def last(self, e, step, upto=None):
+        return {'Began': 'begun' if upto is None else 'last', 'Deferred': 'deferred'}[step]
+
+    def shown_begun(self, place):
+        return {'begun': self.v.begun, 'deferred': self.v.deferred, 'last': self.v.last and self.v.last[0]}[place]
+
+    def shown_finish(self, place):
+        return self.v.last[1]
+
+    def outer_stands(self, e, upto=None):
+        return self.v.standing
+
+    def to_document(self, e, value, m):
+        return value + self.v.shift
+
+
+def view_case(v):
+    words = ['%d' % v.serial, flag(v.active), flag(v.paused), maybe(v.deferred),
+             maybe(v.interval, lambda iv: '%d,%s' % (iv[0], time_text(iv[1]))), maybe(v.begun),
+             maybe(v.last, lambda iv: '%d,%d' % iv), flag(v.cut), v.fill, flag(v.displaced), flag(v.shows), flag(v.frozen),
+             flag(v.standing), '%d' % v.shift, '%d' % v.iteration, '%d' % v.finished]
+    state, begin, end, iteration, _ = Seen(v).view(1, {1: v.interval}, {0: v.frozen})
+    return 'view ' + ' '.join(words), '0 #%d %s %s %s %d %d' % (v.serial, state, begin, end, iteration, v.finished)
+
+
+def views(r):
+    active = r.random() < 0.35
+    frozen = r.random() < 0.3
+    interval = (number(r), time(r)) if active or r.random() < 0.5 else None
+    begin = number(r)
+    return view_case(Bare(
+        serial=r.choice([1, 2, 7, 999999999]), active=active, paused=active and r.random() < 0.4,
+        deferred=number(r) if not active and r.random() < 0.2 else None, interval=interval,
+        begun=number(r) if active else None, last=(begin, begin + r.choice([0, 1, 20])) if r.random() < 0.6 else None,
+        cut=r.random() < 0.4, fill=r.choice(['remove', 'freeze', 'hold']), displaced=r.random() < 0.4,
+        shows=frozen or r.random() < 0.6, frozen=frozen, standing=r.random() < 0.2, shift=number(r),
+        iteration=r.choice([0, 1, 3]), finished=r.choice([0, 1, 2, 4294967295])))
+
+
+# ---------------------------------------------------------------------- lines
+
+def line_case(*words):
+    """The line of a change or of a removed element: it is what it says."""
+    rest = ' '.join('%s' % w for w in words[1:])
+    return words[0] + ' ' + rest, rest
+
+
+def gone_case(moment, name):
+    return 'gone %d %s' % (moment, name), '%d %s gone' % (moment, name)
+
+
+def history_case(name, begin, end, how):
+    return 'history %s %s %s %s' % (name, begin, end, how), '%s from %s to %s %s' % (name, begin, end, how)
+
+
+def refusal_case(line, number, column):
+    word = REFUSALS[number - 1]
+    tail = ' %d' % column if 8 <= number <= 11 else ''
+    return 'refusal %d %d %d' % (line, number, column), '! %d %s%s' % (line, word, tail)
+
+
+def a_line(r):
+    name = r.choice(['a', '#0', '#999999999', 'x' * 64, '#12'])
+    shown = ['-', '?', 'indefinite', 'unresolved', '0', '-250', '3000', '%d' % -2 ** 63, '%d' % (2 ** 63 - 1)]
+    k = r.random()
+    moment = r.choice([0, 5000, 10 ** 12, 2 ** 63 - 1, -2 ** 63])
+    if k < 0.4:
+        state = r.choice(['idle', 'waiting', 'active', 'paused', 'deferred', 'frozen', 'done'])
+        return line_case('change', moment, name, state, r.choice(shown), r.choice(shown), r.choice([0, 4294967295]), r.choice([0, 12]))
+    if k < 0.5:
+        return gone_case(moment, name)
+    if k < 0.7:
+        return history_case(name, r.choice(shown), r.choice(shown), r.choice(['ended', 'cut', 'playing']))
+    if k < 0.8:
+        line = r.choice([1, 7, 4294967295])
+        return 'ok %d p %d' % (line, moment), 'ok %d p %d' % (line, moment)
+    if k < 0.85:
+        return 'closed 8 p', 'ok 8 p closed'
+    return refusal_case(r.choice([0, 1, 4294967295]), r.randint(1, 27), r.choice([1, 17, 4294967295]))
+
+
+KINDS = {'times': times, 'texts': texts, 'outlines': outlines, 'durations': durations, 'intervals': intervals, 'endsync': endsyncs,
+         'excl': excls, 'keys': keys, 'diaries': diaries, 'views': views, 'lines': a_line}
+# cases of many lines, which another program reads (documents_compare.sh)
+LONG = {'documents': documents}
+
+
+# ------------------------------------------------------------ the stored cases
+
+def made(kind, r):
+    return (LONG.get(kind) or KINDS[kind])(r)
+
+
+def write(folder, name, cases):
+    with open(os.path.join(folder, name), 'w') as file:
+        file.write(''.join(given + '\n' for given, _ in cases))
+    return ''.join(wanted + '\n' for _, wanted in cases)
+
+
+def main():
+    r = random.Random(ARGS.seed)
+    os.makedirs(ARGS.out, exist_ok=True)
+    for kind in ARGS.kind or KINDS:
+        for k in range(ARGS.files):
+            cases = [made(kind, r) for _ in range(ARGS.cases // ARGS.files)]
+            name = '%s%03d' % (kind, k)
+            with open(os.path.join(ARGS.out, name + '.stdout'), 'w') as file:
+                file.write(write(ARGS.out, name, cases))
+        print('%s %d' % (kind, ARGS.cases))
+
+
+if __name__ == '__main__':
+    main()
