@@ -1,7 +1,12 @@
 //! SMIL's durations of one element: simple, intermediate and active, and the end of a play.
 #![tactic(auto)]
 
-ghost use Rattle.std.specs.Prelude.{◌≡◌};
+ghost use Rattle.std.specs.Prelude.{◌≡◌, ℕ, Option, not, ◌||◌, is_some, IfSome};
+ghost use Rattle.smil_model.specs.declared.document.Node.{Node as AnyNode};
+ghost use Rattle.smil_model.specs.declared.interval.Interval.{Interval as AnyInterval};
+ghost use Rattle.smil_model.specs.document.Document.{is_class_kind, is_container_kind, is_continuous};
+ghost use Rattle.smil_model.specs.diary.Diary.{History};
+ghost use Rattle.smil_model.specs.interval.Current.{implicit_of};
 ghost use Rattle.smil_model.specs.interval.Durations.{simple_duration, intermediate_duration, bounds_of};
 ghost use Rattle.smil_model.specs.document.Defaults.{takes_implicit};
 ghost use Rattle.smil_model.specs.interval.Durations;
@@ -11,7 +16,7 @@ pub mod sums;
 
 pub use bounds::Bounds;
 pub use smil_model::Play;
-use smil_model::{Attrs, Dur, Time};
+use smil_model::{Attrs, Dur, Kind, Time};
 pub use sums::{capped, moved};
 
 /// The simple duration of an element, in milliseconds on its own clock: what `dur` states, or the implicit duration.
@@ -43,6 +48,20 @@ pub fn takes_implicit(attrs: &Attrs) -> bool
         Some(Dur::Media) => true,
         Some(_) => false,
         None => attrs.repeat_count.is_some() || attrs.repeat_dur.is_some() || attrs.end.is_none(),
+    }
+}
+
+/// The implicit duration of an element whose kind alone tells it: 0 for still media, indefinite for a `set`. None for a
+/// container, whose time children tell it, for continuous media, whose length a player tells, and for a `priorityClass`.
+/// SMIL 3.0, "Defining the simple duration"; for a `set`, "The set element".
+pub fn implicit_by_kind(kind: Kind) -> Option<Time>
+    ensures told { (h : History) (intervals : ℕ → Option AnyInterval) (e : AnyNode) → IfSome result (λ length. implicit_of h intervals e kind ≡ length) }
+    ensures some { is_some result ≡ not (is_container_kind kind || is_continuous kind || is_class_kind kind) }
+{
+    match kind {
+        Kind::Img | Kind::Text | Kind::Brush => Some(Time::At(0)),
+        Kind::Set => Some(Time::Indefinite),
+        _ => None,
     }
 }
 
