@@ -1,6 +1,7 @@
 -- What the index keeps of an element, entry by entry.
 use Rattle.std.proofs.Common.{◌≡◌, ℕ, Bool, true, false, ◌&&◌, ◌||◌, ◌==◌, List, [], ◌∷◌, ◌++◌, length, refl, ap, sym, ◌∙◌}
-use Rattle.std.specs.Prelude.{if◌then◌else◌, Option, Some, None}
+use Rattle.std.specs.Prelude.{if◌then◌else◌, slice_get, Option, Some, None}
+use Rattle.std.specs.List.{position}
 use Rattle.smil_model.specs.declared.diary.Entry.{Entry}
 use Rattle.smil_model.specs.declared.diary.Step.{Step}
 use Rattle.smil_model.specs.declared.diary.Step.TheVariants.{Began, Repeated, Ended, Cut, Paused, Resumed, Deferred, Passed, Logged}
@@ -10,7 +11,7 @@ use Rattle.smil_model.specs.diary.Diary.{is_step, is_active, last_step, with_pas
 use Rattle.smil_diary.specs.declared.element.ElementPlaces.{ElementPlaces}
 use Rattle.smil_diary.specs.Places.{is_later, later_of, is_end}
 use Rattle.smil_diary.specs.Kept.{element_of, nothing, steps, finishing, finishes, grown, shrunk, but_last, noted, forgotten, noted_at, forgotten_at, subject, active_by, places_of, last_of, places_from}
-use Rattle.smil_diary.proofs.PlaceLists.{places-push, but_last-push, past-push, past-length, last-places}
+use Rattle.smil_diary.proofs.PlaceLists.{first-places, places-push, but_last-push, past-push, past-length, last-places}
 use Rattle.smil_diary.proofs.LastPlaces.{active-last}
 
 pub no-entries : (serial : ℕ) → element_of [] serial ≡ nothing
@@ -35,6 +36,10 @@ kinds diary kind.Passed s = refl
 
 pub last-of : (diary : List Entry) (k : StepKind) (s : ℕ) → last_of (places_of (element_of diary s) k) ≡ last_step diary k s
 last-of diary k s = ap last_of (kinds diary k s) ∙ last-steps diary k s
+
+-- the first place of a kind is that of the first such step
+pub first-of : (diary : List Entry) (k : StepKind) (s : ℕ) → slice_get (places_of (element_of diary s) k) 0 ≡ position (λ (x : Entry). is_step k s x.step) diary
+first-of diary k s = ap (λ ps. slice_get ps 0) (kinds diary k s) ∙ first-places (λ (x : Entry). is_step k s x.step) diary
 
 pub playing : (diary : List Entry) (s : ℕ) → active_by (element_of diary s) ≡ is_active diary s
 playing diary s =

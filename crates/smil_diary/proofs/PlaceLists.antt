@@ -1,8 +1,9 @@
 -- The places of those elements of a list that pass a test.
 use Rattle.std.proofs.Common.{◌≡◌, ℕ, zero, suc, ◌+◌, ◌-◌, ◌≤◌, ◌<◌, Bool, true, false, List, [], ◌∷◌, ◌++◌, drop, take, length, get_or, refl, ap, sym, ◌∙◌, arith, length-append, append_assoc}
 use Rattle.std.proofs.lemmas.List.{append-nil}
-use Rattle.std.specs.Prelude.{nat_le, cond, Option, Some, None}
-use Rattle.std.specs.List.{count_by, last_or}
+use Rattle.std.specs.Prelude.{nat_le, nat_lt, cond, slice_get, Option, Some, None, IfSome}
+use Rattle.std.specs.List.{count_by, last_or, position, position_from, position_or_len}
+use Rattle.std.proofs.lemmas.Iterator.Adapters.{position_from-zero}
 use Rattle.std.specs.List.Sorted.{IsNonDecreasing}
 use Rattle.std.proofs.lemmas.List.Sorted.{IsNonDecreasingBy-from_default}
 use Rattle.std.proofs.Math.Seq.{take-append_seam}
@@ -86,6 +87,36 @@ not-moved (Some k) = let same : 0 + k ≡ k = omega arith in ap (λ (n : ℕ). S
 
 pub last-places : {A : Type 0} (test : A → Bool) (xs : List A) → last_or None (places_from 0 test xs) ≡ last_place test xs
 last-places test xs = last-places_from 0 test xs None ∙ not-moved (last_place test xs)
+
+-- ---- the first place
+
+first-led : (t : Bool) (from : ℕ) (ps : List ℕ) (o : Option ℕ) → slice_get ps 0 ≡ o → slice_get (led t from ps) 0 ≡ cond t (Some from) o
+first-led true from ps o is = refl
+first-led false from ps o is = is
+
+first-places_from : {A : Type 0} (from : ℕ) (test : A → Bool) (xs : List A)
+    → slice_get (places_from from test xs) 0 ≡ position_from test from xs
+unfolding places_from
+first-places_from from test [] = refl
+first-places_from from test (x ∷ xs) =
+    let next : suc from ≡ from + 1 = omega arith in
+    first-led (test x) from (places_from (suc from) test xs) (position_from test (from + 1) xs)
+    (first-places_from (suc from) test xs ∙ ap (λ n. position_from test n xs) next)
+
+pub first-places : {A : Type 0} (test : A → Bool) (xs : List A) → slice_get (places_from 0 test xs) 0 ≡ position test xs
+first-places test xs = first-places_from 0 test xs ∙ sym (position_from-zero test xs)
+
+is-below : (a b : ℕ) → nat_lt a b ≡ true → a < b
+is-below a b is = grind arith
+
+within-found : (found : Bool) (k n : ℕ) → (found ≡ true → k < n) → IfSome (cond found (Some k) None) (λ place. place < n)
+within-found true k n is = is refl
+within-found false k n is = tt
+
+pub first-within : {A : Type 0} (test : A → Bool) (xs : List A) → IfSome (position test xs) (λ place. place < length xs)
+first-within test xs =
+    within-found (nat_lt (position_or_len test xs) (length xs)) (position_or_len test xs) (length xs)
+    (is-below (position_or_len test xs) (length xs))
 
 -- ---- they rise
 

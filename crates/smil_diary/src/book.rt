@@ -1,9 +1,10 @@
 //! The diary, and its readings.
 
 ghost use Rattle.std.specs.Prelude.{◌≡◌, ℕ, ◌≤◌, ◌-◌, ◌↔◌, List, [], ◌∷◌, ◌++◌, length, take, Result, Err, OnOk, OnErr, IfOk, IfSome, ◌<◌, slice_get, Option};
+ghost use Rattle.std.specs.List.{position};
 ghost use Rattle.smil_model.specs.declared.limits.TheConstants as limits;
 ghost use Rattle.smil_model.specs.declared.document.Node.{Node};
-ghost use Rattle.smil_model.specs.diary.Diary.{History, last_place, gives_birth, birth_under, lives_under, is_active, is_paused, is_deferred, iteration, last_step};
+ghost use Rattle.smil_model.specs.diary.Diary.{History, last_place, gives_birth, birth_under, lives_under, is_active, is_paused, is_deferred, is_step, iteration, last_step};
 ghost use Rattle.smil_model.specs.diary.Plays.{plays};
 ghost use Rattle.smil_model.specs.declared.diary.Entry.{Entry as GivenEntry};
 ghost use Rattle.smil_diary.specs.Readings.{IsOf, births_end};
@@ -168,6 +169,14 @@ impl Book {
         ensures within { IfSome result (λ place. place < length self.now) }
     {
         self.element(who).last(kind)
+    }
+
+    /// The place of the first entry of this kind on the element; None where there is none. It takes no memory.
+    pub fn first(&self, who: u32, kind: StepKind) -> Option<usize>
+        ensures value { result ≡ position (λ (x : GivenEntry). is_step kind who x.step) self.now }
+        ensures within { IfSome result (λ place. place < length self.now) }
+    {
+        self.element(who).first(kind)
     }
 
     /// What the index has of an element.

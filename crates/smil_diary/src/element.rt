@@ -1,6 +1,6 @@
 //! Where in a diary the entries on one element stand.
 
-ghost use Rattle.std.specs.Prelude.{◌≡◌, ℕ, ◌<◌, ◌≤◌, length, nat_le, IsTrue, ◌↔◌, OnOk, OnErr};
+ghost use Rattle.std.specs.Prelude.{◌≡◌, ℕ, ◌<◌, ◌≤◌, length, slice_get, nat_le, IsTrue, ◌↔◌, OnOk, OnErr};
 ghost use Rattle.std.specs.List.{count_by};
 ghost use Rattle.std.specs.List.Sorted.{IsNonDecreasing};
 ghost use Rattle.smil_model.specs.declared.limits.TheConstants as limits;
@@ -81,6 +81,13 @@ impl ElementPlaces {
         ensures { result ≡ last_of (places_of self.now kind) }
     {
         self.places(kind).last()
+    }
+
+    /// The first place of one kind.
+    pub(crate) fn first(&self, kind: StepKind) -> Option<usize>
+        ensures { result ≡ slice_get (places_of self.now kind) 0 }
+    {
+        self.places(kind).first()
     }
 
     /// The place of the last begin or repeat.

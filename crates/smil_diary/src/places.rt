@@ -1,6 +1,6 @@
 //! Places in a diary, in rising order.
 
-ghost use Rattle.std.specs.Prelude.{◌≡◌, ℕ, ◌<◌, ◌≤◌, ◌-◌, [], ◌∷◌, ◌++◌, length, take, nat_le, IsTrue, ◌↔◌, OnOk, OnErr};
+ghost use Rattle.std.specs.Prelude.{◌≡◌, ℕ, ◌<◌, ◌≤◌, ◌-◌, [], ◌∷◌, ◌++◌, length, take, slice_get, nat_le, IsTrue, ◌↔◌, OnOk, OnErr};
 ghost use Rattle.std.specs.List.{count_by};
 ghost use Rattle.std.specs.List.Sorted.{IsNonDecreasing};
 ghost use Rattle.smil_model.specs.declared.limits.TheConstants as limits;
@@ -46,6 +46,16 @@ impl Places {
         ensures { result ≡ last_of self.now }
     {
         match self.items.last() {
+            Some(place) => Some(*place as usize),
+            None => None,
+        }
+    }
+
+    /// The first place.
+    pub(crate) fn first(&self) -> Option<usize>
+        ensures { result ≡ slice_get self.now 0 }
+    {
+        match self.items.first() {
             Some(place) => Some(*place as usize),
             None => None,
         }

@@ -66,6 +66,20 @@ impl Queue {
         self.held.insert(place, Held { who, rank }).unwrap();
     }
 
+    /// The next child; None exactly where the queue is empty. It takes no memory.
+    pub fn first(&self) -> Option<u32>
+        ensures { result ≡ option_map (λ first. first.who) (slice_get self.now.held 0) }
+    {
+        Some(self.held.first()?.who)
+    }
+
+    /// Takes out all children. It takes no memory.
+    pub fn clear(&mut self)
+        ensures { self.new ≡ record { held = []; room = self.old.room } }
+    {
+        self.held.clear();
+    }
+
     /// Takes out the next child; None exactly where the queue is empty. It takes no memory.
     pub fn take_first(&mut self) -> Option<u32>
         ensures first { result ≡ option_map (λ first. first.who) (slice_get self.old.held 0) }
