@@ -9,7 +9,7 @@ mod contribution;
 mod dependents;
 mod dependents_row;
 mod edge_times;
-mod elements;
+pub mod elements;
 mod fill;
 mod fresh;
 mod idle;
