@@ -52,18 +52,18 @@ time_count text = do
   Some (milliseconds unit n)
 
 -- a second colon makes a full clock value, none a partial one
-abbrev pub parted : List ℕ → List ℕ → Option (List ℕ × List ℕ) → Option ℕ
-parted first rest None = partial first rest
-parted first rest (Some cut) = full first cut.0 cut.1
+abbrev pub after_colon : List ℕ → List ℕ → Option (List ℕ × List ℕ) → Option ℕ
+after_colon first rest None = partial first rest
+after_colon first rest (Some cut) = full first cut.0 cut.1
 
 -- a text without a colon is a time count
-abbrev pub parted_or_count : List ℕ → Option (List ℕ × List ℕ) → Option ℕ
-parted_or_count text None = time_count text
-parted_or_count text (Some cut) = parted cut.0 cut.1 (cut_at colon cut.1)
+abbrev pub colon_or_count : List ℕ → Option (List ℕ × List ℕ) → Option ℕ
+colon_or_count text None = time_count text
+colon_or_count text (Some cut) = after_colon cut.0 cut.1 (cut_at colon cut.1)
 
 -- the milliseconds of a clock value; none where the text is outside the grammar
 abbrev pub clock_of : List ℕ → Option ℕ
-clock_of text = parted_or_count text (cut_at colon text)
+clock_of text = colon_or_count text (cut_at colon text)
 
 -- what reading gives: values go up to the horizon
 abbrev pub clock_answer : Option ℕ → Result ℤ ClockFault

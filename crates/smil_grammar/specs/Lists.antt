@@ -1,4 +1,4 @@
--- Begin and end lists: items parted by `;`, with white space around each.
+-- Begin and end lists: items separated by `;`, with white space around each.
 use Rattle.std.specs.Prelude.{◌≡◌, ℕ, ◌+◌, ◌≤◌, All, pos, int_lt, Bool, true, false, List, [], ◌∷◌, length, Option, Some, None, unwrap_or, Result, Ok, Err, nat_lt, ◌==◌, if◌then◌else◌}
 use Rattle.std.specs.List.{prefix_len, slice_split}
 use Rattle.smil_model.specs.declared.limits.TheConstants.{ITEMS}

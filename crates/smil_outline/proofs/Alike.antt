@@ -157,7 +157,7 @@ deepest_known nodes node below zero h = h.0.known
 deepest_known nodes node [] (suc d) h = h.0.known
 deepest_known nodes node (child ∷ below) (suc d) h = deepest_known nodes child below d h.1
 
--- the parent of a node below a branch stands on it
+-- the parent of a node below a branch depends on it
 pub parent_known : (nodes : List Node) (branch : List (ℕ × Kind)) (d : ℕ) → AreAlike nodes branch → is_known nodes (serial_of (last_of (take d branch))) ≡ true
 parent_known nodes branch zero h = refl
 parent_known nodes [] (suc d) h = refl

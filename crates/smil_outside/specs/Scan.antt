@@ -23,7 +23,7 @@ pub record IsCutFront (dropped bytes : List ℕ) : Type 0 where
   pub some : 0 < length bytes
   pub goes_on : slice_index bytes 0 ≢ line_feed
 
--- a scan took `came`, let go of `dropped`, the front of a line that is too long, and holds `bytes`
+-- a scan took `came`, left out `dropped`, the front of a line that is too long, and holds `bytes`
 pub record Scans (old bytes : List ℕ) (before taken : ℕ) (scan : Scan) (rest after : Option (List ℕ)) : Type 0 where
   pub came : List ℕ
   pub dropped : List ℕ

@@ -128,7 +128,7 @@ impl LineReader {
         Line::Bytes
     }
 
-    // Ends the reading, and lets go of what is pending.
+    // Ends the reading, and drops what is pending.
     fn close(&mut self, ending: Ending) -> Line
         ensures answer { result ≡ answer_of ending }
         ensures after { self.new ≡ record self.old { pending = []; line = []; closed = Some ending } }

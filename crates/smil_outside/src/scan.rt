@@ -67,7 +67,7 @@ pub(crate) fn seek_line_end<S: Source>(
     Scan { stop, is_long }
 }
 
-// Lets go of the front of a line that is too long, and says whether it did. The last byte stays: it
+// Drops the front of a line that is too long, and says whether it did. The last byte stays: it
 // may be the carriage return before the line feed.
 fn let_go(window: &mut Window) -> bool
     ensures { let len = length window.old.bytes in MatchBool result

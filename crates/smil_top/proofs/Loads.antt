@@ -14,7 +14,7 @@ with_nodes-append : (so_far : Result Titled Fault) (lines more : List Numbered) 
 with_nodes-append so_far [] more = refl
 with_nodes-append so_far (line ∷ lines) more = with_nodes-append (with_node so_far line) lines more
 
--- what a line adds, or want of memory
+-- what a line adds, or a lack of memory
 pub IsRead-push : (load : Load) (lines : LoadLines) (this : Numbered) (reading : Result Titled Fault) → IsRead load lines →
     (reading ≡ with_node load.reading this) ⊎ (reading ≡ refused_at load.line Memory) →
     IsRead (record { line = load.line; reading = reading }) (record lines { nodes = lines.nodes ++ this ∷ [] })

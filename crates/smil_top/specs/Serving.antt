@@ -13,7 +13,7 @@ use Rattle.smil_top.specs.Words.{usage_line}
 abbrev pub counted : List ℕ → List ℕ
 counted came = take INPUT_BYTES came
 
--- the whole transcript of a whole input, in which orders were refused or not, for faults and for want of memory
+-- the whole transcript of a whole input, in which orders were refused or not, for faults and since memory ran out
 abbrev pub IsWhole : List ℕ → List ℕ → Bool → Bool → Type 0
 IsWhole came text refused memory =
     (told : Told) × IsTranscript (orders (lines came)) told

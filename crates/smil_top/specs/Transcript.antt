@@ -8,12 +8,12 @@ use Rattle.smil_top.specs.declared.session.Session.{Session}
 use Rattle.smil_top.specs.Cut.{OrderLines, first_line}
 use Rattle.smil_top.specs.Answers.{Answer, IsAnswerWithin, refused_at}
 
--- an order is answered within limits, or refused for want of memory
+-- an order is answered within limits, or refused since memory ran out
 abbrev pub MayAnswerWithin : Limits → Session → OrderLines → Answer → Type 0
 MayAnswerWithin allowed session order answer =
     IsAnswerWithin allowed session order answer ⊎ (answer ≡ refused_at (first_line order) Memory)
 
--- the text so far, the session, whether an order was refused for a fault, and whether one was for want of memory
+-- the text so far, the session, whether an order was refused for a fault, and whether one was since memory ran out
 pub record Told : Type 0 where
   pub text : List ℕ
   pub session : Session

@@ -18,7 +18,7 @@ use std::alloc::Global;
 use std::sync::ledger::Ledger;
 
 /// A session between two lines: the load that hasn't ended, and whether an order was refused for a fault or
-/// for want of memory.
+/// since memory ran out.
 #[derive(Drop)]
 pub(crate) struct Run {
     pub session: Session,

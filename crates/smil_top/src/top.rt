@@ -23,7 +23,7 @@ const USAGE: &[u8] = b"usage: smilplay run | smilplay check | smilplay gen N\n";
 /// Reads the session's lines to the end of the input, and writes its transcript: the answer to each order is
 /// made whole and then written. The words are exactly `run`; any others write the usage line and answer
 /// `Words`. The answer is `Clean`, or `Refused` where an order was refused, or `Memory` where one was refused
-/// for want of memory. Where a read fails or the input is longer than `INPUT_BYTES`, the orders that were whole
+/// since memory ran out. Where a read fails or the input is longer than `INPUT_BYTES`, the orders that were whole
 /// before it were answered; where a write fails, a part of the transcript was written. `Memory` also comes where
 /// there is none for the reader's buffer, and then nothing was read and nothing written.
 pub fn serve<S: Source, K: Sink, L: Ledger>(
