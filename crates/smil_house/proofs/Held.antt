@@ -1,0 +1,32 @@
+-- The presentation of a name, and another in its place.
+use Rattle.std.proofs.Common.{◌≡◌, ℕ, ◌<◌, Bool, List, length, refl, sym, ap, subst, ◌∙◌}
+use Rattle.std.specs.Prelude.{Option, Some, slice_get, slice_set, slice_index_or, bytes_eq}
+use Rattle.std.proofs.lemmas.Option.{slice_get_read}
+use Rattle.std.proofs.lemmas.List.Quantifiers.{position-Some}
+use Rattle.smil_model.specs.declared.order.Order.{Order}
+use Rattle.smil_model.specs.shown.Orders.{Formats}
+use Rattle.smil_house.specs.declared.house.Held.{Held}
+use Rattle.smil_house.specs.House.{IsAt, IsTurned, place_of}
+
+-- what stands at the place that was found
+pub at_found : {P : Type 0} (name : List ℕ) (items held : List (Held P)) (found : Option ℕ) (place : ℕ) (h : Held P)
+    → items ≡ held → found ≡ place_of name held → found ≡ Some place → h ≡ slice_index_or items place h → IsAt name held place h
+at_found name items held found place h same is some here =
+    let at : place_of name held ≡ Some place = sym is ∙ some in
+    record {
+      found = at;
+      here = slice_get_read held (length held) place h refl (position-Some (λ x. bytes_eq x.name name) held place h at).0 (here ∙ ap (λ xs. slice_index_or xs place h) same);
+    }
+
+-- another player put in its place
+pub turned_to : {P : Type 0} (formats : P → Formats) (takes : P → Order → Bool) (name : List ℕ) (items held : List (Held P)) (found : Option ℕ) (place : ℕ) (h : Held P) (player : P)
+    → items ≡ held → found ≡ place_of name held → found ≡ Some place → h ≡ slice_index_or items place h
+    → formats player ≡ formats h.player → takes player ≡ takes h.player
+    → IsTurned formats takes name held (slice_set items place (record { name = h.name; player = player })) place h (record { name = h.name; player = player })
+turned_to formats takes name items held found place h player same is some here told taken = record {
+  at = at_found name items held found place h same is some here;
+  new_is = ap (λ xs. slice_set xs place (record { name = h.name; player = player })) same;
+  name_is = refl;
+  formats_are = told;
+  takes_are = taken;
+}

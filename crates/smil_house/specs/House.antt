@@ -1,0 +1,81 @@
+-- Presentations under their names.
+use Rattle.std.specs.Prelude.{◌≡◌, ℕ, ℤ, pos, ◌⊎◌, List, ◌+◌, ◌++◌, drop, take, length, Bool, true, Option, Some, None, Result, Ok, Err, bytes_eq, nat_lt, if◌then◌else◌, slice_get, slice_set, is_some}
+use Rattle.std.specs.List.{position}
+use Rattle.smil_model.specs.declared.limits.TheConstants.{PRESENTATIONS}
+use Rattle.smil_model.specs.declared.order.Order.{Order}
+use Rattle.smil_model.specs.declared.order.Refusal.{Refusal}
+use Rattle.smil_model.specs.declared.order.Refusal.TheVariants.{NameTaken, TooManyPresentations, NoPresentation}
+use Rattle.smil_model.specs.shown.Orders.{Formats, Presentation}
+use Rattle.smil_model.specs.shown.Answers.{Accepts, Refuses, AtLeast, AtMost, MayEvaluate}
+use Rattle.smil_house.specs.declared.house.Held.{Held}
+
+-- the place of the presentation of this name
+abbrev pub place_of : {P : Type 0} → List ℕ → List (Held P) → Option ℕ
+place_of name held = position (λ h. bytes_eq h.name name) held
+
+-- why no presentation may be loaded under this name
+abbrev pub load_refusal : {P : Type 0} → List ℕ → List (Held P) → Result Unit Refusal
+load_refusal name held =
+    if is_some (place_of name held) then Err NameTaken
+    else (if nat_lt (length held) PRESENTATIONS then Ok tt else Err TooManyPresentations)
+
+-- all but the one at a place
+abbrev pub without : {P : Type 0} → ℕ → List (Held P) → List (Held P)
+without place held = take place held ++ drop (place + 1) held
+
+-- the presentation of this name, where there is one, takes the order
+abbrev pub Takes : {P : Type 0} → (P → Order → Bool) → List ℕ → Order → List (Held P) → Type 0
+Takes {P = P} takes name given held = (place : ℕ) (h : Held P) → place_of name held ≡ Some place → slice_get held place ≡ Some h → takes h.player given ≡ true
+
+-- the presentation at a place, with its name
+pub record IsAt {P : Type 0} (name : List ℕ) (held : List (Held P)) (place : ℕ) (h : Held P) : Type 0 where
+  pub found : place_of name held ≡ Some place
+  pub here : slice_get held place ≡ Some h
+
+-- the player at a place is another one, by this name and with these formats and orders; all others are as before
+pub record IsTurned {P : Type 0} (formats : P → Formats) (takes : P → Order → Bool) (name : List ℕ) (old new : List (Held P)) (place : ℕ) (before after : Held P) : Type 0 where
+  pub at : IsAt name old place before
+  pub new_is : new ≡ slice_set old place after
+  pub name_is : after.name ≡ before.name
+  pub formats_are : formats after.player ≡ formats before.player
+  pub takes_are : takes after.player ≡ takes before.player
+
+-- the presentation of this name has answered an order, by this text and so many evaluations, and is at this moment
+pub record IsAnsweredBy {P : Type 0} (formats : P → Formats) (presentation : P → Presentation) (takes : P → Order → Bool) (least most : P → Order → Option ℕ) (name : List ℕ) (given : Order) (old new : List (Held P)) (text : List ℕ) (rise : ℕ) (moment : ℤ) : Type 0 where
+  pub place : ℕ
+  pub before : Held P
+  pub after : Held P
+  pub turned : IsTurned formats takes name old new place before after
+  pub accepted : Accepts (formats before.player) (presentation before.player) (presentation after.player) given text
+  pub moment_is : moment ≡ pos (presentation after.player).now
+  pub least_is : AtLeast (least before.player given) rise
+  pub most_is : AtMost (most before.player given) rise
+
+-- the presentation of this name is as it was
+pub record IsKeptBy {P : Type 0} (formats : P → Formats) (presentation : P → Presentation) (takes : P → Order → Bool) (name : List ℕ) (old new : List (Held P)) : Type 0 where
+  pub place : ℕ
+  pub before : Held P
+  pub after : Held P
+  pub turned : IsTurned formats takes name old new place before after
+  pub same : presentation after.player ≡ presentation before.player
+
+abbrev pub AreKept : {P : Type 0} → (P → Formats) → (P → Presentation) → (P → Order → Bool) → List ℕ → List (Held P) → List (Held P) → Type 0
+AreKept formats presentation takes name old new = (new ≡ old) ⊎ IsKeptBy formats presentation takes name old new
+
+-- it refuses the order
+pub record IsRefusedBy {P : Type 0} (formats : P → Formats) (presentation : P → Presentation) (most : P → Order → Option ℕ) (name : List ℕ) (given : Order) (old : List (Held P)) (rise : ℕ) (refusal : Refusal) : Type 0 where
+  pub place : ℕ
+  pub before : Held P
+  pub at : IsAt name old place before
+  pub refused : Refuses (formats before.player) (presentation before.player) given refusal
+  pub free : MayEvaluate (most before.player given) refusal rise
+
+-- there is none of this name, and nothing is evaluated
+pub record IsAbsent {P : Type 0} (name : List ℕ) (old : List (Held P)) (rise : ℕ) (refusal : Refusal) : Type 0 where
+  pub place_is : place_of name old ≡ None
+  pub refusal_is : refusal ≡ NoPresentation
+  pub none : rise ≡ 0
+
+abbrev pub IsRefused : {P : Type 0} → (P → Formats) → (P → Presentation) → (P → Order → Option ℕ) → List ℕ → Order → List (Held P) → ℕ → Refusal → Type 0
+IsRefused formats presentation most name given old rise refusal =
+    IsAbsent name old rise refusal ⊎ IsRefusedBy formats presentation most name given old rise refusal

@@ -1,0 +1,119 @@
+//! Presentations under their names.
+
+ghost use Rattle.std.specs.Prelude.{◌≡◌, ℕ, ◌≤◌, ◌-◌, ◌++◌, ◌∷◌, [], drop, length, Result, Ok, Err, None, Some, OnOk, OnErr, IfOk, IfErr};
+ghost use Rattle.smil_model.specs.declared.order.Refusal.TheVariants as refusal;
+ghost use Rattle.smil_model.specs.shown.Answers.{IsGiven};
+ghost use Rattle.smil_house.specs.House.{place_of, load_refusal, without, AreKept, IsAnsweredBy, IsRefused, Takes};
+
+use smil_model::{Bytes, Order, PRESENTATIONS, Player, Refusal, Steps};
+use std::alloc::{AllocError, Global};
+use std::marker::Model;
+use std::sync::ledger::Ledger;
+
+/// What keeps a presentation, under its name.
+#[derive(Drop)]
+pub struct Held<P> {
+    pub name: Bytes,
+    pub player: P,
+}
+
+/// At most `PRESENTATIONS` presentations, each under its name, seen as the list of them in the order in which they were loaded.
+#[derive(Drop)]
+pub struct House<P> {
+    held: Vec<Held<P>>,
+}
+
+impl<P> Model for House<P> {
+    ghost use Rattle.std.specs.Prelude.{List, length, ◌≤◌, vec_capacity};
+    ghost use Rattle.smil_model.specs.declared.limits.TheConstants.{PRESENTATIONS as the_most};
+    ghost use Rattle.smil_house.specs.declared.house.Held.{Held as AnyHeld};
+
+    ghost Value = { List (AnyHeld P) };
+
+    ghost view = { λ h. h.held.items };
+
+    ghost invariant = { λ h. (length h.held.items ≤ the_most) × (the_most ≤ vec_capacity h.held) };
+}
+
+impl<P: Player + Drop> House<P> {
+    /// No presentation, with room for `PRESENTATIONS`; unless memory runs out.
+    pub fn new(alloc: Global) -> Result<House<P>, AllocError>
+        ensures { IfOk result (λ house. house ≡ []) }
+    {
+        Ok(House {
+            held: Vec::with_capacity(alloc, PRESENTATIONS)?,
+        })
+    }
+
+    /// Whether a presentation may be loaded under this name. Refused with `NameTaken` where one is held under it, and else with
+    /// `TooManyPresentations` where there are `PRESENTATIONS` already. It takes no memory.
+    pub fn may_load(&self, name: &[u8]) -> Result<(), Refusal>
+        ensures { result ≡ load_refusal name.now self.now }
+    {
+        if self.place(name).is_some() {
+            Err(Refusal::NameTaken)
+        } else if self.held.len() == PRESENTATIONS {
+            Err(Refusal::TooManyPresentations)
+        } else {
+            Ok(())
+        }
+    }
+
+    /// Holds a presentation under this name, behind all others. It may be loaded. It takes no memory.
+    pub fn load(&mut self, name: Bytes, player: P)
+        requires { load_refusal name self.old ≡ Ok tt }
+        ensures { self.new ≡ self.old ++ record { name = name; player = player } ∷ [] }
+    {
+        self.held.push(Held { name, player }).unwrap();
+    }
+
+    /// Answers an order to the presentation of this name: appends its text but for the `ok` line, and gives its moment, in
+    /// milliseconds of document time. `NoPresentation` where there is none of this name, and else the first refusal of the
+    /// presentation, or `Memory`. All others stay as they are, and after a refusal all and the text are as before.
+    pub fn answer<L: Ledger>(
+        &mut self,
+        name: &[u8],
+        order: &Order,
+        out: &mut Bytes,
+        steps: &mut Steps<L>,
+    ) -> Result<i64, Refusal>
+        requires given { IsGiven order.now }
+        requires taken { Takes P.takes name.now order.now self.old }
+        ensures ok { IfOk result (IsAnsweredBy P.formats P.presentation P.takes P.least_steps P.most_steps name.now order.now self.old self.new (drop (length out.old) out.new) (steps.new - steps.old)) }
+        ensures appended { OnOk result (out.new ≡ out.old ++ drop (length out.old) out.new) }
+        ensures refused { IfErr result (IsRefused P.formats P.presentation P.most_steps name.now order.now self.old (steps.new - steps.old)) }
+        ensures kept { OnErr result (AreKept P.formats P.presentation P.takes name.now self.old self.new) }
+        ensures text { OnErr result (out.new ≡ out.old) }
+        ensures counted { steps.old ≤ steps.new }
+    {
+        let Some(place) = self.place(name) else {
+            return Err(Refusal::NoPresentation);
+        };
+        let player = &mut self.held[place].player;
+        if let Err(refusal) = player.answer(order, out, steps) {
+            return Err(refusal);
+        }
+        Ok(player.now())
+    }
+
+    /// Closes the presentation of this name. `NoPresentation` exactly where there is none, and then all is as before. It takes
+    /// no memory.
+    pub fn close(&mut self, name: &[u8]) -> Result<(), Refusal>
+        ensures absent { place_of name.now self.old ≡ None → result ≡ Err refusal.NoPresentation }
+        ensures closed { (place : ℕ) → place_of name.now self.old ≡ Some place → (result ≡ Ok tt) × (self.new ≡ without place self.old) }
+        ensures kept { OnErr result (self.new ≡ self.old) }
+    {
+        let Some(place) = self.place(name) else {
+            return Err(Refusal::NoPresentation);
+        };
+        self.held.remove(place);
+        Ok(())
+    }
+
+    // The place of the presentation of this name.
+    fn place(&self, name: &[u8]) -> Option<usize>
+        ensures { result ≡ place_of name.now self.now }
+    {
+        self.held.iter().position(|held| held.name.slice() == name)
+    }
+}

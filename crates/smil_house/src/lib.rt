@@ -1,0 +1,6 @@
+//! Many presentations, each under its name.
+#![tactic(auto)]
+
+pub mod house;
+
+pub use house::House;
