@@ -1,0 +1,5 @@
+pub mod Above
+pub mod Appending
+pub mod Cutting
+pub mod Finding
+pub mod Following

@@ -1,0 +1,5 @@
+pub mod Classing
+pub mod Listing
+pub mod Placing
+pub mod Taking
+pub mod Waiting
