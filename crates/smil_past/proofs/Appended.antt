@@ -1,0 +1,107 @@
+-- A diary with one entry more.
+use Rattle.std.proofs.Common.{◌≡◌, refl, sym, ◌∙◌, ap, subst, ℕ, ◌+◌, ◌-◌, ◌≤◌, List, [], ◌∷◌, ◌++◌, take, length, Option, Some, Bool, true, arith}
+use Rattle.std.specs.Prelude.{is_some}
+use Rattle.std.proofs.Math.Seq.{take-length}
+use Rattle.std.specs.List.{AllByRecursion}
+use Rattle.std.proofs.lemmas.List.{take-append-le, length_push}
+use Rattle.smil_model.specs.declared.limits.TheConstants.{DIARY_ENTRIES}
+use Rattle.smil_model.specs.declared.diary.Entry.{Entry}
+use Rattle.smil_model.specs.declared.diary.LogEntry.{LogEntry}
+use Rattle.smil_model.specs.document.Document.{Document}
+use Rattle.smil_model.specs.diary.Diary.{with_entry}
+use Rattle.smil_model.specs.diary.Lawful.{IsLawful}
+use Rattle.smil_laws.specs.Near.{AllNear, HasNear}
+use Rattle.smil_laws.specs.Cut.{IsNamedBelow, NamesBelow}
+use Rattle.smil_stretch.specs.Clocks.{AreClocksOf}
+use Rattle.smil_plays.specs.Played.{all_played}
+use Rattle.smil_queues.specs.Queues.{kept_queues}
+use Rattle.smil_instances.specs.Instances.{IsSettled}
+use Rattle.smil_past.specs.declared.kept.Kept.{Kept}
+use Rattle.smil_past.specs.Past.{Happened, IsPossible, MayFollow}
+use Rattle.smil_past.specs.Kept.{Holds, HoldsAt, HoldsAtMark, IsKeptOf, IsLast, history_by, kept_at}
+
+-- ---- lists
+
+pub each_push : {A : Type 0} (P : A → Type 0) (xs : List A) (y : A) → AllByRecursion P xs → P y → AllByRecursion P (xs ++ y ∷ [])
+each_push P [] y each last = (last, tt)
+each_push P (x ∷ xs) y each last = (each.0, each_push P xs y each.1 last)
+
+pub front_same : {A : Type 0} (xs ys : List A) (x y : A) → xs ++ x ∷ [] ≡ ys ++ y ∷ [] → xs ≡ ys
+front_same [] [] x y q = refl
+front_same [] (w ∷ []) x y q = let rest : [] ≡ y ∷ [] = cc in cc
+front_same [] (w ∷ v ∷ ys) x y q = let rest : [] ≡ v ∷ (ys ++ y ∷ []) = cc in cc
+front_same (z ∷ []) [] x y q = let rest : x ∷ [] ≡ [] = cc in cc
+front_same (z ∷ v ∷ xs) [] x y q = let rest : v ∷ (xs ++ x ∷ []) ≡ [] = cc in cc
+front_same (z ∷ xs) (w ∷ ys) x y q =
+    let rest : xs ++ x ∷ [] ≡ ys ++ y ∷ [] = cc in
+    let head : z ≡ w = cc in
+    ap (λ u. u ∷ xs) head ∙ ap (λ us. w ∷ us) (front_same xs ys x y rest)
+
+pub cut_last : {A : Type 0} (xs ys : List A) (y : A) (n : ℕ) → ys ≡ xs ++ y ∷ [] → n ≡ length ys → take (n - 1) ys ≡ xs
+cut_last xs ys y n is len =
+    let long : length ys ≡ length xs + 1 = ap length is ∙ length_push xs y in
+    let at : n - 1 ≡ length xs = omega (arith, len, long) in
+    ap (λ k. take k ys) at ∙ ap (take (length xs)) is ∙ take-append-le (length xs) xs (y ∷ []) (omega arith) ∙ take-length xs
+
+-- ---- what may have happened
+
+pub below_full : (n limit : ℕ) → n ≤ limit → (n ≡ limit → ⊥) → n + 1 ≤ limit
+below_full n limit few other = omega (arith, few, other)
+
+pub possible_push : (document : Document) (log : List LogEntry) (diary : List Entry) (y : Entry) → IsPossible document log diary → IsLawful (with_entry (history_by document log diary) y) → HasNear y.step → IsNamedBelow (length log) y.step → length diary + 1 ≤ DIARY_ENTRIES → IsPossible document log (diary ++ y ∷ [])
+possible_push document log diary y possible lawful near named few = record {
+  valid = possible.valid;
+  lawful = lawful;
+  near = each_push (λ (x : Entry). HasNear x.step) diary y possible.near near;
+  named = each_push (λ (x : Entry). IsNamedBelow (length log) x.step) diary y possible.named named;
+  few = omega (arith, few, length_push diary y);
+}
+
+-- the entry is the last one of the longer diary
+pub is_last : (document : Document) (log : List LogEntry) (diary more : List Entry) (y : Entry) (kept : Kept) → IsKeptOf kept document log diary → IsLawful (with_entry (history_by document log diary) y) → HasNear y.step → more ≡ diary ++ y ∷ [] → IsLast kept y document log more
+is_last document log diary more y kept known lawful near is = record {
+  before = diary;
+  diary_is = is;
+  kept_is = known;
+  lawful = lawful;
+  near = near;
+}
+
+-- what is kept of the longer diary, by what is kept of it with one entry more
+pub taken_in : (document : Document) (log : List LogEntry) (before diary : List Entry) (y : Entry) (kept : Kept) → diary ≡ before ++ y ∷ [] → AreClocksOf kept.clocks (with_entry (history_by document log before) y) → kept.plays ≡ all_played (with_entry (history_by document log before) y) → kept.queues ≡ kept_queues (with_entry (history_by document log before) y) → IsSettled kept.instances document log diary → IsKeptOf kept document log diary
+taken_in document log before diary y kept is clocks plays queues instances =
+    subst (λ ds. IsKeptOf kept document log ds) (sym is)
+    (record {
+      clocks_are = clocks;
+      plays_are = plays;
+      queues_are = queues;
+      instances_are = subst (λ ds. IsSettled kept.instances document log ds) is instances;
+    })
+
+-- what was kept at the mark is not changed by one entry more
+pub mark_push : (document : Document) (log : List LogEntry) (diary : List Entry) (y : Entry) (kept : Kept) (marked : Option (ℕ × ℕ)) → HoldsAtMark document log diary kept marked → HoldsAtMark document log (diary ++ y ∷ []) kept marked
+mark_push document log diary y kept marked holds = λ mark is.
+    let at = holds mark is in
+    record {
+      log_within = at.log_within;
+      diary_within = omega (arith, at.diary_within, length_push diary y);
+      held = subst (λ ds. Holds document (take mark.0 log) ds kept) (sym (take-append-le mark.1 diary (y ∷ []) at.diary_within)) at.held;
+    }
+
+-- ---- the same values
+
+pub holds_by : (document : Document) (log : List LogEntry) (diary now : List Entry) (kept other : Kept) → now ≡ diary → other ≡ kept → Holds document log diary kept → Holds document log now other
+holds_by document log diary now kept other is same holds =
+    subst (λ ds. Holds document log ds other) (sym is) (subst (λ k. Holds document log diary k) (sym same) holds)
+
+pub holds_now : (document : Document) (log : List LogEntry) (diary now : List Entry) (kept : Kept) → now ≡ diary → IsPossible document log diary → IsKeptOf kept document log now → Holds document log now kept
+holds_now document log diary now kept is possible known = record { possible = subst (IsPossible document log) (sym is) possible; kept_is = known }
+
+pub mark_by : (document : Document) (log : List LogEntry) (diary now : List Entry) (kept : Kept) (marked : Option (ℕ × ℕ)) → now ≡ diary → HoldsAtMark document log diary kept marked → HoldsAtMark document log now kept marked
+mark_by document log diary now kept marked is holds = subst (λ ds. HoldsAtMark document log ds kept marked) (sym is) holds
+
+-- where a mark stands, what was kept there was noted
+pub noted_at : (document : Document) (log : List LogEntry) (diary : List Entry) (kept now : Kept) (noted : Option Kept) (marked : Option (ℕ × ℕ)) (stands : Bool) → stands ≡ is_some marked → (stands ≡ true → noted ≡ Some kept) → HoldsAtMark document log diary kept marked → HoldsAtMark document log diary (kept_at noted now) marked
+noted_at document log diary kept now noted marked stands at noting holds = λ mark is.
+    let some : stands ≡ true = at ∙ ap is_some is in
+    subst (λ n. HoldsAt document log diary (kept_at n now) mark) (sym (noting some)) (holds mark is)

@@ -1,0 +1,232 @@
+-- A log of which the diary does not name the last entries.
+use Rattle.std.proofs.Common.{◌≡◌, refl, sym, ◌∙◌, ap, subst, ℕ, suc, zero, ◌<◌, ◌≤◌, ◌+◌, List, [], ◌∷◌, ◌++◌, take, length, length-append, Option, Some, None, arith}
+use Rattle.std.specs.Prelude.{All, fold, map, unwrap_or, slice_get}
+use Rattle.std.proofs.Math.Seq.{take-length}
+use Rattle.std.proofs.lemmas.List.{take-append-le}
+use Rattle.smil_model.specs.declared.times.Time.{Time}
+use Rattle.smil_model.specs.declared.times.Time.TheVariants as time
+use Rattle.smil_model.specs.declared.diary.Entry.{Entry}
+use Rattle.smil_model.specs.declared.diary.LogEntry.{LogEntry}
+use Rattle.smil_model.specs.declared.diary.Step.{Step}
+use Rattle.smil_model.specs.declared.diary.Step.TheVariants.{Began, Repeated, Ended, Cut, Paused, Resumed, Deferred, Passed, Logged}
+use Rattle.smil_model.specs.declared.document.Node.{Node}
+use Rattle.smil_model.specs.declared.document.Edge.{Edge}
+use Rattle.smil_model.specs.declared.document.Edge.TheVariants.{Begin, End}
+use Rattle.smil_model.specs.declared.document.Item.{Item}
+use Rattle.smil_model.specs.document.Document.{Document, elements}
+use Rattle.smil_model.specs.document.Defaults.{begin_list, end_list}
+use Rattle.smil_model.specs.interval.Current.{length_of, length_after, media_length}
+use Rattle.smil_laws.specs.Cut.{IsNamedBelow, NamesBelow}
+use Rattle.smil_plays.specs.declared.played.Played.{Played}
+use Rattle.smil_plays.specs.Played.{played, all_played}
+use Rattle.smil_instance_rows.specs.Rows.{Row}
+use Rattle.smil_instances.specs.Laws.{IsSameHeard}
+use Rattle.smil_instances.specs.SettledTimes.{instances_of, row_of, settled_rows}
+use Rattle.smil_instances.proofs.Logs.{kept_grown}
+use Rattle.smil_past.specs.declared.kept.Kept.{Kept}
+use Rattle.smil_past.specs.Past.{IsPossible}
+use Rattle.smil_past.specs.Kept.{Holds, HoldsAt, HoldsAtMark, IsKeptOf, history_by}
+
+-- ---- what is named
+
+get_longer : (log more : List LogEntry) (place : ℕ) → place < length log → slice_get (log ++ more) place ≡ slice_get log place
+get_longer [] more place below = absurd (omega (arith, below))
+get_longer (x ∷ xs) more zero below = refl
+get_longer (x ∷ xs) more (suc place) below = get_longer xs more place (omega (arith, below))
+
+heard_alike : (log more : List LogEntry) (step : Step) → IsNamedBelow (length log) step → IsSameHeard log (log ++ more) step
+heard_alike log more (Logged place) named = get_longer log more place named
+heard_alike log more (Began who begin) named = tt
+heard_alike log more (Repeated who start) named = tt
+heard_alike log more (Ended who end') named = tt
+heard_alike log more (Cut who) named = tt
+heard_alike log more (Paused who) named = tt
+heard_alike log more (Resumed who) named = tt
+heard_alike log more (Deferred who begin) named = tt
+heard_alike log more (Passed who begin) named = tt
+
+all_alike : (log more : List LogEntry) (diary : List Entry) → NamesBelow (length log) diary → All (λ (z : Entry). IsSameHeard log (log ++ more) z.step) diary
+all_alike log more [] named k d below = absurd (omega (arith, below))
+all_alike log more (x ∷ xs) named zero d below = heard_alike log more x.step named.0
+all_alike log more (x ∷ xs) named (suc k) d below = all_alike log more xs named.1 k d (omega (arith, below))
+
+-- a step that names no place from this one on names none from a greater one on
+named_further : (place more : ℕ) (step : Step) → place ≤ more → IsNamedBelow place step → IsNamedBelow more step
+named_further place more (Logged named) further below = omega (arith, further, below)
+named_further place more (Began who begin) further below = tt
+named_further place more (Repeated who start) further below = tt
+named_further place more (Ended who end') further below = tt
+named_further place more (Cut who) further below = tt
+named_further place more (Paused who) further below = tt
+named_further place more (Resumed who) further below = tt
+named_further place more (Deferred who begin) further below = tt
+named_further place more (Passed who begin) further below = tt
+
+pub names_further : (place more : ℕ) (diary : List Entry) → place ≤ more → NamesBelow place diary → NamesBelow more diary
+names_further place more [] further named = tt
+names_further place more (x ∷ xs) further named = (named_further place more x.step further named.0, names_further place more xs further named.1)
+
+-- ---- what is kept
+
+length_same : (log more : List LogEntry) (s : ℕ) (before : Option Time) (step : Step) → IsNamedBelow (length log) step → length_after (log ++ more) s before step ≡ length_after log s before step
+length_same log more s before (Logged place) named = ap (λ o. length_of s o before) (get_longer log more place named)
+length_same log more s before (Began who begin) named = refl
+length_same log more s before (Repeated who start) named = refl
+length_same log more s before (Ended who end') named = refl
+length_same log more s before (Cut who) named = refl
+length_same log more s before (Paused who) named = refl
+length_same log more s before (Resumed who) named = refl
+length_same log more s before (Deferred who begin) named = refl
+length_same log more s before (Passed who begin) named = refl
+
+lengths_same : (log more : List LogEntry) (s : ℕ) (before : Option Time) (xs : List Entry) → NamesBelow (length log) xs → fold (λ b (x : Entry). length_after (log ++ more) s b x.step) before xs ≡ fold (λ b (x : Entry). length_after log s b x.step) before xs
+lengths_same log more s before [] named = refl
+lengths_same log more s before (x ∷ xs) named =
+    ap (λ b. fold (λ b (x : Entry). length_after (log ++ more) s b x.step) b xs) (length_same log more s before x.step named.0)
+    ∙ lengths_same log more s (length_after log s before x.step) xs named.1
+
+module _ (document : Document) (log more : List LogEntry) (diary : List Entry) (named : NamesBelow (length log) diary) where
+  media_same : (s : ℕ) → media_length (history_by document (log ++ more) diary) s ≡ media_length (history_by document log diary) s
+  media_same s = ap (λ o. unwrap_or o time.Unresolved) (lengths_same log more s None diary named)
+
+  played_same : (s : ℕ) → played (history_by document (log ++ more) diary) s ≡ played (history_by document log diary) s
+  played_same s = ap (λ t. record (played (history_by document log diary) s) { length = t }) (media_same s)
+
+  abbrev play_row : List LogEntry → Node → ℕ × Played
+  play_row l e = (e.serial, played (history_by document l diary) e.serial)
+
+  plays_same : (es : List Node) → map (play_row (log ++ more)) es ≡ map (play_row log) es
+  plays_same [] = refl
+  plays_same (e ∷ es) =
+      ap (λ p. (e.serial, p) ∷ map (play_row (log ++ more)) es) (played_same e.serial) ∙ ap (λ rows. play_row log e ∷ rows) (plays_same es)
+
+  pub plays_longer : all_played (history_by document (log ++ more) diary) ≡ all_played (history_by document log diary)
+  plays_longer = plays_same (elements document.nodes)
+
+  item_same : (e : Node) (side : Edge) (item : Item) → instances_of (history_by document (log ++ more) diary) e side item ≡ instances_of (history_by document log diary) e side item
+  item_same e side item = kept_grown (history_by document log diary) (log ++ more) e side item (all_alike log more diary named)
+
+  items_same : (e : Node) (side : Edge) (is : List Item) → map (instances_of (history_by document (log ++ more) diary) e side) is ≡ map (instances_of (history_by document log diary) e side) is
+  items_same e side [] = refl
+  items_same e side (i ∷ is) =
+      ap (λ ts. ts ∷ map (instances_of (history_by document (log ++ more) diary) e side) is) (item_same e side i)
+      ∙ ap (λ rest. instances_of (history_by document log diary) e side i ∷ rest) (items_same e side is)
+
+  row_same : (e : Node) → row_of (history_by document (log ++ more) diary) e ≡ row_of (history_by document log diary) e
+  row_same e =
+      ap (λ ts. record (row_of (history_by document (log ++ more) diary) e) { begins = ts }) (items_same e Begin (begin_list document.nodes e))
+      ∙ ap (λ ts. record (row_of (history_by document log diary) e) { ends = ts }) (items_same e End (end_list e))
+
+  rows_same : (es : List Node) → map (row_of (history_by document (log ++ more) diary)) es ≡ map (row_of (history_by document log diary)) es
+  rows_same [] = refl
+  rows_same (e ∷ es) =
+      ap (λ r. r ∷ map (row_of (history_by document (log ++ more) diary)) es) (row_same e)
+      ∙ ap (λ rows. row_of (history_by document log diary) e ∷ rows) (rows_same es)
+
+  pub rows_longer : settled_rows (history_by document (log ++ more) diary) ≡ settled_rows (history_by document log diary)
+  rows_longer = rows_same (elements document.nodes)
+
+  -- the same is kept with the longer log and with the shorter
+  pub kept_longer : (kept : Kept) → IsKeptOf kept document log diary → IsKeptOf kept document (log ++ more) diary
+  kept_longer kept known = record {
+    clocks_are = record {
+      next = known.clocks_are.next;
+      document = known.clocks_are.document;
+      lawful = record { moments = known.clocks_are.lawful.moments; steps = known.clocks_are.lawful.steps };
+      value = known.clocks_are.value;
+    };
+    plays_are = known.plays_are ∙ sym plays_longer;
+    queues_are = known.queues_are;
+    instances_are = record {
+      rows = known.instances_are.rows ∙ sym rows_longer;
+      dependents = known.instances_are.dependents;
+    };
+  }
+
+  pub kept_shorter : (kept : Kept) → IsKeptOf kept document (log ++ more) diary → IsKeptOf kept document log diary
+  kept_shorter kept known = record {
+    clocks_are = record {
+      next = known.clocks_are.next;
+      document = known.clocks_are.document;
+      lawful = record { moments = known.clocks_are.lawful.moments; steps = known.clocks_are.lawful.steps };
+      value = known.clocks_are.value;
+    };
+    plays_are = known.plays_are ∙ plays_longer;
+    queues_are = known.queues_are;
+    instances_are = record {
+      rows = known.instances_are.rows ∙ rows_longer;
+      dependents = known.instances_are.dependents;
+    };
+  }
+
+  pub possible_longer : IsPossible document log diary → IsPossible document (log ++ more) diary
+  possible_longer possible = record {
+    valid = possible.valid;
+    lawful = record { moments = possible.lawful.moments; steps = possible.lawful.steps };
+    near = possible.near;
+    named = names_further (length log) (length (log ++ more)) diary (omega (arith, length-append log more)) possible.named;
+    few = possible.few;
+  }
+
+  pub possible_shorter : IsPossible document (log ++ more) diary → IsPossible document log diary
+  possible_shorter possible = record {
+    valid = possible.valid;
+    lawful = record { moments = possible.lawful.moments; steps = possible.lawful.steps };
+    near = possible.near;
+    named = named;
+    few = possible.few;
+  }
+
+  pub holds_longer : (kept : Kept) → Holds document log diary kept → Holds document (log ++ more) diary kept
+  holds_longer kept holds = record { possible = possible_longer holds.possible; kept_is = kept_longer kept holds.kept_is }
+
+  pub holds_shorter : (kept : Kept) → Holds document (log ++ more) diary kept → Holds document log diary kept
+  holds_shorter kept holds = record { possible = possible_shorter holds.possible; kept_is = kept_shorter kept holds.kept_is }
+
+-- ---- at a mark
+
+-- the marked part of a log is not changed by what comes after it
+pub mark_longer : (document : Document) (log more : List LogEntry) (diary : List Entry) (kept : Kept) (marked : Option (ℕ × ℕ)) → HoldsAtMark document log diary kept marked → HoldsAtMark document (log ++ more) diary kept marked
+mark_longer document log more diary kept marked holds = λ mark is.
+    let at = holds mark is in
+    record {
+      log_within = omega (arith, at.log_within, length-append log more);
+      diary_within = at.diary_within;
+      held = subst (λ l. Holds document l (take mark.1 diary) kept) (sym (take-append-le mark.0 log more at.log_within)) at.held;
+    }
+
+-- nor by what was taken away, where the mark lies before it
+pub mark_shorter : (document : Document) (log more : List LogEntry) (diary : List Entry) (kept : Kept) (marked : Option (ℕ × ℕ)) → ((mark : ℕ × ℕ) → marked ≡ Some mark → mark.0 ≤ length log) → HoldsAtMark document (log ++ more) diary kept marked → HoldsAtMark document log diary kept marked
+mark_shorter document log more diary kept marked within holds = λ mark is.
+    let at = holds mark is in
+    let low = within mark is in
+    record {
+      log_within = low;
+      diary_within = at.diary_within;
+      held = subst (λ l. Holds document l (take mark.1 diary) kept) (take-append-le mark.0 log more low) at.held;
+    }
+
+-- ---- one log entry more, and one less
+
+pub heard : (document : Document) (log now : List LogEntry) (entry : LogEntry) (diary : List Entry) (kept : Kept) → now ≡ log ++ entry ∷ [] → Holds document log diary kept → Holds document now diary kept
+heard document log now entry diary kept is holds =
+    subst (λ l. Holds document l diary kept) (sym is) (holds_longer document log (entry ∷ []) diary holds.possible.named kept holds)
+
+pub mark_heard : (document : Document) (log now : List LogEntry) (entry : LogEntry) (diary : List Entry) (kept : Kept) (marked : Option (ℕ × ℕ)) → now ≡ log ++ entry ∷ [] → HoldsAtMark document log diary kept marked → HoldsAtMark document now diary kept marked
+mark_heard document log now entry diary kept marked is holds =
+    subst (λ l. HoldsAtMark document l diary kept marked) (sym is) (mark_longer document log (entry ∷ []) diary kept marked holds)
+
+pub unheard : (document : Document) (log full now : List LogEntry) (entry : LogEntry) (diary : List Entry) (kept : Kept) → full ≡ log ++ entry ∷ [] → now ≡ log → NamesBelow (length log) diary → Holds document full diary kept → Holds document now diary kept
+unheard document log full now entry diary kept is cut named holds =
+    subst (λ l. Holds document l diary kept) (sym cut)
+    (holds_shorter document log (entry ∷ []) diary named kept (subst (λ l. Holds document l diary kept) is holds))
+
+pub mark_unheard : (document : Document) (log full now : List LogEntry) (entry : LogEntry) (diary : List Entry) (kept : Kept) (marked : Option (ℕ × ℕ)) → full ≡ log ++ entry ∷ [] → now ≡ log → ((mark : ℕ × ℕ) → marked ≡ Some mark → mark.0 ≤ length log) → HoldsAtMark document full diary kept marked → HoldsAtMark document now diary kept marked
+mark_unheard document log full now entry diary kept marked is cut within holds =
+    subst (λ l. HoldsAtMark document l diary kept marked) (sym cut)
+    (mark_shorter document log (entry ∷ []) diary kept marked within (subst (λ l. HoldsAtMark document l diary kept marked) is holds))
+
+-- what is left of a log when its last entry is taken away
+pub cut_heard : (log full now : List LogEntry) (entry : LogEntry) (place : ℕ) → full ≡ log ++ entry ∷ [] → place ≡ length log → now ≡ take place full → now ≡ log
+cut_heard log full now entry place is at cut =
+    cut ∙ ap (take place) is ∙ ap (λ k. take k (log ++ entry ∷ [])) at ∙ take-append-le (length log) log (entry ∷ []) (omega arith) ∙ take-length log

@@ -1,0 +1,4 @@
+pub mod Appended
+pub mod Copied
+pub mod Fronts
+pub mod Grown

@@ -1,0 +1,26 @@
+use Rattle.std.proofs.Common.{◌≡◌, refl, sym, []}
+use Rattle.std.proofs.lemmas.Result.{IfOk-at_ok}
+use Rattle.smil_stretch.specs.Clocks.{AreClocksOf}
+use Rattle.smil_plays.specs.Played.{all_played}
+use Rattle.smil_queues.specs.Queues.{kept_queues}
+use Rattle.smil_instances.specs.Instances.{IsSettled}
+use Rattle.smil_past.specs.Kept.{history_by}
+use Rattle.smil_past.proofs.kept.Kept.new.Goals as goal
+
+pub of-requires : goal.of-requires
+of-requires c = record {
+  past = history_by c.args.tree.now [] [];
+  history = record { same_nodes = refl; same_diary = sym c.new-book.ensures; lawful = record { moments = refl; steps = tt } };
+}
+
+pub returns : goal.returns
+returns c = λ log.
+    let h = history_by c.args.tree.now log [] in
+    record {
+      clocks_are =
+          IfOk-at_ok (λ clocks. AreClocksOf clocks h) c.in_ok-of.was
+          (c.of.ensures h (record { same_nodes = refl; same_diary = sym c.new-book.ensures; lawful = record { moments = refl; steps = tt } }));
+      plays_are = IfOk-at_ok (λ plays. plays ≡ all_played h) c.in_ok-new.was (c.new.ensures h refl);
+      queues_are = IfOk-at_ok (λ queues. queues ≡ kept_queues h) c.in_ok-new-2.was (c.new-2.ensures log);
+      instances_are = IfOk-at_ok (λ value. IsSettled value c.args.tree.now log []) c.in_ok-new-3.was (c.new-3.ensures log);
+    }

@@ -1,0 +1,75 @@
+-- What has happened in a presentation, and what is read off it.
+use Rattle.std.specs.Prelude.{◌≡◌, ℕ, ◌≤◌, ℤ, pos, ◌≤ℤ◌, List, ◌∷◌, [], ◌++◌, length, take, Option, None}
+use Rattle.smil_model.specs.declared.times.TheConstants.{HORIZON}
+use Rattle.smil_model.specs.declared.limits.TheConstants.{DIARY_ENTRIES}
+use Rattle.smil_model.specs.declared.diary.Entry.{Entry}
+use Rattle.smil_model.specs.declared.diary.LogEntry.{LogEntry}
+use Rattle.smil_model.specs.declared.diary.Step.TheVariants.{Logged}
+use Rattle.smil_model.specs.declared.document.Node.{Node}
+use Rattle.smil_model.specs.document.Document.{Document}
+use Rattle.smil_model.specs.document.Valid.{IsValid}
+use Rattle.smil_model.specs.diary.Diary.{History}
+use Rattle.smil_model.specs.diary.Lawful.{IsLawful}
+use Rattle.smil_model.specs.diary.Clocks.{until}
+use Rattle.smil_model.specs.diary.Diary.{with_entry}
+use Rattle.smil_laws.specs.Near.{AllNear, HasNear}
+use Rattle.smil_laws.specs.Cut.{IsNamedBelow, NamesBelow}
+
+-- a document, its log and its diary; and how long log and diary were where a mark stands
+pub record Happened : Type 0 where
+  pub document : Document
+  pub log : List LogEntry
+  pub diary : List Entry
+  pub marked : Option (ℕ × ℕ)
+
+abbrev pub history_of : Happened → History
+history_of past = record { nodes = past.document.nodes; log = past.log; diary = past.diary }
+
+-- the past without what came after its first entries
+abbrev pub front : Happened → ℕ → History
+front past len = record { nodes = past.document.nodes; log = past.log; diary = take len past.diary }
+
+-- what can have happened to a document: a lawful diary with numbers near 0, which names entries of the log
+pub record IsPossible (document : Document) (log : List LogEntry) (diary : List Entry) : Type 0 where
+  pub valid : IsValid document
+  pub lawful : IsLawful (record { nodes = document.nodes; log = log; diary = diary })
+  pub near : AllNear diary
+  pub named : NamesBelow (length log) diary
+  pub few : length diary ≤ DIARY_ENTRIES
+
+-- an entry that may follow
+pub record MayFollow (past : Happened) (entry : Entry) : Type 0 where
+  pub lawful : IsLawful (with_entry (history_of past) entry)
+  pub near : HasNear entry.step
+  pub named : IsNamedBelow (length past.log) entry.step
+
+-- a moment that is not before the last entry, up to the horizon
+pub record IsPresent (past : Happened) (now : ℤ) : Type 0 where
+  pub past_is : until now past.diary ≡ past.diary
+  pub from : pos 0 ≤ℤ now
+  pub within : now ≤ℤ HORIZON
+
+abbrev pub logged_entry : ℕ → ℤ → Entry
+logged_entry place moment = record { moment = moment; step = Logged place }
+
+-- a log entry that may be heard
+pub record MayHear (past : Happened) (entry : LogEntry) : Type 0 where
+  pub lawful : IsLawful (record { nodes = past.document.nodes; log = past.log ++ entry ∷ []; diary = past.diary ++ logged_entry (length past.log) entry.moment ∷ [] })
+  pub near : AllNear past.diary
+  pub named : NamesBelow (length past.log) past.diary
+
+abbrev pub with_diary : Happened → List Entry → Happened
+with_diary past diary = record { document = past.document; log = past.log; diary = diary; marked = past.marked }
+
+-- the log entry was heard
+abbrev pub with_heard : Happened → LogEntry → Happened
+with_heard past entry = record {
+  document = past.document;
+  log = past.log ++ entry ∷ [];
+  diary = past.diary ++ logged_entry (length past.log) entry.moment ∷ [];
+  marked = past.marked;
+}
+
+-- the past at the mark
+abbrev pub at_mark : Happened → ℕ × ℕ → Happened
+at_mark past mark = record { document = past.document; log = take mark.0 past.log; diary = take mark.1 past.diary; marked = None }
