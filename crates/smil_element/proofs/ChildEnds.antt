@@ -1,0 +1,91 @@
+-- The ends of time children, and implicit durations.
+use Rattle.std.proofs.Common.{◌≡◌, refl, sym, ◌∙◌, ap, ℕ, ℤ, List, Bool, true, false}
+use Rattle.std.specs.Prelude.{Option, None, Some, if◌then◌else◌, not, ◌||◌, map, option_map}
+use Rattle.std.specs.Option.{option_or}
+use Rattle.std.specs.List.{last_or}
+use Rattle.smil_model.specs.declared.times.Time.{Time}
+use Rattle.smil_model.specs.declared.times.Time.TheVariants.{At, Unresolved}
+use Rattle.smil_model.specs.declared.interval.Interval.{Interval}
+use Rattle.smil_model.specs.declared.interval.ChildEnd.{ChildEnd}
+use Rattle.smil_model.specs.declared.document.Node.{Node}
+use Rattle.smil_model.specs.declared.document.Endsync.{Endsync}
+use Rattle.smil_model.specs.declared.document.Kind.{Kind}
+use Rattle.smil_model.specs.declared.document.Kind.TheVariants.{Par, Seq, Excl, PriorityClass, Audio, Video, Animation, TextStream, Ref, Img, Text, Brush, Set}
+use Rattle.smil_model.specs.document.Document.{is_class_kind, is_container_kind, is_continuous, time_children}
+use Rattle.smil_model.specs.document.Defaults.{endsync_of}
+use Rattle.smil_model.specs.diary.Diary.{History, is_active, is_deferred}
+use Rattle.smil_model.specs.diary.Clocks.{iteration_start}
+use Rattle.smil_model.specs.diary.Plays.{Finished, first_of, plays}
+use Rattle.smil_model.specs.interval.Current.{child_end, container_implicit, finish_time, implicit_of, is_named_child, media_length}
+use Rattle.smil_model.specs.interval.Durations.{container_duration}
+use Rattle.smil_plays.specs.declared.played.PastInterval.{PastInterval}
+use Rattle.smil_plays.specs.declared.played.Played.{Played}
+use Rattle.smil_plays.specs.Played.{past_interval, played}
+
+abbrev pub coming_of : (ℕ → Option Interval) → ℕ → Option Time
+coming_of intervals s = option_map (λ (i : Interval). i.«end») (intervals s)
+
+abbrev pub finish_in : Option PastInterval → Option Time
+finish_in past = option_map (λ (f : PastInterval). At f.finish) past
+
+abbrev pub unless_deferred : Bool → Option Time → Option Time
+unless_deferred deferred last = if deferred then Some Unresolved else last
+
+module _ (h : History) (intervals : ℕ → Option Interval) (e n : Node) (child : ℕ) (serial : n.serial ≡ child) (kept : Played) (kept_is : kept ≡ played h child) where
+  finishes : (o : Option Finished) → finish_in (option_map (past_interval h child) o) ≡ option_map finish_time o
+  finishes None = refl
+  finishes (Some f) = refl
+
+  first_told : (coming first : Option Time) → coming ≡ coming_of intervals child → first ≡ option_or (finish_in kept.first_finished) coming → first ≡ (child_end h intervals e n).first
+  first_told coming first coming_is first_is =
+      first_is
+      ∙ (λ i. option_or (finish_in (kept_is i).first_finished) (coming_is i))
+      ∙ ap (λ o. option_or o (coming_of intervals child)) (finishes (first_of (plays h child).finished))
+      ∙ ap (λ s. option_or (option_map finish_time (first_of (plays h s).finished)) (coming_of intervals s)) (sym serial)
+
+  latest_told : (coming latest : Option Time) (deferred : Bool) → coming ≡ coming_of intervals child → deferred ≡ is_deferred h child → latest ≡ option_or coming (unless_deferred deferred (finish_in kept.last_finished)) → latest ≡ (child_end h intervals e n).latest
+  latest_told coming latest deferred coming_is deferred_is latest_is =
+      latest_is
+      ∙ (λ i. option_or (coming_is i) (unless_deferred (deferred_is i) (finish_in (kept_is i).last_finished)))
+      ∙ ap (λ o. option_or (coming_of intervals child) (unless_deferred (is_deferred h child) o)) (finishes (last_or None (plays h child).finished))
+      ∙ ap (λ s. option_or (coming_of intervals s) (unless_deferred (is_deferred h s) (option_map finish_time (last_or None (plays h s).finished)))) (sym serial)
+
+  pub child_told : (named : Bool) (coming first latest : Option Time) (deferred : Bool) → named ≡ is_named_child e.attrs.endsync n → coming ≡ coming_of intervals child → deferred ≡ is_deferred h child → first ≡ option_or (finish_in kept.first_finished) coming → latest ≡ option_or coming (unless_deferred deferred (finish_in kept.last_finished)) → record { named = named; first = first; latest = latest } ≡ child_end h intervals e n
+  child_told named coming first latest deferred named_is coming_is deferred_is first_is latest_is =
+      λ i. record {
+        named = named_is i;
+        first = first_told coming first coming_is first_is i;
+        latest = latest_told coming latest deferred coming_is deferred_is latest_is i;
+      }
+
+-- ---- implicit durations
+
+module _ (h : History) (intervals : ℕ → Option Interval) (e : Node) where
+  abbrev container_by : Bool → Time
+  container_by active =
+      if active
+      then container_duration e.kind (endsync_of e.attrs) (iteration_start h e.serial) (map (child_end h intervals e) (time_children h.nodes e.serial))
+      else Unresolved
+
+  pub idle_container : is_active h.diary e.serial ≡ false → Unresolved ≡ container_implicit h intervals e
+  idle_container idle = ap container_by (sym idle)
+
+  pub active_container : (kind : Kind) (endsync : Endsync) (start : ℤ) (children : List ChildEnd) → is_active h.diary e.serial ≡ true → kind ≡ e.kind → endsync ≡ endsync_of e.attrs → start ≡ iteration_start h e.serial → children ≡ map (child_end h intervals e) (time_children h.nodes e.serial) → container_duration kind endsync start children ≡ container_implicit h intervals e
+  active_container kind endsync start children active kind_is endsync_is start_is children_are =
+      (λ i. container_duration (kind_is i) (endsync_is i) (start_is i) (children_are i)) ∙ ap container_by (sym active)
+
+  -- what is no container and has no length by its kind has that of its media
+  pub media_told : (kind : Kind) → is_container_kind kind ≡ false → false ≡ not (is_container_kind kind || is_continuous kind || is_class_kind kind) → media_length h e.serial ≡ implicit_of h intervals e kind
+  media_told Par container known = absurd (cc)
+  media_told Seq container known = absurd (cc)
+  media_told Excl container known = absurd (cc)
+  media_told PriorityClass container known = refl
+  media_told Audio container known = refl
+  media_told Video container known = refl
+  media_told Animation container known = refl
+  media_told TextStream container known = refl
+  media_told Ref container known = refl
+  media_told Img container known = absurd (cc)
+  media_told Text container known = absurd (cc)
+  media_told Brush container known = absurd (cc)
+  media_told Set container known = absurd (cc)

@@ -1,0 +1,13 @@
+pub mod Present
+pub mod Told
+pub mod FactParts
+pub mod Keys
+pub mod Ancestors
+pub mod Near
+pub mod Siblings
+pub mod Views
+pub mod NextChild
+pub mod Awaited
+pub mod ChildEnds
+pub mod Known
+pub mod Latest

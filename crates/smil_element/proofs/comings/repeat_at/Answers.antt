@@ -1,0 +1,52 @@
+use Rattle.std.proofs.Common.{◌≡◌, ◌∙◌, sym, ap, arith}
+use Rattle.std.proofs.lemmas.Int.{ints, to_z-of_z}
+use mir.Syntax.{w64}
+use mir.Val.{to_z, of_z}
+use Rattle.smil_model.specs.diary.Clocks.{run}
+use Rattle.smil_instances.proofs.Sensitive.{serial_is}
+use Rattle.smil_past.specs.Past.{history_of}
+use Rattle.smil_model.specs.Times.{IsNear, later_time}
+use Rattle.smil_model.specs.diary.Clocks.{iteration_start}
+use Rattle.smil_model.specs.happening.Keys.{coming_repeat_at}
+use Rattle.std.proofs.Common.{subst}
+use Rattle.std.specs.Prelude.{◌+ℤ◌, ◌-ℤ◌}
+use Rattle.smil_laws.specs.Near.{IsTimeNear}
+use Rattle.smil_laws.proofs.NearIntervals.{later_near}
+use Rattle.smil_element.proofs.Keys.{no_number, stops, follows}
+use Rattle.smil_element.proofs.comings.repeat_at.Goals as goal
+
+pub returns-in_default : goal.returns-in_default
+returns-in_default c = λ e at.
+    let h = history_of c.args.past.now in
+    let start_is : to_z w64 (of_z w64 c.last_play-play.result.start) ≡ iteration_start h c.args.who = omega (arith, ints, c.last_play-play.ensures.start) in
+    no_number h c.args.now c.args.place e c.args.simple c.later.result c.in_default.not-At
+    ∙ ap (coming_repeat_at h c.args.now c.args.place e c.args.simple) (c.later.ensures ∙ ap (later_time c.args.simple) start_is)
+
+pub returns-then-not-goes_on : goal.returns-then-not-goes_on
+returns-then-not-goes_on c = λ e at.
+    let h = history_of c.args.past.now in
+    let over_is : to_z w64 (of_z w64 c.in-At.over) ≡ c.in-At.over = omega (arith, ints) in
+    let start_is : to_z w64 (of_z w64 c.last_play-play.result.start) ≡ iteration_start h c.args.who = omega (arith, ints, c.last_play-play.ensures.start) in
+    stops h c.args.who e (serial_is c.args.past.now.document.nodes c.args.who e at) c.args.simple c.bounds_of.result c.last_play-play.result (c.bounds_of.ensures e at)
+    c.last_play-play.ensures.first c.last_play-play.ensures.start c.last_play-play.ensures.iteration
+    c.args.now c.args.place c.later.result c.goes_on.result (to_z w64 (of_z w64 c.in-At.over)) c.in-At.over c.in-At.is over_is c.goes_on.ensures c.if-not-goes_on.true
+    ∙ ap (coming_repeat_at h c.args.now c.args.place e c.args.simple) (c.later.ensures ∙ ap (later_time c.args.simple) start_is)
+
+pub moment_of-requires-clause-near : goal.moment_of-requires-clause-near
+moment_of-requires-clause-near c =
+    let over_is : to_z w64 (of_z w64 c.in-At.over) ≡ c.in-At.over = omega (arith, ints) in
+    let near : IsNear c.in-At.over = subst IsTimeNear (sym c.later.ensures ∙ c.in-At.is) (later_near c.args.simple (to_z w64 (of_z w64 c.last_play-play.result.start))) in
+    subst IsNear (sym over_is) near
+
+pub returns : goal.returns
+returns c = λ e at.
+    let past = c.args.past.now in
+    let h = history_of past in
+    let over_is : to_z w64 (of_z w64 c.in-At.over) ≡ c.in-At.over = omega (arith, ints) in
+    let start_is : to_z w64 (of_z w64 c.last_play-play.result.start) ≡ iteration_start h c.args.who = omega (arith, ints, c.last_play-play.ensures.start) in
+    let value_is : to_z w64 (of_z w64 c.moment_of.result) ≡ c.moment_of.result = omega (arith, ints) in
+    follows h c.args.who e (serial_is past.document.nodes c.args.who e at) c.args.simple c.bounds_of.result c.last_play-play.result (c.bounds_of.ensures e at)
+    c.last_play-play.ensures.first c.last_play-play.ensures.start c.last_play-play.ensures.iteration
+    c.args.now c.args.place c.later.result c.goes_on.result (to_z w64 (of_z w64 c.in-At.over)) c.in-At.over (to_z w64 (of_z w64 c.moment_of.result)) c.in-At.is over_is c.goes_on.ensures c.if-not-goes_on.false
+    (value_is ∙ c.moment_of.ensures ∙ ap (λ m. m +ℤ (to_z w64 (of_z w64 c.in-At.over) -ℤ run h c.args.who m)) (to_z-of_z w64 c.args.now c.ranges.now) ∙ ap (λ v. c.args.now +ℤ (v -ℤ run h c.args.who c.args.now)) over_is)
+    ∙ ap (coming_repeat_at h c.args.now c.args.place e c.args.simple) (c.later.ensures ∙ ap (later_time c.args.simple) start_is)

@@ -1,0 +1,13 @@
+use Rattle.std.proofs.Common.{◌≡◌, ◌∙◌, sym, []}
+use Rattle.smil_model.specs.declared.document.Edge.TheVariants.{End}
+use Rattle.smil_model.specs.diary.Diary.{History}
+use Rattle.smil_syncs.specs.Syncs.{syncs_of}
+use Rattle.smil_past.specs.Past.{history_of}
+use Rattle.smil_element.proofs.Awaited.{none_there, ends_settled}
+use Rattle.smil_element.proofs.evaluation.ends_told.Goals as goal
+
+pub returns-then-is_settled : goal.returns-then-is_settled
+returns-then-is_settled c = λ e intervals now here filled.
+    let h : History = history_of c.args.past.now in
+    let none : syncs_of h.nodes End e ≡ [] = none_there (syncs_of h.nodes End e) (sym (c.is_settled.ensures e here) ∙ c.if-is_settled.true) in
+    c.ends.ensures.model c.args.past.now.document h.log h.diary now e c.instances.ensures here ∙ ends_settled h now e intervals none

@@ -1,0 +1,45 @@
+use Rattle.std.proofs.Common.{◌≡◌, ◌∙◌, sym, ap, subst, ℕ, List, ◌++◌}
+use Rattle.std.specs.Prelude.{Option, Some, flat_map}
+use Rattle.std.proofs.lemmas.Result.{on_ok_weaker}
+use Rattle.smil_model.specs.declared.times.Time.{Time}
+use Rattle.smil_model.specs.declared.interval.Interval.{Interval}
+use Rattle.smil_model.specs.declared.document.Edge.TheVariants.{End}
+use Rattle.smil_model.specs.Times.{time_le}
+use Rattle.smil_model.specs.document.Document.{elements}
+use Rattle.smil_model.specs.diary.Diary.{History}
+use Rattle.smil_model.specs.interval.Instances.{no_interval, settled_ends}
+use Rattle.smil_instance_rows.specs.Rising.{IsRising}
+use Rattle.smil_syncs.specs.Syncs.{expected_by, syncs_of}
+use Rattle.smil_syncs.proofs.Waiting.{stands}
+use Rattle.smil_past.specs.Past.{history_of}
+use Rattle.smil_element.specs.Pouring.{with_times}
+use Rattle.smil_element.proofs.Awaited.{ends_merged, ends_rise}
+use Rattle.smil_element.proofs.Known.{known_element}
+use Rattle.smil_element.proofs.expected.pour_ends.Goals as goal
+
+pub pour-requires-clause-rising : goal.pour-requires-clause-rising
+pour-requires-clause-rising g c =
+    let h : History = history_of c.args.reading.now.past.now in
+    let found = known_element h.nodes c.args.who c.requires.element in
+    let items : c.extend_from_slice.new.self.items ≡ settled_ends h c.args.reading.now.moment found.0 =
+    c.in_ok-extend_from_slice.ensures.items
+    ∙ ap (λ (xs : List Time). xs ++ c.ends.result.now) c.clear.ensures.items
+    ∙ c.ends.ensures.model c.args.reading.now.past.now.document h.log h.diary c.args.reading.now.moment found.0 c.instances.ensures found.1 in
+    subst (λ (xs : List Time). IsRising time_le xs) (sym items) (ends_rise h no_interval c.args.reading.now.moment found.0)
+
+pub returns : goal.returns
+returns g c = λ e here.
+    let h : History = history_of c.args.reading.now.past.now in
+    let given : ℕ → Option Interval = g.J.Intervals.given c.args.reading.now.intervals.now in
+    let items : c.extend_from_slice.new.self.items ≡ settled_ends h c.args.reading.now.moment e =
+    c.in_ok-extend_from_slice.ensures.items
+    ∙ ap (λ (xs : List Time). xs ++ c.ends.result.now) c.clear.ensures.items
+    ∙ c.ends.ensures.model c.args.reading.now.past.now.document h.log h.diary c.args.reading.now.moment e c.instances.ensures here in
+    let syncs : c.of_element-syncs.result.now ≡ syncs_of h.nodes End e = c.of_element-syncs.ensures h.nodes e c.syncs.ensures here in
+    let serial : c.args.who ≡ e.serial = sym (stands (elements h.nodes) c.args.who e here).serial in
+    on_ok_weaker c.pour.result
+    (λ (is : c.pour.new.times.items ≡ with_times time_le Some (flat_map (expected_by h given c.args.reading.now.moment c.args.who) c.of_element-syncs.result.now) c.extend_from_slice.new.self.items).
+    is
+    ∙ (λ i. with_times time_le Some (flat_map (expected_by h given c.args.reading.now.moment (serial i)) (syncs i)) (items i))
+    ∙ ends_merged h c.args.reading.now.moment e given)
+    c.pour.ensures

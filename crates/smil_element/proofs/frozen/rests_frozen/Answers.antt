@@ -1,0 +1,42 @@
+use Rattle.std.proofs.Common.{◌≡◌, ◌∙◌, ap, sym}
+use Rattle.std.specs.Prelude.{not, ◌&&◌, ◌||◌, pos, None, is_some}
+use Rattle.smil_model.specs.document.Document.{time_parent}
+use Rattle.smil_model.specs.document.Defaults.{effective_fill}
+use Rattle.smil_model.specs.diary.Diary.{lives_under}
+use Rattle.smil_model.specs.shown.Views.{is_displaced, is_frozen_by, keeps, view_facts}
+use Rattle.smil_plays.specs.declared.played.Played.{Played}
+use Rattle.smil_instances.proofs.Sensitive.{serial_is}
+use Rattle.smil_past.specs.Past.{history_of}
+use Rattle.smil_element.specs.Shown.{is_cut}
+use Rattle.smil_element.proofs.Present.{reads}
+use Rattle.smil_element.proofs.Ancestors.{frozen_by_row}
+use Rattle.smil_element.proofs.frozen.rests_frozen.Goals as goal
+use Rattle.smil_element.proofs.frozen.rests_frozen.Goals.{then-is_some, else-is_some}
+
+pub returns-then-deferred : goal.returns-then-deferred
+returns-then-deferred c = λ e at.
+    let past = c.args.past.now in
+    let h = history_of past in
+    let told = c.deferred.ensures h (reads past c.book.result.now c.args.who c.parent_of-parent.result c.book.ensures c.parent_of-parent.ensures.parent) in
+    ap (λ b. not b && is_frozen_by (view_facts h (pos 0) None (lives_under (time_parent past.document.nodes c.args.who) past.diary || c.args.above) c.args.above e)) (sym c.if-deferred.true ∙ told)
+
+pub returns : goal.returns
+returns c = λ e at.
+    let past = c.args.past.now in
+    let h = history_of past in
+    let told = c.deferred.ensures h (reads past c.book.result.now c.args.who c.parent_of-parent.result c.book.ensures c.parent_of-parent.ensures.parent) in
+    let shows_is = c.shows.ensures (time_parent past.document.nodes c.args.who) (sym c.parent_of-parent.ensures.parent) in
+    let last = c.played_of-last.result.last_finished in
+    let kept_is : c.if-is_some.kept ≡ (is_some last && keeps (effective_fill past.document.nodes e) (is_displaced h c.args.who)) =
+    elim c.if-is_some.branch [
+      | then-is_some w ↦
+          w.kept-is ∙ w.is_kept-kept.ensures e at
+          ∙ ap (λ b. b && keeps (effective_fill past.document.nodes e) (is_displaced h c.args.who)) (sym w.if-is_some.true ∙ c.is_some.ensures)
+      | else-is_some w ↦
+          w.kept-is ∙ w.if-is_some.false
+          ∙ ap (λ b. b && keeps (effective_fill past.document.nodes e) (is_displaced h c.args.who)) (sym w.if-is_some.false ∙ c.is_some.ensures)
+    ] in
+    c.freezes.ensures ∙ ap (λ b. is_some last && ((c.if-is_some.kept && b) || (is_cut last && c.args.above))) shows_is
+    ∙ frozen_by_row h c.args.who e last c.if-is_some.kept (lives_under (time_parent past.document.nodes c.args.who) past.diary || c.args.above) c.args.above
+    (serial_is past.document.nodes c.args.who e at) (ap (λ (r : Played). r.last_finished) c.played_of-last.ensures) kept_is
+    ∙ ap (λ b. not b && is_frozen_by (view_facts h (pos 0) None (lives_under (time_parent past.document.nodes c.args.who) past.diary || c.args.above) c.args.above e)) (sym c.if-deferred.false ∙ told)

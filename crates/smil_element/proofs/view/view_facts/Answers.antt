@@ -1,0 +1,72 @@
+use Rattle.std.proofs.Common.{◌≡◌, ◌∙◌, ap, sym, subst, ℤ, Option}
+use Rattle.std.proofs.lemmas.Int.{ints, to_z-of_z}
+use Rattle.std.specs.Prelude.{◌&&◌, ◌||◌, ◌-ℤ◌}
+use Rattle.std.proofs.Common.{arith}
+use Rattle.std.specs.Option.{ForSome}
+use Rattle.smil_fill.specs.Numbers.{IsWithin}
+use mir.Syntax.{w64}
+use mir.Val.{to_z, of_z}
+use Rattle.smil_model.specs.document.Document.{time_parent}
+use Rattle.smil_model.specs.diary.Diary.{is_active, is_paused, lives_under}
+use Rattle.smil_model.specs.diary.Clocks.{outer}
+use Rattle.smil_model.specs.shown.Views.{is_displaced}
+use Rattle.smil_plays.specs.declared.played.Played.{Played}
+use Rattle.smil_instances.proofs.Sensitive.{serial_is}
+use Rattle.smil_past.specs.Past.{history_of}
+use Rattle.smil_element.specs.Shown.{minds}
+use Rattle.smil_element.proofs.Present.{reads}
+use Rattle.smil_element.proofs.Views.{view_told, last_told, cut_told, interval_within}
+use Rattle.smil_element.proofs.Near.{begun_within, last_within, deferred_within}
+use Rattle.smil_element.proofs.view.view_facts.Goals as goal
+use Rattle.smil_element.proofs.view.view_facts.Goals.{then-minds, else-minds}
+
+pub returns-clause-same : goal.returns-clause-same
+returns-clause-same c = λ e at.
+    let past = c.args.past.now in
+    let who = c.args.who in
+    let h = history_of past in
+    let parent = c.parent_of-parent.ensures.parent in
+    let last = ap (λ (r : Played). r.last_finished) c.played_of-played.ensures in
+    let shift_is : to_z w64 (of_z w64 c.document_shift.result) ≡ c.document_shift.result = omega (arith, ints) in
+    let displaced_is : c.if-minds.result ≡ (minds c.fill_of-fill.result c.last_shown-last.result && is_displaced h who) =
+    elim c.if-minds.branch [
+      | then-minds w ↦
+          w.result-is ∙ w.is_displaced.ensures
+          ∙ ap (λ b. b && is_displaced h who) (sym w.if-minds.true ∙ c.minds.ensures)
+      | else-minds w ↦
+          w.result-is ∙ w.if-minds.false
+          ∙ ap (λ b. b && is_displaced h who) (sym w.if-minds.false ∙ c.minds.ensures)
+    ] in
+    view_told h who c.args.now c.args.interval (lives_under (time_parent past.document.nodes who) past.diary || c.args.above) c.args.above e (serial_is past.document.nodes who e at)
+    c.active.result c.paused.result c.was_cut.result c.if-minds.result c.outer_stands.result c.played_of-played.result.shown_deferred c.played_of-played.result.shown_begun
+    c.last_shown-last.result c.fill_of-fill.result c.shows.result (to_z w64 (of_z w64 c.document_shift.result)) c.iteration.result c.finished.result
+    (c.active.ensures ∙ ap (λ ds. is_active ds who) c.book.ensures)
+    (c.paused.ensures ∙ ap (λ ds. is_paused ds who) c.book-2.ensures)
+    (ap (λ (r : Played). r.shown_deferred) c.played_of-played.ensures)
+    (ap (λ (r : Played). r.shown_begun) c.played_of-played.ensures)
+    (c.last_shown-last.ensures ∙ last_told h who c.played_of-played.result.last_finished last)
+    (c.was_cut.ensures ∙ cut_told h who c.played_of-played.result.last_finished last)
+    (c.fill_of-fill.ensures e at)
+    displaced_is
+    (c.shows.ensures (time_parent past.document.nodes who) (sym parent))
+    (c.outer_stands.ensures h c.clocks.ensures)
+    (shift_is ∙ c.document_shift.ensures.value ∙ ap (λ m. m -ℤ outer h who m) (to_z-of_z w64 c.args.now c.ranges.now))
+    (c.iteration.ensures h (reads past c.book-3.result.now who c.parent_of-parent.result c.book-3.ensures parent))
+    (c.finished.ensures h (reads past c.book-4.result.now who c.parent_of-parent.result c.book-4.ensures parent))
+
+pub returns-clause-near : goal.returns-clause-near
+returns-clause-near c =
+    let past = c.args.past.now in
+    let who = c.args.who in
+    let h = history_of past in
+    let lawful = c.possible.ensures.lawful in
+    let near = c.possible.ensures.near in
+    let last = c.last_shown-last.ensures ∙ last_told h who c.played_of-played.result.last_finished (ap (λ (r : Played). r.last_finished) c.played_of-played.ensures) in
+    let shift_is : to_z w64 (of_z w64 c.document_shift.result) ≡ c.document_shift.result = omega (arith, ints) in
+    record {
+      deferred = subst (λ (o : Option ℤ). ForSome o IsWithin) (sym (ap (λ (r : Played). r.shown_deferred) c.played_of-played.ensures)) (deferred_within h who lawful near);
+      interval = interval_within c.args.interval c.requires.near;
+      begun = subst (λ (o : Option ℤ). ForSome o IsWithin) (sym (ap (λ (r : Played). r.shown_begun) c.played_of-played.ensures)) (begun_within h who lawful near);
+      last = subst (λ (o : Option (ℤ × ℤ)). ForSome o (λ (last : ℤ × ℤ). IsWithin last.0 × IsWithin last.1)) (sym last) (last_within h who lawful near);
+      shift = subst IsWithin (sym shift_is) c.document_shift.ensures.within;
+    }

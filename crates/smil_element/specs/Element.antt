@@ -1,0 +1,64 @@
+-- What is evaluated of one element.
+use Rattle.std.specs.Prelude.{◌≡◌, ℕ, ℤ, pos, ◌-ℤ◌, List, [], ◌∷◌, ◌++◌, Bool, not, ◌&&◌, ◌||◌, if◌then◌else◌, Option, Some, None, is_some}
+use Rattle.smil_model.specs.declared.times.Time.{Time}
+use Rattle.smil_model.specs.declared.times.Time.TheVariants.{At}
+use Rattle.smil_model.specs.declared.interval.Interval.{Interval}
+use Rattle.smil_model.specs.declared.interval.Play.{Play}
+use Rattle.smil_model.specs.declared.document.Node.{Node}
+use Rattle.smil_model.specs.Times.{later_time, time_le}
+use Rattle.smil_model.specs.diary.Diary.{History, is_active, is_paused}
+use Rattle.smil_model.specs.diary.Clocks.{run, outer, iteration_start, stands, outer_stands}
+use Rattle.smil_model.specs.interval.Durations.{Bounds, intermediate_end}
+use Rattle.smil_model.specs.interval.Current.{interval_given, simple_of}
+use Rattle.smil_model.specs.happening.Keys as model
+use Rattle.smil_model.specs.happening.Keys.{coming_begin, coming_end, coming_repeat_at}
+use Rattle.smil_plays.specs.declared.played.PastInterval.{PastInterval}
+use Rattle.smil_happening.specs.declared.change.Coming.{Coming}
+use Rattle.smil_happening.specs.Parts.{coming_meant}
+use Rattle.smil_element.specs.declared.evaluation.Evaluated.{Evaluated}
+
+-- the interval and the simple duration of an element, given the intervals of the others
+pub record IsEvaluated (h : History) (intervals : ℕ → Option Interval) (now : ℤ) (e : Node) (made : Evaluated) : Type 0 where
+  pub interval : made.interval ≡ interval_given h intervals now e
+  pub simple : made.simple ≡ simple_of h intervals e
+
+-- a finished interval, as the search for the next one sees it
+abbrev pub interval_in : PastInterval → Interval
+interval_in last = record { begin = last.begin; «end» = At last.finish }
+
+-- how far the time parent's clock is ahead of the element's own; none while the element is paused
+abbrev pub shift_of : History → ℕ → ℤ → Option ℤ
+shift_of h serial now = if is_paused h.diary serial then None else Some (outer h serial now -ℤ run h serial now)
+
+-- whether another iteration of a play follows the one that is over at this time on the element's own clock
+abbrev pub goes_on : Bounds → Time → Play → ℤ → Bool
+goes_on bounds simple play over =
+    not (time_le simple (At (pos 0)))
+    && not (time_le (intermediate_end bounds simple play.first play.start play.iteration) (At over))
+
+-- what comes of an element by its own interval and simple duration
+abbrev pub repeat_by : History → Time → ℤ → ℕ → Node → List model.Coming
+repeat_by h simple now place e =
+    if (is_some e.attrs.repeat_count || is_some e.attrs.repeat_dur) && not (stands h e.serial)
+    then coming_repeat_at h now place e simple (later_time simple (iteration_start h e.serial))
+    else []
+
+abbrev pub moved_by : History → Option Interval → ℤ → ℕ → Node → List model.Coming
+moved_by h interval now place e =
+    if is_active h.diary e.serial
+    then (if outer_stands h e.serial then [] else coming_end h now place e interval)
+    else (if outer_stands h e.serial then [] else coming_begin h now place e interval)
+
+abbrev pub coming_by : History → Option Interval → Time → ℤ → ℕ → Node → List model.Coming
+coming_by h interval simple now place e =
+    if is_active h.diary e.serial
+    then (if outer_stands h e.serial then [] else coming_end h now place e interval) ++ repeat_by h simple now place e
+    else (if outer_stands h e.serial then [] else coming_begin h now place e interval)
+
+-- at most one begin or end, and at most one repeat
+abbrev pub and_coming : Option Coming → List model.Coming → List model.Coming
+and_coming None cs = cs
+and_coming (Some c) cs = coming_meant c ∷ cs
+
+abbrev pub both : Option Coming → Option Coming → List model.Coming
+both first second = and_coming first (and_coming second [])

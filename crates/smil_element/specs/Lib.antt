@@ -1,0 +1,5 @@
+pub mod Element
+pub mod Comings
+pub mod Shown
+pub mod Displaced
+pub mod Pouring

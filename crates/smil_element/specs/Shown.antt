@@ -1,0 +1,31 @@
+-- What the view of an element follows from.
+use Rattle.std.specs.Prelude.{ℕ, ℤ, filter, Bool, false, ◌||◌, Option, Some, None, is_some}
+use Rattle.smil_model.specs.declared.document.Attrs.{Attrs}
+use Rattle.smil_model.specs.declared.document.Fill.{Fill}
+use Rattle.smil_model.specs.declared.document.Fill.TheVariants.{Freeze}
+use Rattle.smil_model.specs.document.Document.{is_element, lineage}
+use Rattle.smil_model.specs.diary.Diary.{History}
+use Rattle.smil_model.specs.shown.Views.{is_frozen_in}
+use Rattle.smil_plays.specs.declared.played.PastInterval.{PastInterval}
+
+-- whether the element with this serial is frozen; false where there is none
+abbrev pub frozen_at : History → Option ℕ → Bool
+frozen_at h None = false
+frozen_at h (Some serial) = is_frozen_in h (filter is_element (lineage h.nodes serial))
+
+-- whether attributes limit the duration
+abbrev pub is_limited : Attrs → Bool
+is_limited attrs = is_some attrs.dur || is_some attrs.«end» || is_some attrs.repeat_count || is_some attrs.repeat_dur
+
+-- a finished interval in document time, and whether it was cut
+abbrev pub shown_last : PastInterval → ℤ × ℤ
+shown_last last = (last.shown_begin, last.shown_finish)
+
+abbrev pub is_cut : Option PastInterval → Bool
+is_cut None = false
+is_cut (Some last) = last.was_cut
+
+-- whether the view minds what displaces an element: where its fill is freeze and an interval finished
+abbrev pub minds : Fill → Option (ℤ × ℤ) → Bool
+minds Freeze last = is_some last
+minds _ last = false

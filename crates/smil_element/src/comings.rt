@@ -1,0 +1,220 @@
+//! What comes of one element.
+
+ghost use Rattle.std.specs.Prelude.{◌≡◌, ◌+ℤ◌, ◌-ℤ◌, [], ◌∷◌, Some, true, not, ◌&&◌, ◌||◌, is_some, IfSome};
+ghost use Rattle.smil_model.specs.declared.times.Time.TheVariants.{At};
+ghost use Rattle.smil_model.specs.Times.{IsNear, later_time, time_le};
+ghost use Rattle.smil_model.specs.diary.Diary.{iteration};
+ghost use Rattle.smil_model.specs.diary.Clocks.{iteration_start, play_start, run, stands};
+ghost use Rattle.smil_model.specs.declared.document.Node.{Node as AnyNode};
+ghost use Rattle.smil_model.specs.document.Document.{elements, node_at};
+ghost use Rattle.smil_model.specs.diary.Lawful.{has_element};
+ghost use Rattle.smil_laws.specs.Near.{IsIntervalNear};
+ghost use Rattle.smil_past.specs.Past.{IsPresent, history_of};
+ghost use Rattle.smil_element.specs.Element.{and_coming, both, coming_by, goes_on, moved_by, repeat_by};
+ghost use Rattle.smil_model.specs.happening.Keys.{coming_begin, coming_end, coming_repeat_at};
+ghost use Rattle.smil_model.specs.interval.Durations.{bounds_of};
+ghost use Rattle.smil_happening.specs.Parts.{coming_meant};
+
+use super::evaluation::Evaluated;
+use super::facts::{attrs_of, parent_of, played_of};
+use smil_duration::Bounds;
+use smil_happening::{Change, Coming};
+use smil_model::{Attrs, Interval, Key, Play, Time, later};
+use smil_past::Past;
+
+/// What comes of an element: its begin or its end, and its repeat.
+#[derive(Clone, Copy, Debug)]
+pub struct Comings {
+    pub moved: Option<Coming>,
+    pub repeat: Option<Coming>,
+}
+
+/// What comes of an element by its interval and its simple duration, at a moment: its begin, or its
+/// end and its repeat. `place` is its place among the elements. The numbers of the interval are
+/// from -10^12 to 10^12. It takes no memory.
+pub fn comings_of(past: &Past, who: u32, place: u32, now: i64, made: &Evaluated) -> Comings
+    requires element { has_element past.now.document.nodes who ≡ true }
+    requires moment { IsPresent past.now now }
+    requires near { IfSome made.now.interval IsIntervalNear }
+    ensures { (e : AnyNode) → node_at (elements past.now.document.nodes) who ≡ Some e → both result.moved result.repeat ≡ coming_by (history_of past.now) made.now.interval made.now.simple now place e }
+{
+    let repeat = if past.book().active(who) {
+        repeat_of(past, who, place, now, made.simple)
+    } else {
+        None
+    };
+    Comings {
+        moved: moved_of(past, who, place, now, made.interval),
+        repeat,
+    }
+}
+
+// The end of an active element, and the begin of another, while the time parent's clock runs.
+fn moved_of(
+    past: &Past,
+    who: u32,
+    place: u32,
+    now: i64,
+    interval: Option<Interval>,
+) -> Option<Coming>
+    requires moment { IsPresent past.now now }
+    requires near { IfSome interval IsIntervalNear }
+    ensures { (e : AnyNode) → node_at (elements past.now.document.nodes) who ≡ Some e → and_coming result [] ≡ moved_by (history_of past.now) interval now place e }
+{
+    let interval = interval?;
+    if past.clocks().outer_stands(who) {
+        return None;
+    }
+    if past.book().active(who) {
+        end_of(past, who, place, now, interval)
+    } else {
+        Some(begin_of(past, who, place, now, interval))
+    }
+}
+
+// The begin of an interval, in class 2.
+fn begin_of(past: &Past, who: u32, place: u32, now: i64, interval: Interval) -> Coming
+    requires moment { IsPresent past.now now }
+    requires near { IsIntervalNear interval }
+    ensures { (e : AnyNode) → node_at (elements past.now.document.nodes) who ≡ Some e → coming_meant result ∷ [] ≡ coming_begin (history_of past.now) now place e (Some interval) }
+{
+    Coming {
+        key: Key {
+            value: past.clocks().to_document(who, interval.begin, now),
+            class: 2,
+            position: place,
+            serial: who,
+            repeat: false,
+        },
+        change: Change::Begins {
+            begin: interval.begin,
+        },
+    }
+}
+
+// The end of an interval that is a number: in class 1, and in class 3 where the length is 0.
+fn end_of(past: &Past, who: u32, place: u32, now: i64, interval: Interval) -> Option<Coming>
+    requires moment { IsPresent past.now now }
+    requires near { IsIntervalNear interval }
+    ensures { (e : AnyNode) → node_at (elements past.now.document.nodes) who ≡ Some e → and_coming result [] ≡ coming_end (history_of past.now) now place e (Some interval) }
+{
+    let Time::At(end) = interval.end else {
+        return None;
+    };
+    Some(Coming {
+        key: Key {
+            value: past.clocks().to_document(who, end, now),
+            class: if interval.begin < end { 1 } else { 3 },
+            position: place,
+            serial: who,
+            repeat: false,
+        },
+        change: Change::Ends { end },
+    })
+}
+
+// The repeat of an active element, while its own clock runs.
+fn repeat_of(past: &Past, who: u32, place: u32, now: i64, simple: Time) -> Option<Coming>
+    requires element { has_element past.now.document.nodes who ≡ true }
+    requires moment { IsPresent past.now now }
+    ensures { (e : AnyNode) → node_at (elements past.now.document.nodes) who ≡ Some e → and_coming result [] ≡ repeat_by (history_of past.now) simple now place e }
+{
+    if may_repeat(past, who) {
+        repeat_at(past, who, place, now, simple)
+    } else {
+        None
+    }
+}
+
+// Whether an element has what repeats it, and its own clock runs.
+fn may_repeat(past: &Past, who: u32) -> bool
+    requires { has_element past.now.document.nodes who ≡ true }
+    ensures { (e : AnyNode) → node_at (elements past.now.document.nodes) who ≡ Some e → result ≡ (is_some e.attrs.repeat_count || is_some e.attrs.repeat_dur) && not (stands (history_of past.now) who) }
+{
+    repeats(attrs_of(past, who)) && !past.clocks().stands(who)
+}
+
+// Whether attributes have what repeats an element.
+fn repeats(attrs: &Attrs) -> bool
+    ensures { result ≡ (is_some attrs.now.repeat_count || is_some attrs.now.repeat_dur) }
+{
+    attrs.repeat_count.is_some() || attrs.repeat_dur.is_some()
+}
+
+// The repeat of an element that may repeat, where its iteration ends at a number and another
+// follows.
+fn repeat_at(past: &Past, who: u32, place: u32, now: i64, simple: Time) -> Option<Coming>
+    requires element { has_element past.now.document.nodes who ≡ true }
+    requires moment { IsPresent past.now now }
+    ensures { (e : AnyNode) → node_at (elements past.now.document.nodes) who ≡ Some e → and_coming result [] ≡ coming_repeat_at (history_of past.now) now place e simple (later_time simple (iteration_start (history_of past.now) who)) }
+{
+    let play = last_play(past, who);
+    let Time::At(over) = later(simple, play.start) else {
+        return None;
+    };
+    if !goes_on(bounds_of(past, who), simple, &play, over) {
+        return None;
+    }
+    Some(Coming {
+        key: Key {
+            value: moment_of(past, who, over, now),
+            class: 1,
+            position: place,
+            serial: who,
+            repeat: true,
+        },
+        change: Change::Repeats { start: over },
+    })
+}
+
+// What limits the plays of an element.
+fn bounds_of(past: &Past, who: u32) -> Bounds
+    requires { has_element past.now.document.nodes who ≡ true }
+    ensures { (e : AnyNode) → node_at (elements past.now.document.nodes) who ≡ Some e → result ≡ bounds_of e.attrs }
+{
+    Bounds::of_attrs(attrs_of(past, who))
+}
+
+// When the own clock of an element shows a value, if it goes on as now.
+fn moment_of(past: &Past, who: u32, value: i64, now: i64) -> i64
+    requires moment { IsPresent past.now now }
+    requires near { IsNear value }
+    ensures { result ≡ now +ℤ (value -ℤ run (history_of past.now) who now) }
+{
+    now + (value - past.clocks().run(who, now))
+}
+
+// The last play of an element, by what its own clock tells.
+fn last_play(past: &Past, who: u32) -> Play
+    requires { has_element past.now.document.nodes who ≡ true }
+    ensures first { result.first ≡ play_start (history_of past.now) who }
+    ensures start { result.start ≡ iteration_start (history_of past.now) who }
+    ensures iteration { result.iteration ≡ iteration (history_of past.now) who }
+{
+    let played = played_of(past, who);
+    Play {
+        begin: 0,
+        first: played.first,
+        start: played.start,
+        iteration: past.book().iteration(who, parent_of(past, who)),
+        shift: None,
+    }
+}
+
+// Whether another iteration follows the one that is over at this time: a simple duration of 0 isn't
+// repeated, and none begins where the iterations or the repeat duration end.
+fn goes_on(bounds: Bounds, simple: Time, play: &Play, over: i64) -> bool
+    ensures { result ≡ goes_on bounds simple play.now over }
+{
+    is_after(simple, 0) && is_after(bounds.intermediate_end(simple, play), over)
+}
+
+// Whether a time is after a number.
+fn is_after(time: Time, number: i64) -> bool
+    ensures { result ≡ not (time_le time (At number)) }
+{
+    match time {
+        Time::At(at) => number < at,
+        Time::Indefinite | Time::Unresolved => true,
+    }
+}

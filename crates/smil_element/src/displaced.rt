@@ -1,0 +1,125 @@
+//! What displaces a frozen element in a seq or an excl.
+
+ghost use Rattle.std.specs.Prelude.{◌≡◌, ◌<◌, ◌==◌, ℕ, true, false, ◌+◌, length, position, slice_get, IfSome};
+ghost use Rattle.std.specs.List.{list_any};
+ghost use Rattle.std.specs.Option.{option_map_or};
+ghost use Rattle.smil_model.specs.document.Document.{serials, time_children};
+ghost use Rattle.smil_model.specs.diary.Lawful.{has_element};
+ghost use Rattle.smil_model.specs.shown.Views.{is_displaced};
+ghost use Rattle.smil_diary.specs.Places.{is_from, later_of};
+ghost use Rattle.smil_past.specs.Past.{history_of};
+ghost use Rattle.smil_element.specs.Displaced.{began_from, births, finished_by, following, is_set_off, may_set_off};
+
+use super::facts::parent_of;
+use smil_model::{Kind, StepKind};
+use smil_past::Past;
+
+/// Whether another child of its seq or excl began or resumed after the last end of an element, or
+/// the next child of its seq began since its birth. It takes no memory, and a look-up for each
+/// child.
+pub(crate) fn is_displaced(past: &Past, who: u32) -> bool
+    requires { has_element past.now.document.nodes who ≡ true }
+    ensures { result ≡ is_displaced (history_of past.now) who }
+{
+    past.possible();
+    let Some(parent) = parent_of(past, who) else {
+        return false;
+    };
+    match past.tree().kind(parent) {
+        Kind::Seq => next_began(past, parent, who) || sibling_set_off(past, parent, who),
+        Kind::Excl => sibling_set_off(past, parent, who),
+        _ => false,
+    }
+}
+
+// Whether another child of the time parent began or resumed after the last end of an element.
+fn sibling_set_off(past: &Past, parent: u32, who: u32) -> bool
+    ensures { result ≡ list_any (may_set_off past.now.diary who (finished_by past.now.diary who)) (serials (time_children past.now.document.nodes parent)) }
+{
+    let from = finished_by(past, who);
+    past.tree()
+        .time_children(parent)
+        .iter()
+        .any(|child| *child != who && sets_off(past, *child, from))
+}
+
+// How many entries there are up to the last end of an element; all where it never ended.
+fn finished_by(past: &Past, who: u32) -> usize
+    ensures { result ≡ finished_by past.now.diary who }
+{
+    let all = past.book().len();
+    let ended = past.book().last(who, StepKind::Ended);
+    let cut = past.book().last(who, StepKind::Cut);
+    match later_of(ended, cut) {
+        Some(place) => place + 1,
+        None => all,
+    }
+}
+
+// The later of two places.
+fn later_of(first: Option<usize>, second: Option<usize>) -> Option<usize>
+    ensures value { result ≡ later_of first second }
+    ensures within { (all : ℕ) → IfSome first (λ a. a < all) → IfSome second (λ b. b < all) → IfSome result (λ r. r < all) }
+{
+    match (first, second) {
+        (Some(first), Some(second)) => Some(first.max(second)),
+        (None, second) => second,
+        (first, None) => first,
+    }
+}
+
+// Whether an element began or resumed after so many entries.
+fn sets_off(past: &Past, who: u32, from: usize) -> bool
+    ensures { result ≡ is_set_off past.now.diary who from }
+{
+    is_from(past.book().last(who, StepKind::Began), from)
+        || is_from(past.book().last(who, StepKind::Resumed), from)
+}
+
+// Whether there is a place, and it is not before `from`.
+fn is_from(place: Option<usize>, from: usize) -> bool
+    ensures { result ≡ is_from from place }
+{
+    match place {
+        Some(place) => from <= place,
+        None => false,
+    }
+}
+
+// Whether the next child of a seq began since the birth of one of its children.
+fn next_began(past: &Past, parent: u32, who: u32) -> bool
+    ensures { result ≡ option_map_or (began_from past.now.diary (births past.now.diary parent)) (following who (serials (time_children past.now.document.nodes parent))) false }
+{
+    match next_child(past, parent, who) {
+        Some(next) => is_from(
+            past.book().last(next, StepKind::Began),
+            past.book().birth(Some(parent)),
+        ),
+        None => false,
+    }
+}
+
+// The time child of a parent that stands after one of its children.
+fn next_child(past: &Past, parent: u32, who: u32) -> Option<u32>
+    ensures { result ≡ following who (serials (time_children past.now.document.nodes parent)) }
+{
+    let children = past.tree().time_children(parent);
+    let place = place_in(children, who)?;
+    serial_after(children, place)
+}
+
+// The serial behind a place among others.
+fn serial_after(serials: &[u32], place: usize) -> Option<u32>
+    requires { place < length serials.now }
+    ensures { result ≡ slice_get serials.now (place + 1) }
+{
+    serials.get(place + 1).copied()
+}
+
+// The first place of a serial among others.
+fn place_in(serials: &[u32], who: u32) -> Option<usize>
+    ensures place { result ≡ position (λ s. s == who) serials.now }
+    ensures within { IfSome result (λ place. place < length serials.now) }
+{
+    serials.iter().position(|serial| *serial == who)
+}

@@ -1,0 +1,153 @@
+//! Instance times, with those that follow from the intervals of other elements.
+
+ghost use Rattle.std.specs.Prelude.{◌≡◌, Some, true, flat_map, option_to_list, IfSome, OnOk};
+ghost use Rattle.smil_model.specs.declared.document.Node.{Node as AnyNode};
+ghost use Rattle.smil_model.specs.document.Document.{elements, node_at};
+ghost use Rattle.smil_model.specs.diary.Diary.{is_active};
+ghost use Rattle.smil_model.specs.diary.Lawful.{has_element};
+ghost use Rattle.smil_model.specs.interval.Instances.{begin_times, end_times, expected_times, interval_edge};
+ghost use Rattle.smil_instance_rows.specs.Rising.{IsRising, put_in};
+ghost use Rattle.smil_syncs.specs.Syncs.{expected_by, is_empty, syncs_of};
+ghost use Rattle.smil_model.specs.Times.{IsNear};
+ghost use Rattle.smil_element.specs.Pouring.{with_times};
+ghost use Rattle.smil_past.specs.Past.{IsPresent, history_of};
+
+use super::intervals::Intervals;
+use smil_duration::moved;
+use smil_instance_rows::Instant;
+use smil_model::{Edge, Time};
+use smil_past::Past;
+use smil_syncs::Syncbase;
+use std::alloc::AllocError;
+
+/// What an evaluation reads: what has happened, the intervals of the elements, and the present
+/// moment.
+#[derive(Drop)]
+pub struct Reading<'a, J: Intervals> {
+    pub past: &'a Past,
+    pub intervals: &'a J,
+    pub moment: i64,
+}
+
+/// The time that an item of an element gives by the interval of the element that it waits for; None
+/// where that has none, or where one of the two clocks stands. It takes no memory.
+pub fn expected<J: Intervals>(reading: &Reading<J>, who: u32, sync: Syncbase) -> Option<Time>
+    requires { IsPresent reading.now.past.now reading.now.moment }
+    ensures { option_to_list result ≡ expected_times (history_of reading.now.past.now) (J.given reading.now.intervals.now) reading.now.moment who sync.of sync.offset sync.edge }
+{
+    let clocks = reading.past.clocks();
+    if clocks.outer_stands(who) || clocks.outer_stands(sync.of) {
+        return None;
+    }
+    let value = edge_value(reading, sync)?;
+    Some(moved(
+        clocks.between(sync.of, who, value, reading.moment),
+        sync.offset,
+    ))
+}
+
+// The begin or the end that an interval has before it has happened.
+fn edge_value<J: Intervals>(reading: &Reading<J>, sync: Syncbase) -> Option<i64>
+    ensures value { result ≡ interval_edge sync.edge (is_active reading.now.past.now.diary sync.of) (J.given reading.now.intervals.now sync.of) }
+    ensures near { IfSome result IsNear }
+{
+    let interval = reading.intervals.interval(sync.of)?;
+    match sync.edge {
+        Edge::Begin => {
+            if reading.past.book().active(sync.of) {
+                None
+            } else {
+                Some(interval.begin)
+            }
+        }
+        Edge::End => match interval.end {
+            Time::At(end) => Some(end),
+            _ => None,
+        },
+    }
+}
+
+/// The begin instance times of an element, in rising order: those that the diary gives, with the
+/// expected ones in their places. Where no item waits for another element they are those of the
+/// diary.
+pub fn pour_begins<J: Intervals>(
+    reading: &Reading<J>,
+    who: u32,
+    times: &mut Vec<i64>,
+) -> Result<(), AllocError>
+    requires element { has_element reading.now.past.now.document.nodes who ≡ true }
+    requires moment { IsPresent reading.now.past.now reading.now.moment }
+    ensures { (e : AnyNode) → node_at (elements reading.now.past.now.document.nodes) who ≡ Some e → OnOk result (times.new.items ≡ begin_times (history_of reading.now.past.now) (J.given reading.now.intervals.now) reading.now.moment e) }
+{
+    times.clear();
+    times.extend_from_slice(reading.past.instances().begins(who))?;
+    let syncs = reading.past.syncs().of_element(who, Edge::Begin);
+    pour(reading, who, syncs, times)
+}
+
+/// The end instance times of an element, in the same way.
+pub fn pour_ends<J: Intervals>(
+    reading: &Reading<J>,
+    who: u32,
+    times: &mut Vec<Time>,
+) -> Result<(), AllocError>
+    requires element { has_element reading.now.past.now.document.nodes who ≡ true }
+    requires moment { IsPresent reading.now.past.now reading.now.moment }
+    ensures { (e : AnyNode) → node_at (elements reading.now.past.now.document.nodes) who ≡ Some e → OnOk result (times.new.items ≡ end_times (history_of reading.now.past.now) (J.given reading.now.intervals.now) reading.now.moment e) }
+{
+    times.clear();
+    times.extend_from_slice(reading.past.instances().ends(who))?;
+    let syncs = reading.past.syncs().of_element(who, Edge::End);
+    pour(reading, who, syncs, times)
+}
+
+/// Whether no item of a list of an element waits for another element, so that the diary alone gives
+/// its instance times.
+pub fn is_settled(past: &Past, who: u32, side: Edge) -> bool
+    requires { has_element past.now.document.nodes who ≡ true }
+    ensures { (e : AnyNode) → node_at (elements past.now.document.nodes) who ≡ Some e → result ≡ is_empty (syncs_of past.now.document.nodes side e) }
+{
+    past.syncs().of_element(who, side).is_empty()
+}
+
+// Puts the expected times of an element by what its items wait for in their places among rising
+// ones.
+fn pour<T: Instant, J: Intervals>(
+    reading: &Reading<J>,
+    who: u32,
+    syncs: &[Syncbase],
+    times: &mut Vec<T>,
+) -> Result<(), AllocError>
+    requires moment { IsPresent reading.now.past.now reading.now.moment }
+    requires rising { IsRising T.at_most times.old.items }
+    ensures { OnOk result (times.new.items ≡ with_times T.at_most T.choose (flat_map (expected_by (history_of reading.now.past.now) (J.given reading.now.intervals.now) reading.now.moment who) syncs.now) times.old.items) }
+{
+    for sync in syncs {
+        put_some(times, expected(reading, who, *sync))?;
+    }
+    Ok(())
+}
+
+// Puts the value that a time gives, if there is one, in its place among rising ones.
+fn put_some<T: Instant>(times: &mut Vec<T>, time: Option<Time>) -> Result<(), AllocError>
+    requires { IsRising T.at_most times.old.items }
+    ensures { OnOk result (times.new.items ≡ with_times T.at_most T.choose (option_to_list time) times.old.items) }
+{
+    let Some(time) = time else {
+        return Ok(());
+    };
+    match T::of_time(time) {
+        Some(value) => put(times, value),
+        None => Ok(()),
+    }
+}
+
+// Puts a value in its place among rising ones.
+fn put<T: Instant>(times: &mut Vec<T>, value: T) -> Result<(), AllocError>
+    requires { IsRising T.at_most times.old.items }
+    ensures { OnOk result (times.new.items ≡ put_in T.at_most value times.old.items) }
+{
+    let place = times.partition_point(|time| time.is_before(value));
+    times.insert(place, value)?;
+    Ok(())
+}

@@ -1,0 +1,184 @@
+//! The facts of one element.
+
+ghost use Rattle.std.specs.Prelude.{◌≡◌, ℕ, Some, None, true, Option, IfSome, option_map};
+ghost use Rattle.smil_model.specs.declared.document.Node.{Node as AnyNode};
+ghost use Rattle.std.specs.List.{list_any};
+ghost use Rattle.smil_model.specs.declared.interval.Interval.{Interval as AnyInterval};
+ghost use Rattle.smil_model.specs.document.Document.{elements, node_at, time_parent};
+ghost use Rattle.smil_model.specs.diary.Clocks as clocks;
+ghost use Rattle.smil_model.specs.diary.Diary as diary;
+ghost use Rattle.smil_model.specs.diary.Lawful.{has_element};
+ghost use Rattle.smil_model.specs.interval.Current as model;
+ghost use Rattle.smil_model.specs.document.Document.{serial_of};
+ghost use Rattle.smil_past.specs.Past.{IsPresent, history_of};
+ghost use Rattle.smil_plays.specs.Played.{played as kept_of};
+ghost use Rattle.smil_element.specs.Element.{interval_in, shift_of};
+
+use smil_duration::Bounds;
+use smil_model::{Attrs, EndList, Facts, Interval, Item, Items, Play, Time};
+use smil_past::Past;
+use smil_plays::{PastInterval, Played};
+
+/// The facts of an element at a moment, by its simple duration. It takes no memory, and a step for
+/// each node above it.
+pub fn facts_of(past: &Past, who: u32, now: i64, simple: Time) -> Facts
+    requires element { has_element past.now.document.nodes who ≡ true }
+    requires moment { IsPresent past.now now }
+    ensures { (e : AnyNode) (intervals : ℕ → Option AnyInterval) → node_at (elements past.now.document.nodes) who ≡ Some e → simple ≡ model.simple_of (history_of past.now) intervals e → result ≡ model.facts_of (history_of past.now) intervals now e }
+{
+    past.possible();
+    let parent = parent_of(past, who);
+    let played = played_of(past, who);
+    let attrs = attrs_of(past, who);
+    let bounds = Bounds::of_attrs(attrs);
+    Facts {
+        alive: is_alive(past, parent),
+        deferred: past.book().deferred(who, parent),
+        play: present_play(past, who, parent, now, &played),
+        parent_start: parent_start(past, parent),
+        last: last_interval(&played),
+        passed: played.passed,
+        end_list: end_list(&attrs.end),
+        restart: past.tree().restart_of(who),
+        min: bounds.min(),
+        max: bounds.max(),
+        simple,
+        count: attrs.repeat_count,
+        repeat_dur: attrs.repeat_dur,
+    }
+}
+
+// What is kept of the plays of an element.
+pub(crate) fn played_of(past: &Past, who: u32) -> Played
+    requires { has_element past.now.document.nodes who ≡ true }
+    ensures { result ≡ kept_of (history_of past.now) who }
+{
+    past.plays().of(who).unwrap()
+}
+
+// The attributes of an element.
+pub(crate) fn attrs_of(past: &Past, who: u32) -> &Attrs
+    requires { has_element past.now.document.nodes who ≡ true }
+    ensures { (e : AnyNode) → node_at (elements past.now.document.nodes) who ≡ Some e → result.now ≡ e.attrs }
+{
+    past.possible();
+    past.tree().attrs(who)
+}
+
+// The time parent of an element, which is an element; None for the root.
+pub(crate) fn parent_of(past: &Past, who: u32) -> Option<u32>
+    requires { has_element past.now.document.nodes who ≡ true }
+    ensures parent { result ≡ serial_of (time_parent past.now.document.nodes who) }
+    ensures element { IfSome result (λ p. has_element past.now.document.nodes p ≡ true) }
+{
+    past.possible();
+    past.tree().time_parent(who)
+}
+
+// Whether what has this time parent is alive.
+pub(crate) fn is_alive(past: &Past, parent: Option<u32>) -> bool
+    ensures { (node : Option AnyNode) → serial_of node ≡ parent → result ≡ diary.lives_under node past.now.diary }
+{
+    match parent {
+        Some(parent) => past.book().active(parent),
+        None => true,
+    }
+}
+
+// The play start for the time children of a parent; 0 for the root, which has none.
+fn parent_start(past: &Past, parent: Option<u32>) -> i64
+    requires { IfSome parent (λ p. has_element past.now.document.nodes p ≡ true) }
+    ensures { (node : Option AnyNode) → serial_of node ≡ parent → result ≡ clocks.start_under (history_of past.now) node }
+{
+    match parent {
+        Some(parent) => played_of(past, parent).start,
+        None => 0,
+    }
+}
+
+// The present play of an active element, whose time parent is `parent`.
+fn present_play(
+    past: &Past,
+    who: u32,
+    parent: Option<u32>,
+    now: i64,
+    played: &Played,
+) -> Option<Play>
+    requires element { has_element past.now.document.nodes who ≡ true }
+    requires moment { IsPresent past.now now }
+    requires kept { played.now ≡ kept_of (history_of past.now) who }
+    ensures { (e : AnyNode) → node_at (elements past.now.document.nodes) who ≡ Some e → serial_of (time_parent past.now.document.nodes who) ≡ parent → result ≡ model.present_play (history_of past.now) now e }
+{
+    if !past.book().active(who) {
+        return None;
+    }
+    let begin = played.begun?;
+    Some(Play {
+        begin,
+        first: played.first,
+        start: played.start,
+        iteration: past.book().iteration(who, parent),
+        shift: shift(past, who, now),
+    })
+}
+
+// How far the time parent's clock is ahead of the element's own; None while the element is paused.
+fn shift(past: &Past, who: u32, now: i64) -> Option<i64>
+    requires { IsPresent past.now now }
+    ensures { result ≡ shift_of (history_of past.now) who now }
+{
+    if past.book().paused(who) {
+        return None;
+    }
+    Some(past.clocks().outer(who, now) - past.clocks().run(who, now))
+}
+
+// The last finished interval, as the search for the next one sees it.
+fn last_interval(played: &Played) -> Option<Interval>
+    ensures { result ≡ option_map interval_in played.now.last_finished }
+{
+    played.last_finished.map(|last| interval_of(last))
+}
+
+// A finished interval, as the search sees it.
+fn interval_of(last: PastInterval) -> Interval
+    ensures { result ≡ interval_in last }
+{
+    Interval {
+        begin: last.begin,
+        end: Time::At(last.finish),
+    }
+}
+
+// What an end list can do without a usable end instance.
+fn end_list(items: &Option<Items>) -> EndList
+    ensures { result ≡ model.end_list_of items.now }
+{
+    match items {
+        None => EndList::Absent,
+        Some(items) => {
+            if hears(items) {
+                EndList::Hearing
+            } else {
+                EndList::Plain
+            }
+        }
+    }
+}
+
+// Whether a list has an item that hears.
+fn hears(items: &Items) -> bool
+    ensures { result ≡ list_any model.is_event_item items.now }
+{
+    items.slice().iter().any(|item| is_heard(item))
+}
+
+// Whether an item is for an event, a repeat or an access key.
+fn is_heard(item: &Item) -> bool
+    ensures { result ≡ model.is_event_item item.now }
+{
+    match item {
+        Item::Event { .. } | Item::Repeat { .. } | Item::Key { .. } => true,
+        Item::Offset { .. } | Item::Sync { .. } | Item::Indefinite => false,
+    }
+}

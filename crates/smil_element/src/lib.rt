@@ -1,0 +1,17 @@
+//! One element of a presentation: its facts, its interval and what comes of it, given the intervals of the others.
+#![tactic(auto)]
+
+pub mod comings;
+mod displaced;
+pub mod evaluation;
+pub mod expected;
+pub mod facts;
+mod frozen;
+pub mod intervals;
+pub mod view;
+
+pub use comings::{Comings, comings_of};
+pub use evaluation::{Evaluated, Room, evaluation_of};
+pub use facts::facts_of;
+pub use intervals::Intervals;
+pub use view::view_of;

@@ -1,0 +1,107 @@
+//! The view of one element.
+
+ghost use Rattle.std.specs.Prelude.{◌≡◌, ◌||◌, ◌-ℤ◌, ℕ, Some, true, Option, option_map, IfSome};
+ghost use Rattle.smil_model.specs.declared.document.Node.{Node as AnyNode};
+ghost use Rattle.smil_model.specs.declared.interval.Interval.{Interval as AnyInterval};
+ghost use Rattle.smil_model.specs.document.Document.{elements, node_at, time_parent};
+ghost use Rattle.smil_model.specs.diary.Clocks.{outer};
+ghost use Rattle.smil_model.specs.diary.Diary.{lives_under};
+ghost use Rattle.smil_model.specs.diary.Lawful.{has_element};
+ghost use Rattle.smil_model.specs.shown.Views as model;
+ghost use Rattle.smil_fill.specs.Numbers.{HasNumbersWithin, IsWithin};
+ghost use Rattle.smil_laws.specs.Near.{IsIntervalNear};
+ghost use Rattle.smil_past.specs.Past.{IsPresent, history_of};
+ghost use Rattle.smil_element.specs.Shown.{is_cut, minds, shown_last};
+
+use super::displaced::is_displaced;
+use super::facts::{parent_of, played_of};
+use super::frozen::{fill_of, is_frozen, shows};
+use smil_fill::view;
+use smil_model::{Fill, Interval, View, ViewFacts};
+use smil_past::Past;
+use smil_plays::Played;
+
+/// The view of an element at a moment, by its current interval, whose numbers are from -10^12 to
+/// 10^12. It takes no memory, and a step for each element above it up to an active one; for each of
+/// these that freezes in a seq or an excl, a look-up for each of its siblings.
+pub fn view_of(past: &Past, who: u32, now: i64, interval: Option<Interval>) -> View
+    requires element { has_element past.now.document.nodes who ≡ true }
+    requires moment { IsPresent past.now now }
+    requires near { IfSome interval IsIntervalNear }
+    ensures { (e : AnyNode) (intervals : ℕ → Option AnyInterval) → node_at (elements past.now.document.nodes) who ≡ Some e → intervals who ≡ interval → result ≡ model.view_of (history_of past.now) now intervals e }
+{
+    past.possible();
+    let above = is_frozen(past, parent_of(past, who));
+    view(&view_facts(past, who, now, interval, above))
+}
+
+// What the view of an element follows from, by whether its time parent is frozen.
+fn view_facts(past: &Past, who: u32, now: i64, interval: Option<Interval>, above: bool) -> ViewFacts
+    requires element { has_element past.now.document.nodes who ≡ true }
+    requires moment { IsPresent past.now now }
+    requires near { IfSome interval IsIntervalNear }
+    ensures same { (e : AnyNode) → node_at (elements past.now.document.nodes) who ≡ Some e → model.view_by result ≡ model.view_by (model.view_facts (history_of past.now) now interval (lives_under (time_parent past.now.document.nodes who) past.now.diary || above) above e) }
+    ensures near { HasNumbersWithin result }
+{
+    past.possible();
+    let parent = parent_of(past, who);
+    let played = played_of(past, who);
+    let last = last_shown(&played);
+    let fill = fill_of(past, who);
+    ViewFacts {
+        serial: who,
+        active: past.book().active(who),
+        paused: past.book().paused(who),
+        deferred: played.shown_deferred,
+        interval,
+        begun: played.shown_begun,
+        last,
+        cut: was_cut(&played),
+        fill,
+        displaced: minds(fill, last) && is_displaced(past, who),
+        parent_shows: shows(past, parent, above),
+        parent_frozen: above,
+        standing: past.clocks().outer_stands(who),
+        shift: document_shift(past, who, now),
+        iteration: past.book().iteration(who, parent),
+        finished: past.book().finished(who, parent),
+    }
+}
+
+// The last finished interval in document time.
+fn last_shown(played: &Played) -> Option<(i64, i64)>
+    ensures { result ≡ option_map shown_last played.now.last_finished }
+{
+    played
+        .last_finished
+        .map(|last| (last.shown_begin, last.shown_finish))
+}
+
+// Whether the last finished interval was cut.
+fn was_cut(played: &Played) -> bool
+    ensures { result ≡ is_cut played.now.last_finished }
+{
+    match played.last_finished {
+        Some(last) => last.was_cut,
+        None => false,
+    }
+}
+
+// Whether the view minds what displaces an element.
+fn minds(fill: Fill, last: Option<(i64, i64)>) -> bool
+    ensures { result ≡ minds fill last }
+{
+    match fill {
+        Fill::Freeze => last.is_some(),
+        _ => false,
+    }
+}
+
+// How far document time is ahead of the clock of an element's time parent.
+fn document_shift(past: &Past, who: u32, now: i64) -> i64
+    requires { IsPresent past.now now }
+    ensures value { result ≡ now -ℤ outer (history_of past.now) who now }
+    ensures within { IsWithin result }
+{
+    now - past.clocks().outer(who, now)
+}
