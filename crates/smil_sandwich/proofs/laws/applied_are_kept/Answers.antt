@@ -1,0 +1,5 @@
+use Rattle.smil_sandwich.proofs.Sorted.{applied_are_kept}
+use Rattle.smil_sandwich.proofs.laws.applied_are_kept.Goals as goal
+
+pub returns : goal.returns
+returns c = applied_are_kept
