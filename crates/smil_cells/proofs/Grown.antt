@@ -1,0 +1,378 @@
+-- Cells whose diary has grown by a group, and the course that has come a step further.
+use Rattle.std.proofs.Common.{◌≡◌, refl, sym, ◌∙◌, ap, subst, ℕ, suc, zero, ◌+◌, ◌-◌, ◌<◌, ◌≤◌, List, [], ◌∷◌, ◌++◌, Option, Some, None, ℤ, Bool, true, false, arith, length, take, drop, append_assoc, length-append, FitsSigned, w64}
+use Rattle.std.proofs.Math.Seq.{drop-append_seam, take-append_seam}
+use Rattle.std.proofs.lemmas.List.{take-append-le}
+use Rattle.std.proofs.lemmas.List.Elements.{filter-append}
+use Rattle.std.specs.Prelude.{pos, negsuc, nat_abs, ◌≤ℤ◌, int_le, cond, is_some, slice_get, find, fold, ◌==◌}
+use Rattle.std.specs.Option.{option_map_or}
+use Rattle.std.specs.List.{AllByRecursion}
+use Rattle.std.proofs.lemmas.Int.{ints}
+use Rattle.smil_model.specs.declared.diary.Entry.{Entry}
+use Rattle.smil_model.specs.declared.diary.LogEntry.{LogEntry}
+use Rattle.smil_model.specs.declared.diary.Step.{Step}
+use Rattle.smil_model.specs.declared.document.Node.{Node}
+use Rattle.smil_model.specs.declared.times.TheConstants.{HORIZON}
+use Rattle.smil_model.specs.declared.limits.TheConstants.{DIARY_ENTRIES}
+use Rattle.smil_model.specs.document.Document.{Document, elements, is_element, node_at}
+use Rattle.smil_model.specs.document.Valid.{IsDistinct, IsNumberedTree, IsValid}
+use Rattle.smil_model.specs.diary.Diary.{History, last_moment}
+use Rattle.smil_model.specs.diary.Lawful.{IsLawful, has_element}
+use Rattle.smil_model.specs.diary.Clocks.{until}
+use Rattle.smil_model.specs.happening.Keys.{Change, Coming, coming, first_coming, is_due}
+use Rattle.smil_model.specs.happening.Groups.{at_moment, group, steps_of}
+use Rattle.smil_model.specs.happening.Resolution.{Course, Progress, Reaches, next_step, after_steps, after_coming, after_settling, history_at, outset}
+use Rattle.smil_model.specs.shown.Orders.{Presentation}
+use Rattle.smil_laws.specs.Agreement.{course_on}
+use Rattle.smil_laws.specs.Cut.{IsNamedBelow, NamesBelow}
+use Rattle.smil_laws.proofs.ResolvedSteps.{resolved_lawful}
+use Rattle.smil_stretch.proofs.Diaries.{lawful_first}
+use Rattle.smil_diary.specs.declared.fault.BookFault.{BookFault}
+use Rattle.smil_laws.specs.Courses.{ReachedIsPast}
+use Rattle.smil_laws.specs.Near.{AllNear, HasNear, ResolvedIsNear}
+use Rattle.smil_laws.specs.Seen.{LeavesViews, any_shows}
+use Rattle.smil_model.specs.document.Closure.{has}
+use Rattle.smil_model.specs.interval.Current.{current_interval}
+use Rattle.smil_laws.proofs.Numbered.{ordered}
+use Rattle.smil_laws.proofs.Grouped.{group_filled}
+use Rattle.smil_past.specs.Past as past_of
+use Rattle.smil_cells.proofs.OnWay.{untouched}
+use Rattle.smil_laws.specs.Firsts.{FirstIsOfElement}
+use Rattle.smil_past.specs.Past.{Happened, IsPresent, with_diary}
+use Rattle.smil_cells.specs.Standing.{IsFront, IsNext, IsRefusing, WhereTold, fresh, fresh_since, MayAppendAll, history_of}
+use Rattle.smil_stretch.specs.Clocks.{AreClocksOf}
+use Rattle.smil_queues.specs.Queues.{kept_queues}
+use Rattle.smil_happening.specs.declared.parts.Parts.{Parts}
+use Rattle.smil_happening.specs.Parts.{ArePartsOf}
+use Rattle.smil_cells.specs.Kept.{IsKept, IsSound, WhereMarked, at_mark, marked_by, standing_of}
+
+pub fits : (z : ℤ) → pos 0 ≤ℤ z → z ≤ℤ HORIZON → FitsSigned w64 z
+fits (pos k) from within = record { sfits = omega (arith, ints, from, within) }
+fits (negsuc k) from within = absurd (omega (arith, ints, from))
+
+no_less : (x : ℤ) → int_le x x ≡ true
+no_less x = grind (arith, ints)
+
+pub until_moment : (m : ℤ) (steps : List Step) → until m (at_moment m steps) ≡ at_moment m steps
+until_moment m [] = refl
+until_moment m (x ∷ xs) = rw (no_less m) (ap (λ (k : List Entry). record { moment = m; step = x } ∷ k) (until_moment m xs))
+
+-- the entries of a moment leave it the moment
+pub present_with : (past : Happened) (m : ℤ) (steps : List Step) → IsPresent past m → IsPresent (with_diary past (past.diary ++ at_moment m steps)) m
+present_with past m steps was = record {
+  past_is = filter-append (λ (x : Entry). int_le x.moment m) past.diary (at_moment m steps) ∙ (ap (λ (k : List Entry). k ++ until m (at_moment m steps)) was.past_is ∙ ap (λ (k : List Entry). past.diary ++ k) (until_moment m steps));
+  from = was.from;
+  within = was.within;
+}
+
+-- ---- what the mark goes back to
+
+module _ (past : Happened) (more : List Entry) where
+  abbrev grown_past : Happened
+  grown_past = with_diary past (past.diary ++ more)
+
+  pub same_mark : (mark : Option ℤ) (lens : Option (ℕ × ℕ)) → ((l : ℕ × ℕ) → lens ≡ Some l → (l.0 ≤ length past.log) × (l.1 ≤ length past.diary)) → marked_by grown_past mark lens ≡ marked_by past mark lens
+  same_mark None lens in_it = refl
+  same_mark (Some m) None in_it = refl
+  same_mark (Some m) (Some l) in_it = rw (take-append-le l.1 past.diary more (in_it l refl).1) refl
+
+  longer : (n : ℕ) → n ≤ length past.diary → n ≤ length (past.diary ++ more)
+  longer n l = let e = length-append past.diary more in omega (arith, e, l)
+
+  module _ (is_current is_marked is_current' is_marked' : History → ℤ → Type 0) (has_mark has_mark' : Bool) (m : ℤ) (fault fault' : Option BookFault) (mark : Option ℤ) (touched touched' : List ℕ) where
+    pub grown : ((h : History) (now : ℤ) → is_marked h now → is_marked' h now) → has_mark' ≡ has_mark → IsPresent grown_past m
+        → (fault' ≡ None → IsSound is_current' (standing_of grown_past m fault' mark touched'))
+        → IsKept is_current is_marked has_mark past m fault mark touched
+        → IsKept is_current' is_marked' has_mark' grown_past m fault' mark touched'
+    grown given has present sound kept = record {
+      present = present;
+      log = kept.log;
+      sound = sound;
+      marked = subst (λ (x : Option (Presentation × List Entry)). WhereMarked is_marked' touched' x) (sym (same_mark mark past.marked kept.lens)) (by_mark (marked_by past mark past.marked) kept.marked);
+      table_mark = has ∙ kept.table_mark;
+      past_mark = kept.past_mark;
+      mark_from = kept.mark_from;
+      lens = λ l e. ((kept.lens l e).0, longer l.1 (kept.lens l e).1);
+    }
+      where
+        by_mark : (x : Option (Presentation × List Entry)) → WhereMarked is_marked touched x → WhereMarked is_marked' touched' x
+        by_mark None k = k
+        by_mark (Some x) k = record { state = k.state; reached = k.reached; current = given (history_of (at_mark touched x)) (pos x.0.now) k.current }
+
+pub refusing : (past new : Happened) (more : List Entry) (m : ℤ) (fault : Option BookFault) (f : BookFault) (mark : Option ℤ) (touched touched' : List ℕ) → new ≡ with_diary past (past.diary ++ more)
+    → ((l : ℕ × ℕ) → past.marked ≡ Some l → (l.0 ≤ length past.log) × (l.1 ≤ length past.diary))
+    → IsRefusing (standing_of past m fault mark touched) (standing_of new m (Some f) mark touched') f
+refusing past new more m fault f mark touched touched' made in_it =
+    subst (λ (x : Happened). IsRefusing (standing_of past m fault mark touched) (standing_of x m (Some f) mark touched') f) (sym made)
+    (record { fault_is = refl; document = refl; marked = same_mark past more mark past.marked in_it })
+
+-- ---- what comes first is of an element
+
+pub of_element : FirstIsOfElement → (h : History) (now : ℤ) (c : Coming) → IsDistinct h.nodes → first_coming (coming h now) ≡ Some c → has_element h.nodes c.key.serial ≡ true
+of_element law h now c distinct first = ap (λ (x : Option Node). is_some x) (law h now c distinct first).here
+
+-- ---- one step further
+
+pub one_more : (c : Course) (i : ℕ) (x q r : Progress) → after_steps c i x ≡ q → next_step c q ≡ Some r → after_steps c (suc i) x ≡ r
+one_more c zero x q r e n = ap (λ o. option_map_or (λ s. s) o x) (ap (next_step c) e ∙ n)
+one_more c (suc i) x q r e n = by_next (next_step c x) refl e (λ y. one_more c i y q r)
+  where
+    by_next : (o : Option Progress) → next_step c x ≡ o → option_map_or (λ s. after_steps c i s) o x ≡ q → ((y : Progress) → after_steps c i y ≡ q → next_step c q ≡ Some r → after_steps c (suc i) y ≡ r) → option_map_or (λ s. after_steps c (suc i) s) o x ≡ r
+    by_next None d f later = let never : None ≡ Some r = sym d ∙ ap (next_step c) f ∙ n in cc
+    by_next (Some y) d f later = later y f n
+
+module _ (document : Document) (log : List LogEntry) (now : ℕ) (diary : List Entry) (next : Coming) where
+  abbrev h : History
+  h = record { nodes = document.nodes; log = log; diary = diary }
+
+  abbrev at : Progress
+  at = record { moment = now; heard = length log; diary = diary }
+
+  abbrev then : Progress
+  then = record { moment = now; heard = length log; diary = diary ++ group h (pos now) next.key.serial next.change }
+
+  pub step_on : first_coming (coming h (pos now)) ≡ Some next → is_due (pos now) next.key ≡ true → next_step (course_on document.nodes log now) at ≡ Some then
+  step_on first due = ap (λ (x : Option Coming). after_coming (course_on document.nodes log now) at x) first ∙ by_test (is_due (pos now) next.key) due
+    where
+      by_test : (b : Bool) → b ≡ true → cond b (Some then) (after_settling (course_on document.nodes log now) at (slice_get log (length log))) ≡ Some then
+      by_test true e = refl
+      by_test false e = cc
+
+  module _ (reached : Reaches (course_on document.nodes log now) at) (first : first_coming (coming h (pos now)) ≡ Some next) (due : is_due (pos now) next.key ≡ true) where
+    pub reached_next : Reaches (course_on document.nodes log now) then
+    reached_next = (suc reached.0, one_more (course_on document.nodes log now) reached.0 outset at then reached.1 (step_on first due))
+
+    pub lawful_next : IsNumberedTree document → pos now ≤ℤ HORIZON → IsLawful (record { nodes = document.nodes; log = log; diary = then.diary })
+    unfolding reached_next
+    lawful_next numbered within =
+        subst (λ (x : Progress). IsLawful (history_at (course_on document.nodes log now) x)) reached_next.1
+        (resolved_lawful document log now (suc reached.0) numbered within)
+
+    pub near_next : ResolvedIsNear → pos now ≤ℤ HORIZON → AllNear then.diary
+    unfolding reached_next
+    near_next law within = subst (λ (x : Progress). AllNear x.diary) reached_next.1 (law document log now (suc reached.0) within)
+
+    pub named_next : ReachedIsPast → NamesBelow (length log) then.diary
+    named_next law = (law document log now then reached_next).named
+
+-- ---- each step of a group may follow
+
+at_seam : (P : Entry → Type 0) (xs : List Entry) (y : Entry) (ys : List Entry) → AllByRecursion P (xs ++ y ∷ ys) → P y
+at_seam P [] y ys all = all.0
+at_seam P (x ∷ xs) y ys all = at_seam P xs y ys all.1
+
+first_part : (nodes : List Node) (log : List LogEntry) (front rest : List Entry) → IsLawful (record { nodes = nodes; log = log; diary = front ++ rest }) → IsLawful (record { nodes = nodes; log = log; diary = front })
+first_part nodes log front rest lawful =
+    subst (λ (d : List Entry). IsLawful (record { nodes = nodes; log = log; diary = d })) (take-append_seam front rest)
+    (lawful_first (record { nodes = nodes; log = log; diary = front ++ rest }) (length front) lawful)
+
+pub all_may : (past : Happened) (m : ℤ) (steps : List Step) → IsLawful (record { nodes = past.document.nodes; log = past.log; diary = past.diary ++ at_moment m steps }) → AllNear (past.diary ++ at_moment m steps) → NamesBelow (length past.log) (past.diary ++ at_moment m steps) → MayAppendAll past (at_moment m steps)
+all_may past m [] lawful near named = tt
+all_may past m (x ∷ xs) lawful near named =
+    let y : Entry = record { moment = m; step = x } in
+    let seam : past.diary ++ (y ∷ at_moment m xs) ≡ (past.diary ++ y ∷ []) ++ at_moment m xs = sym (append_assoc past.diary (y ∷ []) (at_moment m xs)) in
+    let whole = subst (λ (d : List Entry). IsLawful (record { nodes = past.document.nodes; log = past.log; diary = d })) seam lawful in (
+      record {
+        lawful = first_part past.document.nodes past.log (past.diary ++ y ∷ []) (at_moment m xs) whole;
+        near = at_seam (λ (e : Entry). HasNear e.step) past.diary y (at_moment m xs) near;
+        named = at_seam (λ (e : Entry). IsNamedBelow (length past.log) e.step) past.diary y (at_moment m xs) named;
+      },
+      all_may (with_diary past (past.diary ++ y ∷ [])) m xs whole
+          (subst (λ (d : List Entry). AllNear d) seam near)
+          (subst (λ (d : List Entry). NamesBelow (length past.log) d) seam named),
+    )
+
+-- ---- what the group is told by
+
+pub is_late : (m : ℤ) (diary : List Entry) → pos 0 ≤ℤ m → until m diary ≡ diary → last_moment diary ≤ℤ m
+is_late m diary from is = over (pos 0) diary from is
+  where
+    shorter : (ds : List Entry) → length (until m ds) ≤ length ds
+    shorter [] = omega arith
+    shorter (x ∷ xs) = by_test (int_le x.moment m) (shorter xs)
+      where
+        by_test : (b : Bool) → length (until m xs) ≤ length xs → length (cond b (x ∷ until m xs) (until m xs)) ≤ suc (length xs)
+        by_test true s = omega (arith, s)
+        by_test false s = omega (arith, s)
+
+    no_later : (x : ℤ) → int_le x m ≡ true → x ≤ℤ m
+    no_later x q = grind (arith, ints)
+
+    over : (a : ℤ) (ds : List Entry) → a ≤ℤ m → until m ds ≡ ds → fold (λ before (x : Entry). x.moment) a ds ≤ℤ m
+    over a [] l e = l
+    over a (x ∷ xs) l e = by_test (int_le x.moment m) refl e (shorter xs) (no_later x.moment) (λ q r. over x.moment xs q r)
+      where
+        by_test : (b : Bool) → int_le x.moment m ≡ b → cond b (x ∷ until m xs) (until m xs) ≡ x ∷ xs → length (until m xs) ≤ length xs → (int_le x.moment m ≡ true → x.moment ≤ℤ m)
+            → (x.moment ≤ℤ m → until m xs ≡ xs → fold (λ before (y : Entry). y.moment) x.moment xs ≤ℤ m) → fold (λ before (y : Entry). y.moment) x.moment xs ≤ℤ m
+        by_test true t f s late goes = let rest : until m xs ≡ xs = cc in goes (late t) rest
+        by_test false t f s late goes = let n : length (until m xs) ≡ suc (length xs) = ap (λ (l : List Entry). length l) f in absurd (omega (arith, s, n))
+
+pub parts : (past : Happened) (m : ℤ) (given : Parts) → given.moment ≡ m → IsPresent past m
+    → given.tree.now ≡ past.document → given.book.now ≡ past.diary → AreClocksOf given.clocks.now (past_of.history_of past) → given.queues.now ≡ kept_queues (past_of.history_of past)
+    → ArePartsOf given (past_of.history_of past)
+parts past m given whole present d b c q = record {
+  same_nodes = ap (λ (x : Document). x.nodes) (sym d);
+  same_diary = sym b;
+  clocks_are = c;
+  queues_are = record { nodes = ap (λ (x : Document). x.nodes) (sym d); value = q };
+  moment_is = record { low = subst (λ (v : ℤ). pos 0 ≤ℤ v) (sym whole) present.from; high = subst (λ (v : ℤ). v ≤ℤ HORIZON) (sym whole) present.within };
+  late = subst (λ (v : ℤ). last_moment past.diary ≤ℤ v) (sym whole) (is_late m past.diary present.from present.past_is);
+}
+
+-- an element is a node
+pub known : (nodes : List Node) (s : ℕ) → has_element nodes s ≡ true → is_some (node_at nodes s) ≡ true
+known [] s q = q
+known (n ∷ ns) s q = by_test (n.serial == s) refl (is_element n) q (known ns s)
+  where
+    by_test : (t : Bool) → (n.serial == s) ≡ t → (b : Bool) → is_some (find (λ (x : Node). x.serial == s) (cond b (n ∷ elements ns) (elements ns))) ≡ true → (has_element ns s ≡ true → is_some (node_at ns s) ≡ true) → is_some (cond t (Some n) (node_at ns s)) ≡ true
+    by_test true e b p below = refl
+    by_test false e false p below = below p
+    by_test false e true p below = below (subst (λ (t : Bool). is_some (cond t (Some n) (node_at (elements ns) s)) ≡ true) e p)
+
+pub known_in : (past : Happened) (document : Document) (s : ℕ) → document ≡ past.document → has_element past.document.nodes s ≡ true → is_some (node_at document.nodes s) ≡ true
+known_in past document s is q = subst (λ (d : Document). is_some (node_at d.nodes s) ≡ true) (sym is) (known past.document.nodes s q)
+
+take_at : (m : ℤ) (k : ℕ) (steps : List Step) → take k (at_moment m steps) ≡ at_moment m (take k steps)
+take_at m zero steps = refl
+take_at m (suc k) [] = refl
+take_at m (suc k) (x ∷ xs) = ap (λ (l : List Entry). record { moment = m; step = x } ∷ l) (take_at m k xs)
+
+length_at : (m : ℤ) (steps : List Step) → length (at_moment m steps) ≡ length steps
+length_at m [] = refl
+length_at m (x ∷ xs) = ap suc (length_at m xs)
+
+-- the list of the group is the steps at the moment
+module _ (past : Happened) (m z : ℤ) (serial : ℕ) (change : Change) (entries : List Entry) (whole : z ≡ m) (made : entries ≡ group (past_of.history_of past) z serial change) where
+  abbrev pub now_steps : List Step
+  now_steps = steps_of (past_of.history_of past) m serial change
+
+  pub made_now : entries ≡ at_moment m now_steps
+  made_now = made ∙ ap (λ (v : ℤ). group (past_of.history_of past) v serial change) whole
+
+  pub all_now : (new : Happened) → new ≡ with_diary past (past.diary ++ entries) → new ≡ with_diary past (past.diary ++ at_moment m now_steps)
+  all_now new is = is ∙ ap (λ (l : List Entry). with_diary past (past.diary ++ l)) made_now
+
+  pub some_now : (new : Happened) (k : ℕ) → new ≡ with_diary past (past.diary ++ take k entries) → new ≡ with_diary past (past.diary ++ at_moment m (take k now_steps))
+  some_now new k is = is ∙ ap (λ (l : List Entry). with_diary past (past.diary ++ l)) (ap (λ (l : List Entry). take k l) made_now ∙ take_at m k now_steps)
+
+  pub many_now : (d : ℕ) → d < length past.diary + length entries → d < length past.diary + length now_steps
+  many_now d l = let e = ap (λ (x : List Entry). length x) made_now ∙ length_at m now_steps in omega (arith, e, l)
+
+-- ---- the group of what comes first
+
+pub positive : (v : ℤ) → pos 0 ≤ℤ v → v ≡ pos (nat_abs v)
+positive (pos k) l = refl
+positive (negsuc k) l = absurd (omega (arith, ints, l))
+
+less_eq : (x y : ℤ) → x ≤ℤ y → int_le x y ≡ true
+less_eq x y l = grind (arith, ints)
+
+split_at : (m : ℤ) (k : ℕ) (steps : List Step) → (rest : List Entry) × (at_moment m steps ≡ at_moment m (take k steps) ++ rest)
+split_at m zero steps = (at_moment m steps, refl)
+split_at m (suc k) [] = ([], refl)
+split_at m (suc k) (x ∷ xs) = let r = split_at m k xs in (r.0, ap (λ (l : List Entry). record { moment = m; step = x } ∷ l) r.1)
+
+module _ (past : Happened) (m : ℤ) (steps : List Step) (next : Coming) (valid : IsValid past.document) (present : IsPresent past m) (reached : Reaches (course_on past.document.nodes past.log (nat_abs m)) (record { moment = nat_abs m; heard = length past.log; diary = past.diary })) (first : first_coming (coming (record { nodes = past.document.nodes; log = past.log; diary = past.diary }) (pos (nat_abs m))) ≡ Some next) (due : next.key.value ≤ℤ pos (nat_abs m)) (made : steps ≡ steps_of (record { nodes = past.document.nodes; log = past.log; diary = past.diary }) m next.key.serial next.change) where
+  is_due_now : is_due (pos (nat_abs m)) next.key ≡ true
+  is_due_now = less_eq next.key.value (pos (nat_abs m)) due
+
+  whole : m ≡ pos (nat_abs m)
+  whole = positive m present.from
+
+  group_is : group (record { nodes = past.document.nodes; log = past.log; diary = past.diary }) (pos (nat_abs m)) next.key.serial next.change ≡ at_moment m steps
+  group_is = subst (λ (z : ℤ). at_moment z (steps_of (record { nodes = past.document.nodes; log = past.log; diary = past.diary }) z next.key.serial next.change) ≡ at_moment m steps) whole (ap (λ (l : List Step). at_moment m l) (sym made))
+
+  diary_is : past.diary ++ group (record { nodes = past.document.nodes; log = past.log; diary = past.diary }) (pos (nat_abs m)) next.key.serial next.change ≡ past.diary ++ at_moment m steps
+  diary_is = ap (λ (l : List Entry). past.diary ++ l) group_is
+
+  near_now : pos (nat_abs m) ≤ℤ HORIZON
+  near_now = subst (λ (z : ℤ). z ≤ℤ HORIZON) whole present.within
+
+  pub may : ResolvedIsNear → ReachedIsPast → MayAppendAll past (at_moment m steps)
+  may near is_past = all_may past m steps
+      (subst (λ (d : List Entry). IsLawful (record { nodes = past.document.nodes; log = past.log; diary = d })) diary_is (lawful_next past.document past.log (nat_abs m) past.diary next reached first is_due_now valid.numbered near_now))
+      (subst (λ (d : List Entry). AllNear d) diary_is (near_next past.document past.log (nat_abs m) past.diary next reached first is_due_now near near_now))
+      (subst (λ (d : List Entry). NamesBelow (length past.log) d) diary_is (named_next past.document past.log (nat_abs m) past.diary next reached first is_due_now is_past))
+
+  pub reached_after : Reaches (course_on past.document.nodes past.log (nat_abs m)) (record { moment = nat_abs m; heard = length past.log; diary = past.diary ++ at_moment m steps })
+  reached_after = subst (λ (d : List Entry). Reaches (course_on past.document.nodes past.log (nat_abs m)) (record { moment = nat_abs m; heard = length past.log; diary = d })) diary_is (reached_next past.document past.log (nat_abs m) past.diary next reached first is_due_now)
+
+  pub stepped : next_step (course_on past.document.nodes past.log (nat_abs m)) (record { moment = nat_abs m; heard = length past.log; diary = past.diary }) ≡ Some (record { moment = nat_abs m; heard = length past.log; diary = past.diary ++ at_moment m steps })
+  stepped = subst (λ (d : List Entry). next_step (course_on past.document.nodes past.log (nat_abs m)) (record { moment = nat_abs m; heard = length past.log; diary = past.diary }) ≡ Some (record { moment = nat_abs m; heard = length past.log; diary = d })) diary_is (step_on past.document past.log (nat_abs m) past.diary next first is_due_now)
+
+  pub grows_by : length past.diary < length (past.diary ++ at_moment m steps)
+  grows_by =
+      let some = subst (λ (l : List Entry). 0 < length l) group_is (group_filled (record { nodes = past.document.nodes; log = past.log; diary = past.diary }) (pos (nat_abs m)) next.key.serial next.change) in
+      let e = length-append past.diary (at_moment m steps) in
+      omega (arith, some, e)
+
+  pub fronted : (new : Happened) (k : ℕ) → new ≡ with_diary past (past.diary ++ at_moment m (take k steps)) → length new.diary ≡ DIARY_ENTRIES → DIARY_ENTRIES < length past.diary + length steps
+      → IsFront (course_on past.document.nodes past.log (nat_abs m)) new.diary
+  fronted new k is filled many = record {
+    at = record { moment = nat_abs m; heard = length past.log; diary = past.diary ++ at_moment m steps };
+    reached = reached_after;
+    front = sym (subst (λ (n : ℕ). take n (past.diary ++ at_moment m steps) ≡ new.diary) filled
+        (subst (λ (d : List Entry). take (length d) (past.diary ++ at_moment m steps) ≡ d) (sym (ap (λ (x : Happened). x.diary) is))
+        (ap (λ (l : List Entry). take (length (past.diary ++ at_moment m (take k steps))) l) seam ∙ take-append_seam (past.diary ++ at_moment m (take k steps)) (split_at m k steps).0)));
+    many = numbers (length past.diary) (length steps) (length (past.diary ++ at_moment m steps)) DIARY_ENTRIES (length-append past.diary (at_moment m steps) ∙ ap (λ (n : ℕ). length past.diary + n) (length_at m steps)) many;
+  }
+    where
+      numbers : (a b c d : ℕ) → c ≡ a + b → d < a + b → d < c
+      numbers a b c d e l = omega (arith, e, l)
+
+      seam : past.diary ++ at_moment m steps ≡ (past.diary ++ at_moment m (take k steps)) ++ (split_at m k steps).0
+      seam = ap (λ (l : List Entry). past.diary ++ l) (split_at m k steps).1 ∙ sym (append_assoc past.diary (at_moment m (take k steps)) (split_at m k steps).0)
+
+-- ---- the group has been taken in
+
+module _ (past : Happened) (m z : ℤ) (steps : List Step) (fault : Option BookFault) (mark : Option ℤ) (touched mid others : List ℕ) (start : ℕ) (here : z ≡ pos (nat_abs m)) (begins : start ≡ length past.diary) where
+  abbrev after : Happened
+  after = with_diary past (past.diary ++ at_moment m steps)
+
+  abbrev Shown : Happened → Type 0
+  Shown x = (e : Node) → node_at (elements x.document.nodes) e.serial ≡ Some e → any_shows x.document.nodes x.log (drop start x.diary) e.serial ≡ true → has mid e.serial ≡ true
+
+  abbrev Changed : Happened → Type 0
+  Changed x = (s : ℕ) → has others s ≡ false → current_interval (past_of.history_of x) z s ≡ current_interval (past_of.front x start) z s
+
+  abbrev Stays : Happened → Type 0
+  Stays x = (e : Node) → node_at (elements x.document.nodes) e.serial ≡ Some e → has touched e.serial ≡ true → has mid e.serial ≡ true
+
+  abbrev Came : Happened → Type 0
+  Came x = IsNext (standing_of past m fault mark touched) (standing_of x m None mark others)
+
+  front_is : take start (past.diary ++ at_moment m steps) ≡ past.diary
+  front_is = rw begins (take-append_seam past.diary (at_moment m steps))
+
+  rest_is : drop start (past.diary ++ at_moment m steps) ≡ at_moment m steps
+  rest_is = rw begins (drop-append_seam past.diary (at_moment m steps))
+
+  module _ (leaves : LeavesViews) (numbered : IsNumberedTree past.document) (lens : (l : ℕ × ℕ) → past.marked ≡ Some l → (l.0 ≤ length past.log) × (l.1 ≤ length past.diary)) (step : next_step (course_on past.document.nodes past.log (nat_abs m)) (record { moment = nat_abs m; heard = length past.log; diary = past.diary }) ≡ Some (record { moment = nat_abs m; heard = length past.log; diary = past.diary ++ at_moment m steps })) (grows : length past.diary < length (past.diary ++ at_moment m steps)) (two : (s : ℕ) → has mid s ≡ true → has others s ≡ true) where
+    came : length after.diary ≤ DIARY_ENTRIES → Stays after → Shown after → Changed after → Came after
+    came few one shown changed = record {
+      presentation_is = refl;
+      step = step;
+      diary = (at_moment m steps, refl);
+      grows = grows;
+      few = few;
+      sound = refl;
+      marked = same_mark past (at_moment m steps) mark past.marked lens;
+      more = λ e there q. two e.serial (one e there q);
+      views = λ e there free.
+          leaves (record { nodes = past.document.nodes; log = past.log; diary = past.diary }) (at_moment m steps) (pos (nat_abs m)) e (ordered past.document numbered).first there
+          (untouched (any_shows past.document.nodes past.log (at_moment m steps) e.serial) (has others e.serial) free
+          (λ q. two e.serial (shown e there (subst (λ (l : List Entry). any_shows past.document.nodes past.log l e.serial ≡ true) (sym rest_is) q))))
+          (subst (λ (x : ℤ). current_interval (record { nodes = past.document.nodes; log = past.log; diary = past.diary ++ at_moment m steps }) x e.serial ≡ current_interval (record { nodes = past.document.nodes; log = past.log; diary = past.diary }) x e.serial) here
+          (changed e.serial free ∙ ap (λ (l : List Entry). current_interval (record { nodes = past.document.nodes; log = past.log; diary = l }) z e.serial) front_is));
+    }
+
+    pub came_to : (new : Happened) → new ≡ after → length new.diary ≤ DIARY_ENTRIES → Stays new → Shown new → Changed new → Came new
+    came_to new is = subst (λ (x : Happened). length x.diary ≤ DIARY_ENTRIES → Stays x → Shown x → Changed x → Came x) (sym is) came
+
+  abbrev Fewer : Bool → ℕ → Happened → Type 0
+  Fewer flag n x = WhereTold flag (fresh x.document.nodes (current_interval (past_of.front x start) z) (current_interval (past_of.history_of x) z) ≤ n)
+
+  pub least_fresh : (flag : Bool) (n : ℕ) (new : Happened) → new ≡ after → Fewer flag n new → WhereTold flag (fresh_since (standing_of past m fault mark touched) (standing_of new m None mark others) ≤ n)
+  least_fresh flag n new is =
+      subst (λ (x : Happened). Fewer flag n x → WhereTold flag (fresh_since (standing_of past m fault mark touched) (standing_of x m None mark others) ≤ n)) (sym is)
+      (λ q. subst (λ (x : ℤ). WhereTold flag (fresh past.document.nodes (current_interval (record { nodes = past.document.nodes; log = past.log; diary = past.diary }) x) (current_interval (record { nodes = past.document.nodes; log = past.log; diary = past.diary ++ at_moment m steps }) x) ≤ n)) here
+      (subst (λ (l : List Entry). WhereTold flag (fresh past.document.nodes (current_interval (record { nodes = past.document.nodes; log = past.log; diary = l }) z) (current_interval (record { nodes = past.document.nodes; log = past.log; diary = past.diary ++ at_moment m steps }) z) ≤ n)) front_is q))

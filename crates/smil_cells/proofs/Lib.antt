@@ -1,0 +1,14 @@
+pub mod Coming
+pub mod Passing
+pub mod Undoing
+pub mod Refusals
+pub mod OnWay
+pub mod Grown
+pub mod Heard
+pub mod Heeded
+pub mod Hearing
+pub mod Onward
+pub mod Showing
+pub mod Parting
+pub mod Ordering
+pub mod Begun

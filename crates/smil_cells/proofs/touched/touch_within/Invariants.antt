@@ -1,0 +1,7 @@
+use Rattle.std.proofs.Common.{◌≡◌, ◌++◌}
+use Rattle.std.specs.Prelude.{slice_range}
+use Rattle.smil_model.specs.document.Document.{serials}
+use Rattle.smil_cells.proofs.touched.touch_within.Given as goal
+
+abbrev pub invariant-loop-at : goal.invariant-loop-at
+invariant-loop-at l = l.touched ≡ l.initial.touched ++ serials (slice_range l.tree.nodes l.start l.at)

@@ -1,0 +1,104 @@
+//! Current intervals, and what comes next, however they are kept.
+
+ghost use Rattle.std.specs.Prelude.{◌≡◌, ◌-◌, ◌≤◌, ℕ, ℤ, drop, length, Bool, true, false, Option, OnOk, IfOk, option_map};
+ghost use Rattle.smil_model.specs.document.Closure.{has};
+ghost use Rattle.smil_model.specs.document.Document.{elements};
+ghost use Rattle.smil_model.specs.diary.Diary.{History};
+ghost use Rattle.smil_model.specs.interval.Current.{current_interval};
+ghost use Rattle.smil_model.specs.happening.Keys.{coming, first_coming};
+ghost use Rattle.smil_model.specs.reach.Bounds.{reaches};
+ghost use Rattle.smil_laws.specs.Same.{IsSame};
+ghost use Rattle.smil_happening.specs.Parts.{coming_meant};
+ghost use Rattle.smil_past.specs.Past.{IsPresent, front, history_of};
+ghost use Rattle.smil_cells.specs.Standing.{WhereTold, any_interval, fresh};
+
+use smil_happening::Coming;
+use smil_model::{Interval, Serials, Steps};
+use smil_past::Past;
+use std::alloc::{AllocError, Global};
+use std::sync::ledger::Ledger;
+
+/// The current interval of each element of a document, and what comes next, kept while entries are appended. Its meanings are
+/// whether they are those of a history at a moment, whether `back` gives those of a history at a moment, whether a mark
+/// stands, and whether it tells how often intervals are evaluated.
+pub trait Table: Drop {
+    ghost is_current: { Self → History → ℤ → Type 0 };
+
+    ghost is_marked: { Self → History → ℤ → Type 0 };
+
+    ghost has_mark: { Self → Bool };
+
+    ghost counts: { Bool };
+
+    /// The table of what has happened, at a moment, unless memory runs out; each element is evaluated at most once.
+    fn of<L: Ledger>(
+        alloc: Global,
+        past: &Past,
+        moment: i64,
+        steps: &mut Steps<L>,
+    ) -> Result<Self, AllocError>
+        requires moment { IsPresent past.now moment }
+        ensures current { IfOk result (λ table. is_current table (history_of past.now) moment) }
+        ensures unmarked { IfOk result (λ table. has_mark table ≡ false) }
+        ensures counted { steps.old ≤ steps.new }
+        ensures most { WhereTold counts (steps.new - steps.old ≤ length (elements past.now.document.nodes)) }
+        ensures least { OnOk result (WhereTold counts (any_interval past.now.document.nodes (current_interval (history_of past.now) moment) ≤ steps.new - steps.old)) };
+
+    /// Takes in the entries from a place on, and appends to `changed` the elements whose intervals they may have changed. After a
+    /// refusal nothing is known of the table but what `back` gives.
+    fn refresh<L: Ledger>(
+        &mut self,
+        past: &Past,
+        from: usize,
+        moment: i64,
+        changed: &mut Serials,
+        steps: &mut Steps<L>,
+    ) -> Result<(), AllocError>
+        requires moment { IsPresent past.now moment }
+        requires within { from ≤ length past.now.diary }
+        requires before { is_current self.old (front past.now from) moment }
+        ensures current { OnOk result (is_current self.new (history_of past.now) moment) }
+        ensures changed { OnOk result ((s : ℕ) → has changed.new s ≡ false → current_interval (history_of past.now) moment s ≡ current_interval (front past.now from) moment s) }
+        ensures more { OnOk result ((s : ℕ) → has changed.old s ≡ true → has changed.new s ≡ true) }
+        ensures marked { (h : History) (now : ℤ) → is_marked self.old h now → is_marked self.new h now }
+        ensures has_mark { has_mark self.new ≡ has_mark self.old }
+        ensures counted { steps.old ≤ steps.new }
+        ensures most { OnOk result (WhereTold counts (steps.new - steps.old ≤ reaches past.now.document.nodes past.now.log (drop from past.now.diary))) }
+        ensures least { OnOk result (WhereTold counts (fresh past.now.document.nodes (current_interval (front past.now from) moment) (current_interval (history_of past.now) moment) ≤ steps.new - steps.old)) };
+
+    /// The current interval of an element. It takes no memory.
+    fn interval(&self, who: u32) -> Option<Interval>
+        ensures { (h : History) (now : ℤ) → is_current self.now h now → result ≡ current_interval h now who };
+
+    /// What comes first; None exactly where nothing comes. It takes no memory.
+    fn first(&self) -> Option<Coming>
+        ensures { (h : History) (now : ℤ) → is_current self.now h now → option_map coming_meant result ≡ first_coming (coming h now) };
+
+    /// A copy, unless memory runs out. No mark stands.
+    fn copy(&self) -> Result<Self, AllocError>
+        requires { has_mark self.now ≡ false }
+        ensures current { IfOk result (λ copy. (h : History) (now : ℤ) → is_current self.now h now → is_current copy h now) }
+        ensures unmarked { IfOk result (λ copy. has_mark copy ≡ false) };
+
+    /// From here on `back` comes back to this. No mark stands. It takes no memory.
+    fn mark(&mut self)
+        requires { has_mark self.old ≡ false }
+        ensures current { (h : History) (now : ℤ) → is_current self.old h now → is_current self.new h now }
+        ensures marked { (h : History) (now : ℤ) → is_current self.old h now → is_marked self.new h now }
+        ensures has_mark { has_mark self.new ≡ true };
+
+    /// Goes back to the mark, which stands no longer. It takes no memory.
+    fn back(&mut self)
+        requires { has_mark self.old ≡ true }
+        ensures current { (h : History) (now : ℤ) → is_marked self.old h now → is_current self.new h now }
+        ensures has_mark { has_mark self.new ≡ false };
+
+    /// Lets the mark go. It takes no memory.
+    fn forget(&mut self)
+        requires { has_mark self.old ≡ true }
+        ensures current { (h : History) (now : ℤ) → is_current self.old h now → is_current self.new h now }
+        ensures has_mark { has_mark self.new ≡ false };
+
+    /// What is current stays so where the same is current by another history.
+    ghost stays: { (t : Self) (h k : History) (m n : ℤ) → IsSame h m k n → is_current t h m → is_current t k n };
+}
