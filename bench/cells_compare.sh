@@ -1,0 +1,508 @@
+#!/bin/sh
+# cells_compare.sh ORACLE [SEED] [CASES] [FILES]: compares cells over the plain table with the reference model in the folder
+# ORACLE by random scripts: settling near and far, events, keys and lengths of media, marks that are gone back to or let go,
+# copies that go on beside their originals, and rebuilding, also of changed documents. After each call the new entries of the
+# diary, the intervals and views that changed, the moment, the next due moment and the lengths of log and diary are told;
+# of the touched elements that they are in document order, each once, and that each view that changed is among them; after
+# `back` that all is as it was at the mark; after a refusal that it is answered again, or that the mark can be gone back to.
+# It makes a small program in a temporary folder, and runs it by `rt try`, so with checks and unproved: its scripts come
+# from outside. Its last line counts the files: `differs=0` where all is the same.
+set -eu
+. "$(dirname "$0")/program.sh"
+new_program compare_cells smil_model smil_laws smil_grammar smil_lexis smil_clock_value smil_time_list smil_attrs smil_outline smil_tree smil_graph smil_diary smil_stretch smil_duration smil_instance_rows smil_instances smil_plays smil_excl smil_queues smil_syncs smil_past smil_interval smil_endsync smil_fill smil_happening smil_element smil_cells smil_due smil_plain
+python3 "$here/bench/engine_cases.py" --kind cells --oracle "$1" --out "$work/cases" --seed "${2:-1}" --cases "${3:-500}" --files "${4:-10}"
+cat > "$program/src/main.rt" <<'RT'
+#![tactic(auto)]
+
+use smil_diary::BookFault;
+use smil_element::view_of;
+use smil_model::{Bytes, Doc, Entry, Happening, Interval, Kind, LogEntry, Shown, State, Step, Steps, Time, View};
+use smil_outline::Builder;
+use smil_plain::PlainCells;
+use std::alloc::Global;
+use std::io::{self, BufRead, BufReader, BufWriter, Write};
+use std::marker::Brand;
+use std::sync::ledger::{Blank, Ledger};
+
+/// Cells, and all that is told of them at the mark, where one stands.
+#[derive(Drop)]
+struct Slot {
+    cells: PlainCells,
+    marked: Option<Vec<u8>>,
+}
+
+/// What a script has come to: the cells that orders go to and those beside them, an outline that is read, another document,
+/// the views that must be touched, what was told, and whether an order was refused, after which the script is left aside.
+#[derive(Drop)]
+struct Stage {
+    alloc: Global,
+    builder: Option<Builder>,
+    is_other: bool,
+    here: Option<Slot>,
+    there: Option<Slot>,
+    other: Option<Doc>,
+    seen: Vec<u32>,
+    entries: usize,
+    told: Vec<Vec<u8>>,
+    is_over: bool,
+}
+
+fn number(text: &str) -> Option<i64> {
+    text.parse::<i64>().ok()
+}
+
+fn serial(text: &str) -> Option<u32> {
+    u32::try_from(number(text)?).ok()
+}
+
+// ---- texts
+
+fn write_time<W: Write>(out: &mut W, time: Time) -> io::Result<()> {
+    match time {
+        Time::At(value) => write!(out, "{value}"),
+        Time::Indefinite => write!(out, "indefinite"),
+        Time::Unresolved => write!(out, "unresolved"),
+    }
+}
+
+fn write_interval<W: Write>(out: &mut W, interval: Option<Interval>) -> io::Result<()> {
+    match interval {
+        Some(interval) => {
+            write!(out, "{} ", interval.begin)?;
+            write_time(out, interval.end)
+        }
+        None => write!(out, "-"),
+    }
+}
+
+fn write_entry<W: Write>(out: &mut W, entry: Entry) -> io::Result<()> {
+    let moment = entry.moment;
+    match entry.step {
+        Step::Began { who, begin } => write!(out, "b {moment} {who} {begin}"),
+        Step::Repeated { who, start } => write!(out, "r {moment} {who} {start}"),
+        Step::Ended { who, end } => write!(out, "e {moment} {who} {end}"),
+        Step::Cut { who } => write!(out, "c {moment} {who} 0"),
+        Step::Paused { who } => write!(out, "p {moment} {who} 0"),
+        Step::Resumed { who } => write!(out, "u {moment} {who} 0"),
+        Step::Deferred { who, begin } => write!(out, "f {moment} {who} {begin}"),
+        Step::Passed { who, begin } => write!(out, "s {moment} {who} {begin}"),
+        Step::Logged { place } => write!(out, "l {moment} 0 {place}"),
+    }
+}
+
+fn write_shown<W: Write>(out: &mut W, shown: Shown) -> io::Result<()> {
+    match shown {
+        Shown::Nothing => write!(out, "-"),
+        Shown::At(value) => write!(out, "{value}"),
+        Shown::Indefinite => write!(out, "indefinite"),
+        Shown::Unresolved => write!(out, "unresolved"),
+        Shown::Standing => write!(out, "?"),
+    }
+}
+
+fn state_word(state: State) -> &'static str {
+    match state {
+        State::Idle => "idle",
+        State::Waiting => "waiting",
+        State::Active => "active",
+        State::Paused => "paused",
+        State::Deferred => "deferred",
+        State::Frozen => "frozen",
+        State::Done => "done",
+    }
+}
+
+fn write_view<W: Write>(out: &mut W, view: &View) -> io::Result<()> {
+    write!(out, "{} ", state_word(view.state))?;
+    write_shown(out, view.begin)?;
+    write!(out, " ")?;
+    write_shown(out, view.end)?;
+    write!(out, " {} {}", view.iteration, view.finished)
+}
+
+// ---- what is told of cells
+
+/// All that is told of cells, whatever was told before.
+fn write_whole<W: Write>(out: &mut W, cells: &PlainCells) -> io::Result<()> {
+    for place in 0..cells.book().len() {
+        if let Some(entry) = cells.book().entry(place) {
+            write_entry(out, entry)?;
+            writeln!(out)?;
+        }
+    }
+    let mut place = 0;
+    while let Some(serial) = cells.tree().serial_at(place) {
+        if cells.tree().kind(serial) != Kind::PriorityClass {
+            write_interval(out, cells.interval(serial))?;
+            writeln!(out, " {serial}")?;
+        }
+        place += 1;
+    }
+    write_standing(out, cells)
+}
+
+fn write_standing<W: Write>(out: &mut W, cells: &PlainCells) -> io::Result<()> {
+    write!(out, "now {} due ", cells.moment())?;
+    match cells.next_due() {
+        Some(due) => write!(out, "{due}")?,
+        None => write!(out, "-")?,
+    }
+    writeln!(out, " log {} diary {}", cells.log().len(), cells.book().len())
+}
+
+/// Tells a line, where it isn't as it was told before.
+fn tell_line<W: Write>(
+    out: &mut W,
+    told: &mut Vec<Vec<u8>>,
+    place: usize,
+    name: &str,
+    who: u32,
+    line: Vec<u8>,
+) -> io::Result<()> {
+    while told.len() <= place {
+        told.push(Vec::new(*told.allocator()))?;
+    }
+    if told[place] == line {
+        return Ok(());
+    }
+    write!(out, "{name} {who}: ")?;
+    out.write_all(&line)?;
+    writeln!(out)?;
+    told[place] = line;
+    Ok(())
+}
+
+/// Tells the entries that were not told yet, the intervals and views that changed, and how things stand.
+fn tell<W: Write>(out: &mut W, stage: &mut Stage) -> io::Result<()> {
+    let Some(slot) = &stage.here else {
+        return writeln!(out, "no cells");
+    };
+    let cells = &slot.cells;
+    while let Some(entry) = cells.book().entry(stage.entries) {
+        write!(out, "entry ")?;
+        write_entry(out, entry)?;
+        writeln!(out)?;
+        stage.entries += 1;
+    }
+    let mut place = 0;
+    while let Some(serial) = cells.tree().serial_at(place) {
+        if cells.tree().kind(serial) != Kind::PriorityClass {
+            let interval = cells.interval(serial);
+            let mut line = Vec::new(stage.alloc);
+            write_interval(&mut line, interval)?;
+            tell_line(out, &mut stage.told, 2 * place, "interval", serial, line)?;
+            let mut line = Vec::new(stage.alloc);
+            write_view(&mut line, &view_of(cells.past(), serial, cells.moment(), interval))?;
+            tell_line(out, &mut stage.told, 2 * place + 1, "view", serial, line)?;
+        }
+        place += 1;
+    }
+    write_standing(out, cells)
+}
+
+/// Tells whether the touched elements are in document order, each once, and which views that changed are not among them.
+fn tell_touched<W: Write>(out: &mut W, cells: &PlainCells, seen: &[u32]) -> io::Result<()> {
+    let mut next = 0;
+    for serial in cells.touched().slice() {
+        match cells.tree().position(*serial) {
+            Some(place) if next <= place => next = place + 1,
+            _ => writeln!(out, "touched {serial} out of order")?,
+        }
+    }
+    for serial in seen {
+        if !cells.touched().slice().contains(serial) {
+            writeln!(out, "untouched {serial}")?;
+        }
+    }
+    writeln!(out, "seen")
+}
+
+// ---- orders
+
+/// Forgets what was told, so that all is told again.
+fn anew(stage: &mut Stage) {
+    stage.entries = 0;
+    stage.told = Vec::new(stage.alloc);
+}
+
+/// Reads what came from outside: an event, a press of a key, or the length of media.
+fn happening(alloc: Global, kind: &str, rest: &str) -> Option<Happening> {
+    match kind {
+        "v" => {
+            let (who, name) = rest.split_once(' ')?;
+            Some(Happening::Event {
+                who: serial(who)?,
+                name: Bytes::of(alloc, name.as_bytes()).ok()?,
+            })
+        }
+        "k" => Some(Happening::Key {
+            key: u8::try_from(number(rest)?).ok()?,
+        }),
+        "m" => {
+            let (who, length) = rest.split_once(' ')?;
+            Some(Happening::Media {
+                who: serial(who)?,
+                length: number(length)?,
+            })
+        }
+        _ => None,
+    }
+}
+
+/// Settles or hears, and tells what came of it.
+fn play_on<W: Write, L: Ledger>(
+    out: &mut W,
+    stage: &mut Stage,
+    kind: &str,
+    rest: &str,
+    steps: &mut Steps<L>,
+) -> io::Result<bool> {
+    let alloc = stage.alloc;
+    let Some(slot) = &mut stage.here else {
+        return Ok(false);
+    };
+    let done: Result<(), BookFault> = if kind == "settle" {
+        let Some(until) = number(rest) else {
+            return Ok(false);
+        };
+        slot.cells.settle(until, steps)
+    } else {
+        let Some(what) = happening(alloc, kind, rest) else {
+            return Ok(false);
+        };
+        let moment = slot.cells.moment();
+        slot.cells.hear(LogEntry { moment, what }, steps)
+    };
+    match done {
+        Ok(()) => {}
+        Err(fault) => {
+            stage.is_over = true;
+            refused(out, alloc, slot, fault, steps)?;
+            return Ok(true);
+        }
+    }
+    tell_touched(out, &slot.cells, &stage.seen)?;
+    tell(out, stage)?;
+    Ok(true)
+}
+
+/// Goes back to the mark, and tells whether all is as it was there.
+fn go_back<W: Write>(out: &mut W, alloc: Global, slot: &mut Slot) -> io::Result<()> {
+    slot.cells.back();
+    let mut whole = Vec::new(alloc);
+    write_whole(&mut whole, &slot.cells)?;
+    if slot.marked != Some(whole) {
+        writeln!(out, "not as at the mark")?;
+    }
+    slot.marked = None;
+    Ok(())
+}
+
+/// Tells a refusal, and whether it is answered again, or whether all is as it was at the mark.
+fn refused<W: Write, L: Ledger>(out: &mut W, alloc: Global, slot: &mut Slot, fault: BookFault, steps: &mut Steps<L>) -> io::Result<()> {
+    match fault {
+        BookFault::Memory => writeln!(out, "memory")?,
+        BookFault::DiaryFull => writeln!(out, "full {}", slot.cells.book().len())?,
+    }
+    let moment = slot.cells.moment();
+    if slot.cells.settle(moment, steps) != Err(fault) {
+        writeln!(out, "not refused again")?;
+    }
+    if slot.marked.is_some() {
+        go_back(out, alloc, slot)?;
+        write_whole(out, &slot.cells)?;
+    }
+    Ok(())
+}
+
+/// Marks, goes back, forgets, copies or swaps.
+fn short_order<W: Write>(out: &mut W, stage: &mut Stage, order: &str) -> io::Result<bool> {
+    let alloc = stage.alloc;
+    if order == "swap" {
+        let here = stage.here.take();
+        stage.here = stage.there.take();
+        stage.there = here;
+        anew(stage);
+        tell(out, stage)?;
+        return Ok(true);
+    }
+    let Some(slot) = &mut stage.here else {
+        return Ok(false);
+    };
+    match order {
+        "mark" => {
+            let mut whole = Vec::new(alloc);
+            write_whole(&mut whole, &slot.cells)?;
+            slot.marked = Some(whole);
+            slot.cells.mark();
+        }
+        "back" => {
+            go_back(out, alloc, slot)?;
+            anew(stage);
+        }
+        "forget" => {
+            slot.cells.forget();
+            slot.marked = None;
+        }
+        "copy" => {
+            let copied = slot.cells.copy();
+            match copied {
+                Ok(cells) => {
+                    stage.there = Some(Slot {
+                        cells,
+                        marked: None,
+                    });
+                }
+                Err(_) => {
+                    writeln!(out, "memory")?;
+                    stage.is_over = true;
+                }
+            }
+        }
+        _ => return Ok(false),
+    }
+    tell(out, stage)?;
+    Ok(true)
+}
+
+/// Rebuilds the cells from the first entries, of another document where one was read.
+fn rebuild<W: Write, L: Ledger>(out: &mut W, stage: &mut Stage, rest: &str, steps: &mut Steps<L>) -> io::Result<bool> {
+    let other = stage.other.take();
+    let Some(slot) = &mut stage.here else {
+        return Ok(false);
+    };
+    let Ok(len) = rest.parse::<usize>() else {
+        return Ok(false);
+    };
+    let doc = match other {
+        Some(doc) => doc,
+        None => match slot.cells.tree().doc_copy() {
+            Ok(doc) => doc,
+            Err(_) => return Ok(false),
+        },
+    };
+    if slot.cells.rebuild(&doc, len, steps).is_err() {
+        stage.is_over = true;
+        refused(out, stage.alloc, slot, BookFault::Memory, steps)?;
+        return Ok(true);
+    }
+    anew(stage);
+    tell(out, stage)?;
+    Ok(true)
+}
+
+/// Reads a line of an outline, and opens what it gives at its end.
+fn outline_line<W: Write, L: Ledger>(out: &mut W, stage: &mut Stage, line: &str, steps: &mut Steps<L>) -> io::Result<bool> {
+    let alloc = stage.alloc;
+    if line != "%%" {
+        let Some(builder) = &mut stage.builder else {
+            return Ok(false);
+        };
+        return Ok(builder.push(line.as_bytes()).is_ok());
+    }
+    let Some(builder) = stage.builder.take() else {
+        return Ok(false);
+    };
+    let Ok(doc) = builder.finish() else {
+        return Ok(false);
+    };
+    if stage.is_other {
+        stage.other = Some(doc);
+        return Ok(true);
+    }
+    let Ok(cells) = PlainCells::new(alloc, &doc, steps) else {
+        return Ok(false);
+    };
+    stage.here = Some(Slot {
+        cells,
+        marked: None,
+    });
+    stage.there = None;
+    anew(stage);
+    tell(out, stage)?;
+    Ok(true)
+}
+
+/// Reads which views must be touched.
+fn seen_line(stage: &mut Stage, rest: &str) -> Option<()> {
+    stage.seen = Vec::new(stage.alloc);
+    let mut rest = rest;
+    while let Some((first, more)) = rest.split_once(' ') {
+        stage.seen.push(serial(first)?).ok()?;
+        rest = more;
+    }
+    if !rest.is_empty() {
+        stage.seen.push(serial(rest)?).ok()?;
+    }
+    Some(())
+}
+
+fn taken<W: Write, L: Ledger>(out: &mut W, stage: &mut Stage, line: &str, steps: &mut Steps<L>) -> io::Result<bool> {
+    if line == "end" {
+        stage.builder = None;
+        writeln!(out, "end")?;
+        return Ok(true);
+    }
+    if line == "doc" {
+        stage.is_over = false;
+        stage.here = None;
+    }
+    if stage.is_over {
+        return Ok(true);
+    }
+    if stage.builder.is_some() {
+        let done = outline_line(out, stage, line, steps)?;
+        stage.is_over = !done;
+        return Ok(done);
+    }
+    if line == "doc" || line == "other" {
+        stage.builder = Builder::new(stage.alloc).ok();
+        stage.is_other = line == "other";
+        stage.is_over = stage.builder.is_none();
+        return Ok(stage.builder.is_some());
+    }
+    if line == "seen" {
+        return Ok(seen_line(stage, "").is_some());
+    }
+    let Some((kind, rest)) = line.split_once(' ') else {
+        return short_order(out, stage, line);
+    };
+    match kind {
+        "seen" => Ok(seen_line(stage, rest).is_some()),
+        "rebuild" => rebuild(out, stage, rest, steps),
+        _ => play_on(out, stage, kind, rest, steps),
+    }
+}
+
+fn compare<R: BufRead + Drop, W: Write, L: Ledger>(alloc: Global, blank: Blank, input: R, out: &mut W) -> io::Result<()> {
+    let mut steps = Steps::<L>::new(blank);
+    let mut stage = Stage {
+        alloc,
+        builder: None,
+        is_other: false,
+        here: None,
+        there: None,
+        other: None,
+        seen: Vec::new(alloc),
+        entries: 0,
+        told: Vec::new(alloc),
+        is_over: false,
+    };
+    for line in input.lines(alloc) {
+        let line = line?;
+        if !taken(out, &mut stage, line.as_str(), &mut steps)? {
+            writeln!(out, "not taken {}", line.as_str())?;
+        }
+    }
+    out.flush()
+}
+
+fn main(rt: HostRuntime) -> io::Result<()> {
+    let alloc = rt.alloc();
+    let mut out = BufWriter::new(alloc, io::writer(&rt))?;
+    let input = BufReader::new(alloc, rt.reader())?;
+    compare::<_, _, Brand>(alloc, Blank::new(1), input, &mut out)
+}
+RT
+cd "$program"
+rt try --steps 1000 --seconds 300 --cases "$work/cases"

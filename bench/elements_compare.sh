@@ -1,0 +1,538 @@
+#!/bin/sh
+# elements_compare.sh ORACLE [SEED] [CASES] [FILES]: compares elements one by one with the reference model in the folder
+# ORACLE, after each entry of the diaries of random documents: facts, interval and simple duration by the current intervals
+# of the others, what comes of each with its keys, the group of each coming, what comes first, and the views.
+# It makes a small program in a temporary folder, and runs it by `rt try`, so with checks and unproved: its diaries come
+# from outside. Its last line counts the files: `differs=0` where all is the same.
+set -eu
+. "$(dirname "$0")/program.sh"
+new_program compare_elements smil_model smil_laws smil_grammar smil_lexis smil_clock_value smil_time_list smil_attrs smil_outline smil_tree smil_graph smil_diary smil_stretch smil_duration smil_instance_rows smil_instances smil_plays smil_excl smil_queues smil_syncs smil_past smil_interval smil_endsync smil_fill smil_happening smil_element smil_due
+python3 "$here/bench/engine_cases.py" --kind elements --oracle "$1" --out "$work/cases" --seed "${2:-1}" --cases "${3:-1000}" --files "${4:-5}"
+cat > "$program/src/main.rt" <<'RT'
+#![tactic(auto)]
+
+use smil_due::comes_before;
+use smil_element::{Comings, Evaluated, Intervals, Room, comings_of, evaluation_of, facts_of, view_of};
+use smil_happening::{Change, Coming, Parts, group_of};
+use smil_model::{
+    Bytes, Count, EndList, Entry, Facts, Happening, Interval, Kind, Log, LogEntry, Restart, Shown, State, Step, Steps, Time, View,
+};
+use smil_outline::Builder;
+use smil_past::Past;
+use smil_tree::Tree;
+use std::alloc::Global;
+use std::io::{self, BufRead, BufReader, BufWriter, Write};
+use std::marker::Brand;
+use std::sync::ledger::{Blank, Ledger};
+
+/// What is told of an element: facts, interval, begin or end with its group, repeat with its group, view.
+const KINDS: usize = 7;
+
+/// The current intervals of elements, as they are given. Its meaning is not stated, since nothing here is proved.
+#[derive(Drop)]
+struct Given {
+    rows: Vec<(u32, Option<Interval>)>,
+}
+
+impl Intervals for Given {
+    ghost use Rattle.std.specs.Prelude.{None};
+
+    ghost given = { λ given who. None };
+
+    fn interval(&self, who: u32) -> Option<Interval> {
+        for row in &self.rows {
+            if row.0 == who {
+                return row.1;
+            }
+        }
+        None
+    }
+}
+
+/// A document with its log, before anything happens.
+#[derive(Drop)]
+struct Open {
+    tree: Tree,
+    log: Log,
+}
+
+/// A document with what happened to it, the intervals of its elements, and what was told.
+#[derive(Drop)]
+struct Case {
+    past: Past,
+    given: Given,
+    room: Room,
+    told: Vec<Vec<u8>>,
+}
+
+#[derive(Drop)]
+struct Stage {
+    alloc: Global,
+    builder: Option<Builder>,
+    open: Option<Open>,
+    case: Option<Case>,
+}
+
+fn number(text: &str) -> Option<i64> {
+    text.parse::<i64>().ok()
+}
+
+fn serial(text: &str) -> Option<u32> {
+    u32::try_from(number(text)?).ok()
+}
+
+fn step_of(kind: &str, who: u32, value: i64) -> Option<Step> {
+    let place = u32::try_from(value).unwrap_or(0);
+    match kind {
+        "b" => Some(Step::Began { who, begin: value }),
+        "r" => Some(Step::Repeated { who, start: value }),
+        "e" => Some(Step::Ended { who, end: value }),
+        "c" => Some(Step::Cut { who }),
+        "p" => Some(Step::Paused { who }),
+        "u" => Some(Step::Resumed { who }),
+        "f" => Some(Step::Deferred { who, begin: value }),
+        "s" => Some(Step::Passed { who, begin: value }),
+        "l" => Some(Step::Logged { place }),
+        _ => None,
+    }
+}
+
+/// Reads a line of the log: an event, a press of a key, or the length of media.
+fn log_line(alloc: Global, log: &mut Log, kind: &str, rest: &str) -> Option<()> {
+    let (moment, rest) = rest.split_once(' ')?;
+    let what = match kind {
+        "v" => {
+            let (who, name) = rest.split_once(' ')?;
+            Happening::Event {
+                who: serial(who)?,
+                name: Bytes::of(alloc, name.as_bytes()).ok()?,
+            }
+        }
+        "k" => Happening::Key {
+            key: u8::try_from(number(rest)?).ok()?,
+        },
+        "m" => {
+            let (who, length) = rest.split_once(' ')?;
+            Happening::Media {
+                who: serial(who)?,
+                length: number(length)?,
+            }
+        }
+        _ => return None,
+    };
+    let moment = number(moment)?;
+    log.push(LogEntry { moment, what }).ok()
+}
+
+/// Reads a line of the diary, and takes it in.
+fn diary_line(past: &mut Past, rest: &str) -> Option<()> {
+    let (kind, rest) = rest.split_once(' ')?;
+    let (moment, rest) = rest.split_once(' ')?;
+    let (who, value) = rest.split_once(' ')?;
+    let step = step_of(kind, serial(who)?, number(value)?)?;
+    let moment = number(moment)?;
+    past.append(Entry { moment, step }).ok()
+}
+
+fn time_of(text: &str) -> Option<Time> {
+    match text {
+        "indefinite" => Some(Time::Indefinite),
+        "unresolved" => Some(Time::Unresolved),
+        _ => Some(Time::At(number(text)?)),
+    }
+}
+
+/// Reads the current interval of an element.
+fn interval_line(given: &mut Given, rest: &str) -> Option<()> {
+    let (who, rest) = rest.split_once(' ')?;
+    let who = serial(who)?;
+    let interval = match rest.split_once(' ') {
+        Some((begin, end)) => Some(Interval {
+            begin: number(begin)?,
+            end: time_of(end)?,
+        }),
+        None => None,
+    };
+    for place in 0..given.rows.len() {
+        if given.rows[place].0 == who {
+            given.rows[place].1 = interval;
+            return Some(());
+        }
+    }
+    given.rows.push((who, interval)).ok()
+}
+
+// ---- texts
+
+fn write_time<W: Write>(out: &mut W, time: Time) -> io::Result<()> {
+    match time {
+        Time::At(value) => write!(out, "{value}"),
+        Time::Indefinite => write!(out, "indefinite"),
+        Time::Unresolved => write!(out, "unresolved"),
+    }
+}
+
+fn write_interval<W: Write>(out: &mut W, interval: Option<Interval>) -> io::Result<()> {
+    match interval {
+        Some(interval) => {
+            write!(out, "{} ", interval.begin)?;
+            write_time(out, interval.end)
+        }
+        None => write!(out, "-"),
+    }
+}
+
+fn write_number<W: Write>(out: &mut W, value: Option<i64>) -> io::Result<()> {
+    match value {
+        Some(value) => write!(out, "{value}"),
+        None => write!(out, "-"),
+    }
+}
+
+fn flag(is: bool) -> u8 {
+    if is { 1 } else { 0 }
+}
+
+fn write_facts<W: Write>(out: &mut W, facts: &Facts) -> io::Result<()> {
+    write!(out, "{} {} / ", flag(facts.alive), flag(facts.deferred))?;
+    match facts.play {
+        Some(play) => {
+            write!(out, "{} {} {} {} ", play.begin, play.first, play.start, play.iteration)?;
+            write_number(out, play.shift)?;
+        }
+        None => write!(out, "-")?,
+    }
+    write!(out, " / {} / ", facts.parent_start)?;
+    write_interval(out, facts.last)?;
+    write!(out, " / ")?;
+    write_number(out, facts.passed)?;
+    write!(out, " / {} / {} / {} / ", ends_word(facts.end_list), restart_word(facts.restart), facts.min)?;
+    write_time(out, facts.max)?;
+    write!(out, " / ")?;
+    write_time(out, facts.simple)?;
+    match facts.count {
+        Some(Count::Thousandths(count)) => write!(out, " / {count} / ")?,
+        Some(Count::Indefinite) => write!(out, " / indefinite / ")?,
+        None => write!(out, " / - / ")?,
+    }
+    match facts.repeat_dur {
+        Some(time) => write_time(out, time),
+        None => write!(out, "-"),
+    }
+}
+
+fn ends_word(ends: EndList) -> &'static str {
+    match ends {
+        EndList::Absent => "absent",
+        EndList::Hearing => "hearing",
+        EndList::Plain => "plain",
+    }
+}
+
+fn restart_word(restart: Restart) -> &'static str {
+    match restart {
+        Restart::Always => "always",
+        Restart::WhenNotActive => "whenNotActive",
+        Restart::Never => "never",
+        Restart::ByDefault => "default",
+    }
+}
+
+fn write_coming<W: Write>(out: &mut W, coming: Option<Coming>) -> io::Result<()> {
+    let Some(coming) = coming else {
+        return write!(out, "-");
+    };
+    let key = coming.key;
+    write!(out, "{} {} {} {} {} ", key.value, key.class, key.position, key.serial, flag(key.repeat))?;
+    match coming.change {
+        Change::Begins { begin } => write!(out, "begin {begin}"),
+        Change::Ends { end } => write!(out, "end {end}"),
+        Change::Repeats { start } => write!(out, "repeat {start}"),
+    }
+}
+
+fn write_entry<W: Write>(out: &mut W, entry: Entry) -> io::Result<()> {
+    let moment = entry.moment;
+    match entry.step {
+        Step::Began { who, begin } => write!(out, "b {moment} {who} {begin}"),
+        Step::Repeated { who, start } => write!(out, "r {moment} {who} {start}"),
+        Step::Ended { who, end } => write!(out, "e {moment} {who} {end}"),
+        Step::Cut { who } => write!(out, "c {moment} {who} 0"),
+        Step::Paused { who } => write!(out, "p {moment} {who} 0"),
+        Step::Resumed { who } => write!(out, "u {moment} {who} 0"),
+        Step::Deferred { who, begin } => write!(out, "f {moment} {who} {begin}"),
+        Step::Passed { who, begin } => write!(out, "s {moment} {who} {begin}"),
+        Step::Logged { place } => write!(out, "l {moment} 0 {place}"),
+    }
+}
+
+fn write_shown<W: Write>(out: &mut W, shown: Shown) -> io::Result<()> {
+    match shown {
+        Shown::Nothing => write!(out, "-"),
+        Shown::At(value) => write!(out, "{value}"),
+        Shown::Indefinite => write!(out, "indefinite"),
+        Shown::Unresolved => write!(out, "unresolved"),
+        Shown::Standing => write!(out, "?"),
+    }
+}
+
+fn state_word(state: State) -> &'static str {
+    match state {
+        State::Idle => "idle",
+        State::Waiting => "waiting",
+        State::Active => "active",
+        State::Paused => "paused",
+        State::Deferred => "deferred",
+        State::Frozen => "frozen",
+        State::Done => "done",
+    }
+}
+
+fn write_view<W: Write>(out: &mut W, view: &View) -> io::Result<()> {
+    write!(out, "{} ", state_word(view.state))?;
+    write_shown(out, view.begin)?;
+    write!(out, " ")?;
+    write_shown(out, view.end)?;
+    write!(out, " {} {}", view.iteration, view.finished)
+}
+
+// ---- what is looked at
+
+/// Tells a line, where it isn't as it was told before.
+fn tell<W: Write>(
+    out: &mut W,
+    told: &mut Vec<Vec<u8>>,
+    place: usize,
+    name: &str,
+    who: u32,
+    line: Vec<u8>,
+) -> io::Result<()> {
+    while told.len() <= place {
+        told.push(Vec::new(*told.allocator()))?;
+    }
+    if told[place] == line {
+        return Ok(());
+    }
+    write!(out, "{name} {who}: ")?;
+    out.write_all(&line)?;
+    writeln!(out)?;
+    told[place] = line;
+    Ok(())
+}
+
+/// The group of what comes, at a moment.
+fn write_group<W: Write>(out: &mut W, alloc: Global, past: &Past, now: i64, coming: Option<Coming>) -> io::Result<()> {
+    let Some(coming) = coming else {
+        return write!(out, "-");
+    };
+    let mut entries = Vec::new(alloc);
+    let parts = Parts {
+        tree: past.tree(),
+        book: past.book(),
+        clocks: past.clocks(),
+        queues: past.queues(),
+        moment: now,
+    };
+    group_of(&parts, coming.key.serial, coming.change, &mut entries)?;
+    for place in 0..entries.len() {
+        if place > 0 {
+            write!(out, " / ")?;
+        }
+        write_entry(out, entries[place])?;
+    }
+    Ok(())
+}
+
+fn earlier(first: Option<Coming>, coming: Option<Coming>) -> Option<Coming> {
+    match (first, coming) {
+        (Some(a), Some(b)) if comes_before(b.key, a.key) => Some(b),
+        (Some(a), _) => Some(a),
+        (None, b) => b,
+    }
+}
+
+/// Tells what is found of an element, and gives what comes of it.
+fn tell_element<W: Write, L: Ledger>(
+    out: &mut W,
+    alloc: Global,
+    case: &mut Case,
+    who: u32,
+    place: u32,
+    now: i64,
+    steps: &mut Steps<L>,
+) -> io::Result<Comings> {
+    let made: Evaluated = evaluation_of(&case.past, &case.given, who, now, &mut case.room, steps)?;
+    let facts = facts_of(&case.past, who, now, made.simple);
+    let at = 1 + KINDS * place as usize;
+    let mut line = Vec::new(alloc);
+    write_facts(&mut line, &facts)?;
+    tell(out, &mut case.told, at, "facts", who, line)?;
+    let mut line = Vec::new(alloc);
+    write_interval(&mut line, made.interval)?;
+    write!(line, " / ")?;
+    write_time(&mut line, made.simple)?;
+    tell(out, &mut case.told, at + 1, "interval", who, line)?;
+    let comings = comings_of(&case.past, who, place, now, &made);
+    tell_coming(out, alloc, case, who, at + 2, now, comings.moved, ("moved", "group-moved"))?;
+    tell_coming(out, alloc, case, who, at + 4, now, comings.repeat, ("repeat", "group-repeat"))?;
+    let view = view_of(&case.past, who, now, made.interval);
+    let mut line = Vec::new(alloc);
+    write_view(&mut line, &view)?;
+    if view.serial != who {
+        write!(line, " of {}", view.serial)?;
+    }
+    tell(out, &mut case.told, at + 6, "view", who, line)?;
+    Ok(comings)
+}
+
+fn tell_coming<W: Write>(
+    out: &mut W,
+    alloc: Global,
+    case: &mut Case,
+    who: u32,
+    at: usize,
+    now: i64,
+    coming: Option<Coming>,
+    names: (&str, &str),
+) -> io::Result<()> {
+    let mut line = Vec::new(alloc);
+    write_coming(&mut line, coming)?;
+    tell(out, &mut case.told, at, names.0, who, line)?;
+    let mut line = Vec::new(alloc);
+    write_group(&mut line, alloc, &case.past, now, coming)?;
+    tell(out, &mut case.told, at + 1, names.1, who, line)
+}
+
+/// Tells all elements at a moment, and what comes first.
+fn look<W: Write, L: Ledger>(out: &mut W, alloc: Global, case: &mut Case, now: i64, steps: &mut Steps<L>) -> io::Result<()> {
+    let mut place = 0;
+    let mut element = 0;
+    let mut first = None;
+    while let Some(serial) = case.past.tree().serial_at(place) {
+        place += 1;
+        if case.past.tree().kind(serial) == Kind::PriorityClass {
+            continue;
+        }
+        let comings = tell_element(out, alloc, case, serial, element, now, steps)?;
+        first = earlier(earlier(first, comings.moved), comings.repeat);
+        element += 1;
+    }
+    let mut line = Vec::new(alloc);
+    write_coming(&mut line, first)?;
+    tell(out, &mut case.told, 0, "first", 0, line)
+}
+
+// ---- lines
+
+fn opened(alloc: Global, builder: Builder) -> Option<Open> {
+    let doc = builder.finish().ok()?;
+    let tree = Tree::of_doc(alloc, &doc).ok()?;
+    Some(Open {
+        tree,
+        log: Log::new(alloc),
+    })
+}
+
+fn case_of(alloc: Global, open: Open) -> Option<Case> {
+    let past = Past::new(alloc, open.tree, open.log).ok()?;
+    Some(Case {
+        past,
+        given: Given {
+            rows: Vec::new(alloc),
+        },
+        room: Room::new(alloc),
+        told: Vec::new(alloc),
+    })
+}
+
+/// Takes a line of what is outside a case: of an outline, or of a log.
+fn outer_line(stage: &mut Stage, line: &str) -> Option<()> {
+    let alloc = stage.alloc;
+    if line == "doc" {
+        stage.builder = Builder::new(alloc).ok();
+        stage.case = None;
+        return Some(());
+    }
+    if line == "%%" {
+        stage.open = opened(alloc, stage.builder.take()?);
+        return stage.open.as_ref().map(|_open| ());
+    }
+    if let Some(builder) = &mut stage.builder {
+        return builder.push(line.as_bytes()).ok();
+    }
+    if line == "go" {
+        stage.case = case_of(alloc, stage.open.take()?);
+        return stage.case.as_ref().map(|_case| ());
+    }
+    let (kind, rest) = line.split_once(' ')?;
+    log_line(alloc, &mut stage.open.as_mut()?.log, kind, rest)
+}
+
+/// Takes a line of a case, and answers it.
+fn inner_line<W: Write, L: Ledger>(
+    out: &mut W,
+    alloc: Global,
+    case: &mut Case,
+    line: &str,
+    steps: &mut Steps<L>,
+) -> io::Result<bool> {
+    if line == "end" {
+        writeln!(out, "end {}", case.past.book().len())?;
+        return Ok(true);
+    }
+    let Some((kind, rest)) = line.split_once(' ') else {
+        return Ok(false);
+    };
+    match kind {
+        "i" => Ok(interval_line(&mut case.given, rest).is_some()),
+        "d" => Ok(diary_line(&mut case.past, rest).is_some()),
+        "at" => {
+            let Some(now) = number(rest) else {
+                return Ok(false);
+            };
+            look(out, alloc, case, now, steps)?;
+            Ok(true)
+        }
+        _ => Ok(false),
+    }
+}
+
+fn answer<W: Write, L: Ledger>(out: &mut W, stage: &mut Stage, line: &str, steps: &mut Steps<L>) -> io::Result<()> {
+    let alloc = stage.alloc;
+    let mut taken = false;
+    if line != "doc" {
+        if let Some(case) = &mut stage.case {
+            taken = inner_line(out, alloc, case, line, steps)?;
+        } else {
+            taken = outer_line(stage, line).is_some();
+        }
+    } else if outer_line(stage, line).is_some() {
+        taken = true;
+    }
+    if taken { Ok(()) } else { writeln!(out, "not taken {line}") }
+}
+
+fn compare<R: BufRead + Drop, W: Write, L: Ledger>(alloc: Global, blank: Blank, input: R, out: &mut W) -> io::Result<()> {
+    let mut steps = Steps::<L>::new(blank);
+    let mut stage = Stage {
+        alloc,
+        builder: None,
+        open: None,
+        case: None,
+    };
+    for line in input.lines(alloc) {
+        let line = line?;
+        answer(out, &mut stage, line.as_str(), &mut steps)?;
+    }
+    out.flush()
+}
+
+fn main(rt: HostRuntime) -> io::Result<()> {
+    let alloc = rt.alloc();
+    let mut out = BufWriter::new(alloc, io::writer(&rt))?;
+    let input = BufReader::new(alloc, rt.reader())?;
+    compare::<_, _, Brand>(alloc, Blank::new(1), input, &mut out)
+}
+RT
+cd "$program"
+rt try --steps 1000 --seconds 300 --cases "$work/cases"
