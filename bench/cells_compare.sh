@@ -9,16 +9,16 @@
 # from outside. Its last line counts the files: `differs=0` where all is the same.
 set -eu
 . "$(dirname "$0")/program.sh"
-new_program compare_cells smil_model smil_laws smil_grammar smil_lexis smil_clock_value smil_time_list smil_attrs smil_outline smil_tree smil_graph smil_diary smil_stretch smil_duration smil_instance_rows smil_instances smil_plays smil_excl smil_queues smil_syncs smil_past smil_interval smil_endsync smil_fill smil_happening smil_element smil_cells smil_due smil_plain
+new_program compare_cells smil_model smil_laws smil_grammar smil_lexis smil_clock_value smil_time_list smil_attrs smil_outline smil_tree smil_graph smil_diary smil_stretch smil_duration smil_instance_rows smil_instances smil_excl smil_past smil_interval smil_endsync smil_fill smil_element smil_due smil_cells
 python3 "$here/bench/engine_cases.py" --kind cells --oracle "$1" --out "$work/cases" --seed "${2:-1}" --cases "${3:-500}" --files "${4:-10}"
 cat > "$program/src/main.rt" <<'RT'
 #![tactic(auto)]
 
+use smil_cells::PlainCells;
 use smil_diary::BookFault;
 use smil_element::view_of;
 use smil_model::{Bytes, Doc, Entry, Happening, Interval, Kind, LogEntry, Shown, State, Step, Steps, Time, View};
 use smil_outline::Builder;
-use smil_plain::PlainCells;
 use std::alloc::Global;
 use std::io::{self, BufRead, BufReader, BufWriter, Write};
 use std::marker::Brand;

@@ -6,14 +6,16 @@
 # from outside. Its last line counts the files: `differs=0` where all is the same.
 set -eu
 . "$(dirname "$0")/program.sh"
-new_program compare_elements smil_model smil_laws smil_grammar smil_lexis smil_clock_value smil_time_list smil_attrs smil_outline smil_tree smil_graph smil_diary smil_stretch smil_duration smil_instance_rows smil_instances smil_plays smil_excl smil_queues smil_syncs smil_past smil_interval smil_endsync smil_fill smil_happening smil_element smil_due
+new_program compare_elements smil_model smil_laws smil_grammar smil_lexis smil_clock_value smil_time_list smil_attrs smil_outline smil_tree smil_graph smil_diary smil_stretch smil_duration smil_instance_rows smil_instances smil_excl smil_past smil_interval smil_endsync smil_fill smil_element smil_due
 python3 "$here/bench/engine_cases.py" --kind elements --oracle "$1" --out "$work/cases" --seed "${2:-1}" --cases "${3:-1000}" --files "${4:-5}"
 cat > "$program/src/main.rt" <<'RT'
 #![tactic(auto)]
 
 use smil_due::comes_before;
-use smil_element::{Comings, Evaluated, Intervals, Room, comings_of, evaluation_of, facts_of, view_of};
-use smil_happening::{Change, Coming, Parts, group_of};
+use smil_element::{
+    Change, Coming, Comings, Evaluated, Intervals, Parts, Room, comings_of, evaluation_of, facts_of,
+    group_of, view_of,
+};
 use smil_model::{
     Bytes, Count, EndList, Entry, Facts, Happening, Interval, Kind, Log, LogEntry, Restart, Shown, State, Step, Steps, Time, View,
 };

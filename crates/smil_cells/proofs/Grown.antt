@@ -40,9 +40,9 @@ use Rattle.smil_laws.specs.Firsts.{FirstIsOfElement}
 use Rattle.smil_past.specs.Past.{Happened, IsPresent, with_diary}
 use Rattle.smil_cells.specs.Standing.{IsFront, IsNext, IsRefusing, WhereTold, fresh, fresh_since, MayAppendAll, history_of}
 use Rattle.smil_stretch.specs.Clocks.{AreClocksOf}
-use Rattle.smil_queues.specs.Queues.{kept_queues}
-use Rattle.smil_happening.specs.declared.parts.Parts.{Parts}
-use Rattle.smil_happening.specs.Parts.{ArePartsOf}
+use Rattle.smil_past.specs.Queues.{kept_queues}
+use Rattle.smil_element.specs.declared.happening.parts.Parts.{Parts}
+use Rattle.smil_element.specs.Parts.{ArePartsOf}
 use Rattle.smil_cells.specs.Kept.{IsKept, IsSound, WhereMarked, at_mark, marked_by, standing_of}
 
 pub fits : (z : ℤ) → pos 0 ≤ℤ z → z ≤ℤ HORIZON → FitsSigned w64 z

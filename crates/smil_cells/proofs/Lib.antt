@@ -12,3 +12,11 @@ pub mod Showing
 pub mod Parting
 pub mod Ordering
 pub mod Begun
+pub mod Rows
+pub mod Empty
+pub mod Agreeing
+pub mod Paired
+pub mod Taking
+pub mod Keyed
+pub mod Current
+pub mod First

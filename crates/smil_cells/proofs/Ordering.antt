@@ -15,7 +15,7 @@ use Rattle.smil_model.specs.document.Valid.{IsDistinct, kind_of}
 use Rattle.smil_laws.proofs.Below.{differ_each}
 use Rattle.smil_laws.proofs.Lineages.{swap_eqb}
 use Rattle.smil_stretch.proofs.Above.{each_at, node_of}
-use Rattle.smil_queues.proofs.Placing.{node_there, none_there}
+use Rattle.smil_past.proofs.Placing.{node_there, none_there}
 use Rattle.smil_cells.specs.Shown.{ArePlaces, is_listed, listed_of}
 use Rattle.smil_cells.proofs.Showing.{or_left, or_right}
 

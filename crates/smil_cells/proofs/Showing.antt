@@ -16,9 +16,9 @@ use Rattle.smil_model.specs.document.Valid.{kind_of}
 use Rattle.smil_model.specs.reach.Reach.{shares_parent, subject_of}
 use Rattle.smil_laws.specs.Seen.{any_shows, shows_from, shows_in, starts}
 use Rattle.smil_model.specs.document.Edits.{child_place, place_in}
-use Rattle.smil_queues.proofs.Listing.{known_place}
-use Rattle.smil_happening.proofs.Above.{IsUp}
-use Rattle.smil_happening.proofs.Cutting.{part_more, part_none, span_within}
+use Rattle.smil_past.proofs.Listing.{known_place}
+use Rattle.smil_element.proofs.Above.{IsUp}
+use Rattle.smil_element.proofs.Cutting.{part_more, part_none, span_within}
 use Rattle.smil_cells.specs.Shown.{displaced_in, sequenced}
 use Rattle.smil_cells.proofs.Grown.{known}
 

@@ -15,7 +15,7 @@ ghost use Rattle.smil_diary.specs.declared.fault.BookFault.TheVariants as book_f
 ghost use Rattle.smil_stretch.specs.Clocks.{AreClocksOf};
 ghost use Rattle.smil_past.specs.Past as past_of;
 ghost use Rattle.smil_model.specs.declared.limits.TheConstants as limits;
-ghost use Rattle.smil_happening.specs.Parts.{coming_meant};
+ghost use Rattle.smil_element.specs.Parts.{coming_meant};
 ghost use Rattle.smil_cells.specs.Standing.{GoesOn, IsFront, IsHeard, IsNext, IsPassed, IsRebuilt, IsRefusing, IsSettled, NothingBefore, first_at, IsPart, MayAppendAll, MayRebuild, Standing, StayTouched, WhereTold, any_interval, fresh_since, history_of, interval_at, moved_to, reached_since, with_logged};
 ghost use Rattle.smil_cells.specs.Kept.{MayBegin, at_mark, begun};
 ghost use Rattle.smil_laws.specs.Same.{IsSame};
@@ -25,7 +25,7 @@ use super::order::in_order;
 use super::table::Table;
 use super::touched::touch;
 use smil_diary::{Book, BookFault};
-use smil_happening::{Coming, Parts, group_of};
+use smil_element::{Coming, Parts, group_of};
 use smil_laws::courses::{
     ended_is_diary, reached_is_past, reaches_further, reaches_over_quiet, too_long_is_full,
 };

@@ -8,11 +8,11 @@ ghost use Rattle.smil_model.specs.interval.Current.{current_interval};
 ghost use Rattle.smil_model.specs.happening.Keys.{coming, first_coming};
 ghost use Rattle.smil_model.specs.reach.Bounds.{reaches};
 ghost use Rattle.smil_laws.specs.Same.{IsSame};
-ghost use Rattle.smil_happening.specs.Parts.{coming_meant};
+ghost use Rattle.smil_element.specs.Parts.{coming_meant};
 ghost use Rattle.smil_past.specs.Past.{IsPresent, front, history_of};
 ghost use Rattle.smil_cells.specs.Standing.{WhereTold, any_interval, fresh};
 
-use smil_happening::Coming;
+use smil_element::Coming;
 use smil_model::{Interval, Serials, Steps};
 use smil_past::Past;
 use std::alloc::{AllocError, Global};

@@ -4,13 +4,13 @@ ghost use Rattle.std.specs.Prelude.{◌≡◌, ℕ, ◌≤◌, ◌++◌, ◌||�
 ghost use Rattle.smil_model.specs.declared.document.Node.{Node as AnyNode};
 ghost use Rattle.smil_model.specs.document.Document.{elements, is_excl_kind, is_seq_kind, is_within, node_at, serial_of, serials};
 ghost use Rattle.smil_model.specs.document.Closure.{has};
-ghost use Rattle.smil_model.specs.reach.Reach.{subject as logged_on, subject_of};
+ghost use Rattle.smil_model.specs.reach.Reach.{subject_of};
 ghost use Rattle.smil_laws.specs.Seen.{any_shows, shows_from, shows_in, starts as starts_in};
 ghost use Rattle.smil_cells.specs.Shown.{displaced_in};
 
 use super::order::in_order;
-use smil_model::{Happening, Kind, Log, Serials, Step};
-use smil_past::Past;
+use smil_model::{Kind, Log, Serials, Step};
+use smil_past::{Past, subject};
 use smil_tree::Tree;
 use std::alloc::{AllocError, Global};
 
@@ -57,33 +57,6 @@ fn touch_step(tree: &Tree, log: &Log, step: Step, touched: &mut Serials) -> Resu
     match subject(log, step) {
         Some(who) => touch_element(tree, step, who, touched),
         None => Ok(()),
-    }
-}
-
-// The element that a step is on; None where it hears a press of a key, or a log entry that there is not.
-fn subject(log: &Log, step: Step) -> Option<u32>
-    ensures { result ≡ subject_of log.now step }
-{
-    match step {
-        Step::Began { who, .. } => Some(who),
-        Step::Repeated { who, .. } => Some(who),
-        Step::Ended { who, .. } => Some(who),
-        Step::Cut { who } => Some(who),
-        Step::Paused { who } => Some(who),
-        Step::Resumed { who } => Some(who),
-        Step::Deferred { who, .. } => Some(who),
-        Step::Passed { who, .. } => Some(who),
-        Step::Logged { place } => happened_to(&log.get(place as usize)?.what),
-    }
-}
-
-// Whom a logged event or length is on; a press of a key is on none.
-fn happened_to(what: &Happening) -> Option<u32>
-    ensures { result ≡ logged_on what.now }
-{
-    match what {
-        Happening::Event { who, .. } | Happening::Media { who, .. } => Some(*who),
-        Happening::Key { .. } => None,
     }
 }
 

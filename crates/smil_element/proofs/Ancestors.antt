@@ -13,12 +13,12 @@ use Rattle.smil_laws.proofs.Numbered.{ordered}
 use Rattle.smil_tree.proofs.Families.{chain_of}
 use Rattle.smil_instances.proofs.Targets.{element_in}
 use Rattle.smil_graph.proofs.Answered.{element_at, only_element}
-use Rattle.smil_happening.proofs.Above.{parent_node}
+use Rattle.smil_element.proofs.Above.{parent_node}
 use Rattle.smil_instances.proofs.Sensitive.{serial_is}
 use Rattle.smil_model.specs.document.Defaults.{effective_fill}
 use Rattle.smil_model.specs.diary.Plays.{Finished, last_finished}
-use Rattle.smil_plays.specs.declared.played.PastInterval.{PastInterval}
-use Rattle.smil_plays.specs.Played.{past_interval}
+use Rattle.smil_past.specs.declared.plays.played.PastInterval.{PastInterval}
+use Rattle.smil_past.specs.Played.{past_interval}
 use Rattle.smil_element.specs.Shown.{frozen_at, is_cut}
 
 -- from a time parent upwards

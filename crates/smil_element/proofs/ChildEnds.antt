@@ -18,9 +18,9 @@ use Rattle.smil_model.specs.diary.Clocks.{iteration_start}
 use Rattle.smil_model.specs.diary.Plays.{Finished, first_of, plays}
 use Rattle.smil_model.specs.interval.Current.{child_end, container_implicit, finish_time, implicit_of, is_named_child, media_length}
 use Rattle.smil_model.specs.interval.Durations.{container_duration}
-use Rattle.smil_plays.specs.declared.played.PastInterval.{PastInterval}
-use Rattle.smil_plays.specs.declared.played.Played.{Played}
-use Rattle.smil_plays.specs.Played.{past_interval, played}
+use Rattle.smil_past.specs.declared.plays.played.PastInterval.{PastInterval}
+use Rattle.smil_past.specs.declared.plays.played.Played.{Played}
+use Rattle.smil_past.specs.Played.{past_interval, played}
 
 abbrev pub coming_of : (ℕ → Option Interval) → ℕ → Option Time
 coming_of intervals s = option_map (λ (i : Interval). i.«end») (intervals s)

@@ -14,8 +14,8 @@ use Rattle.smil_model.specs.diary.Diary.{History, is_active, is_alive, is_deferr
 use Rattle.smil_model.specs.diary.Clocks.{play_start, iteration_start, parent_start}
 use Rattle.smil_model.specs.diary.Plays.{Mark, Finished, plays, last_finished, passed}
 use Rattle.smil_model.specs.interval.Current.{present_play, facts_of, finish_time, end_list_of, simple_of}
-use Rattle.smil_plays.specs.declared.played.PastInterval.{PastInterval}
-use Rattle.smil_plays.specs.Played.{past_interval}
+use Rattle.smil_past.specs.declared.plays.played.PastInterval.{PastInterval}
+use Rattle.smil_past.specs.Played.{past_interval}
 use Rattle.smil_element.specs.Element.{interval_in, shift_of}
 
 -- the play of a begin

@@ -12,7 +12,7 @@ use Rattle.smil_model.specs.diary.Diary.{History, is_active, iteration}
 use Rattle.smil_model.specs.diary.Clocks.{run, to_document, stands, outer_stands, iteration_start, play_start}
 use Rattle.smil_model.specs.happening.Keys.{Change, Coming, ends, repeats, is_repeating, coming_at, coming_begin, coming_end, coming_end_at, coming_repeat_at}
 use Rattle.smil_laws.proofs.Foreign.{append_nil}
-use Rattle.smil_happening.specs.declared.change.Coming.{Coming as Moved}
+use Rattle.smil_element.specs.declared.happening.change.Coming.{Coming as Moved}
 use Rattle.smil_element.specs.Element.{and_coming, both, coming_by, goes_on, moved_by, repeat_by}
 
 abbrev pub keyed : ℤ → ℕ → ℕ → ℕ → Change → Coming

@@ -10,7 +10,7 @@ use Rattle.smil_model.specs.diary.Lawful.{has_element}
 use Rattle.smil_laws.proofs.Members.{each_kept}
 use Rattle.smil_tree.proofs.Spans.{all_known}
 use Rattle.smil_instances.proofs.Begun.{IsAt, at_place, each_at, element_at}
-use Rattle.smil_syncs.proofs.Waiting.{kept_known, stands}
+use Rattle.smil_past.proofs.References.{kept_known, stands}
 
 -- the element with a serial
 pub known_element : (nodes : List Node) (who : ℕ) → has_element nodes who ≡ true → (e : Node) × (node_at (elements nodes) who ≡ Some e)

@@ -1,3 +1,8 @@
+pub mod Above
+pub mod Appending
+pub mod Cutting
+pub mod Finding
+pub mod Following
 pub mod Present
 pub mod Told
 pub mod FactParts

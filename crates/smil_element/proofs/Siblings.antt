@@ -17,7 +17,7 @@ use Rattle.smil_diary.specs.Places.{is_from, later_of}
 use Rattle.smil_diary.proofs.LastPlaces.{last_place-either}
 use Rattle.smil_laws.proofs.Aside.{each_drop}
 use Rattle.smil_laws.proofs.Lineages.{swap_eqb}
-use Rattle.smil_plays.proofs.Rows.{found_any}
+use Rattle.smil_past.proofs.Rows.{found_any}
 use Rattle.smil_element.specs.Displaced.{finished_by, may_set_off}
 
 -- ---- the last end

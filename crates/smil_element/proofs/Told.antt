@@ -12,11 +12,11 @@ use Rattle.smil_model.specs.diary.Diary.{History}
 use Rattle.smil_model.specs.diary.Lawful.{has_element}
 use Rattle.smil_laws.proofs.Aside.{find_true}
 use Rattle.smil_graph.proofs.Answered.{element_at, only_element}
-use Rattle.smil_happening.proofs.Above.{parent_node}
+use Rattle.smil_element.proofs.Above.{parent_node}
 use Rattle.smil_instances.proofs.Targets.{element_in, known_node, attrs_of}
 use Rattle.smil_instances.proofs.Sensitive.{serial_is}
-use Rattle.smil_plays.specs.declared.played.Played.{Played}
-use Rattle.smil_plays.specs.Played.{played, played_at}
+use Rattle.smil_past.specs.declared.plays.played.Played.{Played}
+use Rattle.smil_past.specs.Played.{played, played_at}
 
 -- the restart and the fill that the tree tells are the element's
 pub restart_told : (ns : List Node) (s : ℕ) (e : Node) (r : Restart) → IsDistinct ns → node_at (elements ns) s ≡ Some e → Some r ≡ option_map (restart_of ns) (node_at ns s) → r ≡ restart_of ns e

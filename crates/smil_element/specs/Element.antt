@@ -12,9 +12,9 @@ use Rattle.smil_model.specs.interval.Durations.{Bounds, intermediate_end}
 use Rattle.smil_model.specs.interval.Current.{interval_given, simple_of}
 use Rattle.smil_model.specs.happening.Keys as model
 use Rattle.smil_model.specs.happening.Keys.{coming_begin, coming_end, coming_repeat_at}
-use Rattle.smil_plays.specs.declared.played.PastInterval.{PastInterval}
-use Rattle.smil_happening.specs.declared.change.Coming.{Coming}
-use Rattle.smil_happening.specs.Parts.{coming_meant}
+use Rattle.smil_past.specs.declared.plays.played.PastInterval.{PastInterval}
+use Rattle.smil_element.specs.declared.happening.change.Coming.{Coming}
+use Rattle.smil_element.specs.Parts.{coming_meant}
 use Rattle.smil_element.specs.declared.evaluation.Evaluated.{Evaluated}
 
 -- the interval and the simple duration of an element, given the intervals of the others

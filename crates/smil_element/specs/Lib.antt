@@ -1,3 +1,4 @@
+pub mod Parts
 pub mod Element
 pub mod Comings
 pub mod Shown

@@ -13,12 +13,12 @@ ghost use Rattle.smil_past.specs.Past.{IsPresent, history_of};
 ghost use Rattle.smil_element.specs.Element.{and_coming, both, coming_by, goes_on, moved_by, repeat_by};
 ghost use Rattle.smil_model.specs.happening.Keys.{coming_begin, coming_end, coming_repeat_at};
 ghost use Rattle.smil_model.specs.interval.Durations.{bounds_of};
-ghost use Rattle.smil_happening.specs.Parts.{coming_meant};
+ghost use Rattle.smil_element.specs.Parts.{coming_meant};
 
 use super::evaluation::Evaluated;
 use super::facts::{attrs_of, parent_of, played_of};
+use super::happening::{Change, Coming};
 use smil_duration::Bounds;
-use smil_happening::{Change, Coming};
 use smil_model::{Attrs, Interval, Key, Play, Time, later};
 use smil_past::Past;
 

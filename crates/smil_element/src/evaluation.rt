@@ -12,8 +12,8 @@ ghost use Rattle.smil_model.specs.interval.Instances.{begin_times, end_times};
 ghost use Rattle.smil_model.specs.interval.Current;
 ghost use Rattle.smil_model.specs.interval.Current.{child_end, container_implicit, is_named_child, simple_of};
 ghost use Rattle.smil_model.specs.interval.Durations.{container_duration};
-ghost use Rattle.smil_plays.specs.declared.played.PastInterval.{PastInterval as AnyPast};
-ghost use Rattle.smil_syncs.specs.Syncs.{is_empty, syncs_of};
+ghost use Rattle.smil_past.specs.declared.plays.played.PastInterval.{PastInterval as AnyPast};
+ghost use Rattle.smil_past.specs.Syncs.{is_empty, syncs_of};
 ghost use Rattle.smil_past.specs.Past.{IsPresent, history_of};
 ghost use Rattle.smil_element.specs.Element.{IsEvaluated};
 
@@ -24,8 +24,7 @@ use smil_duration::{implicit_by_kind, simple, takes_implicit};
 use smil_endsync::implicit;
 use smil_interval::evaluate;
 use smil_model::{Attrs, ChildEnd, Edge, Endsync, Interval, Kind, Steps, Time};
-use smil_past::Past;
-use smil_plays::PastInterval;
+use smil_past::{Past, PastInterval};
 use std::alloc::{AllocError, Global};
 use std::sync::ledger::Ledger;
 

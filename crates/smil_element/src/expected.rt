@@ -7,7 +7,7 @@ ghost use Rattle.smil_model.specs.diary.Diary.{is_active};
 ghost use Rattle.smil_model.specs.diary.Lawful.{has_element};
 ghost use Rattle.smil_model.specs.interval.Instances.{begin_times, end_times, expected_times, interval_edge};
 ghost use Rattle.smil_instance_rows.specs.Rising.{IsRising, put_in};
-ghost use Rattle.smil_syncs.specs.Syncs.{expected_by, is_empty, syncs_of};
+ghost use Rattle.smil_past.specs.Syncs.{expected_by, is_empty, syncs_of};
 ghost use Rattle.smil_model.specs.Times.{IsNear};
 ghost use Rattle.smil_element.specs.Pouring.{with_times};
 ghost use Rattle.smil_past.specs.Past.{IsPresent, history_of};
@@ -16,8 +16,7 @@ use super::intervals::Intervals;
 use smil_duration::moved;
 use smil_instance_rows::Instant;
 use smil_model::{Edge, Time};
-use smil_past::Past;
-use smil_syncs::Syncbase;
+use smil_past::{Past, Syncbase};
 use std::alloc::AllocError;
 
 /// What an evaluation reads: what has happened, the intervals of the elements, and the present

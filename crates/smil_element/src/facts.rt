@@ -11,13 +11,12 @@ ghost use Rattle.smil_model.specs.diary.Lawful.{has_element};
 ghost use Rattle.smil_model.specs.interval.Current as model;
 ghost use Rattle.smil_model.specs.document.Document.{serial_of};
 ghost use Rattle.smil_past.specs.Past.{IsPresent, history_of};
-ghost use Rattle.smil_plays.specs.Played.{played as kept_of};
+ghost use Rattle.smil_past.specs.Played.{played as kept_of};
 ghost use Rattle.smil_element.specs.Element.{interval_in, shift_of};
 
 use smil_duration::Bounds;
 use smil_model::{Attrs, EndList, Facts, Interval, Item, Items, Play, Time};
-use smil_past::Past;
-use smil_plays::{PastInterval, Played};
+use smil_past::{Past, PastInterval, Played};
 
 /// The facts of an element at a moment, by its simple duration. It takes no memory, and a step for
 /// each node above it.

@@ -13,8 +13,7 @@ ghost use Rattle.smil_element.specs.Shown.{frozen_at, is_cut, is_limited};
 use super::displaced::is_displaced;
 use super::facts::{attrs_of, is_alive, parent_of, played_of};
 use smil_model::{Attrs, Fill};
-use smil_past::Past;
-use smil_plays::PastInterval;
+use smil_past::{Past, PastInterval};
 
 /// Whether an element is frozen; false where there is none. It takes no memory, and a step for each
 /// element above it up to an active one.

@@ -1,4 +1,5 @@
-//! One element of a presentation: its facts, its interval and what comes of it, given the intervals of the others.
+//! One element of a presentation: its facts, its interval and what comes of it, given the intervals
+//! of the others; and the group of entries that a happening appends.
 #![tactic(auto)]
 
 pub mod comings;
@@ -7,11 +8,13 @@ pub mod evaluation;
 pub mod expected;
 pub mod facts;
 mod frozen;
+mod happening;
 pub mod intervals;
 pub mod view;
 
 pub use comings::{Comings, comings_of};
 pub use evaluation::{Evaluated, Room, evaluation_of};
 pub use facts::facts_of;
+pub use happening::{Change, Coming, Parts, group_of};
 pub use intervals::Intervals;
 pub use view::view_of;

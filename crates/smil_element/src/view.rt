@@ -18,8 +18,7 @@ use super::facts::{parent_of, played_of};
 use super::frozen::{fill_of, is_frozen, shows};
 use smil_fill::view;
 use smil_model::{Fill, Interval, View, ViewFacts};
-use smil_past::Past;
-use smil_plays::Played;
+use smil_past::{Past, Played};
 
 /// The view of an element at a moment, by its current interval, whose numbers are from -10^12 to
 /// 10^12. It takes no memory, and a step for each element above it up to an active one; for each of

@@ -1,5 +1,5 @@
 -- Presentations under their names.
-use Rattle.std.specs.Prelude.{◌≡◌, ℕ, ℤ, pos, ◌⊎◌, List, ◌+◌, ◌++◌, drop, take, length, Bool, true, Option, Some, None, Result, Ok, Err, bytes_eq, nat_lt, if◌then◌else◌, slice_get, slice_set, is_some}
+use Rattle.std.specs.Prelude.{◌≡◌, ℕ, ℤ, pos, ◌⊎◌, List, ◌+◌, ◌++◌, drop, take, length, Bool, true, Option, Some, None, Result, Ok, Err, bytes_eq, nat_lt, if◌then◌else◌, slice_get, slice_set, is_some, option_map, option_and_then}
 use Rattle.std.specs.List.{position}
 use Rattle.smil_model.specs.declared.limits.TheConstants.{PRESENTATIONS}
 use Rattle.smil_model.specs.declared.order.Order.{Order}
@@ -12,6 +12,11 @@ use Rattle.smil_house.specs.declared.house.Held.{Held}
 -- the place of the presentation of this name
 abbrev pub place_of : {P : Type 0} → List ℕ → List (Held P) → Option ℕ
 place_of name held = position (λ h. bytes_eq h.name name) held
+
+-- the moment of the presentation of this name
+abbrev pub moment_of : {P : Type 0} → (P → Presentation) → List ℕ → List (Held P) → Option ℤ
+moment_of presentation name held =
+    option_map (λ h. pos (presentation h.player).now) (option_and_then (slice_get held) (place_of name held))
 
 -- why no presentation may be loaded under this name
 abbrev pub load_refusal : {P : Type 0} → List ℕ → List (Held P) → Result Unit Refusal

@@ -3,7 +3,7 @@
 ghost use Rattle.std.specs.Prelude.{◌≡◌, ℕ, ◌≤◌, ◌-◌, ◌++◌, ◌∷◌, [], drop, length, Result, Ok, Err, None, Some, OnOk, OnErr, IfOk, IfErr};
 ghost use Rattle.smil_model.specs.declared.order.Refusal.TheVariants as refusal;
 ghost use Rattle.smil_model.specs.shown.Answers.{IsGiven};
-ghost use Rattle.smil_house.specs.House.{place_of, load_refusal, without, AreKept, IsAnsweredBy, IsRefused, Takes};
+ghost use Rattle.smil_house.specs.House.{place_of, load_refusal, moment_of, without, AreKept, IsAnsweredBy, IsRefused, Takes};
 
 use smil_model::{Bytes, Order, PRESENTATIONS, Player, Refusal, Steps};
 use std::alloc::{AllocError, Global};
@@ -108,6 +108,17 @@ impl<P: Player + Drop> House<P> {
         };
         self.held.remove(place);
         Ok(())
+    }
+
+    /// The moment of the presentation of this name, in milliseconds of document time; None exactly where there is none. It
+    /// takes no memory.
+    pub fn moment(&self, name: &[u8]) -> Option<i64>
+        ensures { result ≡ moment_of P.presentation name.now self.now }
+    {
+        match self.place(name) {
+            Some(place) => Some(self.held[place].player.now()),
+            None => None,
+        }
     }
 
     // The place of the presentation of this name.

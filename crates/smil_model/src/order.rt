@@ -150,7 +150,7 @@ pub enum Refusal {
     DiaryFull,
     /// Memory ran out.
     Memory,
-    /// The line has a form that is not read yet.
+    /// What the line asks for is read and not played yet.
     NotYet,
     /// A node line gives a serial that is not below the next serial, or that a line before it has.
     BadSerial,

@@ -13,8 +13,8 @@ use Rattle.smil_model.specs.diary.Lawful.{IsLawful}
 use Rattle.smil_laws.specs.Near.{AllNear, HasNear}
 use Rattle.smil_laws.specs.Cut.{IsNamedBelow, NamesBelow}
 use Rattle.smil_stretch.specs.Clocks.{AreClocksOf}
-use Rattle.smil_plays.specs.Played.{all_played}
-use Rattle.smil_queues.specs.Queues.{kept_queues}
+use Rattle.smil_past.specs.Played.{all_played}
+use Rattle.smil_past.specs.Queues.{kept_queues}
 use Rattle.smil_instances.specs.Instances.{IsSettled}
 use Rattle.smil_past.specs.declared.kept.Kept.{Kept}
 use Rattle.smil_past.specs.Past.{Happened, IsPossible, MayFollow}

@@ -17,8 +17,8 @@ use Rattle.smil_model.specs.document.Document.{Document, elements}
 use Rattle.smil_model.specs.document.Defaults.{begin_list, end_list}
 use Rattle.smil_model.specs.interval.Current.{length_of, length_after, media_length}
 use Rattle.smil_laws.specs.Cut.{IsNamedBelow, NamesBelow}
-use Rattle.smil_plays.specs.declared.played.Played.{Played}
-use Rattle.smil_plays.specs.Played.{played, all_played}
+use Rattle.smil_past.specs.declared.plays.played.Played.{Played}
+use Rattle.smil_past.specs.Played.{played, all_played}
 use Rattle.smil_instance_rows.specs.Rows.{Row}
 use Rattle.smil_instances.specs.Laws.{IsSameHeard}
 use Rattle.smil_instances.specs.SettledTimes.{instances_of, row_of, settled_rows}

@@ -1,2 +1,7 @@
+pub mod Played
+pub mod Followed
+pub mod Rows
+pub mod Queues
+pub mod Syncs
 pub mod Past
 pub mod Kept

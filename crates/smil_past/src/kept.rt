@@ -4,12 +4,12 @@ ghost use Rattle.std.specs.Prelude.{◌≡◌, List, [], OnOk, OnErr, IfOk};
 ghost use Rattle.smil_model.specs.declared.diary.LogEntry.{LogEntry as AnyLogEntry};
 ghost use Rattle.smil_past.specs.Kept.{IsKeptOf, IsLast};
 
+use super::plays::Plays;
+use super::queues::Queues;
 use smil_diary::Book;
 use smil_graph::Graph;
 use smil_instances::Instances;
 use smil_model::{Duplicate, Entry, Log};
-use smil_plays::Plays;
-use smil_queues::Queues;
 use smil_stretch::Clocks;
 use smil_tree::Tree;
 use std::alloc::{AllocError, Global};

@@ -1,8 +1,15 @@
-//! What has happened in a presentation so far, with all that is read off it.
+//! What has happened in a presentation so far, with all that is read off it: the plays of elements,
+//! the queues of excls, and the references that give a time before it has happened.
 #![tactic(auto)]
 
 pub mod kept;
 pub mod past;
+pub mod plays;
+mod queues;
+pub mod syncs;
 
 pub use kept::Kept;
 pub use past::Past;
+pub use plays::{PastInterval, Played, Plays, subject};
+pub use queues::Queues;
+pub use syncs::{Syncbase, Syncs};

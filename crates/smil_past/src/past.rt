@@ -3,23 +3,23 @@
 ghost use Rattle.std.specs.Prelude.{◌≡◌, ◌≤◌, ◌<◌, ℕ, [], ◌∷◌, ◌++◌, length, take, true, None, Some, is_some, OnOk, OnErr, IfOk, IfErr};
 ghost use Rattle.smil_model.specs.declared.limits.TheConstants as limits;
 ghost use Rattle.smil_stretch.specs.Clocks.{AreClocksOf};
-ghost use Rattle.smil_plays.specs.Played.{all_played};
-ghost use Rattle.smil_queues.specs.Queues.{kept_queues};
-ghost use Rattle.smil_syncs.specs.Syncs.{all_syncs};
+ghost use Rattle.smil_past.specs.Played.{all_played};
+ghost use Rattle.smil_past.specs.Queues.{kept_queues};
+ghost use Rattle.smil_past.specs.Syncs.{all_syncs};
 ghost use Rattle.smil_instances.specs.Instances.{IsSettled};
 ghost use Rattle.smil_diary.specs.declared.fault.BookFault.TheVariants as book_fault;
 ghost use Rattle.smil_past.specs.Kept.{kept_at};
 ghost use Rattle.smil_past.specs.Past.{IsPossible, MayFollow, MayHear, history_of, with_diary, with_heard, logged_entry, at_mark};
 
 use super::kept::Kept;
+use super::plays::Plays;
+use super::queues::Queues;
+use super::syncs::Syncs;
 use smil_diary::{Book, BookFault};
 use smil_graph::Graph;
 use smil_instances::Instances;
 use smil_model::{Duplicate, Entry, Log, LogEntry, Step};
-use smil_plays::Plays;
-use smil_queues::Queues;
 use smil_stretch::Clocks;
-use smil_syncs::Syncs;
 use smil_tree::Tree;
 use std::alloc::{AllocError, Global};
 use std::marker::Model;
@@ -44,7 +44,7 @@ impl Model for Past {
     ghost use Rattle.std.specs.Prelude.{◌≡◌};
     ghost use Rattle.smil_past.specs.Past.{Happened};
     ghost use Rattle.smil_past.specs.Kept.{Holds, HoldsAtMark, kept_at};
-    ghost use Rattle.smil_syncs.specs.Syncs.{all_syncs};
+    ghost use Rattle.smil_past.specs.Syncs.{all_syncs};
 
     ghost Value = { Happened };
 

@@ -18,10 +18,10 @@ pub enum TreeFault {
     /// Another node has the id.
     #[error("another node has the id")]
     DuplicateId,
-    /// There would be more than 2,000 nodes, or no serial is left.
+    /// There would be more than 8,000 nodes, or no serial is left.
     #[error("too many elements")]
     TooManyElements,
-    /// More than 8,000 items would refer to an element or an event.
+    /// More than 32,000 items would refer to an element or an event.
     #[error("too many references")]
     TooManyReferences,
     /// The root is to be removed.

@@ -28,7 +28,7 @@ impl Tree {
     /// Inserts a node without children into a node, at a place among its children that is counted from 1, with attributes
     /// that fit its kind and its parent's kind. The answer is its serial, which no node had before. Refused as by
     /// `may_insert` (`TooDeep`, `BadPlace`), then where another node has the id (`DuplicateId`), where there would be more
-    /// than 2,000 nodes or no serial is left (`TooManyElements`), where more than 8,000 items would refer to an element or
+    /// than 8,000 nodes or no serial is left (`TooManyElements`), where more than 32,000 items would refer to an element or
     /// an event (`TooManyReferences`), and where memory runs out (`Memory`). After a refusal the tree is as before.
     pub fn insert(
         &mut self,

@@ -4,7 +4,7 @@ use Rattle.smil_model.specs.declared.document.Node.{Node}
 use Rattle.smil_model.specs.document.Document.{elements, is_within, node_at, serials}
 use Rattle.smil_model.specs.document.Closure.{has}
 use Rattle.smil_laws.specs.Seen.{shows_in}
-use Rattle.smil_queues.proofs.Listing.{known_at_place}
+use Rattle.smil_past.proofs.Listing.{known_at_place}
 use Rattle.smil_cells.proofs.Refusals.{where_ok}
 use Rattle.smil_cells.proofs.Showing.{no_place, no_node_shows, shown_alone, shown_beside}
 use Rattle.smil_cells.proofs.touched.touch_element.Goals as goal

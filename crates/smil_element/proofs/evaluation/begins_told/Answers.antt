@@ -1,7 +1,7 @@
 use Rattle.std.proofs.Common.{◌≡◌, ◌∙◌, sym, []}
 use Rattle.smil_model.specs.declared.document.Edge.TheVariants.{Begin}
 use Rattle.smil_model.specs.diary.Diary.{History}
-use Rattle.smil_syncs.specs.Syncs.{syncs_of}
+use Rattle.smil_past.specs.Syncs.{syncs_of}
 use Rattle.smil_past.specs.Past.{history_of}
 use Rattle.smil_element.proofs.Awaited.{none_there, begins_settled}
 use Rattle.smil_element.proofs.evaluation.begins_told.Goals as goal

@@ -8,8 +8,8 @@ use Rattle.smil_model.specs.document.Defaults.{endsync_of}
 use Rattle.smil_model.specs.diary.Diary.{History, is_active}
 use Rattle.smil_model.specs.diary.Clocks.{iteration_start}
 use Rattle.smil_model.specs.interval.Current.{child_end}
-use Rattle.smil_plays.specs.declared.played.Played.{Played}
-use Rattle.smil_syncs.proofs.Waiting.{stands}
+use Rattle.smil_past.specs.declared.plays.played.Played.{Played}
+use Rattle.smil_past.proofs.References.{stands}
 use Rattle.smil_past.specs.Past.{history_of}
 use Rattle.smil_element.proofs.ChildEnds.{active_container, idle_container}
 use Rattle.smil_element.proofs.evaluation.container_duration.Goals as goal

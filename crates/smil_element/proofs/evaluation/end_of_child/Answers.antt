@@ -7,7 +7,7 @@ use Rattle.smil_model.specs.declared.document.Attrs.{Attrs}
 use Rattle.smil_model.specs.document.Document.{elements}
 use Rattle.smil_model.specs.diary.Diary.{History, is_deferred}
 use Rattle.smil_model.specs.interval.Current.{is_named_child}
-use Rattle.smil_syncs.proofs.Waiting.{stands}
+use Rattle.smil_past.proofs.References.{stands}
 use Rattle.smil_past.specs.Past.{history_of}
 use Rattle.smil_element.proofs.ChildEnds.{child_told, unless_deferred}
 use Rattle.smil_element.proofs.evaluation.end_of_child.Goals as goal

@@ -1,6 +1,6 @@
 use Rattle.std.proofs.Common.{◌≡◌, take}
 use Rattle.std.specs.Prelude.{flat_map}
-use Rattle.smil_syncs.specs.Syncs.{expected_by}
+use Rattle.smil_past.specs.Syncs.{expected_by}
 use Rattle.smil_past.specs.Past.{history_of}
 use Rattle.smil_element.specs.Pouring.{with_times}
 use Rattle.smil_element.proofs.expected.pour.Given as goal

@@ -7,8 +7,8 @@ use Rattle.smil_model.specs.document.Document.{elements}
 use Rattle.smil_model.specs.diary.Diary.{History}
 use Rattle.smil_model.specs.interval.Instances.{no_interval, number_of, settled_begins}
 use Rattle.smil_instance_rows.specs.Rising.{IsRising}
-use Rattle.smil_syncs.specs.Syncs.{expected_by, syncs_of}
-use Rattle.smil_syncs.proofs.Waiting.{stands}
+use Rattle.smil_past.specs.Syncs.{expected_by, syncs_of}
+use Rattle.smil_past.proofs.References.{stands}
 use Rattle.smil_past.specs.Past.{history_of}
 use Rattle.smil_element.specs.Pouring.{with_times}
 use Rattle.smil_element.proofs.Awaited.{begins_merged, begins_rise}

@@ -8,7 +8,7 @@ use Rattle.smil_model.specs.diary.Clocks.{parent_start}
 use Rattle.smil_model.specs.interval.Durations.{Bounds}
 use Rattle.smil_model.specs.interval.Current.{end_list_of, present_play}
 use Rattle.smil_model.specs.document.Defaults.{min_of, max_of}
-use Rattle.smil_plays.specs.declared.played.Played.{Played}
+use Rattle.smil_past.specs.declared.plays.played.Played.{Played}
 use Rattle.smil_instances.proofs.Sensitive.{serial_is}
 use Rattle.smil_past.specs.Past.{history_of}
 use Rattle.smil_element.proofs.Present.{reads}

@@ -6,7 +6,7 @@ use Rattle.smil_diary.specs.declared.fault.BookFault.TheVariants as book_fault
 use Rattle.smil_past.specs.Past as past_of
 use Rattle.smil_model.specs.declared.limits.TheConstants as limits
 use Rattle.smil_model.specs.happening.Groups.{at_moment, group, steps_of}
-use Rattle.smil_happening.specs.Parts.{coming_meant, meant}
+use Rattle.smil_element.specs.Parts.{coming_meant, meant}
 use Rattle.smil_cells.specs.Standing.{IsFront, IsNext, IsRefusing, first_at, MayAppendAll, Standing, WhereTold, fresh_since}
 use Rattle.std.proofs.lemmas.Int.{to_z-of_z}
 use Rattle.smil_past.specs.Past.{Happened}

@@ -1,6 +1,5 @@
-use Rattle.std.proofs.Common.{◌≡◌, ◌∙◌, inl, inr, arith, to_z, of_z, w64}
+use Rattle.std.proofs.Common.{◌≡◌, ◌∙◌, inr, arith, to_z, of_z, w64}
 use Rattle.std.proofs.lemmas.Int.{ints}
-use Rattle.smil_house.specs.House.{IsAnsweredBy, IsKeptBy, IsRefusedBy}
 use Rattle.smil_house.proofs.Held.{at_found, turned_to}
 use Rattle.smil_house.proofs.house.House.answer.Goals as goal
 

@@ -1,8 +1,8 @@
 use Rattle.std.proofs.Common.{◌≡◌, refl, sym, []}
 use Rattle.std.proofs.lemmas.Result.{IfOk-at_ok}
 use Rattle.smil_stretch.specs.Clocks.{AreClocksOf}
-use Rattle.smil_plays.specs.Played.{all_played}
-use Rattle.smil_queues.specs.Queues.{kept_queues}
+use Rattle.smil_past.specs.Played.{all_played}
+use Rattle.smil_past.specs.Queues.{kept_queues}
 use Rattle.smil_instances.specs.Instances.{IsSettled}
 use Rattle.smil_past.specs.Kept.{history_by}
 use Rattle.smil_past.proofs.kept.Kept.new.Goals as goal

@@ -1,6 +1,6 @@
 use Rattle.std.proofs.Common.{refl}
-use Rattle.smil_plays.specs.Followed.{IsBefore}
-use Rattle.smil_queues.specs.Queues.{IsPastOf}
+use Rattle.smil_past.specs.Followed.{IsBefore}
+use Rattle.smil_past.specs.Queues.{IsPastOf}
 use Rattle.smil_past.specs.Kept.{history_by}
 use Rattle.smil_past.proofs.Appended.{taken_in}
 use Rattle.smil_past.proofs.kept.Kept.take_in.Goals as goal

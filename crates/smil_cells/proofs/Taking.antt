@@ -1,0 +1,198 @@
+-- One element is evaluated, and its row put in its place.
+use Rattle.std.proofs.Common.{◌≡◌, refl, ◌∙◌, ap, sym, subst, ℕ, suc, zero, ◌+◌, ◌<◌, ◌≤◌, List, [], ◌∷◌, ◌++◌, length, Option, Some, None, ℤ, Bool, true, false, get_or, set, arith, inl, inr, map}
+use Rattle.std.specs.Prelude.{◌&&◌, ◌||◌, ◌==◌, ◌⊎◌, find, cond, not, nat_eq, nat_lt, slice_get, is_some, filter, IfSome}
+use Rattle.std.specs.List.{list_any, position, position_or_len}
+use Rattle.std.proofs.lemmas.Bool.{or_left, or_right, or_parts, or_cases, eq-eqb, eqb-true, eqb-false, lt-ltb}
+use Rattle.std.proofs.lemmas.List.{length-map}
+use Rattle.std.proofs.lemmas.List.Folds.{list_any-append}
+use Rattle.std.proofs.lemmas.Option.{slice_get_within}
+use Rattle.smil_model.specs.declared.interval.Interval.{Interval}
+use Rattle.smil_model.specs.declared.document.Node.{Node}
+use Rattle.smil_model.specs.document.Document.{elements, is_element, node_at, serials}
+use Rattle.smil_model.specs.document.Valid.{IsDistinct}
+use Rattle.smil_model.specs.document.Closure.{has}
+use Rattle.smil_model.specs.diary.Diary.{History}
+use Rattle.smil_laws.proofs.Members.{Differ, differ_all, differ_kept}
+use Rattle.smil_graph.specs.Graph.{IsOrder}
+use Rattle.smil_element.specs.declared.comings.Comings.{Comings}
+use Rattle.smil_element.specs.declared.evaluation.Evaluated.{Evaluated}
+use Rattle.smil_element.specs.Element.{IsEvaluated, both, coming_by}
+use Rattle.smil_cells.specs.declared.plain.known.Row.{Row}
+use Rattle.smil_cells.specs.Plain.{interval_in}
+use Rattle.smil_cells.specs.Round.{AreTaken, IsRowOf, IsTaken, StayUnchanged}
+use Rattle.smil_cells.proofs.Rows.{IsFirst, set_serials, set_others, set_own}
+use Rattle.smil_cells.proofs.Paired.{serials_in, there_at, apart_at, first_at, set_at, set_elsewhere}
+use Rattle.smil_cells.proofs.Agreeing.{row_stays, agree_by_order}
+
+pub elements_differ : (nodes : List Node) → IsDistinct nodes → Differ (elements nodes)
+elements_differ nodes distinct = differ_kept is_element nodes (differ_all nodes distinct)
+
+-- ---- where the row of an element is
+
+position_first : (who : ℕ) (rows : List Row) (k : ℕ) → IsFirst who rows k → (position_or_len (λ (r : Row). r.serial == who) rows ≡ k) × (k < length rows)
+position_first who [] k is = elim is [ ]
+position_first who (x ∷ xs) zero is = (ap (λ t. cond (not t) (1 + position_or_len (λ (r : Row). r.serial == who) xs) 0) is, omega arith)
+position_first who (x ∷ xs) (suc k) is =
+    let later = position_first who xs k is.1 in
+    (ap (λ t. cond (not t) (1 + position_or_len (λ (r : Row). r.serial == who) xs) 0) is.0 ∙ omega (arith, later.0), omega (arith, later.1))
+
+pub placed : (who : ℕ) (rows : List Row) (k : ℕ) → IsFirst who rows k → position (λ (r : Row). r.serial == who) rows ≡ Some k
+placed who rows k is =
+    let at = position_first who rows k is in
+    ap (λ n. cond (nat_lt n (length rows)) (Some n) None) at.0 ∙ ap (λ t. cond t (Some k) None) (lt-ltb k (length rows) at.1)
+
+node_place : (who : ℕ) (ns : List Node) (e : Node) → node_at ns who ≡ Some e → (k : ℕ) × (slice_get ns k ≡ Some e) × (e.serial ≡ who)
+node_place who [] e q = cc
+node_place who (n ∷ ns) e q = by_test (n.serial == who) refl q (node_place who ns e)
+  where
+    by_test : (t : Bool) → n.serial == who ≡ t → cond t (Some n) (node_at ns who) ≡ Some e → (node_at ns who ≡ Some e → (k : ℕ) × (slice_get ns k ≡ Some e) × (e.serial ≡ who)) → (k : ℕ) × (slice_get (n ∷ ns) k ≡ Some e) × (e.serial ≡ who)
+    by_test true t r later = let one : n ≡ e = cc in (0, r, sym (ap (λ (m : Node). m.serial) one) ∙ eqb-true n.serial who t)
+    by_test false t r later = let found = later r in (suc found.0, found.1, found.2)
+
+some_of : (o : Option Node) → is_some o ≡ true → (e : Node) × (o ≡ Some e)
+some_of None q = cc
+some_of (Some e) q = (e, refl)
+
+-- an element of a document whose elements have these rows, and where its row stands
+pub record IsFound (nodes : List Node) (rows : List Row) (who : ℕ) : Type 0 where
+  pub element : Node
+  pub place : ℕ
+  pub node : node_at (elements nodes) who ≡ Some element
+  pub here : slice_get (elements nodes) place ≡ Some element
+  pub is_who : element.serial ≡ who
+  pub first : IsFirst who rows place
+  pub position_is : position (λ (r : Row). r.serial == who) rows ≡ Some place
+  pub within : place < length (elements nodes)
+
+pub found : (nodes : List Node) (rows : List Row) (who : ℕ) → IsDistinct nodes → serials_in rows ≡ serials (elements nodes) → is_some (node_at (elements nodes) who) ≡ true → IsFound nodes rows who
+found nodes rows who distinct same has =
+    let some = some_of (node_at (elements nodes) who) has in
+    let at = node_place who (elements nodes) some.0 some.1 in
+    let first : IsFirst who rows at.0 = subst (λ s. IsFirst s rows at.0) at.2 (first_at (elements nodes) rows at.0 some.0 (elements_differ nodes distinct) same at.1) in
+    record {
+      element = some.0;
+      place = at.0;
+      node = some.1;
+      here = at.1;
+      is_who = at.2;
+      first = first;
+      position_is = placed who rows at.0 first;
+      within = slice_get_within (elements nodes) at.0 some.0 at.1;
+    }
+
+pub elements_few : (nodes : List Node) → length (elements nodes) ≤ length nodes
+elements_few [] = omega arith
+elements_few (n ∷ ns) = by_test (is_element n) (elements_few ns)
+  where
+    by_test : (t : Bool) → length (elements ns) ≤ length ns → length (cond t (n ∷ elements ns) (elements ns)) ≤ length (n ∷ ns)
+    by_test true l = omega (arith, l)
+    by_test false l = omega (arith, l)
+
+pub near_where : (P : Interval → Type 0) (o : Option Interval) → ((i : Interval) → o ≡ Some i → P i) → IfSome o P
+near_where P None f = tt
+near_where P (Some i) f = f i refl
+
+-- an element is taken where its evaluation is that by the rows as they were
+pub taken_of : (h : History) (now : ℤ) (who : ℕ) (before after : List Row) (place : ℕ) (made : Evaluated) (comings : Comings) → (at : IsFound h.nodes before who) → place ≡ at.place → IsEvaluated h (interval_in before) now at.element made → both comings.moved comings.repeat ≡ coming_by h made.interval made.simple now place at.element → after ≡ set before place (record { serial = who; interval = made.interval; comings = comings }) → IsTaken h now who before after
+taken_of h now who before after place made comings at is evaluated come after_is = record {
+  place = place;
+  element = at.element;
+  row = record { serial = who; interval = made.interval; comings = comings };
+  here = ap (slice_get (elements h.nodes)) is ∙ at.here;
+  is_who = at.is_who;
+  made = record {
+    serial = sym at.is_who;
+    interval = evaluated.interval;
+    comings = come ∙ ap (λ simple. coming_by h made.interval simple now place at.element) evaluated.simple;
+  };
+  after_is = after_is;
+}
+
+-- ---- what is told of an interval that changes
+
+pub unchanged_pushed : (old new : List ℕ) (rows : List Row) (k : ℕ) (row : Row) → IsFirst row.serial rows k → new ≡ old ++ row.serial ∷ [] → StayUnchanged old new rows (set rows k row)
+unchanged_pushed old new rows k row is pushed = record {
+  more = λ s among. ap (λ xs. has xs s) pushed ∙ list_any-append (λ y. y == s) old (row.serial ∷ []) ∙ or_left _ _ among;
+  others = λ s out. set_others row rows k s is (or_parts _ _ ((or_parts _ _ (sym (list_any-append (λ y. y == s) old (row.serial ∷ [])) ∙ sym (ap (λ xs. has xs s) pushed) ∙ out)).1)).0;
+}
+
+pub unchanged_same : (old new : List ℕ) (rows : List Row) (k : ℕ) (row : Row) → IsFirst row.serial rows k → new ≡ old → interval_in rows row.serial ≡ row.interval → StayUnchanged old new rows (set rows k row)
+unchanged_same old new rows k row is same interval = record {
+  more = λ s among. ap (λ xs. has xs s) same ∙ among;
+  others = λ s out. by_test s (row.serial == s) refl;
+}
+  where
+    by_test : (s : ℕ) (t : Bool) → row.serial == s ≡ t → interval_in (set rows k row) s ≡ interval_in rows s
+    by_test s true q =
+        let one : row.serial ≡ s = eqb-true row.serial s q in
+        ap (interval_in (set rows k row)) (sym one) ∙ set_own row rows k is ∙ sym interval ∙ ap (interval_in rows) one
+    by_test s false q = set_others row rows k s is q
+
+pub unchanged_both : (a b c : List ℕ) (x y z : List Row) → StayUnchanged a b x y → StayUnchanged b c y z → StayUnchanged a c x z
+unchanged_both a b c x y z first second = record {
+  more = λ s among. second.more s (first.more s among);
+  others = λ s out. second.others s out ∙ first.others s (before s (has b s) refl out);
+}
+  where
+    before : (s : ℕ) (t : Bool) → has b s ≡ t → has c s ≡ false → has b s ≡ false
+    before s true q out = let never : true ≡ false = sym (second.more s q) ∙ out in cc
+    before s false q out = q
+
+pub unchanged_none : (a : List ℕ) (x : List Row) → StayUnchanged a a x x
+unchanged_none a x = record { more = λ s among. among; others = λ s out. refl }
+
+-- ---- the rows with one element more of the order
+
+pub take_next : (h : History) (now : ℤ) (order : List ℕ) (k who : ℕ) (before after : List Row) → IsDistinct h.nodes → IsOrder h.nodes order → k < length order → get_or order k 0 ≡ who → AreTaken h now order k before → IsTaken h now who before after → AreTaken h now order (k + 1) after
+take_next h now order k who before after distinct is lt at so_far taken = record {
+  of_elements = ap serials_in taken.after_is ∙ set_serials taken.row before taken.place row_first ∙ so_far.of_elements;
+  rows_are = λ j p e row less at_e here got. by_place j p e row less at_e here (got ∙ refl) (nat_eq p taken.place) refl;
+}
+  where
+    differ : Differ (elements h.nodes)
+    differ = elements_differ h.nodes distinct
+
+    element_first : IsFirst (taken.element).serial before taken.place
+    element_first = first_at (elements h.nodes) before taken.place taken.element differ so_far.of_elements taken.here
+
+    row_first : IsFirst (taken.row).serial before taken.place
+    row_first = subst (λ s. IsFirst s before taken.place) (sym (taken.made).serial) element_first
+
+    others : (x : ℕ) → get_or order k 0 == x ≡ false → interval_in before x ≡ interval_in after x
+    others x other =
+        sym (ap (λ rows. interval_in rows x) taken.after_is
+        ∙ set_others taken.row before taken.place x row_first (ap (λ s. s == x) ((taken.made).serial ∙ taken.is_who ∙ sym at) ∙ other))
+
+    stays : (j p : ℕ) (e : Node) (row : Row) → j ≤ k → get_or order j 0 ≡ e.serial → slice_get (elements h.nodes) p ≡ Some e → IsRowOf h (interval_in before) now p e row → IsRowOf h (interval_in after) now p e row
+    stays j p e row less at_e here row_is =
+        row_stays h (interval_in before) (interval_in after) now e p row
+        (agree_by_order h (interval_in before) (interval_in after) now e order k j is (there_at (elements h.nodes) p e differ here) lt less at_e others)
+        row_is
+
+    by_place : (j p : ℕ) (e : Node) (row : Row) → j < k + 1 → get_or order j 0 ≡ e.serial → slice_get (elements h.nodes) p ≡ Some e → slice_get after p ≡ Some row → (t : Bool) → nat_eq p taken.place ≡ t → IsRowOf h (interval_in after) now p e row
+    by_place j p e row less at_e here got true q =
+        let same : p ≡ taken.place = eqb-true p taken.place q in
+        let one : taken.element ≡ e = same_node (sym taken.here ∙ ap (slice_get (elements h.nodes)) (sym same) ∙ here) in
+        let own : taken.row ≡ row = same_row (sym (set_at (taken.row).serial before taken.place taken.row row_first) ∙ ap (λ rows. slice_get rows taken.place) (sym taken.after_is) ∙ ap (slice_get after) (sym same) ∙ got) in
+        stays j p e row (omega (arith, less)) at_e here
+        (subst (λ r. IsRowOf h (interval_in before) now p e r) own
+        (subst (λ x. IsRowOf h (interval_in before) now p x taken.row) one
+        (subst (λ n. IsRowOf h (interval_in before) now n taken.element taken.row) (sym same) taken.made)))
+      where
+        same_node : Some taken.element ≡ Some e → taken.element ≡ e
+        same_node s = cc
+
+        same_row : Some taken.row ≡ Some row → taken.row ≡ row
+        same_row s = cc
+    by_place j p e row less at_e here got false q =
+        stays j p e row (omega (arith, before_k)) at_e here
+        (so_far.rows_are j p e row before_k at_e here (sym (ap (λ rows. slice_get rows p) taken.after_is ∙ set_elsewhere before p taken.place taken.row (eqb-false p taken.place q)) ∙ got))
+      where
+        differs : j ≡ k → ⊥
+        differs same =
+            let one : p ≡ taken.place = apart_at (elements h.nodes) p taken.place e taken.element differ here taken.here (sym at_e ∙ ap (λ i. get_or order i 0) same ∙ at ∙ sym taken.is_who) in
+            let never : true ≡ false = sym (eq-eqb p taken.place one) ∙ q in
+            cc
+
+        before_k : j < k
+        before_k = omega (arith, less, differs)

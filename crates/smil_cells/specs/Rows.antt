@@ -1,0 +1,29 @@
+-- Rows of elements.
+use Rattle.std.specs.Prelude.{◌≡◌, ◌≢◌, ◌⊎◌, ℕ, List, ◌==◌, Option, Some, None, IfSome}
+use Rattle.std.specs.List.{AllByRecursion, position}
+use Rattle.smil_model.specs.declared.happening.Key.{Key}
+use Rattle.smil_model.specs.declared.document.Node.{Node}
+use Rattle.smil_laws.specs.Near.{IsIntervalNear}
+use Rattle.smil_element.specs.declared.happening.change.Coming.{Coming}
+use Rattle.smil_cells.specs.declared.plain.known.Row.{Row}
+
+-- the row of an element without an interval, of which nothing comes
+abbrev pub row_without : ℕ → Row
+row_without serial = record { serial = serial; interval = None; comings = record { moved = None; repeat = None } }
+
+abbrev pub empty_row : Node → Row
+empty_row e = row_without e.serial
+
+-- the numbers of each interval are near
+abbrev pub AreNear : List Row → Type 0
+AreNear rows = AllByRecursion (λ (r : Row). IfSome r.interval IsIntervalNear) rows
+
+-- a table from serials to places
+abbrev pub ArePlaces : (ℕ → Option ℕ) → List Row → Type 0
+ArePlaces found rows = (s : ℕ) → found s ≡ position (λ (r : Row). r.serial == s) rows
+
+-- of the two that come of an element the first where it has this key, else the second
+abbrev pub IsChosen : Key → Option Coming → Option Coming → Option Coming → Type 0
+IsChosen key None repeat chosen = chosen ≡ repeat
+IsChosen key (Some moved) repeat chosen =
+    ((moved.key ≡ key) × (chosen ≡ Some moved)) ⊎ ((moved.key ≢ key) × (chosen ≡ repeat))

@@ -1,0 +1,226 @@
+//! The plain table: every element is evaluated after each happening.
+
+ghost use Rattle.std.specs.Prelude.{◌≡◌, ◌≤◌, true, OnOk, OnErr, IfOk};
+ghost use Rattle.smil_model.specs.diary.Lawful.{has_element};
+ghost use Rattle.smil_past.specs.Past.{IsPresent, history_of};
+ghost use Rattle.smil_cells.specs.Plain.{IsCurrent};
+ghost use Rattle.smil_cells.specs.Round.{AreOfElements, IsNoted, IsTaken, StayUnchanged, due_in, with_key};
+
+pub mod known;
+
+use super::cells::Cells;
+use super::table::Table;
+use known::{Known, Row};
+use smil_due::DueQueue;
+use smil_element::{Coming, Intervals, Room, comings_of, evaluation_of};
+use smil_model::{Duplicate, Interval, Serials, Steps};
+use smil_past::Past;
+use std::alloc::{AllocError, Global};
+use std::sync::ledger::Ledger;
+
+/// Cells over the plain table.
+pub type PlainCells = Cells<PlainTable>;
+
+/// A table whose elements are all evaluated after each happening, in an order in which the
+/// dependencies that are not looped go forward.
+#[derive(Drop)]
+pub struct PlainTable {
+    known: Known,
+    due: DueQueue,
+    /// Where a mark stands and something changed since, both as they were there.
+    noted: Option<(Known, DueQueue)>,
+    has_mark: bool,
+    room: Room,
+    alloc: Global,
+}
+
+impl Table for PlainTable {
+    ghost use Rattle.std.specs.Prelude.{false};
+    ghost use Rattle.smil_cells.specs.Plain.{IsCurrent, IsMarked, stays_current};
+
+    ghost is_current = { λ t h now. IsCurrent t.known t.due h now };
+
+    ghost is_marked = { λ t h now. IsMarked t.has_mark t.noted t.known t.due h now };
+
+    ghost has_mark = { λ t. t.has_mark };
+
+    ghost counts = { false };
+
+    fn of<L: Ledger>(
+        alloc: Global,
+        past: &Past,
+        moment: i64,
+        steps: &mut Steps<L>,
+    ) -> Result<Self, AllocError> {
+        let mut table = PlainTable {
+            known: Known::of(alloc, past.tree())?,
+            due: DueQueue::new(alloc),
+            noted: None,
+            has_mark: false,
+            room: Room::new(alloc),
+            alloc,
+        };
+        let mut changed = Serials::new(alloc);
+        table.take_all(past, moment, &mut changed, steps)?;
+        Ok(table)
+    }
+
+    fn refresh<L: Ledger>(
+        &mut self,
+        past: &Past,
+        from: usize,
+        moment: i64,
+        changed: &mut Serials,
+        steps: &mut Steps<L>,
+    ) -> Result<(), AllocError> {
+        self.note()?;
+        self.take_all(past, moment, changed, steps)
+    }
+
+    fn interval(&self, who: u32) -> Option<Interval> {
+        self.known.interval(who)
+    }
+
+    fn first(&self) -> Option<Coming> {
+        self.known.coming(self.due.least()?)
+    }
+
+    fn copy(&self) -> Result<Self, AllocError> {
+        Ok(PlainTable {
+            known: self.known.copy()?,
+            due: self.due.copy()?,
+            noted: None,
+            has_mark: false,
+            room: Room::new(self.alloc),
+            alloc: self.alloc,
+        })
+    }
+
+    fn mark(&mut self) {
+        self.noted = None;
+        self.has_mark = true;
+    }
+
+    fn back(&mut self) {
+        if let Some((known, due)) = self.noted.take() {
+            self.known = known;
+            self.due = due;
+        }
+        self.has_mark = false;
+    }
+
+    fn forget(&mut self) {
+        self.noted = None;
+        self.has_mark = false;
+    }
+
+    ghost stays = { λ t h k m n same is. stays_current t.known t.due h k m n same is };
+}
+
+impl PlainTable {
+    // Notes intervals and keys, where a mark stands and they are not noted yet.
+    fn note(&mut self) -> Result<(), AllocError>
+        ensures known { self.new.known ≡ self.old.known }
+        ensures due { self.new.due ≡ self.old.due }
+        ensures has_mark { self.new.has_mark ≡ self.old.has_mark }
+        ensures noted { OnOk result (IsNoted self.old.has_mark self.old.noted self.old.known self.old.due self.new.noted) }
+        ensures err { OnErr result (self.new.noted ≡ self.old.noted) }
+    {
+        if self.has_mark && self.noted.is_none() {
+            let known = self.known.copy()?;
+            let due = self.due.copy()?;
+            self.noted = Some((known, due));
+        }
+        Ok(())
+    }
+
+    // Evaluates all elements and puts their keys into a new queue. The elements whose intervals
+    // change are appended to `changed`.
+    fn take_all<L: Ledger>(
+        &mut self,
+        past: &Past,
+        moment: i64,
+        changed: &mut Serials,
+        steps: &mut Steps<L>,
+    ) -> Result<(), AllocError>
+        requires moment { IsPresent past.now moment }
+        requires of_elements { AreOfElements past.now.document.nodes self.old.known }
+        ensures current { OnOk result (IsCurrent self.new.known self.new.due (history_of past.now) moment) }
+        ensures changed { OnOk result (StayUnchanged changed.old changed.new self.old.known self.new.known) }
+        ensures noted { self.new.noted ≡ self.old.noted }
+        ensures has_mark { self.new.has_mark ≡ self.old.has_mark }
+        ensures counted { steps.old ≤ steps.new }
+    {
+        past.possible();
+        for who in past.graph().order() {
+            self.take_one(past, *who, moment, changed, steps)?;
+        }
+        self.due = due_of(self.alloc, self.known.rows())?;
+        Ok(())
+    }
+
+    // Evaluates an element, and appends it to `changed` where its interval changes.
+    fn take_one<L: Ledger>(
+        &mut self,
+        past: &Past,
+        who: u32,
+        moment: i64,
+        changed: &mut Serials,
+        steps: &mut Steps<L>,
+    ) -> Result<(), AllocError>
+        requires element { has_element past.now.document.nodes who ≡ true }
+        requires moment { IsPresent past.now moment }
+        requires of_elements { AreOfElements past.now.document.nodes self.old.known }
+        ensures taken { OnOk result (IsTaken (history_of past.now) moment who self.old.known self.new.known) }
+        ensures changed { OnOk result (StayUnchanged changed.old changed.new self.old.known self.new.known) }
+        ensures noted { self.new.noted ≡ self.old.noted }
+        ensures has_mark { self.new.has_mark ≡ self.old.has_mark }
+        ensures counted { steps.old ≤ steps.new }
+    {
+        past.possible();
+        let place = self.known.place(who).unwrap();
+        let made = evaluation_of(past, &self.known, who, moment, &mut self.room, steps)?;
+        if !is_same(self.known.interval(who), made.interval) {
+            changed.push(who)?;
+        }
+        let comings = comings_of(past, who, place as u32, moment, &made);
+        self.known.put(
+            place,
+            Row {
+                serial: who,
+                interval: made.interval,
+                comings,
+            },
+        );
+        Ok(())
+    }
+}
+
+// Whether two intervals, which may be absent, are the same.
+fn is_same(a: Option<Interval>, b: Option<Interval>) -> bool
+    ensures { result ≡ true → a ≡ b }
+{
+    a == b
+}
+
+// The keys of what comes of the elements that have these rows.
+fn due_of(alloc: Global, rows: &[Row]) -> Result<DueQueue, AllocError>
+    ensures { IfOk result (λ due. due ≡ due_in rows.now) }
+{
+    let mut due = DueQueue::new(alloc);
+    for row in rows {
+        put_key(&mut due, row.comings.moved)?;
+        put_key(&mut due, row.comings.repeat)?;
+    }
+    Ok(due)
+}
+
+// Puts in the key of what comes, if something does.
+fn put_key(due: &mut DueQueue, coming: Option<Coming>) -> Result<(), AllocError>
+    ensures { OnOk result (due.new ≡ with_key due.old coming) }
+{
+    if let Some(coming) = coming {
+        due.put(coming.key)?;
+    }
+    Ok(())
+}

@@ -1,0 +1,176 @@
+//! What is known of each element.
+
+ghost use Rattle.std.specs.Prelude.{◌≡◌, ◌==◌, ℕ, ◌++◌, [], ◌∷◌, map, if◌then◌else◌, nat_eq, slice_set, slice_get, Some, None, IfOk, IfSome, OnOk};
+ghost use Rattle.std.specs.HashMap.{get};
+ghost use Rattle.std.specs.List.{position};
+ghost use Rattle.std.specs.Option.{option_or};
+ghost use Rattle.smil_model.specs.document.Document.{elements, is_class_kind};
+ghost use Rattle.smil_laws.specs.Near.{IsIntervalNear};
+ghost use Rattle.smil_cells.specs.declared.plain.known.Row.{Row as AnyRow};
+ghost use Rattle.smil_cells.specs.Rows.{ArePlaces, IsChosen, empty_row, row_without};
+
+use smil_element::{Coming, Comings, Intervals};
+use smil_model::{Duplicate, Interval, Key, Kind};
+use smil_tree::Tree;
+use std::alloc::{AllocError, Global};
+use std::collections::HashMap;
+use std::marker::Model;
+
+/// An element with its interval, and what comes of it.
+#[derive(Clone, Copy, Debug)]
+pub struct Row {
+    pub serial: u32,
+    pub interval: Option<Interval>,
+    pub comings: Comings,
+}
+
+/// The elements of a document in document order, each with its interval, whose numbers are from
+/// -10^12 to 10^12, and what comes of it; seen as the list of them.
+#[derive(Drop)]
+pub struct Known {
+    rows: Vec<Row>,
+    places: HashMap<u32, usize>,
+}
+
+impl Model for Known {
+    ghost use Rattle.std.specs.Prelude.{List, nat_eq};
+    ghost use Rattle.std.specs.HashMap.{get};
+    ghost use Rattle.smil_cells.specs.Rows.{AreNear, ArePlaces};
+    ghost use Rattle.smil_cells.specs.declared.plain.known.Row.{Row as AnyRow};
+
+    ghost Value = { List AnyRow };
+
+    ghost view = { λ a. a.rows.items };
+
+    ghost invariant = { λ a. AreNear a.rows.items × ArePlaces (get nat_eq a.places) a.rows.items };
+}
+
+impl Intervals for Known {
+    ghost use Rattle.smil_cells.specs.Plain.{interval_in};
+
+    ghost given = { interval_in };
+
+    fn interval(&self, who: u32) -> Option<Interval> {
+        let place = self.places.get(&who)?;
+        self.rows.get(*place)?.interval
+    }
+}
+
+impl Duplicate for Known {
+    fn copy(&self) -> Result<Self, AllocError> {
+        let alloc = *self.rows.allocator();
+        let rows = Vec::from_slice(alloc, &self.rows)?;
+        Ok(Known {
+            places: places_of(alloc, &rows)?,
+            rows,
+        })
+    }
+}
+
+impl Known {
+    /// The elements of a document without intervals, of which nothing comes; unless memory runs out.
+    pub fn of(alloc: Global, tree: &Tree) -> Result<Known, AllocError>
+        ensures { IfOk result (λ known. known ≡ map empty_row (elements tree.now.nodes)) }
+    {
+        let rows = empty_rows(alloc, tree)?;
+        Ok(Known {
+            places: places_of(alloc, &rows)?,
+            rows,
+        })
+    }
+
+    /// The rows. It takes no memory.
+    pub fn rows(&self) -> &[Row]
+        ensures { result.now ≡ self.now }
+    {
+        &self.rows
+    }
+
+    /// The place of the row of an element; None exactly where it has none. It takes no memory.
+    pub fn place(&self, who: u32) -> Option<usize>
+        ensures { result ≡ position (λ (r : AnyRow). r.serial == who) self.now }
+    {
+        self.places.get(&who).copied()
+    }
+
+    /// Puts a row in the place of the one that its element has. It takes no memory.
+    pub fn put(&mut self, place: usize, row: Row)
+        requires place { position (λ (r : AnyRow). r.serial == row.serial) self.old ≡ Some place }
+        requires near { IfSome row.interval IsIntervalNear }
+        ensures { self.new ≡ slice_set self.old place row }
+    {
+        self.rows[place] = row;
+    }
+
+    /// What comes by a key: of the row at its place the begin or end where that has this key, else
+    /// the repeat. It takes no memory.
+    pub fn coming(&self, key: Key) -> Option<Coming>
+        ensures { (row : AnyRow) → slice_get self.now key.position ≡ Some row → IsChosen key row.comings.moved row.comings.repeat result }
+    {
+        let row = self.rows.get(key.position as usize)?;
+        chosen(key, row.comings)
+    }
+}
+
+// Of what comes of an element the begin or end where that has this key, else the repeat.
+fn chosen(key: Key, comings: Comings) -> Option<Coming>
+    ensures { IsChosen key comings.moved comings.repeat result }
+{
+    match comings.moved {
+        Some(moved) if moved.key == key => Some(moved),
+        _ => comings.repeat,
+    }
+}
+
+// The rows of the elements of a document, without intervals.
+fn empty_rows(alloc: Global, tree: &Tree) -> Result<Vec<Row>, AllocError>
+    ensures { IfOk result (λ rows. rows.items ≡ map empty_row (elements tree.now.nodes)) }
+{
+    tree.valid();
+    let mut rows = Vec::new(alloc);
+    let mut place = 0;
+    while let Some(serial) = tree.serial_at(place) {
+        push_empty(&mut rows, serial, tree.kind(serial))?;
+        place += 1;
+    }
+    Ok(rows)
+}
+
+// Puts the row of a node at the end, where it is an element.
+fn push_empty(rows: &mut Vec<Row>, serial: u32, kind: Kind) -> Result<(), AllocError>
+    ensures { OnOk result (rows.new.items ≡ rows.old.items ++ (if is_class_kind kind then [] else row_without serial ∷ [])) }
+{
+    if kind.is_element() {
+        rows.push(Row {
+            serial,
+            interval: None,
+            comings: Comings {
+                moved: None,
+                repeat: None,
+            },
+        })?;
+    }
+    Ok(())
+}
+
+// A table from serials to places, in which the first place of a serial counts.
+fn places_of(alloc: Global, rows: &[Row]) -> Result<HashMap<u32, usize>, AllocError>
+    ensures { IfOk result (λ places. ArePlaces (get nat_eq places) rows.now) }
+{
+    let mut places = HashMap::new(alloc);
+    for place in 0..rows.len() {
+        note_place(&mut places, rows[place].serial, place)?;
+    }
+    Ok(places)
+}
+
+// Notes the place of a serial, where it has none yet.
+fn note_place(places: &mut HashMap<u32, usize>, serial: u32, place: usize) -> Result<(), AllocError>
+    ensures { OnOk result ((s : ℕ) → get nat_eq places.new s ≡ option_or (get nat_eq places.old s) (if serial == s then Some place else None)) }
+{
+    if places.contains_key(&serial) {
+        return Ok(());
+    }
+    places.insert(serial, place)?;
+    Ok(())
+}

@@ -1,0 +1,137 @@
+-- The first of a list that passes, and the child of an excl that plays.
+use Rattle.std.proofs.Common.{◌≡◌, refl, sym, ◌∙◌, ap, subst, ℕ, zero, suc, ◌+◌, ◌≤◌, List, [], ◌∷◌, Option, Some, None, Bool, true, false, length, take, filter, arith}
+use Rattle.std.specs.Prelude.{cond, ◌==◌, ◌&&◌, find, is_some, not, slice_get}
+use Rattle.std.specs.List.{AllByRecursion}
+use Rattle.std.proofs.lemmas.Bool.{eq-eqb}
+use Rattle.std.proofs.lemmas.Option.{same_Some}
+use Rattle.smil_model.specs.declared.document.Node.{Node}
+use Rattle.smil_model.specs.declared.diary.Entry.{Entry}
+use Rattle.smil_model.specs.document.Document.{has_serial, is_excl_kind, is_time_child, node_at, serial_of, serials, time_children}
+use Rattle.smil_model.specs.diary.Diary.{History, is_active, is_paused}
+use Rattle.smil_model.specs.happening.Queue.{is_playing, playing_child}
+use Rattle.smil_element.specs.Parts.{excl_in, is_it, left_excl, rival}
+
+module _ {A : Type 0} (t : A → Bool) where
+  abbrev pub Fails : List A → Type 0
+  Fails xs = AllByRecursion (λ x. t x ≡ false) xs
+
+  pub found_first : (xs : List A) (k : ℕ) (x : A) → Fails (take k xs) → slice_get xs k ≡ Some x → t x ≡ true → find t xs ≡ Some x
+  found_first [] k x each at is = cc
+  found_first (y ∷ ys) zero x each at is = let one : y ≡ x = cc in ap (λ b. cond b (Some y) (find t ys)) (ap t one ∙ is) ∙ ap Some one
+  found_first (y ∷ ys) (suc k) x each at is = ap (λ b. cond b (Some y) (find t ys)) each.0 ∙ found_first ys k x each.1 at is
+
+  pub found_none : (xs : List A) (k : ℕ) → Fails (take k xs) → length xs ≤ k → find t xs ≡ None
+  found_none [] k each most = refl
+  found_none (y ∷ ys) zero each most = absurd (omega (arith, most))
+  found_none (y ∷ ys) (suc k) each most = ap (λ b. cond b (Some y) (find t ys)) each.0 ∙ found_none ys k each.1 (omega (arith, most))
+
+  go : (xs : List A) (k : ℕ) (x : A) → Fails (take k xs) → slice_get xs k ≡ Some x → t x ≡ false → Fails (take (suc k) xs)
+  go [] k x each at is = cc
+  go (y ∷ ys) zero x each at is = let one : y ≡ x = cc in (ap t one ∙ is, tt)
+  go (y ∷ ys) (suc k) x each at is = (each.0, go ys k x each.1 at is)
+
+  pub one_fails : (xs : List A) (k : ℕ) (x : A) → Fails (take k xs) → slice_get xs k ≡ Some x → t x ≡ false → Fails (take (k + 1) xs)
+  one_fails xs k x each at is = let next : suc k ≡ k + 1 = omega arith in subst (λ j. Fails (take j xs)) next (go xs k x each at is)
+
+-- whether the child with this serial plays
+abbrev pub plays : List Entry → ℕ → Bool
+plays diary s = is_active diary s && not (is_paused diary s)
+
+playing_serial : (diary : List Entry) (ns : List Node) → find (plays diary) (serials ns) ≡ serial_of (find (is_playing diary) ns)
+playing_serial diary [] = refl
+playing_serial diary (n ∷ ns) = ap (λ o. cond (plays diary n.serial) (Some n.serial) o) (playing_serial diary ns) ∙ step (plays diary n.serial)
+  where
+    step : (t : Bool) → cond t (Some n.serial) (serial_of (find (is_playing diary) ns)) ≡ serial_of (cond t (Some n) (find (is_playing diary) ns))
+    step true = refl
+    step false = refl
+
+-- the playing child by nodes and diary
+pub playing_is : (h : History) (nodes : List Node) (diary : List Entry) (excl : ℕ) → h.nodes ≡ nodes → h.diary ≡ diary → find (plays diary) (serials (time_children nodes excl)) ≡ serial_of (playing_child h excl)
+playing_is h nodes diary excl same past =
+    playing_serial diary (time_children nodes excl)
+    ∙ ap (λ (ns : List Node). serial_of (find (is_playing diary) (time_children ns excl))) (sym same)
+    ∙ ap (λ (ds : List Entry). serial_of (find (is_playing ds) (time_children h.nodes excl))) (sym past)
+
+-- ---- the excl of an element
+
+it_is : (who : ℕ) (o : Option Node) → is_it who (serial_of o) ≡ has_serial who o
+it_is who None = refl
+it_is who (Some n) = refl
+
+pub no_left : (h : History) (who : ℕ) (o : Option Node) → None ≡ serial_of (excl_in o) → None ≡ serial_of (left_excl h who o)
+no_left h who None q = refl
+no_left h who (Some p) q = step (is_excl_kind p.kind) q
+  where
+    step : (t : Bool) → None ≡ serial_of (cond t (Some p) None) → None ≡ serial_of (cond (t && has_serial who (playing_child h p.serial)) (Some p) None)
+    step true r = cc
+    step false r = refl
+
+pub left_is : (h : History) (who excl : ℕ) (o : Option Node) (t : Bool) → Some excl ≡ serial_of (excl_in o) → is_it who (serial_of (playing_child h excl)) ≡ t → cond t (Some excl) None ≡ serial_of (left_excl h who o)
+left_is h who excl None t q is = cc
+left_is h who excl (Some p) t q is = step (is_excl_kind p.kind) q
+  where
+    either : (b : Bool) → excl ≡ p.serial → cond b (Some excl) None ≡ serial_of (cond b (Some p) None)
+    either true e = ap Some e
+    either false e = refl
+
+    step : (b : Bool) → Some excl ≡ serial_of (cond b (Some p) None) → cond t (Some excl) None ≡ serial_of (cond (b && has_serial who (playing_child h p.serial)) (Some p) None)
+    step true r =
+        let same : excl ≡ p.serial = same_Some excl p.serial r in
+        either t same ∙ ap (λ b. serial_of (cond b (Some p) None)) (sym is ∙ it_is who (playing_child h excl) ∙ ap (λ e. has_serial who (playing_child h e)) same)
+    step false r = cc
+
+pub no_rival : (h : History) (o : Option Node) → None ≡ serial_of (excl_in o) → None ≡ serial_of (rival h o)
+no_rival h None q = refl
+no_rival h (Some p) q = step (is_excl_kind p.kind) q
+  where
+    step : (t : Bool) → None ≡ serial_of (cond t (Some p) None) → None ≡ serial_of (cond t (playing_child h p.serial) None)
+    step true r = cc
+    step false r = refl
+
+pub rival_is : (h : History) (excl : ℕ) (o : Option Node) → Some excl ≡ serial_of (excl_in o) → serial_of (playing_child h excl) ≡ serial_of (rival h o)
+rival_is h excl None q = cc
+rival_is h excl (Some p) q = step (is_excl_kind p.kind) q
+  where
+    step : (t : Bool) → Some excl ≡ serial_of (cond t (Some p) None) → serial_of (playing_child h excl) ≡ serial_of (cond t (playing_child h p.serial) None)
+    step true r = ap (λ e. serial_of (playing_child h e)) (same_Some excl p.serial r)
+    step false r = cc
+
+-- ---- who is found is a node
+
+pub found_known : (t u : Node → Bool) (ns : List Node) (n : Node) → find t (filter u ns) ≡ Some n → is_some (node_at ns n.serial) ≡ true
+found_known t u [] n q = cc
+found_known t u (m ∷ ns) n q = step (u m) (t m) q (found_known t u ns n)
+  where
+    later : (b : Bool) → is_some (node_at ns n.serial) ≡ true → is_some (cond b (Some m) (node_at ns n.serial)) ≡ true
+    later true r = refl
+    later false r = r
+
+    step : (a b : Bool) → find t (cond a (m ∷ filter u ns) (filter u ns)) ≡ Some n → (find t (filter u ns) ≡ Some n → is_some (node_at ns n.serial) ≡ true) → is_some (cond (m.serial == n.serial) (Some m) (node_at ns n.serial)) ≡ true
+    step true b r rest = here (t m) r rest
+      where
+        here : (c : Bool) → cond c (Some m) (find t (filter u ns)) ≡ Some n → (find t (filter u ns) ≡ Some n → is_some (node_at ns n.serial) ≡ true) → is_some (cond (m.serial == n.serial) (Some m) (node_at ns n.serial)) ≡ true
+        here true s more = ap (λ c. is_some (cond c (Some m) (node_at ns n.serial))) (eq-eqb m.serial n.serial (ap (λ (x : Node). x.serial) (same_Some m n s)))
+        here false s more = later (m.serial == n.serial) (more s)
+    step false b r rest = later (m.serial == n.serial) (rest r)
+
+pub rival_known : (h : History) (nodes : List Node) (playing : ℕ) (o : Option Node) → h.nodes ≡ nodes → Some playing ≡ serial_of (rival h o) → is_some (node_at nodes playing) ≡ true
+rival_known h nodes playing None same q = cc
+rival_known h nodes playing (Some p) same q = step (is_excl_kind p.kind) q
+  where
+    child : (c : Option Node) → playing_child h p.serial ≡ c → Some playing ≡ serial_of c → is_some (node_at nodes playing) ≡ true
+    child None e r = cc
+    child (Some n) e r =
+        ap (λ (ns : List Node). is_some (node_at ns playing)) (sym same) ∙ ap (λ s. is_some (node_at h.nodes s)) (same_Some playing n.serial r)
+        ∙ found_known (is_playing h.diary) (is_time_child h.nodes p.serial) h.nodes n e
+
+    step : (t : Bool) → Some playing ≡ serial_of (cond t (playing_child h p.serial) None) → is_some (node_at nodes playing) ≡ true
+    step true r = child (playing_child h p.serial) refl r
+    step false r = cc
+
+pub left_known : (h : History) (who excl : ℕ) (nodes : List Node) (o : Option Node) → ((p : Node) → o ≡ Some p → is_some (node_at nodes p.serial) ≡ true) → Some excl ≡ serial_of (left_excl h who o) → is_some (node_at nodes excl) ≡ true
+left_known h who excl nodes None known q = cc
+left_known h who excl nodes (Some p) known q = step (is_excl_kind p.kind && has_serial who (playing_child h p.serial)) q
+  where
+    step : (t : Bool) → Some excl ≡ serial_of (cond t (Some p) None) → is_some (node_at nodes excl) ≡ true
+    step true r = ap (λ s. is_some (node_at nodes s)) (same_Some excl p.serial r) ∙ known p refl
+    step false r = cc

@@ -1,5 +1,0 @@
-pub mod Above
-pub mod Appending
-pub mod Cutting
-pub mod Finding
-pub mod Following

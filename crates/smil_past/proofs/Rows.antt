@@ -1,0 +1,210 @@
+-- Lists of rows: what they have for an element, and one row put in the place of another.
+use Rattle.std.proofs.Common.{◌≡◌, refl, sym, ◌∙◌, ap, ℕ, suc, zero, ◌<◌, List, [], ◌∷◌, length, Option, Some, None, Bool, true, false, get_or, set, arith}
+use Rattle.std.specs.Prelude.{cond, not, ◌+◌, ◌==◌, ◌||◌, map, filter, find, option_map, is_some, nat_lt, slice_get}
+use Rattle.std.specs.List.{list_any, position, position_or_len}
+use Rattle.std.proofs.lemmas.Bool.{eqb-true, eq-eqb, ltb-false, or_parts}
+use Rattle.std.proofs.lemmas.List.{length-map}
+use Rattle.std.proofs.lemmas.List.Folds.{find_at}
+use Rattle.std.proofs.lemmas.List.Quantifiers.{position-Some}
+use Rattle.std.proofs.lemmas.Option.{slice_get_past, get_or_from_slice_get}
+use Rattle.smil_model.specs.declared.document.Node.{Node}
+use Rattle.smil_model.specs.document.Document.{is_element}
+use Rattle.smil_model.specs.document.Valid.{IsDistinct}
+use Rattle.smil_past.specs.declared.plays.played.Played.{Played}
+use Rattle.smil_past.specs.Rows.{row_of, keys_of, IsPut, ArePlaces}
+
+abbrev pub Row : Type 0
+Row = ℕ × Played
+
+abbrev is_of : ℕ → Row → Bool
+is_of s row = row.0 == s
+
+-- ---- the first row of an element
+
+abbrev pub IsFirst : ℕ → List Row → ℕ → Type 0
+IsFirst who [] k = ⊥
+IsFirst who (x ∷ xs) zero = x.0 == who ≡ true
+IsFirst who (x ∷ xs) (suc k) = (x.0 == who ≡ false) × IsFirst who xs k
+
+first_by : (who : ℕ) (xs : List Row) (k : ℕ) (d : Row) → k < length xs → is_of who (get_or xs k d) ≡ true → ((j : ℕ) → j < k → is_of who (get_or xs j d) ≡ false) → IsFirst who xs k
+first_by who [] k d lt here before = omega (arith, lt)
+first_by who (x ∷ xs) zero d lt here before = here
+first_by who (x ∷ xs) (suc k) d lt here before = (before 0 (omega arith), first_by who xs k d (omega (arith, lt)) here (λ j less. before (suc j) (omega (arith, less))))
+
+pub first_of_position : (who : ℕ) (xs : List Row) (k : ℕ) (d : Row) → position (λ (row : Row). row.0 == who) xs ≡ Some k → IsFirst who xs k
+first_of_position who xs k d q = let at = position-Some (λ (row : Row). row.0 == who) xs k d q in first_by who xs k d at.0 at.1 at.2
+
+pub row_first : (who : ℕ) (xs : List Row) (k : ℕ) (d : Row) → IsFirst who xs k → row_of xs who ≡ Some (get_or xs k d).1
+row_first who [] k d is = elim is [ ]
+row_first who (x ∷ xs) zero d is = ap (λ t. option_map (λ (row : Row). row.1) (cond t (Some x) (find (λ (row : Row). row.0 == who) xs))) is
+row_first who (x ∷ xs) (suc k) d is = ap (λ t. option_map (λ (row : Row). row.1) (cond t (Some x) (find (λ (row : Row). row.0 == who) xs))) is.0 ∙ row_first who xs k d is.1
+
+pub row_none : (who : ℕ) (xs : List Row) → position (λ (row : Row). row.0 == who) xs ≡ None → row_of xs who ≡ None
+row_none who xs q = by_test (nat_lt (position_or_len (λ (row : Row). row.0 == who) xs) (length xs)) refl q
+  where
+    by_test : (t : Bool) → nat_lt (position_or_len (λ (row : Row). row.0 == who) xs) (length xs) ≡ t → cond t (Some (position_or_len (λ (row : Row). row.0 == who) xs)) None ≡ None → row_of xs who ≡ None
+    by_test true e r = cc
+    by_test false e r =
+        ap (option_map (λ (row : Row). row.1))
+        (find_at (λ (row : Row). row.0 == who) xs ∙ slice_get_past xs _ (ltb-false (position_or_len (λ (row : Row). row.0 == who) xs) (length xs) e))
+
+-- ---- a row put in its place
+
+cons_row : (s : ℕ) (x : Row) (xs : List Row) → row_of (x ∷ xs) s ≡ cond (x.0 == s) (Some x.1) (row_of xs s)
+cons_row s x xs = by_test (x.0 == s)
+  where
+    by_test : (t : Bool) → option_map (λ (row : Row). row.1) (cond t (Some x) (find (λ (row : Row). row.0 == s) xs)) ≡ cond t (Some x.1) (row_of xs s)
+    by_test true = refl
+    by_test false = refl
+
+pub set_keys : (who : ℕ) (r : Played) (xs : List Row) (k : ℕ) → IsFirst who xs k → keys_of (set xs k (who, r)) ≡ keys_of xs
+set_keys who r [] k is = cc
+set_keys who r (x ∷ xs) zero is = ap (λ n. n ∷ keys_of xs) (sym (eqb-true x.0 who is))
+set_keys who r (x ∷ xs) (suc k) is = ap (λ ns. x.0 ∷ ns) (set_keys who r xs k is.1)
+
+abbrev put_at : ℕ → Played → ℕ → Option Played → Option Played
+put_at who r s o = cond (who == s) (option_map (λ (q : Played). r) o) o
+
+pub set_row : (who : ℕ) (r : Played) (xs : List Row) (k : ℕ) (s : ℕ) → IsFirst who xs k → row_of (set xs k (who, r)) s ≡ put_at who r s (row_of xs s)
+set_row who r [] k s is = elim is [ ]
+set_row who r (x ∷ xs) zero s is =
+    cons_row s (who, r) xs ∙ by_test (who == s)
+    ∙ ap (λ n. put_at who r s (cond (n == s) (Some x.1) (row_of xs s))) (sym (eqb-true x.0 who is))
+    ∙ ap (put_at who r s) (sym (cons_row s x xs))
+  where
+    by_test : (t : Bool) → cond t (Some r) (row_of xs s) ≡ cond t (option_map (λ (q : Played). r) (cond t (Some x.1) (row_of xs s))) (cond t (Some x.1) (row_of xs s))
+    by_test true = refl
+    by_test false = refl
+set_row who r (x ∷ xs) (suc k) s is =
+    cons_row s x (set xs k (who, r)) ∙ by_test (x.0 == s) (who == s) refl refl (set_row who r xs k s is.1)
+    ∙ ap (put_at who r s) (sym (cons_row s x xs))
+  where
+    by_test : (t u : Bool) → x.0 == s ≡ t → who == s ≡ u → row_of (set xs k (who, r)) s ≡ cond u (option_map (λ (q : Played). r) (row_of xs s)) (row_of xs s) → cond t (Some x.1) (row_of (set xs k (who, r)) s) ≡ cond u (option_map (λ (q : Played). r) (cond t (Some x.1) (row_of xs s))) (cond t (Some x.1) (row_of xs s))
+    by_test true true e f more =
+        let one : x.0 ≡ who = eqb-true x.0 s e ∙ sym (eqb-true who s f) in
+        let never : true ≡ false = sym (eq-eqb x.0 who one) ∙ is.0 in
+        cc
+    by_test true false e f more = refl
+    by_test false u e f more = more
+
+-- ---- places by keys
+
+place_key : (s : ℕ) (xs : List Row) → position_or_len (λ (row : Row). row.0 == s) xs ≡ position_or_len (λ n. n == s) (keys_of xs)
+place_key s [] = refl
+place_key s (x ∷ xs) = ap (λ k. cond (not (x.0 == s)) (1 + k) 0) (place_key s xs)
+
+-- ---- rows of nodes
+
+pub row_map : (f : ℕ → Played) (ns : List Node) (s : ℕ) → row_of (map (λ (e : Node). (e.serial, f e.serial)) ns) s ≡ cond (list_any (λ (n : Node). n.serial == s) ns) (Some (f s)) None
+row_map f [] s = refl
+row_map f (n ∷ ns) s =
+    cons_row s (n.serial, f n.serial) (map (λ (e : Node). (e.serial, f e.serial)) ns)
+    ∙ by_test (n.serial == s) refl (row_map f ns s)
+  where
+    by_test : (t : Bool) → n.serial == s ≡ t → row_of (map (λ (e : Node). (e.serial, f e.serial)) ns) s ≡ cond (list_any (λ (m : Node). m.serial == s) ns) (Some (f s)) None → cond t (Some (f n.serial)) (row_of (map (λ (e : Node). (e.serial, f e.serial)) ns) s) ≡ cond (t || list_any (λ (m : Node). m.serial == s) ns) (Some (f s)) None
+    by_test true e more = ap (λ k. Some (f k)) (eqb-true n.serial s e)
+    by_test false e more = more
+
+-- and by the node that is found
+pub row_of_found : (f : ℕ → Played) (ns : List Node) (s : ℕ) → row_of (map (λ (e : Node). (e.serial, f e.serial)) ns) s ≡ option_map (λ (e : Node). f e.serial) (find (λ (n : Node). n.serial == s) ns)
+row_of_found f [] s = refl
+row_of_found f (n ∷ ns) s = by_test (n.serial == s) (row_of_found f ns s)
+  where
+    rows : List Row
+    rows = map (λ (e : Node). (e.serial, f e.serial)) ns
+
+    by_test : (t : Bool) → row_of rows s ≡ option_map (λ (e : Node). f e.serial) (find (λ (m : Node). m.serial == s) ns) → option_map (λ (row : Row). row.1) (cond t (Some (n.serial, f n.serial)) (find (λ (row : Row). row.0 == s) rows)) ≡ option_map (λ (e : Node). f e.serial) (cond t (Some n) (find (λ (m : Node). m.serial == s) ns))
+    by_test true more = refl
+    by_test false more = more
+
+pub found_any : (s : ℕ) (ns : List Node) → is_some (find (λ (n : Node). n.serial == s) ns) ≡ list_any (λ (n : Node). n.serial == s) ns
+found_any s [] = refl
+found_any s (n ∷ ns) = by_test (n.serial == s) (found_any s ns)
+  where
+    by_test : (t : Bool) → is_some (find (λ (m : Node). m.serial == s) ns) ≡ list_any (λ (m : Node). m.serial == s) ns → is_some (cond t (Some n) (find (λ (m : Node). m.serial == s) ns)) ≡ (t || list_any (λ (m : Node). m.serial == s) ns)
+    by_test true more = refl
+    by_test false more = more
+
+any_filter : (s : ℕ) (ns : List Node) → list_any (λ (n : Node). n.serial == s) ns ≡ false → list_any (λ (n : Node). n.serial == s) (filter is_element ns) ≡ false
+any_filter s [] q = refl
+any_filter s (n ∷ ns) q =
+    let parts = or_parts (n.serial == s) (list_any (λ (m : Node). m.serial == s) ns) q in
+    by_test (is_element n) parts.0 (any_filter s ns parts.1)
+  where
+    by_test : (t : Bool) → n.serial == s ≡ false → list_any (λ (m : Node). m.serial == s) (filter is_element ns) ≡ false → list_any (λ (m : Node). m.serial == s) (cond t (n ∷ filter is_element ns) (filter is_element ns)) ≡ false
+    by_test true here more = ap (λ u. u || list_any (λ (m : Node). m.serial == s) (filter is_element ns)) here ∙ more
+    by_test false here more = more
+
+-- rows of the elements of distinct nodes, by what they have for each
+abbrev Has : (ℕ → Played) → List Node → List Row → Type 0
+Has g es xs = (s : ℕ) → list_any (λ (n : Node). n.serial == s) es ≡ true → row_of xs s ≡ Some (g s)
+
+pub rows_are : (g : ℕ → Played) (ns : List Node) (xs : List Row) → IsDistinct ns → keys_of xs ≡ map (λ (n : Node). n.serial) (filter is_element ns) → Has g (filter is_element ns) xs → xs ≡ map (λ (e : Node). (e.serial, g e.serial)) (filter is_element ns)
+rows_are g [] [] distinct keys has = refl
+rows_are g [] (x ∷ xs) distinct keys has = cc
+rows_are g (n ∷ ns) xs distinct keys has = by_test (is_element n) xs keys has (λ zs. rows_are g ns zs distinct.1)
+  where
+    es : List Node
+    es = filter is_element ns
+
+    out : list_any (λ (m : Node). m.serial == n.serial) es ≡ false
+    out = any_filter n.serial ns distinct.0
+
+    by_test : (t : Bool) (zs : List Row) → keys_of zs ≡ map (λ (m : Node). m.serial) (cond t (n ∷ es) es) → Has g (cond t (n ∷ es) es) zs → ((ws : List Row) → keys_of ws ≡ map (λ (m : Node). m.serial) es → Has g es ws → ws ≡ map (λ (e : Node). (e.serial, g e.serial)) es) → zs ≡ map (λ (e : Node). (e.serial, g e.serial)) (cond t (n ∷ es) es)
+    by_test false zs same here more = more zs same here
+    by_test true [] same here more = cc
+    by_test true (z ∷ zs) same here more =
+        let own : z.0 ≡ n.serial = cc in
+        let rest : keys_of zs ≡ map (λ (m : Node). m.serial) es = cc in
+        let self : n.serial == n.serial ≡ true = eq-eqb n.serial n.serial refl in
+        let got : row_of (z ∷ zs) n.serial ≡ Some (g n.serial) = here n.serial (ap (λ t. t || list_any (λ (m : Node). m.serial == n.serial) es) self) in
+        let is : Some z.1 ≡ Some (g n.serial) = sym (cons_row n.serial z zs ∙ ap (λ k. cond (k == n.serial) (Some z.1) (row_of zs n.serial)) own ∙ ap (λ t. cond t (Some z.1) (row_of zs n.serial)) self) ∙ got in
+        let played : z.1 ≡ g n.serial = cc in
+        let tail : zs ≡ map (λ (e : Node). (e.serial, g e.serial)) es = more zs rest (λ s among. later s among own (here s (or_right (n.serial == s) among))) in
+        ap (λ k. (k, z.1) ∷ zs) own ∙ ap (λ r. (n.serial, r) ∷ zs) played ∙ ap (λ ws. (n.serial, g n.serial) ∷ ws) tail
+      where
+        or_right : (t : Bool) {u : Bool} → u ≡ true → (t || u) ≡ true
+        or_right true q = refl
+        or_right false q = q
+
+        later : (s : ℕ) → list_any (λ (m : Node). m.serial == s) es ≡ true → z.0 ≡ n.serial → row_of (z ∷ zs) s ≡ Some (g s) → row_of zs s ≡ Some (g s)
+        later s among own q = by_own (n.serial == s) refl
+          where
+            by_own : (t : Bool) → n.serial == s ≡ t → row_of zs s ≡ Some (g s)
+            by_own true e =
+                let never : true ≡ false = sym among ∙ ap (λ k. list_any (λ (m : Node). m.serial == k) es) (sym (eqb-true n.serial s e)) ∙ out in
+                cc
+            by_own false e = sym (cons_row s z zs ∙ ap (λ k. cond (k == s) (Some z.1) (row_of zs s)) own ∙ ap (λ t. cond t (Some z.1) (row_of zs s)) e) ∙ q
+
+-- ---- rows that are put
+
+pub put_none : (who : ℕ) (r : Played) (rows : List Row) → row_of rows who ≡ None → IsPut who r rows rows
+put_none who r rows none = record { same_keys = refl; rows = λ s. by_test s (who == s) refl }
+  where
+    by_test : (s : ℕ) (t : Bool) → who == s ≡ t → row_of rows s ≡ cond t (option_map (λ (q : Played). r) (row_of rows s)) (row_of rows s)
+    by_test s true e =
+        let gone : row_of rows s ≡ None = ap (row_of rows) (sym (eqb-true who s e)) ∙ none in
+        gone ∙ sym (ap (option_map (λ (q : Played). r)) gone)
+    by_test s false e = refl
+
+pub put_set : (who : ℕ) (r : Played) (rows : List Row) (k : ℕ) → position (λ (row : Row). row.0 == who) rows ≡ Some k → IsPut who r rows (set rows k (who, r))
+put_set who r rows k q =
+    let is = first_of_position who rows k (who, r) q in
+    record { same_keys = set_keys who r rows k is; rows = λ s. set_row who r rows k s is }
+
+pub places_same : (found : ℕ → Option ℕ) (old new : List Row) → keys_of new ≡ keys_of old → ArePlaces found old → ArePlaces found new
+places_same found old new same are = λ s.
+    are s ∙ by_key s old ∙ sym (ap (λ ks. placed s ks) same) ∙ sym (by_key s new)
+  where
+    placed : ℕ → List ℕ → Option ℕ
+    placed s ks = cond (nat_lt (position_or_len (λ n. n == s) ks) (length ks)) (Some (position_or_len (λ n. n == s) ks)) None
+
+    by_key : (s : ℕ) (rows : List Row) → position (λ (row : Row). row.0 == s) rows ≡ placed s (keys_of rows)
+    by_key s rows =
+        ap (λ k. cond (nat_lt k (length rows)) (Some k) None) (place_key s rows)
+        ∙ ap (λ l. cond (nat_lt (position_or_len (λ n. n == s) (keys_of rows)) l) (Some (position_or_len (λ n. n == s) (keys_of rows))) None) (sym (length-map rows (λ (row : Row). row.0)))
+
+pub row_found : (who : ℕ) (rows : List Row) (k : ℕ) (e : Row) → position (λ (row : Row). row.0 == who) rows ≡ Some k → slice_get rows k ≡ Some e → row_of rows who ≡ Some e.1
+row_found who rows k e at got =
+    row_first who rows k e (first_of_position who rows k e at)
+    ∙ ap (λ (r : Row). Some r.1) (get_or_from_slice_get rows k e e got)

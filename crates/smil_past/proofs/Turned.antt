@@ -1,0 +1,56 @@
+-- Rows as time children are turned one after another.
+use Rattle.std.proofs.Common.{◌≡◌, refl, sym, ◌∙◌, ap, ℕ, suc, ◌+◌, ◌<◌, ◌≤◌, List, [], ◌∷◌, length, take, Option, Some, None, Bool, true, false, arith}
+use Rattle.std.specs.Prelude.{cond, not, ◌==◌, ◌||◌, filter, option_map, is_some, slice_get}
+use Rattle.std.specs.List.{list_any}
+use Rattle.std.proofs.lemmas.List.Folds.{list_any_more}
+use Rattle.std.proofs.lemmas.Option.{get_or_from_slice_get}
+use Rattle.smil_model.specs.declared.document.Node.{Node}
+use Rattle.smil_model.specs.document.Document.{is_element, node_at}
+use Rattle.smil_model.specs.diary.Lawful.{has_element}
+use Rattle.smil_laws.proofs.Members.{found_held}
+use Rattle.smil_past.specs.declared.plays.played.Played.{Played}
+use Rattle.smil_past.specs.Rows.{row_of, IsTurned, AreTurned}
+use Rattle.smil_past.specs.Followed.{child_after}
+use Rattle.smil_past.proofs.Rows.{found_any}
+
+pub known_node : (nodes : List Node) (s : ℕ) → has_element nodes s ≡ true → is_some (node_at nodes s) ≡ true
+known_node nodes s q = found_any s nodes ∙ found_held is_element s nodes q
+
+twice : (b : Bool) (o : Option Played) → option_map (child_after b (not b)) (option_map (child_after b (not b)) o) ≡ option_map (child_after b (not b)) o
+twice true None = refl
+twice false None = refl
+twice true (Some r) = refl
+twice false (Some r) = refl
+
+pub filter_most : (t : Node → Bool) (ns : List Node) → length (filter t ns) ≤ length ns
+filter_most t [] = omega arith
+filter_most t (n ∷ ns) = by_test (t n) (filter_most t ns)
+  where
+    by_test : (u : Bool) → length (filter t ns) ≤ length ns → length (cond u (n ∷ filter t ns) (filter t ns)) ≤ suc (length ns)
+    by_test true le = omega (arith, le)
+    by_test false le = omega (arith, le)
+
+pub turned_more : (kids : List Node) (k serial : ℕ) (b : Bool) (old cur new : List (ℕ × Played)) (n : Node) → slice_get kids k ≡ Some n → n.serial ≡ serial → k < length kids → AreTurned (take k kids) b old cur → IsTurned serial b cur new → AreTurned (take (k + 1) kids) b old new
+turned_more kids k serial b old cur new n at is less are turn = record {
+  same_keys = turn.same_keys ∙ are.same_keys;
+  rows = λ s.
+      turn.rows s ∙ ap (λ o. cond (serial == s) (option_map (child_after b (not b)) o) o) (are.rows s)
+      ∙ by_both (serial == s) (list_any (λ (m : Node). m.serial == s) (take k kids)) (row_of old s)
+      ∙ sym (ap (λ t. cond t (option_map (child_after b (not b)) (row_of old s)) (row_of old s))
+      (list_any_more (λ (m : Node). m.serial == s) kids k n less
+      ∙ ap (λ (m : Node). list_any (λ (x : Node). x.serial == s) (take k kids) || (m.serial == s)) (get_or_from_slice_get kids k n n at)
+      ∙ ap (λ j. list_any (λ (x : Node). x.serial == s) (take k kids) || (j == s)) is));
+}
+  where
+    by_both : (u t : Bool) (o : Option Played) → cond u (option_map (child_after b (not b)) (cond t (option_map (child_after b (not b)) o) o)) (cond t (option_map (child_after b (not b)) o) o) ≡ cond (t || u) (option_map (child_after b (not b)) o) o
+    by_both true true o = twice b o
+    by_both true false o = refl
+    by_both false true o = refl
+    by_both false false o = refl
+
+pub turned_next : (kids : List Node) (k serial : ℕ) (b : Bool) (old cur new : List (ℕ × Played)) (o : Option Node) → slice_get kids k ≡ o → Some serial ≡ option_map (λ (n : Node). n.serial) (slice_get kids k) → k < length kids → AreTurned (take k kids) b old cur → IsTurned serial b cur new → AreTurned (take (k + 1) kids) b old new
+turned_next kids k serial b old cur new None at is less are turn = let never : Some serial ≡ None = is ∙ ap (option_map (λ (n : Node). n.serial)) at in cc
+turned_next kids k serial b old cur new (Some n) at is less are turn =
+    let one : Some serial ≡ Some n.serial = is ∙ ap (option_map (λ (n : Node). n.serial)) at in
+    let same : n.serial ≡ serial = cc in
+    turned_more kids k serial b old cur new n at same less are turn

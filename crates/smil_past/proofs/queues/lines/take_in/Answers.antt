@@ -1,0 +1,54 @@
+use Rattle.std.proofs.Common.{◌∙◌}
+use Rattle.smil_model.specs.happening.Queue.{queue_of}
+use Rattle.smil_past.specs.Queues.{emptied, left}
+use Rattle.smil_past.proofs.Taking.{began_known, paused_known, deferred_known, leaving_known, paused_room, deferred_room, after_began, after_paused, after_deferred, after_leaving, after_other}
+use Rattle.smil_past.proofs.queues.lines.take_in.Goals as goal
+
+pub leave-requires-clause-known : goal.leave-requires-clause-known
+leave-requires-clause-known c = began_known _ _ _ c.requires.may.0 c.requires.may.1 c.in-Began.who c.in-Began.begin c.in-Began.is
+
+pub class_at-rank-requires-clause-known : goal.class_at-rank-requires-clause-known
+class_at-rank-requires-clause-known c = paused_known _ _ _ c.requires.may.0 c.requires.may.1 c.in-Paused.who c.in-Paused.is
+
+pub leave-requires-in-Paused-clause-known : goal.leave-requires-in-Paused-clause-known
+leave-requires-in-Paused-clause-known c = paused_known _ _ _ c.requires.may.0 c.requires.may.1 c.in-Paused.who c.in-Paused.is
+
+pub pause-requires-clause-known : goal.pause-requires-clause-known
+pause-requires-clause-known c = paused_known _ _ _ c.requires.may.0 c.requires.may.1 c.in-Paused.who c.in-Paused.is
+
+pub pause-requires-clause-room : goal.pause-requires-clause-room
+pause-requires-clause-room c = paused_room _ _ _ c.requires.may.0 c.requires.may.1 c.in-Paused.who _ c.in-Paused.is (c.leave-in-Paused.ensures (queue_of c.requires.may.0) c.requires.may.1.value)
+
+pub class_at-rank-requires-in-Deferred-clause-known : goal.class_at-rank-requires-in-Deferred-clause-known
+class_at-rank-requires-in-Deferred-clause-known c = deferred_known _ _ _ c.requires.may.0 c.requires.may.1 c.in-Deferred.who c.in-Deferred.begin c.in-Deferred.is
+
+pub leave-requires-in-Deferred-clause-known : goal.leave-requires-in-Deferred-clause-known
+leave-requires-in-Deferred-clause-known c = deferred_known _ _ _ c.requires.may.0 c.requires.may.1 c.in-Deferred.who c.in-Deferred.begin c.in-Deferred.is
+
+pub defer-requires-clause-known : goal.defer-requires-clause-known
+defer-requires-clause-known c = deferred_known _ _ _ c.requires.may.0 c.requires.may.1 c.in-Deferred.who c.in-Deferred.begin c.in-Deferred.is
+
+pub defer-requires-clause-room : goal.defer-requires-clause-room
+defer-requires-clause-room c = deferred_room _ _ _ c.requires.may.0 c.requires.may.1 c.in-Deferred.who c.in-Deferred.begin _ c.in-Deferred.is (c.leave-in-Deferred.ensures (queue_of c.requires.may.0) c.requires.may.1.value)
+
+pub leave-requires-in-Resumed-clause-known : goal.leave-requires-in-Resumed-clause-known
+leave-requires-in-Resumed-clause-known c = leaving_known _ _ _ c.requires.may.0 c.requires.may.1 c.in-Resumed.who c.in-Resumed.is
+
+pub returns-in-Began : goal.returns-in-Began
+returns-in-Began c = λ h may.
+    c.leave.ensures (emptied c.in-Began.who (queue_of h)) (c.empty.ensures (queue_of h) may.value) ∙ after_began _ _ _ h may c.in-Began.who c.in-Began.begin c.in-Began.is
+
+pub returns-in-Paused : goal.returns-in-Paused
+returns-in-Paused c = λ h may.
+    c.pause.ensures (left c.args.tree.now.nodes c.in-Paused.who (queue_of h)) (c.leave-in-Paused.ensures (queue_of h) may.value) ∙ after_paused _ _ _ h may c.in-Paused.who c.in-Paused.is
+
+pub returns-in-Deferred : goal.returns-in-Deferred
+returns-in-Deferred c = λ h may.
+    c.defer.ensures (left c.args.tree.now.nodes c.in-Deferred.who (queue_of h)) (c.leave-in-Deferred.ensures (queue_of h) may.value) ∙ after_deferred _ _ _ h may c.in-Deferred.who c.in-Deferred.begin c.in-Deferred.is
+
+pub returns-in-Resumed : goal.returns-in-Resumed
+returns-in-Resumed c = λ h may.
+    c.leave-in-Resumed.ensures (queue_of h) may.value ∙ after_leaving _ _ _ h may c.in-Resumed.who c.in-Resumed.is
+
+pub returns-in-Passed : goal.returns-in-Passed
+returns-in-Passed c = λ h may. may.value ∙ after_other _ _ _ h may c.in-Passed.is

@@ -1,0 +1,150 @@
+-- What one entry more makes of what is kept of an element.
+use Rattle.std.specs.Prelude.{◌≡◌, ℕ, ℤ, ◌≤ℤ◌, List, Bool, true, false, ◌||◌, ◌==◌, if◌then◌else◌, Option, Some, None, unwrap_or}
+use Rattle.std.specs.Option.{option_or}
+use Rattle.smil_model.specs.declared.times.Time.{Time}
+use Rattle.smil_model.specs.declared.times.Time.TheVariants.{Unresolved}
+use Rattle.smil_model.specs.declared.diary.Entry.{Entry}
+use Rattle.smil_model.specs.declared.diary.LogEntry.{LogEntry}
+use Rattle.smil_model.specs.declared.diary.Step.{Step}
+use Rattle.smil_model.specs.declared.diary.Step.TheVariants.{Began, Ended, Cut, Deferred, Passed}
+use Rattle.smil_model.specs.declared.document.Node.{Node}
+use Rattle.smil_model.specs.document.Document.{Document, time_parent}
+use Rattle.smil_model.specs.diary.Diary.{History, with_entry, last_moment}
+use Rattle.smil_model.specs.diary.Lawful.{IsLawful}
+use Rattle.smil_model.specs.diary.Clocks.{outer, to_document, start_of, play_start_after, iteration_start_after}
+use Rattle.smil_model.specs.diary.Plays.{is_birth_under, passed_after}
+use Rattle.smil_model.specs.interval.Current.{length_of, length_after}
+use Rattle.smil_stretch.specs.declared.clock.NodeClock.{NodeClock}
+use Rattle.smil_stretch.specs.Clocks.{AreClocksOf}
+use Rattle.smil_past.specs.declared.plays.played.PastInterval.{PastInterval}
+use Rattle.smil_past.specs.declared.plays.played.Played.{Played}
+
+-- an end or a cut of the time parent
+abbrev pub is_death_under : Option Node → Step → Bool
+is_death_under (Some p) (Ended who end') = who == p.serial
+is_death_under (Some p) (Cut who) = who == p.serial
+is_death_under _ _ = false
+
+-- the begin of the present play, and the same in document time
+abbrev pub begun_after : ℕ → Option ℤ → Step → Option ℤ
+begun_after s before (Began who begin) = if who == s then Some begin else before
+begun_after s before (Ended who end') = if who == s then None else before
+begun_after s before (Cut who) = if who == s then None else before
+begun_after s before _ = before
+
+abbrev pub shown_begun_after : History → ℕ → ℤ → Option ℤ → Step → Option ℤ
+shown_begun_after h s m before (Began who begin) = if who == s then Some (to_document h s begin m) else before
+shown_begun_after h s m before (Ended who end') = if who == s then None else before
+shown_begun_after h s m before (Cut who) = if who == s then None else before
+shown_begun_after h s m before _ = before
+
+-- the interval of a play that finishes with a value
+abbrev pub closed : History → ℕ → ℤ → ℤ → Bool → Option ℤ → Option ℤ → Option PastInterval
+closed h s m finish was_cut (Some begin) (Some shown) = Some (record {
+  begin = begin;
+  finish = finish;
+  shown_begin = shown;
+  shown_finish = to_document h s finish m;
+  was_cut = was_cut;
+})
+closed h s m finish was_cut _ _ = None
+
+-- the interval that a step finishes
+abbrev pub closed_by : History → ℕ → ℤ → Option ℤ → Option ℤ → Step → Option PastInterval
+closed_by h s m begun shown (Ended who end') = if who == s then closed h s m end' false begun shown else None
+closed_by h s m begun shown (Cut who) = if who == s then closed h s m (outer h s m) true begun shown else None
+closed_by h s m begun shown _ = None
+
+-- the begin that an excl has put off, in document time
+abbrev pub shown_deferred_after : History → ℕ → ℤ → Option ℤ → Step → Option ℤ
+shown_deferred_after h s m before (Began who begin) = if who == s then None else before
+shown_deferred_after h s m before (Ended who end') = if who == s then None else before
+shown_deferred_after h s m before (Cut who) = if who == s then None else before
+shown_deferred_after h s m before (Deferred who begin) = if who == s then Some (to_document h s begin m) else before
+shown_deferred_after h s m before (Passed who begin) = if who == s then None else before
+shown_deferred_after h s m before _ = before
+
+-- the last length that the diary tells
+abbrev pub told_by : ℕ → Option LogEntry → Time → Time
+told_by s entry before = unwrap_or (length_of s entry (Some before)) Unresolved
+
+abbrev pub told_after : List LogEntry → ℕ → Time → Step → Time
+told_after log s before step = unwrap_or (length_after log s (Some before) step) Unresolved
+
+-- none after it, else what was
+abbrev pub unless : {A : Type 0} → Bool → Option A → Option A
+unless gone before = if gone then None else before
+
+-- the entry's own part of it
+abbrev pub own_after : History → Entry → ℕ → Played → Played
+own_after h y s r = record {
+  begun = begun_after s r.begun y.step;
+  shown_begun = shown_begun_after h s y.moment r.shown_begun y.step;
+  first = play_start_after h s y.moment r.first y.step;
+  start = iteration_start_after h s y.moment r.start y.step;
+  first_finished = option_or r.first_finished (closed_by h s y.moment r.begun r.shown_begun y.step);
+  last_finished = option_or (closed_by h s y.moment r.begun r.shown_begun y.step) r.last_finished;
+  shown_deferred = shown_deferred_after h s y.moment r.shown_deferred y.step;
+  passed = passed_after s r.passed y.step;
+  length = told_after h.log s r.length y.step;
+}
+
+-- what a birth or an end of the time parent leaves: a birth forgets what finished, was put off or passed since the last one,
+-- and with an end nothing is put off
+abbrev pub child_after : Bool → Bool → Played → Played
+child_after birth death r = record r {
+  first_finished = unless birth r.first_finished;
+  last_finished = unless birth r.last_finished;
+  shown_deferred = unless (birth || death) r.shown_deferred;
+  passed = unless birth r.passed;
+}
+
+-- what a step leaves of what is kept of an element by its time parent
+abbrev pub child_step : List Node → Step → ℕ → Played → Played
+child_step nodes step s =
+    child_after (is_birth_under (time_parent nodes s) step) (is_death_under (time_parent nodes s) step)
+
+-- what is kept of an element after one entry more
+abbrev pub row_after : History → Entry → ℕ → Played → Played
+row_after h y s r = child_step h.nodes y.step s (own_after h y s r)
+
+-- what a begin, and a finish with a value, make of the element's own row
+abbrev pub began_row : History → ℕ → ℤ → ℤ → Played → Played
+began_row h s m begin r = record r {
+  begun = Some begin;
+  shown_begun = Some (to_document h s begin m);
+  first = start_of h s m begin;
+  start = start_of h s m begin;
+  shown_deferred = None;
+}
+
+abbrev pub finished_row : History → ℕ → ℤ → ℤ → Bool → Played → Played
+finished_row h s m finish was_cut r = record r {
+  begun = None;
+  shown_begun = None;
+  first_finished = option_or r.first_finished (closed h s m finish was_cut r.begun r.shown_begun);
+  last_finished = option_or (closed h s m finish was_cut r.begun r.shown_begun) r.last_finished;
+  shown_deferred = None;
+}
+
+abbrev pub deferred_row : History → ℕ → ℤ → ℤ → Played → Played
+deferred_row h s m begin r = record r { shown_deferred = Some (to_document h s begin m) }
+
+-- ---- what is at hand
+
+-- the clocks of a history at a moment that is not before its last entry
+pub record AreClocksAt (h : History) (clocks : List NodeClock) (moment : ℤ) : Type 0 where
+  pub known : AreClocksOf clocks h
+  pub after : last_moment h.diary ≤ℤ moment
+
+-- the history before an entry, by the document, the clocks before it, and the log
+pub record IsBefore (h : History) (y : Entry) (document : Document) (clocks : List NodeClock) (log : List LogEntry) : Type 0 where
+  pub same_nodes : h.nodes ≡ document.nodes
+  pub same_log : h.log ≡ log
+  pub known : AreClocksOf clocks h
+  pub lawful : IsLawful (with_entry h y)
+
+-- there is such a history
+pub record MayBeTaken (y : Entry) (document : Document) (clocks : List NodeClock) (log : List LogEntry) : Type 0 where
+  pub past : History
+  pub before : IsBefore past y document clocks log

@@ -1,0 +1,207 @@
+//! What an entry makes of what is kept of its own element, and of a time child.
+
+ghost use Rattle.std.specs.Prelude.{◌≡◌, ◌+ℤ◌, ◌-ℤ◌, ℕ, ℤ, Some, not, slice_get};
+ghost use Rattle.std.specs.Option.{option_or};
+ghost use Rattle.smil_model.specs.diary.Diary.{History};
+ghost use Rattle.smil_model.specs.diary.Clocks.{start_of, to_document as document_time};
+ghost use Rattle.smil_model.specs.diary.Plays.{greater_begin};
+ghost use Rattle.smil_model.specs.Times.{IsMoment, IsNear};
+ghost use Rattle.smil_laws.specs.Near.{HasNear};
+ghost use Rattle.smil_model.specs.reach.Reach.{subject as logged_on, subject_of};
+ghost use Rattle.smil_past.specs.Followed.{AreClocksAt, began_row, child_after, closed, deferred_row, finished_row, own_after, told_by};
+
+use super::played::{PastInterval, Played};
+use smil_model::{Entry, Happening, Log, LogEntry, Step, Time};
+use smil_stretch::Clocks;
+
+/// The element that a step is on; None where it hears a press of a key, or a log entry that there is
+/// not. It takes no memory.
+pub fn subject(log: &Log, step: Step) -> Option<u32>
+    ensures { result ≡ subject_of log.now step }
+{
+    match step {
+        Step::Began { who, .. } => Some(who),
+        Step::Repeated { who, .. } => Some(who),
+        Step::Ended { who, .. } => Some(who),
+        Step::Cut { who } => Some(who),
+        Step::Paused { who } => Some(who),
+        Step::Resumed { who } => Some(who),
+        Step::Deferred { who, .. } => Some(who),
+        Step::Passed { who, .. } => Some(who),
+        Step::Logged { place } => happened_to(&log.get(place as usize)?.what),
+    }
+}
+
+// Whom a logged event or length is on; a key is on none.
+fn happened_to(what: &Happening) -> Option<u32>
+    ensures { result ≡ logged_on what.now }
+{
+    match what {
+        Happening::Event { who, .. } | Happening::Media { who, .. } => Some(*who),
+        Happening::Key { .. } => None,
+    }
+}
+
+/// What an entry makes of the row of the element that it is on. It takes no memory.
+pub fn own(clocks: &Clocks, log: &Log, entry: Entry, who: u32, row: Played) -> Played
+    requires moment { IsMoment entry.moment }
+    requires near { HasNear entry.step }
+    requires on { subject_of log.now entry.step ≡ Some who }
+    ensures { (h : History) → AreClocksAt h clocks.now entry.moment → h.log ≡ log.now → result ≡ own_after h entry who row }
+{
+    match entry.step {
+        Step::Began { begin, .. } => began(clocks, entry.moment, who, begin, row),
+        Step::Repeated { start, .. } => Played { start, ..row },
+        Step::Ended { end, .. } => finished(clocks, entry.moment, who, end, false, row),
+        Step::Cut { .. } => finished(
+            clocks,
+            entry.moment,
+            who,
+            clocks.outer(who, entry.moment),
+            true,
+            row,
+        ),
+        Step::Paused { .. } => row,
+        Step::Resumed { .. } => row,
+        Step::Deferred { begin, .. } => put_off(clocks, entry.moment, who, begin, row),
+        Step::Passed { begin, .. } => Played {
+            shown_deferred: None,
+            passed: greater(row.passed, begin),
+            ..row
+        },
+        Step::Logged { place } => Played {
+            length: told(log, place, who, row.length),
+            ..row
+        },
+    }
+}
+
+/// What a birth, or else an end, of the time parent leaves of a row. It takes no memory.
+pub fn child(birth: bool, row: Played) -> Played
+    ensures { result ≡ child_after birth (not birth) row }
+{
+    if birth {
+        Played {
+            first_finished: None,
+            last_finished: None,
+            shown_deferred: None,
+            passed: None,
+            ..row
+        }
+    } else {
+        Played {
+            shown_deferred: None,
+            ..row
+        }
+    }
+}
+
+// What a begin makes of a row.
+fn began(clocks: &Clocks, moment: i64, who: u32, begin: i64, row: Played) -> Played
+    requires moment { IsMoment moment }
+    requires near { IsNear begin }
+    ensures { (h : History) → AreClocksAt h clocks.now moment → result ≡ began_row h who moment begin row }
+{
+    let start = start_of(clocks, who, begin, moment);
+    Played {
+        begun: Some(begin),
+        shown_begun: Some(clocks.to_document(who, begin, moment)),
+        first: start,
+        start,
+        shown_deferred: None,
+        ..row
+    }
+}
+
+// The play start of a begin, on the element's own clock.
+fn start_of(clocks: &Clocks, who: u32, begin: i64, moment: i64) -> i64
+    requires moment { IsMoment moment }
+    requires near { IsNear begin }
+    ensures { (h : History) → AreClocksAt h clocks.now moment → result ≡ start_of h who moment begin }
+{
+    clocks.run(who, moment) + (begin - clocks.outer(who, moment))
+}
+
+// What a finish with a value makes of a row.
+fn finished(
+    clocks: &Clocks,
+    moment: i64,
+    who: u32,
+    finish: i64,
+    was_cut: bool,
+    row: Played,
+) -> Played
+    requires moment { IsMoment moment }
+    requires near { IsNear finish }
+    ensures { (h : History) → AreClocksAt h clocks.now moment → result ≡ finished_row h who moment finish was_cut row }
+{
+    let shown_finish = clocks.to_document(who, finish, moment);
+    let interval = closed(row.begun, row.shown_begun, finish, shown_finish, was_cut);
+    Played {
+        begun: None,
+        shown_begun: None,
+        first_finished: row.first_finished.or(interval),
+        last_finished: interval.or(row.last_finished),
+        shown_deferred: None,
+        ..row
+    }
+}
+
+// What a begin that is put off makes of a row.
+fn put_off(clocks: &Clocks, moment: i64, who: u32, begin: i64, row: Played) -> Played
+    requires moment { IsMoment moment }
+    requires near { IsNear begin }
+    ensures { (h : History) → AreClocksAt h clocks.now moment → result ≡ deferred_row h who moment begin row }
+{
+    Played {
+        shown_deferred: Some(clocks.to_document(who, begin, moment)),
+        ..row
+    }
+}
+
+// The interval of a play that finishes; None where there is no play.
+fn closed(
+    begun: Option<i64>,
+    shown_begun: Option<i64>,
+    finish: i64,
+    shown_finish: i64,
+    was_cut: bool,
+) -> Option<PastInterval>
+    ensures { (h : History) (s : ℕ) (m : ℤ) → shown_finish ≡ document_time h s finish m → result ≡ closed h s m finish was_cut begun shown_begun }
+{
+    match (begun, shown_begun) {
+        (Some(begin), Some(shown_begin)) => Some(PastInterval {
+            begin,
+            finish,
+            shown_begin,
+            shown_finish,
+            was_cut,
+        }),
+        _ => None,
+    }
+}
+
+// The greater of two begins, of which the first need not be there.
+fn greater(before: Option<i64>, begin: i64) -> Option<i64>
+    ensures { result ≡ greater_begin before begin }
+{
+    match before {
+        Some(passed) if begin <= passed => Some(passed),
+        _ => Some(begin),
+    }
+}
+
+// The length that a log entry tells of the media of an element, and else the one before.
+fn told(log: &Log, place: u32, who: u32, before: Time) -> Time
+    ensures { result ≡ told_by who (slice_get log.now place) before }
+{
+    match log.get(place as usize) {
+        Some(
+            LogEntry {
+                what: Happening::Media { who: on, length },
+                ..
+            },
+        ) if *on == who => Time::At(*length),
+        _ => before,
+    }
+}

@@ -1,0 +1,140 @@
+//! The queues of all nodes of a document, in document order.
+
+ghost use Rattle.std.specs.Prelude.{◌≡◌, ℕ, List, [], length, IsSome, IfOk, slice_get};
+ghost use Rattle.smil_model.specs.document.Document.{node_at, time_children};
+ghost use Rattle.smil_stretch.specs.Clocks.{parent_place as place_above};
+ghost use Rattle.smil_model.specs.diary.Diary.{History};
+ghost use Rattle.smil_model.specs.happening.Queue.{queue_of, rank as rank_in};
+ghost use Rattle.smil_past.specs.Queues.{AreTurned, HasRoom, MayTakeIn, classes_in, deferred, emptied, left, lines, paused, queues_after};
+
+use super::classes::class_at;
+use smil_excl::Queue;
+use smil_model::{Class, Duplicate, Step};
+use smil_tree::Tree;
+use std::alloc::{AllocError, Global};
+
+/// The queues of a document to which nothing has happened yet.
+pub fn empty_queues(alloc: Global, tree: &Tree) -> Result<Vec<Queue>, AllocError>
+    ensures { IfOk result (λ queues. queues.items ≡ lines tree.now.nodes (λ serial. [])) }
+{
+    tree.valid();
+    let mut queues = Vec::new(alloc);
+    while let Some(serial) = tree.serial_at(queues.len()) {
+        queues.push(Queue::new(alloc, time_children_of(tree, serial))?)?;
+    }
+    Ok(queues)
+}
+
+// How many time children a node has.
+fn time_children_of(tree: &Tree, serial: u32) -> usize
+    ensures { result ≡ length (time_children tree.now.nodes serial) }
+{
+    tree.time_children(serial).len()
+}
+
+/// A copy of these queues.
+pub fn copied(alloc: Global, queues: &[Queue]) -> Result<Vec<Queue>, AllocError>
+    ensures { IfOk result (λ made. made.items ≡ queues.now) }
+{
+    let mut made = Vec::new(alloc);
+    for place in 0..queues.len() {
+        made.push(queues[place].copy()?)?;
+    }
+    Ok(made)
+}
+
+/// The next child of the queue of a node.
+pub fn first_at(queues: &[Queue], tree: &Tree, who: u32) -> Option<u32>
+    requires known { IsSome (node_at tree.now.nodes who) }
+    requires all { length queues.now ≡ length tree.now.nodes }
+    ensures { (queue : ℕ → List ℕ) → queues.now ≡ lines tree.now.nodes queue → result ≡ slice_get (queue who) 0 }
+{
+    let place = tree.position(who).unwrap();
+    queues[place].first()
+}
+
+/// Takes in a step, which is lawful after what has happened so far.
+pub fn take_in(queues: &mut [Queue], classes: &[Class], tree: &Tree, step: Step)
+    requires classes { classes.now ≡ classes_in tree.now.nodes }
+    requires may { (h : History) × MayTakeIn queues.old tree.now.nodes step h }
+    ensures { (h : History) → MayTakeIn queues.old tree.now.nodes step h → queues.new ≡ lines tree.now.nodes (queues_after tree.now.nodes (queue_of h) step) }
+{
+    match step {
+        Step::Began { who, .. } => {
+            empty(queues, tree, who);
+            leave(queues, tree, who);
+        }
+        Step::Repeated { who, .. } => empty(queues, tree, who),
+        Step::Paused { who } => {
+            let rank = class_at(classes, tree, who).rank;
+            leave(queues, tree, who);
+            pause(queues, tree, who, rank);
+        }
+        Step::Deferred { who, .. } => {
+            let rank = class_at(classes, tree, who).rank;
+            leave(queues, tree, who);
+            defer(queues, tree, who, rank);
+        }
+        Step::Resumed { who } | Step::Ended { who, .. } | Step::Cut { who } => {
+            leave(queues, tree, who);
+        }
+        Step::Passed { .. } | Step::Logged { .. } => {}
+    }
+}
+
+// Takes all children out of the queue of an element.
+fn empty(queues: &mut [Queue], tree: &Tree, who: u32)
+    requires all { length queues.old ≡ length tree.now.nodes }
+    ensures { AreTurned queues.old queues.new tree.now.nodes (emptied who) }
+{
+    tree.valid();
+    if let Some(place) = tree.position(who) {
+        queues[place].clear();
+    }
+}
+
+// Takes an element out of the queue of its time parent.
+fn leave(queues: &mut [Queue], tree: &Tree, who: u32)
+    requires all { length queues.old ≡ length tree.now.nodes }
+    requires known { IsSome (node_at tree.now.nodes who) }
+    ensures { AreTurned queues.old queues.new tree.now.nodes (left tree.now.nodes who) }
+{
+    tree.valid();
+    if let Some(place) = parent_place(tree, who) {
+        queues[place].leave(who);
+    }
+}
+
+// Puts a paused element into the queue of its time parent, in which there is room.
+fn pause(queues: &mut [Queue], tree: &Tree, who: u32, rank: u32)
+    requires known { IsSome (node_at tree.now.nodes who) }
+    requires rank { rank ≡ rank_in tree.now.nodes who }
+    requires room { HasRoom queues.old tree.now.nodes who }
+    ensures { AreTurned queues.old queues.new tree.now.nodes (paused tree.now.nodes who) }
+{
+    tree.valid();
+    if let Some(place) = parent_place(tree, who) {
+        queues[place].pause(who, rank);
+    }
+}
+
+// Puts a deferred element into the queue of its time parent, in which there is room.
+fn defer(queues: &mut [Queue], tree: &Tree, who: u32, rank: u32)
+    requires known { IsSome (node_at tree.now.nodes who) }
+    requires rank { rank ≡ rank_in tree.now.nodes who }
+    requires room { HasRoom queues.old tree.now.nodes who }
+    ensures { AreTurned queues.old queues.new tree.now.nodes (deferred tree.now.nodes who) }
+{
+    tree.valid();
+    if let Some(place) = parent_place(tree, who) {
+        queues[place].defer(who, rank);
+    }
+}
+
+// The place of the time parent of a node.
+fn parent_place(tree: &Tree, serial: u32) -> Option<usize>
+    requires { IsSome (node_at tree.now.nodes serial) }
+    ensures { result ≡ place_above tree.now.nodes serial }
+{
+    tree.position(tree.time_parent(serial)?)
+}

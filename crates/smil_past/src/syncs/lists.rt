@@ -1,0 +1,135 @@
+//! What the items of a begin or end list wait for.
+
+ghost use Rattle.std.specs.Prelude.{◌≡◌, ◌++◌, IfOk, OnOk, None, Some, slice_get};
+ghost use Rattle.smil_model.specs.declared.document.Node.{Node as AnyNode};
+ghost use Rattle.smil_model.specs.declared.document.Edge.TheVariants as edge;
+ghost use Rattle.smil_model.specs.document.Document.{elements, node_at};
+ghost use Rattle.smil_instances.specs.Dependents.{AreDependentsOf};
+ghost use Rattle.smil_past.specs.Syncs.{listed, offset_of, sync_by, syncs_of, IsListOf};
+
+use super::sync::Syncbase;
+use smil_graph::Graph;
+use smil_instance_rows::Cell;
+use smil_instances::{Dependents, Source};
+use smil_model::{Edge, Item, Items};
+use std::alloc::{AllocError, Global};
+
+/// What the lists of a document are read with: its graph, and what its items depend on.
+#[derive(Drop)]
+pub struct Reader<'a> {
+    pub alloc: Global,
+    pub graph: &'a Graph,
+    pub dependents: &'a Dependents,
+}
+
+/// What the items of the begin list of the element at a place wait for, whose `begin` this is.
+pub fn begin_syncs(
+    reader: &Reader,
+    place: usize,
+    who: u32,
+    begin: &Option<Items>,
+) -> Result<Vec<Syncbase>, AllocError>
+    requires { AreDependentsOf reader.now.graph.now.nodes reader.now.dependents.now }
+    ensures { IfOk result (λ syncs. (e : AnyNode) → slice_get (elements reader.now.graph.now.nodes) place ≡ Some e → node_at (elements reader.now.graph.now.nodes) who ≡ Some e → e.attrs.begin ≡ begin.now → syncs.items ≡ syncs_of reader.now.graph.now.nodes edge.Begin e) }
+{
+    match begin {
+        Some(items) => list_syncs(reader, place, who, Edge::Begin, items),
+        None => default_syncs(reader, place),
+    }
+}
+
+/// What the items of the end list of the element at a place wait for, whose `end` this is.
+pub fn end_syncs(
+    reader: &Reader,
+    place: usize,
+    who: u32,
+    end: &Option<Items>,
+) -> Result<Vec<Syncbase>, AllocError>
+    requires { AreDependentsOf reader.now.graph.now.nodes reader.now.dependents.now }
+    ensures { IfOk result (λ syncs. (e : AnyNode) → slice_get (elements reader.now.graph.now.nodes) place ≡ Some e → node_at (elements reader.now.graph.now.nodes) who ≡ Some e → e.attrs.«end» ≡ end.now → syncs.items ≡ syncs_of reader.now.graph.now.nodes edge.End e) }
+{
+    match end {
+        Some(items) => list_syncs(reader, place, who, Edge::End, items),
+        None => Ok(Vec::new(reader.alloc)),
+    }
+}
+
+// What the items of a list of the element at a place wait for.
+fn list_syncs(
+    reader: &Reader,
+    place: usize,
+    who: u32,
+    side: Edge,
+    items: &Items,
+) -> Result<Vec<Syncbase>, AllocError>
+    requires { AreDependentsOf reader.now.graph.now.nodes reader.now.dependents.now }
+    ensures { IfOk result (λ syncs. (e : AnyNode) → IsListOf reader.now.graph.now.nodes place who side e items.now → syncs.items ≡ syncs_of reader.now.graph.now.nodes side e) }
+{
+    let mut syncs = Vec::new(reader.alloc);
+    for item in 0..items.len() {
+        let source = reader.dependents.source(Cell {
+            row: place,
+            side,
+            item,
+        });
+        let looped = reader.graph.looped(who, side, item);
+        let sync = sync_by(looped, items.get(item).unwrap(), source);
+        push_some(&mut syncs, sync)?;
+    }
+    Ok(syncs)
+}
+
+// What the item waits for that stands for a begin list where there is none: an offset of 0, or
+// `indefinite` in a child of an excl, whose source is nothing.
+fn default_syncs(reader: &Reader, place: usize) -> Result<Vec<Syncbase>, AllocError>
+    requires { AreDependentsOf reader.now.graph.now.nodes reader.now.dependents.now }
+    ensures { IfOk result (λ syncs. (e : AnyNode) → slice_get (elements reader.now.graph.now.nodes) place ≡ Some e → e.attrs.begin ≡ None → syncs.items ≡ syncs_of reader.now.graph.now.nodes edge.Begin e) }
+{
+    let source = reader.dependents.source(Cell {
+        row: place,
+        side: Edge::Begin,
+        item: 0,
+    });
+    let mut syncs = Vec::new(reader.alloc);
+    push_some(
+        &mut syncs,
+        sync_by(false, &Item::Offset { offset: 0 }, source),
+    )?;
+    Ok(syncs)
+}
+
+// Appends what there is.
+fn push_some(syncs: &mut Vec<Syncbase>, sync: Option<Syncbase>) -> Result<(), AllocError>
+    ensures { OnOk result (syncs.new.items ≡ syncs.old.items ++ listed sync) }
+{
+    if let Some(sync) = sync {
+        syncs.push(sync)?;
+    }
+    Ok(())
+}
+
+// What an item waits for, which is looped or not and has this source.
+fn sync_by(looped: bool, item: &Item, source: Source) -> Option<Syncbase>
+    ensures { result ≡ sync_by looped item.now source }
+{
+    if looped {
+        return None;
+    }
+    let offset = offset_of(item)?;
+    match source {
+        Source::Syncbase { of, edge } => Some(Syncbase { of, edge, offset }),
+        _ => None,
+    }
+}
+
+// The offset of an item that counts from a begin or an end, or from the start of the time parent's
+// iteration.
+fn offset_of(item: &Item) -> Option<i64>
+    ensures { result ≡ offset_of item.now }
+{
+    match item {
+        Item::Offset { offset } => Some(*offset),
+        Item::Sync { offset, .. } => Some(*offset),
+        _ => None,
+    }
+}

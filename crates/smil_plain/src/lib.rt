@@ -1,7 +1,0 @@
-//! The plain engine: every element is evaluated after each happening.
-#![tactic(auto)]
-
-pub mod known;
-pub mod table;
-
-pub use table::{PlainCells, PlainTable};

@@ -1,7 +1,0 @@
-use Rattle.std.proofs.Common.{◌∙◌, ap}
-use Rattle.smil_plays.specs.Rows.{row_of}
-use Rattle.smil_plays.proofs.Taken.{row_is}
-use Rattle.smil_plays.proofs.plays.Plays.of.Goals as goal
-
-pub returns : goal.returns
-returns c = λ h is. c.row.ensures ∙ ap (λ rows. row_of rows c.args.who) is ∙ row_is h c.args.who

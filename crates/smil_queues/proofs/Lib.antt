@@ -1,5 +1,0 @@
-pub mod Classing
-pub mod Listing
-pub mod Placing
-pub mod Taking
-pub mod Waiting

@@ -1,9 +1,0 @@
-use Rattle.std.proofs.Common.{◌≡◌, take}
-use Rattle.std.specs.Prelude.{filter_map}
-use Rattle.smil_model.specs.declared.document.Node.{Node}
-use Rattle.smil_syncs.specs.Syncs.{IsListOf, sync_of}
-use Rattle.smil_syncs.proofs.lists.list_syncs.Given as goal
-
--- what the first items wait for
-abbrev pub invariant-loop-item : goal.invariant-loop-item
-invariant-loop-item l = (e : Node) → IsListOf l.reader.graph.now.nodes l.place l.who l.side e l.items → l.syncs.items ≡ filter_map (sync_of l.reader.graph.now.nodes e.serial) (take l.item l.items)
