@@ -1,23 +1,24 @@
--- What a presentation keeps.
-use Rattle.std.specs.Prelude.{ℕ, ℤ, pos, ◌-ℤ◌, ◌≤ℤ◌, ◌<ℤ◌, ◌≡◌, List, []}
-use Rattle.smil_model.specs.declared.times.TheConstants.{HORIZON}
-use Rattle.smil_model.specs.declared.order.Who.{Who}
-use Rattle.smil_model.specs.declared.order.Who.TheVariants.{Id, Serial}
-use Rattle.smil_model.specs.document.Document.{Document}
-use Rattle.smil_live.specs.declared.image.Image.{Image}
-use Rattle.smil_live.specs.Image.{image}
+-- What a presentation keeps: cells that are settled, with the views of all elements.
+use Rattle.std.specs.Prelude.{◌≡◌, List, None, pos}
+use Rattle.smil_model.specs.declared.view.View.{View}
+use Rattle.smil_model.specs.shown.Orders.{IsState}
+use Rattle.smil_model.specs.shown.Views.{views}
+use Rattle.smil_cells.specs.Standing.{Standing, IsSettled, history_of}
+use Rattle.smil_live.specs.Seen.{Shown}
 
--- the id of a name
-abbrev pub id_of : Who → List ℕ
-id_of (Id id) = id
-id_of (Serial serial) = []
+-- the views of all elements by the diary so far
+abbrev pub views_at : Standing → List View
+views_at s = views (history_of s) (pos s.presentation.now)
 
--- the image is that of the document, and the moment is from 0 to the horizon
-pub record IsKept (document : Document) (kept : Image) (now : ℤ) : Type 0 where
-  pub nodes : document.nodes ≡ image kept.begin (kept.«end» -ℤ kept.begin) (id_of kept.name)
-  pub name : kept.name ≡ Id (id_of kept.name)
-  pub from : pos 0 ≤ℤ kept.begin
-  pub long : kept.begin <ℤ kept.«end»
-  pub near : kept.«end» <ℤ pos 2_000_000_000
-  pub started : pos 0 ≤ℤ now
-  pub within : now ≤ℤ HORIZON
+-- cells that answer no refusal, and the views that they give
+pub record IsShown (s : Standing) (shown : Shown) : Type 0 where
+  pub state : IsState s.presentation
+  pub sound : s.fault ≡ None
+  pub settled : IsSettled s
+  pub views_are : shown.views ≡ views_at s
+
+-- a presentation between two orders: no mark stands, and no view is noted
+pub record IsPlaying (s : Standing) (shown : Shown) : Type 0 where
+  pub shown_is : IsShown s shown
+  pub unmarked : s.marked ≡ None
+  pub before : shown.before ≡ shown.views

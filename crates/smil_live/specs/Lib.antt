@@ -1,3 +1,10 @@
-pub mod Image
+pub mod Editing
+pub mod Histories
 pub mod Kept
-pub mod Lines
+pub mod Moves
+pub mod Names
+pub mod Refusing
+pub mod Seen
+pub mod Sets
+pub mod Telling
+pub mod Told

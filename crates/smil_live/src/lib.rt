@@ -1,12 +1,21 @@
-//! Presentations that answer orders from what is known of them in closed form.
+//! Presentations that answer every order, over cells of any table.
 #![tactic(auto)]
 
-mod forms;
-mod image;
-mod presentation;
+mod copies;
+mod edits;
+mod faults;
+mod intervals;
+mod layers;
+mod lines;
+mod moves;
+mod names;
+mod playing;
+mod replay;
+mod same;
+mod seen;
+mod sets;
+mod tells;
+mod told;
+mod values;
 
-pub use forms::{built, built_order};
-pub use presentation::Presentation;
-
-#[cfg(test)]
-mod tests;
+pub use playing::{Playing, Presentation};

@@ -1,7 +1,7 @@
 -- The words of a line, and what stays of a text that memory cut off.
-use Rattle.std.specs.Prelude.{ℕ, List, ◌∷◌, ◌≡◌, take, length, decimal}
+use Rattle.std.specs.Prelude.{ℕ, List, [], ◌∷◌, ◌≡◌, take, length, codes, decimal}
 use Rattle.std.specs.Fmt.{signed_decimal}
-use Rattle.smil_model.specs.shown.Lines.{reference_text, shown_text, refusal_text, refusal_column, column_words}
+use Rattle.smil_model.specs.shown.Lines.{line_of, quoted, reference_text, serial_text, shown_text, refusal_text, refusal_column, column_words}
 use Rattle.smil_model.specs.declared.order.Refusal.{Refusal}
 use Rattle.smil_report.specs.declared.words.Word.{Word}
 use Rattle.smil_report.specs.declared.words.Word.TheVariants as word
@@ -10,6 +10,8 @@ use Rattle.smil_report.specs.declared.words.Word.TheVariants as word
 abbrev pub word_text : Word → List ℕ
 word_text (word.Text text) = text.now
 word_text (word.Name name) = reference_text name.now
+word_text (word.Serial serial) = serial_text serial
+word_text (word.Quoted text) = quoted text.now
 word_text (word.Time time) = shown_text time
 word_text (word.Moment moment) = signed_decimal moment
 word_text (word.Number number) = decimal number
@@ -21,3 +23,7 @@ cause_words refusal = refusal_text refusal ∷ column_words (refusal_column refu
 -- where memory runs out, what was written before stays at the front
 abbrev pub Begins : List ℕ → List ℕ → Type 0
 Begins front text = take (length front) text ≡ front
+
+-- the last line of the answer to a load that is only read
+abbrev pub checked_line : ℕ → List ℕ → List ℕ
+checked_line line name = line_of (codes "ok" ∷ decimal line ∷ name ∷ [])

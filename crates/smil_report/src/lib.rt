@@ -1,12 +1,15 @@
 //! The lines of a transcript, written.
 #![tactic(auto)]
 
+mod buffers;
+mod entries;
+mod last_lines;
 mod lines;
-mod refusals;
 #[cfg(test)]
 mod tests;
 mod words;
 
-pub use lines::{put_change, put_closed, put_gone, put_history, put_ok};
-pub use refusals::put_refusal;
+pub use entries::{put_entry, put_now, put_outline_end};
+pub use last_lines::{put_checked, put_closed, put_ok, put_refusal};
+pub use lines::{put_change, put_gone, put_history, put_layer, put_value};
 pub use smil_model::How;

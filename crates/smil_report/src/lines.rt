@@ -1,7 +1,7 @@
 //! The lines of the answers to orders.
 
 ghost use Rattle.std.specs.Prelude.{◌≡◌, ◌++◌, OnOk, OnErr};
-ghost use Rattle.smil_model.specs.shown.Lines.{change_line, gone_line, interval_line, ok_line, closed_line};
+ghost use Rattle.smil_model.specs.shown.Lines.{change_line, gone_line, interval_line, layer_line, value_line};
 
 use super::words::{Word, how_word, put_line, state_word};
 use smil_model::{Bytes, How, Shown, View, Who};
@@ -64,36 +64,32 @@ pub fn put_history(
     )
 }
 
-/// Appends the last line of an accepted order, `ok LINE NAME NOW`: the number of the order's first line, the presentation
-/// and its moment, in milliseconds of document time. Where memory is refused, `out` is as before.
-pub fn put_ok(out: &mut Bytes, line: u32, name: &[u8], now: i64) -> Result<(), AllocError>
-    ensures ok { OnOk result (out.new ≡ out.old ++ ok_line line name.now now) }
+/// Appends an attribute that is set as `TARGET ATTRIBUTE "VALUE" SETTER`. Where memory is refused, `out` is as before.
+pub fn put_value(
+    out: &mut Bytes,
+    target: &Who,
+    attr: &[u8],
+    value: &[u8],
+    setter: &Who,
+) -> Result<(), AllocError>
+    ensures ok { OnOk result (out.new ≡ out.old ++ value_line target.now attr.now value.now setter.now) }
     ensures err { OnErr result (out.new ≡ out.old) }
 {
     put_line(
         out,
         &[
-            Word::Text(b"ok"),
-            Word::Number(line),
-            Word::Text(name),
-            Word::Moment(now),
+            Word::Name(target),
+            Word::Text(attr),
+            Word::Quoted(value),
+            Word::Name(setter),
         ],
     )
 }
 
-/// Appends `ok LINE NAME closed`: the number of the order's line, and the presentation that it closed. Where memory is
-/// refused, `out` is as before.
-pub fn put_closed(out: &mut Bytes, line: u32, name: &[u8]) -> Result<(), AllocError>
-    ensures ok { OnOk result (out.new ≡ out.old ++ closed_line line name.now) }
+/// Appends a set of a stack as `SETTER "VALUE"`. Where memory is refused, `out` is as before.
+pub fn put_layer(out: &mut Bytes, setter: &Who, value: &[u8]) -> Result<(), AllocError>
+    ensures ok { OnOk result (out.new ≡ out.old ++ layer_line setter.now value.now) }
     ensures err { OnErr result (out.new ≡ out.old) }
 {
-    put_line(
-        out,
-        &[
-            Word::Text(b"ok"),
-            Word::Number(line),
-            Word::Text(name),
-            Word::Text(b"closed"),
-        ],
-    )
+    put_line(out, &[Word::Name(setter), Word::Quoted(value)])
 }

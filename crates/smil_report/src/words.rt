@@ -1,7 +1,7 @@
 //! The words of a line.
 
 ghost use Rattle.std.specs.Prelude.{◌≡◌, ◌++◌, List, map, OnOk, OnErr};
-ghost use Rattle.smil_model.specs.shown.Lines.{line_of, reference_text, shown_text, state_text, how_text};
+ghost use Rattle.smil_model.specs.shown.Lines.{line_of, quoted, reference_text, serial_text, shown_text, state_text, how_text};
 ghost use Rattle.smil_report.specs.Words.{word_text, Begins};
 
 use itoa::{Buffer, Integer};
@@ -13,6 +13,10 @@ use std::alloc::AllocError;
 pub enum Word<'a> {
     Text(&'a [u8]),
     Name(&'a Who),
+    /// A node by its serial.
+    Serial(u32),
+    /// A text between quotes.
+    Quoted(&'a [u8]),
     Time(Shown),
     Moment(i64),
     Number(u32),
@@ -58,11 +62,26 @@ fn put_name(out: &mut Bytes, name: &Who) -> Result<(), AllocError>
 {
     match name {
         Who::Id(id) => out.append(id.slice()),
-        Who::Serial(serial) => {
-            out.push(b'#')?;
-            put_number(out, *serial)
-        }
+        Who::Serial(serial) => put_serial(out, *serial),
     }
+}
+
+fn put_serial(out: &mut Bytes, serial: u32) -> Result<(), AllocError>
+    ensures ok { OnOk result (out.new ≡ out.old ++ serial_text serial) }
+    ensures err { OnErr result (Begins out.old out.new) }
+{
+    out.push(b'#')?;
+    put_number(out, serial)
+}
+
+#[tactic(auto, using(crate::proofs::Growing::begins_on))]
+fn put_quoted(out: &mut Bytes, text: &[u8]) -> Result<(), AllocError>
+    ensures ok { OnOk result (out.new ≡ out.old ++ quoted text.now) }
+    ensures err { OnErr result (Begins out.old out.new) }
+{
+    out.push(b'"')?;
+    out.append(text)?;
+    out.push(b'"')
 }
 
 fn put_time(out: &mut Bytes, time: Shown) -> Result<(), AllocError>
@@ -85,6 +104,8 @@ fn put_word(out: &mut Bytes, word: &Word) -> Result<(), AllocError>
     match *word {
         Word::Text(text) => out.append(text),
         Word::Name(name) => put_name(out, name),
+        Word::Serial(serial) => put_serial(out, serial),
+        Word::Quoted(text) => put_quoted(out, text),
         Word::Time(time) => put_time(out, time),
         Word::Moment(moment) => put_number(out, moment),
         Word::Number(number) => put_number(out, number),
@@ -110,7 +131,7 @@ fn put_words(out: &mut Bytes, words: &[Word]) -> Result<(), AllocError>
     }
 }
 
-/// Appends a line of these words, separated by single spaces. Where memory is refused, `out` is as before.
+/// Appends a line of these words, parted by single spaces. Where memory is refused, `out` is as before.
 pub fn put_line(out: &mut Bytes, words: &[Word]) -> Result<(), AllocError>
     ensures ok { OnOk result (out.new ≡ out.old ++ line_of (map word_text words.now)) }
     ensures err { OnErr result (out.new ≡ out.old) }

@@ -1,28 +1,164 @@
--- A load, read one line further.
-use Rattle.std.proofs.Common.{◌≡◌, ◌⊎◌, List, [], ◌∷◌, ◌++◌, Result, refl, ap, sym, ◌∙◌, inl, inr}
+-- A load, read one line further and to its end.
+use Rattle.std.proofs.Common.{◌≡◌, ◌⊎◌, ℕ, List, [], ◌∷◌, ◌++◌, Result, Ok, Err, refl, ap, sym, subst, ◌∙◌, inl, inr}
+use Rattle.smil_model.specs.declared.order.Refusal.{Refusal}
 use Rattle.smil_model.specs.declared.order.Refusal.TheVariants.{Memory}
+use Rattle.smil_model.specs.document.Document.{Document}
 use Rattle.smil_model.specs.document.Limits.{limits}
+use Rattle.smil_grammar.specs.declared.read.Read.{Read}
+use Rattle.smil_grammar.specs.Results.{◌>>=◌}
+use Rattle.smil_grammar.specs.Scripts.{line_of}
+use Rattle.smil_grammar.specs.Outlines.{Outline, no_lines, line_within, ended, version_of}
 use Rattle.smil_top.specs.declared.fault.Fault.{Fault}
+use Rattle.smil_top.specs.declared.given.Given.{Given as GivenDoc}
 use Rattle.smil_top.specs.declared.load.Load.{Load}
-use Rattle.smil_top.specs.declared.load.Titled.{Titled}
+use Rattle.smil_top.specs.declared.given.Titled.{Titled}
 use Rattle.smil_top.specs.Cut.{Numbered, LoadLines}
-use Rattle.smil_top.specs.Answers.{with_node, nodes_within, reading_of, refused_at}
-use Rattle.smil_top.specs.Kept.{IsRead}
+use Rattle.smil_top.specs.Answers.{Refused, Given, at_line, name_of, outline_from, given_within}
+use Rattle.smil_top.specs.Kept.{Gives, IsRead, Reads, ReadsTitle, given_at, reading_of, refused_by, with_node}
 
-with_nodes-append : (so_far : Result Titled Fault) (lines more : List Numbered) →
-    nodes_within limits so_far (lines ++ more) ≡ nodes_within limits (nodes_within limits so_far lines) more
-with_nodes-append so_far [] more = refl
-with_nodes-append so_far (line ∷ lines) more = with_nodes-append (with_node so_far line) lines more
+-- ---- chains of steps that may be refused
 
--- what a line adds, or a lack of memory
-pub IsRead-push : (load : Load) (lines : LoadLines) (this : Numbered) (reading : Result Titled Fault) → IsRead load lines →
-    (reading ≡ with_node load.reading this) ⊎ (reading ≡ refused_at load.line Memory) →
-    IsRead (record { line = load.line; reading = reading }) (record lines { nodes = lines.nodes ++ this ∷ [] })
-IsRead-push load lines this reading read step = record { line = read.line; reading = go read.reading step }
+unit-step : {A : Type 0} (r : Result A Refused) → r ≡ (r >>= λ x. Ok x)
+unit-step (Ok x) = refl
+unit-step (Err e) = refl
+
+outline-append : (outline : Outline) (lines : List Numbered) (this : Numbered) →
+    outline_from limits outline (lines ++ this ∷ [])
+    ≡ (outline_from limits outline lines >>= λ (o : Outline). at_line this.number (line_within limits o this.text))
+outline-append outline [] this = sym (unit-step (at_line this.number (line_within limits outline this.text)))
+outline-append outline (line ∷ lines) this = go (at_line line.number (line_within limits outline line.text)) (λ more. outline-append more lines this)
   where
-    go : (load.reading ≡ reading_of lines) ⊎ (load.reading ≡ refused_at lines.head.number Memory) →
-        (reading ≡ with_node load.reading this) ⊎ (reading ≡ refused_at load.line Memory) →
-        (reading ≡ reading_of (record lines { nodes = lines.nodes ++ this ∷ [] })) ⊎ (reading ≡ refused_at lines.head.number Memory)
-    go (inl e) (inl s) = inl (s ∙ ap (λ r. with_node r this) e ∙ sym (with_nodes-append _ lines.nodes (this ∷ [])))
-    go (inr e) (inl s) = inr (s ∙ ap (λ r. with_node r this) e)
-    go e (inr m) = inr (m ∙ ap (λ k. refused_at k Memory) read.line)
+    go : (r : Result Outline Refused) →
+        ((more : Outline) → outline_from limits more (lines ++ this ∷ []) ≡ (outline_from limits more lines >>= λ (o : Outline). at_line this.number (line_within limits o this.text))) →
+        (r >>= λ (more : Outline). outline_from limits more (lines ++ this ∷ []))
+        ≡ ((r >>= λ (more : Outline). outline_from limits more lines) >>= λ (o : Outline). at_line this.number (line_within limits o this.text))
+    go (Ok more) rest = rest more
+    go (Err e) rest = refl
+
+abbrev joined : Result (List ℕ) Refused → Result Outline Refused → Result (List ℕ × Outline) Refused
+joined r s = r >>= λ (name : List ℕ). s >>= λ (o : Outline). Ok (name, o)
+
+abbrev further : (Outline → Result Outline Refused) → List ℕ × Outline → Result (List ℕ × Outline) Refused
+further f x = f x.1 >>= λ (o : Outline). Ok (x.0, o)
+
+chain : (r : Result (List ℕ) Refused) (s : Result Outline Refused) (f : Outline → Result Outline Refused) →
+    joined r (s >>= f) ≡ (joined r s >>= further f)
+chain (Err e) s f = refl
+chain (Ok name) (Err e) f = refl
+chain (Ok name) (Ok o) f = refl
+
+abbrev pub is_memory_at : {A : Type 0} → LoadLines → Result A Fault → Type 0
+is_memory_at lines result = result ≡ Err (record { line = lines.head.number; refusal = Memory })
+
+-- ---- one line further
+
+abbrev pub more_lines : LoadLines → Numbered → LoadLines
+more_lines lines this = record lines { nodes = lines.nodes ++ this ∷ [] }
+
+reading-more : (lines : LoadLines) (this : Numbered) →
+    reading_of (more_lines lines this) ≡ (reading_of lines >>= λ (x : List ℕ × Outline). with_node x.0 x.1 this)
+reading-more lines this =
+    let name = at_line lines.head.number (line_of lines.head.text >>= name_of) in
+    ap (λ (s : Result Outline Refused). joined name s) (outline-append no_lines lines.nodes this)
+    ∙ chain name (outline_from limits no_lines lines.nodes) (λ (o : Outline). at_line this.number (line_within limits o this.text))
+
+-- the line was read behind those before it
+pub reads-ok : (lines : LoadLines) (this : Numbered) (titled : Titled) (reading : Result Titled Fault) → Reads (Ok titled) (reading_of lines) →
+    Reads reading (with_node titled.name titled.outline this) → Reads reading (reading_of (more_lines lines this))
+reads-ok lines this titled reading was step =
+    subst (λ r. Reads reading r) (sym (reading-more lines this ∙ ap (λ r. r >>= λ (x : List ℕ × Outline). with_node x.0 x.1 this) was)) step
+
+-- the fault of a line before it stays
+pub reads-err : (lines : LoadLines) (this : Numbered) (fault : Fault) → Reads (Err fault) (reading_of lines) →
+    Reads (Err fault) (reading_of (more_lines lines this))
+reads-err lines this fault was = reading-more lines this ∙ ap (λ r. r >>= λ (x : List ℕ × Outline). with_node x.0 x.1 this) was
+
+-- a line behind this title, in a load that begins at a line
+abbrev pub IsNodeAt : ℕ → Numbered → Result Titled Fault → Titled → Type 0
+IsNodeAt first this reading titled =
+    Reads reading (with_node titled.name titled.outline this) ⊎ (reading ≡ Err (record { line = first; refusal = Memory }))
+
+pub IsRead-ok : (load : Load) (lines : LoadLines) (this : Numbered) (titled : Titled) (reading : Result Titled Fault) → load.reading ≡ Ok titled → IsRead load lines →
+    Reads reading (with_node titled.name titled.outline this) ⊎ (reading ≡ Err (record { line = load.line; refusal = Memory })) →
+    IsRead (record { line = load.line; reading = reading }) (more_lines lines this)
+IsRead-ok load lines this titled reading is read step = record { line = read.line; reading = go read.reading step }
+  where
+    go : Reads load.reading (reading_of lines) ⊎ (load.reading ≡ Err (record { line = lines.head.number; refusal = Memory })) →
+        Reads reading (with_node titled.name titled.outline this) ⊎ (reading ≡ Err (record { line = load.line; refusal = Memory })) →
+        Reads reading (reading_of (more_lines lines this)) ⊎ (reading ≡ Err (record { line = lines.head.number; refusal = Memory }))
+    go (inr never) s = absurd (let e = sym is ∙ never in cc)
+    go (inl was) (inl s) = inl (reads-ok lines this titled reading (subst (λ r. Reads r (reading_of lines)) is was) s)
+    go (inl was) (inr m) = inr (m ∙ ap (λ k. Err (record { line = k; refusal = Memory })) read.line)
+
+pub IsRead-err : (load : Load) (lines : LoadLines) (this : Numbered) (fault : Fault) → load.reading ≡ Err fault → IsRead load lines →
+    IsRead (record { line = load.line; reading = Err fault }) (more_lines lines this)
+IsRead-err load lines this fault is read = record { line = read.line; reading = go read.reading }
+  where
+    go : Reads load.reading (reading_of lines) ⊎ (load.reading ≡ Err (record { line = lines.head.number; refusal = Memory })) →
+        Reads (Err fault) (reading_of (more_lines lines this)) ⊎ is_memory_at {A = Titled} lines (Err fault)
+    go (inl was) = inl (reads-err lines this fault (subst (λ r. Reads r (reading_of lines)) is was))
+    go (inr memory) = inr (sym is ∙ memory)
+
+-- ---- the first line
+
+pub IsRead-titled : (line : ℕ) (head : List ℕ) (titled : Titled) → ReadsTitle (Ok titled) head →
+    IsRead (record { line = line; reading = Ok titled }) (record { head = record { number = line; text = head }; nodes = [] })
+IsRead-titled line head titled reads = record {
+  line = refl;
+  reading = inl (
+      ap (λ (r : Result (List ℕ) Refusal). at_line line r >>= λ (n : List ℕ). Ok (n, no_lines)) reads.0
+      ∙ ap (λ o. Ok (titled.name, o)) (sym reads.1)
+      );
+}
+
+pub IsRead-untitled : (line : ℕ) (head : List ℕ) (refusal : Refusal) → ReadsTitle (Err refusal) head →
+    IsRead (record { line = line; reading = Err (record { line = line; refusal = refusal }) }) (record { head = record { number = line; text = head }; nodes = [] })
+IsRead-untitled line head refusal (inl memory) = record { line = refl; reading = inr (ap (λ r. Err (record { line = line; refusal = r })) memory) }
+IsRead-untitled line head refusal (inr is) = record {
+  line = refl;
+  reading = inl (ap (λ (r : Result (List ℕ) Refusal). at_line line r >>= λ (n : List ℕ). Ok (n, no_lines)) is);
+}
+
+-- ---- the end
+
+chain-end : (r : Result (List ℕ) Refused) (s : Result Outline Refused) (end_line : ℕ) →
+    (r >>= λ (name : List ℕ). s >>= λ (o : Outline). given_at name o end_line)
+    ≡ (joined r s >>= λ (x : List ℕ × Outline). given_at x.0 x.1 end_line)
+chain-end (Err e) s end_line = refl
+chain-end (Ok name) (Err e) end_line = refl
+chain-end (Ok name) (Ok o) end_line = refl
+
+given-end : (lines : LoadLines) (end_line : ℕ) → given_within limits lines end_line ≡ (reading_of lines >>= λ (x : List ℕ × Outline). given_at x.0 x.1 end_line)
+given-end lines end_line = chain-end (at_line lines.head.number (line_of lines.head.text >>= name_of)) (outline_from limits no_lines lines.nodes) end_line
+
+-- what a load gives whose lines had no fault
+abbrev pub IsGivenAt : ℕ → ℕ → Result GivenDoc Fault → Titled → Type 0
+IsGivenAt first end_line result titled =
+    Gives result (given_at titled.name titled.outline end_line) ⊎ (result ≡ Err (record { line = first; refusal = Memory }))
+
+pub Gives-ok : (load : Load) (lines : LoadLines) (end_line : ℕ) (titled : Titled) (result : Result GivenDoc Fault) → load.reading ≡ Ok titled → IsRead load lines →
+    Gives result (given_at titled.name titled.outline end_line) ⊎ (result ≡ Err (record { line = load.line; refusal = Memory })) →
+    Gives result (given_within limits lines end_line) ⊎ (result ≡ Err (record { line = lines.head.number; refusal = Memory }))
+Gives-ok load lines end_line titled result is read step = go read.reading step
+  where
+    go : Reads load.reading (reading_of lines) ⊎ (load.reading ≡ Err (record { line = lines.head.number; refusal = Memory })) →
+        Gives result (given_at titled.name titled.outline end_line) ⊎ (result ≡ Err (record { line = load.line; refusal = Memory })) →
+        Gives result (given_within limits lines end_line) ⊎ (result ≡ Err (record { line = lines.head.number; refusal = Memory }))
+    go (inr never) s = absurd (let e = sym is ∙ never in cc)
+    go (inl was) (inr m) = inr (m ∙ ap (λ k. Err (record { line = k; refusal = Memory })) read.line)
+    go (inl was) (inl s) =
+        inl (subst (λ r. Gives result r) (sym (given-end lines end_line ∙ ap (λ r. r >>= λ (x : List ℕ × Outline). given_at x.0 x.1 end_line) (subst (λ r. Reads r (reading_of lines)) is was))) s)
+
+-- the same fault, in place of another value
+abbrev same_fault : Result Titled Fault → Result GivenDoc Fault
+same_fault (Err fault) = Err fault
+same_fault (Ok titled) = Err (record { line = 0; refusal = Memory })
+
+pub Gives-err : (load : Load) (lines : LoadLines) (end_line : ℕ) (fault : Fault) → load.reading ≡ Err fault → IsRead load lines →
+    Gives (Err fault) (given_within limits lines end_line) ⊎ is_memory_at {A = GivenDoc} lines (Err fault)
+Gives-err load lines end_line fault is read = go read.reading
+  where
+    go : Reads load.reading (reading_of lines) ⊎ (load.reading ≡ Err (record { line = lines.head.number; refusal = Memory })) →
+        Gives (Err fault) (given_within limits lines end_line) ⊎ is_memory_at {A = GivenDoc} lines (Err fault)
+    go (inl was) = inl (given-end lines end_line ∙ ap (λ r. r >>= λ (x : List ℕ × Outline). given_at x.0 x.1 end_line) (subst (λ r. Reads r (reading_of lines)) is was))
+    go (inr memory) = inr (ap same_fault (sym is ∙ memory))

@@ -1,6 +1,6 @@
 -- What stands between two lines of an input, and what follows from it where the call ends.
 use Rattle.std.proofs.Common.{◌≡◌, ◌⊎◌, ℕ, ◌<◌, ◌≤◌, suc, Bool, true, false, List, [], ◌∷◌, ◌++◌, length, take, drop, Option, Some, None, refl, ap, sym, subst, ◌∙◌, arith, append_assoc, inl, inr}
-use Rattle.std.specs.Prelude.{IfSome, IsNone, Result, Ok, Err, is_err}
+use Rattle.std.specs.Prelude.{nat_lt, IfSome, IsNone, Result, Ok, Err, is_err}
 use Rattle.std.proofs.lemmas.List.{append-nil, length-append, take-append-drop, length-drop}
 use Rattle.std.specs.Io.KnownBytes.{Appends, Consumes, IsAtEnd}
 use Rattle.smil_outside.specs.declared.line.TheConstants.{INPUT_BYTES}
@@ -17,10 +17,11 @@ use Rattle.smil_outside.proofs.KnownLemmas.{Appends-nil, Appends-append, Consume
 use Rattle.smil_top.specs.declared.run.Run.{Run}
 use Rattle.smil_top.specs.declared.status.Status.{Status}
 use Rattle.smil_top.specs.declared.status.Status.TheVariants as status
+use Rattle.smil_words.specs.declared.mode.Mode.TheVariants as mode
 use Rattle.smil_top.specs.Cut.{Cut, cut_of, with_line, orders, unended, whole_orders}
-use Rattle.smil_top.specs.Transcript.{IsTranscript}
-use Rattle.smil_top.specs.Serving.{counted, IsWhole, IsPart, AreFirst, IsBroken, Runs, Explains, Serves}
-use Rattle.smil_top.specs.Kept.{IsRunning, IsText, WritesAll, WritesPart, Writes, Ends, status_of, told_by}
+use Rattle.smil_top.specs.Transcript.{Told, IsTranscriptBy, untold}
+use Rattle.smil_top.specs.Serving.{counted, status_by, status_of, IsWhole, IsCutShort, IsPart, AreFirst, IsBroken, Runs, Explains, Generates, Serves}
+use Rattle.smil_top.specs.Kept.{answering, asked_by, ended_by, IsAll, IsRunning, IsText, Tells, WritesAll, WritesPart, Writes, Goes, Answers, AnswersOrders, Ends, Ran, RunsBy}
 use Rattle.smil_top.proofs.Cuts.{cut_of-one_more, count-cut_of, whole-first, orders-first}
 
 -- the reader has not ended, or only at the end of the input
@@ -33,29 +34,53 @@ pub record HasRead (reader : Reading) (before rest : Option (List ℕ)) (came : 
   pub read : Consumes before rest came
   pub unbroken : IsUnbroken reader rest
 
--- this text was written, and answers the orders that are whole in these lines
-pub record HasWritten (run : Run) (before taken : Option (List ℕ)) (room left : ℕ) (answered : List (List ℕ)) (told : List ℕ) : Type 0 where
-  pub running : IsRunning run (cut_of answered) told
-  pub written : WritesAll before taken room left told
+-- this was told and written, and answers the orders that are whole in these lines
+pub record HasWritten (checks : Bool) (run : Run) (before taken : Option (List ℕ)) (room left : ℕ) (answered : List (List ℕ)) (told : Told) : Type 0 where
+  pub running : IsRunning checks run (cut_of answered) told
+  pub written : WritesAll before taken room left told.text
 
-pub record IsServing (reader : Reading) (run : Run) (before rest taken_before taken : Option (List ℕ)) (room left : ℕ) : Type 0 where
+-- a part of the input was read so
+pub record IsReading (reader : Reading) (before rest : Option (List ℕ)) : Type 0 where
   pub came : List ℕ
   pub answered : List (List ℕ)
-  pub told : List ℕ
+  pub has : HasRead reader before rest came answered
+
+abbrev pub Wrote : Bool → Run → Option (List ℕ) → Option (List ℕ) → ℕ → ℕ → List (List ℕ) → Type 0
+Wrote checks run before taken room left answered = (told : Told) × HasWritten checks run before taken room left answered told
+
+pub record IsServing (checks : Bool) (reader : Reading) (run : Run) (before rest taken_before taken : Option (List ℕ)) (room left : ℕ) : Type 0 where
+  pub came : List ℕ
+  pub answered : List (List ℕ)
+  pub told : Told
   pub reading : HasRead reader before rest came answered
-  pub writing : HasWritten run taken_before taken room left answered told
+  pub writing : HasWritten checks run taken_before taken room left answered told
 
--- before the first line
-pub HasRead-fresh : (rest : Option (List ℕ)) → HasRead fresh_reading rest rest [] []
-HasRead-fresh rest = record { has = HasAnswered-fresh; read = Consumes-nil rest; unbroken = inl refl }
-
--- ---- one call of `next`
+pub IsServing-of : (checks : Bool) (reader : Reading) (run : Run) (before rest taken_before taken : Option (List ℕ)) (room left : ℕ) (read : IsReading reader before rest) →
+    Wrote checks run taken_before taken room left read.answered → IsServing checks reader run before rest taken_before taken room left
+IsServing-of checks reader run before rest taken_before taken room left read wrote = record {
+  came = read.came;
+  answered = read.answered;
+  told = wrote.0;
+  reading = read.has;
+  writing = wrote.1;
+}
 
 -- what a call answered: once the input has ended nothing is read
 abbrev pub Nexts : Reading → Reading → Line → Option (List ℕ) → Option (List ℕ) → Type 0
 Nexts old new answer before after =
     ((old.closed ≡ None) × Reads old new answer before after)
     ⊎ ((old.closed ≡ Some ending.End) × (answer ≡ End) × (new ≡ record old { line = [] }) × (after ≡ before))
+
+-- a read that failed was made before the end
+pub fault-open : (old new : Reading) (rest after : Option (List ℕ)) → Nexts old new ReadFault rest after → IsNone old.closed
+fault-open old new rest after (inl open_reads) = subst IsNone (sym open_reads.0) refl
+fault-open old new rest after (inr ended) = absurd cc
+
+-- before the first line
+pub HasRead-fresh : (rest : Option (List ℕ)) → HasRead fresh_reading rest rest [] []
+HasRead-fresh rest = record { has = HasAnswered-fresh; read = Consumes-nil rest; unbroken = inl refl }
+
+-- ---- one call of `next`
 
 -- what `next` ensures
 pub Nexts-of : {S : Type 0} (rest_of : S → Option (List ℕ)) (source source' : S) (old new : Reading) (answer : Line) → IsUnbroken old (rest_of source) →
@@ -193,125 +218,172 @@ pub all-of : (told text : List ℕ) (before taken after : Option (List ℕ)) (ro
 all-of told text before taken after room left left' one two =
     (Appends-append before taken after told text one.0 two.0, omega (arith, one.1, two.1, length-append told text))
 
--- the whole input was answered
-runs_whole : (refused memory : Bool) (rest : Option (List ℕ)) (came text : List ℕ) (room : ℕ) → IsAtEnd rest → IsWhole came text refused memory → Runs (status_of refused memory) rest came text room
-runs_whole true true rest came text room at_end whole = inr (at_end, (true, whole))
-runs_whole false true rest came text room at_end whole = inr (at_end, (false, whole))
-runs_whole true false rest came text room at_end whole = (at_end, whole)
-runs_whole false false rest came text room at_end whole = (at_end, whole)
+-- more was told
+all-told : (told more : Told) (before taken after : Option (List ℕ)) (room left left' : ℕ) (goes : Goes (Ok tt) told more taken after left left') →
+    WritesAll before taken room left told.text → WritesAll before after room left' more.text
+all-told told more before taken after room left left' goes one =
+    subst (λ zs. WritesAll before after room left' zs) (sym goes.text_is) (all-of told.text goes.text before taken after room left left' one goes.writes)
 
-module _ (old new : Reading) (run : Run) (before rest after taken_before taken taken_after : Option (List ℕ)) (room left left' : ℕ) (serving : IsServing old run before rest taken_before taken room left) where
+part-told : (e : Failed) (told more : Told) (before taken after : Option (List ℕ)) (room left left' : ℕ) (goes : Goes (Err e) told more taken after left left') →
+    WritesAll before taken room left told.text → (said : List ℕ) × Appends before after said × IsPart said more.text room
+part-told e told more before taken after room left left' goes one =
+    let p = part-of told.text goes.text before taken after room left one goes.writes in
+    (p.0, p.1, subst (λ zs. IsPart p.0 zs room) (sym goes.text_is) p.2)
+
+-- the whole input was answered
+runs_all : (checks refused memory : Bool) (run : Run) (rest : Option (List ℕ)) (came text : List ℕ) (room : ℕ) → IsAtEnd rest →
+    IsAll checks (status_by refused memory) run came text → RunsBy checks (status_by refused memory) run rest came text room
+runs_all checks true true run rest came text room at_end all = (at_end, all)
+runs_all checks false true run rest came text room at_end all = (at_end, all)
+runs_all checks true false run rest came text room at_end all = (at_end, all)
+runs_all checks false false run rest came text room at_end all = (at_end, all)
+
+module _ (checks : Bool) (old new : Reading) (run after_run : Run) (before rest after taken_before taken taken_after : Option (List ℕ)) (room left left' : ℕ) (serving : IsServing checks old run before rest taken_before taken room left) where
   abbrev cut : Cut
   cut = cut_of serving.answered
 
   -- the source has ended, and the load that hasn't is answered
-  pub Serves-end : (ended : Status) → Nexts old new End rest after →
-      ((cut : Cut) (told : List ℕ) → IsRunning run cut told → Ends ended cut told taken taken_after left left') →
-      Serves true ended before after taken_before taken_after room
-  Serves-end ended nexts ends =
-      let e : Ends ended cut serving.told taken taken_after left left' = ends cut serving.told serving.writing.running in
+  ended-by : (came : List ℕ) (result : Result (Unit {0}) Failed) (ended : Status) → Consumes before after came → IsAtEnd after → (lines came ≡ serving.answered) → (length came ≤ INPUT_BYTES) →
+      (answers : AnswersOrders checks result after_run (cut.whole ++ unended cut.«open») serving.told taken taken_after left left') →
+      ended ≡ ended_by result answers.more → Ran checks ended after_run before after taken_before taken_after room
+  ended-by came (Ok done) ended read at_end lines_are within answers is =
+      let more : Told = answers.more in
+      let same_orders : cut.whole ++ unended cut.«open» ≡ orders (lines came) = ap orders (sym lines_are) in
+      let tells : Tells checks after_run (orders (lines came)) more = subst (λ os. Tells checks after_run os more) same_orders answers.tells in
+      let all : IsAll checks (status_of more) after_run came more.text = record { told = more; tells = tells; text_is = refl; ended_is = refl; within = within } in
+      record {
+        came = came;
+        text = more.text;
+        read = read;
+        written = (all-told serving.told more taken_before taken taken_after room left left' answers.goes serving.writing.written).0;
+        runs = subst (λ s. RunsBy checks s after_run after came more.text room) (sym is) (runs_all checks (nat_lt 0 more.refused) more.memory after_run after came more.text room at_end all);
+      }
+  ended-by came (Err e) ended read at_end lines_are within answers is =
+      let more : Told = answers.more in
+      let same_orders : cut.whole ++ unended cut.«open» ≡ orders (lines came) = ap orders (sym lines_are) in
+      let tells : Tells checks after_run (orders (lines came)) more = subst (λ os. Tells checks after_run os more) same_orders answers.tells in
+      let p = part-told e serving.told more taken_before taken taken_after room left left' answers.goes serving.writing.written in
+      let first : AreFirst (orders (lines came)) after came = inr (at_end, within, ([], sym (append-nil (orders (lines came))))) in
+      let broken : IsBroken (answering checks) after came p.0 room = (orders (lines came), more, first, tells.transcript, p.2) in
+      record {
+        came = came;
+        text = p.0;
+        read = read;
+        written = p.1;
+        runs = subst (λ s. RunsBy checks s after_run after came p.0 room) (sym is) broken;
+      }
+
+  pub Ran-end : (ended : Status) → Nexts old new End rest after →
+      ((checks : Bool) (cut : Cut) (told : Told) → IsRunning checks run cut told → Ends checks ended after_run cut told taken taken_after left left') →
+      Ran checks ended after_run before after taken_before taken_after room
+  Ran-end ended nexts ends =
+      let e : Ends checks ended after_run cut serving.told taken taken_after left left' = ends checks cut serving.told serving.writing.running in
       let n = next-end old new before rest after serving.came serving.answered serving.reading nexts in
-      let same_orders : cut.whole ++ unended cut.«open» ≡ orders (lines n.0) = ap orders (sym n.3) in
-      let transcript : IsTranscript (orders (lines n.0)) e.end_told = subst (λ os. IsTranscript os e.end_told) same_orders e.transcript in
-      elim e.written [
-        | inl (is, all) ↦
-            (let whole : IsWhole n.0 (serving.told ++ e.text) e.end_told.refused e.end_told.memory = (e.end_told, transcript, sym e.same, refl, refl, n.4) in
-            record {
-              came = n.0;
-              text = serving.told ++ e.text;
-              read = n.1;
-              written = (all-of serving.told e.text taken_before taken taken_after room left left' serving.writing.written all).0;
-              served = subst (λ s. Runs s after n.0 (serving.told ++ e.text) room) (sym is) (runs_whole e.end_told.refused e.end_told.memory after n.0 (serving.told ++ e.text) room n.2 whole);
-            })
-        | inr (is, part) ↦
-            (let p = part-of serving.told e.text taken_before taken taken_after room left serving.writing.written part in
-            let all : AreFirst (orders (lines n.0)) after n.0 = inr (n.2, n.4, ([], sym (append-nil (orders (lines n.0))))) in
-            let broken : IsBroken after n.0 p.0 room = (orders (lines n.0), e.end_told, all, transcript, subst (λ zs. IsPart p.0 zs room) (sym e.same) p.2) in
-            record {
-              came = n.0;
-              text = p.0;
-              read = n.1;
-              written = p.1;
-              served = subst (λ s. Runs s after n.0 p.0 room) (sym is) broken;
-            })
-      ]
+      ended-by n.0 e.result ended n.1 n.2 n.3 n.4 e.answers e.ended_is
 
   -- the input is too long
-  pub Serves-too_long : Nexts old new InputTooLong rest after → Serves true status.InputTooLong before after taken_before taken room
-  Serves-too_long nexts =
+  pub Ran-too_long : Nexts old new InputTooLong rest after → Ran checks status.InputTooLong run before after taken_before taken room
+  Ran-too_long nexts =
       let n = next-too_long old new before rest after serving.came serving.answered serving.reading nexts in
       record {
         came = n.0;
-        text = serving.told;
+        text = serving.told.text;
         read = n.1;
         written = serving.writing.written.0;
-        served = (n.3, (told_by run serving.told, subst (λ zs. IsTranscript (whole_orders zs) (told_by run serving.told)) (sym n.2) serving.writing.running.transcript, refl));
+        runs = (n.3, (serving.told, subst (λ zs. IsTranscriptBy (answering checks) (whole_orders zs) serving.told) (sym n.2) serving.writing.running.tells.transcript, refl));
       }
 
   -- a read failed
-  pub Serves-fault : Nexts old new ReadFault rest after → Serves true status.ReadFault before after taken_before taken room
-  Serves-fault nexts =
+  pub Ran-fault : Nexts old new ReadFault rest after → Ran checks status.ReadFault run before after taken_before taken room
+  Ran-fault nexts =
       let n = next-fault old new before rest after serving.came serving.answered serving.reading nexts in
       record {
         came = n.0;
-        text = serving.told;
+        text = serving.told.text;
         read = n.1;
         written = serving.writing.written.0;
-        served = (n.3, (told_by run serving.told, subst (λ zs. IsTranscript (whole_orders zs) (told_by run serving.told)) (sym n.2) serving.writing.running.transcript, refl));
+        runs = (n.3, (serving.told, subst (λ zs. IsTranscriptBy (answering checks) (whole_orders zs) serving.told) (sym n.2) serving.writing.running.tells.transcript, refl));
       }
 
 -- a line was read behind those answered, and the session went on
-module _ (new : Reading) (run : Run) (before after taken_before taken taken_after : Option (List ℕ)) (room left left' : ℕ) (came told text line : List ℕ) (answered : List (List ℕ))
-    (has : HasRead new before after came (answered ++ line ∷ [])) (said : WritesAll taken_before taken room left told) (running : IsRunning run (with_line (cut_of answered) line) (told ++ text)) where
-  abbrev running_now : IsRunning run (cut_of (answered ++ line ∷ [])) (told ++ text)
-  running_now = subst (λ (c : Cut). IsRunning run c (told ++ text)) (sym (cut_of-one_more answered line)) running
+module _ (checks : Bool) (new : Reading) (run : Run) (before after taken_before taken taken_after : Option (List ℕ)) (room left left' : ℕ) (came line : List ℕ) (told : Told) (answered : List (List ℕ))
+    (has : HasRead new before after came (answered ++ line ∷ [])) (said : WritesAll taken_before taken room left told.text) where
+  abbrev Goes_on : Result (Unit {0}) Failed → Type 0
+  Goes_on r = Answers checks r run (with_line (cut_of answered) line) told taken taken_after left left'
+
+  running_now : (r : Result (Unit {0}) Failed) (answers : Goes_on r) → IsRunning checks run (cut_of (answered ++ line ∷ [])) answers.more
+  running_now r answers = subst (λ (c : Cut). IsRunning checks run c answers.more) (sym (cut_of-one_more answered line)) answers.running
 
   -- its answer was written
-  pub IsServing-next : WritesAll taken taken_after left left' text → IsServing new run before after taken_before taken_after room left'
-  IsServing-next all = record {
-    came = came;
-    answered = answered ++ line ∷ [];
-    told = told ++ text;
-    reading = has;
-    writing = record { running = running_now; written = all-of told text taken_before taken taken_after room left left' said all };
-  }
+  pub Wrote-next : (r : Result (Unit {0}) Failed) → is_err r ≡ false → Goes_on r → Wrote checks run taken_before taken_after room left' (answered ++ line ∷ [])
+  Wrote-next (Ok done) went answers = (
+    answers.more,
+    record { running = running_now (Ok done) answers; written = all-told told answers.more taken_before taken taken_after room left left' answers.goes said },
+  )
+  Wrote-next (Err e) went answers = absurd cc
 
   -- writing it failed
-  pub Serves-broken : WritesPart taken taken_after left text → Serves true status.WriteFault before after taken_before taken_after room
-  Serves-broken part =
-      let p = part-of told text taken_before taken taken_after room left said part in
+  pub Ran-unwritten : (r : Result (Unit {0}) Failed) → is_err r ≡ true → Goes_on r → Ran checks status.WriteFault run before after taken_before taken_after room
+  Ran-unwritten (Ok done) failed answers = absurd cc
+  Ran-unwritten (Err e) failed answers =
+      let p = part-told e told answers.more taken_before taken taken_after room left left' answers.goes said in
       let these : List (List ℕ) = answered ++ line ∷ [] in
+      let running = running_now (Err e) answers in
       record {
         came = came;
         text = p.0;
         read = has.read;
         written = p.1;
-        served = ((cut_of these).whole, told_by run (told ++ text), orders-read new before after came these has, running_now.transcript, p.2);
+        runs = ((cut_of these).whole, answers.more, orders-read new before after came these has, running.tells.transcript, p.2);
       }
 
-  -- by what writing it gave
-  pub Serves-unwritten : (r : Result (Unit {0}) Failed) → is_err r ≡ true → Writes r taken taken_after left left' text → Serves true status.WriteFault before after taken_before taken_after room
-  Serves-unwritten (Ok done) failed all = cc
-  Serves-unwritten (Err e) failed part = Serves-broken part
+pub IsReading-fresh : (rest : Option (List ℕ)) → IsReading fresh_reading rest rest
+IsReading-fresh rest = record { came = []; answered = []; has = HasRead-fresh rest }
 
-  pub IsServing-written : (r : Result (Unit {0}) Failed) → is_err r ≡ false → Writes r taken taken_after left left' text → IsServing new run before after taken_before taken_after room left'
-  IsServing-written (Ok done) went all = IsServing-next all
-  IsServing-written (Err e) went part = cc
+pub Wrote-fresh : (checks : Bool) (run : Run) (taken : Option (List ℕ)) (room : ℕ) → IsRunning checks run (cut_of []) untold → Wrote checks run taken taken room room []
+Wrote-fresh checks run taken room running = (untold, record { running = running; written = (Appends-nil taken, omega arith) })
 
--- ---- nothing was read
+-- ---- by what was asked for
 
-pub Serves-explained : (status : Status) (rest before after : Option (List ℕ)) (room : ℕ) (text : List ℕ) → Appends before after text → Explains status [] text room →
-    Serves false status rest rest before after room
-Serves-explained status rest before after room text written explains = record { came = []; text = text; read = Consumes-nil rest; written = written; served = explains }
+-- all was answered
+whole-of : (checks : Bool) (ended : Status) (run : Run) (came text : List ℕ) → IsAll checks ended run came text → IsWhole (answering checks) ended came text
+whole-of checks ended run came text all = record { told = all.told; transcript = all.tells.transcript; text_is = all.text_is; ended_is = all.ended_is; within = all.within }
 
-pub Serves-nothing : (rest taken : Option (List ℕ)) (room : ℕ) → Serves true status.Memory rest rest taken taken room
-Serves-nothing rest taken room = record { came = []; text = []; read = Consumes-nil rest; written = Appends-nil taken; served = inl (refl, refl) }
+runs-of : (checks : Bool) (ended : Status) (run : Run) (rest : Option (List ℕ)) (came text : List ℕ) (room : ℕ) → RunsBy checks ended run rest came text room → Runs (answering checks) ended rest came text room
+runs-of checks status.Clean run rest came text room runs = (runs.0, whole-of checks status.Clean run came text runs.1)
+runs-of checks status.Refused run rest came text room runs = (runs.0, whole-of checks status.Refused run came text runs.1)
+runs-of checks status.Words run rest came text room runs = runs
+runs-of checks status.ReadFault run rest came text room runs = runs
+runs-of checks status.WriteFault run rest came text room runs = runs
+runs-of checks status.Memory run rest came text room runs = inr (runs.0, whole-of checks status.Memory run came text runs.1)
+runs-of checks status.InputTooLong run rest came text room runs = runs
 
-pub IsServing-fresh : (run : Run) (rest taken : Option (List ℕ)) (room : ℕ) → IsRunning run (cut_of []) [] → IsServing fresh_reading run rest rest taken taken room room
-IsServing-fresh run rest taken room running = record {
-  came = [];
-  answered = [];
-  told = [];
-  reading = HasRead-fresh rest;
-  writing = record { running = running; written = (Appends-nil taken, omega arith) };
+pub Serves-ran : (checks : Bool) (ended : Status) (run : Run) (before after taken_before taken_after : Option (List ℕ)) (room : ℕ) → Ran checks ended run before after taken_before taken_after room →
+    Serves (Some (asked_by checks)) ended before after taken_before taken_after room
+Serves-ran true ended run before after taken_before taken_after room ran = record {
+  came = ran.came;
+  text = ran.text;
+  read = ran.read;
+  written = ran.written;
+  served = runs-of true ended run after ran.came ran.text room ran.runs;
 }
+Serves-ran false ended run before after taken_before taken_after room ran = record {
+  came = ran.came;
+  text = ran.text;
+  read = ran.read;
+  written = ran.written;
+  served = runs-of false ended run after ran.came ran.text room ran.runs;
+}
+
+-- there was no memory to begin with
+pub Serves-nothing : (checks : Bool) (rest taken : Option (List ℕ)) (room : ℕ) → Serves (Some (asked_by checks)) status.Memory rest rest taken taken room
+Serves-nothing true rest taken room = record { came = []; text = []; read = Consumes-nil rest; written = Appends-nil taken; served = inl (refl, refl) }
+Serves-nothing false rest taken room = record { came = []; text = []; read = Consumes-nil rest; written = Appends-nil taken; served = inl (refl, refl) }
+
+pub Serves-explained : (ended : Status) (rest before after : Option (List ℕ)) (room : ℕ) (text : List ℕ) → Appends before after text → Explains ended text room →
+    Serves None ended rest rest before after room
+Serves-explained ended rest before after room text written explains = record { came = []; text = text; read = Consumes-nil rest; written = written; served = (refl, explains) }
+
+pub Serves-generated : (number : ℕ) (ended : Status) (rest before after : Option (List ℕ)) (room : ℕ) (text : List ℕ) → Appends before after text → Generates number ended text room →
+    Serves (Some (mode.Gen number)) ended rest rest before after room
+Serves-generated number ended rest before after room text written generates = record { came = []; text = text; read = Consumes-nil rest; written = written; served = (refl, generates) }

@@ -1,89 +1,213 @@
 -- One answer more: the transcript goes on with its text.
-use Rattle.std.proofs.Common.{◌≡◌, ◌⊎◌, ℕ, ◌<◌, ◌≤◌, length, List, [], ◌∷◌, ◌++◌, Option, Some, None, Result, Ok, Err, refl, ap, sym, subst, ◌∙◌, inl, inr, Bor}
-use Rattle.std.proofs.lemmas.List.{append-nil}
-use Rattle.std.specs.Prelude.{OnErr, option_map, if◌then◌else◌}
-use Rattle.smil_top.specs.declared.answer.Answer.{Answer as AnswerText}
-use Rattle.smil_top.specs.declared.fault.Fault.{Fault}
-use Rattle.smil_top.specs.declared.load.Load.{Load}
-use Rattle.smil_top.specs.declared.run.Run.{Run}
-use Rattle.smil_top.specs.declared.session.Session.{Session}
-use Rattle.smil_top.specs.Cut.{OrderLines, single, load as load_order, LoadLines, Cut, unended}
-use Rattle.smil_top.specs.Transcript.{MayAnswer, and_then}
-use Rattle.smil_top.specs.Answers.{at_line, answer_to_read, answer_to_line, document_of, refused_at, IsOpening, IsLoadWithin}
-use Rattle.smil_top.proofs.CutLines.{is_short-true, is_short-false}
+use Rattle.std.proofs.Common.{◌≡◌, ◌⊎◌, ℕ, ◌+◌, ◌<◌, ◌≤◌, suc, min, length, Bool, true, false, List, [], ◌∷◌, ◌++◌, Option, Some, None, Result, Ok, Err, refl, ap, sym, subst, ◌∙◌, arith, inl, inr, Bor}
+use Rattle.std.proofs.lemmas.List.{append-nil, length-append}
+use Rattle.std.proofs.lemmas.List.Sums.{sum_by-append}
+use Rattle.std.specs.Prelude.{OnErr, cond, option_map, ◌||◌, ◌==◌, if◌then◌else◌}
+use Rattle.std.specs.List.{count_by}
 use Rattle.smil_model.specs.declared.limits.TheConstants.{LINE_BYTES}
 use Rattle.smil_model.specs.declared.order.Refusal.{Refusal}
 use Rattle.smil_model.specs.declared.order.Refusal.TheVariants.{LongLine, Memory, UnfinishedLoad}
-use Rattle.smil_model.specs.document.Document.{Document}
 use Rattle.smil_model.specs.document.Limits.{limits}
+use Rattle.smil_model.specs.shown.Lines.{refusal_line}
+use Rattle.smil_outside.specs.declared.failed.Failed.{Failed}
+use Rattle.smil_outside.specs.Faults.{last_count}
+use Rattle.smil_outside.specs.Lines.{line_feed}
+use Rattle.smil_grammar.specs.declared.read.Read.{Read}
+use Rattle.smil_grammar.specs.Results.{◌>>=◌}
 use Rattle.smil_grammar.specs.Scripts.{line_of}
-use Rattle.smil_script.specs.Gives.{GivesRead}
-use Rattle.smil_top.specs.Kept.{made, said, noted, IsTelling, IsRunning, IsEnded, IsOpen, IsRead, IsText}
+use Rattle.smil_top.specs.declared.answer.Answer.{Answer as AnswerText}
+use Rattle.smil_top.specs.declared.counts.Counts.{Counts}
+use Rattle.smil_top.specs.declared.fault.Fault.{Fault}
+use Rattle.smil_top.specs.declared.given.Given.{Given as GivenDoc}
+use Rattle.smil_top.specs.declared.load.Load.{Load}
+use Rattle.smil_top.specs.declared.run.Run.{Run}
+use Rattle.smil_top.specs.Cut.{OrderLines, single, load as load_order, LoadLines, Cut, unended}
+use Rattle.smil_top.specs.Session.{Session}
+use Rattle.smil_top.specs.Answers.{Accepted, Refused, Answer, Given, at_line, said_within, silent, given_within, loaded_within, checked, answer_of, check_of}
+use Rattle.smil_top.specs.Transcript.{Told, IsTranscriptBy, and_then, is_memory, with_answer}
+use Rattle.smil_top.specs.Summary.{line_count}
+use Rattle.smil_top.specs.Houses.{Presentations, Holds}
+use Rattle.smil_top.specs.Kept.{answering, counted, counted_on, fault_at, given_of, line_by, load_by, refused_by, said, text_of, AreCounted, Answers, AnswersOrders, Gives, Goes, IsOpen, IsRead, IsRunning, IsText, Makes, MakesAnswer, Tells, Writes, WritesAll}
+use Rattle.smil_top.proofs.CutLines.{is_short-true, is_short-false}
+
+-- the answer that was made
+abbrev answer_as : Result (Unit {0}) Fault → AnswerText → Session → Answer
+answer_as (Ok done) text after = Ok (record { text = text_of text; session = after })
+answer_as (Err fault) text after = Err (refused_by fault)
+
+abbrev pub counted_as : Result (Unit {0}) Fault → AnswerText → Counts → Counts
+counted_as answered text counts = counted answered (min (line_count (said answered text)) last_count) counts
+
+-- ---- counts
+
+one-more : (most n : ℕ) → min (min n most + 1) most ≡ min (n + 1) most
+one-more most n = omega arith
+
+some-more : (most n m : ℕ) → min (min n most + min m most) most ≡ min (n + m) most
+some-more most n m = omega arith
+
+orders-counted : (count : ℕ) (orders : List OrderLines) (order : OrderLines) → count ≡ min (length orders) last_count →
+    counted_on count 1 ≡ min (length (orders ++ order ∷ [])) last_count
+orders-counted count orders order is =
+    ap (λ n. min (n + 1) last_count) is ∙ one-more last_count (length orders) ∙ ap (λ n. min n last_count) (sym (length-append orders (order ∷ [])))
+
+lines-counted : (count : ℕ) (told text : List ℕ) → count ≡ min (line_count told) last_count →
+    counted_on count (min (line_count text) last_count) ≡ min (line_count (told ++ text)) last_count
+lines-counted count told text is =
+    ap (λ n. min (n + min (line_count text) last_count) last_count) is
+    ∙ some-more last_count (line_count told) (line_count text)
+    ∙ ap (λ n. min n last_count) (sym (sum_by-append (λ byte. cond (byte == line_feed) 1 0) told text))
+
+refused-counted : (b : Bool) (count refused : ℕ) → count ≡ min refused last_count →
+    (if b then count else counted_on count 1) ≡ min (if b then refused else suc refused) last_count
+refused-counted true count refused is = is
+refused-counted false count refused is = ap (λ n. min (n + 1) last_count) is ∙ one-more last_count refused ∙ ap (λ n. min n last_count) (omega arith)
+
+-- the counts of an order that was answered so
+told-counted : (answered : Result (Unit {0}) Fault) (text : AnswerText) (counts : Counts) (orders : List OrderLines) (told : Told) (order : OrderLines) (after : Session) →
+    AreCounted counts orders told →
+    AreCounted (counted answered (min (line_count (said answered text)) last_count) counts) (orders ++ order ∷ []) (with_answer told (answer_as answered text after))
+told-counted (Ok done) text counts orders told order after were = record {
+  orders_are = orders-counted counts.orders orders order were.orders_are;
+  refused_is = were.refused_is;
+  lines_are = lines-counted counts.lines told.text (text_of text) were.lines_are;
+  memory_is = were.memory_is;
+}
+told-counted (Err fault) text counts orders told order after were = record {
+  orders_are = orders-counted counts.orders orders order were.orders_are;
+  refused_is = refused-counted (is_memory fault.refusal) counts.refused told.refused were.refused_is;
+  lines_are = lines-counted counts.lines told.text (refusal_line fault.line fault.refusal) were.lines_are;
+  memory_is = ap (λ b. b || is_memory fault.refusal) were.memory_is;
+}
+
+-- ---- one order more
+
+-- what is told with an order that was answered so
+pub told-more : (checks : Bool) (run new : Run) (whole : List OrderLines) (told : Told) (order : OrderLines) (answered : Result (Unit {0}) Fault) (text : AnswerText) →
+    Tells checks run whole told → MakesAnswer answered text new.session.house told.session (answering checks) order →
+    new.session.checks ≡ run.session.checks → new.counts ≡ counted answered (min (line_count (said answered text)) last_count) run.counts →
+    (more : Told) × Tells checks new (whole ++ order ∷ []) more × (more.text ≡ told.text ++ said answered text)
+told-more checks run new whole told order (Ok done) text tells made same counts = (
+  with_answer told (answer_as (Ok done) text made.0),
+  record {
+    checks_is = same ∙ tells.checks_is;
+    transcript = and_then tells.transcript order (answer_as (Ok done) text made.0) (inl (sym made.2));
+    holds = made.1;
+    counted = subst (λ (k : Counts). AreCounted k (whole ++ order ∷ []) (with_answer told (answer_as (Ok done) text made.0))) (sym counts) (told-counted (Ok done) text run.counts whole told order made.0 tells.counted);
+  },
+  refl,
+)
+told-more checks run new whole told order (Err fault) text tells made same counts = (
+  with_answer told (answer_as (Err fault) text told.session),
+  record {
+    checks_is = same ∙ tells.checks_is;
+    transcript = and_then tells.transcript order (Err (refused_by fault)) made.1;
+    holds = made.0;
+    counted = subst (λ (k : Counts). AreCounted k (whole ++ order ∷ []) (with_answer told (answer_as (Err fault) text told.session))) (sym counts) (told-counted (Err fault) text run.counts whole told order told.session tells.counted);
+  },
+  refl,
+)
+
+-- the same, where its text was written
+pub told-order : (checks : Bool) (run new : Run) (whole : List OrderLines) (told : Told) (order : OrderLines) (answered : Result (Unit {0}) Fault) (text : AnswerText)
+    (result : Result (Unit {0}) Failed) (before after : Option (List ℕ)) (room left : ℕ) →
+    Tells checks run whole told → MakesAnswer answered text new.session.house told.session (answering checks) order →
+    new.session.checks ≡ run.session.checks → new.counts ≡ counted answered (min (line_count (said answered text)) last_count) run.counts →
+    Writes result before after room left (said answered text) →
+    AnswersOrders checks result new (whole ++ order ∷ []) told before after room left
+told-order checks run new whole told order answered text result before after room left tells made same counts writes =
+    let more = told-more checks run new whole told order answered text tells made same counts in
+    record { more = more.0; goes = record { text = said answered text; text_is = more.2; writes = writes }; tells = more.1 }
+
+-- ---- single lines
+
+answer-single : (checks : Bool) (session : Session) (number : ℕ) (line : List ℕ) → length line ≤ LINE_BYTES →
+    answering checks session (single (record { number = number; text = line })) ≡ at_line number (line_by checks session number line)
+answer-single true session number line short =
+    ap (λ b. at_line number ((if b then line_of line else Err LongLine) >>= λ (read : Read). silent session)) (is_short-true line short)
+answer-single false session number line short =
+    ap (λ b. at_line number ((if b then line_of line else Err LongLine) >>= said_within limits session number)) (is_short-true line short)
+
+pub single-made : (checks : Bool) (r : Result (Unit {0}) Refusal) (text : AnswerText) (house : Presentations) (session : Session) (number : ℕ) (line : List ℕ) → length line ≤ LINE_BYTES →
+    Makes r text house session (line_by checks session number line) →
+    MakesAnswer (fault_at number r) text house session (answering checks) (single (record { number = number; text = line }))
+single-made checks (Ok done) text house session number line short made =
+    (made.0, made.1, answer-single checks session number line short ∙ ap (at_line number) made.2)
+single-made checks (Err refusal) text house session number line short made = (
+  made.0,
+  elim made.1 [
+    | inl memory ↦ inr (ap (λ r. at_line number (Err r)) memory)
+    | inr is ↦ inl (sym (answer-single checks session number line short ∙ ap (at_line number) is))
+  ],
+)
+
+-- a line that is too long
+pub long-made : (checks : Bool) (text : AnswerText) (house : Presentations) (session : Session) (number : ℕ) (line : List ℕ) → LINE_BYTES < length line → Holds house session →
+    MakesAnswer (Err (record { line = number; refusal = LongLine })) text house session (answering checks) (single (record { number = number; text = line }))
+long-made true text house session number line long holds = (
+  holds,
+  inl (sym (ap (λ b. at_line number ((if b then line_of line else Err LongLine) >>= λ (read : Read). silent session)) (is_short-false line long))),
+)
+long-made false text house session number line long holds = (
+  holds,
+  inl (sym (ap (λ b. at_line number ((if b then line_of line else Err LongLine) >>= said_within limits session number)) (is_short-false line long))),
+)
+
+-- ---- loads
+
+abbrev pub fine : GivenDoc → Result GivenDoc Fault
+fine given = Ok given
+
+abbrev pub faulty : Fault → Result GivenDoc Fault
+faulty fault = Err fault
+
+abbrev as_answer : Result GivenDoc Fault → Answer
+as_answer (Err fault) = Err (refused_by fault)
+as_answer (Ok given) = Err (record { line = 0; refusal = Memory })
+
+answer-load : (checks : Bool) (session : Session) (lines : LoadLines) (end_line : ℕ) (given : Result Given Refused) → given_within limits lines end_line ≡ given →
+    answering checks session (load_order lines (Some end_line)) ≡ (given >>= λ (g : Given). at_line lines.head.number (load_by checks session lines.head.number g))
+answer-load true session lines end_line given is = ap (λ r. r >>= λ (g : Given). at_line lines.head.number (checked session lines.head.number g)) is
+answer-load false session lines end_line given is = ap (λ r. r >>= λ (g : Given). at_line lines.head.number (loaded_within limits session lines.head.number g)) is
+
+pub load-made : (checks : Bool) (r : Result (Unit {0}) Refusal) (text : AnswerText) (house : Presentations) (session : Session) (lines : LoadLines) (line end_line : ℕ) (given : GivenDoc) →
+    line ≡ lines.head.number →
+    Gives (Ok given) (given_within limits lines end_line) ⊎ (fine given ≡ Err (record { line = lines.head.number; refusal = Memory })) →
+    Makes r text house session (load_by checks session line (given_of given)) →
+    MakesAnswer (fault_at line r) text house session (answering checks) (load_order lines (Some end_line))
+load-made checks r text house session lines line end_line given same (inr never) made = absurd cc
+load-made checks (Ok done) text house session lines line end_line given same (inl gives) made = (
+  made.0,
+  made.1,
+  answer-load checks session lines end_line (Ok (given_of given)) gives
+      ∙ ap (λ n. at_line n (load_by checks session n (given_of given))) (sym same)
+      ∙ ap (at_line line) made.2,
+)
+load-made checks (Err refusal) text house session lines line end_line given same (inl gives) made = (
+  made.0,
+  elim made.1 [
+    | inl memory ↦ inr (ap (λ r. at_line line (Err r)) memory ∙ ap (λ n. at_line n (Err Memory)) same)
+    | inr is ↦ inl (sym (answer-load checks session lines end_line (Ok (given_of given)) gives ∙ ap (λ n. at_line n (load_by checks session n (given_of given))) (sym same) ∙ ap (at_line line) is))
+  ],
+)
+
+pub unread-made : (checks : Bool) (text : AnswerText) (house : Presentations) (session : Session) (lines : LoadLines) (end_line : ℕ) (fault : Fault) → Holds house session →
+    Gives (Err fault) (given_within limits lines end_line) ⊎ (faulty fault ≡ Err (record { line = lines.head.number; refusal = Memory })) →
+    MakesAnswer (Err fault) text house session (answering checks) (load_order lines (Some end_line))
+unread-made checks text house session lines end_line fault holds (inl gives) = (holds, inl (sym (answer-load checks session lines end_line (Err (refused_by fault)) gives)))
+unread-made checks text house session lines end_line fault holds (inr memory) = (holds, inr (ap as_answer memory))
+
+-- the input ends within a load
+pub unfinished-made : (checks : Bool) (text : AnswerText) (house : Presentations) (session : Session) (lines : LoadLines) (line : ℕ) → line ≡ lines.head.number → Holds house session →
+    MakesAnswer (Err (record { line = line; refusal = UnfinishedLoad })) text house session (answering checks) (load_order lines None)
+unfinished-made true text house session lines line same holds = (holds, inl (ap (λ n. at_line n (Err UnfinishedLoad)) same))
+unfinished-made false text house session lines line same holds = (holds, inl (ap (λ n. at_line n (Err UnfinishedLoad)) same))
+
+-- ---- the load that stands open
 
 -- the line that a reader hands on, as `IsText` says it
 abbrev pub Shows : Option (Bor (List ℕ)) → List ℕ → Type 0
 Shows text line = IsText (option_map {T = Bor (List ℕ)} {U = List ℕ} (λ t. t.now) text) line
-
--- an order that was answered so, in the session before it
-pub IsTelling-answer : (run : Run) (whole : List OrderLines) (told : List ℕ) (order : OrderLines) (answered : Result (Unit {0}) Fault) (text : AnswerText) (session : Session) (at : Option Load) →
-    IsTelling run whole told → MayAnswer run.session order (made answered text session) → OnErr answered (session ≡ run.session) →
-    IsTelling (noted answered (record { session = session; load = at; answer = text; refused = run.refused; memory = run.memory })) (whole ++ order ∷ []) (told ++ said answered text)
-IsTelling-answer run whole told order (Ok done) text session at so_far may kept = and_then so_far order _ may
-IsTelling-answer run whole told order (Err fault) text session at so_far may kept =
-    subst (λ s. IsTelling (record { session = s; load = at; answer = text; refused = (noted (Err fault) run).refused; memory = (noted (Err fault) run).memory }) (whole ++ order ∷ []) (told ++ said (Err fault) text)) (sym kept) (and_then so_far order _ may)
-
--- the same, where the answer was made and then told
-pub IsTelling-told : (run between after : Run) (whole : List OrderLines) (told : List ℕ) (order : OrderLines) (answered : Result (Unit {0}) Fault) →
-    between ≡ record run { session = between.session; answer = between.answer } → after ≡ noted answered between →
-    IsTelling run whole told → MayAnswer run.session order (made answered between.answer between.session) → OnErr answered (between.session ≡ run.session) →
-    IsTelling after (whole ++ order ∷ []) (told ++ said answered between.answer)
-IsTelling-told run between after whole told order answered rest is so_far may kept =
-    let text : List ℕ = told ++ said answered between.answer in
-    let all : List OrderLines = whole ++ order ∷ [] in
-    subst (λ (r : Run). IsTelling r all text) (sym (is ∙ ap (λ (r : Run). noted answered r) rest))
-    (IsTelling-answer run whole told order answered between.answer between.session run.load so_far may kept)
-
--- an order was whole with this line, and was answered
-pub IsRunning-order : (run : Run) (cut : Cut) (count : ℕ) (whole : List OrderLines) (text : List ℕ) → cut ≡ record { count = count; whole = whole; «open» = None } →
-    run.load ≡ None → IsTelling run whole text → IsRunning run cut text
-IsRunning-order run cut count whole text is no_load telling =
-    subst (λ (c : Cut). IsRunning run c text) (sym is) (record { transcript = telling; load = subst (λ o. IsOpen o None) (sym no_load) tt })
-
--- nothing is answered, and a load stands open
-pub IsRunning-load : (run : Run) (load : Load) (cut : Cut) (count : ℕ) (whole : List OrderLines) (lines : LoadLines) (told : List ℕ) → cut ≡ record { count = count; whole = whole; «open» = Some lines } →
-    run.load ≡ Some load → IsRead load lines → IsTelling run whole told → IsRunning run cut (told ++ [])
-IsRunning-load run load cut count whole lines told is loaded read telling =
-    subst (λ zs. IsRunning run cut zs) (sym (append-nil told))
-    (subst (λ (c : Cut). IsRunning run c told) (sym is) (record { transcript = telling; load = subst (λ o. IsOpen o (Some lines)) (sym loaded) read }))
-
--- nothing is answered, and no load stands open
-pub IsRunning-silent : (run : Run) (cut : Cut) (count : ℕ) (whole : List OrderLines) (told : List ℕ) → cut ≡ record { count = count; whole = whole; «open» = None } →
-    run.load ≡ None → IsTelling run whole told → IsRunning run cut (told ++ [])
-IsRunning-silent run cut count whole told is no_load telling =
-    subst (λ zs. IsRunning run cut zs) (sym (append-nil told)) (IsRunning-order run cut count whole told is no_load telling)
-
--- ---- single lines
-
-pub long-answer : (session : Session) (number : ℕ) (line : List ℕ) (text : AnswerText) → LINE_BYTES < length line →
-    MayAnswer session (single (record { number = number; text = line })) (Err (record { line = number; refusal = LongLine }))
-long-answer session number line text long = inl (sym (ap (λ b. at_line number (if b then answer_to_read session number (line_of line) else Err LongLine)) (is_short-false line long)))
-
-short-answer : (session : Session) (number : ℕ) (line : List ℕ) → length line ≤ LINE_BYTES →
-    answer_to_line session (record { number = number; text = line }) ≡ at_line number (answer_to_read session number (line_of line))
-short-answer session number line short = ap (λ b. at_line number (if b then answer_to_read session number (line_of line) else Err LongLine)) (is_short-true line short)
-
-pub line-answer : (r : Result (Unit {0}) Refusal) (text : AnswerText) (session' session : Session) (number : ℕ) (line : List ℕ) → length line ≤ LINE_BYTES →
-    GivesRead (made r text session') (answer_to_read session number (line_of line)) →
-    MayAnswer session (single (record { number = number; text = line })) (made (at_line number r) text session')
-line-answer (Err Memory) text session' session number line short gives = inr refl
-line-answer (Ok done) text session' session number line short gives = inl (sym (short-answer session number line short ∙ ap (λ a. at_line number a) gives))
-line-answer (Err refusal) text session' session number line short gives = inl (sym (short-answer session number line short ∙ ap (λ a. at_line number a) gives))
-
-pub kept-at_line : (r : Result (Unit {0}) Refusal) (number : ℕ) (P : Type 0) → OnErr r P → OnErr (at_line number r) P
-kept-at_line (Ok done) number P h = tt
-kept-at_line (Err refusal) number P h = h
-
--- ---- the load that stands open
 
 open-some : (load : Load) (at : Option LoadLines) → IsOpen (Some load) at → (lines : LoadLines) × (at ≡ Some lines) × IsRead load lines
 open-some load None h = absurd h
@@ -93,51 +217,55 @@ open-none : (at : Option LoadLines) → IsOpen None at → at ≡ None
 open-none None h = refl
 open-none (Some lines) h = absurd h
 
-pub load-of : (run : Run) (load : Load) (cut : Cut) (told : List ℕ) → IsRunning run cut told → run.load ≡ Some load →
-    (lines : LoadLines) × (cut.«open» ≡ Some lines) × IsRead load lines
-load-of run load cut told running is = open-some load cut.«open» (subst (λ o. IsOpen o cut.«open») is running.load)
+pub load-of : (load : Load) (at : Option Load) (lines : Option LoadLines) → IsOpen at lines → at ≡ Some load →
+    (lines' : LoadLines) × (lines ≡ Some lines') × IsRead load lines'
+load-of load at lines stands is = open-some load lines (subst (λ o. IsOpen o lines) is stands)
 
-pub no_load-of : (run : Run) (cut : Cut) (told : List ℕ) → IsRunning run cut told → run.load ≡ None → cut.«open» ≡ None
-no_load-of run cut told running is = open-none cut.«open» (subst (λ o. IsOpen o cut.«open») is running.load)
+pub no_load-of : (at : Option Load) (lines : Option LoadLines) → IsOpen at lines → at ≡ None → lines ≡ None
+no_load-of at lines stands is = open-none lines (subst (λ o. IsOpen o lines) is stands)
 
--- an answer leaves the load as it is
-pub noted-load : (answered : Result (Unit {0}) Fault) (run : Run) → (noted answered run).load ≡ run.load
-noted-load (Ok done) run = refl
-noted-load (Err fault) run = refl
+-- ---- a line
 
--- ---- loads
+-- an order was whole with this line, and was answered
+pub running-order : (checks : Bool) (result : Result (Unit {0}) Failed) (run : Run) (cut : Cut) (count : ℕ) (whole : List OrderLines) (told : Told) (before after : Option (List ℕ)) (room left : ℕ) →
+    cut ≡ record { count = count; whole = whole; «open» = None } → run.load ≡ None →
+    AnswersOrders checks result run whole told before after room left → Answers checks result run cut told before after room left
+running-order checks result run cut count whole told before after room left is no_load answers = record {
+  more = answers.more;
+  goes = answers.goes;
+  running = subst (λ (c : Cut). IsRunning checks run c answers.more) (sym is) (record { tells = answers.tells; load = subst (λ o. IsOpen o None) (sym no_load) tt });
+}
 
--- where the input ends
-abbrev pub unfinished : Load → Result (Unit {0}) Fault
-unfinished load = refused_at load.line UnfinishedLoad
+-- nothing is told
+pub Goes-nothing : (told : Told) (before : Option (List ℕ)) (room : ℕ) → WritesAll before before room room [] → Goes (Ok tt) told told before before room room
+Goes-nothing told before room nothing = record { text = []; text_is = sym (append-nil told.text); writes = nothing }
 
--- the input ends, and the load that stands open is refused
-pub IsEnded-load : (run : Run) (load : Load) (at : Option Load) (cut : Cut) (told : List ℕ) → IsRunning run cut told → run.load ≡ Some load →
-    IsEnded (noted (unfinished load) (record run { load = at })) cut (told ++ said (unfinished load) run.answer)
-IsEnded-load run load at cut told running is =
-    let found = load-of run load cut told running is in
-    let new : Run = noted (unfinished load) (record run { load = at }) in
-    let text : List ℕ = told ++ said (unfinished load) run.answer in
-    subst (λ (o : Option LoadLines). IsTelling new (cut.whole ++ unended o) text) (sym found.1)
-    (IsTelling-answer run cut.whole told (load_order found.0 None) (unfinished load) run.answer run.session at running.transcript (inl (ap (λ k. refused_at k UnfinishedLoad) found.2.line)) refl)
+-- nothing is told, and a load stands open
+pub running-load : (checks : Bool) (run : Run) (load : Load) (cut : Cut) (count : ℕ) (whole : List OrderLines) (lines : LoadLines) (told : Told) (before : Option (List ℕ)) (room : ℕ) →
+    cut ≡ record { count = count; whole = whole; «open» = Some lines } → run.load ≡ Some load → IsRead load lines → Tells checks run whole told →
+    WritesAll before before room room [] → Answers checks (Ok tt) run cut told before before room room
+running-load checks run load cut count whole lines told before room is loaded read tells nothing = record {
+  more = told;
+  goes = Goes-nothing told before room nothing;
+  running = subst (λ (c : Cut). IsRunning checks run c told) (sym is) (record { tells = tells; load = subst (λ o. IsOpen o (Some lines)) (sym loaded) read });
+}
 
-made-at_line : (r : Result (Unit {0}) Refusal) (line : ℕ) (text : AnswerText) (session : Session) → made (at_line line r) text session ≡ at_line line (made r text session)
-made-at_line (Ok done) line text session = refl
-made-at_line (Err refusal) line text session = refl
+-- nothing is told, and no load stands open
+pub running-silent : (checks : Bool) (run : Run) (cut : Cut) (count : ℕ) (whole : List OrderLines) (told : Told) (before : Option (List ℕ)) (room : ℕ) →
+    cut ≡ record { count = count; whole = whole; «open» = None } → run.load ≡ None → Tells checks run whole told →
+    WritesAll before before room room [] → Answers checks (Ok tt) run cut told before before room room
+running-silent checks run cut count whole told before room is no_load tells nothing = record {
+  more = told;
+  goes = Goes-nothing told before room nothing;
+  running = subst (λ (c : Cut). IsRunning checks run c told) (sym is) (record { tells = tells; load = subst (λ o. IsOpen o None) (sym no_load) tt });
+}
 
--- what the lines of a load give at its end
-abbrev Gives : LoadLines → ℕ → Result (List ℕ × Document) Fault → Type 0
-Gives lines number result = (result ≡ document_of lines number) ⊎ (result ≡ refused_at lines.head.number Memory)
-
--- a load whose lines give a document opens it
-pub opening-answer : (session session' : Session) (lines : LoadLines) (line number : ℕ) (name : List ℕ) (document : Document) (opened : Result (Unit {0}) Refusal) (text : AnswerText) → line ≡ lines.head.number →
-    Gives lines number (Ok (name, document)) →
-    (opened ≡ Err Memory) ⊎ IsOpening session line name document (at_line line (made opened text session')) →
-    MayAnswer session (load_order lines (Some number)) (made (at_line line opened) text session')
-opening-answer session session' lines line number name document opened text same (inr never) opens = absurd cc
-opening-answer session session' lines line number name document opened text same (inl reads) (inl memory) =
-    inr (ap (λ r. made (at_line line r) text session') memory ∙ ap (λ k. refused_at k Memory) same)
-opening-answer session session' lines line number name document opened text same (inl reads) (inr opens) =
-    inl (subst (λ a. IsLoadWithin limits session lines.head.number (document_of lines number) a) (sym (made-at_line opened line text session'))
-    (subst (λ d. IsLoadWithin limits session lines.head.number d (at_line line (made opened text session'))) reads
-    (subst (λ k. IsOpening session k name document (at_line line (made opened text session'))) same opens)))
+-- what is told stays where the run differs in its load alone
+pub tells-on : (checks : Bool) (run new : Run) (whole : List OrderLines) (told : Told) → new.session ≡ run.session → new.counts ≡ run.counts →
+    Tells checks run whole told → Tells checks new whole told
+tells-on checks run new whole told session counts tells = record {
+  checks_is = ap (λ s. s.checks) session ∙ tells.checks_is;
+  transcript = tells.transcript;
+  holds = subst (λ s. Holds s.house told.session) (sym session) tells.holds;
+  counted = subst (λ k. AreCounted k whole told) (sym counts) tells.counted;
+}

@@ -1,169 +1,149 @@
--- What an order is answered.
-use Rattle.std.specs.Prelude.{◌≡◌, ℕ, ◌⊎◌, pos, List, [], ◌∷◌, ◌++◌, Option, Some, None, Result, Ok, Err, bytes_eq, if◌then◌else◌}
+-- What an order is answered, if memory suffices.
+use Rattle.std.specs.Prelude.{ℕ, pos, List, [], ◌∷◌, ◌++◌, Option, Some, None, Result, Ok, Err, ◌==◌, if◌then◌else◌}
 use Rattle.smil_model.specs.declared.order.Order.{Order}
 use Rattle.smil_model.specs.declared.order.Refusal.{Refusal}
-use Rattle.smil_model.specs.declared.order.Refusal.TheVariants.{LongLine, NotACommand, UnfinishedLoad, NoPresentation, NotYet}
+use Rattle.smil_model.specs.declared.order.Refusal.TheVariants.{LongLine, NotACommand, UnfinishedLoad, NoPresentation}
 use Rattle.smil_model.specs.document.Document.{Document}
 use Rattle.smil_model.specs.document.Limits.{Limits, limits}
 use Rattle.smil_model.specs.shown.Orders.{Presentation, opened_within, outcome_within}
 use Rattle.smil_model.specs.shown.Answers.{answer_text, load_text}
-use Rattle.smil_model.specs.shown.Lines.{ok_line}
+use Rattle.smil_model.specs.shown.Lines.{ok_line, closed_line}
+use Rattle.smil_report.specs.Words.{checked_line}
 use Rattle.smil_grammar.specs.declared.read.Read.{Read}
 use Rattle.smil_grammar.specs.declared.read.Read.TheVariants.{Blank, Load, Close, To}
+use Rattle.smil_grammar.specs.Results.{◌>>=◌}
 use Rattle.smil_grammar.specs.Scripts.{line_of}
-use Rattle.smil_grammar.specs.Outlines.{Outline, no_lines, line_within, ended}
+use Rattle.smil_grammar.specs.Outlines.{Outline, no_lines, line_within, ended, version_of, outline_text, saved_text}
 use Rattle.smil_grammar.specs.Formats.{formats}
-use Rattle.smil_live.specs.Image.{IsImage, is_answered}
-use Rattle.smil_top.specs.declared.fault.Fault.{Fault}
-use Rattle.smil_top.specs.declared.session.Held.{Held}
-use Rattle.smil_top.specs.declared.session.Session.{Session}
-use Rattle.smil_top.specs.declared.load.Titled.{Titled}
 use Rattle.smil_top.specs.Cut.{Numbered, LoadLines, OrderLines, single, load, is_short}
+use Rattle.smil_top.specs.Session.{Session, presentation_of, with_state, without, may_load}
 
 -- an accepted order: its text, and the session after it
 pub record Accepted : Type 0 where
   pub text : List ℕ
   pub session : Session
 
--- an order is accepted, or refused for a fault at a line
-abbrev pub Answer : Type 0
-Answer = Result Accepted Fault
+-- a refused order: the refusal, and the number of the line where the fault stands
+pub record Refused : Type 0 where
+  pub line : ℕ
+  pub refusal : Refusal
 
--- refused at this line
-abbrev pub refused_at : {A : Type 0} → ℕ → Refusal → Result A Fault
-refused_at line refusal = Err (record { line = line; refusal = refusal })
+-- an order is accepted or refused
+abbrev pub Answer : Type 0
+Answer = Result Accepted Refused
 
 -- a refusal stands at this line
-abbrev pub at_line : {A : Type 0} → ℕ → Result A Refusal → Result A Fault
+abbrev pub at_line : {A : Type 0} → ℕ → Result A Refusal → Result A Refused
 at_line line (Ok x) = Ok x
-at_line line (Err refusal) = refused_at line refusal
-
--- ---- orders to a presentation
-
--- the presentation of this name
-abbrev pub held_as : List ℕ → Option Held → Option Held
-held_as name None = None
-held_as name (Some held) = if bytes_eq held.name name then Some held else None
-
--- the text of an accepted order ends with an `ok` line
-abbrev pub told : ℕ → List ℕ → (Presentation → List ℕ) → Result Presentation Refusal → Result Accepted Refusal
-told line name text (Ok after) = Ok (record {
-  text = text after ++ ok_line line name (pos after.now);
-  session = record { held = Some (record { name = name; presentation = after }) };
-})
-told line name text (Err refusal) = Err refusal
-
--- to the presentation of this name, where it is held, within limits
-abbrev pub answer_by : Limits → ℕ → Order → Option Held → Result Accepted Refusal
-answer_by allowed line order None = Err NoPresentation
-answer_by allowed line order (Some held) =
-    told line held.name (λ after. answer_text formats held.presentation after order)
-    (outcome_within allowed formats held.presentation order)
-
--- of orders, advances and those for the outline are answered so far
-abbrev pub answer_within : Limits → Session → ℕ → List ℕ → Order → Result Accepted Refusal
-answer_within allowed session line name order =
-    if is_answered order then answer_by allowed line order (held_as name session.held) else Err NotYet
+at_line line (Err refusal) = Err (record { line = line; refusal = refusal })
 
 -- ---- single lines
 
--- by what the line says; presentations are not closed so far
-abbrev pub read_within : Limits → Session → ℕ → Result Read Refusal → Result Accepted Refusal
-read_within allowed session line (Err refusal) = Err refusal
-read_within allowed session line (Ok (To name order)) = answer_within allowed session line name order
-read_within allowed session line (Ok Blank) = Ok (record { text = []; session = session })
-read_within allowed session line (Ok (Load name)) = Err NotYet
-read_within allowed session line (Ok (Close name)) = Err NotYet
+-- what a line says; one that is too long is refused whatever it says
+abbrev pub read_of : List ℕ → Result Read Refusal
+read_of line = if is_short line then line_of line else Err LongLine
 
--- a line that is too long is refused whatever it says
-abbrev pub single_within : Limits → Session → Numbered → Answer
-single_within allowed session line =
-    at_line line.number
-    (if is_short line.text then read_within allowed session line.number (line_of line.text) else Err LongLine)
+-- a presentation that is held, or there is none
+abbrev pub held : Option Presentation → Result Presentation Refusal
+held None = Err NoPresentation
+held (Some presentation) = Ok presentation
+
+-- an order to the presentation of this name
+abbrev pub ordered_within : Limits → Session → ℕ → List ℕ → Order → Result Accepted Refusal
+ordered_within allowed session line name order = do
+  before ← held (presentation_of name session)
+  after ← outcome_within allowed formats before order
+  Ok (record {
+    text = answer_text formats before after order ++ ok_line line name (pos after.now);
+    session = with_state name after session;
+  })
+
+-- the presentation of this name is closed
+abbrev pub closed : Session → ℕ → List ℕ → Result Accepted Refusal
+closed session line name = do
+  before ← held (presentation_of name session)
+  Ok (record { text = closed_line line name; session = without name session })
+
+-- no text, and the same session
+abbrev pub silent : Session → Result Accepted Refusal
+silent session = Ok (record { text = []; session = session })
+
+-- by what the line says; one that opens a load is no single line, nor is one without an answer
+abbrev pub said_within : Limits → Session → ℕ → Read → Result Accepted Refusal
+said_within allowed session line (To name order) = ordered_within allowed session line name order
+said_within allowed session line (Close name) = closed session line name
+said_within allowed session line (Load name) = Err NotACommand
+said_within allowed session line Blank = silent session
 
 -- ---- loads
 
--- the name that a load line gives, and no node so far
-abbrev pub titled : Result Read Refusal → Result Titled Refusal
-titled (Ok (Load name)) = Ok (record { name = name; outline = no_lines })
-titled (Ok read) = Err NotACommand
-titled (Err refusal) = Err refusal
+-- what a load gives: the name, the document, and the version of its outline
+pub record Given : Type 0 where
+  pub name : List ℕ
+  pub document : Document
+  pub version : ℕ
 
--- a node line adds a node, or its fault stands at its number
-abbrev pub with_outline : List ℕ → Result Outline Refusal → Result Titled Refusal
-with_outline name (Ok outline) = Ok (record { name = name; outline = outline })
-with_outline name (Err refusal) = Err refusal
+-- the name that a load line gives
+abbrev pub name_of : Read → Result (List ℕ) Refusal
+name_of (Load name) = Ok name
+name_of _ = Err NotACommand
 
-abbrev pub node_within : Limits → Result Titled Fault → Numbered → Result Titled Fault
-node_within allowed (Ok so_far) line =
-    at_line line.number (with_outline so_far.name (line_within allowed so_far.outline line.text))
-node_within allowed (Err fault) line = Err fault
+-- node lines up to the first fault, which stands at its line
+abbrev pub outline_from : Limits → Outline → List Numbered → Result Outline Refused
+outline_from allowed outline [] = Ok outline
+outline_from allowed outline (line ∷ lines) = do
+  more ← at_line line.number (line_within allowed outline line.text)
+  outline_from allowed more lines
 
--- line by line, up to the first fault
-abbrev pub nodes_within : Limits → Result Titled Fault → List Numbered → Result Titled Fault
-nodes_within allowed so_far [] = so_far
-nodes_within allowed so_far (line ∷ lines) = nodes_within allowed (node_within allowed so_far line) lines
+-- what the lines of a load give, or their first fault; an outline without a node is faulty at the line that ends it
+abbrev pub given_within : Limits → LoadLines → ℕ → Result Given Refused
+given_within allowed lines end_line = do
+  name ← at_line lines.head.number (line_of lines.head.text >>= name_of)
+  outline ← outline_from allowed no_lines lines.nodes
+  document ← at_line end_line (ended outline)
+  Ok (record { name = name; document = document; version = version_of outline })
 
--- what the lines of a load say, before its end
-abbrev pub reading_within : Limits → LoadLines → Result Titled Fault
-reading_within allowed lines =
-    nodes_within allowed (at_line lines.head.number (titled (line_of lines.head.text))) lines.nodes
+-- a load opens its document at moment 0
+abbrev pub loaded_within : Limits → Session → ℕ → Given → Result Accepted Refusal
+loaded_within allowed session line given = do
+  free ← may_load given.name session
+  loaded ← opened_within allowed given.document
+  Ok (record {
+    text = load_text loaded ++ ok_line line given.name (pos loaded.now);
+    session = session ++ record { name = given.name; presentation = loaded } ∷ [];
+  })
 
--- a load opens its document; one document is held at a time, and of documents a par with one image is taken so far
-abbrev pub IsOpeningWithin : Limits → Session → ℕ → List ℕ → Document → Answer → Type 0
-IsOpeningWithin allowed session line name document answer =
-    (IsImage document × (session.held ≡ None)
-    × (answer ≡ at_line line (told line name load_text (opened_within allowed document))))
-    ⊎ (((IsImage document → session.held ≡ None → ⊥)) × (answer ≡ refused_at line NotYet))
+-- the canonical outline, in the version in which it came
+abbrev pub outline_in : Given → List ℕ
+outline_in given = if given.version == 2 then saved_text given.document else outline_text given.document.nodes
 
--- the document of a load with its name: an outline without a node is faulty at the line that ends it
-abbrev pub named : List ℕ → Result Document Refusal → Result (List ℕ × Document) Refusal
-named name (Ok document) = Ok (name, document)
-named name (Err refusal) = Err refusal
-
-abbrev pub finished : ℕ → Result Titled Fault → Result (List ℕ × Document) Fault
-finished end_line (Ok titled) = at_line end_line (named titled.name (ended titled.outline))
-finished end_line (Err fault) = Err fault
-
--- the document that the lines of a load give, or their first fault
-abbrev pub document_within : Limits → LoadLines → ℕ → Result (List ℕ × Document) Fault
-document_within allowed lines end_line = finished end_line (reading_within allowed lines)
-
-abbrev pub IsLoadWithin : Limits → Session → ℕ → Result (List ℕ × Document) Fault → Answer → Type 0
-IsLoadWithin allowed session line (Ok titled) answer = IsOpeningWithin allowed session line titled.0 titled.1 answer
-IsLoadWithin allowed session line (Err fault) answer = answer ≡ Err fault
+-- a load that is only read
+abbrev pub checked : Session → ℕ → Given → Result Accepted Refusal
+checked session line given = Ok (record { text = outline_in given ++ checked_line line given.name; session = session })
 
 -- ---- all orders
 
--- the answer to an order, if memory suffices
-abbrev pub IsAnswerWithin : Limits → Session → OrderLines → Answer → Type 0
-IsAnswerWithin allowed session (single line) answer = answer ≡ single_within allowed session line
-IsAnswerWithin allowed session (load lines None) answer = answer ≡ refused_at lines.head.number UnfinishedLoad
-IsAnswerWithin allowed session (load lines (Some end_line)) answer =
-    IsLoadWithin allowed session lines.head.number (document_within allowed lines end_line) answer
+-- within limits, what an order is answered in a session
+abbrev pub answer_within : Limits → Session → OrderLines → Answer
+answer_within allowed session (single line) =
+    at_line line.number (read_of line.text >>= said_within allowed session line.number)
+answer_within allowed session (load lines None) = at_line lines.head.number (Err UnfinishedLoad)
+answer_within allowed session (load lines (Some end_line)) =
+    given_within allowed lines end_line
+    >>= λ given. at_line lines.head.number (loaded_within allowed session lines.head.number given)
 
--- ---- the same within the limits that hold
+-- the same where loads are only read: other lines are answered only where they have no reading
+abbrev pub check_within : Limits → Session → OrderLines → Answer
+check_within allowed session (single line) = at_line line.number (read_of line.text >>= λ read. silent session)
+check_within allowed session (load lines None) = at_line lines.head.number (Err UnfinishedLoad)
+check_within allowed session (load lines (Some end_line)) =
+    given_within allowed lines end_line
+    >>= λ given. at_line lines.head.number (checked session lines.head.number given)
 
-abbrev pub answer_to : Session → ℕ → List ℕ → Order → Result Accepted Refusal
-answer_to session line name order = answer_within limits session line name order
+-- the answers within the limits that hold
+abbrev pub answer_of : Session → OrderLines → Answer
+answer_of session order = answer_within limits session order
 
-abbrev pub answer_to_read : Session → ℕ → Result Read Refusal → Result Accepted Refusal
-answer_to_read session line reading = read_within limits session line reading
-
-abbrev pub answer_to_line : Session → Numbered → Answer
-answer_to_line session line = single_within limits session line
-
-abbrev pub with_node : Result Titled Fault → Numbered → Result Titled Fault
-with_node so_far line = node_within limits so_far line
-
-abbrev pub reading_of : LoadLines → Result Titled Fault
-reading_of lines = reading_within limits lines
-
-abbrev pub IsOpening : Session → ℕ → List ℕ → Document → Answer → Type 0
-IsOpening session line name document answer = IsOpeningWithin limits session line name document answer
-
-abbrev pub document_of : LoadLines → ℕ → Result (List ℕ × Document) Fault
-document_of lines end_line = document_within limits lines end_line
-
-abbrev pub IsAnswer : Session → OrderLines → Answer → Type 0
-IsAnswer session order answer = IsAnswerWithin limits session order answer
+-- and those where loads are only read
+abbrev pub check_of : Session → OrderLines → Answer
+check_of session order = check_within limits session order

@@ -1,63 +1,219 @@
 -- What stands between two lines of a session.
-use Rattle.std.specs.Prelude.{ℤ, ◌+ℤ◌, Bool, true, false, not, ◌||◌, ◌∷◌, ◌≡◌, ◌⊎◌, ℕ, List, [], ◌<◌, ◌≤◌, ◌+◌, length, take, ◌++◌, Option, Some, None, Result, Ok, Err}
-use Rattle.std.specs.Io.KnownBytes.{Appends}
+use Rattle.std.specs.Prelude.{Bool, true, false, ◌||◌, ◌∷◌, ◌≡◌, ◌⊎◌, ℕ, List, [], map, min, ◌<◌, ◌≤◌, ◌+◌, length, take, nat_lt, ◌++◌, Option, Some, None, Result, Ok, Err, if◌then◌else◌}
+use Rattle.std.specs.Io.KnownBytes.{Appends, Consumes, IsAtEnd}
+use Rattle.smil_outside.specs.declared.line.TheConstants.{INPUT_BYTES}
+use Rattle.smil_outside.specs.Lines.{lines}
+use Rattle.smil_model.specs.declared.limits.TheConstants.{LINE_BYTES, NAME_BYTES}
+use Rattle.smil_model.specs.declared.order.Refusal.{Refusal}
 use Rattle.smil_model.specs.declared.order.Refusal.TheVariants.{Memory}
+use Rattle.smil_model.specs.document.Limits.{limits}
+use Rattle.smil_model.specs.shown.Orders.{Presentation}
+use Rattle.smil_model.specs.shown.Lines.{refusal_line}
 use Rattle.smil_outside.specs.declared.failed.Failed.{Failed}
-use Rattle.smil_model.specs.declared.limits.TheConstants.{LINE_BYTES}
+use Rattle.smil_outside.specs.Faults.{last_count}
+use Rattle.smil_grammar.specs.declared.read.Read.{Read}
+use Rattle.smil_grammar.specs.declared.read.Read.TheVariants.{Blank, Load, Close, To}
+use Rattle.smil_grammar.specs.Results.{◌>>=◌}
+use Rattle.smil_grammar.specs.Scripts.{line_of}
+use Rattle.smil_grammar.specs.Outlines.{Outline, no_lines, line_within, ended, version_of}
+use Rattle.smil_report.specs.Words.{checked_line}
+use Rattle.smil_words.specs.declared.mode.Mode.{Mode}
+use Rattle.smil_words.specs.declared.mode.Mode.TheVariants as mode
 use Rattle.smil_top.specs.declared.answer.Answer.{Answer as AnswerText}
+use Rattle.smil_top.specs.declared.counts.Counts.{Counts}
 use Rattle.smil_top.specs.declared.fault.Fault.{Fault}
-use Rattle.smil_top.specs.declared.load.Load.{Load}
+use Rattle.smil_top.specs.declared.given.Given.{Given as GivenDoc}
+use Rattle.smil_top.specs.declared.load.Load.{Load as LoadSoFar}
+use Rattle.smil_top.specs.declared.given.Titled.{Titled}
 use Rattle.smil_top.specs.declared.run.Run.{Run}
-use Rattle.smil_top.specs.declared.session.Session.{Session}
-use Rattle.smil_top.specs.Cut.{LoadLines, OrderLines, Cut, unended}
-use Rattle.smil_top.specs.Answers.{Accepted, reading_of, refused_at}
 use Rattle.smil_top.specs.declared.status.Status.{Status}
 use Rattle.smil_top.specs.declared.status.Status.TheVariants as status
-use Rattle.smil_model.specs.declared.order.Order.{Order}
-use Rattle.smil_model.specs.declared.order.Order.TheVariants as order
-use Rattle.smil_model.specs.shown.Lines.{refusal_line}
-use Rattle.smil_top.specs.Transcript.{Told, IsTranscript, is_memory}
+use Rattle.smil_top.specs.Cut.{Numbered, LoadLines, OrderLines, Cut, unended, orders}
+use Rattle.smil_top.specs.Session.{Session}
+use Rattle.smil_top.specs.Houses.{Presentations, Holds}
+use Rattle.smil_top.specs.Answers.{Accepted, Refused, Given, at_line, name_of, outline_from, said_within, silent, loaded_within, checked, outline_in, answer_of, check_of}
+use Rattle.smil_top.specs.Transcript.{Answering, MayAnswer, Told, IsTranscriptBy, is_memory}
+use Rattle.smil_top.specs.declared.generated.Summary.{Summary}
+use Rattle.smil_top.specs.Summary.{line_count, session_told, summary}
+use Rattle.smil_top.specs.Serving.{Runs, status_of, status_by}
+
+-- ---- answers
 
 -- the text of an answer
 abbrev pub text_of : AnswerText → List ℕ
-text_of answer = answer.changes ++ answer.last
-
--- the answer that was made of an order: its text and the session, or the refusal
-abbrev pub made : {E : Type 0} → Result (Unit {0}) E → AnswerText → Session → Result Accepted E
-made (Ok done) text session = Ok (record { text = text_of text; session = session })
-made (Err e) text session = Err e
+text_of answer = answer.told ++ answer.last
 
 -- no text
 abbrev pub no_text : AnswerText
-no_text = record { changes = []; last = [] }
+no_text = record { told = []; last = [] }
+
+-- a refusal and its line
+abbrev pub refused_by : Fault → Refused
+refused_by fault = record { line = fault.line; refusal = fault.refusal }
+
+-- a refusal stands at this line
+abbrev pub fault_at : ℕ → Result (Unit {0}) Refusal → Result (Unit {0}) Fault
+fault_at line (Ok done) = Ok done
+fault_at line (Err refusal) = Err (record { line = line; refusal = refusal })
+
+-- after a refusal its line stands in place of the text
+abbrev pub finished : Result (Unit {0}) Fault → AnswerText → AnswerText
+finished (Ok done) text = text
+finished (Err fault) text = record { told = []; last = refusal_line fault.line fault.refusal }
+
+-- what is told of an order
+abbrev pub said : Result (Unit {0}) Fault → AnswerText → List ℕ
+said answered text = text_of (finished answered text)
+
+-- what was made of an order is what is wanted: the text, in a house that holds the session after it; or the refusal, where
+-- all is kept, unless memory ran out
+abbrev pub Makes : Result (Unit {0}) Refusal → AnswerText → Presentations → Session → Result Accepted Refusal → Type 0
+Makes (Ok done) text house session wanted =
+    (after : Session) × Holds house after × (wanted ≡ Ok (record { text = text_of text; session = after }))
+Makes (Err refusal) text house session wanted = Holds house session × ((refusal ≡ Memory) ⊎ (wanted ≡ Err refusal))
+
+-- the same of a whole order
+abbrev pub MakesAnswer : Result (Unit {0}) Fault → AnswerText → Presentations → Session → Answering → OrderLines → Type 0
+MakesAnswer (Ok done) text house session answering order =
+    (after : Session) × Holds house after × (answering session order ≡ Ok (record { text = text_of text; session = after }))
+MakesAnswer (Err fault) text house session answering order =
+    Holds house session × MayAnswer answering session order (Err (refused_by fault))
+
+-- how orders are answered where loads are only read, and where they are opened too
+abbrev pub answering : Bool → Answering
+answering true = check_of
+answering false = answer_of
+
+-- what a line is answered, by what it says
+abbrev pub single_by : Bool → Session → ℕ → Read → Result Accepted Refusal
+single_by true session number read = silent session
+single_by false session number read = said_within limits session number read
+
+-- what a line is answered
+abbrev pub line_by : Bool → Session → ℕ → List ℕ → Result Accepted Refusal
+line_by checks session number line = line_of line >>= single_by checks session number
+
+-- what a load is answered
+abbrev pub load_by : Bool → Session → ℕ → Given → Result Accepted Refusal
+load_by true session number given = checked session number given
+load_by false session number given = loaded_within limits session number given
+
+-- a load that is only read was written, unless memory ran out
+abbrev pub Checks : Result (Unit {0}) Refusal → AnswerText → ℕ → Given → Type 0
+Checks (Ok done) text line given = text_of text ≡ outline_in given ++ checked_line line given.name
+Checks (Err refusal) text line given = refusal ≡ Memory
+
+-- ---- single lines
+
+-- a presentation's name is short
+abbrev pub HoldsTitle : Read → Type 0
+HoldsTitle (Load name) = length name ≤ NAME_BYTES
+HoldsTitle (Close name) = length name ≤ NAME_BYTES
+HoldsTitle (To name order) = length name ≤ NAME_BYTES
+HoldsTitle Blank = Unit {0}
+
+-- ---- loads
+
+-- the name and the outline with one more line
+abbrev pub with_node : List ℕ → Outline → Numbered → Result (List ℕ × Outline) Refused
+with_node name outline line = do
+  more ← at_line line.number (line_within limits outline line.text)
+  Ok (name, more)
+
+-- what the lines of a load say before its end
+abbrev pub reading_of : LoadLines → Result (List ℕ × Outline) Refused
+reading_of lines = do
+  name ← at_line lines.head.number (line_of lines.head.text >>= name_of)
+  outline ← outline_from limits no_lines lines.nodes
+  Ok (name, outline)
+
+-- what was read is this
+abbrev pub Reads : Result Titled Fault → Result (List ℕ × Outline) Refused → Type 0
+Reads (Ok titled) wanted = wanted ≡ Ok (titled.name, titled.outline)
+Reads (Err fault) wanted = wanted ≡ Err (refused_by fault)
 
 -- a load that was read so far, or for which memory ran out
-pub record IsRead (load : Load) (lines : LoadLines) : Type 0 where
+pub record IsRead (load : LoadSoFar) (lines : LoadLines) : Type 0 where
   pub line : load.line ≡ lines.head.number
-  pub reading : (load.reading ≡ reading_of lines) ⊎ (load.reading ≡ refused_at lines.head.number Memory)
+  pub reading :
+      Reads load.reading (reading_of lines)
+      ⊎ (load.reading ≡ Err (record { line = lines.head.number; refusal = Memory }))
+
+-- the name of a load line, before the first node
+abbrev pub ReadsTitle : Result Titled Refusal → List ℕ → Type 0
+ReadsTitle (Ok titled) head = (line_of head >>= name_of ≡ Ok titled.name) × (titled.outline ≡ no_lines)
+ReadsTitle (Err refusal) head = (refusal ≡ Memory) ⊎ (line_of head >>= name_of ≡ Err refusal)
+
+-- what a load gives
+abbrev pub given_of : GivenDoc → Given
+given_of given = record { name = given.name; document = given.doc; version = given.version }
+
+-- what a load gives is this
+abbrev pub Gives : Result GivenDoc Fault → Result Given Refused → Type 0
+Gives (Ok given) wanted = wanted ≡ Ok (given_of given)
+Gives (Err fault) wanted = wanted ≡ Err (refused_by fault)
+
+-- an outline that ends gives its document, or is faulty at the line that ends it
+abbrev pub given_at : List ℕ → Outline → ℕ → Result Given Refused
+given_at name outline end_line = do
+  document ← at_line end_line (ended outline)
+  Ok (record { name = name; document = document; version = version_of outline })
 
 -- the load that hasn't ended
-abbrev pub IsOpen : Option Load → Option LoadLines → Type 0
+abbrev pub IsOpen : Option LoadSoFar → Option LoadLines → Type 0
 IsOpen None None = Unit {0}
 IsOpen (Some load) (Some lines) = IsRead load lines
 IsOpen _ _ = ⊥
 
--- the run's session, and whether orders were refused, behind a text
-abbrev pub told_by : Run → List ℕ → Told
-told_by run text = record { text = text; session = run.session; refused = run.refused; memory = run.memory }
+-- ---- counts
 
--- these orders were answered with this text
-abbrev pub IsTelling : Run → List OrderLines → List ℕ → Type 0
-IsTelling run whole text = IsTranscript whole (told_by run text)
+-- before the first order
+abbrev pub uncounted : Counts
+uncounted = record { orders = 0; refused = 0; lines = 0; memory = false }
 
--- a session whose whole orders were answered with this text
-pub record IsRunning (run : Run) (cut : Cut) (text : List ℕ) : Type 0 where
-  pub transcript : IsTelling run cut.whole text
+-- one more of what is counted, up to the last count
+abbrev pub counted_on : ℕ → ℕ → ℕ
+counted_on count more = min (count + more) last_count
+
+-- with one more order, whose answer has so many lines
+abbrev pub counted : Result (Unit {0}) Fault → ℕ → Counts → Counts
+counted (Ok done) lines counts = record counts {
+  orders = counted_on counts.orders 1;
+  lines = counted_on counts.lines lines;
+}
+counted (Err fault) lines counts = record counts {
+  orders = counted_on counts.orders 1;
+  lines = counted_on counts.lines lines;
+  refused = if is_memory fault.refusal then counts.refused else counted_on counts.refused 1;
+  memory = counts.memory || is_memory fault.refusal;
+}
+
+-- what is counted of these orders, told so
+pub record AreCounted (counts : Counts) (orders : List OrderLines) (told : Told) : Type 0 where
+  pub orders_are : counts.orders ≡ min (length orders) last_count
+  pub refused_is : counts.refused ≡ min told.refused last_count
+  pub lines_are : counts.lines ≡ min (line_count told.text) last_count
+  pub memory_is : counts.memory ≡ told.memory
+
+-- no count stands at its end
+pub record AreExact (counts : Counts) : Type 0 where
+  pub orders_are : counts.orders < last_count
+  pub refused_is : counts.refused < last_count
+  pub lines_are : counts.lines < last_count
+
+-- ---- a run
+
+-- these orders were answered, and this was told
+pub record Tells (checks : Bool) (run : Run) (orders : List OrderLines) (told : Told) : Type 0 where
+  pub checks_is : run.session.checks ≡ checks
+  pub transcript : IsTranscriptBy (answering checks) orders told
+  pub holds : Holds run.session.house told.session
+  pub counted : AreCounted run.counts orders told
+
+-- a session whose whole orders were answered, and this was told
+pub record IsRunning (checks : Bool) (run : Run) (cut : Cut) (told : Told) : Type 0 where
+  pub tells : Tells checks run cut.whole told
   pub load : IsOpen run.load cut.«open»
-
--- the input has ended, and a load that hasn't is answered too
-abbrev pub IsEnded : Run → Cut → List ℕ → Type 0
-IsEnded run cut text = IsTelling run (cut.whole ++ unended cut.«open») text
 
 -- the line that a reader shows, or one that is too long to be shown
 abbrev pub IsText : Option (List ℕ) → List ℕ → Type 0
@@ -76,47 +232,66 @@ abbrev pub Writes : Result (Unit {0}) Failed → Option (List ℕ) → Option (L
 Writes (Ok done) before after room left text = WritesAll before after room left text
 Writes (Err e) before after room left text = WritesPart before after room text
 
--- the text of an answer
-abbrev pub said : Result (Unit {0}) Fault → AnswerText → List ℕ
-said (Ok done) text = text_of text
-said (Err fault) text = refusal_line fault.line fault.refusal
-
--- whether an order was refused is kept in mind
-abbrev pub noted : Result (Unit {0}) Fault → Run → Run
-noted (Ok done) run = run
-noted (Err fault) run = record run {
-  refused = run.refused || not (is_memory fault.refusal);
-  memory = run.memory || is_memory fault.refusal;
-}
-
--- behind this text another one was written, or a part of it, which answers the orders that are whole now
-abbrev pub Answers : Result (Unit {0}) Failed → Run → Cut → List ℕ → Option (List ℕ) → Option (List ℕ) → ℕ → ℕ → Type 0
-Answers result run cut told before after room left =
-    (text : List ℕ) × Writes result before after room left text × IsRunning run cut (told ++ text)
-
--- the same for one order more
-abbrev pub AnswersOrder : Result (Unit {0}) Failed → Run → List OrderLines → OrderLines → List ℕ → Option (List ℕ) → Option (List ℕ) → ℕ → ℕ → Type 0
-AnswersOrder result run whole order told before after room left =
-    (text : List ℕ) × Writes result before after room left text × IsTelling run (whole ++ order ∷ []) (told ++ text)
-
--- how a call that has answered a whole input ends
-abbrev pub status_of : Bool → Bool → Status
-status_of refused true = status.Memory
-status_of true false = status.Refused
-status_of false false = status.Clean
-
--- the input has ended: the load that hasn't is answered, and the status says how, or the write failed
-pub record Ends (ended : Status) (cut : Cut) (told : List ℕ) (before after : Option (List ℕ)) (room left : ℕ) : Type 0 where
+-- more was told, and it or a part of it was written
+pub record Goes (result : Result (Unit {0}) Failed) (told more : Told) (before after : Option (List ℕ)) (room left : ℕ) : Type 0 where
   pub text : List ℕ
-  pub end_told : Told
-  pub transcript : IsTranscript (cut.whole ++ unended cut.«open») end_told
-  pub same : end_told.text ≡ told ++ text
-  pub written :
-      ((ended ≡ status_of end_told.refused end_told.memory) × WritesAll before after room left text)
-      ⊎ ((ended ≡ status.WriteFault) × WritesPart before after room text)
+  pub text_is : more.text ≡ told.text ++ text
+  pub writes : Writes result before after room left text
 
--- the moment after an accepted order
-abbrev pub moment_after : ℤ → Order → ℤ
-moment_after now (order.Advance by) = now +ℤ by
-moment_after now (order.Seek to) = to
-moment_after now _ = now
+-- behind what was told more is, which answers the orders that are whole now
+pub record Answers (checks : Bool) (result : Result (Unit {0}) Failed) (run : Run) (cut : Cut) (told : Told) (before after : Option (List ℕ)) (room left : ℕ) : Type 0 where
+  pub more : Told
+  pub goes : Goes result told more before after room left
+  pub running : IsRunning checks run cut more
+
+-- the same for one order more, or for the end of the input
+pub record AnswersOrders (checks : Bool) (result : Result (Unit {0}) Failed) (run : Run) (orders : List OrderLines) (told : Told) (before after : Option (List ℕ)) (room left : ℕ) : Type 0 where
+  pub more : Told
+  pub goes : Goes result told more before after room left
+  pub tells : Tells checks run orders more
+
+-- how the call ends
+abbrev pub ended_by : Result (Unit {0}) Failed → Told → Status
+ended_by (Ok done) told = status_of told
+ended_by (Err e) told = status.WriteFault
+
+-- the input has ended, all of it is answered, and the status says how; or the write failed
+pub record Ends (checks : Bool) (ended : Status) (run : Run) (cut : Cut) (told : Told) (before after : Option (List ℕ)) (room left : ℕ) : Type 0 where
+  pub result : Result (Unit {0}) Failed
+  pub answers : AnswersOrders checks result run (cut.whole ++ unended cut.«open») told before after room left
+  pub ended_is : ended ≡ ended_by result answers.more
+
+-- ---- a whole call
+
+-- what is asked for where loads are only read or are opened too
+abbrev pub asked_by : Bool → Mode
+asked_by true = mode.Check
+asked_by false = mode.Run
+
+-- the input was read to its end, and all of it was answered
+pub record IsAll (checks : Bool) (ended : Status) (run : Run) (came text : List ℕ) : Type 0 where
+  pub told : Told
+  pub tells : Tells checks run (orders (lines came)) told
+  pub text_is : text ≡ told.text
+  pub ended_is : ended ≡ status_of told
+  pub within : length came ≤ INPUT_BYTES
+
+-- how a run ends that has begun
+abbrev pub RunsBy : Bool → Status → Run → Option (List ℕ) → List ℕ → List ℕ → ℕ → Type 0
+RunsBy checks status.Clean run rest came text room = IsAtEnd rest × IsAll checks status.Clean run came text
+RunsBy checks status.Refused run rest came text room = IsAtEnd rest × IsAll checks status.Refused run came text
+RunsBy checks status.Memory run rest came text room = IsAtEnd rest × IsAll checks status.Memory run came text
+RunsBy checks ended run rest came text room = Runs (answering checks) ended rest came text room
+
+-- what a run that has begun read and wrote
+pub record Ran (checks : Bool) (ended : Status) (run : Run) (before after taken_before taken_after : Option (List ℕ)) (room : ℕ) : Type 0 where
+  pub came : List ℕ
+  pub text : List ℕ
+  pub read : Consumes before after came
+  pub written : Appends taken_before taken_after text
+  pub runs : RunsBy checks ended run after came text room
+
+-- the lines that tell of a session
+pub record IsSummary (number : ℕ) (summed : Summary) : Type 0 where
+  pub text_is : summed.text ≡ summary number
+  pub ended_is : summed.status ≡ status_by (nat_lt 0 (session_told number).refused) false

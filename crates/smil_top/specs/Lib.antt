@@ -1,6 +1,10 @@
 pub mod Cut
+pub mod Session
 pub mod Answers
 pub mod Transcript
+pub mod Summary
 pub mod Words
 pub mod Serving
+pub mod Houses
 pub mod Kept
+pub mod Laws

@@ -1,27 +1,46 @@
 -- What a call of `serve` has read and written, by its status.
-use Rattle.std.specs.Prelude.{◌≡◌, ◌⊎◌, ℕ, ◌<◌, ◌≤◌, Bool, true, false, List, [], ◌++◌, length, take, Option}
+use Rattle.std.specs.Prelude.{◌≡◌, ◌⊎◌, ℕ, ◌<◌, ◌≤◌, Bool, true, false, nat_lt, List, [], ◌++◌, length, take, Option, Some, None}
 use Rattle.std.specs.Io.KnownBytes.{Appends, Consumes, IsAtEnd}
 use Rattle.smil_outside.specs.declared.line.TheConstants.{INPUT_BYTES}
 use Rattle.smil_outside.specs.Lines.{lines, whole_lines}
+use Rattle.smil_words.specs.declared.mode.Mode.{Mode}
+use Rattle.smil_words.specs.declared.mode.Mode.TheVariants as mode
 use Rattle.smil_top.specs.declared.status.Status.{Status}
 use Rattle.smil_top.specs.declared.status.Status.TheVariants as status
 use Rattle.smil_top.specs.Cut.{OrderLines, orders, whole_orders}
-use Rattle.smil_top.specs.Transcript.{Told, IsTranscript}
+use Rattle.smil_top.specs.Answers.{answer_of, check_of}
+use Rattle.smil_top.specs.Transcript.{Answering, Told, IsTranscriptBy}
+use Rattle.smil_top.specs.Summary.{session_told, summary}
 use Rattle.smil_top.specs.Words.{usage_line}
+
+-- how a call ends in which orders were refused for faults or not, and one since memory ran out or not
+abbrev pub status_by : Bool → Bool → Status
+status_by refused true = status.Memory
+status_by true false = status.Refused
+status_by false false = status.Clean
+
+-- how a call ends that has told all
+abbrev pub status_of : Told → Status
+status_of told = status_by (nat_lt 0 told.refused) told.memory
+
+-- ---- a session is read
 
 -- the bytes of an input that count: what stands past the limit is part of no line
 abbrev pub counted : List ℕ → List ℕ
 counted came = take INPUT_BYTES came
 
--- the whole transcript of a whole input, in which orders were refused or not, for faults and since memory ran out
-abbrev pub IsWhole : List ℕ → List ℕ → Bool → Bool → Type 0
-IsWhole came text refused memory =
-    (told : Told) × IsTranscript (orders (lines came)) told
-    × (text ≡ told.text) × (refused ≡ told.refused) × (memory ≡ told.memory) × (length came ≤ INPUT_BYTES)
+-- the whole transcript of a whole input, with which a call ends so
+pub record IsWhole (answering : Answering) (ended : Status) (came text : List ℕ) : Type 0 where
+  pub told : Told
+  pub transcript : IsTranscriptBy answering (orders (lines came)) told
+  pub text_is : text ≡ told.text
+  pub ended_is : ended ≡ status_of told
+  pub within : length came ≤ INPUT_BYTES
 
 -- the transcript of the orders that are whole in the whole lines of what counts
-abbrev pub IsCutShort : List ℕ → List ℕ → Type 0
-IsCutShort came text = (told : Told) × IsTranscript (whole_orders (whole_lines (counted came))) told × (text ≡ told.text)
+abbrev pub IsCutShort : Answering → List ℕ → List ℕ → Type 0
+IsCutShort answering came text =
+    (told : Told) × IsTranscriptBy answering (whole_orders (whole_lines (counted came))) told × (text ≡ told.text)
 
 -- a part of the text from its front, and not all of it; the sink had no sure room for all of it
 pub record IsPart (text whole : List ℕ) (room : ℕ) : Type 0 where
@@ -37,36 +56,59 @@ AreFirst first rest came =
     ⊎ (IsAtEnd rest × (length came ≤ INPUT_BYTES) × ((later : List OrderLines) × (orders (lines came) ≡ first ++ later)))
 
 -- a part of the transcript of the orders that were read first
-abbrev pub IsBroken : Option (List ℕ) → List ℕ → List ℕ → ℕ → Type 0
-IsBroken rest came text room =
-    (first : List OrderLines) × (told : Told) × AreFirst first rest came × IsTranscript first told × IsPart text told.text room
+abbrev pub IsBroken : Answering → Option (List ℕ) → List ℕ → List ℕ → ℕ → Type 0
+IsBroken answering rest came text room =
+    (first : List OrderLines) × (told : Told) × AreFirst first rest came × IsTranscriptBy answering first told
+    × IsPart text told.text room
 
--- a session was read: these bytes came, and this text was written to a sink with so much sure room
-abbrev pub Runs : Status → Option (List ℕ) → List ℕ → List ℕ → ℕ → Type 0
-Runs status.Clean rest came text room = IsAtEnd rest × IsWhole came text false false
-Runs status.Refused rest came text room = IsAtEnd rest × IsWhole came text true false
-Runs status.Words rest came text room = ⊥
-Runs status.ReadFault rest came text room = (length came ≤ INPUT_BYTES) × IsCutShort came text
-Runs status.WriteFault rest came text room = IsBroken rest came text room
-Runs status.Memory rest came text room =
-    ((came ≡ []) × (text ≡ [])) ⊎ (IsAtEnd rest × ((refused : Bool) × IsWhole came text refused true))
-Runs status.InputTooLong rest came text room = (INPUT_BYTES < length came) × IsCutShort came text
+-- these bytes came, and this text was written to a sink with so much sure room
+abbrev pub Runs : Answering → Status → Option (List ℕ) → List ℕ → List ℕ → ℕ → Type 0
+Runs answering status.Clean rest came text room = IsAtEnd rest × IsWhole answering status.Clean came text
+Runs answering status.Refused rest came text room = IsAtEnd rest × IsWhole answering status.Refused came text
+Runs answering status.Words rest came text room = ⊥
+Runs answering status.ReadFault rest came text room = (length came ≤ INPUT_BYTES) × IsCutShort answering came text
+Runs answering status.WriteFault rest came text room = IsBroken answering rest came text room
+Runs answering status.Memory rest came text room =
+    ((came ≡ []) × (text ≡ [])) ⊎ (IsAtEnd rest × IsWhole answering status.Memory came text)
+Runs answering status.InputTooLong rest came text room = (INPUT_BYTES < length came) × IsCutShort answering came text
 
--- the words are faulty: nothing is read, and the usage line is written
-abbrev pub Explains : Status → List ℕ → List ℕ → ℕ → Type 0
-Explains status.Words came text room = (came ≡ []) × (text ≡ usage_line)
-Explains status.WriteFault came text room = (came ≡ []) × IsPart text usage_line room
-Explains _ came text room = ⊥
+-- ---- nothing is read
 
--- by whether the words are `run`
-abbrev pub ServesBy : Bool → Status → Option (List ℕ) → List ℕ → List ℕ → ℕ → Type 0
-ServesBy true status rest came text room = Runs status rest came text room
-ServesBy false status rest came text room = Explains status came text room
+-- the session of a number is told of; where memory ran out in it, nothing is
+abbrev pub Generates : ℕ → Status → List ℕ → ℕ → Type 0
+Generates number status.Clean text room = (text ≡ summary number) × ((session_told number).refused ≡ 0)
+Generates number status.Refused text room = (text ≡ summary number) × (0 < (session_told number).refused)
+Generates number status.Words text room = ⊥
+Generates number status.ReadFault text room = ⊥
+Generates number status.WriteFault text room = IsPart text (summary number) room
+Generates number status.Memory text room = text ≡ []
+Generates number status.InputTooLong text room = ⊥
+
+-- the words are faulty, and the usage line is written
+abbrev pub Explains : Status → List ℕ → ℕ → Type 0
+Explains status.Words text room = text ≡ usage_line
+Explains status.WriteFault text room = IsPart text usage_line room
+Explains _ text room = ⊥
+
+-- ---- by what the words ask for
+
+-- by the words: the session is run or checked, or that of a number is told of, or the words are faulty
+abbrev pub ServesBy : Option Mode → Status → Option (List ℕ) → List ℕ → List ℕ → ℕ → Type 0
+ServesBy (Some mode.Run) status rest came text room = Runs answer_of status rest came text room
+ServesBy (Some mode.Check) status rest came text room = Runs check_of status rest came text room
+ServesBy (Some (mode.Gen number)) status rest came text room = (came ≡ []) × Generates number status text room
+ServesBy None status rest came text room = (came ≡ []) × Explains status text room
+
+-- whether they ask for the session that is read
+abbrev pub reads : Option Mode → Bool
+reads (Some mode.Run) = true
+reads (Some mode.Check) = true
+reads _ = false
 
 -- what came from the source and went to the sink, where they tell their bytes
-pub record Serves (runs : Bool) (status : Status) (before after taken_before taken_after : Option (List ℕ)) (room : ℕ) : Type 0 where
+pub record Serves (asked : Option Mode) (status : Status) (before after taken_before taken_after : Option (List ℕ)) (room : ℕ) : Type 0 where
   pub came : List ℕ
   pub text : List ℕ
   pub read : Consumes before after came
   pub written : Appends taken_before taken_after text
-  pub served : ServesBy runs status after came text room
+  pub served : ServesBy asked status after came text room

@@ -1,12 +1,7 @@
 -- The words that the program is called with.
-use Rattle.std.specs.Prelude.{ℕ, Bool, List, [], ◌∷◌, codes, bytes_eq, false}
+use Rattle.std.specs.Prelude.{ℕ, Bool, true, false, List, codes}
 use Rattle.smil_top.specs.declared.status.Status.{Status}
 use Rattle.smil_top.specs.declared.status.Status.TheVariants as status
-
--- the one word `run`
-abbrev pub is_run : List (List ℕ) → Bool
-is_run (word ∷ []) = bytes_eq word (codes "run")
-is_run _ = false
 
 -- what faulty words are answered
 abbrev pub usage_line : List ℕ
@@ -21,3 +16,9 @@ exit_number_of status.ReadFault = 3
 exit_number_of status.WriteFault = 4
 exit_number_of status.Memory = 5
 exit_number_of status.InputTooLong = 6
+
+-- the whole input was answered, and no order was refused since memory ran out
+abbrev pub is_told : Status → Bool
+is_told status.Clean = true
+is_told status.Refused = true
+is_told _ = false

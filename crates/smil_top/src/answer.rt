@@ -1,21 +1,21 @@
 //! The text of an answer, made whole before it is written.
 
-ghost use Rattle.std.specs.Prelude.{◌≡◌, ◌≤◌, OnErr};
-ghost use Rattle.smil_outside.specs.Faults.{HasRisen};
-ghost use Rattle.smil_model.specs.shown.Lines.{refusal_line};
-ghost use Rattle.smil_top.specs.Kept.{text_of, no_text, Writes};
+ghost use Rattle.std.specs.Prelude.{◌≡◌, ◌≤◌, min, OnErr};
+ghost use Rattle.smil_outside.specs.Faults.{HasRisen, last_count};
+ghost use Rattle.smil_top.specs.Kept.{Writes, finished, no_text, text_of};
+ghost use Rattle.smil_top.specs.Summary.{line_count};
 
 use super::fault::Fault;
+use super::last_line::LastLine;
 use smil_model::Bytes;
 use smil_outside::{Failed, Sink, write_all};
-use smil_report::put_refusal;
 use std::alloc::Global;
 
-/// The answer of an accepted order: its changes, and its last line, which is made before them.
+/// The answer to an order: what it tells, and its last line.
 #[derive(Drop)]
 pub(crate) struct Answer {
-    pub changes: Bytes,
-    pub last: Bytes,
+    pub told: Bytes,
+    pub last: LastLine,
 }
 
 impl Answer {
@@ -24,17 +24,35 @@ impl Answer {
         ensures { result ≡ no_text }
     {
         Answer {
-            changes: Bytes::new(alloc),
-            last: Bytes::new(alloc),
+            told: Bytes::new(alloc),
+            last: LastLine::none(),
         }
     }
 
-    /// Drops the text, and keeps its memory.
+    /// Lets go of the text, and keeps its memory.
     pub fn clear(&mut self)
         ensures { self.new ≡ no_text }
     {
-        self.changes.cut_back(0);
-        self.last.cut_back(0);
+        self.told.cut_back(0);
+        self.last = LastLine::none();
+    }
+
+    /// Where the order was refused, puts the line of the refusal in place of the text.
+    pub fn finish(&mut self, answered: &Result<(), Fault>)
+        ensures { self.new ≡ finished answered.now self.old }
+    {
+        if let Err(fault) = answered {
+            self.told.cut_back(0);
+            self.last = LastLine::refused(fault.line, &fault.refusal);
+        }
+    }
+
+    /// How many lines the text has, up to the greatest number.
+    pub fn lines(&self) -> u64
+        ensures { result ≡ min (line_count (text_of self.now)) last_count }
+    {
+        let told = line_feeds(self.told.slice());
+        told.saturating_add(line_feeds(self.last.slice()))
     }
 
     /// Writes the text. After a fault the sink has taken a part from the front of it, and not all.
@@ -43,20 +61,14 @@ impl Answer {
         ensures cause { OnErr result (HasRisen (K.faults sink.old) (K.faults sink.new)) }
         ensures count { K.faults sink.old ≤ K.faults sink.new }
     {
-        write_all(sink, self.changes.slice())?;
+        write_all(sink, self.told.slice())?;
         write_all(sink, self.last.slice())
     }
 }
 
-/// Writes the line of a refused order, for which no memory is taken. After a fault the sink has taken a part
-/// from the front of it, and not all.
-pub(crate) fn write_refusal<K: Sink>(sink: &mut K, fault: &Fault) -> Result<(), Failed>
-    ensures writes { Writes result (K.taken sink.old) (K.taken sink.new) (K.sure_room sink.old) (K.sure_room sink.new)
-        (refusal_line fault.now.line fault.now.refusal) }
-    ensures cause { OnErr result (HasRisen (K.faults sink.old) (K.faults sink.new)) }
-    ensures count { K.faults sink.old ≤ K.faults sink.new }
+// How many line feeds stand in a text.
+fn line_feeds(text: &[u8]) -> u64
+    ensures { result ≡ line_count text.now }
 {
-    let mut buf = [0; 64];
-    let len = put_refusal(&mut buf, fault.line, &fault.refusal);
-    write_all(sink, &buf[..len])
+    text.iter().filter(|byte| **byte == b'\n').count() as u64
 }

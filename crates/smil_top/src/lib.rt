@@ -2,8 +2,15 @@
 #![tactic(auto)]
 
 mod answer;
+mod counts;
 mod fault;
+mod generated;
+mod given;
+mod last_line;
+pub mod laws;
 mod load;
+mod nowhere;
+mod reading;
 mod run;
 mod session;
 mod status;

@@ -1,27 +1,20 @@
 //! A load whose lines are being read.
 
-ghost use Rattle.std.specs.Prelude.{◌≡◌, ◌⊎◌, ◌≤◌, ℕ, List, [], ◌∷◌, ◌++◌, length, option_map, Ok, IfOk};
+ghost use Rattle.std.specs.Prelude.{◌≡◌, ◌⊎◌, ◌≤◌, ℕ, List, [], ◌∷◌, ◌++◌, length, option_map, Ok, Err, IfOk};
+ghost use Rattle.smil_model.specs.document.Limits.{limits};
 ghost use Rattle.smil_model.specs.document.Valid.{IsValid};
-ghost use Rattle.smil_grammar.specs.Scripts.{line_of};
-ghost use Rattle.smil_script.specs.Gives.{GivesRead};
 ghost use Rattle.smil_top.specs.Cut.{LoadLines};
-ghost use Rattle.smil_top.specs.Answers.{titled, with_node, document_of, refused_at};
-ghost use Rattle.smil_top.specs.Kept.{IsRead, IsText};
+ghost use Rattle.smil_top.specs.Answers.{given_within};
+ghost use Rattle.smil_top.specs.Kept.{Gives, IsRead, IsText, Reads, ReadsTitle, given_at, with_node};
 
 use super::fault::Fault;
+use super::given::{Given, Titled};
 use smil_grammar::Read;
-use smil_model::{Bytes, Doc, Refusal};
+use smil_model::Refusal;
 use smil_outline::Builder;
 use smil_outside::LINE_BYTES;
 use smil_script::read_line;
 use std::alloc::Global;
-
-/// A presentation's name, and its outline so far.
-#[derive(Drop)]
-pub(crate) struct Titled {
-    pub name: Bytes,
-    pub outline: Builder,
-}
 
 /// A load: the number of its first line, and what its lines say so far, or their first fault.
 #[derive(Drop)]
@@ -36,7 +29,10 @@ impl Load {
         requires { length head.now ≤ LINE_BYTES }
         ensures { IsRead result (record { head = record { number = line; text = head.now }; nodes = [] }) }
     {
-        let reading = read_title(alloc, head).map_err(|refusal| Fault { line, refusal });
+        let reading = match read_title(alloc, head) {
+            Ok(titled) => Ok(titled),
+            Err(refusal) => Err(Fault { line, refusal }),
+        };
         Load { line, reading }
     }
 
@@ -56,24 +52,17 @@ impl Load {
         }
     }
 
-    /// The name and the document, which is valid, or the first fault, at the end of the load.
-    pub fn finish(self, end_line: u32) -> Result<(Bytes, Doc), Fault>
-        ensures document { (lines : LoadLines) → IsRead self lines
-            → (result ≡ document_of lines end_line) ⊎ (result ≡ refused_at lines.head.number Refusal.Memory) }
-        ensures valid { IfOk result (λ titled. IsValid titled.1) }
+    /// What the load gives, or the first fault, at its end.
+    pub fn finish(self, end_line: u32) -> Result<Given, Fault>
+        ensures valid { IfOk result (λ given. IsValid given.doc) }
+        ensures given { (lines : LoadLines) → IsRead self lines
+            → Gives result (given_within limits lines end_line)
+            ⊎ (result ≡ Err (record { line = lines.head.number; refusal = Refusal.Memory })) }
     {
         let first = self.line;
-        let Titled { name, outline } = self.reading?;
-        match outline.finish() {
-            Ok(doc) => Ok((name, doc)),
-            Err(Refusal::Memory) => Err(Fault {
-                line: first,
-                refusal: Refusal::Memory,
-            }),
-            Err(refusal) => Err(Fault {
-                line: end_line,
-                refusal,
-            }),
+        match self.reading {
+            Ok(titled) => end_outline(titled, first, end_line),
+            Err(fault) => Err(fault),
         }
     }
 }
@@ -81,18 +70,19 @@ impl Load {
 // The name that a load line gives, and an outline without a node.
 fn read_title(alloc: Global, head: &[u8]) -> Result<Titled, Refusal>
     requires { length head.now ≤ LINE_BYTES }
-    ensures { GivesRead result (titled (line_of head.now)) }
+    ensures { ReadsTitle result head.now }
 {
-    match read_line(alloc, head)? {
-        Read::Load { name } => Ok(Titled {
-            name,
-            outline: Builder::new(alloc)?,
-        }),
-        _ => Err(Refusal::NotACommand),
+    match read_line(alloc, head) {
+        Ok(Read::Load { name }) => match Builder::new(alloc) {
+            Ok(outline) => Ok(Titled { name, outline }),
+            Err(_) => Err(Refusal::Memory),
+        },
+        Ok(_) => Err(Refusal::NotACommand),
+        Err(refusal) => Err(refusal),
     }
 }
 
-// One more node line. Its fault stands at its number, and a lack of memory at the load's first line.
+// One more node line. Its fault stands at its number, and want of memory at the load's first line.
 fn push_node(
     mut so_far: Titled,
     first: u32,
@@ -100,7 +90,8 @@ fn push_node(
     text: Option<&[u8]>,
 ) -> Result<Titled, Fault>
     ensures { (node : List ℕ) → IsText (option_map (λ t. t.now) text.entry) node
-        → (result ≡ with_node (Ok so_far) (record { number = line; text = node })) ⊎ (result ≡ refused_at first Refusal.Memory) }
+        → Reads result (with_node so_far.name so_far.outline (record { number = line; text = node }))
+        ⊎ (result ≡ Err (record { line = first; refusal = Refusal.Memory })) }
 {
     let pushed = match text {
         Some(text) => so_far.outline.push(text),
@@ -113,5 +104,26 @@ fn push_node(
             refusal: Refusal::Memory,
         }),
         Err(refusal) => Err(Fault { line, refusal }),
+    }
+}
+
+// The document of an outline whose load begins and ends at these lines.
+fn end_outline(titled: Titled, first: u32, end_line: u32) -> Result<Given, Fault>
+    ensures valid { IfOk result (λ given. IsValid given.doc) }
+    ensures given { Gives result (given_at titled.name titled.outline end_line)
+        ⊎ (result ≡ Err (record { line = first; refusal = Refusal.Memory })) }
+{
+    let Titled { name, outline } = titled;
+    let version = outline.version();
+    match outline.finish() {
+        Ok(doc) => Ok(Given { name, doc, version }),
+        Err(Refusal::Memory) => Err(Fault {
+            line: first,
+            refusal: Refusal::Memory,
+        }),
+        Err(refusal) => Err(Fault {
+            line: end_line,
+            refusal,
+        }),
     }
 }

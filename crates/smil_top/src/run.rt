@@ -1,45 +1,45 @@
 //! A session, line by line.
 
-ghost use Rattle.std.specs.Prelude.{◌≡◌, ◌≤◌, ℕ, suc, List, [], ◌++◌, false, true, length, option_map, None, Some, IfSome, OnErr};
-ghost use Rattle.smil_outside.specs.Faults.{HasRisen};
-ghost use Rattle.smil_top.specs.Cut.{Cut, LoadLines, OrderLines, load as load_order, with_line, cut_of};
-ghost use Rattle.smil_top.specs.Transcript.{MayAnswer};
-ghost use Rattle.smil_top.specs.Kept.{IsRunning, IsEnded, IsTelling, IsRead, IsText, Writes, Answers, AnswersOrder, made, said, noted, status_of, no_text};
+ghost use Rattle.std.specs.Prelude.{◌≡◌, ◌≤◌, ℕ, Bool, suc, List, ◌∷◌, ◌++◌, [], length, min, option_map, None, Some, IfOk, IfSome, OnErr};
+ghost use Rattle.smil_outside.specs.Faults.{HasRisen, last_count};
+ghost use Rattle.smil_top.specs.Cut.{Cut, LoadLines, OrderLines, single, load as load_order, cut_of, unended, with_line};
+ghost use Rattle.smil_top.specs.Session.{Session as Presentations};
+ghost use Rattle.smil_top.specs.Summary.{line_count};
+ghost use Rattle.smil_top.specs.Transcript.{Told, untold};
+ghost use Rattle.smil_top.specs.Houses.{Holds};
+ghost use Rattle.smil_top.specs.Kept.{answering, counted, said, Answers, AnswersOrders, IsRead, IsRunning, IsText, MakesAnswer, Tells, Writes};
 
-use super::answer::{Answer, write_refusal};
+use super::answer::Answer;
+use super::counts::Counts;
 use super::fault::Fault;
 use super::load::Load;
 use super::session::Session;
-use super::status::Status;
 use smil_model::{Refusal, Steps};
 use smil_outside::{Failed, LINE_BYTES, Sink};
 use smil_script::{ends_load, is_blank, opens_load};
-use std::alloc::Global;
+use std::alloc::{AllocError, Global};
 use std::sync::ledger::Ledger;
 
-/// A session between two lines: the load that hasn't ended, and whether an order was refused for a fault or
-/// since memory ran out.
+/// A session between two lines: the load that hasn't ended, the last answer, and what is counted so far.
 #[derive(Drop)]
 pub(crate) struct Run {
     pub session: Session,
     pub load: Option<Load>,
     pub answer: Answer,
-    pub refused: bool,
-    pub memory: bool,
+    pub counts: Counts,
 }
 
 impl Run {
-    /// A session before its first line. It takes no memory.
-    pub fn new(alloc: Global) -> Run
-        ensures running { IsRunning result (cut_of []) [] }
+    /// A session before its first line, whose loads are only read or are opened too; unless memory runs out.
+    pub fn new(alloc: Global, checks: bool) -> Result<Run, AllocError>
+        ensures { IfOk result (λ run. IsRunning checks run (cut_of []) untold) }
     {
-        Run {
-            session: Session { held: None },
+        Ok(Run {
+            session: Session::new(alloc, checks)?,
             load: None,
             answer: Answer::new(alloc),
-            refused: false,
-            memory: false,
-        }
+            counts: Counts::new(),
+        })
     }
 
     /// Takes in the line with this number, or one that is too long, and writes the answer of the order that is
@@ -53,9 +53,9 @@ impl Run {
         steps: &mut Steps<L>,
     ) -> Result<(), Failed>
         requires short { IfSome text (λ t. length t.now ≤ LINE_BYTES) }
-        ensures answers { (cut : Cut) (told line : List ℕ) → IsRunning self.old cut told → number ≡ suc cut.count
-            → IsText (option_map (λ t. t.now) text.entry) line
-            → Answers result self.new (with_line cut line) told (K.taken sink.old) (K.taken sink.new) (K.sure_room sink.old) (K.sure_room sink.new) }
+        ensures answers { (checks : Bool) (cut : Cut) (told : Told) (line : List ℕ) → IsRunning checks self.old cut told
+            → number ≡ suc cut.count → IsText (option_map (λ t. t.now) text.entry) line
+            → Answers checks result self.new (with_line cut line) told (K.taken sink.old) (K.taken sink.new) (K.sure_room sink.old) (K.sure_room sink.new) }
         ensures cause { OnErr result (HasRisen (K.faults sink.old) (K.faults sink.new)) }
         ensures count { K.faults sink.old ≤ K.faults sink.new }
     {
@@ -77,9 +77,9 @@ impl Run {
     ) -> Result<(), Failed>
         requires short { IfSome text (λ t. length t.now ≤ LINE_BYTES) }
         requires outside { self.old.load ≡ None }
-        ensures answers { (cut : Cut) (lines : LoadLines) (told line : List ℕ) → cut.«open» ≡ Some lines → IsRead load lines
-            → IsTelling self.old cut.whole told → number ≡ suc cut.count → IsText (option_map (λ t. t.now) text.entry) line
-            → Answers result self.new (with_line cut line) told (K.taken sink.old) (K.taken sink.new) (K.sure_room sink.old) (K.sure_room sink.new) }
+        ensures answers { (checks : Bool) (cut : Cut) (lines : LoadLines) (told : Told) (line : List ℕ) → cut.«open» ≡ Some lines → IsRead load lines
+            → Tells checks self.old cut.whole told → number ≡ suc cut.count → IsText (option_map (λ t. t.now) text.entry) line
+            → Answers checks result self.new (with_line cut line) told (K.taken sink.old) (K.taken sink.new) (K.sure_room sink.old) (K.sure_room sink.new) }
         ensures cause { OnErr result (HasRisen (K.faults sink.old) (K.faults sink.new)) }
         ensures count { K.faults sink.old ≤ K.faults sink.new }
     {
@@ -107,9 +107,9 @@ impl Run {
     ) -> Result<(), Failed>
         requires short { IfSome text (λ t. length t.now ≤ LINE_BYTES) }
         requires outside { self.old.load ≡ None }
-        ensures answers { (cut : Cut) (told line : List ℕ) → cut.«open» ≡ None
-            → IsTelling self.old cut.whole told → number ≡ suc cut.count → IsText (option_map (λ t. t.now) text.entry) line
-            → Answers result self.new (with_line cut line) told (K.taken sink.old) (K.taken sink.new) (K.sure_room sink.old) (K.sure_room sink.new) }
+        ensures answers { (checks : Bool) (cut : Cut) (told : Told) (line : List ℕ) → cut.«open» ≡ None
+            → Tells checks self.old cut.whole told → number ≡ suc cut.count → IsText (option_map (λ t. t.now) text.entry) line
+            → Answers checks result self.new (with_line cut line) told (K.taken sink.old) (K.taken sink.new) (K.sure_room sink.old) (K.sure_room sink.new) }
         ensures cause { OnErr result (HasRisen (K.faults sink.old) (K.faults sink.new)) }
         ensures count { K.faults sink.old ≤ K.faults sink.new }
     {
@@ -126,14 +126,32 @@ impl Run {
                 Ok(())
             }
             Some(text) if is_blank(text) => Ok(()),
-            Some(text) => {
-                self.answer.clear();
-                let answered = self
-                    .session
-                    .answer_line(alloc, number, text, &mut self.answer, steps);
-                self.tell(Fault::at(number, answered), sink)
-            }
+            Some(text) => self.answer_single(alloc, number, text, sink, steps),
         }
+    }
+
+    // A single line.
+    fn answer_single<K: Sink, L: Ledger>(
+        &mut self,
+        alloc: Global,
+        number: u32,
+        text: &[u8],
+        sink: &mut K,
+        steps: &mut Steps<L>,
+    ) -> Result<(), Failed>
+        requires short { length text.now ≤ LINE_BYTES }
+        ensures answers { (checks : Bool) (whole : List OrderLines) (told : Told) → Tells checks self.old whole told
+            → AnswersOrders checks result self.new (whole ++ single (record { number = number; text = text.now }) ∷ []) told
+            (K.taken sink.old) (K.taken sink.new) (K.sure_room sink.old) (K.sure_room sink.new) }
+        ensures load { self.new.load ≡ self.old.load }
+        ensures cause { OnErr result (HasRisen (K.faults sink.old) (K.faults sink.new)) }
+        ensures count { K.faults sink.old ≤ K.faults sink.new }
+    {
+        self.answer.clear();
+        let answered = self
+            .session
+            .answer_line(alloc, number, text, &mut self.answer, steps);
+        self.tell(Fault::at(number, answered), sink)
     }
 
     // The line that ends a load.
@@ -145,10 +163,10 @@ impl Run {
         sink: &mut K,
         steps: &mut Steps<L>,
     ) -> Result<(), Failed>
-        requires outside { self.old.load ≡ None }
-        ensures answers { (whole : List OrderLines) (lines : LoadLines) (told : List ℕ) → IsRead load lines → IsTelling self.old whole told
-            → AnswersOrder result self.new whole (load_order lines (Some number)) told (K.taken sink.old) (K.taken sink.new) (K.sure_room sink.old) (K.sure_room sink.new) }
-        ensures outside { self.new.load ≡ None }
+        ensures answers { (checks : Bool) (whole : List OrderLines) (lines : LoadLines) (told : Told) → IsRead load lines → Tells checks self.old whole told
+            → AnswersOrders checks result self.new (whole ++ load_order lines (Some number) ∷ []) told
+            (K.taken sink.old) (K.taken sink.new) (K.sure_room sink.old) (K.sure_room sink.new) }
+        ensures load { self.new.load ≡ self.old.load }
         ensures cause { OnErr result (HasRisen (K.faults sink.old) (K.faults sink.new)) }
         ensures count { K.faults sink.old ≤ K.faults sink.new }
     {
@@ -156,7 +174,7 @@ impl Run {
         self.tell(answered, sink)
     }
 
-    // Opens the document of a load whose last line has this number.
+    // Answers a load whose last line has this number.
     fn answer_load<L: Ledger>(
         &mut self,
         alloc: Global,
@@ -164,25 +182,30 @@ impl Run {
         number: u32,
         steps: &mut Steps<L>,
     ) -> Result<(), Fault>
-        ensures answer { (lines : LoadLines) → IsRead load lines
-            → MayAnswer self.old.session (load_order lines (Some number)) (made result self.new.answer self.new.session) }
-        ensures kept { OnErr result (self.new.session ≡ self.old.session) }
-        ensures rest { self.new ≡ record self.old { session = self.new.session; answer = self.new.answer } }
+        ensures answer { (session : Presentations) (lines : LoadLines) → Holds self.old.session.house session → IsRead load lines
+            → MakesAnswer result self.new.answer self.new.session.house session (answering self.old.session.checks) (load_order lines (Some number)) }
+        ensures checks { self.new.session.checks ≡ self.old.session.checks }
+        ensures load { self.new.load ≡ self.old.load }
+        ensures counts { self.new.counts ≡ self.old.counts }
     {
         let line = load.line;
         self.answer.clear();
-        let (name, doc) = load.finish(number)?;
-        let opened = self
-            .session
-            .open(alloc, line, name, doc, &mut self.answer, steps);
-        Fault::at(line, opened)
+        match load.finish(number) {
+            Ok(given) => {
+                let answered = self
+                    .session
+                    .answer_load(alloc, line, given, &mut self.answer, steps);
+                Fault::at(line, answered)
+            }
+            Err(fault) => Err(fault),
+        }
     }
 
     /// The end of the input, at which a load that hasn't ended is refused.
     pub fn end<K: Sink>(&mut self, sink: &mut K) -> Result<(), Failed>
-        ensures answers { (cut : Cut) (told : List ℕ) → IsRunning self.old cut told → (said : List ℕ)
-            × Writes result (K.taken sink.old) (K.taken sink.new) (K.sure_room sink.old) (K.sure_room sink.new) said
-            × IsEnded self.new cut (told ++ said) }
+        ensures answers { (checks : Bool) (cut : Cut) (told : Told) → IsRunning checks self.old cut told
+            → AnswersOrders checks result self.new (cut.whole ++ unended cut.«open») told
+            (K.taken sink.old) (K.taken sink.new) (K.sure_room sink.old) (K.sure_room sink.new) }
         ensures cause { OnErr result (HasRisen (K.faults sink.old) (K.faults sink.new)) }
         ensures count { K.faults sink.old ≤ K.faults sink.new }
     {
@@ -198,36 +221,17 @@ impl Run {
         }
     }
 
-    // Writes the answer, and keeps in mind whether the order was refused.
+    // Writes the answer of an order, and counts it.
     fn tell<K: Sink>(&mut self, answered: Result<(), Fault>, sink: &mut K) -> Result<(), Failed>
         ensures writes { Writes result (K.taken sink.old) (K.taken sink.new) (K.sure_room sink.old) (K.sure_room sink.new) (said answered self.old.answer) }
-        ensures run { self.new ≡ noted answered self.old }
+        ensures session { self.new.session ≡ self.old.session }
+        ensures load { self.new.load ≡ self.old.load }
+        ensures counts { self.new.counts ≡ counted answered (min (line_count (said answered self.old.answer)) last_count) self.old.counts }
         ensures cause { OnErr result (HasRisen (K.faults sink.old) (K.faults sink.new)) }
         ensures count { K.faults sink.old ≤ K.faults sink.new }
     {
-        match answered {
-            Ok(()) => self.answer.write(sink),
-            Err(fault) => {
-                if fault.refusal == Refusal::Memory {
-                    self.memory = true;
-                } else {
-                    self.refused = true;
-                }
-                write_refusal(sink, &fault)
-            }
-        }
-    }
-
-    /// The status once the whole input was answered.
-    pub fn status(&self) -> Status
-        ensures { result ≡ status_of self.now.refused self.now.memory }
-    {
-        if self.memory {
-            Status::Memory
-        } else if self.refused {
-            Status::Refused
-        } else {
-            Status::Clean
-        }
+        self.answer.finish(&answered);
+        self.counts.count(&answered, self.answer.lines());
+        self.answer.write(sink)
     }
 }

@@ -1,42 +1,47 @@
 //! The presentations that are held, and the answers to orders.
 
-ghost use Rattle.std.specs.Prelude.{◌≡◌, ◌⊎◌, ◌≤◌, ◌++◌, length, pos, true, Ok, Err, OnOk, OnErr, IfErr};
-ghost use Rattle.smil_model.specs.document.Values.{is_clock};
+ghost use Rattle.std.specs.Prelude.{◌≡◌, ◌≤◌, ℕ, [], length, false, IfOk};
+ghost use Rattle.smil_model.specs.declared.limits.TheConstants.{NAME_BYTES};
+ghost use Rattle.smil_model.specs.document.Limits.{limits};
 ghost use Rattle.smil_model.specs.document.Valid.{IsValid};
-ghost use Rattle.smil_model.specs.shown.Orders.{outcome};
-ghost use Rattle.smil_model.specs.shown.Answers.{IsGiven, answer_text};
-ghost use Rattle.smil_model.specs.shown.Lines.{ok_line};
-ghost use Rattle.smil_grammar.specs.Formats.{formats};
-ghost use Rattle.smil_grammar.specs.Scripts.{line_of};
-ghost use Rattle.smil_live.specs.Image.{is_answered};
-ghost use Rattle.smil_script.specs.Gives.{GivesRead};
-ghost use Rattle.smil_top.specs.Answers.{answer_to_read, answer_to as answer_of, IsOpening, at_line};
-ghost use Rattle.smil_top.specs.Kept.{made, no_text, text_of, moment_after};
+ghost use Rattle.smil_model.specs.shown.Answers.{IsGiven};
+ghost use Rattle.smil_script.specs.Gives.{HoldsGiven};
+ghost use Rattle.smil_top.specs.Session.{Session as Presentations};
+ghost use Rattle.smil_top.specs.Answers.{checked, closed, loaded_within, ordered_within};
+ghost use Rattle.smil_top.specs.Houses.{Holds};
+ghost use Rattle.smil_top.specs.Kept.{given_of, line_by, load_by, no_text, single_by, Checks, HoldsTitle, Makes};
 
 use super::answer::Answer;
+use super::given::Given;
+use super::last_line::LastLine;
 use smil_grammar::Read;
-use smil_live::{Presentation, built, built_order};
-use smil_model::{Bytes, Doc, Order, Player, Refusal, Steps};
+use smil_house::House;
+use smil_live::Presentation;
+use smil_model::{Bytes, Order, Refusal, Steps};
+use smil_outline::{write_doc, write_doc_2};
 use smil_outside::LINE_BYTES;
-use smil_report::put_ok;
 use smil_script::read_line;
-use std::alloc::Global;
+use std::alloc::{AllocError, Global};
 use std::sync::ledger::Ledger;
 
-/// A presentation and its name.
-#[derive(Drop)]
-pub(crate) struct Held {
-    pub name: Bytes,
-    pub presentation: Presentation,
-}
-
-/// The presentation that is held, if there is one.
+/// The presentations that are held, and whether loads are only read.
 #[derive(Drop)]
 pub(crate) struct Session {
-    pub held: Option<Held>,
+    pub house: House<Presentation>,
+    pub checks: bool,
 }
 
 impl Session {
+    /// No presentation, with room for all that may be held; unless memory runs out.
+    pub fn new(alloc: Global, checks: bool) -> Result<Session, AllocError>
+        ensures { IfOk result (λ session. session ≡ record { house = []; checks = checks }) }
+    {
+        Ok(Session {
+            house: House::new(alloc)?,
+            checks,
+        })
+    }
+
     /// Answers a single line: its text, or why it is refused. After a refusal the session is as before.
     pub fn answer_line<L: Ledger>(
         &mut self,
@@ -48,13 +53,39 @@ impl Session {
     ) -> Result<(), Refusal>
         requires short { length line.now ≤ LINE_BYTES }
         requires empty { answer.old ≡ no_text }
-        ensures answer { GivesRead (made result answer.new self.new) (answer_to_read self.old number (line_of line.now)) }
-        ensures kept { OnErr result (self.new ≡ self.old) }
+        ensures answer { (session : Presentations) → Holds self.old.house session
+            → Makes result answer.new self.new.house session (line_by self.old.checks session number line.now) }
+        ensures checks { self.new.checks ≡ self.old.checks }
     {
-        match read_line(alloc, line)? {
+        match read_line(alloc, line) {
+            Ok(read) => self.answer_read(number, &read, answer, steps),
+            Err(refusal) => Err(refusal),
+        }
+    }
+
+    // Answers a line by what it says.
+    fn answer_read<L: Ledger>(
+        &mut self,
+        number: u32,
+        read: &Read,
+        answer: &mut Answer,
+        steps: &mut Steps<L>,
+    ) -> Result<(), Refusal>
+        requires given { HoldsGiven read.now }
+        requires title { HoldsTitle read.now }
+        requires empty { answer.old ≡ no_text }
+        ensures answer { (session : Presentations) → Holds self.old.house session
+            → Makes result answer.new self.new.house session (single_by self.old.checks session number read.now) }
+        ensures checks { self.new.checks ≡ self.old.checks }
+    {
+        if self.checks {
+            return Ok(());
+        }
+        match read {
             Read::Blank => Ok(()),
-            Read::To { name, order } => self.answer_to(number, &name, &order, answer, steps),
-            Read::Load { .. } | Read::Close { .. } => Err(Refusal::NotYet),
+            Read::Load { .. } => Err(Refusal::NotACommand),
+            Read::Close { name } => self.close(number, name, answer),
+            Read::To { name, order } => self.answer_to(number, name, order, answer, steps),
         }
     }
 
@@ -68,78 +99,110 @@ impl Session {
         steps: &mut Steps<L>,
     ) -> Result<(), Refusal>
         requires given { IsGiven order.now }
+        requires title { length name.now ≤ NAME_BYTES }
         requires empty { answer.old ≡ no_text }
-        ensures answer { GivesRead (made result answer.new self.new) (answer_of self.old number name.now order.now) }
-        ensures kept { OnErr result (self.new ≡ self.old) }
+        ensures answer { (session : Presentations) → Holds self.old.house session
+            → Makes result answer.new self.new.house session (ordered_within limits session number name.now order.now) }
+        ensures checks { self.new.checks ≡ self.old.checks }
     {
-        if !built_order(order) {
-            return Err(Refusal::NotYet);
-        }
-        match &mut self.held {
-            Some(held) if held.name == *name => held.answer(number, order, answer, steps),
-            _ => Err(Refusal::NoPresentation),
+        match self
+            .house
+            .answer(name.slice(), order, &mut answer.told, steps)
+        {
+            Ok(now) => {
+                answer.last = LastLine::ok(number, name.slice(), now);
+                Ok(())
+            }
+            Err(refusal) => Err(refusal),
         }
     }
 
-    /// Opens a valid document under this name.
-    pub fn open<L: Ledger>(
+    // Closes the presentation of this name.
+    fn close(&mut self, number: u32, name: &Bytes, answer: &mut Answer) -> Result<(), Refusal>
+        requires title { length name.now ≤ NAME_BYTES }
+        requires empty { answer.old ≡ no_text }
+        ensures answer { (session : Presentations) → Holds self.old.house session
+            → Makes result answer.new self.new.house session (closed session number name.now) }
+        ensures checks { self.new.checks ≡ self.old.checks }
+    {
+        match self.house.close(name.slice()) {
+            Ok(()) => {
+                answer.last = LastLine::closed(number, name.slice());
+                Ok(())
+            }
+            Err(refusal) => Err(refusal),
+        }
+    }
+
+    /// Answers a load that begins at a line and that was read without a fault: it is opened, or written where loads are only
+    /// read. After a refusal the session is as before.
+    pub fn answer_load<L: Ledger>(
         &mut self,
         alloc: Global,
         number: u32,
-        name: Bytes,
-        doc: Doc,
+        given: Given,
         answer: &mut Answer,
         steps: &mut Steps<L>,
     ) -> Result<(), Refusal>
-        requires valid { IsValid doc }
+        requires valid { IsValid given.doc }
         requires empty { answer.old ≡ no_text }
-        ensures answer { (result ≡ Err Refusal.Memory)
-            ⊎ IsOpening self.old number name doc (at_line number (made result answer.new self.new)) }
-        ensures kept { OnErr result (self.new ≡ self.old) }
+        ensures answer { (session : Presentations) → Holds self.old.house session
+            → Makes result answer.new self.new.house session (load_by self.old.checks session number (given_of given)) }
+        ensures checks { self.new.checks ≡ self.old.checks }
     {
-        if self.held.is_some() || !built(&doc) {
-            return Err(Refusal::NotYet);
+        if self.checks {
+            check(number, &given, answer)
+        } else {
+            self.open(alloc, number, given, answer, steps)
         }
-        put_ok(&mut answer.last, number, name.slice(), 0)?;
-        let presentation = Presentation::new(alloc, doc, &mut answer.changes, steps)?;
-        self.held = Some(Held { name, presentation });
-        Ok(())
     }
-}
 
-impl Held {
-    // The last line is made first, since the presentation can't go back once it has answered.
-    fn answer<L: Ledger>(
+    // Opens what a load gives.
+    fn open<L: Ledger>(
         &mut self,
+        alloc: Global,
         number: u32,
-        order: &Order,
+        given: Given,
         answer: &mut Answer,
         steps: &mut Steps<L>,
     ) -> Result<(), Refusal>
-        requires given { IsGiven order.now }
-        requires taken { is_answered order.now ≡ true }
+        requires valid { IsValid given.doc }
         requires empty { answer.old ≡ no_text }
-        ensures state { OnOk result (outcome formats self.old.presentation order.now ≡ Ok self.new.presentation) }
-        ensures text { OnOk result (text_of answer.new
-            ≡ answer_text formats self.old.presentation self.new.presentation order.now ++ ok_line number self.old.name (pos self.new.presentation.now)) }
-        ensures name { self.new.name ≡ self.old.name }
-        ensures refused { IfErr result (λ refusal. (refusal ≡ Refusal.Memory) ⊎ (outcome formats self.old.presentation order.now ≡ Err refusal)) }
-        ensures kept { OnErr result (self.new ≡ self.old) }
+        ensures answer { (session : Presentations) → Holds self.old.house session
+            → Makes result answer.new self.new.house session (loaded_within limits session number (given_of given)) }
+        ensures checks { self.new.checks ≡ self.old.checks }
     {
-        let now = moment_behind(self.presentation.now(), order);
-        put_ok(&mut answer.last, number, self.name.slice(), now)?;
-        self.presentation.answer(order, &mut answer.changes, steps)
+        let Given { name, doc, .. } = given;
+        if let Err(refusal) = self.house.may_load(name.slice()) {
+            return Err(refusal);
+        }
+        match Presentation::new(alloc, doc, &mut answer.told, steps) {
+            Ok(player) => {
+                answer.last = LastLine::ok(number, name.slice(), 0);
+                self.house.load(name, player);
+                Ok(())
+            }
+            Err(refusal) => Err(refusal),
+        }
     }
 }
 
-// The moment after an order that is accepted at a moment.
-fn moment_behind(now: i64, order: &Order) -> i64
-    ensures moved { is_clock (moment_after now order.now) ≡ true → result ≡ moment_after now order.now }
-    ensures still { moment_after now order.now ≡ now → result ≡ now }
+// Writes the canonical outline of a load, in the version in which it came.
+fn check(number: u32, given: &Given, answer: &mut Answer) -> Result<(), Refusal>
+    requires valid { IsValid given.now.doc }
+    requires empty { answer.old ≡ no_text }
+    ensures { Checks result answer.new number (given_of given.now) }
 {
-    match order {
-        Order::Advance { by } => now.saturating_add(*by),
-        Order::Seek { to } => *to,
-        _ => now,
+    let written = if given.version == 2 {
+        write_doc_2(&given.doc, &mut answer.told)
+    } else {
+        write_doc(&given.doc, &mut answer.told)
+    };
+    match written {
+        Ok(()) => {
+            answer.last = LastLine::checked(number, given.name.slice());
+            Ok(())
+        }
+        Err(_) => Err(Refusal::Memory),
     }
 }

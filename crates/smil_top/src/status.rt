@@ -1,7 +1,7 @@
 //! How a call ends.
 
 ghost use Rattle.std.specs.Prelude.{◌≡◌};
-ghost use Rattle.smil_top.specs.Words.{exit_number_of};
+ghost use Rattle.smil_top.specs.Words.{exit_number_of, is_told as is_told_by};
 
 /// How a call of `serve` ended.
 #[derive(Clone, Copy, Debug, PartialEq, Eq)]
@@ -23,6 +23,13 @@ pub enum Status {
 }
 
 impl Status {
+    /// Whether the whole input was answered, and no order was refused since memory ran out.
+    pub(crate) fn is_told(self) -> bool
+        ensures { result ≡ is_told_by self }
+    {
+        matches!(self, Status::Clean | Status::Refused)
+    }
+
     /// The number with which the program ends.
     pub fn exit_number(self) -> u8
         ensures { result ≡ exit_number_of self }

@@ -129,7 +129,7 @@ fn reading_faults(rt: HostRuntime) -> Result<(), Fail> {
         load 9\npar\n%%\nload a\n%%\nload a\npar\n%%\na advance 1x\na show\nload a\npar\n";
     let text =
         "! 3 bad-value 17\n! 7 unsupported 14\n! 11 depth-jump\n! 15 bad-value 14\n! 17 no-presentation\n\
-        ! 18 not-a-command\n! 19 not-a-command\n! 20 not-a-command\n! 24 bad-outline\n! 25 not-yet\n\
-        ! 28 bad-value 11\n! 29 not-yet\n! 30 unfinished-load\n";
+        ! 18 not-a-command\n! 19 not-a-command\n! 20 not-a-command\n! 24 bad-outline\n0 #1 frozen 0 0 0 1\nok 25 a 0\n\
+        ! 28 bad-value 11\n0 #1 frozen 0 0 0 1\nok 29 a 0\n! 30 unfinished-load\n";
     expect(&rt, &RUN, input, text, Status::Refused)
 }

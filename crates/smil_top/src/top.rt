@@ -1,31 +1,37 @@
 //! The top call.
 
-ghost use Rattle.std.specs.Prelude.{◌≡◌, ◌≢◌, ◌≤◌, ℕ, List, true, false, []};
+ghost use Rattle.std.specs.Prelude.{◌≡◌, ◌≢◌, ◌≤◌, ℕ, List, Some, false};
 ghost use Rattle.std.specs.Io.KnownBytes.{Appends};
+ghost use Rattle.smil_words.specs.declared.mode.TheConstants.{SESSIONS};
 ghost use Rattle.smil_outside.specs.Faults.{HasRisen};
-ghost use Rattle.smil_outside.specs.Reading.{fresh_reading};
-ghost use Rattle.smil_top.specs.Cut.{Cut};
-ghost use Rattle.smil_top.specs.Kept.{IsRunning, Ends};
-ghost use Rattle.smil_top.specs.Words.{is_run as is_run_of};
-ghost use Rattle.smil_top.specs.Serving.{Serves, Explains};
+ghost use Rattle.smil_words.specs.Words.{mode_of};
+ghost use Rattle.smil_top.specs.Kept.{asked_by};
+ghost use Rattle.smil_top.specs.Serving.{Explains, Generates, Serves, reads};
 
-use super::run::Run;
+use super::generated::summary_of;
+use super::reading::{answer_all, begin};
 use super::status::Status;
-use smil_lexis::texts::is;
 use smil_model::{Steps, WordList};
-use smil_outside::{Line, LineReader, Sink, Source, write_all};
+use smil_outside::{Sink, Source, write_all};
+use smil_words::{Mode, read_words};
 use std::alloc::Global;
 use std::sync::ledger::Ledger;
 
 /// What faulty words are answered.
 const USAGE: &[u8] = b"usage: smilplay run | smilplay check | smilplay gen N\n";
 
-/// Reads the session's lines to the end of the input, and writes its transcript: the answer to each order is
-/// made whole and then written. The words are exactly `run`; any others write the usage line and answer
-/// `Words`. The answer is `Clean`, or `Refused` where an order was refused, or `Memory` where one was refused
-/// since memory ran out. Where a read fails or the input is longer than `INPUT_BYTES`, the orders that were whole
-/// before it were answered; where a write fails, a part of the transcript was written. `Memory` also comes where
-/// there is none for the reader's buffer, and then nothing was read and nothing written.
+/// Does what the words ask for.
+///
+/// `run` reads a session's lines to the end of the input, and writes its transcript: the answer to each order is made whole and
+/// then written. `check` does the same with loads that are only read: each is answered by its canonical outline, in the
+/// version in which it came; other lines are answered only where they can't be read. `gen N` reads nothing, answers the session
+/// that the number makes, and writes how many orders it has, how many were refused, how many lines the transcript has, and
+/// the moment at its end. Any other words write the usage line and answer `Words`.
+///
+/// The answer is `Clean`, or `Refused` where an order was refused, or `Memory` where one was refused since memory ran out.
+/// Where a read fails or the input is longer than `INPUT_BYTES`, the orders that were whole before it were answered; where a
+/// write fails, a part of the transcript was written. `Memory` also comes where there is none to begin with, and then nothing
+/// was read and nothing written; and with `gen N` wherever memory runs out, and then nothing was written.
 pub fn serve<S: Source, K: Sink, L: Ledger>(
     alloc: Global,
     words: &WordList,
@@ -33,12 +39,12 @@ pub fn serve<S: Source, K: Sink, L: Ledger>(
     sink: &mut K,
     steps: &mut Steps<L>,
 ) -> Status
-    // What was read and written, by the status.
-    ensures serves { Serves (is_run_of words.now) result (S.rest source.old) (S.rest source.new)
+    // What was read and written, by the words and the status.
+    ensures serves { Serves (mode_of words.now) result (S.rest source.old) (S.rest source.new)
         (K.taken sink.old) (K.taken sink.new) (K.sure_room sink.old) }
 
-    // With faulty words nothing is read.
-    ensures unread { is_run_of words.now ≡ false → source.new ≡ source.old }
+    // Only `run` and `check` read.
+    ensures unread { reads (mode_of words.now) ≡ false → source.new ≡ source.old }
 
     // Faults come from the source and the sink alone.
     ensures read_cause { result ≡ Status.ReadFault → HasRisen (S.faults source.old) (S.faults source.new) }
@@ -47,27 +53,20 @@ pub fn serve<S: Source, K: Sink, L: Ledger>(
     ensures write_count { K.faults sink.old ≤ K.faults sink.new }
     ensures sure { S.never_fails source.old → result ≢ Status.ReadFault }
 {
-    if !is_run(words) {
-        return explain(sink);
+    match read_words(words) {
+        Ok(Mode::Run) => session(alloc, false, source, sink, steps),
+        Ok(Mode::Check) => session(alloc, true, source, sink, steps),
+        Ok(Mode::Gen(number)) => generated(alloc, number, sink, steps),
+        Err(_) => explain(sink),
     }
-    match LineReader::new(alloc) {
-        Ok(reader) => run(alloc, reader, source, sink, steps),
-        Err(_) => Status::Memory,
-    }
-}
-
-// Whether the words are `run` alone.
-fn is_run(words: &WordList) -> bool
-    ensures { result ≡ is_run_of words.now }
-{
-    words.len() == 1 && words.get(0).is_some_and(|word| is(word.slice(), b"run"))
 }
 
 // Writes the usage line.
 fn explain<K: Sink>(sink: &mut K) -> Status
-    ensures explains { (text : List ℕ) × Appends (K.taken sink.old) (K.taken sink.new) text × Explains result [] text (K.sure_room sink.old) }
+    ensures explains { (text : List ℕ) × Appends (K.taken sink.old) (K.taken sink.new) text × Explains result text (K.sure_room sink.old) }
     ensures cause { result ≡ Status.WriteFault → HasRisen (K.faults sink.old) (K.faults sink.new) }
     ensures count { K.faults sink.old ≤ K.faults sink.new }
+    ensures written { result ≢ Status.ReadFault }
 {
     match write_all(sink, USAGE) {
         Ok(()) => Status::Words,
@@ -75,16 +74,15 @@ fn explain<K: Sink>(sink: &mut K) -> Status
     }
 }
 
-// Reads and answers to the end of the input, or up to a fault.
-fn run<S: Source, K: Sink, L: Ledger>(
+// Reads a session, whose loads are only read or are opened too, and answers it.
+fn session<S: Source, K: Sink, L: Ledger>(
     alloc: Global,
-    mut reader: LineReader,
+    checks: bool,
     source: &mut S,
     sink: &mut K,
     steps: &mut Steps<L>,
 ) -> Status
-    requires fresh { reader ≡ fresh_reading }
-    ensures serves { Serves true result (S.rest source.old) (S.rest source.new)
+    ensures serves { Serves (Some (asked_by checks)) result (S.rest source.old) (S.rest source.new)
         (K.taken sink.old) (K.taken sink.new) (K.sure_room sink.old) }
     ensures read_cause { result ≡ Status.ReadFault → HasRisen (S.faults source.old) (S.faults source.new) }
     ensures write_cause { result ≡ Status.WriteFault → HasRisen (K.faults sink.old) (K.faults sink.new) }
@@ -92,30 +90,30 @@ fn run<S: Source, K: Sink, L: Ledger>(
     ensures write_count { K.faults sink.old ≤ K.faults sink.new }
     ensures sure { S.never_fails source.old → result ≢ Status.ReadFault }
 {
-    let mut run = Run::new(alloc);
-    'lines: loop {
-        let text = match reader.next(source) {
-            Line::Bytes => Some(reader.bytes()),
-            Line::LongLine => None,
-            Line::End => return end(run, sink),
-            Line::InputTooLong => return Status::InputTooLong,
-            Line::ReadFault => return Status::ReadFault,
-        };
-        if run.line(alloc, reader.number(), text, sink, steps).is_err() {
-            return Status::WriteFault;
-        }
+    match begin(alloc, checks) {
+        Ok(mut begun) => answer_all(alloc, begun.reader, &mut begun.run, source, sink, steps),
+        Err(_) => Status::Memory,
     }
 }
 
-// Answers a load that hasn't ended, and gives the status.
-fn end<K: Sink>(mut run: Run, sink: &mut K) -> Status
-    ensures ends { (cut : Cut) (told : List ℕ) → IsRunning run cut told
-        → Ends result cut told (K.taken sink.old) (K.taken sink.new) (K.sure_room sink.old) (K.sure_room sink.new) }
+// Answers the session of a number, and writes what is told of it.
+fn generated<K: Sink, L: Ledger>(
+    alloc: Global,
+    number: u32,
+    sink: &mut K,
+    steps: &mut Steps<L>,
+) -> Status
+    requires { number ≤ SESSIONS }
+    ensures generates { (text : List ℕ) × Appends (K.taken sink.old) (K.taken sink.new) text × Generates number result text (K.sure_room sink.old) }
     ensures cause { result ≡ Status.WriteFault → HasRisen (K.faults sink.old) (K.faults sink.new) }
     ensures count { K.faults sink.old ≤ K.faults sink.new }
+    ensures written { result ≢ Status.ReadFault }
 {
-    match run.end(sink) {
-        Ok(()) => run.status(),
+    let Ok(summary) = summary_of(alloc, number, steps) else {
+        return Status::Memory;
+    };
+    match write_all(sink, summary.text.slice()) {
+        Ok(()) => summary.status,
         Err(_) => Status::WriteFault,
     }
 }

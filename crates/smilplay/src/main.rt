@@ -1,12 +1,14 @@
-//! Reads a session of script lines from the standard input, and writes its transcript to the standard output.
+//! Reads a session of script lines from the standard input and writes its transcript to the standard output, or does
+//! what else the words ask for.
 #![tactic(auto)]
 
 ghost use Rattle.std.specs.Prelude.{◌≡◌, ◌<◌, ◌≤◌, false};
 ghost use Rattle.std.specs.Process.{exit_status};
 ghost use Rattle.smil_outside.specs.Faults.{HasRisen};
 ghost use Rattle.smil_top.specs.declared.status.Status.{Status};
-ghost use Rattle.smil_top.specs.Serving.{Serves};
-ghost use Rattle.smil_top.specs.Words.{is_run, exit_number_of};
+ghost use Rattle.smil_words.specs.Words.{mode_of};
+ghost use Rattle.smil_top.specs.Serving.{Serves, reads};
+ghost use Rattle.smil_top.specs.Words.{exit_number_of};
 
 use smil_model::{Bytes, Steps, WordList};
 use smil_outside::{Sink, Source, StdSink, StdSource};
@@ -59,9 +61,9 @@ fn play<S: Source, K: Sink, L: Ledger>(
     requires parts { blank.parts ≡ L.parts }
     requires backed { 0 < blank.parts }
     ensures serves { (status : Status) × (exit_status result ≡ exit_number_of status)
-        × Serves (is_run words.now) status
+        × Serves (mode_of words.now) status
         (S.rest source.old) (S.rest source.new) (K.taken sink.old) (K.taken sink.new) (K.sure_room sink.old) }
-    ensures unread { is_run words.now ≡ false → source.new ≡ source.old }
+    ensures unread { reads (mode_of words.now) ≡ false → source.new ≡ source.old }
     ensures read_cause { exit_status result ≡ 3 → HasRisen (S.faults source.old) (S.faults source.new) }
     ensures write_cause { exit_status result ≡ 4 → HasRisen (K.faults sink.old) (K.faults sink.new) }
     ensures bound { exit_status result ≤ 6 }

@@ -1,4 +1,4 @@
-use Rattle.std.proofs.Common.{[], refl, subst, arith}
+use Rattle.std.proofs.Common.{[], subst, arith}
 use Rattle.smil_outside.proofs.KnownLemmas.{Appends-nil}
 use Rattle.smil_top.specs.Words.{usage_line}
 use Rattle.smil_top.specs.Kept.{Writes}
@@ -15,5 +15,4 @@ returns-in-Err-clause-explains g c =
     let e = c.write_all.ensures in
     let written : Writes c.write_all.result before after room left usage_line = Writes-of c.write_all.result before after room left usage_line e.ok e.err e.sure e.room in
     let part = subst (λ r. Writes r before after room left usage_line) c.in-Err.is written in
-    let p = part-of [] usage_line before before after room room (Appends-nil before, omega arith) part in
-    (p.0, p.1, (refl, p.2))
+    part-of [] usage_line before before after room room (Appends-nil before, omega arith) part

@@ -1,14 +1,22 @@
-use Rattle.std.proofs.Common.{ap, sym, ◌∙◌, arith, inl}
+use Rattle.std.proofs.Common.{sym, subst}
+use Rattle.smil_top.specs.declared.given.Titled.{Titled}
 use Rattle.smil_top.specs.Cut.{Numbered}
-use Rattle.smil_top.specs.Answers.{with_node}
-use Rattle.smil_top.proofs.Loads.{IsRead-push}
+use Rattle.smil_top.specs.Kept.{IsRead}
+use Rattle.smil_top.proofs.Loads.{IsNodeAt, IsRead-ok, IsRead-err, more_lines}
 use Rattle.smil_top.proofs.load.Load.push.Goals as goal
 use Rattle.smil_top.proofs.load.Load.push.Goals.{in-Ok, in-Err}
 
 pub returns : goal.returns
 returns c lines node read shows =
     let this : Numbered = record { number = c.args.line; text = node } in
-    IsRead-push c.args.self lines this c.match-self.reading read (elim c.match-self.branch [
-      | in-Ok w ↦ grind (arith, w.reading-is, w.in-Ok.is, w.push_node-reading.ensures node shows)
-      | in-Err w ↦ inl (w.reading-is ∙ sym (ap (λ r. with_node r this) w.in-Err.is))
-    ])
+    elim c.match-self.branch [
+      | in-Ok w ↦
+          (let pushed : IsNodeAt c.args.self.line this w.push_node-reading.result w.in-Ok.so_far =
+          subst (λ (x : Titled). IsNodeAt c.args.self.line this w.push_node-reading.result x) w.in-Ok.so_far-is (w.push_node-reading.ensures node shows)
+          in
+          subst (λ r. IsRead (record { line = c.args.self.line; reading = r }) (more_lines lines this)) (sym w.reading-is)
+          (IsRead-ok c.args.self lines this w.in-Ok.so_far w.push_node-reading.result w.in-Ok.is read pushed))
+      | in-Err w ↦
+          subst (λ r. IsRead (record { line = c.args.self.line; reading = r }) (more_lines lines this)) (sym w.reading-is)
+          (IsRead-err c.args.self lines this w.in-Err.fault w.in-Err.is read)
+    ]

@@ -1,17 +1,45 @@
-use Rattle.std.proofs.Common.{◌++◌, sym, subst, ◌∙◌}
-use Rattle.smil_top.specs.declared.run.Run.{Run}
-use Rattle.smil_top.specs.Kept.{IsEnded, said}
-use Rattle.smil_top.proofs.Tells.{unfinished, IsEnded-load}
+use Rattle.std.proofs.Common.{◌++◌, Option, None, Err, ap, sym, subst, ◌∙◌}
+use Rattle.smil_model.specs.declared.order.Refusal.TheVariants.{UnfinishedLoad}
+use Rattle.smil_top.specs.declared.fault.Fault.{Fault}
+use Rattle.smil_top.specs.declared.session.Session.{Session}
+use Rattle.smil_top.specs.Cut.{OrderLines, LoadLines, load as load_order, unended}
+use Rattle.smil_top.specs.Kept.{AnswersOrders, MakesAnswer, answering}
+use Rattle.smil_top.proofs.Tells.{load-of, unfinished-made, told-order}
 use Rattle.smil_top.proofs.run.Run.end.Goals as goal
 
 pub returns-in-Some-clause-answers : goal.returns-in-Some-clause-answers
-returns-in-Some-clause-answers g c cut told running =
-    let run : Run = c.args.self.now in
-    let load = c.in-Some.load in (
-      said (unfinished load) run.answer,
-      c.tell.ensures.writes,
-      subst
-          (λ (r : Run). IsEnded r cut (told ++ said (unfinished load) run.answer))
-          (sym c.tell.ensures.run)
-          (IsEnded-load run load c.take.new.self cut told running (sym c.take.ensures.value ∙ c.in-Some.is)),
-    )
+returns-in-Some-clause-answers g c checks cut told running =
+    let run = c.args.self.now in
+    let load = c.in-Some.load in
+    let found = load-of load run.load cut.«open» running.load (sym c.take.ensures.value ∙ c.in-Some.is) in
+    let fault : Fault = record { line = load.line; refusal = UnfinishedLoad } in
+    let order : OrderLines = load_order found.0 None in
+    let made : MakesAnswer (Err fault) run.answer run.session.house told.session (answering checks) order =
+    unfinished-made checks run.answer run.session.house told.session found.0 load.line found.2.line running.tells.holds
+    in
+    let at_end : MakesAnswer (Err fault) run.answer c.tell.new.self.session.house told.session (answering checks) order =
+    subst (λ (s : Session). MakesAnswer (Err fault) run.answer s.house told.session (answering checks) order) (sym c.tell.ensures.session) made
+    in
+    let answers = told-order
+    checks
+    run
+    c.tell.new.self
+    cut.whole
+    told
+    order
+    (Err fault)
+    run.answer
+    c.tell.result
+    (g.K.Sink.taken c.args.sink.now)
+    (g.K.Sink.taken c.tell.new.sink)
+    (g.K.Sink.sure_room c.args.sink.now)
+    (g.K.Sink.sure_room c.tell.new.sink)
+    running.tells
+    at_end
+    (ap (λ (s : Session). s.checks) c.tell.ensures.session)
+    c.tell.ensures.counts
+    c.tell.ensures.writes in
+    subst
+    (λ (o : Option LoadLines). AnswersOrders checks c.tell.result c.tell.new.self (cut.whole ++ unended o) told (g.K.Sink.taken c.args.sink.now) (g.K.Sink.taken c.tell.new.sink) (g.K.Sink.sure_room c.args.sink.now) (g.K.Sink.sure_room c.tell.new.sink))
+    (sym found.1)
+    answers

@@ -1,23 +1,42 @@
-use Rattle.std.proofs.Common.{Some, ap, ◌∙◌}
-use Rattle.smil_top.specs.declared.run.Run.{Run}
-use Rattle.smil_top.specs.Cut.{load}
-use Rattle.smil_top.specs.Kept.{said}
-use Rattle.smil_top.proofs.Tells.{IsTelling-told, noted-load}
+use Rattle.std.proofs.Common.{◌≡◌, Bool, Some, ap, sym, subst, ◌∙◌}
+use Rattle.smil_top.specs.declared.session.Session.{Session}
+use Rattle.smil_top.specs.declared.counts.Counts.{Counts}
+use Rattle.smil_top.specs.Cut.{OrderLines, load}
+use Rattle.smil_top.specs.Summary.{line_count}
+use Rattle.smil_top.specs.Kept.{MakesAnswer, answering}
+use Rattle.smil_top.proofs.Tells.{told-order, counted_as}
 use Rattle.smil_top.proofs.run.Run.end_load.Goals as goal
 
 pub returns-clause-answers : goal.returns-clause-answers
-returns-clause-answers g c whole lines told read telling =
+returns-clause-answers g c checks whole lines told read tells =
+    let session = told.session in
     let answered = c.answer_load-answered.result in
-    let between : Run = c.answer_load-answered.new.self in
-    let e = c.answer_load-answered.ensures in (
-      said answered between.answer,
-      c.tell.ensures.writes,
-      IsTelling-told c.args.self.now between c.tell.new.self whole told (load lines (Some c.args.number)) answered e.rest c.tell.ensures.run telling (e.answer lines read) e.kept,
-    )
-
-pub returns-clause-outside : goal.returns-clause-outside
-returns-clause-outside g c =
-    ap (λ (r : Run). r.load) c.tell.ensures.run
-    ∙ noted-load c.answer_load-answered.result c.answer_load-answered.new.self
-    ∙ ap (λ (r : Run). r.load) c.answer_load-answered.ensures.rest
-    ∙ c.requires.outside
+    let between = c.answer_load-answered.new.self in
+    let e = c.answer_load-answered.ensures in
+    let text = between.answer in
+    let order : OrderLines = load lines (Some c.args.number) in
+    let made : MakesAnswer answered text between.session.house session (answering checks) order =
+    subst (λ (k : Bool). MakesAnswer answered text between.session.house session (answering k) order) tells.checks_is (e.answer session lines tells.holds read)
+    in
+    let at_end : MakesAnswer answered text c.tell.new.self.session.house session (answering checks) order =
+    subst (λ (s : Session). MakesAnswer answered text s.house session (answering checks) order) (sym c.tell.ensures.session) made
+    in
+    told-order
+    checks
+    c.args.self.now
+    c.tell.new.self
+    whole
+    told
+    order
+    answered
+    text
+    c.tell.result
+    (g.K.Sink.taken c.args.sink.now)
+    (g.K.Sink.taken c.tell.new.sink)
+    (g.K.Sink.sure_room c.args.sink.now)
+    (g.K.Sink.sure_room c.tell.new.sink)
+    tells
+    at_end
+    (ap (λ (s : Session). s.checks) c.tell.ensures.session ∙ e.checks)
+    (c.tell.ensures.counts ∙ ap (λ (k : Counts). counted_as answered text k) e.counts)
+    c.tell.ensures.writes

@@ -1,8 +1,13 @@
-use Rattle.std.proofs.Common.{sym, ◌∙◌}
-use Rattle.smil_top.proofs.Tells.{load-of}
+use Rattle.std.proofs.Common.{refl, sym, ◌∙◌}
+use Rattle.smil_top.proofs.Tells.{load-of, no_load-of, tells-on}
 use Rattle.smil_top.proofs.run.Run.line.Goals as goal
 
 pub returns-in-Some-clause-answers : goal.returns-in-Some-clause-answers
-returns-in-Some-clause-answers g c cut told line running number shows =
-    let found = load-of c.args.self.now c.in-Some.load cut told running (sym c.take.ensures.value ∙ c.in-Some.is) in
-    c.line_inside.ensures.answers cut found.0 told line found.1 found.2 running.transcript number shows
+returns-in-Some-clause-answers g c checks cut told line running number shows =
+    let found = load-of c.in-Some.load c.args.self.now.load cut.«open» running.load (sym c.take.ensures.value ∙ c.in-Some.is) in
+    c.line_inside.ensures.answers checks cut found.0 told line found.1 found.2 (tells-on checks c.args.self.now _ cut.whole told refl refl running.tells) number shows
+
+pub returns-in-None-clause-answers : goal.returns-in-None-clause-answers
+returns-in-None-clause-answers g c checks cut told line running number shows =
+    let out = no_load-of c.args.self.now.load cut.«open» running.load (sym c.take.ensures.value ∙ c.in-None.is) in
+    c.line_outside.ensures.answers checks cut told line out (tells-on checks c.args.self.now _ cut.whole told refl refl running.tells) number shows

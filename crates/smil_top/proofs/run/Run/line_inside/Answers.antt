@@ -1,4 +1,4 @@
-use Rattle.std.proofs.Common.{◌≡◌, ◌≤◌, [], ◌∷◌, ◌++◌, length, Some, true, false, refl, ap, sym, subst, ◌∙◌, arith}
+use Rattle.std.proofs.Common.{◌≡◌, ◌≤◌, ℕ, [], ◌∷◌, ◌++◌, length, Some, true, false, refl, ap, sym, subst, ◌∙◌, arith}
 use Rattle.smil_model.specs.declared.limits.TheConstants.{LINE_BYTES}
 use Rattle.smil_outside.proofs.KnownLemmas.{Appends-nil}
 use Rattle.smil_grammar.specs.Scripts.{is_blank}
@@ -6,54 +6,42 @@ use Rattle.smil_script.specs.Loads.{ends_load}
 use Rattle.smil_top.specs.declared.run.Run.{Run}
 use Rattle.smil_top.specs.Cut.{Numbered, LoadLines, load, with_line}
 use Rattle.smil_top.specs.Kept.{IsText}
-use Rattle.smil_top.proofs.CutLines.{cut-ends, cut-silent_node, cut-long_node, cut-node}
-use Rattle.smil_top.proofs.Tells.{Shows, IsRunning-order, IsRunning-load}
+use Rattle.smil_top.proofs.CutLines.{cut-ends, cut-long_node, cut-node}
+use Rattle.smil_top.proofs.Tells.{Shows, running-order, running-load, tells-on}
 use Rattle.smil_top.proofs.run.Run.line_inside.Goals as goal
 use Rattle.smil_top.proofs.run.Run.line_inside.Goals.{in_default-via-in-Some-2+else-is_blank, in_default-via-in_default}
 
 pub returns-in-Some-clause-answers : goal.returns-in-Some-clause-answers
-returns-in-Some-clause-answers g c cut lines told line within read telling number shows =
+returns-in-Some-clause-answers g c checks cut lines told line within read tells number shows =
+    let count : ℕ = c.args.number in
     let is : IsText (Some c.in-Some.text.now) line = subst (λ o. Shows o line) c.in-Some.is shows in
     let same : line ≡ c.in-Some.text.now = is.0 in
     let short : length line ≤ LINE_BYTES = subst (λ zs. length zs ≤ LINE_BYTES) (sym same) is.1 in
     let ended : ends_load line ≡ true = ap ends_load same ∙ sym c.ends_load.ensures ∙ c.if-ends_load.true in
-    let e = c.end_load.ensures.answers cut.whole lines told read telling in (
-      e.0,
-      e.1,
-      IsRunning-order
-          c.end_load.new.self
-          (with_line cut line)
-          c.args.number
-          (cut.whole ++ load lines (Some c.args.number) ∷ [])
-          (told ++ e.0)
-          (cut-ends cut c.args.number line number lines within short ended)
-          c.end_load.ensures.outside
-          e.2,
-    )
-
-pub returns-in-Some-2-clause-answers : goal.returns-in-Some-2-clause-answers
-returns-in-Some-2-clause-answers g c cut lines told line within read telling number shows =
-    let is : IsText (Some c.in-Some.text.now) line = subst (λ o. Shows o line) c.in-Some.is shows in
-    let same : line ≡ c.in-Some.text.now = is.0 in
-    let is2 : IsText (Some c.in-Some-2.text.now) line = subst (λ o. Shows o line) c.in-Some-2.is shows in
-    let same2 : line ≡ c.in-Some-2.text.now = is2.0 in
-    let short : length line ≤ LINE_BYTES = subst (λ zs. length zs ≤ LINE_BYTES) (sym same) is.1 in
-    let ended : ends_load line ≡ false = ap ends_load same ∙ sym c.ends_load.ensures ∙ c.if-ends_load.false in
-    let blank : is_blank line ≡ true = ap is_blank same2 ∙ sym c.is_blank.ensures ∙ c.if-is_blank.true in
-    let run : Run = c.args.self.now in
-    let new : Run = record run { load = Some c.args.load } in (
-      [],
-      (Appends-nil (g.K.Sink.taken c.args.sink.now), omega arith),
-      IsRunning-load new c.args.load (with_line cut line) c.args.number cut.whole lines told (cut-silent_node cut c.args.number line number lines within short ended blank) refl read telling,
-    )
+    running-order
+    checks
+    c.end_load.result
+    c.end_load.new.self
+    (with_line cut line)
+    count
+    (cut.whole ++ load lines (Some count) ∷ [])
+    told
+    (g.K.Sink.taken c.args.sink.now)
+    (g.K.Sink.taken c.end_load.new.sink)
+    (g.K.Sink.sure_room c.args.sink.now)
+    (g.K.Sink.sure_room c.end_load.new.sink)
+    (cut-ends cut count line number lines within short ended)
+    (c.end_load.ensures.load ∙ c.requires.outside)
+    (c.end_load.ensures.answers checks cut.whole lines told read tells)
 
 pub returns-in_default-clause-answers : goal.returns-in_default-clause-answers
-returns-in_default-clause-answers g c cut lines told line within read telling number shows =
-    let this : Numbered = record { number = c.args.number; text = line } in
-    let more : LoadLines = record lines { nodes = lines.nodes ++ this ∷ [] } in
+returns-in_default-clause-answers g c checks cut lines told line within read tells number shows =
     let run : Run = c.args.self.now in
+    let count : ℕ = c.args.number in
+    let this : Numbered = record { number = count; text = line } in
+    let more : LoadLines = record lines { nodes = lines.nodes ++ this ∷ [] } in
     let new : Run = record run { load = Some c.push.result } in
-    let read_on : with_line cut line ≡ record { count = c.args.number; whole = cut.whole; «open» = Some more } = elim c.in_default.branch [
+    let read_on : with_line cut line ≡ record { count = count; whole = cut.whole; «open» = Some more } = elim c.in_default.branch [
       | in_default-via-in-Some-2+else-is_blank w ↦
           (let is : IsText (Some w.in-Some.text.now) line = subst (λ o. Shows o line) w.in-Some.is shows in
           let same : line ≡ w.in-Some.text.now = is.0 in
@@ -62,11 +50,23 @@ returns-in_default-clause-answers g c cut lines told line within read telling nu
           let short : length line ≤ LINE_BYTES = subst (λ zs. length zs ≤ LINE_BYTES) (sym same) is.1 in
           let ended : ends_load line ≡ false = ap ends_load same ∙ sym w.ends_load.ensures ∙ w.if-ends_load.false in
           let blank : is_blank line ≡ false = ap is_blank same2 ∙ sym w.is_blank.ensures ∙ w.if-is_blank.false in
-          cut-node cut c.args.number line number lines within short ended blank)
+          cut-node cut count line number lines within short ended blank)
       | in_default-via-in_default w ↦
-          cut-long_node cut c.args.number line number lines within (subst (λ o. Shows o line) w.in_default.is shows)
-    ] in (
-      [],
-      (Appends-nil (g.K.Sink.taken c.args.sink.now), omega arith),
-      IsRunning-load new c.push.result (with_line cut line) c.args.number cut.whole more told read_on refl (c.push.ensures lines line read shows) telling,
-    )
+          cut-long_node cut count line number lines within (subst (λ o. Shows o line) w.in_default.is shows)
+    ] in
+    running-load
+    checks
+    new
+    c.push.result
+    (with_line cut line)
+    count
+    cut.whole
+    more
+    told
+    (g.K.Sink.taken c.args.sink.now)
+    (g.K.Sink.sure_room c.args.sink.now)
+    read_on
+    refl
+    (c.push.ensures lines line read shows)
+    (tells-on checks run new cut.whole told refl refl tells)
+    (Appends-nil (g.K.Sink.taken c.args.sink.now), omega arith)

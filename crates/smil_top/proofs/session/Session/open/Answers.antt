@@ -1,48 +1,41 @@
-use Rattle.std.proofs.lemmas.Result.{err_from_is_err_and}
-use Rattle.std.proofs.Common.{◌≡◌, ◌++◌, ℕ, pos, None, Err, ap, sym, subst, ◌∙◌}
-use Rattle.smil_model.specs.declared.order.Refusal.{Refusal}
+use Rattle.std.proofs.Common.{◌≡◌, ◌++◌, ◌∷◌, [], ℕ, List, pos, Ok, Err, ap, sym, subst, ◌∙◌}
+use Rattle.smil_model.specs.document.Limits.{limits}
 use Rattle.smil_model.specs.shown.Answers.{load_text}
 use Rattle.smil_model.specs.shown.Lines.{ok_line}
-use Rattle.smil_live.specs.Image.{IsImage}
+use Rattle.smil_house.specs.House.{load_refusal}
 use Rattle.smil_top.specs.declared.answer.Answer.{Answer as AnswerText}
-use Rattle.smil_top.proofs.Openings.{Opens, opens-not_yet, opens-refused, opens-ok, held-some, held-none, built-false, built-true}
+use Rattle.smil_top.specs.Answers.{loaded_within}
+use Rattle.smil_top.specs.Kept.{Makes, given_of}
+use Rattle.smil_top.proofs.Makings.{made-loaded, refusal-of, unmade-loaded, unloaded}
 use Rattle.smil_top.proofs.session.Session.open.Goals as goal
-use Rattle.smil_top.proofs.session.Session.open.Goals.{then-is_some-via-then-is_some, then-is_some-via-else-is_some+then-not-built}
 
-pub returns-then-is_some-clause-answer : goal.returns-then-is_some-clause-answer
-returns-then-is_some-clause-answer g c =
-    let session = c.args.self.now in
-    let not : IsImage c.args.doc → session.held ≡ None → ⊥ = elim c.then-is_some.branch [
-      | then-is_some-via-then-is_some w ↦ λ image none. held-some session.held c.is_some.result c.is_some.ensures w.if-is_some.true none
-      | then-is_some-via-else-is_some+then-not-built w ↦ λ image none. built-false w.built.result (IsImage c.args.doc) w.built.ensures w.if-not-built.true image
-    ] in
-    opens-not_yet session session c.args.number c.args.name c.args.doc c.args.answer.now not
+pub returns-in-Err-clause-answer : goal.returns-in-Err-clause-answer
+returns-in-Err-clause-answer g c session holds =
+    let house = c.args.self.now.house in
+    let taken : load_refusal c.args.given.name house ≡ Err c.in-Err.refusal = refusal-of c.args.given.name c.slice.result.now house (Err c.in-Err.refusal) c.slice.ensures c.in-Err.ensures in
+    unloaded (given_of c.args.given) house session c.args.number holds c.args.answer.now c.in-Err.refusal taken
 
-pub returns-in_err-presentation-clause-answer : goal.returns-in_err-presentation-clause-answer
-returns-in_err-presentation-clause-answer g c =
-    let session = c.args.self.now in
-    let image : IsImage c.args.doc = built-true c.built.result (IsImage c.args.doc) c.built.ensures c.if-not-built.false in
-    let none : session.held ≡ None = held-none session.held c.is_some.result c.is_some.ensures c.if-is_some.false in
-    let text : AnswerText = record { changes = c.new.new.out; last = c.put_ok.new.out } in
-    let refusal : Refusal = c.in_err-presentation.field-0.0 in
-    let refused : Opens session session c.args.number c.args.name c.args.doc (Err refusal) text =
-    opens-refused session session c.args.number c.args.name c.args.doc text refusal image none c.in_err-presentation.ensures.refused
-    in
-    let given = err_from_is_err_and c.from_residual-in_err-presentation.result c.from_residual-in_err-presentation.ensures.1 in
-    let is : c.from_residual-in_err-presentation.result ≡ Err refusal = given.1 ∙ ap (λ e. Err e) given.2 in
-    subst (λ r. Opens session session c.args.number c.args.name c.args.doc r text) (sym is) refused
-
-pub returns-clause-answer : goal.returns-clause-answer
-returns-clause-answer g c =
-    let session = c.args.self.now in
-    let image : IsImage c.args.doc = built-true c.built.result (IsImage c.args.doc) c.built.ensures c.if-not-built.false in
-    let none : session.held ≡ None = held-none session.held c.is_some.result c.is_some.ensures c.if-is_some.false in
-    let p = c.in_ok-presentation.presentation in
+pub returns-in-Ok-clause-answer : goal.returns-in-Ok-clause-answer
+returns-in-Ok-clause-answer g c session holds =
+    let house = c.args.self.now.house in
     let number : ℕ = c.args.number in
-    let first : c.new.new.out ≡ load_text p = c.in_ok-presentation.ensures.answer ∙ ap (λ (a : AnswerText). a.changes ++ load_text p) c.requires.empty in
-    let behind : c.put_ok.new.out ≡ ok_line number c.args.name (pos 0) =
-    c.in_ok-put_ok.ensures.ok
-    ∙ ap (λ (a : AnswerText). a.last ++ ok_line number c.slice.result.now (pos 0)) c.requires.empty
-    ∙ ap (λ zs. ok_line number zs (pos 0)) c.slice.ensures
-    in
-    opens-ok session number c.args.name c.args.doc p c.new.new.out c.put_ok.new.out image none c.in_ok-presentation.ensures.state first behind
+    let name : List ℕ = c.args.given.name in
+    let p = c.in-Ok.player in
+    let told : List ℕ = c.new.new.out in
+    let free : load_refusal name house ≡ Ok tt = refusal-of c.args.given.name c.slice.result.now house (Ok c.in_default.field-0) c.slice.ensures c.in_default.ensures in
+    let is : told ≡ load_text p = c.in-Ok.ensures.answer ∙ ap (λ (a : AnswerText). a.told ++ load_text p) c.requires.empty in
+    let last : c.ok-answer.result ≡ ok_line number name (pos 0) = c.ok-answer.ensures ∙ ap (λ n. ok_line number n (pos 0)) c.slice-in-Ok.ensures in
+    let made = made-loaded (given_of c.args.given) house session number holds p told free c.in-Ok.ensures.state is in
+    subst
+    (λ h. Makes (Ok tt) (record { told = told; last = c.ok-answer.result }) h session (loaded_within limits session number (given_of c.args.given)))
+    (sym c.load.ensures)
+    (subst
+    (λ l. Makes (Ok tt) (record { told = told; last = l }) (house ++ record { name = name; player = p } ∷ []) session (loaded_within limits session number (given_of c.args.given)))
+    (sym last)
+    made)
+
+pub returns-in-Err-new-clause-answer : goal.returns-in-Err-new-clause-answer
+returns-in-Err-new-clause-answer g c session holds =
+    let house = c.args.self.now.house in
+    let free : load_refusal c.args.given.name house ≡ Ok tt = refusal-of c.args.given.name c.slice.result.now house (Ok c.in_default.field-0) c.slice.ensures c.in_default.ensures in
+    unmade-loaded (given_of c.args.given) house session c.args.number holds c.args.answer.now c.in-Err-new.refusal free c.in-Err-new.ensures.refused

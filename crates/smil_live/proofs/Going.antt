@@ -1,0 +1,105 @@
+-- Moves: what is shown behind one and told of it, and a presentation that goes on by one or back from it.
+use Rattle.std.proofs.Common.{◌≡◌, refl, sym, ◌∙◌, ap, subst, ℕ, List, [], ◌∷◌, ◌++◌, Option, Some, None, Bool, true}
+use Rattle.std.specs.Prelude.{cond, IsSome, Result, Ok, Err, OnOk, map, not}
+use Rattle.smil_model.specs.declared.diary.Entry.{Entry}
+use Rattle.smil_model.specs.declared.document.Kind.{Kind}
+use Rattle.smil_model.specs.declared.document.Node.{Node}
+use Rattle.smil_model.specs.declared.view.View.{View}
+use Rattle.smil_model.specs.document.Document.{Document, elements, is_class_kind, is_element, node_at}
+use Rattle.smil_model.specs.document.Valid.{kind_of}
+use Rattle.smil_model.specs.shown.Orders.{IsState, Presentation, changes_between, views_of}
+use Rattle.std.proofs.lemmas.Option.{same_Some}
+use Rattle.smil_cells.specs.Kept.{at_mark}
+use Rattle.smil_cells.specs.Standing.{IsSettled, Standing}
+use Rattle.smil_live.specs.Kept.{IsPlaying, IsShown, views_at}
+use Rattle.smil_live.specs.Moves.{IsShownAt, text_of}
+use Rattle.smil_live.specs.Seen.{Shown}
+use Rattle.smil_live.specs.Told.{lines_between}
+use Rattle.smil_live.proofs.Standings.{views_settled}
+
+-- ---- behind a move
+
+pub shown_behind : {A E : Type 0} (r : Result A E) (p : Presentation) (s : Standing) (shown : Shown) → s.presentation ≡ p → IsState s.presentation → s.fault ≡ None → IsSettled s
+    → OnOk r (shown.views ≡ views_at s) → OnOk r (IsShownAt p s shown)
+shown_behind (Err e) p s shown is state sound settled views = tt
+shown_behind (Ok x) p s shown is state sound settled views = record {
+  presentation_is = is;
+  shown_is = record { state = state; sound = sound; settled = settled; views_are = views };
+}
+
+same_text : (old new : Standing) (p : Presentation) (first : List View) → new.presentation ≡ p → p.document ≡ old.presentation.document → first ≡ views_at old → IsSettled old → IsSettled new
+    → lines_between new.presentation.document.nodes new.presentation.now first (views_at new) ≡ text_of old.presentation (changes_between old.presentation p)
+same_text old new p first is document views was settled =
+    ap (λ (vs : List View). lines_between new.presentation.document.nodes new.presentation.now vs (views_at new)) (views ∙ views_settled old was)
+    ∙ (ap (λ (vs : List View). lines_between new.presentation.document.nodes new.presentation.now (views_of old.presentation) vs) (views_settled new settled)
+    ∙ (ap (λ (q : Presentation). lines_between q.document.nodes q.now (views_of old.presentation) (views_of q)) is
+    ∙ ap (λ (d : Document). lines_between d.nodes p.now (views_of old.presentation) (views_of p)) document))
+
+pub told_behind : {A E : Type 0} (r : Result A E) (old new : Standing) (p : Presentation) (first : List View) (out out' : List ℕ) → new.presentation ≡ p → p.document ≡ old.presentation.document
+    → first ≡ views_at old → IsSettled old → IsSettled new
+    → OnOk r (out' ≡ out ++ lines_between new.presentation.document.nodes new.presentation.now first (views_at new))
+    → OnOk r (out' ≡ out ++ text_of old.presentation (changes_between old.presentation p))
+told_behind (Err e) old new p first out out' is document views was settled told = tt
+told_behind (Ok x) old new p first out out' is document views was settled told =
+    told ∙ ap (λ l. out ++ l) (same_text old new p first is document views was settled)
+
+-- ---- marks
+
+abbrev pub marked_here : Standing → Standing
+marked_here s = record s { marked = Some (s.presentation, s.diary) }
+
+pub shown_marked : (old marked : Standing) (shown : Shown) → IsShown old shown → marked ≡ marked_here old → IsShown marked shown
+shown_marked old marked shown is made =
+    subst (λ (s : Standing). IsShown s shown) (sym made)
+    (record { state = is.state; sound = is.sound; settled = is.settled; views_are = is.views_are })
+
+-- a move that was made
+pub plays_on : (p : Presentation) (s after : Standing) (shown let_stand : Shown) → IsShownAt p s shown → after ≡ record s { marked = None }
+    → let_stand ≡ record { views = shown.views; before = shown.views } → IsPlaying after let_stand
+plays_on p s after shown let_stand is forgotten stands =
+    subst (λ (t : Standing). IsPlaying t let_stand) (sym forgotten)
+    (subst (λ (v : Shown). IsPlaying (record s { marked = None }) v) (sym stands)
+    (record {
+      shown_is = record {
+        state = (is.shown_is).state;
+        sound = (is.shown_is).sound;
+        settled = (is.shown_is).settled;
+        views_are = (is.shown_is).views_are;
+      };
+      unmarked = refl;
+      before = refl;
+    }))
+
+-- a move that was refused
+pub plays_again : (old marked gone back : Standing) (shown seen again : Shown) → IsPlaying old shown → marked ≡ marked_here old → gone.marked ≡ marked.marked
+    → ((mark : Presentation × List Entry) → gone.marked ≡ Some mark → back ≡ at_mark gone.touched mark)
+    → seen.before ≡ shown.before → again ≡ record { views = seen.before; before = seen.before } → IsPlaying back again
+plays_again old marked gone back shown seen again was made kept undone before is =
+    subst (λ (t : Standing). IsPlaying t again) (sym (undone (old.presentation, old.diary) (kept ∙ ap (λ (s : Standing). s.marked) made)))
+    (subst (λ (v : Shown). IsPlaying (at_mark gone.touched (old.presentation, old.diary)) v) (sym is)
+    (record {
+      shown_is = record {
+        state = (was.shown_is).state;
+        sound = refl;
+        settled = (was.shown_is).settled;
+        views_are = before ∙ (was.before ∙ (was.shown_is).views_are);
+      };
+      unmarked = refl;
+      before = refl;
+    }))
+
+-- ---- nodes that are elements
+
+pub the_node : (o : Option Node) → IsSome o → (n : Node) × (o ≡ Some n)
+the_node None q = cc
+the_node (Some n) q = (n, refl)
+
+pub kind_element : (nodes : List Node) (s : ℕ) (kind : Kind) (n : Node) (b : Bool) → node_at nodes s ≡ Some n → Some kind ≡ kind_of (node_at nodes s) → not (is_class_kind kind) ≡ b → is_element n ≡ b
+kind_element nodes s kind n b at of_kind is =
+    ap (λ (k : Kind). not (is_class_kind k)) (sym (same_Some kind n.kind (of_kind ∙ ap kind_of at))) ∙ is
+
+pub view_behind : {A E : Type 0} (r : Result A E) (f : Node → View) (n : Node) (v : View) (views views' : List View) → is_element n ≡ true → v ≡ f n
+    → OnOk r (views' ≡ views ++ v ∷ []) → OnOk r (views' ≡ views ++ map f (elements (n ∷ [])))
+view_behind (Err e) f n v views views' is same made = tt
+view_behind (Ok x) f n v views views' is same made =
+    made ∙ (ap (λ w. views ++ w ∷ []) same ∙ ap (λ (t : Bool). views ++ map f (cond t (n ∷ []) [])) (sym is))

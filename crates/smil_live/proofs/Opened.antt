@@ -1,0 +1,45 @@
+-- What is opened, and what is told of it.
+use Rattle.std.proofs.Common.{◌≡◌, ℕ, List, [], ◌++◌, Some, Ok, Err, inl, inr, sym, ap, ◌∙◌, subst}
+use Rattle.std.specs.Prelude.{◌⊎◌}
+use Rattle.smil_model.specs.declared.order.Refusal.{Refusal}
+use Rattle.smil_model.specs.declared.order.Refusal.TheVariants as refusal
+use Rattle.smil_model.specs.declared.view.View.{View}
+use Rattle.smil_model.specs.document.Document.{Document}
+use Rattle.smil_model.specs.document.Limits.{limits}
+use Rattle.smil_model.specs.happening.Resolution.{diary_of}
+use Rattle.smil_model.specs.shown.Answers.{load_text}
+use Rattle.smil_model.specs.shown.Orders.{Presentation, course_of, kept_where, opened, unless_too_full, views_of}
+use Rattle.smil_cells.specs.Standing.{IsSettled, Standing}
+use Rattle.smil_live.specs.Kept.{views_at}
+use Rattle.smil_live.specs.Moves.{IsReplayed, IsTooFull}
+use Rattle.smil_live.specs.Told.{lines_between}
+use Rattle.smil_live.proofs.Standings.{views_settled}
+
+-- the lines of what is shown first
+pub told_load : (s : Standing) (d : Document) (before after : List View) (m : ℕ) (old new : List ℕ) → IsSettled s → d ≡ s.presentation.document → before ≡ [] → after ≡ views_at s → m ≡ s.presentation.now → new ≡ old ++ lines_between d.nodes m before after → new ≡ old ++ load_text s.presentation
+told_load s d before after m old new settled same none seen moment told =
+    told
+    ∙ ap (λ (e : Document). old ++ lines_between e.nodes m before after) same
+    ∙ ap (λ (vs : List View). old ++ lines_between s.presentation.document.nodes m vs after) none
+    ∙ ap (λ (vs : List View). old ++ lines_between s.presentation.document.nodes m [] vs) (seen ∙ views_settled s settled)
+    ∙ ap (λ (t : ℕ). old ++ lines_between s.presentation.document.nodes t [] (views_of s.presentation)) moment
+
+-- a document at moment 0, with an empty log
+abbrev pub first_of : Document → Presentation
+first_of d = record { document = d; log = []; now = 0 }
+
+-- a presentation that has its diary
+pub has_room : (p q : Presentation) (s : Standing) → q ≡ s.presentation → IsReplayed p s → unless_too_full limits p ≡ Ok q
+has_room p q s same is =
+    let settled : diary_of (course_of p) ≡ Some s.diary = subst (λ (r : Presentation). diary_of (course_of r) ≡ Some s.diary) is.presentation_is is.settled in
+    ap (kept_where p) settled ∙ ap Ok (sym (same ∙ is.presentation_is))
+
+pub no_room : (p : Presentation) (e : Refusal) → IsTooFull p e → (e ≡ refusal.Memory) ⊎ (unless_too_full limits p ≡ Err e)
+no_room p e (inl memory) = inl memory
+no_room p e (inr full) = inr (ap (kept_where p) full.1 ∙ ap Err (sym full.0))
+
+pub opens : (d : Document) (q : Presentation) (s : Standing) → q ≡ s.presentation → IsReplayed (first_of d) s → opened d ≡ Ok q
+opens d q s same is = has_room (first_of d) q s same is
+
+pub not_opened : (d : Document) (e : Refusal) → IsTooFull (first_of d) e → (e ≡ refusal.Memory) ⊎ (opened d ≡ Err e)
+not_opened d e full = no_room (first_of d) e full

@@ -1,0 +1,370 @@
+-- Outcomes of orders that move on, that seek, and that tell what came from outside.
+use Rattle.std.proofs.Common.{◌≡◌, refl, sym, ◌∙◌, ap, subst, ℕ, suc, zero, ◌<◌, ◌≤◌, ◌+◌, ◌-◌, List, [], ◌∷◌, ◌++◌, Option, Some, None, Result, Ok, Err, Bool, true, false, ℤ, negsuc, arith, inl, inr, length, take, drop, append_assoc, append-nil}
+use Rattle.std.specs.Prelude.{◌⊎◌, ◌&&◌, ◌==◌, cond, pos, int_le, int_lt, ◌+ℤ◌, nat_abs, nat_le, nat_lt, not, filter, find, flat_map, is_some, map, All, IsSome, OnOk, ◌≤ℤ◌}
+use Rattle.std.specs.List.{AllByRecursion, list_all}
+use Rattle.std.proofs.Math.Seq.{drop-append_seam}
+use Rattle.std.proofs.lemmas.Bool.{and_parts, le-leb, lt-ltb}
+use Rattle.std.proofs.lemmas.Int.{ints}
+use Rattle.std.proofs.lemmas.List.Elements.{All-from_recursion, recursion_from_All}
+use Rattle.smil_model.specs.declared.diary.Entry.{Entry}
+use Rattle.smil_model.specs.declared.diary.Happening.{Happening}
+use Rattle.smil_model.specs.declared.diary.Happening.TheVariants as happening
+use Rattle.smil_model.specs.declared.diary.LogEntry.{LogEntry}
+use Rattle.smil_model.specs.declared.document.Kind.{Kind}
+use Rattle.smil_model.specs.declared.document.Node.{Node}
+use Rattle.smil_model.specs.declared.limits.TheConstants.{LOG_ENTRIES, SERIALS}
+use Rattle.smil_model.specs.declared.order.Order.{Order}
+use Rattle.smil_model.specs.declared.order.Order.TheVariants as order
+use Rattle.smil_model.specs.declared.order.Refusal.{Refusal}
+use Rattle.smil_model.specs.declared.order.Refusal.TheVariants as refusal
+use Rattle.smil_model.specs.declared.order.Who.{Who}
+use Rattle.smil_model.specs.declared.order.Who.TheVariants as who
+use Rattle.smil_model.specs.declared.times.TheConstants.{HORIZON}
+use Rattle.smil_model.specs.declared.view.View.{View}
+use Rattle.smil_model.specs.document.Document.{Document, elements, has_id, is_continuous, is_element, node_at, serial_of}
+use Rattle.smil_model.specs.document.Limits.{limits}
+use Rattle.smil_model.specs.document.Valid.{IsNumberedTree, IsValid, kind_of}
+use Rattle.smil_model.specs.diary.Logs.{is_log, is_logged_by, is_serial, may_happen}
+use Rattle.smil_model.specs.document.Values.{is_clock}
+use Rattle.smil_model.specs.document.Words.{is_event_name, is_raised_name}
+use Rattle.smil_model.specs.happening.Resolution.{diary_of}
+use Rattle.smil_model.specs.shown.Answers.{Accepts, Refuses, change_text, gone_text}
+use Rattle.smil_model.specs.shown.Lines.{gone_line, name_of}
+use Rattle.smil_model.specs.shown.Orders.{IsState, Presentation, and_then, at_moment_with, changes_between, changes_through, course_of, found, gone, kept_where, node_of, outcome, unless, unless_too_full, with_logged as logged_within}
+use Rattle.smil_grammar.specs.Formats.{formats}
+use Rattle.smil_laws.proofs.Aside.{find_each}
+use Rattle.smil_tree.proofs.Spans.{all_known}
+use Rattle.smil_cells.specs.Standing.{Standing, moved_to, with_logged}
+use Rattle.smil_live.specs.Moves.{IsHeardBy, IsNotHeard, IsReplayed, IsTooFull, entry_of, replay_of, sought_of, text_of}
+use Rattle.smil_live.specs.Telling.{element_named}
+use Rattle.smil_live.proofs.States.{first_is_log}
+
+-- ---- the node that an order names
+
+pub known : (d : Document) (named : Who) (n : Node) → IsNumberedTree d → node_of d.nodes named ≡ Some n → node_at d.nodes n.serial ≡ Some n
+known d (who.Id id) n numbered some = find_each (λ (m : Node). node_at d.nodes m.serial ≡ Some m) (λ (m : Node). has_id id m.attrs.id) d.nodes n (all_known d.nodes d.next numbered) some
+known d (who.Serial serial) n numbered some = find_each (λ (m : Node). node_at d.nodes m.serial ≡ Some m) (λ (m : Node). m.serial == serial) d.nodes n (all_known d.nodes d.next numbered) some
+
+pub there : (d : Document) (named : Who) (n : Node) (s : ℕ) → IsNumberedTree d → node_of d.nodes named ≡ Some n → s ≡ n.serial → IsSome (node_at d.nodes s)
+there d named n s numbered some same = ap (λ t. is_some (node_at d.nodes t)) same ∙ ap is_some (known d named n numbered some)
+
+-- by what was found
+pub found_by : (p : Presentation) (d : Document) (named : Who) (s : ℕ) → d ≡ p.document → Some s ≡ serial_of (node_of d.nodes named) → (n : Node) × (node_of p.document.nodes named ≡ Some n) × (s ≡ n.serial)
+found_by p d named s same is = by_node (node_of p.document.nodes named) (is ∙ ap (λ (e : Document). serial_of (node_of e.nodes named)) same)
+  where
+    by_node : (o : Option Node) → Some s ≡ serial_of o → (n : Node) × (o ≡ Some n) × (s ≡ n.serial)
+    by_node None e = cc
+    by_node (Some n) e = let one : s ≡ n.serial = cc in (n, refl, one)
+
+-- its serial is such as a log entry may name
+may_be : (next s : ℕ) → (0 < s) × (s < next) → next ≤ SERIALS → is_serial s ≡ true
+may_be next s b most =
+    let from = b.0 in
+    let below = b.1 in
+    ap (λ t. t && nat_le s SERIALS) (le-leb 1 s (omega (arith, from))) ∙ le-leb s SERIALS (omega (arith, below, most))
+
+serial_named : (d : Document) (named : Who) (n : Node) → IsNumberedTree d → node_of d.nodes named ≡ Some n → is_serial n.serial ≡ true
+serial_named d named n numbered some = may_be d.next n.serial (within named some) numbered.next
+  where
+    low : AllByRecursion (λ (m : Node). (0 < m.serial) × (m.serial < d.next)) d.nodes
+    low = recursion_from_All (λ (m : Node). (0 < m.serial) × (m.serial < d.next)) d.nodes numbered.below
+
+    within : (named : Who) → node_of d.nodes named ≡ Some n → (0 < n.serial) × (n.serial < d.next)
+    within (who.Id id) some = find_each (λ (m : Node). (0 < m.serial) × (m.serial < d.next)) (λ (m : Node). has_id id m.attrs.id) d.nodes n low some
+    within (who.Serial serial) some = find_each (λ (m : Node). (0 < m.serial) × (m.serial < d.next)) (λ (m : Node). m.serial == serial) d.nodes n low some
+
+pub serial_of_named : (d : Document) (named : Who) (n : Node) (s : ℕ) → IsNumberedTree d → node_of d.nodes named ≡ Some n → s ≡ n.serial → is_serial s ≡ true
+serial_of_named d named n s numbered some same = ap is_serial same ∙ serial_named d named n numbered some
+
+pub kind_named : (d : Document) (named : Who) (n : Node) (s : ℕ) (k : Kind) → IsNumberedTree d → node_of d.nodes named ≡ Some n → s ≡ n.serial → Some k ≡ kind_of (node_at d.nodes s) → k ≡ n.kind
+kind_named d named n s k numbered some same is =
+    let both : Some k ≡ Some n.kind = is ∙ ap (λ t. kind_of (node_at d.nodes t)) same ∙ ap kind_of (known d named n numbered some) in
+    cc
+
+pub no_element : (p : Presentation) (named : Who) (n : Node) → node_of p.document.nodes named ≡ Some n → is_element n ≡ false → element_named p named ≡ Err refusal.BadPlace
+no_element p named n some none =
+    ap (λ o. and_then (found o) (λ (m : Node). unless (not (is_element m)) refusal.BadPlace m)) some
+    ∙ ap (λ (t : Bool). unless {A = Node} (not t) refusal.BadPlace n) none
+
+pub an_element : (p : Presentation) (named : Who) (n : Node) → node_of p.document.nodes named ≡ Some n → is_element n ≡ true → element_named p named ≡ Ok n
+an_element p named n some one =
+    ap (λ o. and_then (found o) (λ (m : Node). unless (not (is_element m)) refusal.BadPlace m)) some
+    ∙ ap (λ (t : Bool). unless {A = Node} (not t) refusal.BadPlace n) one
+
+-- the node is found before it is an element
+pub found_named : (p : Presentation) (named : Who) (n : Node) → element_named p named ≡ Ok n → (node_of p.document.nodes named ≡ Some n) × (is_element n ≡ true)
+found_named p named n e = by_node (node_of p.document.nodes named) e
+  where
+    by_element : (m : Node) (t : Bool) → is_element m ≡ t → unless {A = Node} (not t) refusal.BadPlace m ≡ Ok n → (Some m ≡ Some n) × (is_element n ≡ true)
+    by_element m true is e = let one : m ≡ n = cc in (ap Some one, ap is_element (sym one) ∙ is)
+    by_element m false is e = cc
+
+    by_node : (o : Option Node) → and_then (found o) (λ (m : Node). unless (not (is_element m)) refusal.BadPlace m) ≡ Ok n → (o ≡ Some n) × (is_element n ≡ true)
+    by_node None e = cc
+    by_node (Some m) e = by_element m (is_element m) refl e
+
+-- ---- states at another moment
+
+pub has_diary : (p : Presentation) → IsSome (diary_of (course_of p)) → unless_too_full limits p ≡ Ok p
+has_diary p some = by_diary (diary_of (course_of p)) some
+  where
+    by_diary : (o : Option (List Entry)) → IsSome o → kept_where p o ≡ Ok p
+    by_diary None t = cc
+    by_diary (Some d) t = refl
+
+at_moment_ok : (p : Presentation) (m : ℕ) (log : List LogEntry) → int_le (pos m) HORIZON ≡ true → IsSome (diary_of (course_of (record { document = p.document; log = log; now = m }))) → at_moment_with limits p m log ≡ Ok (record { document = p.document; log = log; now = m })
+at_moment_ok p m log within some =
+    ap (λ (t : Bool). and_then (unless (not t) refusal.BeyondHorizon (record { document = p.document; log = log; now = m })) (unless_too_full limits)) within
+    ∙ has_diary (record { document = p.document; log = log; now = m }) some
+
+at_moment_full : (p : Presentation) (m : ℕ) (log : List LogEntry) → int_le (pos m) HORIZON ≡ true → diary_of (course_of (record { document = p.document; log = log; now = m })) ≡ None → at_moment_with limits p m log ≡ Err refusal.DiaryFull
+at_moment_full p m log within none =
+    ap (λ (t : Bool). and_then (unless (not t) refusal.BeyondHorizon (record { document = p.document; log = log; now = m })) (unless_too_full limits)) within
+    ∙ ap (kept_where (record { document = p.document; log = log; now = m })) none
+
+-- ---- texts
+
+all_stay : (all ns : List Node) → AllByRecursion (λ (n : Node). node_at all n.serial ≡ Some n) ns → filter (λ (n : Node). not (is_some (node_at all n.serial))) (elements ns) ≡ []
+all_stay all [] h = refl
+all_stay all (n ∷ ns) h = by_element (is_element n) (all_stay all ns h.1)
+  where
+    by_element : (t : Bool) → filter (λ (m : Node). not (is_some (node_at all m.serial))) (elements ns) ≡ [] → filter (λ (m : Node). not (is_some (node_at all m.serial))) (cond t (n ∷ elements ns) (elements ns)) ≡ []
+    by_element true rest =
+        ap (λ o. cond (not (is_some o)) (n ∷ filter (λ (m : Node). not (is_some (node_at all m.serial))) (elements ns)) (filter (λ (m : Node). not (is_some (node_at all m.serial))) (elements ns))) h.0 ∙ rest
+    by_element false rest = rest
+
+-- where the document stays, no element is gone
+none_gone : (p q : Presentation) → IsNumberedTree p.document → q.document ≡ p.document → gone_text p q ≡ []
+none_gone p q numbered same =
+    ap (λ (d : Document). gone_text p (record { document = d; log = q.log; now = q.now })) same
+    ∙ ap (λ (ns : List Node). flat_map (λ (n : Node). gone_line (pos q.now) (name_of n)) ns) (all_stay p.document.nodes p.document.nodes (all_known p.document.nodes p.document.next numbered))
+
+-- what was appended
+pub is_appended : (old new more : List ℕ) → new ≡ old ++ more → new ≡ old ++ drop (length old) new
+is_appended old new more is = is ∙ sym (ap (λ t. old ++ t) (ap (drop (length old)) is ∙ drop-append_seam old more))
+
+-- only changes are told
+pub told_alone : (p q : Presentation) (changes : List (ℕ × View)) (text : List ℕ) → IsNumberedTree p.document → q.document ≡ p.document → text ≡ text_of p changes → text ≡ gone_text p q ++ flat_map (change_text q.document.nodes) changes
+told_alone p q changes text numbered same told =
+    told
+    ∙ ap (λ (d : Document). flat_map (change_text d.nodes) changes) (sym same)
+    ∙ ap (λ (l : List ℕ). l ++ flat_map (change_text q.document.nodes) changes) (sym (none_gone p q numbered same))
+
+cut_off : (old new more : List ℕ) → new ≡ old ++ more → drop (length old) new ≡ more
+cut_off old new more is = ap (drop (length old)) is ∙ drop-append_seam old more
+
+-- ---- numbers
+
+pub clock_from : (v : ℤ) → is_clock v ≡ true → (pos 0 ≤ℤ v) × (v ≤ℤ HORIZON)
+clock_from v q =
+    let parts = and_parts (int_le (pos 0) v) (int_le v HORIZON) q in
+    (at_most (pos 0) v parts.0, at_most v HORIZON parts.1)
+  where
+    at_most : (x y : ℤ) → int_le x y ≡ true → x ≤ℤ y
+    at_most x y q = grind (arith, ints)
+
+pub not_above : (a b : ℤ) → int_lt a b ≡ false → b ≤ℤ a
+not_above a b q = grind (arith, ints)
+
+moved_by : (n : ℕ) (by to : ℤ) → pos 0 ≤ℤ by → to ≡ pos n +ℤ by → (nat_abs to ≡ n + nat_abs by) × (nat_abs to - n ≡ nat_abs by)
+moved_by n (pos k) to from e = let there : nat_abs to ≡ n + k = ap nat_abs e in (there, omega (arith, there))
+moved_by n (negsuc k) to from e = absurd (omega (arith, ints, from))
+
+-- ---- orders that move on
+
+pub advanced_by : (p q : Presentation) (by : ℤ) (old new : List ℕ) → IsState p → q ≡ moved_to p (p.now + nat_abs by) → IsState q → IsSome (diary_of (course_of q)) → new ≡ old ++ text_of p (changes_through p (nat_abs by)) → Accepts formats p q (order.Advance by) (drop (length old) new)
+advanced_by p q by old new state is state' some told =
+    let within : int_le (pos (p.now + nat_abs by)) HORIZON ≡ true = subst (λ (r : Presentation). int_le (pos r.now) HORIZON ≡ true) is state'.now in
+    let diary : IsSome (diary_of (course_of (moved_to p (p.now + nat_abs by)))) = subst (λ (r : Presentation). IsSome (diary_of (course_of r))) is some in
+    record {
+      state = at_moment_ok p (p.now + nat_abs by) p.log within diary ∙ ap Ok (sym is);
+      answer =
+          told_alone p q (changes_through p (nat_abs by)) (drop (length old) new) state.document.numbered (ap (λ (r : Presentation). r.document) is)
+          (cut_off old new (text_of p (changes_through p (nat_abs by))) told);
+    }
+
+pub advanced_to : (p q : Presentation) (by to : ℤ) (old new : List ℕ) → IsState p → pos 0 ≤ℤ by → to ≡ pos p.now +ℤ by → q ≡ moved_to p (nat_abs to) → IsState q → IsSome (diary_of (course_of q)) → new ≡ old ++ text_of p (changes_through p (nat_abs to - p.now)) → Accepts formats p q (order.Advance by) (drop (length old) new)
+advanced_to p q by to old new state from there is state' some told =
+    let sums = moved_by p.now by to from there in
+    advanced_by p q by old new state (is ∙ ap (moved_to p) sums.0) state' some (told ∙ ap (λ (k : ℕ). old ++ text_of p (changes_through p k)) sums.1)
+
+-- a log of which no entry is later is left whole
+all_left : (m : ℤ) (log : List LogEntry) → is_logged_by m log ≡ true → filter (λ (x : LogEntry). int_le x.moment m) log ≡ log
+all_left m [] q = refl
+all_left m (x ∷ xs) q =
+    let parts = and_parts (int_le x.moment m) (is_logged_by m xs) q in
+    ap (λ t. cond t (x ∷ filter (λ (y : LogEntry). int_le y.moment m) xs) (filter (λ (y : LogEntry). int_le y.moment m) xs)) parts.0
+    ∙ ap (λ ys. x ∷ ys) (all_left m xs parts.1)
+
+pub moved_as_sought : (p q : Presentation) (to : ℤ) → q ≡ moved_to p (nat_abs to) → IsState q → q ≡ sought_of p to
+moved_as_sought p q to is state =
+    let left = all_left (pos (nat_abs to)) p.log (subst (λ (r : Presentation). is_logged_by (pos r.now) r.log ≡ true) is state.logged) in
+    is ∙ ap (λ (l : List LogEntry). record { document = p.document; log = l; now = nat_abs to }) (sym left)
+
+-- ---- a presentation made anew up to an earlier moment
+
+passing : (t : LogEntry → Bool) (xs : List LogEntry) → list_all t (filter t xs) ≡ true
+passing t [] = refl
+passing t (x ∷ xs) = by_test (t x) refl (passing t xs)
+  where
+    by_test : (b : Bool) → t x ≡ b → list_all t (filter t xs) ≡ true → list_all t (cond b (x ∷ filter t xs) (filter t xs)) ≡ true
+    by_test true e rest = ap (λ s. s && list_all t (filter t xs)) e ∙ rest
+    by_test false e rest = rest
+
+natural : (to : ℤ) → is_clock to ≡ true → pos (nat_abs to) ≡ to
+natural (pos k) q = refl
+natural (negsuc k) q = cc
+
+pub replay_as_sought : (p : Presentation) (doc : Document) (log : List LogEntry) (len : ℕ) (to : ℤ) → is_clock to ≡ true → doc ≡ p.document → log ≡ p.log → take len log ≡ filter (λ (x : LogEntry). int_le x.moment to) log → replay_of doc log len to ≡ sought_of p to
+replay_as_sought p doc log len to clock same logs first =
+    ap (λ (d : Document). record { document = d; log = take len log; now = nat_abs to }) same
+    ∙ ap (λ (l : List LogEntry). record { document = p.document; log = l; now = nat_abs to })
+    (first ∙ ap (λ (l : List LogEntry). filter (λ (x : LogEntry). int_le x.moment to) l) logs
+    ∙ ap (λ (m : ℤ). filter (λ (x : LogEntry). int_le x.moment m) p.log) (sym (natural to clock)))
+
+pub sought_state : (p : Presentation) (log : List LogEntry) (len : ℕ) (to : ℤ) → IsState p → is_clock to ≡ true → log ≡ p.log → take len log ≡ filter (λ (x : LogEntry). int_le x.moment to) log → IsState (sought_of p to)
+sought_state p log len to state clock logs first =
+    let same : take len p.log ≡ filter (λ (x : LogEntry). int_le x.moment (pos (nat_abs to))) p.log =
+    subst (λ (l : List LogEntry). take len l ≡ filter (λ (x : LogEntry). int_le x.moment to) l) logs first
+    ∙ ap (λ (m : ℤ). filter (λ (x : LogEntry). int_le x.moment m) p.log) (sym (natural to clock)) in
+    record {
+      document = state.document;
+      log = subst (λ (l : List LogEntry). is_log l ≡ true) same (first_is_log len p.log state.log);
+      logged = passing (λ (x : LogEntry). int_le x.moment (pos (nat_abs to))) p.log;
+      now = ap (λ (m : ℤ). int_le m HORIZON) (natural to clock) ∙ (and_parts (int_le (pos 0) to) (int_le to HORIZON) clock).1;
+    }
+
+pub within_sought : (to : ℤ) → is_clock to ≡ true → int_le (pos (nat_abs to)) HORIZON ≡ true
+within_sought to clock = ap (λ (m : ℤ). int_le m HORIZON) (natural to clock) ∙ (and_parts (int_le (pos 0) to) (int_le to HORIZON) clock).1
+
+pub sought : (p q : Presentation) (to : ℤ) (old new : List ℕ) → IsState p → q ≡ sought_of p to → IsState q → IsSome (diary_of (course_of q)) → new ≡ old ++ text_of p (changes_between p q) → Accepts formats p q (order.Seek to) (drop (length old) new)
+sought p q to old new state is state' some told =
+    let left = filter (λ (x : LogEntry). int_le x.moment (pos (nat_abs to))) p.log in
+    let within : int_le (pos (nat_abs to)) HORIZON ≡ true = subst (λ (r : Presentation). int_le (pos r.now) HORIZON ≡ true) is state'.now in
+    let diary : IsSome (diary_of (course_of (record { document = p.document; log = left; now = nat_abs to }))) = subst (λ (r : Presentation). IsSome (diary_of (course_of r))) is some in
+    record {
+      state = at_moment_ok p (nat_abs to) left within diary ∙ ap Ok (sym is);
+      answer =
+          told_alone p q (changes_between p q) (drop (length old) new) state.document.numbered (ap (λ (r : Presentation). r.document) is)
+          (cut_off old new (text_of p (changes_between p q)) told);
+    }
+
+pub not_sought : (p q : Presentation) (to : ℤ) (given : Refusal) → q ≡ sought_of p to → int_le (pos (nat_abs to)) HORIZON ≡ true → IsTooFull q given → Refuses formats p (order.Seek to) given
+not_sought p q to given is within (inl memory) = inl memory
+not_sought p q to given is within (inr (full, none)) =
+    inr (at_moment_full p (nat_abs to) (filter (λ (x : LogEntry). int_le x.moment (pos (nat_abs to))) p.log) within (subst (λ (r : Presentation). diary_of (course_of r) ≡ None) is none) ∙ ap Err (sym full))
+
+pub sought_anew : (p q : Presentation) (s : Standing) (to : ℤ) (old new : List ℕ) → IsState p → IsState (sought_of p to) → IsReplayed (sought_of p to) s → q ≡ s.presentation → new ≡ old ++ gone_text p s.presentation ++ text_of s.presentation (changes_between p s.presentation) → Accepts formats p q (order.Seek to) (drop (length old) new)
+sought_anew p q s to old new state there is e told =
+    let at = is.presentation_is in
+    let here : q ≡ sought_of p to = e ∙ at in
+    let diary : IsSome (diary_of (course_of q)) = subst (λ (r : Presentation). IsSome (diary_of (course_of r))) (sym e) (ap is_some is.settled) in
+    let all : new ≡ old ++ gone_text p (sought_of p to) ++ text_of p (changes_between p (sought_of p to)) =
+    subst (λ (r : Presentation). new ≡ old ++ gone_text p r ++ text_of r (changes_between p r)) at told in
+    let lines : new ≡ old ++ text_of p (changes_between p (sought_of p to)) =
+    all
+    ∙ ap (λ (t : List ℕ). old ++ t ++ text_of p (changes_between p (sought_of p to))) (none_gone p (sought_of p to) state.document.numbered refl)
+    ∙ ap (λ (t : List ℕ). t ++ text_of p (changes_between p (sought_of p to))) (append-nil old) in
+    sought p q to old new state here (subst IsState (sym here) there) diary
+    (lines ∙ ap (λ (r : Presentation). old ++ text_of p (changes_between p r)) (sym here))
+
+-- what was appended in two parts
+pub appended_both : {T E : Type 0} (r : Result T E) (old new first second : List ℕ) → OnOk r (new ≡ old ++ first ++ second) → OnOk r (new ≡ old ++ drop (length old) new)
+appended_both (Ok x) old new first second is = is_appended old new (first ++ second) (is ∙ append_assoc old first second)
+appended_both (Err e) old new first second is = tt
+
+-- what two facts of an answer give together
+pub on_both : {T E P Q R : Type 0} (r : Result T E) → (P → Q → R) → OnOk r P → OnOk r Q → OnOk r R
+on_both (Ok x) f p q = f p q
+on_both (Err e) f p q = tt
+
+-- ---- what came from outside
+
+pub heard_as : (p q : Presentation) (what : Happening) (old new : List ℕ) → length p.log < LOG_ENTRIES → q ≡ with_logged p (entry_of p what) → IsSome (diary_of (course_of q)) → new ≡ old ++ text_of p (changes_between p (with_logged p (entry_of p what))) → IsHeardBy p what q (drop (length old) new)
+heard_as p q what old new room is some told =
+    let diary : IsSome (diary_of (course_of (with_logged p (entry_of p what)))) = subst (λ (r : Presentation). IsSome (diary_of (course_of r))) is some in
+    record {
+      state =
+          ap (λ (t : Bool). and_then (unless (not t) refusal.LogFull (with_logged p (entry_of p what))) (unless_too_full limits)) (lt-ltb (length p.log) LOG_ENTRIES room)
+          ∙ (has_diary (with_logged p (entry_of p what)) diary ∙ ap Ok (sym is));
+      told = cut_off old new (text_of p (changes_between p (with_logged p (entry_of p what)))) told ∙ ap (λ (r : Presentation). text_of p (changes_between p r)) (sym is);
+    }
+
+pub may_event : (s : ℕ) (given name : List ℕ) → is_serial s ≡ true → given ≡ name → (is_event_name name && not (is_raised_name name)) ≡ true → may_happen (happening.Event s given) ≡ true
+may_event s given name serial alike is =
+    let parts = and_parts (is_event_name name) (not (is_raised_name name)) is in
+    subst (λ (l : List ℕ). may_happen (happening.Event s l) ≡ true) (sym alike)
+    (ap (λ t. (t && is_event_name name) && not (is_raised_name name)) serial ∙ ap (λ t. t && not (is_raised_name name)) parts.0 ∙ parts.1)
+
+pub may_media : (s : ℕ) (given long : ℤ) → is_serial s ≡ true → given ≡ long → is_clock long ≡ true → may_happen (happening.Media s given) ≡ true
+may_media s given long serial alike is =
+    subst (λ (v : ℤ). may_happen (happening.Media s v) ≡ true) (sym alike) (ap (λ t. t && is_clock long) serial ∙ is)
+
+-- the document stays
+pub heard_document : (p q : Presentation) (what : Happening) → logged_within limits p what ≡ Ok q → q.document ≡ p.document
+heard_document p q what e = by_room (nat_lt (length p.log) LOG_ENTRIES) e
+  where
+    by_diary : (o : Option (List Entry)) → kept_where (with_logged p (entry_of p what)) o ≡ Ok q → q.document ≡ p.document
+    by_diary None e = cc
+    by_diary (Some d) e = let one : with_logged p (entry_of p what) ≡ q = cc in ap (λ (r : Presentation). r.document) (sym one)
+
+    by_room : (t : Bool) → and_then (unless (not t) refusal.LogFull (with_logged p (entry_of p what))) (unless_too_full limits) ≡ Ok q → q.document ≡ p.document
+    by_room true e = by_diary (diary_of (course_of (with_logged p (entry_of p what)))) e
+    by_room false e = cc
+
+event_is : (p : Presentation) (named : Who) (name : List ℕ) (n : Node) → element_named p named ≡ Ok n → outcome formats p (order.Event named name) ≡ logged_within limits p (happening.Event n.serial name)
+event_is p named name n e =
+    let at = found_named p named n e in
+    ap (λ o. and_then (found o) (λ (m : Node). and_then (unless (not (is_element m)) refusal.BadPlace m) (λ (x : Node). logged_within limits p (happening.Event x.serial name)))) at.0
+    ∙ ap (λ (t : Bool). and_then (unless (not t) refusal.BadPlace n) (λ (x : Node). logged_within limits p (happening.Event x.serial name))) at.1
+
+pub event_heard : (p q : Presentation) (named : Who) (s : ℕ) (given name : List ℕ) (n : Node) (text : List ℕ) → IsNumberedTree p.document → element_named p named ≡ Ok n → s ≡ n.serial → given ≡ name → IsHeardBy p (happening.Event s given) q text → Accepts formats p q (order.Event named name) text
+event_heard p q named s given name n text numbered e same alike is =
+    let one : happening.Event s given ≡ happening.Event n.serial name = cc in
+    let state : logged_within limits p (happening.Event n.serial name) ≡ Ok q = subst (λ (w : Happening). logged_within limits p w ≡ Ok q) one is.state in
+    record {
+      state = event_is p named name n e ∙ state;
+      answer = told_alone p q (changes_between p q) text numbered (heard_document p q (happening.Event n.serial name) state) is.told;
+    }
+
+pub event_not_heard : (p : Presentation) (named : Who) (s : ℕ) (given name : List ℕ) (n : Node) (r : Refusal) → element_named p named ≡ Ok n → s ≡ n.serial → given ≡ name → IsNotHeard p (happening.Event s given) r → Refuses formats p (order.Event named name) r
+event_not_heard p named s given name n r e same alike (inl memory) = inl memory
+event_not_heard p named s given name n r e same alike (inr not_heard) =
+    let one : happening.Event s given ≡ happening.Event n.serial name = cc in
+    inr (event_is p named name n e ∙ subst (λ (w : Happening). logged_within limits p w ≡ Err r) one not_heard)
+
+pub event_refused : (p : Presentation) (named : Who) (name : List ℕ) (r : Refusal) → element_named p named ≡ Err r → Refuses formats p (order.Event named name) r
+event_refused p named name r e = inr (by_node (node_of p.document.nodes named) e)
+  where
+    by_element : (m : Node) (t : Bool) → unless {A = Node} (not t) refusal.BadPlace m ≡ Err r → and_then (unless (not t) refusal.BadPlace m) (λ (x : Node). logged_within limits p (happening.Event x.serial name)) ≡ Err r
+    by_element m true e = cc
+    by_element m false e = let one : refusal.BadPlace ≡ r = cc in ap Err one
+
+    by_node : (o : Option Node) → and_then (found o) (λ (m : Node). unless (not (is_element m)) refusal.BadPlace m) ≡ Err r → and_then (found o) (λ (m : Node). and_then (unless (not (is_element m)) refusal.BadPlace m) (λ (x : Node). logged_within limits p (happening.Event x.serial name))) ≡ Err r
+    by_node None e = let one : refusal.NoElement ≡ r = cc in ap Err one
+    by_node (Some m) e = by_element m (is_element m) e
+
+media_is : (p : Presentation) (named : Who) (long : ℤ) (n : Node) → node_of p.document.nodes named ≡ Some n → is_continuous n.kind ≡ true → outcome formats p (order.Media named long) ≡ logged_within limits p (happening.Media n.serial long)
+media_is p named long n some continuous =
+    ap (λ o. and_then (found o) (λ (m : Node). and_then (unless (not (is_continuous m.kind)) refusal.NotContinuous m) (λ (x : Node). logged_within limits p (happening.Media x.serial long)))) some
+    ∙ ap (λ (t : Bool). and_then (unless (not t) refusal.NotContinuous n) (λ (x : Node). logged_within limits p (happening.Media x.serial long))) continuous
+
+pub media_heard : (p q : Presentation) (named : Who) (s : ℕ) (given long : ℤ) (n : Node) (text : List ℕ) → IsNumberedTree p.document → node_of p.document.nodes named ≡ Some n → is_continuous n.kind ≡ true → s ≡ n.serial → given ≡ long → IsHeardBy p (happening.Media s given) q text → Accepts formats p q (order.Media named long) text
+media_heard p q named s given long n text numbered some continuous same alike is =
+    let one : happening.Media s given ≡ happening.Media n.serial long = cc in
+    let state : logged_within limits p (happening.Media n.serial long) ≡ Ok q = subst (λ (w : Happening). logged_within limits p w ≡ Ok q) one is.state in
+    record {
+      state = media_is p named long n some continuous ∙ state;
+      answer = told_alone p q (changes_between p q) text numbered (heard_document p q (happening.Media n.serial long) state) is.told;
+    }
+
+pub media_not_heard : (p : Presentation) (named : Who) (s : ℕ) (given long : ℤ) (n : Node) (r : Refusal) → node_of p.document.nodes named ≡ Some n → is_continuous n.kind ≡ true → s ≡ n.serial → given ≡ long → IsNotHeard p (happening.Media s given) r → Refuses formats p (order.Media named long) r
+media_not_heard p named s given long n r some continuous same alike (inl memory) = inl memory
+media_not_heard p named s given long n r some continuous same alike (inr not_heard) =
+    let one : happening.Media s given ≡ happening.Media n.serial long = cc in
+    inr (media_is p named long n some continuous ∙ subst (λ (w : Happening). logged_within limits p w ≡ Err r) one not_heard)
+
+pub media_refused : (p : Presentation) (named : Who) (long : ℤ) (n : Node) → node_of p.document.nodes named ≡ Some n → is_continuous n.kind ≡ false → Refuses formats p (order.Media named long) refusal.NotContinuous
+media_refused p named long n some none =
+    inr (ap (λ o. and_then (found o) (λ (m : Node). and_then (unless (not (is_continuous m.kind)) refusal.NotContinuous m) (λ (x : Node). logged_within limits p (happening.Media x.serial long)))) some
+    ∙ ap (λ (t : Bool). and_then (unless (not t) refusal.NotContinuous n) (λ (x : Node). logged_within limits p (happening.Media x.serial long))) none)

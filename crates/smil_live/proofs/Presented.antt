@@ -1,0 +1,63 @@
+-- Settled cells with the views that they give, as a presentation shows them.
+use Rattle.std.proofs.Common.{◌≡◌, refl, sym, ◌∙◌, ap, subst, ℕ, List, [], ◌∷◌, ◌++◌, Bool, true, false, ℤ, length, take, drop}
+use Rattle.std.specs.Prelude.{cond, pos, filter, flat_map, is_some, map, All, IsSome, Some}
+use Rattle.std.specs.List.{AllByRecursion}
+use Rattle.std.proofs.lemmas.List.Elements.{All-from_recursion}
+use Rattle.smil_model.specs.declared.document.Node.{Node}
+use Rattle.smil_model.specs.declared.view.View.{View}
+use Rattle.smil_model.specs.document.Document.{Document, elements, is_element, node_at}
+use Rattle.smil_model.specs.interval.Current.{current_table, in_table}
+use Rattle.smil_model.specs.shown.Answers.{change_text}
+use Rattle.smil_model.specs.shown.Orders.{IsState, Presentation, at_moment, changed, changes_between, views_of}
+use Rattle.smil_model.specs.shown.Views.{view_of}
+use Rattle.smil_tree.proofs.Spans.{all_known}
+use Rattle.smil_cells.specs.Standing.{IsSettled, Standing, history_of}
+use Rattle.smil_live.specs.Kept.{IsPlaying, IsShown, views_at}
+use Rattle.smil_live.specs.Moves.{IsReplayed, text_of}
+use Rattle.smil_live.specs.Seen.{AreOf, Shown}
+use Rattle.smil_live.proofs.Standings.{views_settled}
+
+-- settled cells of a state, with their views
+pub played : (p : Presentation) (s : Standing) (shown : Shown) → IsState p → IsReplayed p s → shown ≡ record { views = views_at s; before = views_at s } → IsPlaying s shown
+played p s shown state is seen = record {
+  shown_is = record {
+    state = subst IsState (sym is.presentation_is) state;
+    sound = is.sound;
+    settled = is.settled;
+    views_are = ap (λ (x : Shown). x.views) seen;
+  };
+  unmarked = is.unmarked;
+  before = ap (λ (x : Shown). x.before) seen ∙ sym (ap (λ (x : Shown). x.views) seen);
+}
+
+each_view : (nodes : List Node) (f : Node → View) → ((n : Node) → (f n).serial ≡ n.serial) → (ns : List Node) → AllByRecursion (λ (n : Node). node_at nodes n.serial ≡ Some n) ns → AllByRecursion (λ (v : View). IsSome (node_at nodes v.serial)) (map f (elements ns))
+each_view nodes f same [] h = tt
+each_view nodes f same (n ∷ ns) h = by_test (is_element n) (each_view nodes f same ns h.1)
+  where
+    by_test : (t : Bool) → AllByRecursion (λ (v : View). IsSome (node_at nodes v.serial)) (map f (elements ns)) → AllByRecursion (λ (v : View). IsSome (node_at nodes v.serial)) (map f (cond t (n ∷ elements ns) (elements ns)))
+    by_test true rest = (ap (λ s. is_some (node_at nodes s)) (same n) ∙ ap is_some h.0, rest)
+    by_test false rest = rest
+
+-- each view is that of a node
+pub are_of_nodes : (p : Presentation) (s : Standing) (shown : Shown) (d : Document) → IsState p → s.presentation ≡ p → shown ≡ record { views = views_at s; before = views_at s } → d ≡ s.presentation.document → AreOf d.nodes shown.views
+are_of_nodes p s shown d state is seen same =
+    let nodes = s.presentation.document.nodes in
+    let h = history_of s in
+    let now = pos s.presentation.now in
+    let numbered = (subst IsState (sym is) state).document.numbered in
+    let each : AreOf nodes (views_at s) =
+    All-from_recursion (λ (v : View). IsSome (node_at nodes v.serial)) (views_at s)
+    (each_view nodes (view_of h now (in_table (current_table h now))) (λ n. refl) nodes (all_known nodes s.presentation.document.next numbered)) in
+    subst (λ (e : Document). AreOf e.nodes shown.views) (sym same) (subst (λ vs. AreOf nodes vs) (sym (ap (λ (x : Shown). x.views) seen)) each)
+
+-- the lines of what is different
+pub told_between : (p q : Presentation) (d : Document) (before after : List View) (old new : List ℕ) → d ≡ q.document → before ≡ views_of p → after ≡ views_of q → new ≡ old ++ flat_map (change_text d.nodes) (at_moment q.now (changed before after)) → new ≡ old ++ text_of q (changes_between p q)
+told_between p q d before after old new same befores afters told =
+    told
+    ∙ ap (λ (e : Document). old ++ flat_map (change_text e.nodes) (at_moment q.now (changed before after))) same
+    ∙ ap (λ (vs : List View). old ++ flat_map (change_text q.document.nodes) (at_moment q.now (changed vs after))) befores
+    ∙ ap (λ (vs : List View). old ++ flat_map (change_text q.document.nodes) (at_moment q.now (changed (views_of p) vs))) afters
+
+-- the views of settled cells
+pub views_shown : (p : Presentation) (s : Standing) (shown : Shown) → s.presentation ≡ p → IsSettled s → shown.views ≡ views_at s → shown.views ≡ views_of p
+views_shown p s shown is settled seen = seen ∙ views_settled s settled ∙ ap views_of is

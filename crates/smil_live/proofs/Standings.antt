@@ -1,0 +1,49 @@
+-- Settled cells: nothing comes up to their moment, and their views are those of the presentation.
+use Rattle.std.proofs.Common.{◌≡◌, sym, ap, subst, ℕ, ◌+◌, ◌-◌, ℤ, arith}
+use Rattle.std.specs.Prelude.{pos, negsuc, nat_abs, ◌≤ℤ◌, ◌+ℤ◌}
+use Rattle.std.proofs.lemmas.Int.{ints}
+use Rattle.smil_model.specs.declared.times.TheConstants.{HORIZON}
+use Rattle.smil_model.specs.shown.Orders.{IsState, Presentation, course_of, views_of}
+use Rattle.smil_cells.specs.Standing.{IsSettled, NothingBefore, Standing, moved_to}
+use Rattle.smil_live.specs.Kept.{IsShown, views_at}
+use Rattle.smil_live.specs.Moves.{MayMove, made}
+use Rattle.smil_live.specs.Seen.{Shown}
+use Rattle.smil_live.specs.declared.moves.Move.{Move}
+use Rattle.smil_live.specs.declared.moves.Move.TheVariants as move
+use Rattle.smil_live.proofs.Ended.{nothing_due}
+use Rattle.smil_live.proofs.Quiet.{HasDiary}
+use Rattle.smil_live.proofs.Resolved.{views_are}
+use Rattle.smil_live.proofs.States.{state_logged, state_moved}
+
+-- nothing comes up to the moment at which cells are settled
+pub nothing_before : (s : Standing) → IsSettled s → NothingBefore s (pos s.presentation.now +ℤ pos 1)
+nothing_before s settled c e = nothing_due (course_of s.presentation) s.diary settled c e
+
+-- their views are those that are resolved from scratch
+pub views_settled : (s : Standing) → IsSettled s → views_at s ≡ views_of s.presentation
+views_settled s settled = sym (views_are s.presentation s.diary settled)
+
+-- the document and the log are as they may be, and the diary is that of the presentation
+pub has_diary : (s : Standing) (shown : Shown) → IsShown s shown → HasDiary s.presentation s.diary
+has_diary s shown is = record { numbered = is.state.document.numbered; logged = is.state.logged; settled = is.settled }
+
+-- ---- moves
+
+-- a later moment, as so many milliseconds
+pub later_by : (a : ℕ) (v : ℤ) → pos a ≤ℤ v → (n : ℕ) × (v ≡ pos (a + n))
+later_by a (pos k) l = (k - a, ap pos (omega (arith, ints, l)))
+later_by a (negsuc k) l = absurd (omega (arith, ints, l))
+
+-- a move from a state leads to a state
+pub state_then : (p : Presentation) (to : ℤ) → IsState p → pos p.now ≤ℤ to → to ≤ℤ HORIZON → IsState (moved_to p (nat_abs to))
+state_then p to state from within = by_number (later_by p.now to from)
+  where
+    by_number : (n : ℕ) × (to ≡ pos (p.now + n)) → IsState (moved_to p (nat_abs to))
+    by_number (n, e) =
+        let there : IsState (moved_to p (p.now + n)) = state_moved p (p.now + n) state (omega arith) (subst (λ (x : ℤ). x ≤ℤ HORIZON) e within) in
+        subst (λ (m : ℕ). IsState (moved_to p m)) (sym (ap nat_abs e)) there
+
+pub made_is_state : (p : Presentation) (step : Move) → IsState p → MayMove p step → IsState (made p step)
+made_is_state p (move.Pass to) state may = state_then p to state may.0 may.1
+made_is_state p (move.Settle to) state may = state_then p to state may.0 may.1
+made_is_state p (move.Hear entry) state may = state_logged p entry state may.0 may.1

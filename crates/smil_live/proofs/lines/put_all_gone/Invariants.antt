@@ -1,0 +1,13 @@
+use Rattle.std.proofs.Common.{◌≡◌, ◌++◌, ◌-◌, drop, length}
+use Rattle.smil_report.specs.Words.{Begins}
+use Rattle.smil_live.specs.Told.{lines_gone}
+use Rattle.smil_live.proofs.lines.put_all_gone.Given as goal
+
+abbrev pub invariant-loop-serial : goal.invariant-loop-serial
+invariant-loop-serial l = record {
+  told : l.out ++ lines_gone l.after.nodes l.moment (drop l.place l.before.nodes) ≡ l.fn.out ++ lines_gone l.after.nodes l.moment l.before.nodes;
+  begins : Begins l.fn.out l.out;
+}
+
+abbrev pub decreases-loop-serial : goal.decreases-loop-serial
+decreases-loop-serial l = length l.before.nodes - l.place

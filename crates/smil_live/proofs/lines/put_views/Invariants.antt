@@ -1,0 +1,11 @@
+use Rattle.std.proofs.Common.{◌≡◌, ◌++◌, ℕ, pos, drop}
+use Rattle.smil_report.specs.Words.{Begins}
+use Rattle.smil_live.specs.Told.{lines_of}
+use Rattle.smil_live.proofs.lines.put_views.Given as goal
+
+abbrev pub invariant-loop-view : goal.invariant-loop-view
+invariant-loop-view l = record {
+  told : (m : ℕ) → l.moment ≡ pos m
+      → l.out ++ lines_of l.tree.nodes m (drop l.view-index l.seen.views) ≡ l.fn.out ++ lines_of l.tree.nodes m l.seen.views;
+  begins : Begins l.fn.out l.out;
+}

@@ -1,0 +1,19 @@
+use Rattle.std.proofs.Common.{◌≡◌, ◌≤◌, ◌-◌}
+use Rattle.std.specs.Prelude.{nat_abs, ◌≤ℤ◌}
+use Rattle.smil_model.specs.declared.times.TheConstants.{HORIZON}
+use Rattle.smil_report.specs.Words.{Begins}
+use Rattle.smil_live.proofs.Onward.{IsPassing}
+use Rattle.smil_live.proofs.moves.pass_through.Given as goal
+
+abbrev pub invariant-loop-due : goal.invariant-loop-due
+invariant-loop-due g l =
+    IsPassing l.initial.cells.presentation l.initial.out l.to l.cells l.seen l.out
+    × (l.to ≡ l.initial.to)
+    × (l.to ≤ℤ HORIZON)
+    × (l.cells.marked ≡ l.initial.cells.marked)
+    × (l.seen.before ≡ l.initial.seen.before)
+    × Begins l.initial.out l.out
+    × (l.initial.steps ≤ l.steps)
+
+abbrev pub decreases-loop-due : goal.decreases-loop-due
+decreases-loop-due g l = nat_abs l.to - l.cells.presentation.now

@@ -1,0 +1,16 @@
+use Rattle.std.proofs.Common.{◌≡◌, sym, subst, ◌+ℤ◌, to_z, of_z, w64, arith, pos}
+use Rattle.std.proofs.lemmas.Int.{ints}
+use Rattle.smil_model.specs.shown.Orders.{IsState, Presentation}
+use Rattle.smil_live.proofs.Outcomes.{advanced_to, clock_from, not_above}
+use Rattle.smil_live.proofs.States.{within_horizon}
+use Rattle.smil_live.proofs.playing.Playing.advance.Goals as goal
+
+pub returns-clause-ok : goal.returns-clause-ok
+returns-clause-ok g c =
+    let p = c.args.self.now in
+    let state : IsState p = subst IsState c.self.view_is c.self.invariant.shown_is.state in
+    let given = clock_from c.args.by c.requires in
+    let most = within_horizon p state in
+    let now : c.moment.result ≡ pos p.now = subst (λ (q : Presentation). c.moment.result ≡ pos q.now) c.self.view_is c.moment.ensures in
+    let sum : to_z w64 (of_z w64 (to_z w64 (of_z w64 c.moment.result) +ℤ to_z w64 (of_z w64 c.args.by))) ≡ pos p.now +ℤ c.args.by = omega (arith, ints, given.0, given.1, most, now) in
+    advanced_to p c.go.new.self c.args.by _ c.args.out.now c.go.new.out state given.0 sum c.in_default.ensures.state c.settled.ensures.state c.settled.ensures.diary c.in_default.ensures.told

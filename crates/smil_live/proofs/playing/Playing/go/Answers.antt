@@ -1,0 +1,21 @@
+use Rattle.std.proofs.Common.{sym, subst}
+use Rattle.smil_live.specs.Kept.{IsPlaying}
+use Rattle.smil_live.specs.Moves.{made}
+use Rattle.smil_live.proofs.Going.{plays_again, plays_on, shown_marked}
+use Rattle.smil_live.proofs.playing.Playing.go.Goals as goal
+use Rattle.smil_live.proofs.playing.Playing.go.Goals.{in-Ok, in-Err}
+
+pub go_on-gone-requires-clause-shown : goal.go_on-gone-requires-clause-shown
+go_on-gone-requires-clause-shown g c =
+    shown_marked c.self.inside.cells c.mark.new.self c.self.inside.seen c.self.invariant.shown_is c.mark.ensures
+
+pub invariant_of-self : goal.invariant_of-self
+invariant_of-self g c = elim c.match-gone.branch [
+  | in-Ok w ↦
+      subst (λ s. IsPlaying s.cells s.seen) (sym w.self-inside-is)
+      (plays_on (made c.mark.new.self.presentation c.args.step) c.go_on-gone.new.cells w.forget.new.self c.go_on-gone.new.seen w.forget-in-Ok.new.self w.in-Ok.ensures.ok w.forget.ensures w.forget-in-Ok.ensures)
+  | in-Err w ↦
+      subst (λ s. IsPlaying s.cells s.seen) (sym w.self-inside-is)
+      (plays_again c.self.inside.cells c.mark.new.self c.go_on-gone.new.cells w.back.new.self c.self.inside.seen c.go_on-gone.new.seen w.back-in-Err.new.self c.self.invariant c.mark.ensures
+      c.go_on-gone.ensures.marked w.back.ensures c.go_on-gone.ensures.before w.back-in-Err.ensures)
+]

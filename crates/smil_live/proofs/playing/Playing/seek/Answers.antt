@@ -1,0 +1,37 @@
+use Rattle.std.proofs.Common.{◌≡◌, ◌∙◌, ◌++◌, arith, refl, sym, ap, subst, ℤ, pos, nat_abs, to_z, of_z, w64}
+use Rattle.std.specs.Prelude.{◌≤ℤ◌}
+use Rattle.std.proofs.lemmas.Int.{ints, to_z-of_z}
+use Rattle.smil_model.specs.shown.Orders.{IsState, Presentation, changes_between}
+use Rattle.smil_cells.specs.Standing.{moved_to}
+use Rattle.smil_live.specs.Moves.{IsTooFull, text_of}
+use Rattle.smil_live.proofs.Outcomes.{clock_from, not_above, moved_as_sought, not_sought, sought, within_sought}
+use Rattle.smil_live.proofs.Standings.{state_then}
+use Rattle.smil_live.proofs.States.{within_horizon}
+use Rattle.smil_live.proofs.playing.Playing.seek.Goals as goal
+
+pub returns-clause-ok : goal.returns-clause-ok
+returns-clause-ok g c =
+    let p = c.args.self.now in
+    let q = c.go.new.self in
+    let to = c.args.to in
+    let there : to_z w64 (of_z w64 to) ≡ to = to_z-of_z w64 to c.ranges.to in
+    let state : IsState p = subst IsState c.self.view_is c.self.invariant.shown_is.state in
+    let moved : q ≡ moved_to p (nat_abs to) = subst (λ (z : ℤ). q ≡ moved_to p (nat_abs z)) there c.in_default.ensures.state in
+    let told = subst (λ (z : ℤ). c.go.new.out ≡ c.args.out.now ++ text_of p (changes_between p (moved_to p (nat_abs z)))) there c.in_default.ensures.told in
+    sought p q to c.args.out.now c.go.new.out state (moved_as_sought p q to moved c.settled.ensures.state) c.settled.ensures.state c.settled.ensures.diary
+    (told ∙ ap (λ (r : Presentation). c.args.out.now ++ text_of p (changes_between p r)) (sym moved))
+
+pub returns-in-Err-clause-refused : goal.returns-in-Err-clause-refused
+returns-in-Err-clause-refused g c =
+    let p = c.args.self.now in
+    let to = c.args.to in
+    let there : to_z w64 (of_z w64 to) ≡ to = to_z-of_z w64 to c.ranges.to in
+    let state : IsState p = subst IsState c.self.view_is c.self.invariant.shown_is.state in
+    let now : c.moment.result ≡ pos p.now = subst (λ (q : Presentation). c.moment.result ≡ pos q.now) c.self.view_is c.moment.ensures in
+    let most = within_horizon p state in
+    let here : to_z w64 (of_z w64 c.moment.result) ≡ c.moment.result = omega (arith, ints, most, now) in
+    let below : to_z w64 (of_z w64 c.moment.result) ≤ℤ to_z w64 (of_z w64 to) = not_above (to_z w64 (of_z w64 to)) (to_z w64 (of_z w64 c.moment.result)) c.if-to-moment.false in
+    let from : pos p.now ≤ℤ to = omega (arith, ints, below, now, there, here) in
+    let full : IsTooFull (moved_to p (nat_abs to)) c.in-Err.refusal = subst (λ (z : ℤ). IsTooFull (moved_to p (nat_abs z)) c.in-Err.refusal) there c.in-Err.ensures.refused in
+    not_sought p (moved_to p (nat_abs to)) to c.in-Err.refusal
+    (moved_as_sought p (moved_to p (nat_abs to)) to refl (state_then p to state from (clock_from to c.requires).1)) (within_sought to c.requires) full

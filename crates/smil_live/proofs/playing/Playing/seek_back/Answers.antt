@@ -1,0 +1,42 @@
+use Rattle.std.proofs.Common.{◌≡◌, inl, refl, sym, subst, ℤ, to_z, of_z, w64}
+use Rattle.std.proofs.lemmas.Int.{to_z-of_z}
+use Rattle.std.proofs.lemmas.Result.{IfErr-weaker}
+use Rattle.smil_model.specs.declared.order.Order.TheVariants as order
+use Rattle.smil_model.specs.declared.order.Refusal.TheVariants as refusal
+use Rattle.smil_model.specs.shown.Answers.{Refuses, gone_text}
+use Rattle.smil_model.specs.shown.Orders.{IsState, changes_between}
+use Rattle.smil_grammar.specs.Formats.{formats}
+use Rattle.smil_live.specs.Moves.{IsReplayed, IsTooFull, sought_of, text_of}
+use Rattle.smil_live.proofs.Edited.{replayed_own}
+use Rattle.smil_live.proofs.Outcomes.{appended_both, not_sought, on_both, sought_anew, within_sought}
+use Rattle.smil_live.proofs.playing.Playing.seek_back.Goals as goal
+
+pub take_over-requires-clause-state : goal.take_over-requires-clause-state
+take_over-requires-clause-state g c = subst IsState (sym c.in-Ok.ensures.ok.presentation_is) c.made_at.ensures.state
+
+pub take_over-requires-clause-replayed : goal.take_over-requires-clause-replayed
+take_over-requires-clause-replayed g c = replayed_own _ c.in-Ok.cells c.in-Ok.ensures.ok
+
+pub returns-in-Ok-clause-ok : goal.returns-in-Ok-clause-ok
+returns-in-Ok-clause-ok g c =
+    let p = c.args.self.now in
+    let there : to_z w64 (of_z w64 c.args.to) ≡ c.args.to = to_z-of_z w64 c.args.to c.ranges.to in
+    let is : IsReplayed (sought_of p c.args.to) c.in-Ok.cells = subst (λ (z : ℤ). IsReplayed (sought_of p z) c.in-Ok.cells) there c.in-Ok.ensures.ok in
+    let state : IsState (sought_of p c.args.to) = subst (λ (z : ℤ). IsState (sought_of p z)) there c.made_at.ensures.state in
+    on_both c.take_over.result (sought_anew p c.take_over.new.self c.in-Ok.cells c.args.to c.args.out.now c.take_over.new.out c.settled.ensures.state state is) c.take_over.ensures.state c.take_over.ensures.told
+
+pub returns-in-Ok-clause-appended : goal.returns-in-Ok-clause-appended
+returns-in-Ok-clause-appended g c =
+    let q = c.in-Ok.cells.presentation in
+    appended_both c.take_over.result c.args.out.now c.take_over.new.out (gone_text c.args.self.now q) (text_of q (changes_between c.args.self.now q)) c.take_over.ensures.told
+
+pub returns-in-Ok-clause-refused : goal.returns-in-Ok-clause-refused
+returns-in-Ok-clause-refused g c =
+    IfErr-weaker c.take_over.result (λ e. e ≡ refusal.Memory) (Refuses formats c.args.self.now (order.Seek c.args.to)) (λ e h. inl h) c.take_over.ensures.refused
+
+pub returns-in-Err-clause-refused : goal.returns-in-Err-clause-refused
+returns-in-Err-clause-refused g c =
+    let p = c.args.self.now in
+    let there : to_z w64 (of_z w64 c.args.to) ≡ c.args.to = to_z-of_z w64 c.args.to c.ranges.to in
+    not_sought p (sought_of p c.args.to) c.args.to c.in-Err.refusal refl (within_sought c.args.to c.requires.clock)
+    (subst (λ (z : ℤ). IsTooFull (sought_of p z) c.in-Err.refusal) there c.in-Err.ensures.refused)

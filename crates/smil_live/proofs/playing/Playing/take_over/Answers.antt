@@ -1,0 +1,25 @@
+use Rattle.std.proofs.Common.{ap, sym, subst}
+use Rattle.smil_cells.specs.Standing.{Standing}
+use Rattle.smil_live.specs.Kept.{IsPlaying}
+use Rattle.smil_live.proofs.Edited.{begins_long, cut_again, plays}
+use Rattle.smil_live.proofs.playing.Playing.take_over.Goals as goal
+
+pub put_edited-requires : goal.put_edited-requires
+put_edited-requires g c = record {
+  playing = plays c.args.cells.now.presentation c.args.cells.now c.in-Ok.seen c.requires.state c.requires.replayed c.in-Ok.ensures;
+}
+
+pub cut_back-requires : goal.cut_back-requires
+cut_back-requires g c = begins_long c.args.out.now c.put_edited.new.out c.len-len.result c.len-len.ensures c.in-Err-put_edited.ensures.err
+
+pub returns-in-Err-put_edited-clause-text : goal.returns-in-Err-put_edited-clause-text
+returns-in-Err-put_edited-clause-text g c =
+    cut_again c.args.out.now c.put_edited.new.out c.cut_back.new.self c.len-len.result c.len-len.ensures c.in-Err-put_edited.ensures.err c.cut_back.ensures
+
+pub invariant_of-self : goal.invariant_of-self
+invariant_of-self g c =
+    subst (λ (s : Standing). IsPlaying s c.in-Ok.seen) (sym c.swap.ensures.x_after)
+    (plays c.args.cells.now.presentation c.args.cells.now c.in-Ok.seen c.requires.state c.requires.replayed c.in-Ok.ensures)
+
+pub returns-clause-state : goal.returns-clause-state
+returns-clause-state g c = ap (λ (s : Standing). s.presentation) c.swap.ensures.x_after

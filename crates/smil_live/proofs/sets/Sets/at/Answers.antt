@@ -1,0 +1,10 @@
+use Rattle.std.proofs.Common.{sym, subst, ℕ, List}
+use Rattle.smil_model.specs.declared.view.Layer.{Layer as AnyLayer}
+use Rattle.smil_sandwich.specs.Stacks.{AreKept}
+use Rattle.smil_sandwich.proofs.Sorted.{applied_are_kept}
+use Rattle.smil_live.proofs.sets.Sets.at.Goals as goal
+
+pub returns : goal.returns
+returns c = λ all are.
+    let P : List (ℕ × AnyLayer) → Type 0 = λ kept. AreKept all kept in
+    c.at.ensures.model all (subst P (sym are.kept) (applied_are_kept all are.apart))

@@ -1,0 +1,16 @@
+use Rattle.std.proofs.Common.{◌≡◌, ℕ, ◌-◌, List, ◌++◌, length, take}
+use Rattle.std.specs.Prelude.{flat_map}
+use Rattle.smil_model.specs.declared.view.Layer.{Layer as AnyLayer}
+use Rattle.smil_model.specs.shown.Answers.{values_on}
+use Rattle.smil_report.specs.Words.{Begins}
+use Rattle.smil_live.specs.Sets.{AreSetsOf}
+use Rattle.smil_live.proofs.tells.put_all_values.Given as goal
+
+abbrev pub invariant-loop-target : goal.invariant-loop-target
+invariant-loop-target l = record {
+  text : (all : List (ℕ × AnyLayer)) → AreSetsOf l.sets all → l.out ≡ l.fn.out ++ flat_map (values_on l.tree.nodes all) (take l.place l.tree.nodes);
+  begins : Begins l.fn.out l.out;
+}
+
+abbrev pub decreases-loop-target : goal.decreases-loop-target
+decreases-loop-target l = length l.tree.nodes - l.place

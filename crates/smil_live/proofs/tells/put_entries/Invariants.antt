@@ -1,0 +1,11 @@
+use Rattle.std.proofs.Common.{◌≡◌, ◌++◌, take}
+use Rattle.std.specs.Prelude.{flat_map}
+use Rattle.smil_model.specs.shown.Lines.{entry_line}
+use Rattle.smil_report.specs.Words.{Begins}
+use Rattle.smil_live.proofs.tells.put_entries.Given as goal
+
+abbrev pub invariant-loop-place : goal.invariant-loop-place
+invariant-loop-place l = record {
+  text : l.out ≡ l.fn.out ++ flat_map (entry_line l.log) (take l.place l.book);
+  begins : Begins l.fn.out l.out;
+}

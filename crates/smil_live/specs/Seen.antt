@@ -1,0 +1,58 @@
+-- Views of elements, with those that `back` gives.
+use Rattle.std.specs.Prelude.{◌≡◌, ℕ, pos, List, [], ◌∷◌, ◌==◌, All, IsSome, map, Bool, false, not, Option, if◌then◌else◌}
+use Rattle.std.specs.List.{list_any, position}
+use Rattle.smil_model.specs.declared.document.Node.{Node}
+use Rattle.smil_model.specs.declared.view.View.{View}
+use Rattle.smil_model.specs.document.Document.{node_at}
+use Rattle.smil_model.specs.shown.Orders.{view_eq, view_before}
+use Rattle.smil_model.specs.shown.Views.{blank}
+use Rattle.smil_laws.specs.Same.{view_at}
+use Rattle.smil_cells.specs.Standing.{Standing, history_of}
+
+-- the views in document order, and as they were when the last change was let stand
+pub record Shown : Type 0 where
+  pub views : List View
+  pub before : List View
+
+-- the view of an element by the diary so far
+abbrev pub view_now : Standing → Node → View
+view_now s e = view_at (history_of s) (pos s.presentation.now) e
+
+-- a view in the place of that of the same element
+abbrev pub put_in : List View → View → List View
+put_in views view = map (λ (v : View). if v.serial == view.serial then view else v) views
+
+-- views with those that were noted put back, the last noted first
+abbrev pub put_back : List View → List View → List View
+put_back views [] = views
+put_back views (view ∷ noted) = put_in (put_back views noted) view
+
+-- the view of an element, blank where it is not there
+abbrev pub view_in : List View → ℕ → View
+view_in views serial = view_before views (blank serial)
+
+-- an element has a view among these
+abbrev pub has_view : List View → ℕ → Bool
+has_view views serial = list_any (λ (v : View). v.serial == serial) views
+
+-- no element has two views
+abbrev pub AreOne : List View → Type 0
+AreOne [] = Unit {0}
+AreOne (view ∷ views) = (has_view views view.serial ≡ false) × AreOne views
+
+-- the table leads each element to the place of its view, of which it has one
+pub record AreAt (places : ℕ → Option ℕ) (views : List View) : Type 0 where
+  pub place : (serial : ℕ) → places serial ≡ position (λ (v : View). v.serial == serial) views
+  pub one : AreOne views
+
+-- each view is that of a node
+abbrev pub AreOf : List Node → List View → Type 0
+AreOf nodes views = All (λ (v : View). IsSome (node_at nodes v.serial)) views
+
+-- the views with one put in its place
+abbrev pub with_view : Shown → View → Shown
+with_view shown view = record { views = put_in shown.views view; before = shown.before }
+
+-- whether a view differs from that of the same element
+abbrev pub differs : List View → View → Bool
+differs views view = not (view_eq view (view_in views view.serial))

@@ -1,0 +1,128 @@
+//! Edited copies of a document.
+
+ghost use Rattle.std.specs.Prelude.{◌≡◌, Ok, Some, IsSome, IfOk, IfErr};
+ghost use Rattle.smil_model.specs.declared.document.Node.{Node as AnyNode};
+ghost use Rattle.smil_model.specs.document.Document.{node_at};
+ghost use Rattle.smil_model.specs.document.Limits.{limits};
+ghost use Rattle.smil_model.specs.document.Valid.{kind_of};
+ghost use Rattle.smil_model.specs.shown.Answers.{IsColumn, IsText};
+ghost use Rattle.smil_model.specs.shown.Orders.{attr_set_by, attr_unset_by, node_inserted_by, node_removed_from};
+ghost use Rattle.smil_grammar.specs.Formats.{formats};
+ghost use Rattle.smil_live.specs.Editing.{IsRefusedBy, at_node};
+
+use super::faults::refused_edit;
+use super::values::{Named, Placed, read_line_attrs, read_line_kind, read_name, read_value};
+use smil_model::{Duplicate, Refusal};
+use smil_tree::Tree;
+use std::alloc::Global;
+
+/// A copy in which a node has an attribute. The refusals are those of name and value, and of the edit.
+pub fn with_value(
+    alloc: Global,
+    tree: &Tree,
+    serial: u32,
+    attr: Placed<'_>,
+    value: Placed<'_>,
+) -> Result<Tree, Refusal>
+    requires known { IsSome (node_at tree.now.nodes serial) }
+    requires name { IsText attr.text.now }
+    requires value { IsText value.text.now }
+    requires column { IsColumn attr.column }
+    requires value_column { IsColumn value.column }
+    ensures ok { IfOk result (λ edited. at_node tree.now.nodes serial (λ n. attr_set_by limits formats tree.now n attr.entry.text.now value.entry.text.now attr.entry.column value.entry.column) ≡ Ok edited) }
+    ensures err { IfErr result (IsRefusedBy (at_node tree.now.nodes serial (λ n. attr_set_by limits formats tree.now n attr.entry.text.now value.entry.text.now attr.entry.column value.entry.column))) }
+{
+    let given = match read_value(alloc, named(tree, serial, attr), value) {
+        Ok(given) => given,
+        Err(refusal) => return Err(refusal),
+    };
+    tree.valid();
+    let mut edited = tree.copy()?;
+    match edited.set(serial, given) {
+        Ok(()) => Ok(edited),
+        Err(fault) => Err(refused_edit(fault)),
+    }
+}
+
+/// A copy in which an attribute of a node is absent. The refusals are those of the name.
+pub fn without_name(tree: &Tree, serial: u32, attr: Placed<'_>) -> Result<Tree, Refusal>
+    requires known { IsSome (node_at tree.now.nodes serial) }
+    requires name { IsText attr.text.now }
+    requires column { IsColumn attr.column }
+    ensures ok { IfOk result (λ edited. at_node tree.now.nodes serial (λ n. attr_unset_by formats tree.now n attr.entry.text.now attr.entry.column) ≡ Ok edited) }
+    ensures err { IfErr result (IsRefusedBy (at_node tree.now.nodes serial (λ n. attr_unset_by formats tree.now n attr.entry.text.now attr.entry.column))) }
+{
+    let name = match read_name(named(tree, serial, attr)) {
+        Ok(name) => name,
+        Err(refusal) => return Err(refusal),
+    };
+    let mut edited = tree.copy()?;
+    edited.unset(serial, name);
+    Ok(edited)
+}
+
+/// A copy in which a node has one more child, at a place counted from 1. The refusals are those of the line's kind, of the
+/// place, of the line's attributes, and of the edit.
+pub fn with_child(
+    alloc: Global,
+    tree: &Tree,
+    parent: u32,
+    place: usize,
+    line: Placed<'_>,
+) -> Result<Tree, Refusal>
+    requires known { IsSome (node_at tree.now.nodes parent) }
+    requires line { IsText line.text.now }
+    requires column { IsColumn line.column }
+    ensures ok { IfOk result (λ edited. at_node tree.now.nodes parent (λ p. node_inserted_by limits formats tree.now p place line.entry.text.now line.entry.column) ≡ Ok edited) }
+    ensures err { IfErr result (IsRefusedBy (at_node tree.now.nodes parent (λ p. node_inserted_by limits formats tree.now p place line.entry.text.now line.entry.column))) }
+{
+    let kind = match read_line_kind(line) {
+        Ok(kind) => kind,
+        Err(refusal) => return Err(refusal),
+    };
+    if let Err(fault) = tree.may_insert(parent, place, kind) {
+        return Err(refused_edit(fault));
+    }
+    let attrs = match read_line_attrs(alloc, tree.kind(parent), line) {
+        Ok(attrs) => attrs,
+        Err(refusal) => return Err(refusal),
+    };
+    let mut edited = tree.copy()?;
+    match edited.insert(parent, place, kind, attrs) {
+        Ok(_) => Ok(edited),
+        Err(fault) => Err(refused_edit(fault)),
+    }
+}
+
+/// A copy without a node and all below it. `Root` where it has no parent.
+pub fn without_node(tree: &Tree, serial: u32) -> Result<Tree, Refusal>
+    requires { IsSome (node_at tree.now.nodes serial) }
+    ensures ok { IfOk result (λ edited. at_node tree.now.nodes serial (node_removed_from tree.now) ≡ Ok edited) }
+    ensures err { IfErr result (IsRefusedBy (at_node tree.now.nodes serial (node_removed_from tree.now))) }
+{
+    let mut edited = tree.copy()?;
+    match edited.remove(serial) {
+        Ok(()) => Ok(edited),
+        Err(fault) => Err(refused_edit(fault)),
+    }
+}
+
+// An attribute of a node.
+fn named<'a>(tree: &Tree, serial: u32, attr: Placed<'a>) -> Named<'a>
+    requires { IsSome (node_at tree.now.nodes serial) }
+    ensures kind { (n : AnyNode) → node_at tree.now.nodes serial ≡ Some n → result.kind ≡ n.kind }
+    ensures parent { (n : AnyNode) → node_at tree.now.nodes serial ≡ Some n → result.parent ≡ kind_of (node_at tree.now.nodes n.parent) }
+    ensures name { result.name.now ≡ attr.entry.text.now }
+    ensures column { result.column ≡ attr.entry.column }
+{
+    let above = match tree.parent(serial) {
+        Some(parent) => Some(tree.kind(parent)),
+        None => None,
+    };
+    Named {
+        kind: tree.kind(serial),
+        parent: above,
+        name: attr.text,
+        column: attr.column,
+    }
+}

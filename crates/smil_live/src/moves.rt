@@ -1,0 +1,410 @@
+//! Orders that go on from the present state, or back to an earlier one.
+
+ghost use Rattle.std.specs.Prelude.{◌≡◌, ◌≤◌, ◌++◌, drop, length as length_of, true, None, OnOk, OnErr, IfOk, IfErr, IfSome, IfNone, ◌≤ℤ◌, ◌+ℤ◌, pos, [], ◌∷◌, Some};
+ghost use Rattle.smil_model.specs.declared.order.Order.TheVariants as order;
+ghost use Rattle.smil_model.specs.document.Document.{is_continuous, elements, node_at};
+ghost use Rattle.smil_model.specs.document.Values.{is_clock};
+ghost use Rattle.smil_model.specs.diary.Logs.{may_happen};
+ghost use Rattle.smil_model.specs.shown.Answers.{Accepts, IsGiven, Refuses};
+ghost use Rattle.smil_model.specs.shown.Orders.{IsState};
+ghost use Rattle.smil_grammar.specs.Formats.{formats};
+ghost use Rattle.smil_report.specs.Words.{Begins};
+ghost use Rattle.smil_cells.specs.Standing.{GoesOn, NothingBefore, Standing, IsSettled};
+ghost use Rattle.smil_live.specs.Kept.{IsShown, views_at};
+ghost use Rattle.smil_live.specs.Moves.{IsHeardBy, IsNotHeard, IsReplayed, IsShownAt, IsTooFull, MayMove, changes_by, made, sought_of, text_of, IsFirstDue};
+ghost use Rattle.smil_model.specs.declared.document.Node.{Node as AnyNode};
+ghost use Rattle.smil_live.specs.Seen.{has_view, view_now, with_view};
+ghost use Rattle.smil_live.specs.Told.{lines_between};
+
+use super::faults::refused_book;
+use super::lines::put_view;
+use super::playing::Playing;
+use super::replay::{Extent, entries_until, replayed};
+use super::seen::{Seen, view_in};
+use smil_cells::{Cells, Table};
+use smil_model::{
+    Bytes, Duplicate, HORIZON, Happening, Kind, LOG_ENTRIES, LogEntry, Refusal, Steps, Who,
+};
+use std::alloc::AllocError;
+use std::sync::ledger::Ledger;
+
+/// How a presentation goes on from its present state. Moments are in milliseconds of document time.
+#[derive(Debug, Drop)]
+pub enum Move {
+    /// It plays on to a moment, and tells the changes of each moment on the way.
+    Pass(i64),
+    /// It plays on to a moment, and tells what is different there.
+    Settle(i64),
+    /// Something comes from outside at the present moment.
+    Hear(LogEntry),
+}
+
+impl<T: Table> Playing<T> {
+    /// The clock moves on by so many milliseconds. `BeyondHorizon` where it would pass 10^12, then `DiaryFull`.
+    pub fn advance<L: Ledger>(
+        &mut self,
+        by: i64,
+        out: &mut Bytes,
+        steps: &mut Steps<L>,
+    ) -> Result<(), Refusal>
+        requires { is_clock by ≡ true }
+        ensures ok { OnOk result (Accepts formats self.old self.new (order.Advance by) (drop (length_of out.old) out.new)) }
+        ensures appended { OnOk result (out.new ≡ out.old ++ drop (length_of out.old) out.new) }
+        ensures refused { IfErr result (Refuses formats self.old (order.Advance by)) }
+        ensures kept { OnErr result (self.new ≡ self.old) }
+        ensures text { OnErr result (out.new ≡ out.old) }
+        ensures counted { steps.old ≤ steps.new }
+    {
+        let to = self.cells.moment() + by;
+        if to > HORIZON {
+            return Err(Refusal::BeyondHorizon);
+        }
+        if let Err(refusal) = self.go(Move::Pass(to), out, steps) {
+            return Err(refusal);
+        }
+        self.settled();
+        Ok(())
+    }
+
+    /// Moves to a moment. Backward, the log entries that are later are removed. `DiaryFull` where the diary would have too many
+    /// entries.
+    pub fn seek<L: Ledger>(
+        &mut self,
+        to: i64,
+        out: &mut Bytes,
+        steps: &mut Steps<L>,
+    ) -> Result<(), Refusal>
+        requires { is_clock to ≡ true }
+        ensures ok { OnOk result (Accepts formats self.old self.new (order.Seek to) (drop (length_of out.old) out.new)) }
+        ensures appended { OnOk result (out.new ≡ out.old ++ drop (length_of out.old) out.new) }
+        ensures refused { IfErr result (Refuses formats self.old (order.Seek to)) }
+        ensures kept { OnErr result (self.new ≡ self.old) }
+        ensures text { OnErr result (out.new ≡ out.old) }
+        ensures counted { steps.old ≤ steps.new }
+    {
+        if to < self.cells.moment() {
+            return self.seek_back(to, out, steps);
+        }
+        if let Err(refusal) = self.go(Move::Settle(to), out, steps) {
+            return Err(refusal);
+        }
+        self.settled();
+        Ok(())
+    }
+
+    // Moves to an earlier moment: the presentation is made anew with the log up to it.
+    fn seek_back<L: Ledger>(
+        &mut self,
+        to: i64,
+        out: &mut Bytes,
+        steps: &mut Steps<L>,
+    ) -> Result<(), Refusal>
+        requires clock { is_clock to ≡ true }
+        requires back { to ≤ℤ pos self.old.now }
+        ensures ok { OnOk result (Accepts formats self.old self.new (order.Seek to) (drop (length_of out.old) out.new)) }
+        ensures appended { OnOk result (out.new ≡ out.old ++ drop (length_of out.old) out.new) }
+        ensures refused { IfErr result (Refuses formats self.old (order.Seek to)) }
+        ensures kept { OnErr result (self.new ≡ self.old) }
+        ensures text { OnErr result (out.new ≡ out.old) }
+        ensures counted { steps.old ≤ steps.new }
+    {
+        self.settled();
+        match self.made_at(to, steps) {
+            Ok(mut cells) => self.take_over(&mut cells, out),
+            Err(refusal) => Err(refusal),
+        }
+    }
+
+    // The cells of an earlier moment, made anew with the log up to it.
+    fn made_at<L: Ledger>(&self, to: i64, steps: &mut Steps<L>) -> Result<Cells<T>, Refusal>
+        requires clock { is_clock to ≡ true }
+        ensures ok { IfOk result (IsReplayed (sought_of self.now to)) }
+        ensures refused { IfErr result (IsTooFull (sought_of self.now to)) }
+        ensures state { IsState (sought_of self.now to) }
+        ensures counted { steps.old ≤ steps.new }
+    {
+        let log = self.cells.log();
+        let len = entries_until(log, to);
+        let doc = self.cells.tree().doc_copy()?;
+        replayed(self.alloc, &doc, log, Extent { len, to }, steps)
+    }
+
+    /// An event on an element. `NoElement` where there is no such node, `BadPlace` where it is a priorityClass, then `LogFull`
+    /// and `DiaryFull`.
+    pub fn event<L: Ledger>(
+        &mut self,
+        who: &Who,
+        name: &Bytes,
+        out: &mut Bytes,
+        steps: &mut Steps<L>,
+    ) -> Result<(), Refusal>
+        requires { IsGiven (order.Event who.now name.now) }
+        ensures ok { OnOk result (Accepts formats self.old self.new (order.Event who.now name.now) (drop (length_of out.old) out.new)) }
+        ensures appended { OnOk result (out.new ≡ out.old ++ drop (length_of out.old) out.new) }
+        ensures refused { IfErr result (Refuses formats self.old (order.Event who.now name.now)) }
+        ensures kept { OnErr result (self.new ≡ self.old) }
+        ensures text { OnErr result (out.new ≡ out.old) }
+        ensures counted { steps.old ≤ steps.new }
+    {
+        self.settled();
+        let serial = self.element(who)?;
+        let name = name.copy()?;
+        self.hear(Happening::Event { who: serial, name }, out, steps)
+    }
+
+    /// The length of a node's media. `NoElement` where there is no such node, `NotContinuous` where its media have no length,
+    /// then `LogFull` and `DiaryFull`.
+    pub fn media<L: Ledger>(
+        &mut self,
+        who: &Who,
+        length: i64,
+        out: &mut Bytes,
+        steps: &mut Steps<L>,
+    ) -> Result<(), Refusal>
+        requires { IsGiven (order.Media who.now length) }
+        ensures ok { OnOk result (Accepts formats self.old self.new (order.Media who.now length) (drop (length_of out.old) out.new)) }
+        ensures appended { OnOk result (out.new ≡ out.old ++ drop (length_of out.old) out.new) }
+        ensures refused { IfErr result (Refuses formats self.old (order.Media who.now length)) }
+        ensures kept { OnErr result (self.new ≡ self.old) }
+        ensures text { OnErr result (out.new ≡ out.old) }
+        ensures counted { steps.old ≤ steps.new }
+    {
+        let serial = self.node(who)?;
+        if !is_continuous(self.cells.tree().kind(serial)) {
+            return Err(Refusal::NotContinuous);
+        }
+        let what = Happening::Media {
+            who: serial,
+            length,
+        };
+        self.hear(what, out, steps)
+    }
+
+    /// What came from outside joins the log at the present moment, and what follows happens. `LogFull` where the log is, then
+    /// `DiaryFull`.
+    pub fn hear<L: Ledger>(
+        &mut self,
+        what: Happening,
+        out: &mut Bytes,
+        steps: &mut Steps<L>,
+    ) -> Result<(), Refusal>
+        requires { may_happen what ≡ true }
+        ensures ok { OnOk result (IsHeardBy self.old what self.new (drop (length_of out.old) out.new)) }
+        ensures appended { OnOk result (out.new ≡ out.old ++ drop (length_of out.old) out.new) }
+        ensures refused { IfErr result (IsNotHeard self.old what) }
+        ensures kept { OnErr result (self.new ≡ self.old) }
+        ensures text { OnErr result (out.new ≡ out.old) }
+        ensures counted { steps.old ≤ steps.new }
+    {
+        if self.cells.log().len() >= LOG_ENTRIES {
+            return Err(Refusal::LogFull);
+        }
+        let moment = self.cells.moment();
+        let entry = LogEntry { moment, what };
+        if let Err(refusal) = self.go(Move::Hear(entry), out, steps) {
+            return Err(refusal);
+        }
+        self.settled();
+        Ok(())
+    }
+
+    // Goes on under a mark: by the whole move, or not at all.
+    fn go<L: Ledger>(
+        &mut self,
+        step: Move,
+        out: &mut Bytes,
+        steps: &mut Steps<L>,
+    ) -> Result<(), Refusal>
+        requires { MayMove self.old step }
+        ensures state { OnOk result (self.new ≡ made self.old step) }
+        ensures told { OnOk result (out.new ≡ out.old ++ text_of self.old (changes_by self.old step)) }
+        ensures refused { IfErr result (IsTooFull (made self.old step)) }
+        ensures kept { OnErr result (self.new ≡ self.old) }
+        ensures text { OnErr result (out.new ≡ out.old) }
+        ensures counted { steps.old ≤ steps.new }
+    {
+        let len = out.len();
+        let cells = &mut self.cells;
+        let seen = &mut self.seen;
+        cells.mark();
+        let gone = go_on(cells, seen, step, out, steps);
+        match gone {
+            Ok(()) => {
+                cells.forget();
+                seen.forget();
+            }
+            Err(_) => {
+                cells.back();
+                seen.back();
+                out.cut_back(len);
+            }
+        }
+        gone
+    }
+}
+
+// Goes on by a move, and tells what it changes.
+fn go_on<T: Table, L: Ledger>(
+    cells: &mut Cells<T>,
+    seen: &mut Seen,
+    step: Move,
+    out: &mut Bytes,
+    steps: &mut Steps<L>,
+) -> Result<(), Refusal>
+    requires may { MayMove cells.old.presentation step }
+    requires shown { IsShown cells.old seen.old }
+    ensures ok { OnOk result (IsShownAt (made cells.old.presentation step) cells.new seen.new) }
+    ensures told { OnOk result (out.new ≡ out.old ++ text_of cells.old.presentation (changes_by cells.old.presentation step)) }
+    ensures refused { IfErr result (IsTooFull (made cells.old.presentation step)) }
+    ensures marked { cells.new.marked ≡ cells.old.marked }
+    ensures before { seen.new.before ≡ seen.old.before }
+    ensures begins { Begins out.old out.new }
+    ensures counted { steps.old ≤ steps.new }
+{
+    match step {
+        Move::Pass(to) => pass_through(cells, seen, to, out, steps),
+        Move::Settle(to) => settle_once(cells, seen, to, out, steps),
+        Move::Hear(entry) => hear_once(cells, seen, entry, out, steps),
+    }
+}
+
+// Goes on up to a moment, and tells the changes of each moment on the way.
+fn pass_through<T: Table, L: Ledger>(
+    cells: &mut Cells<T>,
+    seen: &mut Seen,
+    to: i64,
+    out: &mut Bytes,
+    steps: &mut Steps<L>,
+) -> Result<(), Refusal>
+    requires may { MayMove cells.old.presentation (Move.Pass to) }
+    requires shown { IsShown cells.old seen.old }
+    ensures ok { OnOk result (IsShownAt (made cells.old.presentation (Move.Pass to)) cells.new seen.new) }
+    ensures told { OnOk result (out.new ≡ out.old ++ text_of cells.old.presentation (changes_by cells.old.presentation (Move.Pass to))) }
+    ensures refused { IfErr result (IsTooFull (made cells.old.presentation (Move.Pass to))) }
+    ensures marked { cells.new.marked ≡ cells.old.marked }
+    ensures before { seen.new.before ≡ seen.old.before }
+    ensures begins { Begins out.old out.new }
+    ensures counted { steps.old ≤ steps.new }
+{
+    while let Some(due) = due_by(cells, to) {
+        if let Err(refusal) = settle_once(cells, seen, due, out, steps) {
+            return Err(refusal);
+        }
+    }
+    settle_once(cells, seen, to, out, steps)
+}
+
+// The moment of what comes first, where it is due by a moment.
+fn due_by<T: Table>(cells: &Cells<T>, to: i64) -> Option<i64>
+    requires { cells.now.fault ≡ None }
+    ensures within { IfSome result (λ due. due ≤ℤ to) }
+    ensures first { IfSome result (IsFirstDue cells.now) }
+    ensures none { IfNone result (NothingBefore cells.now (to +ℤ pos 1)) }
+{
+    let due = cells.next_due()?;
+    if due <= to { Some(due) } else { None }
+}
+
+// Goes on up to a moment, and tells what is different there.
+fn settle_once<T: Table, L: Ledger>(
+    cells: &mut Cells<T>,
+    seen: &mut Seen,
+    to: i64,
+    out: &mut Bytes,
+    steps: &mut Steps<L>,
+) -> Result<(), Refusal>
+    requires may { MayMove cells.old.presentation (Move.Settle to) }
+    requires shown { IsShown cells.old seen.old }
+    ensures ok { OnOk result (IsShownAt (made cells.old.presentation (Move.Settle to)) cells.new seen.new) }
+    ensures told { OnOk result (out.new ≡ out.old ++ text_of cells.old.presentation (changes_by cells.old.presentation (Move.Settle to))) }
+    ensures refused { IfErr result (IsTooFull (made cells.old.presentation (Move.Settle to))) }
+    ensures marked { cells.new.marked ≡ cells.old.marked }
+    ensures before { seen.new.before ≡ seen.old.before }
+    ensures begins { Begins out.old out.new }
+    ensures counted { steps.old ≤ steps.new }
+{
+    match cells.settle(to, steps) {
+        Ok(()) => put_touched(cells, seen, out),
+        Err(fault) => Err(refused_book(fault)),
+    }
+}
+
+// Takes in a log entry, and tells what is different behind it.
+fn hear_once<T: Table, L: Ledger>(
+    cells: &mut Cells<T>,
+    seen: &mut Seen,
+    entry: LogEntry,
+    out: &mut Bytes,
+    steps: &mut Steps<L>,
+) -> Result<(), Refusal>
+    requires may { MayMove cells.old.presentation (Move.Hear entry) }
+    requires shown { IsShown cells.old seen.old }
+    ensures ok { OnOk result (IsShownAt (made cells.old.presentation (Move.Hear entry)) cells.new seen.new) }
+    ensures told { OnOk result (out.new ≡ out.old ++ text_of cells.old.presentation (changes_by cells.old.presentation (Move.Hear entry))) }
+    ensures refused { IfErr result (IsTooFull (made cells.old.presentation (Move.Hear entry))) }
+    ensures marked { cells.new.marked ≡ cells.old.marked }
+    ensures before { seen.new.before ≡ seen.old.before }
+    ensures begins { Begins out.old out.new }
+    ensures counted { steps.old ≤ steps.new }
+{
+    match cells.hear(entry, steps) {
+        Ok(()) => put_touched(cells, seen, out),
+        Err(fault) => Err(refused_book(fault)),
+    }
+}
+
+// Puts the views of the touched elements in place, and appends the lines of those that differ from the views of an earlier
+// state, of which the last call may have changed these alone.
+fn put_touched<T: Table>(cells: &Cells<T>, seen: &mut Seen, out: &mut Bytes) -> Result<(), Refusal>
+    requires sound { cells.now.fault ≡ None }
+    requires state { IsState cells.now.presentation }
+    requires settled { IsSettled cells.now }
+    requires from { (old : Standing) × GoesOn old cells.now × (seen.old.views ≡ views_at old) × (cells.now.presentation.document ≡ old.presentation.document) }
+    ensures views { OnOk result (seen.new.views ≡ views_at cells.now) }
+    ensures told { OnOk result (out.new ≡ out.old ++ lines_between cells.now.presentation.document.nodes cells.now.presentation.now seen.old.views (views_at cells.now)) }
+    ensures refused { IfErr result (λ refusal. refusal ≡ Refusal.Memory) }
+    ensures before { seen.new.before ≡ seen.old.before }
+    ensures begins { Begins out.old out.new }
+{
+    for serial in cells.touched().slice() {
+        if put_one(cells, seen, *serial, out).is_err() {
+            return Err(Refusal::Memory);
+        }
+    }
+    Ok(())
+}
+
+// Puts the view of an element in its place, and appends its line where it differs from that before.
+fn put_one<T: Table>(
+    cells: &Cells<T>,
+    seen: &mut Seen,
+    serial: u32,
+    out: &mut Bytes,
+) -> Result<(), AllocError>
+    requires sound { cells.now.fault ≡ None }
+    requires state { IsState cells.now.presentation }
+    requires settled { IsSettled cells.now }
+    requires element { (e : AnyNode) × (node_at (elements cells.now.presentation.document.nodes) serial ≡ Some e) }
+    requires known { has_view seen.old.views serial ≡ true }
+    ensures view { (e : AnyNode) → node_at (elements cells.now.presentation.document.nodes) serial ≡ Some e → OnOk result (seen.new ≡ with_view seen.old (view_now cells.now e)) }
+    ensures told { (e : AnyNode) → node_at (elements cells.now.presentation.document.nodes) serial ≡ Some e → OnOk result (out.new ≡ out.old ++ lines_between cells.now.presentation.document.nodes cells.now.presentation.now seen.old.views (view_now cells.now e ∷ [])) }
+    ensures before { seen.new.before ≡ seen.old.before }
+    ensures begins { Begins out.old out.new }
+{
+    let view = view_in(cells, serial);
+    if seen.put(view)? {
+        put_view(cells.tree(), cells.moment(), &view, out)
+    } else {
+        Ok(())
+    }
+}
+
+// Whether media of this kind have a length.
+fn is_continuous(kind: Kind) -> bool
+    ensures { result ≡ is_continuous kind }
+{
+    matches!(
+        kind,
+        Kind::Audio | Kind::Video | Kind::Animation | Kind::TextStream | Kind::Ref
+    )
+}

@@ -1,0 +1,263 @@
+//! A presentation that answers orders.
+
+ghost use Rattle.std.specs.Prelude.{◌≡◌, ◌≤◌, ◌++◌, ◌⊎◌, drop, length, true, Some, IsSome, Ok, Err, OnOk, OnErr, IfOk, IfErr};
+ghost use Rattle.smil_model.specs.declared.document.Node.{Node as AnyNode};
+ghost use Rattle.smil_model.specs.declared.order.Order.TheVariants as order;
+ghost use Rattle.smil_model.specs.diary.Logs.{is_serial};
+ghost use Rattle.smil_model.specs.document.Document.{node_at};
+ghost use Rattle.smil_model.specs.document.Valid.{IsValid};
+ghost use Rattle.smil_model.specs.happening.Resolution.{diary_of};
+ghost use Rattle.smil_model.specs.shown.Orders.{IsState, course_of, found, node_of, opened};
+ghost use Rattle.smil_model.specs.shown.Answers.{Accepts, IsGiven, Refuses, load_text};
+ghost use Rattle.smil_grammar.specs.Formats.{formats};
+ghost use Rattle.smil_live.specs.Kept.{IsPlaying};
+ghost use Rattle.smil_live.specs.Moves.{IsReplayed};
+ghost use Rattle.smil_live.specs.Telling.{element_named, is_edit};
+
+use super::lines::put_differences;
+use super::replay::{Extent, replayed};
+use super::seen::Seen;
+use super::values::Placed;
+use smil_cells::{Cells, PlainTable, Table};
+use smil_model::{Bytes, Doc, Happening, Log, Order, Player, Refusal, Steps, Who};
+use std::alloc::Global;
+use std::marker::Model;
+use std::sync::ledger::Ledger;
+
+/// A presentation that evaluates every element after each happening.
+pub type Presentation = Playing<PlainTable>;
+
+/// A presentation, seen as its document, its log and its moment, in milliseconds of document time. It answers every order.
+#[derive(Drop)]
+pub struct Playing<T: Table> {
+    pub cells: Cells<T>,
+    pub seen: Seen,
+    pub alloc: Global,
+}
+
+impl<T: Table> Model for Playing<T> {
+    ghost use Rattle.smil_model.specs.shown.Orders.{Presentation as State};
+    ghost use Rattle.smil_live.specs.Kept.{IsPlaying};
+
+    ghost Value = { State };
+
+    ghost view = { λ p. p.cells.presentation };
+
+    ghost invariant = { λ p. IsPlaying p.cells p.seen };
+}
+
+impl<T: Table> Playing<T> {
+    /// Opens a valid document at moment 0 with an empty log, and appends the lines of what is shown of it. `DiaryFull` where
+    /// its diary has too many entries, `Memory` where memory runs out; after a refusal `out` is as before.
+    pub fn new<L: Ledger>(
+        alloc: Global,
+        doc: Doc,
+        out: &mut Bytes,
+        steps: &mut Steps<L>,
+    ) -> Result<Self, Refusal>
+        requires { IsValid doc }
+        ensures state { IfOk result (λ playing. opened doc ≡ Ok playing) }
+        ensures answer { IfOk result (λ playing. out.new ≡ out.old ++ load_text playing) }
+        ensures refused { IfErr result (λ refusal. (refusal ≡ Refusal.Memory) ⊎ (opened doc ≡ Err refusal)) }
+        ensures text { OnErr result (out.new ≡ out.old) }
+        ensures counted { steps.old ≤ steps.new }
+    {
+        let extent = Extent { len: 0, to: 0 };
+        match replayed(alloc, &doc, &Log::new(alloc), extent, steps) {
+            Ok(cells) => Playing::over(alloc, cells, out),
+            Err(refusal) => Err(refusal),
+        }
+    }
+
+    // A presentation over cells that are settled at moment 0, with the lines of what is shown of it.
+    fn over(alloc: Global, cells: Cells<T>, out: &mut Bytes) -> Result<Self, Refusal>
+        requires state { IsState cells.presentation }
+        requires replayed { IsReplayed cells.presentation cells }
+        requires moment { cells.presentation.now ≡ 0 }
+        ensures state { IfOk result (λ playing. playing ≡ cells.presentation) }
+        ensures answer { IfOk result (λ playing. out.new ≡ out.old ++ load_text playing) }
+        ensures refused { IfErr result (λ refusal. refusal ≡ Refusal.Memory) }
+        ensures text { OnErr result (out.new ≡ out.old) }
+    {
+        match put_first(alloc, &cells, out) {
+            Ok(seen) => Ok(Playing { cells, seen, alloc }),
+            Err(refusal) => Err(refusal),
+        }
+    }
+
+    /// The serial of a node. `NoElement` where there is no such node.
+    pub fn node(&self, who: &Who) -> Result<u32, Refusal>
+        ensures ok { IfOk result (λ serial. (n : AnyNode) × (node_of self.now.document.nodes who.now ≡ Some n) × (serial ≡ n.serial)) }
+        ensures known { IfOk result (λ serial. IsSome (node_at self.now.document.nodes serial)) }
+        ensures serial { IfOk result (λ serial. is_serial serial ≡ true) }
+        ensures err { IfErr result (λ refusal. found (node_of self.now.document.nodes who.now) ≡ Err refusal) }
+    {
+        match self.cells.tree().find(who) {
+            Some(serial) => Ok(serial),
+            None => Err(Refusal::NoElement),
+        }
+    }
+
+    /// The serial of an element. `NoElement` where there is no such node, `BadPlace` where it is a priorityClass.
+    pub fn element(&self, who: &Who) -> Result<u32, Refusal>
+        ensures ok { IfOk result (λ serial. (n : AnyNode) × (element_named self.now who.now ≡ Ok n) × (serial ≡ n.serial)) }
+        ensures serial { IfOk result (λ serial. is_serial serial ≡ true) }
+        ensures err { IfErr result (λ refusal. element_named self.now who.now ≡ Err refusal) }
+    {
+        let serial = self.node(who)?;
+        if self.cells.tree().kind(serial).is_element() {
+            Ok(serial)
+        } else {
+            Err(Refusal::BadPlace)
+        }
+    }
+
+    /// A presentation is a state, and has its diary: a law for proofs, which costs nothing.
+    pub fn settled(&self)
+        ensures state { IsState self.now }
+        ensures diary { IsSome (diary_of (course_of self.now)) }
+    {
+        let _kept = &self.seen;
+    }
+
+    // Hears a key, and tells what changes.
+    fn press<L: Ledger>(
+        &mut self,
+        key: u8,
+        out: &mut Bytes,
+        steps: &mut Steps<L>,
+    ) -> Result<(), Refusal>
+        requires { IsGiven (order.Key key) }
+        ensures ok { OnOk result (Accepts formats self.old self.new (order.Key key) (drop (length out.old) out.new)) }
+        ensures appended { OnOk result (out.new ≡ out.old ++ drop (length out.old) out.new) }
+        ensures refused { IfErr result (Refuses formats self.old (order.Key key)) }
+        ensures kept { OnErr result (self.new ≡ self.old) }
+        ensures text { OnErr result (out.new ≡ out.old) }
+        ensures counted { steps.old ≤ steps.new }
+    {
+        self.settled();
+        self.hear(Happening::Key { key }, out, steps)
+    }
+
+    // Answers an order that edits the document.
+    fn edit<L: Ledger>(
+        &mut self,
+        order: &Order,
+        out: &mut Bytes,
+        steps: &mut Steps<L>,
+    ) -> Result<(), Refusal>
+        requires given { IsGiven order.now }
+        requires edits { is_edit order.now ≡ true }
+        ensures ok { OnOk result (Accepts formats self.old self.new order.now (drop (length out.old) out.new)) }
+        ensures appended { OnOk result (out.new ≡ out.old ++ drop (length out.old) out.new) }
+        ensures refused { IfErr result (Refuses formats self.old order.now) }
+        ensures kept { OnErr result (self.new ≡ self.old) }
+        ensures text { OnErr result (out.new ≡ out.old) }
+        ensures counted { steps.old ≤ steps.new }
+    {
+        match order {
+            Order::Set {
+                who,
+                attr,
+                value,
+                attr_column,
+                column,
+            } => self.set(
+                who,
+                placed(attr, *attr_column),
+                placed(value, *column),
+                out,
+                steps,
+            ),
+            Order::Unset {
+                who,
+                attr,
+                attr_column,
+            } => self.unset(who, placed(attr, *attr_column), out, steps),
+            Order::Insert {
+                who,
+                place,
+                node,
+                column,
+            } => self.insert(who, *place, placed(node, *column), out, steps),
+            Order::Remove { who } => self.remove(who, out, steps),
+            _ => unreachable!(),
+        }
+    }
+}
+
+impl<T: Table> Player for Playing<T> {
+    ghost use Rattle.std.specs.Prelude.{None, true};
+    ghost use Rattle.smil_grammar.specs.Formats.{formats};
+
+    ghost formats = { λ _. formats };
+
+    ghost presentation = { λ p. p };
+
+    ghost takes = { λ _ _. true };
+
+    ghost least_steps = { λ _ _. None };
+
+    ghost most_steps = { λ _ _. None };
+
+    fn now(&self) -> i64 {
+        self.cells.moment()
+    }
+
+    fn answer<L: Ledger>(
+        &mut self,
+        order: &Order,
+        out: &mut Bytes,
+        steps: &mut Steps<L>,
+    ) -> Result<(), Refusal> {
+        match order {
+            Order::Advance { by } => self.advance(*by, out, steps),
+            Order::Seek { to } => self.seek(*to, out, steps),
+            Order::Event { who, name } => self.event(who, name, out, steps),
+            Order::Media { who, length } => self.media(who, *length, out, steps),
+            Order::Key { key } => self.press(*key, out, steps),
+            Order::Set { .. } | Order::Unset { .. } | Order::Insert { .. } | Order::Remove { .. } =>
+                self.edit(order, out, steps),
+            Order::Show
+            | Order::History { .. }
+            | Order::Text
+            | Order::Save
+            | Order::Values
+            | Order::Stack { .. }
+            | Order::Diary => self.tell(order, out),
+        }
+    }
+}
+
+// A text in an order's line, with its column.
+fn placed(text: &Bytes, column: u32) -> Placed<'_>
+    ensures text { result.text.now ≡ text.now }
+    ensures column { result.column ≡ column }
+{
+    Placed {
+        text: text.slice(),
+        column,
+    }
+}
+
+// The views of cells that are settled at moment 0, with their lines appended.
+fn put_first<T: Table>(alloc: Global, cells: &Cells<T>, out: &mut Bytes) -> Result<Seen, Refusal>
+    requires state { IsState cells.now.presentation }
+    requires replayed { IsReplayed cells.now.presentation cells.now }
+    requires moment { cells.now.presentation.now ≡ 0 }
+    ensures seen { IfOk result (IsPlaying cells.now) }
+    ensures answer { OnOk result (out.new ≡ out.old ++ load_text cells.now.presentation) }
+    ensures refused { IfErr result (λ refusal. refusal ≡ Refusal.Memory) }
+    ensures text { OnErr result (out.new ≡ out.old) }
+{
+    let seen = match Seen::of(alloc, cells) {
+        Ok(seen) => seen,
+        Err(_) => return Err(Refusal::Memory),
+    };
+    let len = out.len();
+    if let Err(_) = put_differences(cells.tree(), 0, &Seen::none(alloc), &seen, out) {
+        out.cut_back(len);
+        return Err(Refusal::Memory);
+    }
+    Ok(seen)
+}

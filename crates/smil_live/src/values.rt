@@ -1,0 +1,138 @@
+//! Values and node lines of orders, read.
+
+ghost use Rattle.std.specs.Prelude.{◌≡◌, ◌≤◌, ◌<◌, ◌+◌, ◌-◌, length, Option, IfOk, IfErr, IfSome};
+ghost use Rattle.smil_grammar.specs.Formats.{attr_in_line, attrs_in_line, kind_in_line, name_in_line};
+ghost use Rattle.smil_grammar.specs.Outlines.{refused};
+ghost use Rattle.smil_live.specs.Refusing.{IsInText, IsPlaced, of_value};
+ghost use Rattle.smil_model.specs.shown.Answers.{IsColumn, IsText};
+ghost use Rattle.smil_outline.specs.Gives.{GivesReading};
+
+use smil_attrs::{AttrFault, NodeFault, attr_name, read_attr, read_kind, read_node};
+use smil_model::{Attr, AttrName, Attrs, Kind, Refusal};
+use std::alloc::Global;
+
+/// An attribute as an order names it, with the column of its name in the order's line, and of a node of a kind under a
+/// parent of another, None being for the root.
+#[derive(Clone, Copy)]
+pub struct Named<'a> {
+    pub kind: Kind,
+    pub parent: Option<Kind>,
+    pub name: &'a [u8],
+    pub column: u32,
+}
+
+/// A text in an order's line, with its column.
+#[derive(Clone, Copy)]
+pub struct Placed<'a> {
+    pub text: &'a [u8],
+    pub column: u32,
+}
+
+/// The attribute that an order sets, read; or the refusal of its name or its value.
+pub fn read_value(alloc: Global, named: Named<'_>, value: Placed<'_>) -> Result<Attr, Refusal>
+    requires name { IsText named.name.now }
+    requires value { IsText value.text.now }
+    requires column { IsColumn named.column }
+    requires value_column { IsColumn value.column }
+    ensures { GivesReading result (attr_in_line named.entry.kind named.entry.parent named.entry.name.now value.entry.text.now named.entry.column value.entry.column) }
+{
+    match read_attr(alloc, named.kind, named.parent, named.name, value.text) {
+        Ok(attr) => Ok(attr),
+        Err(fault) => Err(refused_value(fault, named.column, value.column)),
+    }
+}
+
+/// The name of the attribute that an order takes away, read; or its refusal.
+pub fn read_name(named: Named<'_>) -> Result<AttrName, Refusal>
+    requires name { IsText named.name.now }
+    requires column { IsColumn named.column }
+    ensures { result ≡ name_in_line named.entry.kind named.entry.name.now named.entry.column }
+{
+    match attr_name(named.kind, named.name) {
+        Ok(name) => Ok(name),
+        Err(fault) => Err(refused_value(fault, named.column, named.column)),
+    }
+}
+
+/// The kind of the node line of an order, read; or its refusal.
+pub fn read_line_kind(line: Placed<'_>) -> Result<Kind, Refusal>
+    requires line { IsText line.text.now }
+    requires column { IsColumn line.column }
+    ensures { result ≡ kind_in_line line.entry.text.now line.entry.column }
+{
+    match read_kind(line.text) {
+        Ok(kind) => Ok(kind),
+        Err(fault) => Err(refused_line(fault, line.column)),
+    }
+}
+
+/// The attributes of the node line of an order, under a parent of this kind; or the refusal of the first that is refused.
+pub fn read_line_attrs(alloc: Global, parent: Kind, line: Placed<'_>) -> Result<Attrs, Refusal>
+    requires line { IsText line.text.now }
+    requires column { IsColumn line.column }
+    ensures { GivesReading result (attrs_in_line parent line.entry.text.now line.entry.column) }
+{
+    match read_node(alloc, Some(parent), line.text) {
+        Ok((_, attrs)) => Ok(attrs),
+        Err(fault) => Err(refused_line(fault, line.column)),
+    }
+}
+
+// The refusal of an attribute whose name and value begin at these columns.
+fn refused_value(fault: AttrFault, name_column: u32, column: u32) -> Refusal
+    requires column { IsColumn column }
+    requires placed { IsPlaced fault }
+    ensures { result ≡ of_value name_column column fault }
+{
+    match fault {
+        AttrFault::UnknownAttribute => Refusal::UnknownAttribute {
+            column: name_column,
+        },
+        AttrFault::UnsupportedName => Refusal::Unsupported {
+            column: name_column,
+        },
+        AttrFault::UnsupportedValue { place } => Refusal::Unsupported {
+            column: behind(column, place),
+        },
+        AttrFault::BadValue { place } => Refusal::BadValue {
+            column: behind(column, place),
+        },
+        AttrFault::TooManyItems => Refusal::TooManyItems { column },
+        AttrFault::Memory => Refusal::Memory,
+    }
+}
+
+// The column of a place, counted from 0, in a text that begins at a column.
+fn behind(column: u32, place: usize) -> u32
+    requires column { IsColumn column }
+    requires place { place ≤ 2147483648 }
+    ensures { result ≡ column + place }
+{
+    column + place as u32
+}
+
+// The refusal of a node line that begins at a column.
+fn refused_line(fault: NodeFault, column: u32) -> Refusal
+    requires column { IsColumn column }
+    requires within { IsInText fault }
+    ensures { result ≡ refused (column - 1) fault }
+{
+    let before = column - 1;
+    match fault {
+        NodeFault::BadOutline => Refusal::BadOutline,
+        NodeFault::BadPlace => Refusal::BadPlace,
+        NodeFault::Unsupported { column } => Refusal::Unsupported {
+            column: before + column,
+        },
+        NodeFault::UnknownAttribute { column } => Refusal::UnknownAttribute {
+            column: before + column,
+        },
+        NodeFault::BadValue { column } => Refusal::BadValue {
+            column: before + column,
+        },
+        NodeFault::TooManyItems { column } => Refusal::TooManyItems {
+            column: before + column,
+        },
+        NodeFault::Memory => Refusal::Memory,
+    }
+}

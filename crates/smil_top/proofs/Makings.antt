@@ -1,0 +1,239 @@
+-- What is made of an order is what it is answered.
+use Rattle.std.proofs.Common.{◌≡◌, ◌⊎◌, ℕ, zero, suc, ℤ, List, [], ◌∷◌, ◌++◌, Option, Some, None, Result, Ok, Err, refl, ap, sym, subst, ◌∙◌, inl, inr}
+use Rattle.std.specs.Prelude.{pos, map, is_some, OnErr, Bool, true, false, option_map, option_and_then, slice_get, slice_set}
+use Rattle.smil_model.specs.declared.order.Order.{Order}
+use Rattle.smil_model.specs.declared.order.Refusal.{Refusal}
+use Rattle.smil_model.specs.declared.order.Refusal.TheVariants.{Memory, NoPresentation}
+use Rattle.smil_model.specs.declared.diary.Entry.{Entry}
+use Rattle.smil_model.specs.document.Document.{Document}
+use Rattle.smil_model.specs.document.Limits.{limits}
+use Rattle.smil_model.specs.happening.Resolution.{diary_within}
+use Rattle.smil_model.specs.shown.Orders.{Formats, Presentation, course_of, kept_where, opened, outcome}
+use Rattle.smil_model.specs.shown.Answers.{answer_text, load_text}
+use Rattle.smil_model.specs.shown.Lines.{ok_line, closed_line}
+use Rattle.smil_grammar.specs.declared.read.Read.{Read}
+use Rattle.smil_grammar.specs.Results.{◌>>=◌}
+use Rattle.smil_grammar.specs.Formats.{formats}
+use Rattle.smil_script.specs.Gives.{GivesRead}
+use Rattle.smil_house.specs.declared.house.Held.{Held}
+use Rattle.smil_house.specs.House.{place_of, load_refusal, without as house_without, IsAt, IsTurned, IsAnsweredBy, IsKeptBy, AreKept, IsRefusedBy, IsAbsent, IsRefused}
+use Rattle.smil_top.specs.declared.answer.Answer.{Answer as AnswerText}
+use Rattle.smil_top.specs.Session.{Named, Session, presentation_of, with_state, without, may_load}
+use Rattle.smil_top.specs.Answers.{Accepted, Given, held, ordered_within, closed, loaded_within, checked, outline_in}
+use Rattle.smil_top.specs.Houses.{Presentations, shown, AreApart, Holds}
+use Rattle.smil_top.specs.Kept.{Makes, Checks, text_of, single_by, load_by}
+use Rattle.smil_top.proofs.HouseLemmas.{presentation-held, some-held, may_load-held, may_load-free, turned-session, turned-apart, closed-session, closed-apart, added-session, added-apart}
+
+-- a refusal of a call that reads is the reading's, unless memory ran out
+pub gives-err : {A : Type 0} (refusal : Refusal) (reading : Result A Refusal) → GivesRead (Err refusal) reading → (refusal ≡ Memory) ⊎ (reading ≡ Err refusal)
+gives-err Memory reading gives = inl refl
+gives-err refusal reading gives = inr gives
+
+-- the presentation that stands at the place of a name
+pub held-at : (name : List ℕ) (house : Presentations) (session : Session) (place : ℕ) (h : Held Presentation) → Holds house session → IsAt name house place h →
+    presentation_of name session ≡ Some h.player
+held-at name house session place h holds at =
+    ap (presentation_of name) holds.session_is
+    ∙ presentation-held name house
+    ∙ ap (λ o. option_map (λ (x : Held Presentation). x.player) (option_and_then (slice_get house) o)) at.found
+    ∙ ap (λ o. option_map (λ (x : Held Presentation). x.player) o) at.here
+
+-- there is none of this name
+pub held-nowhere : (name : List ℕ) (house : Presentations) (session : Session) → Holds house session → place_of name house ≡ None →
+    presentation_of name session ≡ None
+held-nowhere name house session holds none =
+    ap (presentation_of name) holds.session_is
+    ∙ presentation-held name house
+    ∙ ap (λ o. option_map (λ (x : Held Presentation). x.player) (option_and_then (slice_get house) o)) none
+
+-- where there is a place, there is one
+pub some-presentation : (name : List ℕ) (house : Presentations) (session : Session) (place : ℕ) → Holds house session → place_of name house ≡ Some place →
+    (p : Presentation) × (presentation_of name session ≡ Some p)
+some-presentation name house session place holds found = go (presentation_of name session) refl
+  where
+    some : is_some (presentation_of name session) ≡ true
+    some = ap (λ (s : Session). is_some (presentation_of name s)) holds.session_is ∙ sym (some-held name house) ∙ ap (λ (o : Option ℕ). is_some o) found
+
+    go : (o : Option Presentation) → presentation_of name session ≡ o → (p : Presentation) × (presentation_of name session ≡ Some p)
+    go None none = absurd (let e : false ≡ true = sym (ap (λ (o : Option Presentation). is_some o) none) ∙ some in cc)
+    go (Some p) is = (p, is)
+
+-- an element put in its own place
+set-same : {A : Type 0} (xs : List A) (k : ℕ) (x : A) → slice_get xs k ≡ Some x → slice_set xs k x ≡ xs
+set-same [] k x here = refl
+set-same (y ∷ ys) zero x here = let e : y ≡ x = cc here in ap (λ z. z ∷ ys) (sym e)
+set-same (y ∷ ys) (suc k) x here = ap (λ zs. y ∷ zs) (set-same ys k x here)
+
+-- ---- an order to a presentation
+
+abbrev pub the_formats : Presentation → Formats
+the_formats p = formats
+
+abbrev pub itself : Presentation → Presentation
+itself p = p
+
+abbrev pub every : Presentation → Order → Bool
+every p order = true
+
+abbrev pub untold_steps : Presentation → Order → Option ℕ
+untold_steps p order = None
+
+module _ (name : List ℕ) (order : Order) (house new : Presentations) (session : Session) (number : ℕ) (holds : Holds house session) where
+  -- it is accepted
+  pub made-ordered : (text told : List ℕ) (rise : ℕ) (moment : ℤ) → told ≡ text →
+      IsAnsweredBy the_formats itself every untold_steps untold_steps name order house new text rise moment →
+      Makes (Ok tt) (record { told = told; last = ok_line number name moment }) new session (ordered_within limits session number name order)
+  made-ordered text told rise moment is answered =
+      let before : Presentation = answered.before.player in
+      let after : Presentation = answered.after.player in
+      let turned = answered.turned in
+      let at = turned.at in
+      let found : presentation_of name session ≡ Some before = held-at name house session answered.place answered.before holds at in
+      let line : ok_line number name moment ≡ ok_line number name (pos after.now) = ap (ok_line number name) answered.moment_is in
+      let words : told ++ ok_line number name moment ≡ answer_text formats before after order ++ ok_line number name (pos after.now) =
+      ap (λ zs. zs ++ ok_line number name moment) (is ∙ answered.accepted.answer) ∙ ap (λ zs. answer_text formats before after order ++ zs) line in (
+        with_state name after session,
+        record {
+          session_is =
+              ap (with_state name after) holds.session_is
+              ∙ sym (turned-session name house answered.place answered.before answered.after holds.apart at.found at.here turned.name_is)
+              ∙ ap (map shown) (sym turned.new_is);
+          apart = subst AreApart (sym turned.new_is) (turned-apart house answered.place answered.before answered.after holds.apart at.here turned.name_is);
+        },
+        ap (λ o. held o >>= λ (p : Presentation). outcome formats p order >>= λ (q : Presentation). Ok (record { text = answer_text formats p q order ++ ok_line number name (pos q.now); session = with_state name q session })) found
+            ∙ ap (λ r. r >>= λ (q : Presentation). Ok (record { text = answer_text formats before q order ++ ok_line number name (pos q.now); session = with_state name q session })) answered.accepted.state
+            ∙ ap (λ zs. Ok (record { text = zs; session = with_state name after session })) (sym words),
+      )
+
+  -- all is kept where it is refused
+  pub kept-holds : AreKept the_formats itself every name house new → Holds new session
+  kept-holds (inl same) = record { session_is = holds.session_is ∙ ap (map shown) (sym same); apart = subst AreApart (sym same) holds.apart }
+  kept-holds (inr kept) =
+      let turned = kept.turned in
+      let same : kept.after ≡ kept.before = ap (λ n. record { name = n; player = kept.after.player }) turned.name_is ∙ ap (λ p. record { name = kept.before.name; player = p }) kept.same in
+      let new_is : new ≡ house = turned.new_is ∙ ap (λ h. slice_set house kept.place h) same ∙ set-same house kept.place kept.before turned.at.here in
+      record { session_is = holds.session_is ∙ ap (map shown) (sym new_is); apart = subst AreApart (sym new_is) holds.apart }
+
+  pub unmade-ordered : (text : AnswerText) (rise : ℕ) (refusal : Refusal) → IsRefused the_formats itself untold_steps name order house rise refusal →
+      AreKept the_formats itself every name house new →
+      Makes (Err refusal) text new session (ordered_within limits session number name order)
+  unmade-ordered text rise refusal (inl absent) kept = (
+    kept-holds kept,
+    inr (
+        ap (λ o. held o >>= λ (p : Presentation). outcome formats p order >>= λ (q : Presentation). Ok (record { text = answer_text formats p q order ++ ok_line number name (pos q.now); session = with_state name q session })) (held-nowhere name house session holds absent.place_is)
+        ∙ ap Err (sym absent.refusal_is)
+        ),
+  )
+  unmade-ordered text rise refusal (inr refused) kept =
+      let found : presentation_of name session ≡ Some refused.before.player = held-at name house session refused.place refused.before holds refused.at in (
+        kept-holds kept,
+        elim refused.refused [
+          | inl memory ↦ inl memory
+          | inr is ↦ inr (
+              ap (λ o. held o >>= λ (p : Presentation). outcome formats p order >>= λ (q : Presentation). Ok (record { text = answer_text formats p q order ++ ok_line number name (pos q.now); session = with_state name q session })) found
+              ∙ ap (λ r. r >>= λ (q : Presentation). Ok (record { text = answer_text formats refused.before.player q order ++ ok_line number name (pos q.now); session = with_state name q session })) is
+              )
+        ],
+      )
+
+-- ---- a presentation is closed
+
+abbrev refused : Refusal → Result (Unit {0}) Refusal
+refused refusal = Err refusal
+
+abbrev as_accepted : Result (Unit {0}) Refusal → Result Accepted Refusal
+as_accepted (Err refusal) = Err refusal
+as_accepted (Ok done) = Err Memory
+
+abbrev accepted : Result (Unit {0}) Refusal
+accepted = Ok tt
+
+pub made-closed : (name : List ℕ) (house new : Presentations) (session : Session) (number : ℕ) → Holds house session →
+    (place_of name house ≡ None → accepted ≡ refused NoPresentation) →
+    ((place : ℕ) → place_of name house ≡ Some place → (accepted ≡ accepted) × (new ≡ house_without place house)) →
+    Makes (Ok tt) (record { told = []; last = closed_line number name }) new session (closed session number name)
+made-closed name house new session number holds absent is_closed = go (place_of name house) refl
+  where
+    go : (place : Option ℕ) → place_of name house ≡ place → Makes (Ok tt) (record { told = []; last = closed_line number name }) new session (closed session number name)
+    go None none = absurd (let e = absent none in cc)
+    go (Some place) found =
+        let new_is : new ≡ house_without place house = (is_closed place found).1 in
+        let is_held = some-presentation name house session place holds found in (
+          without name session,
+          record {
+            session_is = ap (without name) holds.session_is ∙ sym (closed-session name house place holds.apart found) ∙ ap (map shown) (sym new_is);
+            apart = subst AreApart (sym new_is) (closed-apart house place holds.apart);
+          },
+          ap (λ o. held o >>= λ (p : Presentation). Ok (record { text = closed_line number name; session = without name session })) is_held.1,
+        )
+
+pub unmade-closed : (name : List ℕ) (house new : Presentations) (session : Session) (number : ℕ) (text : AnswerText) (refusal : Refusal) → Holds house session →
+    (place_of name house ≡ None → refused refusal ≡ refused NoPresentation) →
+    ((place : ℕ) → place_of name house ≡ Some place → (refused refusal ≡ accepted) × (new ≡ house_without place house)) → new ≡ house →
+    Makes (Err refusal) text new session (closed session number name)
+unmade-closed name house new session number text refusal holds absent is_closed same = go (place_of name house) refl
+  where
+    go : (place : Option ℕ) → place_of name house ≡ place → Makes (Err refusal) text new session (closed session number name)
+    go None none = (
+      subst (λ h. Holds h session) (sym same) holds,
+      inr (
+          ap (λ o. held o >>= λ (p : Presentation). Ok (record { text = closed_line number name; session = without name session })) (held-nowhere name house session holds none)
+          ∙ ap as_accepted (sym (absent none))
+          ),
+    )
+    go (Some place) found = absurd (let e = (is_closed place found).0 in cc)
+
+-- ---- a load
+
+kept-state : (p q : Presentation) (diary : Option (List Entry)) → kept_where p diary ≡ Ok q → q ≡ p
+kept-state p q None h = absurd cc
+kept-state p q (Some diary) h = cc
+
+-- it is opened at moment 0
+opened-now : (document : Document) (p : Presentation) → opened document ≡ Ok p → p.now ≡ 0
+opened-now document p h =
+    let fresh : Presentation = record { document = document; log = []; now = 0 } in
+    ap (λ (q : Presentation). q.now) (kept-state fresh p (diary_within limits.entries (course_of fresh)) h)
+
+-- what a call of `may_load` gave, by the name itself
+pub refusal-of : (name slice : List ℕ) (house : Presentations) (r : Result (Unit {0}) Refusal) → slice ≡ name → r ≡ load_refusal slice house → load_refusal name house ≡ r
+refusal-of name slice house r same is = ap (λ n. load_refusal n house) (sym same) ∙ sym is
+
+module _ (given : Given) (house : Presentations) (session : Session) (number : ℕ) (holds : Holds house session) where
+  may : may_load given.name session ≡ load_refusal given.name house
+  may = ap (may_load given.name) holds.session_is ∙ sym (may_load-held given.name house)
+
+  abbrev loaded_by : Result (Unit {0}) Refusal → Result Presentation Refusal → Result Accepted Refusal
+  loaded_by free loaded = free >>= λ done. loaded >>= λ (p : Presentation). Ok (record {
+    text = load_text p ++ ok_line number given.name (pos p.now);
+    session = session ++ record { name = given.name; presentation = p } ∷ [];
+  })
+
+  pub made-loaded : (p : Presentation) (told : List ℕ) → load_refusal given.name house ≡ Ok tt → opened given.document ≡ Ok p → told ≡ load_text p →
+      Makes (Ok tt) (record { told = told; last = ok_line number given.name (pos 0) }) (house ++ record { name = given.name; player = p } ∷ []) session (loaded_within limits session number given)
+  made-loaded p told free is text_is =
+      let h : Held Presentation = record { name = given.name; player = p } in
+      let line : ok_line number given.name (pos 0) ≡ ok_line number given.name (pos p.now) = ap (λ n. ok_line number given.name (pos n)) (sym (opened-now given.document p is)) in (
+        session ++ record { name = given.name; presentation = p } ∷ [],
+        record {
+          session_is = ap (λ (zs : Session). zs ++ record { name = given.name; presentation = p } ∷ []) holds.session_is ∙ sym (added-session house h);
+          apart = added-apart house h holds.apart (may_load-free given.name house free);
+        },
+        ap (λ f. loaded_by f (opened given.document)) (may ∙ free)
+            ∙ ap (loaded_by (Ok tt)) is
+            ∙ ap (λ zs. Ok (record { text = zs; session = session ++ record { name = given.name; presentation = p } ∷ [] })) (ap (λ zs. load_text p ++ zs) (sym line) ∙ ap (λ zs. zs ++ ok_line number given.name (pos 0)) (sym text_is)),
+      )
+
+  pub unmade-loaded : (text : AnswerText) (refusal : Refusal) → load_refusal given.name house ≡ Ok tt → (refusal ≡ Memory) ⊎ (opened given.document ≡ Err refusal) →
+      Makes (Err refusal) text house session (loaded_within limits session number given)
+  unmade-loaded text refusal free (inl memory) = (holds, inl memory)
+  unmade-loaded text refusal free (inr is) = (holds, inr (ap (λ f. loaded_by f (opened given.document)) (may ∙ free) ∙ ap (loaded_by (Ok tt)) is))
+
+  pub unloaded : (text : AnswerText) (refusal : Refusal) → load_refusal given.name house ≡ Err refusal →
+      Makes (Err refusal) text house session (loaded_within limits session number given)
+  unloaded text refusal taken = (holds, inr (ap (λ f. loaded_by f (opened given.document)) (may ∙ taken)))
+
+  -- it is only read
+  pub made-checked : (r : Result (Unit {0}) Refusal) (text : AnswerText) → Checks r text number given → Makes r text house session (checked session number given)
+  made-checked (Ok done) text is = (session, holds, ap (λ zs. Ok (record { text = zs; session = session })) (sym is))
+  made-checked (Err refusal) text is = (holds, inl is)

@@ -1,0 +1,139 @@
+-- An order that meets no limit is answered the same within larger limits.
+use Rattle.std.proofs.Common.{◌≡◌, Bool, true, false, List, [], ◌∷◌, Some, None, Result, Ok, Err, refl, ap, ◌∙◌}
+use Rattle.std.specs.Prelude.{ℕ, pos, not, ◌++◌}
+use Rattle.std.proofs.lemmas.Bool.{or_parts}
+use Rattle.smil_model.specs.declared.order.Order.{Order}
+use Rattle.smil_model.specs.declared.order.Refusal.{Refusal}
+use Rattle.smil_model.specs.document.Limits.{Limits}
+use Rattle.smil_model.specs.shown.Orders.{Presentation, opened_within, outcome_within}
+use Rattle.smil_model.specs.shown.Answers.{answer_text, load_text}
+use Rattle.smil_model.specs.shown.Lines.{ok_line}
+use Rattle.smil_grammar.specs.declared.read.Read.{Read}
+use Rattle.smil_grammar.specs.declared.read.Read.TheVariants.{Blank, Load, Close, To}
+use Rattle.smil_grammar.specs.Results.{◌>>=◌}
+use Rattle.smil_grammar.specs.Scripts.{line_of}
+use Rattle.smil_grammar.specs.Formats.{formats}
+use Rattle.smil_grammar.specs.Outlines.{Outline, no_lines, line_within, ended, version_of}
+use Rattle.smil_laws.specs.Migration.{AreBelow, is_for_limit, meets_no_limit}
+use Rattle.smil_laws.proofs.Migrating.{outcome_same, opening_same}
+use Rattle.smil_outline.proofs.Migrating.{line_same}
+use Rattle.smil_top.specs.Cut.{Numbered, LoadLines, OrderLines, single, load}
+use Rattle.smil_top.specs.Session.{Session, presentation_of, with_state, may_load}
+use Rattle.smil_top.specs.Answers.{Accepted, Refused, Answer, Given, at_line, read_of, held, ordered_within, said_within, name_of, outline_from, given_within, loaded_within, checked, answer_within, check_within}
+use Rattle.smil_top.specs.Transcript.{Answering, Told, with_answer, untold}
+use Rattle.smil_top.specs.Laws.{Tried, answer_to, told_by, heard, session_after, answered_from, answered_by, refuses_as, any_refused_as}
+use Rattle.smil_top.proofs.Retold.{told_further, session_with}
+
+-- accepted, or refused for another cause than a limit, at a line
+spares : {A : Type 0} → Result A Refused → Bool
+spares (Ok x) = true
+spares (Err fault) = not (is_for_limit fault.refusal)
+
+unlimited : (answer : Answer) → refuses_as is_for_limit (heard answer) ≡ false → spares answer ≡ true
+unfolding spares
+unlimited (Ok accepted) m = refl
+unlimited (Err fault) m = ap not m
+
+-- what goes on the same way has the same outcome
+then_same : {A B : Type 0} (r q : Result A Refused) (f g : A → Result B Refused) → spares (r >>= f) ≡ true → (spares r ≡ true → q ≡ r) → ((x : A) → spares (f x) ≡ true → g x ≡ f x) → (q >>= g) ≡ (r >>= f)
+unfolding spares
+then_same (Ok x) q f g m first later = ap (λ z. z >>= g) (first refl) ∙ later x m
+then_same (Err e) q f g m first later = ap (λ z. z >>= g) (first m)
+
+plain_same : {A B : Type 0} (r q : Result A Refusal) (f g : A → Result B Refusal) → meets_no_limit (r >>= f) ≡ true → (meets_no_limit r ≡ true → q ≡ r) → ((x : A) → meets_no_limit (f x) ≡ true → g x ≡ f x) → (q >>= g) ≡ (r >>= f)
+plain_same (Ok x) q f g m first later = ap (λ z. z >>= g) (first refl) ∙ later x m
+plain_same (Err e) q f g m first later = ap (λ z. z >>= g) (first m)
+
+-- a refusal at a line
+at_same : {A : Type 0} (line : ℕ) (r q : Result A Refusal) → spares (at_line line r) ≡ true → (meets_no_limit r ≡ true → q ≡ r) → at_line line q ≡ at_line line r
+unfolding spares
+at_same line (Ok x) q m same = ap (at_line line) (same refl)
+at_same line (Err e) q m same = ap (at_line line) (same m)
+
+module _ (small large : Limits) (below : AreBelow small large) where
+  -- ---- single lines
+
+  ordered_same : (session : Session) (line : ℕ) (name : List ℕ) (order : Order) → meets_no_limit (ordered_within small session line name order) ≡ true
+      → ordered_within large session line name order ≡ ordered_within small session line name order
+  ordered_same session line name order m =
+      let with : Presentation → Presentation → Result Accepted Refusal = λ before after. Ok (record {
+        text = answer_text formats before after order ++ ok_line line name (pos after.now);
+        session = with_state name after session;
+      }) in
+      plain_same (held (presentation_of name session)) (held (presentation_of name session))
+      (λ before. outcome_within small formats before order >>= with before) (λ before. outcome_within large formats before order >>= with before) m (λ _. refl)
+      (λ before v. plain_same (outcome_within small formats before order) (outcome_within large formats before order) (with before) (with before) v (outcome_same small large below formats before order) (λ after w. refl))
+
+  said_same : (session : Session) (line : ℕ) (read : Read) → meets_no_limit (said_within small session line read) ≡ true → said_within large session line read ≡ said_within small session line read
+  said_same session line (To name order) m = ordered_same session line name order m
+  said_same session line (Close name) m = refl
+  said_same session line (Load name) m = refl
+  said_same session line Blank m = refl
+
+  -- ---- loads
+
+  outline_same : (outline : Outline) (lines : List Numbered) → spares (outline_from small outline lines) ≡ true → outline_from large outline lines ≡ outline_from small outline lines
+  outline_same outline [] m = refl
+  outline_same outline (line ∷ lines) m =
+      then_same (at_line line.number (line_within small outline line.text)) (at_line line.number (line_within large outline line.text)) (λ more. outline_from small more lines) (λ more. outline_from large more lines) m
+      (λ v. at_same line.number (line_within small outline line.text) (line_within large outline line.text) v (line_same small large below outline line.text)) (λ more v. outline_same more lines v)
+
+  given_same : (lines : LoadLines) (end_line : ℕ) → spares (given_within small lines end_line) ≡ true → given_within large lines end_line ≡ given_within small lines end_line
+  given_same lines end_line m =
+      let with : List ℕ → Outline → Result Given Refused = λ name outline. at_line end_line (ended outline) >>= λ document. Ok (record { name = name; document = document; version = version_of outline }) in
+      then_same (at_line lines.head.number (line_of lines.head.text >>= name_of)) (at_line lines.head.number (line_of lines.head.text >>= name_of))
+      (λ name. outline_from small no_lines lines.nodes >>= with name) (λ name. outline_from large no_lines lines.nodes >>= with name) m (λ _. refl)
+      (λ name v. then_same (outline_from small no_lines lines.nodes) (outline_from large no_lines lines.nodes) (with name) (with name) v (outline_same no_lines lines.nodes) (λ outline w. refl))
+
+  loaded_same : (session : Session) (line : ℕ) (given : Given) → meets_no_limit (loaded_within small session line given) ≡ true → loaded_within large session line given ≡ loaded_within small session line given
+  loaded_same session line given m =
+      let with : Presentation → Result Accepted Refusal = λ loaded. Ok (record {
+        text = load_text loaded ++ ok_line line given.name (pos loaded.now);
+        session = session ++ record { name = given.name; presentation = loaded } ∷ [];
+      }) in
+      plain_same (may_load given.name session) (may_load given.name session) (λ _. opened_within small given.document >>= with) (λ _. opened_within large given.document >>= with) m (λ _. refl)
+      (λ _ v. plain_same (opened_within small given.document) (opened_within large given.document) with with v (opening_same small large below given.document) (λ loaded w. refl))
+
+  -- ---- orders
+
+  answer_same : (session : Session) (order : OrderLines) → spares (answer_within small session order) ≡ true → answer_within large session order ≡ answer_within small session order
+  answer_same session (single line) m =
+      at_same line.number (read_of line.text >>= said_within small session line.number) (read_of line.text >>= said_within large session line.number) m
+      (λ v. plain_same (read_of line.text) (read_of line.text) (said_within small session line.number) (said_within large session line.number) v (λ _. refl) (said_same session line.number))
+  answer_same session (load lines None) m = refl
+  answer_same session (load lines (Some end_line)) m =
+      then_same (given_within small lines end_line) (given_within large lines end_line)
+      (λ given. at_line lines.head.number (loaded_within small session lines.head.number given)) (λ given. at_line lines.head.number (loaded_within large session lines.head.number given)) m
+      (given_same lines end_line)
+      (λ given v. at_same lines.head.number (loaded_within small session lines.head.number given) (loaded_within large session lines.head.number given) v (loaded_same session lines.head.number given))
+
+  checked_same : (session : Session) (order : OrderLines) → spares (check_within small session order) ≡ true → check_within large session order ≡ check_within small session order
+  checked_same session (single line) m = refl
+  checked_same session (load lines None) m = refl
+  checked_same session (load lines (Some end_line)) m =
+      then_same (given_within small lines end_line) (given_within large lines end_line)
+      (λ given. at_line lines.head.number (checked session lines.head.number given)) (λ given. at_line lines.head.number (checked session lines.head.number given)) m
+      (given_same lines end_line) (λ given v. refl)
+
+  -- ---- transcripts
+
+  module _ (within : Limits → Answering) (each : (session : Session) (order : OrderLines) → spares (within small session order) ≡ true → within large session order ≡ within small session order) where
+    tried_same : (session : Session) (order : OrderLines) (lacks : Bool) → refuses_as is_for_limit (heard (answer_to (within small) session (record { order = order; lacks = lacks }))) ≡ false
+        → answer_to (within large) session (record { order = order; lacks = lacks }) ≡ answer_to (within small) session (record { order = order; lacks = lacks })
+    tried_same session order true m = refl
+    tried_same session order false m = each session order (unlimited (within small session order) m)
+
+    further_same : (told : Told) (tried : List Tried) → any_refused_as is_for_limit (answered_from (within small) told.session tried) ≡ false
+        → told_further (within large) told tried ≡ told_further (within small) told tried
+    further_same told [] m = refl
+    further_same told (one ∷ others) m =
+        let answer : Answer = answer_to (within small) told.session one in
+        let parts = or_parts (refuses_as is_for_limit (heard answer)) (any_refused_as is_for_limit (answered_from (within small) (session_after told.session answer) others)) m in
+        ap (λ (a : Answer). told_further (within large) (with_answer told a) others) (tried_same told.session one.order one.lacks parts.0)
+        ∙ further_same (with_answer told answer) others (ap (λ (s : Session). any_refused_as is_for_limit (answered_from (within small) s others)) (session_with told answer) ∙ parts.1)
+
+  pub told_same : (tried : List Tried) → any_refused_as is_for_limit (answered_by (answer_within small) tried) ≡ false → told_by (answer_within large) tried ≡ told_by (answer_within small) tried
+  told_same tried m = further_same answer_within answer_same untold tried m
+
+  pub told_checked_same : (tried : List Tried) → any_refused_as is_for_limit (answered_by (check_within small) tried) ≡ false → told_by (check_within large) tried ≡ told_by (check_within small) tried
+  told_checked_same tried m = further_same check_within checked_same untold tried m

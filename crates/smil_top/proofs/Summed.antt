@@ -1,0 +1,136 @@
+-- The session of a number: its one transcript, and what is told of it.
+use Rattle.std.proofs.Common.{◌≡◌, ◌⊎◌, ℕ, ℤ, ◌<◌, ◌≤◌, min, length, Bool, true, false, List, [], ◌∷◌, ◌++◌, Option, Some, None, Result, Ok, Err, refl, ap, sym, subst, ◌∙◌, arith, append_assoc, inl, inr}
+use Rattle.std.specs.Prelude.{pos, map, fold, nat_abs, nat_le, unwrap_or, ◌||◌, ◌&&◌, ◌==◌, codes, bytes_eq, option_map, option_and_then, slice_get, if◌then◌else◌}
+use Rattle.std.specs.Option.{option_map_or}
+use Rattle.smil_model.specs.declared.order.Refusal.TheVariants.{Memory}
+use Rattle.smil_model.specs.shown.Orders.{Presentation}
+use Rattle.smil_grammar.specs.Texts.{◌>>=◌, zero_digit}
+use Rattle.smil_grammar.specs.Numbers.{number_of}
+use Rattle.smil_outside.specs.Faults.{last_count}
+use Rattle.smil_house.specs.declared.house.Held.{Held}
+use Rattle.smil_house.specs.House.{place_of, moment_of}
+use Rattle.smil_words.specs.declared.mode.Mode.{Mode}
+use Rattle.smil_words.specs.declared.mode.Mode.TheVariants.{Run, Check, Gen}
+use Rattle.smil_words.specs.declared.mode.TheConstants.{SESSIONS}
+use Rattle.smil_words.specs.Words.{mode_of, of_one, of_two, session_number, in_range}
+use Rattle.smil_top.specs.Cut.{OrderLines, first_line}
+use Rattle.smil_top.specs.Session.{Session, presentation_of}
+use Rattle.smil_top.specs.Answers.{Answer, at_line}
+use Rattle.smil_top.specs.Transcript.{Answering, Told, untold, with_answer, is_memory, IsTranscriptBy, of_nothing, and_then, transcript_by}
+use Rattle.smil_top.specs.Summary.{moment_in}
+use Rattle.smil_top.specs.Houses.{Presentations, shown, Holds}
+use Rattle.smil_top.proofs.HouseLemmas.{presentation-held}
+
+-- ---- the one transcript
+
+fold-snoc : {A B : Type 0} (f : B → A → B) (z : B) (xs : List A) (x : A) → fold f z (xs ++ x ∷ []) ≡ f (fold f z xs) x
+fold-snoc f z [] x = refl
+fold-snoc f z (y ∷ ys) x = fold-snoc f (f z y) ys x
+
+or-false : (a b : Bool) → (a || b) ≡ false → (a ≡ false) × (b ≡ false)
+or-false true b h = absurd cc
+or-false false b h = (refl, h)
+
+before-memory : (told : Told) (answer : Answer) → (with_answer told answer).memory ≡ false → told.memory ≡ false
+before-memory told (Ok accepted) h = h
+before-memory told (Err fault) h = (or-false told.memory (is_memory fault.refusal) h).0
+
+memory-told : (told : Told) (line : ℕ) → (with_answer told (at_line line (Err Memory))).memory ≡ false → ⊥
+memory-told told line h = let e = (or-false told.memory true h).1 in cc
+
+-- where no order was refused since memory ran out there is one transcript
+pub one-transcript : (answering : Answering) (orders : List OrderLines) (told : Told) → IsTranscriptBy answering orders told → told.memory ≡ false →
+    told ≡ transcript_by answering orders
+one-transcript answering _ _ of_nothing h = refl
+one-transcript answering _ _ (and_then {orders = orders} {told = told} so_far order answer may) h =
+    let was : told ≡ transcript_by answering orders = one-transcript answering orders told so_far (before-memory told answer h) in
+    let last : with_answer told answer ≡ with_answer told (answering told.session order) = elim may [
+      | inl is ↦ ap (with_answer told) is
+      | inr memory ↦ absurd (memory-told told (first_line order) (ap (λ a. (with_answer told a).memory) (sym memory) ∙ h))
+    ] in
+    last
+    ∙ ap (λ (t : Told). with_answer t (answering t.session order)) was
+    ∙ sym (fold-snoc (λ t o. with_answer t (answering t.session o)) untold orders order)
+
+-- ---- the moment
+
+abbrev itself : Presentation → Presentation
+itself p = p
+
+moment-by : (o : Option (Held Presentation)) →
+    nat_abs (unwrap_or (option_map (λ (h : Held Presentation). pos h.player.now) o) (pos 0))
+    ≡ option_map_or (λ (p : Presentation). p.now) (option_map (λ (h : Held Presentation). h.player) o) 0
+moment-by None = refl
+moment-by (Some h) = refl
+
+pub moment-held : (name : List ℕ) (house : Presentations) (session : Session) → Holds house session →
+    nat_abs (unwrap_or (moment_of itself name house) (pos 0)) ≡ moment_in name session
+moment-held name house session holds =
+    moment-by (option_and_then (slice_get house) (place_of name house))
+    ∙ ap (λ o. option_map_or (λ (p : Presentation). p.now) o 0) (sym (presentation-held name house))
+    ∙ ap (moment_in name) (sym holds.session_is)
+
+-- ---- counts
+
+pub exact : (count n : ℕ) → count ≡ min n last_count → count < last_count → count ≡ n
+exact count n is below = omega arith
+
+-- ---- the number of a session
+
+abbrev pub Bounded : Option Mode → Type 0
+Bounded (Some (Gen n)) = n ≤ SESSIONS
+Bounded _ = Unit {0}
+
+le-true : (n m : ℕ) → nat_le n m ≡ true → n ≤ m
+le-true n m h = grind arith
+
+and-second : (a b : Bool) → (a && b) ≡ true → b ≡ true
+and-second true b h = h
+and-second false b h = absurd cc
+
+abbrev Small : Option ℕ → Type 0
+Small (Some n) = n ≤ SESSIONS
+Small None = Unit {0}
+
+small-by : (b : Bool) (n : ℕ) → (b ≡ true → n ≤ SESSIONS) → Small (if b then Some n else None)
+small-by true n h = h refl
+small-by false n h = tt
+
+in_range-small : (n : ℕ) → Small (in_range n)
+in_range-small n = small-by (nat_le 1 n && nat_le n SESSIONS) n (λ h. le-true n SESSIONS (and-second (nat_le 1 n) (nat_le n SESSIONS) h))
+
+read-small : (o : Option ℕ) → Small (o >>= in_range)
+read-small None = tt
+read-small (Some n) = in_range-small n
+
+number-small : (digits : List ℕ) → Small (session_number digits)
+number-small [] = tt
+number-small (b ∷ bytes) = go (b == zero_digit) (nat_le (length bytes) 2)
+  where
+    go : (z s : Bool) → Small (if z then None else (if s then number_of (b ∷ bytes) >>= in_range else None))
+    go true s = tt
+    go false true = read-small (number_of (b ∷ bytes))
+    go false false = tt
+
+gen-bounded : (o : Option ℕ) → Small o → Bounded (o >>= λ n. Some (Gen n))
+gen-bounded None h = tt
+gen-bounded (Some n) h = h
+
+two-bounded : (b : Bool) (o : Option ℕ) → Small o → Bounded (if b then o >>= (λ n. Some (Gen n)) else None)
+two-bounded true o h = gen-bounded o h
+two-bounded false o h = tt
+
+one-bounded : (a b : Bool) → Bounded (if a then Some Run else (if b then Some Check else None))
+one-bounded true b = tt
+one-bounded false true = tt
+one-bounded false false = tt
+
+pub mode-bounded : (words : List (List ℕ)) → Bounded (mode_of words)
+mode-bounded [] = tt
+mode-bounded (word ∷ []) = one-bounded (bytes_eq word (codes "run")) (bytes_eq word (codes "check"))
+mode-bounded (word ∷ digits ∷ []) = two-bounded (bytes_eq word (codes "gen")) (session_number digits) (number-small digits)
+mode-bounded (word ∷ digits ∷ more ∷ others) = tt
+
+-- five lines, one behind another
+pub five-lines : (a b c d e : List ℕ) → (((([] ++ a) ++ b) ++ c) ++ d) ++ e ≡ a ++ (b ++ (c ++ (d ++ e)))
+five-lines a b c d e = simp append_assoc

@@ -1,0 +1,5 @@
+use Rattle.smil_top.proofs.Inputs.{alone_in_input}
+use Rattle.smil_top.proofs.laws.inputs_are_isolated.Goals as goal
+
+pub returns : goal.returns
+returns c = λ allowed name lines title few. alone_in_input allowed name lines title few

@@ -1,0 +1,5 @@
+use Rattle.smil_top.proofs.Aside.{are_aside}
+use Rattle.smil_top.proofs.laws.numbers_are_aside.Goals as goal
+
+pub returns : goal.returns
+returns c = λ allowed given tried. are_aside allowed given tried

@@ -1,0 +1,46 @@
+use Rattle.std.proofs.Common.{◌≡◌, Bool, ap, sym, subst, ◌∙◌}
+use Rattle.smil_top.specs.declared.session.Session.{Session}
+use Rattle.smil_top.specs.Cut.{OrderLines, single}
+use Rattle.smil_top.specs.Kept.{MakesAnswer, Makes, answering, fault_at, line_by}
+use Rattle.smil_top.proofs.Tells.{single-made, told-order}
+use Rattle.smil_top.proofs.run.Run.answer_single.Goals as goal
+
+pub returns-clause-answers : goal.returns-clause-answers
+returns-clause-answers g c checks whole told tells =
+    let session = told.session in
+    let r = c.answer_line-answered.result in
+    let text = c.answer_line-answered.new.answer in
+    let between = c.answer_line-answered.new.self in
+    let order : OrderLines = single (record { number = c.args.number; text = c.args.text.now }) in
+    let makes : Makes r text between.house session (line_by checks session c.args.number c.args.text.now) =
+    subst (λ (k : Bool). Makes r text between.house session (line_by k session c.args.number c.args.text.now)) tells.checks_is
+    (c.answer_line-answered.ensures.answer session tells.holds)
+    in
+    let made : MakesAnswer (fault_at c.args.number r) text between.house session (answering checks) order =
+    single-made checks r text between.house session c.args.number c.args.text.now c.requires.short makes
+    in
+    let told_as : MakesAnswer c.at.result text between.house session (answering checks) order =
+    subst (λ a. MakesAnswer a text between.house session (answering checks) order) (sym c.at.ensures) made
+    in
+    let at_end : MakesAnswer c.at.result text c.tell.new.self.session.house session (answering checks) order =
+    subst (λ (s : Session). MakesAnswer c.at.result text s.house session (answering checks) order) (sym c.tell.ensures.session) told_as
+    in
+    told-order
+    checks
+    c.args.self.now
+    c.tell.new.self
+    whole
+    told
+    order
+    c.at.result
+    text
+    c.tell.result
+    (g.K.Sink.taken c.args.sink.now)
+    (g.K.Sink.taken c.tell.new.sink)
+    (g.K.Sink.sure_room c.args.sink.now)
+    (g.K.Sink.sure_room c.tell.new.sink)
+    tells
+    at_end
+    (ap (λ (s : Session). s.checks) c.tell.ensures.session ∙ c.answer_line-answered.ensures.checks)
+    c.tell.ensures.counts
+    c.tell.ensures.writes

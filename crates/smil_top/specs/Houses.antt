@@ -1,0 +1,24 @@
+-- A house that holds the presentations of a session.
+use Rattle.std.specs.Prelude.{◌≡◌, List, [], ◌∷◌, map, None}
+use Rattle.smil_model.specs.shown.Orders.{Presentation}
+use Rattle.smil_house.specs.declared.house.Held.{Held}
+use Rattle.smil_house.specs.House.{place_of}
+use Rattle.smil_top.specs.Session.{Named, Session}
+
+-- what a house holds
+abbrev pub Presentations : Type 0
+Presentations = List (Held Presentation)
+
+-- a presentation as a session has it
+abbrev pub shown : Held Presentation → Named
+shown held = record { name = held.name; presentation = held.player }
+
+-- no two have the same name
+abbrev pub AreApart : Presentations → Type 0
+AreApart [] = Unit {0}
+AreApart (held ∷ others) = (place_of held.name others ≡ None) × AreApart others
+
+-- they are those of the session
+pub record Holds (house : Presentations) (session : Session) : Type 0 where
+  pub session_is : session ≡ map shown house
+  pub apart : AreApart house

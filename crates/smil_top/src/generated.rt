@@ -1,0 +1,96 @@
+//! The session of a number, and what is told of it.
+
+ghost use Rattle.std.specs.Prelude.{◌≡◌, ◌≤◌, ◌++◌, ℕ, List, false, IfOk, OnOk};
+ghost use Rattle.smil_words.specs.declared.mode.TheConstants.{SESSIONS};
+ghost use Rattle.smil_top.specs.Cut.{OrderLines};
+ghost use Rattle.smil_top.specs.Summary.{count_line, count_lines, told_of};
+ghost use Rattle.smil_top.specs.Transcript.{Told};
+ghost use Rattle.smil_top.specs.Kept.{IsSummary, Tells};
+
+use super::counts::Counts;
+use super::nowhere::Nowhere;
+use super::reading::{answer_all, begin};
+use super::run::Run;
+use super::status::Status;
+use itoa::Buffer;
+use smil_gen::session_bytes;
+use smil_model::{Bytes, Steps};
+use smil_outside::MemSource;
+use std::alloc::{AllocError, Global};
+use std::sync::ledger::Ledger;
+
+/// How many bytes of a session that is made are read at a time.
+const CHUNK: usize = 4096;
+
+/// The lines that tell of a session, and how it ended.
+#[derive(Drop)]
+pub(crate) struct Summary {
+    pub text: Bytes,
+    pub status: Status,
+}
+
+/// Answers the session of a number, and tells how many orders it has, how many were refused, how many lines the transcript
+/// has, and the moment at its end; unless memory runs out, and then that is the answer.
+pub(crate) fn summary_of<L: Ledger>(
+    alloc: Global,
+    number: u32,
+    steps: &mut Steps<L>,
+) -> Result<Summary, AllocError>
+    requires { number ≤ SESSIONS }
+    ensures { IfOk result (IsSummary number) }
+{
+    let bytes = session_bytes(alloc, number)?;
+    let mut source = MemSource::new(alloc, bytes.slice(), CHUNK, &[])?;
+    let mut begun = begin(alloc, false)?;
+    let status = answer_all(
+        alloc,
+        begun.reader,
+        &mut begun.run,
+        &mut source,
+        &mut Nowhere,
+        steps,
+    );
+    if !status.is_told() {
+        return Err(AllocError);
+    }
+    Ok(Summary {
+        text: summary_text(alloc, number, &begun.run)?,
+        status,
+    })
+}
+
+// The lines that tell of a session that was answered; unless memory runs out, or a count stands at its end.
+fn summary_text(alloc: Global, number: u32, run: &Run) -> Result<Bytes, AllocError>
+    ensures { (orders : List OrderLines) (told : Told) → Tells false run.now orders told
+        → IfOk result (λ text. text ≡ told_of number orders told) }
+{
+    if !run.counts.are_exact() {
+        return Err(AllocError);
+    }
+    let moment = run.session.house.moment(b"g").unwrap_or(0);
+    lines(alloc, u64::from(number), &run.counts, moment.unsigned_abs())
+}
+
+// The lines of these counts and this moment, unless memory runs out.
+fn lines(alloc: Global, number: u64, counts: &Counts, moment: u64) -> Result<Bytes, AllocError>
+    ensures { IfOk result (λ text. text ≡ count_lines number counts.now.orders counts.now.refused counts.now.lines moment) }
+{
+    let mut out = Bytes::new(alloc);
+    put_count(b"session", number, &mut out)?;
+    put_count(b"orders", counts.orders, &mut out)?;
+    put_count(b"refused", counts.refused, &mut out)?;
+    put_count(b"lines", counts.lines, &mut out)?;
+    put_count(b"moment", moment, &mut out)?;
+    Ok(out)
+}
+
+// Appends a line of a word and a number.
+fn put_count(word: &[u8], number: u64, out: &mut Bytes) -> Result<(), AllocError>
+    ensures { OnOk result (out.new ≡ out.old ++ count_line word.now number) }
+{
+    let mut buffer = Buffer::new();
+    out.append(word)?;
+    out.append(b" ")?;
+    out.append(buffer.format(number).as_bytes())?;
+    out.append(b"\n")
+}

@@ -1,0 +1,87 @@
+//! The last line of the answer to an order.
+
+ghost use Rattle.std.specs.Prelude.{◌≡◌, ◌≤◌, [], length};
+ghost use Rattle.smil_model.specs.declared.limits.TheConstants.{NAME_BYTES};
+ghost use Rattle.smil_model.specs.shown.Lines.{closed_line, ok_line, refusal_line};
+ghost use Rattle.smil_report.specs.Words.{checked_line};
+
+use smil_model::Refusal;
+use smil_report::{put_checked, put_closed, put_ok, put_refusal};
+use std::marker::Model;
+
+/// A line for which no memory is taken, or none yet; seen as its bytes.
+#[derive(Drop)]
+pub(crate) struct LastLine {
+    buf: [u8; 80],
+    len: usize,
+}
+
+impl Model for LastLine {
+    ghost use Rattle.std.specs.Prelude.{List, ℕ, take, ◌≤◌};
+
+    ghost Value = { List ℕ };
+
+    ghost view = { λ l. take l.len l.buf };
+
+    ghost invariant = { λ l. l.len ≤ 80 };
+}
+
+impl LastLine {
+    /// No line.
+    pub fn none() -> LastLine
+        ensures { result ≡ [] }
+    {
+        LastLine {
+            buf: [0; 80],
+            len: 0,
+        }
+    }
+
+    /// The line of an order, whose first line has this number, to the presentation of this name, which is at this moment.
+    pub fn ok(line: u32, name: &[u8], now: i64) -> LastLine
+        requires { length name.now ≤ NAME_BYTES }
+        ensures { result ≡ ok_line line name.now now }
+    {
+        let mut buf = [0; 80];
+        let len = put_ok(&mut buf, line, name, now);
+        LastLine { buf, len }
+    }
+
+    /// The line of an order at this line that closed the presentation of this name.
+    pub fn closed(line: u32, name: &[u8]) -> LastLine
+        requires { length name.now ≤ NAME_BYTES }
+        ensures { result ≡ closed_line line name.now }
+    {
+        let mut buf = [0; 80];
+        let len = put_closed(&mut buf, line, name);
+        LastLine { buf, len }
+    }
+
+    /// The line of a load under this name that was only read.
+    pub fn checked(line: u32, name: &[u8]) -> LastLine
+        requires { length name.now ≤ NAME_BYTES }
+        ensures { result ≡ checked_line line name.now }
+    {
+        let mut buf = [0; 80];
+        let len = put_checked(&mut buf, line, name);
+        LastLine { buf, len }
+    }
+
+    /// The line of a refused order, whose fault stands at the line with this number.
+    pub fn refused(line: u32, refusal: &Refusal) -> LastLine
+        ensures { result ≡ refusal_line line refusal.now }
+    {
+        let mut front = [0; 64];
+        let len = put_refusal(&mut front, line, refusal);
+        let mut buf = [0; 80];
+        buf[..len].copy_from_slice(&front[..len]);
+        LastLine { buf, len }
+    }
+
+    /// Its bytes.
+    pub fn slice(&self) -> &[u8]
+        ensures { result.now ≡ self.now }
+    {
+        &self.buf[..self.len]
+    }
+}

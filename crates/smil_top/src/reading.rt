@@ -1,0 +1,80 @@
+//! A session that is read to its end.
+
+ghost use Rattle.std.specs.Prelude.{◌≡◌, ◌≢◌, ◌≤◌, Bool, [], IfOk};
+ghost use Rattle.smil_outside.specs.Faults.{HasRisen};
+ghost use Rattle.smil_outside.specs.Reading.{fresh_reading};
+ghost use Rattle.smil_top.specs.Cut.{Cut, cut_of};
+ghost use Rattle.smil_top.specs.Transcript.{Told, untold};
+ghost use Rattle.smil_top.specs.Kept.{Ends, IsRunning, Ran};
+
+use super::run::Run;
+use super::status::Status;
+use smil_model::Steps;
+use smil_outside::{Line, LineReader, Sink, Source};
+use std::alloc::{AllocError, Global};
+use std::sync::ledger::Ledger;
+
+/// A reader of lines, and a session before its first one.
+#[derive(Drop)]
+pub(crate) struct Begun {
+    pub reader: LineReader,
+    pub run: Run,
+}
+
+/// A session before its first line, whose loads are only read or are opened too; unless memory runs out.
+pub(crate) fn begin(alloc: Global, checks: bool) -> Result<Begun, AllocError>
+    ensures reader { IfOk result (λ begun. begun.reader ≡ fresh_reading) }
+    ensures run { IfOk result (λ begun. IsRunning checks begun.run (cut_of []) untold) }
+{
+    Ok(Begun {
+        reader: LineReader::new(alloc)?,
+        run: Run::new(alloc, checks)?,
+    })
+}
+
+/// Reads and answers to the end of the input, or up to a fault.
+pub(crate) fn answer_all<S: Source, K: Sink, L: Ledger>(
+    alloc: Global,
+    mut reader: LineReader,
+    run: &mut Run,
+    source: &mut S,
+    sink: &mut K,
+    steps: &mut Steps<L>,
+) -> Status
+    requires fresh { reader ≡ fresh_reading }
+    ensures ran { (checks : Bool) → IsRunning checks run.old (cut_of []) untold
+        → Ran checks result run.new (S.rest source.old) (S.rest source.new)
+        (K.taken sink.old) (K.taken sink.new) (K.sure_room sink.old) }
+    ensures read_cause { result ≡ Status.ReadFault → HasRisen (S.faults source.old) (S.faults source.new) }
+    ensures write_cause { result ≡ Status.WriteFault → HasRisen (K.faults sink.old) (K.faults sink.new) }
+    ensures read_count { S.faults source.old ≤ S.faults source.new }
+    ensures write_count { K.faults sink.old ≤ K.faults sink.new }
+    ensures sure { S.never_fails source.old → result ≢ Status.ReadFault }
+{
+    'lines: loop {
+        let text = match reader.next(source) {
+            Line::Bytes => Some(reader.bytes()),
+            Line::LongLine => None,
+            Line::End => return end(run, sink),
+            Line::InputTooLong => return Status::InputTooLong,
+            Line::ReadFault => return Status::ReadFault,
+        };
+        if run.line(alloc, reader.number(), text, sink, steps).is_err() {
+            return Status::WriteFault;
+        }
+    }
+}
+
+// Answers a load that hasn't ended, and gives the status.
+fn end<K: Sink>(run: &mut Run, sink: &mut K) -> Status
+    ensures ends { (checks : Bool) (cut : Cut) (told : Told) → IsRunning checks run.old cut told
+        → Ends checks result run.new cut told (K.taken sink.old) (K.taken sink.new) (K.sure_room sink.old) (K.sure_room sink.new) }
+    ensures cause { result ≡ Status.WriteFault → HasRisen (K.faults sink.old) (K.faults sink.new) }
+    ensures count { K.faults sink.old ≤ K.faults sink.new }
+    ensures read { result ≢ Status.ReadFault }
+{
+    match run.end(sink) {
+        Ok(()) => run.counts.status(),
+        Err(_) => Status::WriteFault,
+    }
+}
