@@ -3,13 +3,13 @@
 
 Random scripts, answered by PROGRAM (with the word `run`) and by the reference
 model in DIR; text and status are compared. A difference is printed and, with
---keep, written to a folder. What can be read and isn't built yet is refused
-`not-yet` here as the program refuses it. Some scripts go one by one: loads,
-advances and outlines of the built form in many spellings, also with small
-faults. The others go many at a time, parted by lines `%%`, which end a load
-that stands open: lines with small faults as the model's own generator makes
-them, loads with a value near the grammar, outlines with serials, script lines
-of each order near the grammar, and loads that are near a limit.
+--keep, written to a folder. Half of the scripts are sessions that are played, as
+the model's own generator makes them: documents with all that is played, and
+orders of all kinds to them. The others read: loads of a par with one image in
+many spellings, lines with small faults, loads with a value near the grammar,
+outlines with serials, script lines of each order near the grammar, and loads
+that are near a limit. Many scripts go at a time, separated by lines that end a
+load and close what is held.
 
 With --folder nothing is run: each input is written there with the model's text
 beside it, as NAME and NAME.stdout, for `rt try --cases` (readers_compare.sh)."""
@@ -48,50 +48,8 @@ class Built(int):
 
 REQUEST = Built(20)
 BELOW = 10 ** 9
-TOGETHER = 100
-
-
-def is_built(doc):
-    """A par without attributes, with one img of id, begin and dur."""
-    if len(doc.nodes) != 2:
-        return False
-    root, image = doc.nodes
-    if (root.serial, image.serial, doc.next) != (1, 2, 3):
-        return False
-    if root.kind != 'par' or root.attrs or image.kind != 'img':
-        return False
-    if set(image.attrs) != {'id', 'begin', 'dur'}:
-        return False
-    begin, dur = image.attrs['begin'], image.attrs['dur']
-    if len(begin) != 1 or begin[0][0] != 'offset' or not 0 <= begin[0][1] < BELOW:
-        return False
-    return isinstance(dur, int) and 0 < dur < BELOW
-
-
-class Today(session.Session):
-    """The session as it is built so far: one image in a par, one presentation."""
-
-    def load(self, number, line, outline, closed, last):
-        if not closed:
-            raise grammar.Refusal('unfinished-load')
-        name = grammar.read_line(line, self.limits.request)[1]
-        try:
-            doc = self.read_outline(outline, None).finish()
-        except grammar.Refusal as refusal:
-            refusal.line = refusal.line or last
-            raise
-        if self.house or not is_built(doc):
-            raise grammar.Refusal('not-yet')
-        player = session.Presentation(doc, self.limits)
-        self.house[name] = player
-        self.put(player.load_changes())
-        self.put([b'ok %d %s %d' % (number, name, 0)])
-
-    def order(self, number, line):
-        read = grammar.read_line(line, self.limits.request)
-        if read[0] == 'close' or read[2][0] not in ('advance', 'text'):
-            raise grammar.Refusal('not-yet')
-        super().order(number, line)
+TOGETHER = 50
+APART = b'\n%%\n' + b'\n'.join(b'close ' + name for name in (b'a', b'b', b'c', b'd', b'show-1', b'D_9')) + b'\n'
 
 
 def clock(r, low, high):
@@ -252,37 +210,26 @@ def orders(r):
     return b'\n'.join(changed(r, [r.choice(ORDERS)], [0, 1, 1, 2])[0] for _ in range(10)) + b'\n'
 
 
-def alone(r):
-    """A script of the built form, which is played."""
-    data = built(r)
-    return data if r.random() < 0.5 else b'\n'.join(changed(r, data.split(b'\n'), [1, 2, 3]))
-
-
-def read_together(r, case):
-    """A script of which little is played."""
+def script(r, case):
+    """One script: every other one is played."""
+    if case % 2 == 0:
+        return b'\n'.join(diff.KINDS['play'][0](r, REQUEST)[1])
     if case % 500 == 499:
         return at_the_limits(r)
-    return r.choice([values, saved, orders, lambda r: b'\n'.join(diff.fuzz(r, REQUEST)[1]) + b'\n'])(r)
+    return r.choice([built, values, saved, orders, lambda r: b'\n'.join(diff.fuzz(r, REQUEST)[1])])(r)
 
 
 def scripts():
     """The inputs in turn, each with the number of scripts in it."""
-    case = 0
-    while case < ARGS.cases:
-        r = random.Random('%d %d' % (ARGS.seed, case))
-        if case % (50 * TOGETHER) < TOGETHER:
-            yield case, 1, alone(r)
-            case += 1
-            continue
+    for case in range(0, ARGS.cases, TOGETHER):
         count = min(TOGETHER, ARGS.cases - case)
-        yield case, count, b'\n%%\n'.join(
-            read_together(random.Random('%d %d' % (ARGS.seed, case + k)), case + k) for k in range(count))
-        case += count
+        yield case, count, APART.join(
+            script(random.Random('%d %d' % (ARGS.seed, case + k)), case + k) for k in range(count))
 
 
 def answer_of_model(data, limits):
     lines = session.cut_lines(data)
-    told = Today(limits)
+    told = session.Session(limits)
     told.run(lines)
     return told.text(), 1 if told.refused else 0
 
