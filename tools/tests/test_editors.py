@@ -1,0 +1,153 @@
+"""Tests the files for shells, editors and man, with what this machine has of them."""
+
+import json
+import re
+import shutil
+import subprocess
+import tempfile
+import unittest
+from pathlib import Path
+
+from calling import EXAMPLES, TOP, smilplay
+
+SHOWN = """# comment
+load show
+par #1 id="text" begin="0s;a.end+1.5s;00:10"
+  switch
+  set to="x"
+%%
+show advance 2s
+set set #3 dur "indefinite"
+"""
+WANTED = ["[Comment]# comment", "[Load]load[] [Loaded]show",
+          '[Container]par[] [Serial]#1[] [Attribute]id[Equals]=[Value]"text"[] [Attribute]begin[Equals]='
+          '[Value]"[Clock]0s[Value];a.end+[Clock]1.5s[Value];[Clock]00:10[Value]"',
+          "[Unsupported]  switch", '[Media]  set[] [Attribute]to[Equals]=[Value]"x"', "[End]%%",
+          "[Name]show[] [Order]advance[] [Clock]2s",
+          '[Name]set[] [Order]set[] [Serial]#3[] dur [Value]"[Word]indefinite[Value]"']
+VIM = r"""syntax on
+syntax clear
+unlet! b:current_syntax
+source SYNTAX
+let shown = []
+for l in range(1, line('$'))
+  let [before, text] = ['', '']
+  for c in range(1, col([l, '$']) - 1)
+    let name = synIDattr(synID(l, c, 1), 'name')
+    let text .= name != before ? '[' . substitute(name, 'smilplay', '', '') . ']' : ''
+    let [before, text] = [name, text . getline(l)[c - 1]]
+  endfor
+  call add(shown, text)
+endfor
+call writefile(shown, 'shown')
+qa!
+"""
+
+
+class Vim(unittest.TestCase):
+    @unittest.skipUnless(shutil.which("vim"), "no vim")
+    def test_colours(self):
+        with tempfile.TemporaryDirectory() as folder:
+            Path(folder, "s.play").write_text(SHOWN)
+            syntax = TOP / "editors" / "vim" / "syntax" / "smilplay.vim"
+            Path(folder, "s.vim").write_text(VIM.replace("SYNTAX", str(syntax)))
+            subprocess.run(["vim", "-es", "-i", "NONE", "-n", "-u", "NONE", "-N", "s.play", "-S", "s.vim"], cwd=folder,
+                           stdin=subprocess.DEVNULL, timeout=60, check=False)
+            self.assertEqual(Path(folder, "shown").read_text().splitlines(), WANTED)
+
+
+class TextMate(unittest.TestCase):
+    def setUp(self):
+        self.grammar = json.loads((TOP / "editors" / "smilplay.tmLanguage.json").read_text())
+        self.rules = self.grammar["repository"]
+
+    def rule_of(self, line):
+        """The rule that takes a line, the first one that fits at its front."""
+        for included in self.grammar["patterns"]:
+            name = included["include"][1:]
+            rule = self.rules[name]
+            if re.match(rule.get("match", rule.get("begin")), line):
+                return name
+        return None
+
+    def test_every_pattern_can_be_read(self):
+        text = json.dumps(self.grammar)
+        for name in re.findall(r'"include": "#([a-z]+)"', text):
+            self.assertIn(name, self.rules)
+        for rule in self.rules.values():
+            for part in ("match", "begin", "end"):
+                re.compile(rule.get(part, ""))
+
+    def test_each_line_has_its_rule(self):
+        self.assertEqual([self.rule_of(line) for line in SHOWN.splitlines()],
+                         ["comment", "load", "node", "node", "node", "end", "order", "order"])
+
+    def test_every_line_of_the_examples_has_a_rule(self):
+        for name in ("tour", "kiosk", "quiz", "emergency", "captions", "hundred_presentations", "saved_and_loaded"):
+            for line in (EXAMPLES / f"{name}.play").read_text().splitlines():
+                self.assertIsNotNone(self.rule_of(line), line)
+
+    def test_values(self):
+        clock = re.compile(self.rules["clock"]["match"])
+        self.assertEqual(clock.findall("0s;a.end+1.5s;00:10 id9 a-2"), ["0s", "1.5s", "00:10"])
+
+
+class Completion(unittest.TestCase):
+    def completed(self, *words):
+        script = (f"source {TOP}/completion/smilplay.bash; COMP_WORDS=(\"$@\"); COMP_CWORD=$(($# - 1)); "
+                  "_smilplay; printf '%s\\n' \"${COMPREPLY[@]}\"")
+        run = subprocess.run(["bash", "-c", script, "bash", "smilplay", *words], cwd=EXAMPLES, capture_output=True,
+                             text=True, check=False)
+        return sorted(run.stdout.split())
+
+    def test_words(self):
+        self.assertEqual(self.completed(""), ["check", "gen", "run"])
+        self.assertEqual(self.completed("c"), ["check"])
+        self.assertEqual(self.completed("gen", "90"), ["90", "900"])
+        self.assertEqual(self.completed("run", ""), [])
+        self.assertEqual(self.completed("run", "<", "kiosk.play."), ["kiosk.play.args", "kiosk.play.stdout"])
+
+    @unittest.skipUnless(shutil.which("shellcheck"), "no shellcheck")
+    def test_shellcheck(self):
+        run = subprocess.run(["shellcheck", "-s", "bash", TOP / "completion" / "smilplay.bash"], capture_output=True,
+                             text=True, check=False)
+        self.assertEqual((run.returncode, run.stdout), (0, ""))
+
+
+class ManualPage(unittest.TestCase):
+    def setUp(self):
+        self.path = TOP / "docs" / "smilplay.1"
+        self.text = self.path.read_text()
+
+    @unittest.skipUnless(shutil.which("groff"), "no groff")
+    def test_groff_has_no_warning(self):
+        run = subprocess.run(["groff", "-mdoc", "-ww", "-Tascii", self.path], capture_output=True, text=True, check=False)
+        self.assertEqual((run.returncode, run.stderr), (0, ""))
+
+    @unittest.skipUnless(shutil.which("mandoc"), "no mandoc")
+    def test_mandoc_has_no_warning(self):
+        run = subprocess.run(["mandoc", "-T", "lint", "-W", "warning", self.path], capture_output=True, text=True,
+                             check=False)
+        self.assertEqual(run.stdout, "")
+
+    def test_source(self):
+        for line in self.text.splitlines():
+            self.assertRegex(line, r"^.{0,79}[^ ]$")
+
+    def test_orders_and_exit_numbers_are_those_of_the_manual(self):
+        script = (TOP / "docs" / "SCRIPT.md").read_text()
+        orders = re.findall(r"^\| `(?:NAME )?([a-z]+)[^`]*` \| `",
+                            script[script.index("## Orders"):script.index("## A load")], re.MULTILINE)
+        self.assertEqual(set(re.findall(r"^\.It (?:Ar name )?Cm ([a-z]+)", self.text, re.MULTILINE)),
+                         set(orders) | {"run", "check", "gen"})
+        numbers = re.findall(r"^\| ([0-9]) \| ", script[script.index("## The exit number"):], re.MULTILINE)
+        self.assertEqual(re.findall(r"^\.It ([0-9])$", self.text, re.MULTILINE), numbers)
+
+    def test_the_example_is_what_the_program_writes(self):
+        example = self.text[self.text.index(".Bd"):self.text.index(".Ed")].splitlines()
+        end = example.index("END")
+        self.assertEqual(smilplay("run", "".join(line + "\n" for line in example[2:end])).splitlines(), example[end + 1:])
+
+
+if __name__ == "__main__":
+    unittest.main()
