@@ -49,7 +49,8 @@ abbrev pub WhereMarked : (History → ℤ → Type 0) → List ℕ → Option (P
 WhereMarked is_marked touched None = Unit {0}
 WhereMarked is_marked touched (Some mark) = IsSound is_marked (at_mark touched mark)
 
-pub record IsKept (is_current is_marked : History → ℤ → Type 0) (has_mark : Bool) (past : Happened) (moment : ℤ) (fault : Option BookFault) (mark : Option ℤ) (touched : List ℕ) : Type 0 where
+pub record IsKept (is_current is_marked : History → ℤ → Type 0) (has_mark : Bool) (past : Happened)
+    (moment : ℤ) (fault : Option BookFault) (mark : Option ℤ) (touched : List ℕ) : Type 0 where
   pub present : IsPresent past moment
   pub log : is_log past.log ≡ true
   pub sound : fault ≡ None → IsSound is_current (standing_of past moment fault mark touched)

@@ -23,7 +23,8 @@ pub record IsCurrent (rows : List Row) (due : set.FinSet key_cmp) (h : History) 
   pub due_is : due ≡ set.from_list (keys h now)
 
 -- it is current by another history by which the same is
-pub stays_current : (rows : List Row) (due : set.FinSet key_cmp) (h k : History) (m n : ℤ) → IsSame h m k n → IsCurrent rows due h m → IsCurrent rows due k n
+pub stays_current : (rows : List Row) (due : set.FinSet key_cmp) (h k : History) (m n : ℤ)
+    → IsSame h m k n → IsCurrent rows due h m → IsCurrent rows due k n
 stays_current rows due h k m n same is = record {
   rows_are = is.rows_are ∙ sym same.table;
   comings_are = comings_stay h k m n same (map (λ (r : Row). r.comings) rows) is.comings_are;
@@ -31,7 +32,8 @@ stays_current rows due h k m n same is = record {
 }
 
 -- what `back` gives where a mark stands: what was noted, or what is there where nothing changed since
-abbrev pub IsMarked : Bool → Option (List Row × set.FinSet key_cmp) → List Row → set.FinSet key_cmp → History → ℤ → Type 0
+abbrev pub IsMarked : Bool → Option (List Row × set.FinSet key_cmp) → List Row → set.FinSet key_cmp
+    → History → ℤ → Type 0
 IsMarked false noted rows due h now = Unit {0}
 IsMarked true None rows due h now = IsCurrent rows due h now
 IsMarked true (Some noted) rows due h now = IsCurrent noted.0 noted.1 h now

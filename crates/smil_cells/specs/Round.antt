@@ -14,10 +14,12 @@ use Rattle.smil_cells.specs.declared.plain.known.Row.{Row}
 use Rattle.smil_cells.specs.Plain.{interval_in}
 
 -- the row of an element, given the intervals of all
-pub record IsRowOf (h : History) (intervals : ℕ → Option Interval) (now : ℤ) (place : ℕ) (e : Node) (row : Row) : Type 0 where
+pub record IsRowOf (h : History) (intervals : ℕ → Option Interval) (now : ℤ) (place : ℕ) (e : Node)
+    (row : Row) : Type 0 where
   pub serial : row.serial ≡ e.serial
   pub interval : row.interval ≡ interval_given h intervals now e
-  pub comings : both row.comings.moved row.comings.repeat ≡ coming_by h row.interval (simple_of h intervals e) now place e
+  pub comings : both row.comings.moved row.comings.repeat
+      ≡ coming_by h row.interval (simple_of h intervals e) now place e
 
 -- one element was evaluated by the rows as they were
 pub record IsTaken (h : History) (now : ℤ) (who : ℕ) (before after : List Row) : Type 0 where
@@ -62,12 +64,14 @@ pub record StayUnchanged (old new : List ℕ) (before after : List Row) : Type 0
   pub others : (s : ℕ) → has new s ≡ false → interval_in after s ≡ interval_in before s
 
 -- what is noted where a mark stands
-abbrev pub IsNoted : Bool → Option (List Row × set.FinSet key_cmp) → List Row → set.FinSet key_cmp → Option (List Row × set.FinSet key_cmp) → Type 0
+abbrev pub IsNoted : Bool → Option (List Row × set.FinSet key_cmp) → List Row → set.FinSet key_cmp
+    → Option (List Row × set.FinSet key_cmp) → Type 0
 IsNoted true None rows due noted = noted ≡ Some (rows, due)
 IsNoted true (Some before) rows due noted = noted ≡ Some before
 IsNoted false before rows due noted = noted ≡ before
 
 -- the first elements of an order were evaluated
-pub record IsUnderWay (h : History) (now : ℤ) (order : List ℕ) (count : ℕ) (before rows : List Row) (old changed : List ℕ) : Type 0 where
+pub record IsUnderWay (h : History) (now : ℤ) (order : List ℕ) (count : ℕ) (before rows : List Row)
+    (old changed : List ℕ) : Type 0 where
   pub taken : AreTaken h now order count rows
   pub unchanged : StayUnchanged old changed before rows

@@ -90,7 +90,8 @@ is_same_interval _ _ = false
 -- how many elements have an interval by the second that they had not by the first
 abbrev pub fresh : List Node → (ℕ → Option Interval) → (ℕ → Option Interval) → ℕ
 fresh nodes before after =
-    length (filter (λ (e : Node). is_some (after e.serial) && not (is_same_interval (before e.serial) (after e.serial))) (elements nodes))
+    length (filter (λ (e : Node). is_some (after e.serial)
+    && not (is_same_interval (before e.serial) (after e.serial))) (elements nodes))
 
 -- ---- what a call leaves as it was
 

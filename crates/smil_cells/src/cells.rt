@@ -81,7 +81,8 @@ impl<T: Table> Cells<T> {
         ensures unmarked { IfOk result (λ cells. cells.marked ≡ None) }
         ensures counted { steps.old ≤ steps.new }
         ensures most { WhereTold T.counts (steps.new - steps.old ≤ length (elements doc.now.nodes)) }
-        ensures least { IfOk result (λ cells. WhereTold T.counts (any_interval doc.now.nodes (interval_at cells) ≤ steps.new - steps.old)) }
+        ensures least { IfOk result (λ cells. WhereTold T.counts
+            (any_interval doc.now.nodes (interval_at cells) ≤ steps.new - steps.old)) }
     {
         let tree = Tree::of_doc(alloc, doc)?;
         let past = Past::new(alloc, tree, Log::new(alloc))?;
@@ -93,13 +94,18 @@ impl<T: Table> Cells<T> {
     pub fn settle<L: Ledger>(&mut self, until: i64, steps: &mut Steps<L>) -> Result<(), BookFault>
         requires from { pos self.old.presentation.now ≤ℤ until }
         requires within { until ≤ℤ the_horizon }
-        ensures again { (fault : AnyFault) → self.old.fault ≡ Some fault → (result ≡ Err fault) × (self.new ≡ self.old) }
+        ensures again { (fault : AnyFault) → self.old.fault ≡ Some fault → (result ≡ Err fault)
+            × (self.new ≡ self.old) }
         ensures state { OnOk result (self.new.presentation ≡ moved_to self.old.presentation (nat_abs until)) }
         ensures settled { OnOk result (IsSettled self.new) }
         ensures goes_on { OnOk result (GoesOn self.old self.new) }
         ensures refused { IfErr result (IsRefusing self.old self.new) }
-        ensures full { IfErr result (λ fault. fault ≡ book_fault.DiaryFull → (self.old.fault ≡ Some fault) ⊎ (diary_of (course_of (moved_to self.old.presentation (nat_abs until))) ≡ None)) }
-        ensures front { IfErr result (λ fault. fault ≡ book_fault.DiaryFull → (self.old.fault ≡ Some fault) ⊎ IsFront (course_of (moved_to self.old.presentation (nat_abs until))) self.new.diary) }
+        ensures full { IfErr result (λ fault. fault ≡ book_fault.DiaryFull
+            → (self.old.fault ≡ Some fault)
+            ⊎ (diary_of (course_of (moved_to self.old.presentation (nat_abs until))) ≡ None)) }
+        ensures front { IfErr result (λ fault. fault ≡ book_fault.DiaryFull
+            → (self.old.fault ≡ Some fault)
+            ⊎ IsFront (course_of (moved_to self.old.presentation (nat_abs until))) self.new.diary) }
         ensures counted { steps.old ≤ steps.new }
         ensures most { OnOk result (WhereTold T.counts (steps.new - steps.old ≤ reached_since self.old self.new)) }
         ensures least { OnOk result (WhereTold T.counts (fresh_since self.old self.new ≤ steps.new - steps.old)) }
@@ -123,13 +129,18 @@ impl<T: Table> Cells<T> {
         requires may { may_happen entry.what ≡ true }
         requires room { length self.old.presentation.log + 1 ≤ the_entries }
         requires settled { self.old.fault ≡ None → NothingBefore self.old (pos self.old.presentation.now +ℤ pos 1) }
-        ensures again { (fault : AnyFault) → self.old.fault ≡ Some fault → (result ≡ Err fault) × (self.new ≡ self.old) }
+        ensures again { (fault : AnyFault) → self.old.fault ≡ Some fault → (result ≡ Err fault)
+            × (self.new ≡ self.old) }
         ensures state { OnOk result (self.new.presentation ≡ with_logged self.old.presentation entry) }
         ensures settled { OnOk result (IsSettled self.new) }
         ensures goes_on { OnOk result (GoesOn self.old self.new) }
         ensures refused { IfErr result (IsRefusing self.old self.new) }
-        ensures full { IfErr result (λ fault. fault ≡ book_fault.DiaryFull → (self.old.fault ≡ Some fault) ⊎ (diary_of (course_of (with_logged self.old.presentation entry)) ≡ None)) }
-        ensures front { IfErr result (λ fault. fault ≡ book_fault.DiaryFull → (self.old.fault ≡ Some fault) ⊎ IsFront (course_of (with_logged self.old.presentation entry)) self.new.diary) }
+        ensures full { IfErr result (λ fault. fault ≡ book_fault.DiaryFull
+            → (self.old.fault ≡ Some fault)
+            ⊎ (diary_of (course_of (with_logged self.old.presentation entry)) ≡ None)) }
+        ensures front { IfErr result (λ fault. fault ≡ book_fault.DiaryFull
+            → (self.old.fault ≡ Some fault)
+            ⊎ IsFront (course_of (with_logged self.old.presentation entry)) self.new.diary) }
         ensures counted { steps.old ≤ steps.new }
         ensures most { OnOk result (WhereTold T.counts (steps.new - steps.old ≤ reached_since self.old self.new)) }
         ensures least { OnOk result (WhereTold T.counts (fresh_since self.old self.new ≤ steps.new - steps.old)) }
@@ -158,7 +169,8 @@ impl<T: Table> Cells<T> {
     /// answered. It takes no memory.
     pub fn next_due(&self) -> Option<i64>
         requires { self.now.fault ≡ None }
-        ensures { result ≡ option_map (λ (c : AnyComing). c.key.value) (first_coming (coming (history_of self.now) (pos self.now.presentation.now))) }
+        ensures { result ≡ option_map (λ (c : AnyComing). c.key.value)
+            (first_coming (coming (history_of self.now) (pos self.now.presentation.now))) }
     {
         match self.table.first() {
             Some(coming) => Some(coming.key.value),
@@ -298,7 +310,8 @@ impl<T: Table> Cells<T> {
     /// Goes back to the mark, which stands no longer; no refusal is answered any more. It takes no memory.
     pub fn back(&mut self)
         requires { is_some self.old.marked ≡ true }
-        ensures { (mark : Presentation × List AnyEntry) → self.old.marked ≡ Some mark → self.new ≡ at_mark self.old.touched mark }
+        ensures { (mark : Presentation × List AnyEntry) → self.old.marked ≡ Some mark → self.new
+            ≡ at_mark self.old.touched mark }
     {
         reached_is_past();
         self.past.back();
@@ -332,7 +345,8 @@ impl<T: Table> Cells<T> {
         ensures goes_on { OnOk result (GoesOn self.old self.new) }
         ensures more { OnOk result (StayTouched self.old self.new) }
         ensures refused { IfErr result (IsRefusing self.old self.new) }
-        ensures full { IfErr result (λ fault. fault ≡ book_fault.DiaryFull → IsFront (course_of (moved_to self.old.presentation (nat_abs until))) self.new.diary) }
+        ensures full { IfErr result (λ fault. fault ≡ book_fault.DiaryFull
+            → IsFront (course_of (moved_to self.old.presentation (nat_abs until))) self.new.diary) }
         ensures counted { steps.old ≤ steps.new }
         ensures most { OnOk result (WhereTold T.counts (steps.new - steps.old ≤ reached_since self.old self.new)) }
         ensures least { OnOk result (WhereTold T.counts (fresh_since self.old self.new ≤ steps.new - steps.old)) }
@@ -375,7 +389,8 @@ impl<T: Table> Cells<T> {
         requires within { moment ≤ℤ the_horizon }
         requires quiet { NothingBefore self.old moment }
         ensures moved { self.new ≡ record self.old { presentation = moved_to self.old.presentation (nat_abs moment) } }
-        ensures same { IsSame (history_of self.old) (pos self.old.presentation.now) (history_of self.new) (pos self.new.presentation.now) }
+        ensures same { IsSame (history_of self.old) (pos self.old.presentation.now)
+            (history_of self.new) (pos self.new.presentation.now) }
         ensures ended { NothingBefore self.old (moment +ℤ pos 1) → IsSettled self.new }
     {
         time_passes_quietly();
@@ -414,7 +429,8 @@ impl<T: Table> Cells<T> {
         ensures begun { IfOk result (λ cells. cells ≡ begun past moment) }
         ensures counted { steps.old ≤ steps.new }
         ensures most { WhereTold T.counts (steps.new - steps.old ≤ length (elements past.document.nodes)) }
-        ensures least { IfOk result (λ cells. WhereTold T.counts (any_interval past.document.nodes (interval_at cells) ≤ steps.new - steps.old)) }
+        ensures least { IfOk result (λ cells. WhereTold T.counts
+            (any_interval past.document.nodes (interval_at cells) ≤ steps.new - steps.old)) }
     {
         reached_is_past();
         let table = T::of(alloc, &past, moment, steps)?;
@@ -439,7 +455,8 @@ impl<T: Table> Cells<T> {
         requires settled { NothingBefore self.old (pos self.old.presentation.now +ℤ pos 1) }
         ensures heard { OnOk result (IsHeard self.old entry self.new) }
         ensures refused { IfErr result (IsRefusing self.old self.new) }
-        ensures full { IfErr result (λ fault. fault ≡ book_fault.DiaryFull → IsFront (course_of (with_logged self.old.presentation entry)) self.new.diary) }
+        ensures full { IfErr result (λ fault. fault ≡ book_fault.DiaryFull
+            → IsFront (course_of (with_logged self.old.presentation entry)) self.new.diary) }
         ensures counted { steps.old ≤ steps.new }
         ensures most { OnOk result (WhereTold T.counts (steps.new - steps.old ≤ reached_since self.old self.new)) }
         ensures least { OnOk result (WhereTold T.counts (fresh_since self.old self.new ≤ steps.new - steps.old)) }
@@ -470,7 +487,8 @@ impl<T: Table> Cells<T> {
         requires due { coming.key.value ≤ℤ pos self.old.presentation.now }
         ensures next { OnOk result (IsNext self.old self.new) }
         ensures refused { IfErr result (IsRefusing self.old self.new) }
-        ensures full { IfErr result (λ fault. fault ≡ book_fault.DiaryFull → IsFront (course_of self.old.presentation) self.new.diary) }
+        ensures full { IfErr result (λ fault. fault ≡ book_fault.DiaryFull
+            → IsFront (course_of self.old.presentation) self.new.diary) }
         ensures counted { steps.old ≤ steps.new }
         ensures most { OnOk result (WhereTold T.counts (steps.new - steps.old ≤ reached_since self.old self.new)) }
         ensures least { OnOk result (WhereTold T.counts (fresh_since self.old self.new ≤ steps.new - steps.old)) }
@@ -508,7 +526,9 @@ fn append_all(past: &mut Past, entries: &[Entry]) -> Result<(), BookFault>
     requires { MayAppendAll past.old entries.now }
     ensures ok { OnOk result (past.new ≡ past_of.with_diary past.old (past.old.diary ++ entries.now)) }
     ensures err { OnErr result (IsPart past.old entries.now past.new) }
-    ensures full { IfErr result (λ fault. fault ≡ book_fault.DiaryFull → (length past.new.diary ≡ limits.DIARY_ENTRIES) × (limits.DIARY_ENTRIES < length past.old.diary + length entries.now)) }
+    ensures full { IfErr result (λ fault. fault ≡ book_fault.DiaryFull
+        → (length past.new.diary ≡ limits.DIARY_ENTRIES)
+        × (limits.DIARY_ENTRIES < length past.old.diary + length entries.now)) }
 {
     for entry in entries {
         past.append(*entry)?;

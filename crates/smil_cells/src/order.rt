@@ -14,7 +14,8 @@ use std::alloc::{AllocError, Global};
 /// The elements that are listed, each once and in document order; other nodes are left out. Refused where memory runs out.
 pub fn in_order(alloc: Global, tree: &Tree, touched: &Serials) -> Result<Serials, AllocError>
     ensures order { IfOk result (λ list. list ≡ filter (has list) (serials (elements tree.now.nodes))) }
-    ensures same { IfOk result (λ list. (e : AnyNode) → node_at (elements tree.now.nodes) e.serial ≡ Some e → has list e.serial ≡ has touched.now e.serial) }
+    ensures same { IfOk result (λ list. (e : AnyNode) → node_at (elements tree.now.nodes) e.serial
+        ≡ Some e → has list e.serial ≡ has touched.now e.serial) }
 {
     let mut places = places_of(alloc, tree, touched)?;
     places.sort_unstable();
@@ -34,7 +35,8 @@ fn places_of(alloc: Global, tree: &Tree, touched: &Serials) -> Result<Vec<usize>
 
 // Appends the place of the node with a serial, where there is one.
 fn note_place(tree: &Tree, serial: u32, places: &mut Vec<usize>) -> Result<(), AllocError>
-    ensures { OnOk result ((i : ℕ) → has places.new.items i ≡ (has places.old.items i || is_listed (serial ∷ []) (slice_get tree.now.nodes i))) }
+    ensures { OnOk result ((i : ℕ) → has places.new.items i
+        ≡ (has places.old.items i || is_listed (serial ∷ []) (slice_get tree.now.nodes i))) }
 {
     tree.valid();
     match tree.position(serial) {
@@ -77,7 +79,8 @@ fn listed(
 // Appends the node at a place, where it is an element.
 fn note_element(tree: &Tree, place: usize, list: &mut Serials) -> Result<(), AllocError>
     requires { IsSome (slice_get tree.now.nodes place) }
-    ensures { (n : AnyNode) → slice_get tree.now.nodes place ≡ Some n → OnOk result (list.new ≡ list.old ++ serials (elements (n ∷ []))) }
+    ensures { (n : AnyNode) → slice_get tree.now.nodes place ≡ Some n
+        → OnOk result (list.new ≡ list.old ++ serials (elements (n ∷ []))) }
 {
     tree.valid();
     let serial = tree.serial_at(place).unwrap();

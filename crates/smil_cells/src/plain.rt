@@ -123,7 +123,8 @@ impl PlainTable {
         ensures known { self.new.known ≡ self.old.known }
         ensures due { self.new.due ≡ self.old.due }
         ensures has_mark { self.new.has_mark ≡ self.old.has_mark }
-        ensures noted { OnOk result (IsNoted self.old.has_mark self.old.noted self.old.known self.old.due self.new.noted) }
+        ensures noted { OnOk result (IsNoted self.old.has_mark self.old.noted self.old.known
+            self.old.due self.new.noted) }
         ensures err { OnErr result (self.new.noted ≡ self.old.noted) }
     {
         if self.has_mark && self.noted.is_none() {

@@ -42,7 +42,9 @@ pub trait Table: Drop {
         ensures unmarked { IfOk result (λ table. has_mark table ≡ false) }
         ensures counted { steps.old ≤ steps.new }
         ensures most { WhereTold counts (steps.new - steps.old ≤ length (elements past.now.document.nodes)) }
-        ensures least { OnOk result (WhereTold counts (any_interval past.now.document.nodes (current_interval (history_of past.now) moment) ≤ steps.new - steps.old)) };
+        ensures least { OnOk result (WhereTold counts
+            (any_interval past.now.document.nodes (current_interval (history_of past.now) moment) ≤
+            steps.new - steps.old)) };
 
     /// Takes in the entries from a place on, and appends to `changed` the elements whose intervals they may have changed. After a
     /// refusal nothing is known of the table but what `back` gives.
@@ -58,13 +60,19 @@ pub trait Table: Drop {
         requires within { from ≤ length past.now.diary }
         requires before { is_current self.old (front past.now from) moment }
         ensures current { OnOk result (is_current self.new (history_of past.now) moment) }
-        ensures changed { OnOk result ((s : ℕ) → has changed.new s ≡ false → current_interval (history_of past.now) moment s ≡ current_interval (front past.now from) moment s) }
+        ensures changed { OnOk result ((s : ℕ) → has changed.new s ≡ false
+            → current_interval (history_of past.now) moment s
+            ≡ current_interval (front past.now from) moment s) }
         ensures more { OnOk result ((s : ℕ) → has changed.old s ≡ true → has changed.new s ≡ true) }
         ensures marked { (h : History) (now : ℤ) → is_marked self.old h now → is_marked self.new h now }
         ensures has_mark { has_mark self.new ≡ has_mark self.old }
         ensures counted { steps.old ≤ steps.new }
-        ensures most { OnOk result (WhereTold counts (steps.new - steps.old ≤ reaches past.now.document.nodes past.now.log (drop from past.now.diary))) }
-        ensures least { OnOk result (WhereTold counts (fresh past.now.document.nodes (current_interval (front past.now from) moment) (current_interval (history_of past.now) moment) ≤ steps.new - steps.old)) };
+        ensures most { OnOk result (WhereTold counts
+            (steps.new - steps.old ≤ reaches past.now.document.nodes past.now.log
+            (drop from past.now.diary))) }
+        ensures least { OnOk result (WhereTold counts
+            (fresh past.now.document.nodes (current_interval (front past.now from) moment)
+            (current_interval (history_of past.now) moment) ≤ steps.new - steps.old)) };
 
     /// The current interval of an element. It takes no memory.
     fn interval(&self, who: u32) -> Option<Interval>
@@ -72,12 +80,14 @@ pub trait Table: Drop {
 
     /// What comes first; None exactly where nothing comes. It takes no memory.
     fn first(&self) -> Option<Coming>
-        ensures { (h : History) (now : ℤ) → is_current self.now h now → option_map coming_meant result ≡ first_coming (coming h now) };
+        ensures { (h : History) (now : ℤ) → is_current self.now h now
+            → option_map coming_meant result ≡ first_coming (coming h now) };
 
     /// A copy, unless memory runs out. No mark stands.
     fn copy(&self) -> Result<Self, AllocError>
         requires { has_mark self.now ≡ false }
-        ensures current { IfOk result (λ copy. (h : History) (now : ℤ) → is_current self.now h now → is_current copy h now) }
+        ensures current { IfOk result (λ copy. (h : History) (now : ℤ) → is_current self.now h now
+            → is_current copy h now) }
         ensures unmarked { IfOk result (λ copy. has_mark copy ≡ false) };
 
     /// From here on `back` comes back to this. No mark stands. It takes no memory.

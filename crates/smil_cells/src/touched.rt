@@ -26,8 +26,11 @@ pub fn touch(
     touched: &mut Serials,
 ) -> Result<(), AllocError>
     requires { from ≤ length past.now.diary }
-    ensures more { OnOk result ((e : AnyNode) → node_at (elements past.now.document.nodes) e.serial ≡ Some e → has touched.old e.serial ≡ true → has touched.new e.serial ≡ true) }
-    ensures shown { OnOk result ((e : AnyNode) → node_at (elements past.now.document.nodes) e.serial ≡ Some e → any_shows past.now.document.nodes past.now.log (drop from past.now.diary) e.serial ≡ true → has touched.new e.serial ≡ true) }
+    ensures more { OnOk result ((e : AnyNode) → node_at (elements past.now.document.nodes) e.serial
+        ≡ Some e → has touched.old e.serial ≡ true → has touched.new e.serial ≡ true) }
+    ensures shown { OnOk result ((e : AnyNode) → node_at (elements past.now.document.nodes) e.serial
+        ≡ Some e → any_shows past.now.document.nodes past.now.log (drop from past.now.diary)
+        e.serial ≡ true → has touched.new e.serial ≡ true) }
 {
     let book = past.book();
     let tree = past.tree();
@@ -40,7 +43,8 @@ pub fn touch(
 
 // Puts the list in order where it has grown long.
 fn shorten(alloc: Global, tree: &Tree, touched: &mut Serials) -> Result<(), AllocError>
-    ensures { OnOk result ((e : AnyNode) → node_at (elements tree.now.nodes) e.serial ≡ Some e → has touched.new e.serial ≡ has touched.old e.serial) }
+    ensures { OnOk result ((e : AnyNode) → node_at (elements tree.now.nodes) e.serial ≡ Some e
+        → has touched.new e.serial ≡ has touched.old e.serial) }
 {
     if touched.len() <= CROWD {
         return Ok(());
@@ -52,7 +56,9 @@ fn shorten(alloc: Global, tree: &Tree, touched: &mut Serials) -> Result<(), Allo
 // Appends the elements in whose views a step shows.
 fn touch_step(tree: &Tree, log: &Log, step: Step, touched: &mut Serials) -> Result<(), AllocError>
     ensures more { OnOk result ((s : ℕ) → has touched.old s ≡ true → has touched.new s ≡ true) }
-    ensures shown { OnOk result ((e : AnyNode) → node_at (elements tree.now.nodes) e.serial ≡ Some e → shows_from tree.now.nodes step (subject_of log.now step) e.serial ≡ true → has touched.new e.serial ≡ true) }
+    ensures shown { OnOk result ((e : AnyNode) → node_at (elements tree.now.nodes) e.serial ≡ Some e
+        → shows_from tree.now.nodes step (subject_of log.now step) e.serial ≡ true
+        → has touched.new e.serial ≡ true) }
 {
     match subject(log, step) {
         Some(who) => touch_element(tree, step, who, touched),
@@ -63,7 +69,8 @@ fn touch_step(tree: &Tree, log: &Log, step: Step, touched: &mut Serials) -> Resu
 // Appends the elements in whose views a step of an element shows; a logged event may be of a serial that no node has.
 fn touch_element(tree: &Tree, step: Step, who: u32, touched: &mut Serials) -> Result<(), AllocError>
     ensures more { OnOk result ((s : ℕ) → has touched.old s ≡ true → has touched.new s ≡ true) }
-    ensures shown { OnOk result ((e : AnyNode) → node_at (elements tree.now.nodes) e.serial ≡ Some e → shows_in tree.now.nodes step who e.serial ≡ true → has touched.new e.serial ≡ true) }
+    ensures shown { OnOk result ((e : AnyNode) → node_at (elements tree.now.nodes) e.serial ≡ Some e
+        → shows_in tree.now.nodes step who e.serial ≡ true → has touched.new e.serial ≡ true) }
 {
     tree.valid();
     if tree.position(who).is_none() {
@@ -111,7 +118,8 @@ fn plays_one(kind: Kind) -> bool
 // Appends a node and those below it.
 fn touch_within(tree: &Tree, who: u32, touched: &mut Serials) -> Result<(), AllocError>
     requires { IsSome (node_at tree.now.nodes who) }
-    ensures { OnOk result (touched.new ≡ touched.old ++ serials (filter (λ (n : AnyNode). is_within tree.now.nodes who n.serial) tree.now.nodes)) }
+    ensures { OnOk result (touched.new ≡ touched.old
+        ++ serials (filter (λ (n : AnyNode). is_within tree.now.nodes who n.serial) tree.now.nodes)) }
 {
     let (start, past) = tree.span(who);
     for at in start..past {

@@ -19,20 +19,24 @@ HaveComings h now place (e ∷ es) (c ∷ cs) =
     (both c.moved c.repeat ≡ coming_of h (current_interval h now) now place e) × HaveComings h now (suc place) es cs
 
 module _ (h k : History) (m n : ℤ) (same : IsSame h m k n) where
-  from_stays : (place : ℕ) (es : List Node) (cs : List Comings) → HaveComings h m place es cs → HaveComings k n place es cs
+  from_stays : (place : ℕ) (es : List Node) (cs : List Comings) → HaveComings h m place es cs
+      → HaveComings k n place es cs
   from_stays place [] [] is = tt
   from_stays place [] (c ∷ cs) is = is
   from_stays place (e ∷ es) [] is = is
   from_stays place (e ∷ es) (c ∷ cs) is = (is.0 ∙ sym (same.comings place e), from_stays (suc place) es cs is.1)
 
-  of_nodes : (nodes : List Node) (cs : List Comings) → nodes ≡ h.nodes → HaveComings k n 0 (elements h.nodes) cs → HaveComings k n 0 (elements nodes) cs
+  of_nodes : (nodes : List Node) (cs : List Comings) → nodes ≡ h.nodes
+      → HaveComings k n 0 (elements h.nodes) cs → HaveComings k n 0 (elements nodes) cs
   of_nodes nodes cs e is = rw e is
 
   -- they are so by another history by which the same comes
-  pub comings_stay : (cs : List Comings) → HaveComings h m 0 (elements h.nodes) cs → HaveComings k n 0 (elements k.nodes) cs
+  pub comings_stay : (cs : List Comings) → HaveComings h m 0 (elements h.nodes) cs
+      → HaveComings k n 0 (elements k.nodes) cs
   comings_stay cs is = of_nodes k.nodes cs same.nodes (from_stays 0 (elements h.nodes) cs is)
 
-  all_stays : (place : ℕ) (es : List Node) → coming_from k (current_interval k n) n place es ≡ coming_from h (current_interval h m) m place es
+  all_stays : (place : ℕ) (es : List Node) → coming_from k (current_interval k n) n place es
+      ≡ coming_from h (current_interval h m) m place es
   all_stays place [] = refl
   all_stays place (e ∷ es) =
       ap (λ cs. cs ++ coming_from k (current_interval k n) n (suc place) es) (same.comings place e)

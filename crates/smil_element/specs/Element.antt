@@ -18,7 +18,8 @@ use Rattle.smil_element.specs.Parts.{coming_meant}
 use Rattle.smil_element.specs.declared.evaluation.Evaluated.{Evaluated}
 
 -- the interval and the simple duration of an element, given the intervals of the others
-pub record IsEvaluated (h : History) (intervals : ℕ → Option Interval) (now : ℤ) (e : Node) (made : Evaluated) : Type 0 where
+pub record IsEvaluated (h : History) (intervals : ℕ → Option Interval) (now : ℤ) (e : Node)
+    (made : Evaluated) : Type 0 where
   pub interval : made.interval ≡ interval_given h intervals now e
   pub simple : made.simple ≡ simple_of h intervals e
 

@@ -36,7 +36,9 @@ pub fn comings_of(past: &Past, who: u32, place: u32, now: i64, made: &Evaluated)
     requires element { has_element past.now.document.nodes who ≡ true }
     requires moment { IsPresent past.now now }
     requires near { IfSome made.now.interval IsIntervalNear }
-    ensures { (e : AnyNode) → node_at (elements past.now.document.nodes) who ≡ Some e → both result.moved result.repeat ≡ coming_by (history_of past.now) made.now.interval made.now.simple now place e }
+    ensures { (e : AnyNode) → node_at (elements past.now.document.nodes) who ≡ Some e
+        → both result.moved result.repeat
+        ≡ coming_by (history_of past.now) made.now.interval made.now.simple now place e }
 {
     let repeat = if past.book().active(who) {
         repeat_of(past, who, place, now, made.simple)
@@ -59,7 +61,8 @@ fn moved_of(
 ) -> Option<Coming>
     requires moment { IsPresent past.now now }
     requires near { IfSome interval IsIntervalNear }
-    ensures { (e : AnyNode) → node_at (elements past.now.document.nodes) who ≡ Some e → and_coming result [] ≡ moved_by (history_of past.now) interval now place e }
+    ensures { (e : AnyNode) → node_at (elements past.now.document.nodes) who ≡ Some e
+        → and_coming result [] ≡ moved_by (history_of past.now) interval now place e }
 {
     let interval = interval?;
     if past.clocks().outer_stands(who) {
@@ -76,7 +79,8 @@ fn moved_of(
 fn begin_of(past: &Past, who: u32, place: u32, now: i64, interval: Interval) -> Coming
     requires moment { IsPresent past.now now }
     requires near { IsIntervalNear interval }
-    ensures { (e : AnyNode) → node_at (elements past.now.document.nodes) who ≡ Some e → coming_meant result ∷ [] ≡ coming_begin (history_of past.now) now place e (Some interval) }
+    ensures { (e : AnyNode) → node_at (elements past.now.document.nodes) who ≡ Some e
+        → coming_meant result ∷ [] ≡ coming_begin (history_of past.now) now place e (Some interval) }
 {
     Coming {
         key: Key {
@@ -96,7 +100,8 @@ fn begin_of(past: &Past, who: u32, place: u32, now: i64, interval: Interval) -> 
 fn end_of(past: &Past, who: u32, place: u32, now: i64, interval: Interval) -> Option<Coming>
     requires moment { IsPresent past.now now }
     requires near { IsIntervalNear interval }
-    ensures { (e : AnyNode) → node_at (elements past.now.document.nodes) who ≡ Some e → and_coming result [] ≡ coming_end (history_of past.now) now place e (Some interval) }
+    ensures { (e : AnyNode) → node_at (elements past.now.document.nodes) who ≡ Some e
+        → and_coming result [] ≡ coming_end (history_of past.now) now place e (Some interval) }
 {
     let Time::At(end) = interval.end else {
         return None;
@@ -117,7 +122,8 @@ fn end_of(past: &Past, who: u32, place: u32, now: i64, interval: Interval) -> Op
 fn repeat_of(past: &Past, who: u32, place: u32, now: i64, simple: Time) -> Option<Coming>
     requires element { has_element past.now.document.nodes who ≡ true }
     requires moment { IsPresent past.now now }
-    ensures { (e : AnyNode) → node_at (elements past.now.document.nodes) who ≡ Some e → and_coming result [] ≡ repeat_by (history_of past.now) simple now place e }
+    ensures { (e : AnyNode) → node_at (elements past.now.document.nodes) who ≡ Some e
+        → and_coming result [] ≡ repeat_by (history_of past.now) simple now place e }
 {
     if may_repeat(past, who) {
         repeat_at(past, who, place, now, simple)
@@ -129,7 +135,9 @@ fn repeat_of(past: &Past, who: u32, place: u32, now: i64, simple: Time) -> Optio
 // Whether an element has what repeats it, and its own clock runs.
 fn may_repeat(past: &Past, who: u32) -> bool
     requires { has_element past.now.document.nodes who ≡ true }
-    ensures { (e : AnyNode) → node_at (elements past.now.document.nodes) who ≡ Some e → result ≡ (is_some e.attrs.repeat_count || is_some e.attrs.repeat_dur) && not (stands (history_of past.now) who) }
+    ensures { (e : AnyNode) → node_at (elements past.now.document.nodes) who ≡ Some e → result
+        ≡ (is_some e.attrs.repeat_count || is_some e.attrs.repeat_dur)
+        && not (stands (history_of past.now) who) }
 {
     repeats(attrs_of(past, who)) && !past.clocks().stands(who)
 }
@@ -146,7 +154,9 @@ fn repeats(attrs: &Attrs) -> bool
 fn repeat_at(past: &Past, who: u32, place: u32, now: i64, simple: Time) -> Option<Coming>
     requires element { has_element past.now.document.nodes who ≡ true }
     requires moment { IsPresent past.now now }
-    ensures { (e : AnyNode) → node_at (elements past.now.document.nodes) who ≡ Some e → and_coming result [] ≡ coming_repeat_at (history_of past.now) now place e simple (later_time simple (iteration_start (history_of past.now) who)) }
+    ensures { (e : AnyNode) → node_at (elements past.now.document.nodes) who ≡ Some e
+        → and_coming result [] ≡ coming_repeat_at (history_of past.now) now place e simple
+        (later_time simple (iteration_start (history_of past.now) who)) }
 {
     let play = last_play(past, who);
     let Time::At(over) = later(simple, play.start) else {

@@ -34,7 +34,8 @@ pub(crate) fn is_displaced(past: &Past, who: u32) -> bool
 
 // Whether another child of the time parent began or resumed after the last end of an element.
 fn sibling_set_off(past: &Past, parent: u32, who: u32) -> bool
-    ensures { result ≡ list_any (may_set_off past.now.diary who (finished_by past.now.diary who)) (serials (time_children past.now.document.nodes parent)) }
+    ensures { result ≡ list_any (may_set_off past.now.diary who (finished_by past.now.diary who))
+        (serials (time_children past.now.document.nodes parent)) }
 {
     let from = finished_by(past, who);
     past.tree()
@@ -59,7 +60,8 @@ fn finished_by(past: &Past, who: u32) -> usize
 // The later of two places.
 fn later_of(first: Option<usize>, second: Option<usize>) -> Option<usize>
     ensures value { result ≡ later_of first second }
-    ensures within { (all : ℕ) → IfSome first (λ a. a < all) → IfSome second (λ b. b < all) → IfSome result (λ r. r < all) }
+    ensures within { (all : ℕ) → IfSome first (λ a. a < all) → IfSome second (λ b. b < all)
+        → IfSome result (λ r. r < all) }
 {
     match (first, second) {
         (Some(first), Some(second)) => Some(first.max(second)),
@@ -88,7 +90,8 @@ fn is_from(place: Option<usize>, from: usize) -> bool
 
 // Whether the next child of a seq began since the birth of one of its children.
 fn next_began(past: &Past, parent: u32, who: u32) -> bool
-    ensures { result ≡ option_map_or (began_from past.now.diary (births past.now.diary parent)) (following who (serials (time_children past.now.document.nodes parent))) false }
+    ensures { result ≡ option_map_or (began_from past.now.diary (births past.now.diary parent))
+        (following who (serials (time_children past.now.document.nodes parent))) false }
 {
     match next_child(past, parent, who) {
         Some(next) => is_from(

@@ -66,7 +66,8 @@ pub fn evaluation_of<J: Intervals, L: Ledger>(
 ) -> Result<Evaluated, AllocError>
     requires element { has_element past.now.document.nodes who ≡ true }
     requires moment { IsPresent past.now now }
-    ensures made { (e : AnyNode) → node_at (elements past.now.document.nodes) who ≡ Some e → IfOk result (IsEvaluated (history_of past.now) (J.given intervals.now) now e) }
+    ensures made { (e : AnyNode) → node_at (elements past.now.document.nodes) who ≡ Some e
+        → IfOk result (IsEvaluated (history_of past.now) (J.given intervals.now) now e) }
     ensures steps { OnOk result (steps.new ≡ steps.old + 1) }
     ensures most { steps.new ≤ steps.old + 1 }
     ensures counted { steps.old ≤ steps.new }
@@ -96,7 +97,10 @@ fn fill_begins<J: Intervals>(
 ) -> Result<(), AllocError>
     requires element { has_element reading.now.past.now.document.nodes who ≡ true }
     requires moment { IsPresent reading.now.past.now reading.now.moment }
-    ensures { (e : AnyNode) → node_at (elements reading.now.past.now.document.nodes) who ≡ Some e → is_empty (syncs_of reading.now.past.now.document.nodes edge.Begin e) ≡ false → OnOk result (times.new.items ≡ begin_times (history_of reading.now.past.now) (J.given reading.now.intervals.now) reading.now.moment e) }
+    ensures { (e : AnyNode) → node_at (elements reading.now.past.now.document.nodes) who ≡ Some e
+        → is_empty (syncs_of reading.now.past.now.document.nodes edge.Begin e) ≡ false
+        → OnOk result (times.new.items ≡ begin_times (history_of reading.now.past.now)
+        (J.given reading.now.intervals.now) reading.now.moment e) }
 {
     if is_settled(reading.past, who, Edge::Begin) {
         return Ok(());
@@ -112,7 +116,10 @@ fn fill_ends<J: Intervals>(
 ) -> Result<(), AllocError>
     requires element { has_element reading.now.past.now.document.nodes who ≡ true }
     requires moment { IsPresent reading.now.past.now reading.now.moment }
-    ensures { (e : AnyNode) → node_at (elements reading.now.past.now.document.nodes) who ≡ Some e → is_empty (syncs_of reading.now.past.now.document.nodes edge.End e) ≡ false → OnOk result (times.new.items ≡ end_times (history_of reading.now.past.now) (J.given reading.now.intervals.now) reading.now.moment e) }
+    ensures { (e : AnyNode) → node_at (elements reading.now.past.now.document.nodes) who ≡ Some e
+        → is_empty (syncs_of reading.now.past.now.document.nodes edge.End e) ≡ false
+        → OnOk result (times.new.items ≡ end_times (history_of reading.now.past.now)
+        (J.given reading.now.intervals.now) reading.now.moment e) }
 {
     if is_settled(reading.past, who, Edge::End) {
         return Ok(());
@@ -124,7 +131,11 @@ fn fill_ends<J: Intervals>(
 // list. It takes no memory.
 fn begins_told<'a>(past: &'a Past, who: u32, filled: &'a [i64]) -> &'a [i64]
     requires { has_element past.now.document.nodes who ≡ true }
-    ensures { (e : AnyNode) (intervals : ℕ → Option AnyInterval) (now : ℤ) → node_at (elements past.now.document.nodes) who ≡ Some e → (is_empty (syncs_of past.now.document.nodes edge.Begin e) ≡ false → filled.now ≡ begin_times (history_of past.now) intervals now e) → result.now ≡ begin_times (history_of past.now) intervals now e }
+    ensures { (e : AnyNode) (intervals : ℕ → Option AnyInterval) (now : ℤ)
+        → node_at (elements past.now.document.nodes) who ≡ Some e
+        → (is_empty (syncs_of past.now.document.nodes edge.Begin e) ≡ false → filled.now
+        ≡ begin_times (history_of past.now) intervals now e) → result.now
+        ≡ begin_times (history_of past.now) intervals now e }
 {
     if is_settled(past, who, Edge::Begin) {
         past.instances().begins(who)
@@ -137,7 +148,11 @@ fn begins_told<'a>(past: &'a Past, who: u32, filled: &'a [i64]) -> &'a [i64]
 // list. It takes no memory.
 fn ends_told<'a>(past: &'a Past, who: u32, filled: &'a [Time]) -> &'a [Time]
     requires { has_element past.now.document.nodes who ≡ true }
-    ensures { (e : AnyNode) (intervals : ℕ → Option AnyInterval) (now : ℤ) → node_at (elements past.now.document.nodes) who ≡ Some e → (is_empty (syncs_of past.now.document.nodes edge.End e) ≡ false → filled.now ≡ end_times (history_of past.now) intervals now e) → result.now ≡ end_times (history_of past.now) intervals now e }
+    ensures { (e : AnyNode) (intervals : ℕ → Option AnyInterval) (now : ℤ)
+        → node_at (elements past.now.document.nodes) who ≡ Some e
+        → (is_empty (syncs_of past.now.document.nodes edge.End e) ≡ false → filled.now
+        ≡ end_times (history_of past.now) intervals now e) → result.now
+        ≡ end_times (history_of past.now) intervals now e }
 {
     if is_settled(past, who, Edge::End) {
         past.instances().ends(who)
@@ -155,7 +170,8 @@ fn simple_duration<J: Intervals>(
     children: &mut Vec<ChildEnd>,
 ) -> Result<Time, AllocError>
     requires { has_element past.now.document.nodes who ≡ true }
-    ensures { (e : AnyNode) → node_at (elements past.now.document.nodes) who ≡ Some e → IfOk result (λ simple. simple ≡ simple_of (history_of past.now) (J.given intervals.now) e) }
+    ensures { (e : AnyNode) → node_at (elements past.now.document.nodes) who ≡ Some e
+        → IfOk result (λ simple. simple ≡ simple_of (history_of past.now) (J.given intervals.now) e) }
 {
     let attrs = attrs_of(past, who);
     if takes_implicit(attrs) {
@@ -174,7 +190,9 @@ fn implicit_duration<J: Intervals>(
     children: &mut Vec<ChildEnd>,
 ) -> Result<Time, AllocError>
     requires { has_element past.now.document.nodes who ≡ true }
-    ensures { (e : AnyNode) → node_at (elements past.now.document.nodes) who ≡ Some e → IfOk result (λ implicit. implicit ≡ Current.implicit_duration (history_of past.now) (J.given intervals.now) e) }
+    ensures { (e : AnyNode) → node_at (elements past.now.document.nodes) who ≡ Some e
+        → IfOk result (λ implicit. implicit
+        ≡ Current.implicit_duration (history_of past.now) (J.given intervals.now) e) }
 {
     match kind_of(past, who) {
         Kind::Par | Kind::Seq | Kind::Excl => container_duration(past, intervals, who, children),
@@ -185,7 +203,9 @@ fn implicit_duration<J: Intervals>(
 // The implicit duration of an element of this kind that is no container. It takes no memory.
 fn media_duration(past: &Past, who: u32, kind: Kind) -> Time
     requires { has_element past.now.document.nodes who ≡ true }
-    ensures { (e : AnyNode) → node_at (elements past.now.document.nodes) who ≡ Some e → (intervals : ℕ → Option AnyInterval) → is_container_kind kind ≡ false → result ≡ Current.implicit_of (history_of past.now) intervals e kind }
+    ensures { (e : AnyNode) → node_at (elements past.now.document.nodes) who ≡ Some e
+        → (intervals : ℕ → Option AnyInterval) → is_container_kind kind ≡ false → result
+        ≡ Current.implicit_of (history_of past.now) intervals e kind }
 {
     match implicit_by_kind(kind) {
         Some(length) => length,
@@ -201,7 +221,9 @@ fn container_duration<J: Intervals>(
     children: &mut Vec<ChildEnd>,
 ) -> Result<Time, AllocError>
     requires { has_element past.now.document.nodes who ≡ true }
-    ensures { (e : AnyNode) → node_at (elements past.now.document.nodes) who ≡ Some e → IfOk result (λ implicit. implicit ≡ container_implicit (history_of past.now) (J.given intervals.now) e) }
+    ensures { (e : AnyNode) → node_at (elements past.now.document.nodes) who ≡ Some e
+        → IfOk result (λ implicit. implicit
+        ≡ container_implicit (history_of past.now) (J.given intervals.now) e) }
 {
     if !past.book().active(who) {
         return Ok(Time::Unresolved);
@@ -230,7 +252,10 @@ fn children_ends<J: Intervals>(
     children: &mut Vec<ChildEnd>,
 ) -> Result<(), AllocError>
     requires { has_element past.now.document.nodes who ≡ true }
-    ensures { (e : AnyNode) → node_at (elements past.now.document.nodes) who ≡ Some e → OnOk result (children.new.items ≡ map (child_end (history_of past.now) (J.given intervals.now) e) (time_children past.now.document.nodes who)) }
+    ensures { (e : AnyNode) → node_at (elements past.now.document.nodes) who ≡ Some e
+        → OnOk result (children.new.items
+        ≡ map (child_end (history_of past.now) (J.given intervals.now) e)
+        (time_children past.now.document.nodes who)) }
 {
     past.possible();
     children.clear();
@@ -244,7 +269,10 @@ fn children_ends<J: Intervals>(
 fn end_of_child<J: Intervals>(past: &Past, intervals: &J, who: u32, child: u32) -> ChildEnd
     requires container { has_element past.now.document.nodes who ≡ true }
     requires child { has_element past.now.document.nodes child ≡ true }
-    ensures { (e c : AnyNode) → node_at (elements past.now.document.nodes) who ≡ Some e → node_at (elements past.now.document.nodes) child ≡ Some c → serial_of (time_parent past.now.document.nodes child) ≡ Some who → result ≡ child_end (history_of past.now) (J.given intervals.now) e c }
+    ensures { (e c : AnyNode) → node_at (elements past.now.document.nodes) who ≡ Some e
+        → node_at (elements past.now.document.nodes) child ≡ Some c
+        → serial_of (time_parent past.now.document.nodes child) ≡ Some who → result
+        ≡ child_end (history_of past.now) (J.given intervals.now) e c }
 {
     let played = played_of(past, child);
     let coming = coming_end(intervals.interval(child));

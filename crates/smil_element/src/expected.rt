@@ -32,7 +32,8 @@ pub struct Reading<'a, J: Intervals> {
 /// where that has none, or where one of the two clocks stands. It takes no memory.
 pub fn expected<J: Intervals>(reading: &Reading<J>, who: u32, sync: Syncbase) -> Option<Time>
     requires { IsPresent reading.now.past.now reading.now.moment }
-    ensures { option_to_list result ≡ expected_times (history_of reading.now.past.now) (J.given reading.now.intervals.now) reading.now.moment who sync.of sync.offset sync.edge }
+    ensures { option_to_list result ≡ expected_times (history_of reading.now.past.now)
+        (J.given reading.now.intervals.now) reading.now.moment who sync.of sync.offset sync.edge }
 {
     let clocks = reading.past.clocks();
     if clocks.outer_stands(who) || clocks.outer_stands(sync.of) {
@@ -47,7 +48,8 @@ pub fn expected<J: Intervals>(reading: &Reading<J>, who: u32, sync: Syncbase) ->
 
 // The begin or the end that an interval has before it has happened.
 fn edge_value<J: Intervals>(reading: &Reading<J>, sync: Syncbase) -> Option<i64>
-    ensures value { result ≡ interval_edge sync.edge (is_active reading.now.past.now.diary sync.of) (J.given reading.now.intervals.now sync.of) }
+    ensures value { result ≡ interval_edge sync.edge (is_active reading.now.past.now.diary sync.of)
+        (J.given reading.now.intervals.now sync.of) }
     ensures near { IfSome result IsNear }
 {
     let interval = reading.intervals.interval(sync.of)?;
@@ -76,7 +78,9 @@ pub fn pour_begins<J: Intervals>(
 ) -> Result<(), AllocError>
     requires element { has_element reading.now.past.now.document.nodes who ≡ true }
     requires moment { IsPresent reading.now.past.now reading.now.moment }
-    ensures { (e : AnyNode) → node_at (elements reading.now.past.now.document.nodes) who ≡ Some e → OnOk result (times.new.items ≡ begin_times (history_of reading.now.past.now) (J.given reading.now.intervals.now) reading.now.moment e) }
+    ensures { (e : AnyNode) → node_at (elements reading.now.past.now.document.nodes) who ≡ Some e
+        → OnOk result (times.new.items ≡ begin_times (history_of reading.now.past.now)
+        (J.given reading.now.intervals.now) reading.now.moment e) }
 {
     times.clear();
     times.extend_from_slice(reading.past.instances().begins(who))?;
@@ -92,7 +96,9 @@ pub fn pour_ends<J: Intervals>(
 ) -> Result<(), AllocError>
     requires element { has_element reading.now.past.now.document.nodes who ≡ true }
     requires moment { IsPresent reading.now.past.now reading.now.moment }
-    ensures { (e : AnyNode) → node_at (elements reading.now.past.now.document.nodes) who ≡ Some e → OnOk result (times.new.items ≡ end_times (history_of reading.now.past.now) (J.given reading.now.intervals.now) reading.now.moment e) }
+    ensures { (e : AnyNode) → node_at (elements reading.now.past.now.document.nodes) who ≡ Some e
+        → OnOk result (times.new.items ≡ end_times (history_of reading.now.past.now)
+        (J.given reading.now.intervals.now) reading.now.moment e) }
 {
     times.clear();
     times.extend_from_slice(reading.past.instances().ends(who))?;
@@ -104,7 +110,8 @@ pub fn pour_ends<J: Intervals>(
 /// its instance times.
 pub fn is_settled(past: &Past, who: u32, side: Edge) -> bool
     requires { has_element past.now.document.nodes who ≡ true }
-    ensures { (e : AnyNode) → node_at (elements past.now.document.nodes) who ≡ Some e → result ≡ is_empty (syncs_of past.now.document.nodes side e) }
+    ensures { (e : AnyNode) → node_at (elements past.now.document.nodes) who ≡ Some e → result
+        ≡ is_empty (syncs_of past.now.document.nodes side e) }
 {
     past.syncs().of_element(who, side).is_empty()
 }
@@ -119,7 +126,10 @@ fn pour<T: Instant, J: Intervals>(
 ) -> Result<(), AllocError>
     requires moment { IsPresent reading.now.past.now reading.now.moment }
     requires rising { IsRising T.at_most times.old.items }
-    ensures { OnOk result (times.new.items ≡ with_times T.at_most T.choose (flat_map (expected_by (history_of reading.now.past.now) (J.given reading.now.intervals.now) reading.now.moment who) syncs.now) times.old.items) }
+    ensures { OnOk result (times.new.items
+        ≡ with_times T.at_most T.choose (flat_map
+        (expected_by (history_of reading.now.past.now) (J.given reading.now.intervals.now)
+        reading.now.moment who) syncs.now) times.old.items) }
 {
     for sync in syncs {
         put_some(times, expected(reading, who, *sync))?;

@@ -23,7 +23,10 @@ use smil_past::{Past, PastInterval, Played};
 pub fn facts_of(past: &Past, who: u32, now: i64, simple: Time) -> Facts
     requires element { has_element past.now.document.nodes who ≡ true }
     requires moment { IsPresent past.now now }
-    ensures { (e : AnyNode) (intervals : ℕ → Option AnyInterval) → node_at (elements past.now.document.nodes) who ≡ Some e → simple ≡ model.simple_of (history_of past.now) intervals e → result ≡ model.facts_of (history_of past.now) intervals now e }
+    ensures { (e : AnyNode) (intervals : ℕ → Option AnyInterval)
+        → node_at (elements past.now.document.nodes) who ≡ Some e → simple
+        ≡ model.simple_of (history_of past.now) intervals e → result
+        ≡ model.facts_of (history_of past.now) intervals now e }
 {
     past.possible();
     let parent = parent_of(past, who);
@@ -87,7 +90,8 @@ pub(crate) fn is_alive(past: &Past, parent: Option<u32>) -> bool
 // The play start for the time children of a parent; 0 for the root, which has none.
 fn parent_start(past: &Past, parent: Option<u32>) -> i64
     requires { IfSome parent (λ p. has_element past.now.document.nodes p ≡ true) }
-    ensures { (node : Option AnyNode) → serial_of node ≡ parent → result ≡ clocks.start_under (history_of past.now) node }
+    ensures { (node : Option AnyNode) → serial_of node ≡ parent → result
+        ≡ clocks.start_under (history_of past.now) node }
 {
     match parent {
         Some(parent) => played_of(past, parent).start,
@@ -106,7 +110,9 @@ fn present_play(
     requires element { has_element past.now.document.nodes who ≡ true }
     requires moment { IsPresent past.now now }
     requires kept { played.now ≡ kept_of (history_of past.now) who }
-    ensures { (e : AnyNode) → node_at (elements past.now.document.nodes) who ≡ Some e → serial_of (time_parent past.now.document.nodes who) ≡ parent → result ≡ model.present_play (history_of past.now) now e }
+    ensures { (e : AnyNode) → node_at (elements past.now.document.nodes) who ≡ Some e
+        → serial_of (time_parent past.now.document.nodes who) ≡ parent → result
+        ≡ model.present_play (history_of past.now) now e }
 {
     if !past.book().active(who) {
         return None;

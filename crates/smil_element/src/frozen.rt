@@ -35,7 +35,10 @@ pub(crate) fn is_frozen(past: &Past, who: Option<u32>) -> bool
 // Whether an element that is not active is frozen, by whether its time parent is.
 fn rests_frozen(past: &Past, who: u32, above: bool) -> bool
     requires { has_element past.now.document.nodes who ≡ true }
-    ensures { (e : AnyNode) → node_at (elements past.now.document.nodes) who ≡ Some e → result ≡ (not (is_deferred (history_of past.now) who) && is_frozen_by (view_facts (history_of past.now) (pos 0) None (lives_under (time_parent past.now.document.nodes who) past.now.diary || above) above e)) }
+    ensures { (e : AnyNode) → node_at (elements past.now.document.nodes) who ≡ Some e → result
+        ≡ (not (is_deferred (history_of past.now) who)
+        && is_frozen_by (view_facts (history_of past.now) (pos 0) None
+        (lives_under (time_parent past.now.document.nodes who) past.now.diary || above) above e)) }
 {
     let parent = parent_of(past, who);
     if past.book().deferred(who, parent) {
@@ -67,7 +70,8 @@ pub(crate) fn shows(past: &Past, parent: Option<u32>, frozen: bool) -> bool
 // Whether the fill of an element keeps it while its time parent shows.
 fn is_kept(past: &Past, who: u32) -> bool
     requires { has_element past.now.document.nodes who ≡ true }
-    ensures { (e : AnyNode) → node_at (elements past.now.document.nodes) who ≡ Some e → result ≡ keeps (effective_fill past.now.document.nodes e) (is_displaced (history_of past.now) who) }
+    ensures { (e : AnyNode) → node_at (elements past.now.document.nodes) who ≡ Some e → result
+        ≡ keeps (effective_fill past.now.document.nodes e) (is_displaced (history_of past.now) who) }
 {
     match fill_of(past, who) {
         Fill::Hold => true,
@@ -79,7 +83,8 @@ fn is_kept(past: &Past, who: u32) -> bool
 /// The fill of an element that holds: never `auto`.
 pub(crate) fn fill_of(past: &Past, who: u32) -> Fill
     requires { has_element past.now.document.nodes who ≡ true }
-    ensures { (e : AnyNode) → node_at (elements past.now.document.nodes) who ≡ Some e → result ≡ effective_fill past.now.document.nodes e }
+    ensures { (e : AnyNode) → node_at (elements past.now.document.nodes) who ≡ Some e → result
+        ≡ effective_fill past.now.document.nodes e }
 {
     past.possible();
     fill_by(attrs_of(past, who), past.tree().fill_of(who))

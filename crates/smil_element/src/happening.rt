@@ -76,7 +76,8 @@ fn end_steps(
 fn followers(parts: &Parts<'_>, who: u32, entries: &mut Vec<Entry>) -> Result<(), AllocError>
     requires known { IsSome (node_at parts.now.tree.now.nodes who) }
     requires parts { (h : History) × ArePartsOf parts.now h }
-    ensures { OnOk result (AppendsBy parts.now entries.old entries.new (λ h m. followers_of h m who (time_parent h.nodes who))) }
+    ensures { OnOk result (AppendsBy parts.now entries.old entries.new
+        (λ h m. followers_of h m who (time_parent h.nodes who))) }
 {
     match left_excl(parts, who) {
         Some(excl) => follower(parts, excl, entries),
@@ -127,7 +128,8 @@ fn begin_steps(
 ) -> Result<(), AllocError>
     requires known { IsSome (node_at parts.now.tree.now.nodes who) }
     requires parts { (h : History) × ArePartsOf parts.now h }
-    ensures { OnOk result (AppendsBy parts.now entries.old entries.new (λ h m. begin_under h m who begin (time_parent h.nodes who))) }
+    ensures { OnOk result (AppendsBy parts.now entries.old entries.new
+        (λ h m. begin_under h m who begin (time_parent h.nodes who))) }
 {
     match rival(parts, who) {
         Some(playing) => interrupt(parts, who, begin, playing, entries),
@@ -146,7 +148,8 @@ fn interrupt(
     requires newcomer { IsSome (node_at parts.now.tree.now.nodes who) }
     requires known { IsSome (node_at parts.now.tree.now.nodes playing) }
     requires parts { (h : History) × ArePartsOf parts.now h }
-    ensures { OnOk result (AppendsBy parts.now entries.old entries.new (λ h m. interruption h m who begin playing (decision h.nodes playing who))) }
+    ensures { OnOk result (AppendsBy parts.now entries.old entries.new
+        (λ h m. interruption h m who begin playing (decision h.nodes playing who))) }
 {
     match act_against(parts, playing, who) {
         Act::Stop => {

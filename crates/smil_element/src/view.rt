@@ -27,7 +27,9 @@ pub fn view_of(past: &Past, who: u32, now: i64, interval: Option<Interval>) -> V
     requires element { has_element past.now.document.nodes who ≡ true }
     requires moment { IsPresent past.now now }
     requires near { IfSome interval IsIntervalNear }
-    ensures { (e : AnyNode) (intervals : ℕ → Option AnyInterval) → node_at (elements past.now.document.nodes) who ≡ Some e → intervals who ≡ interval → result ≡ model.view_of (history_of past.now) now intervals e }
+    ensures { (e : AnyNode) (intervals : ℕ → Option AnyInterval)
+        → node_at (elements past.now.document.nodes) who ≡ Some e → intervals who ≡ interval
+        → result ≡ model.view_of (history_of past.now) now intervals e }
 {
     past.possible();
     let above = is_frozen(past, parent_of(past, who));
@@ -39,7 +41,10 @@ fn view_facts(past: &Past, who: u32, now: i64, interval: Option<Interval>, above
     requires element { has_element past.now.document.nodes who ≡ true }
     requires moment { IsPresent past.now now }
     requires near { IfSome interval IsIntervalNear }
-    ensures same { (e : AnyNode) → node_at (elements past.now.document.nodes) who ≡ Some e → model.view_by result ≡ model.view_by (model.view_facts (history_of past.now) now interval (lives_under (time_parent past.now.document.nodes who) past.now.diary || above) above e) }
+    ensures same { (e : AnyNode) → node_at (elements past.now.document.nodes) who ≡ Some e
+        → model.view_by result ≡ model.view_by
+        (model.view_facts (history_of past.now) now interval
+        (lives_under (time_parent past.now.document.nodes who) past.now.diary || above) above e) }
     ensures near { HasNumbersWithin result }
 {
     past.possible();

@@ -1,12 +1,11 @@
 -- What an edited presentation comes to.
-use Rattle.std.proofs.Common.{◌≡◌, ℕ, ℤ, ◌≤◌, List, [], ◌∷◌, ◌++◌, length, take, drop, Bool, true, false, not, cond, Some, Result, Ok, Err, inl, inr, refl, sym, ap, ◌∙◌, subst, append_assoc}
-use Rattle.std.specs.Prelude.{pos, nat_abs, flat_map, map, filter, is_some, IsSome, IfOk, IfErr, OnOk}
+use Rattle.std.proofs.Common.{◌≡◌, ℕ, ℤ, ◌≤◌, List, [], ◌∷◌, ◌++◌, length, take, drop, Bool, true, false, not, cond, Some, Result, Ok, Err, inl, inr, refl, sym, ap, ◌∙◌, subst, append_assoc, arith}
+use Rattle.std.specs.Prelude.{pos, flat_map, map, filter, is_some, IsSome, IfOk, IfErr, OnOk}
 use Rattle.std.specs.List.{AllByRecursion}
-use Rattle.std.proofs.Math.Seq.{drop-append_seam, take-length}
+use Rattle.std.proofs.Math.Seq.{drop-append_seam}
 use Rattle.std.proofs.lemmas.List.{length-take}
 use Rattle.smil_grammar.specs.Spellings.{Begins}
 use Rattle.std.proofs.lemmas.List.Elements.{All-from_recursion}
-use Rattle.smil_model.specs.declared.diary.LogEntry.{LogEntry}
 use Rattle.smil_model.specs.declared.document.Node.{Node}
 use Rattle.smil_model.specs.declared.order.Order.{Order}
 use Rattle.smil_model.specs.declared.order.Refusal.{Refusal}
@@ -20,21 +19,17 @@ use Rattle.smil_model.specs.interval.Current.{current_table, in_table}
 use Rattle.smil_model.specs.shown.Answers.{Accepts, Refuses, change_text, gone_text}
 use Rattle.smil_model.specs.shown.Lines.{gone_line, name_of}
 use Rattle.smil_model.specs.shown.Orders.{IsState, Presentation, at_moment, changed, changes_between, course_of, kept_where, node_of, on_node, resolved_with, views_of}
-use Rattle.smil_model.specs.shown.Views.{view_of, views}
+use Rattle.smil_model.specs.shown.Views.{view_of}
 use Rattle.smil_grammar.specs.Formats.{formats}
 use Rattle.smil_tree.proofs.Spans.{all_known}
 use Rattle.smil_cells.specs.Standing.{Standing, history_of}
 use Rattle.smil_live.specs.Editing.{IsEdited, IsRefusedBy, at_node, edit_of}
 use Rattle.smil_live.specs.Kept.{IsPlaying, views_at}
-use Rattle.smil_live.specs.Moves.{IsReplayed, IsTooFull, edited_to, replay_of, text_of}
+use Rattle.smil_live.specs.Moves.{IsReplayed, IsTooFull, edited_to, text_of}
 use Rattle.smil_live.specs.Seen.{AreOf, Shown}
 use Rattle.smil_live.specs.Telling.{is_edit}
 use Rattle.smil_live.proofs.Copying.{at_there, some_from}
 use Rattle.smil_live.proofs.Editing.{edit_accepted, is_found, known, state_refused}
-use Rattle.smil_live.proofs.States.{within_horizon}
-use Rattle.smil_cells.proofs.Grown.{fits}
-use Rattle.std.proofs.lemmas.Int.{ints, to_z-of_z}
-use Rattle.std.proofs.Common.{w64, to_z, of_z, FitsSigned, arith}
 use Rattle.smil_model.specs.declared.diary.Entry.{Entry}
 
 -- ---- the node that an order names
@@ -76,13 +71,6 @@ edited_appended p q d old new is = is_appended old new (gone_text p q ++ text_of
 
 -- ---- the edited presentation
 
-pub replay_is : (p : Presentation) (doc d : Document) (log : List LogEntry) (len : ℕ) (to : ℤ) → doc ≡ d → log ≡ p.log → len ≡ length log → to ≡ pos p.now → replay_of doc log len to ≡ edited_to p d
-replay_is p doc d log len to same logs lens moment =
-    let whole : take len log ≡ p.log = ap (λ n. take n log) lens ∙ take-length log ∙ logs in
-    ap (λ (e : Document). replay_of e log len to) same
-    ∙ ap (λ (l : List LogEntry). record { document = d; log = l; now = nat_abs to }) whole
-    ∙ ap (λ (t : ℤ). record { document = d; log = p.log; now = nat_abs t }) moment
-
 pub edited_state : (p : Presentation) (d : Document) → IsState p → IsValid d → IsState (edited_to p d)
 edited_state p d state valid = record { document = valid; log = state.log; logged = state.logged; now = state.now }
 
@@ -106,11 +94,6 @@ not_edited p o d e edits edited full = state_refused p o d e edits edited (too_f
 pub on_ok_always : {T E P : Type 0} (r : Result T E) → P → OnOk r P
 on_ok_always (Ok x) h = h
 on_ok_always (Err e) h = tt
-
--- a moment of a state is kept as it is in 64 bits
-pub moment_kept : (p : Presentation) (m : ℤ) → IsState p → m ≡ pos p.now → to_z w64 (of_z w64 m) ≡ pos p.now
-moment_kept p m state is =
-    to_z-of_z w64 m (subst (λ (z : ℤ). FitsSigned w64 z) (sym is) (fits (pos p.now) (omega (arith, ints)) (within_horizon p state))) ∙ is
 
 pub plays : (q : Presentation) (s : Standing) (shown : Shown) → IsState q → IsReplayed q s → shown ≡ record { views = views_at s; before = views_at s } → IsPlaying s shown
 plays q s shown state is seen = record {

@@ -6,7 +6,7 @@ use Rattle.std.specs.List.Sorted.{IsPartitionPoint, IsPartitionedBy}
 use Rattle.std.proofs.lemmas.Bool.{and_parts}
 use Rattle.std.proofs.lemmas.Int.{ints}
 use Rattle.smil_model.specs.declared.diary.LogEntry.{LogEntry}
-use Rattle.smil_model.specs.diary.Logs.{is_log, is_logged_by, may_happen, moments_rise}
+use Rattle.smil_model.specs.diary.Logs.{moments_rise}
 
 -- ---- what a binary search parts
 

@@ -1,11 +1,11 @@
 -- Outcomes of orders that move on, that seek, and that tell what came from outside.
-use Rattle.std.proofs.Common.{◌≡◌, refl, sym, ◌∙◌, ap, subst, ℕ, suc, zero, ◌<◌, ◌≤◌, ◌+◌, ◌-◌, List, [], ◌∷◌, ◌++◌, Option, Some, None, Result, Ok, Err, Bool, true, false, ℤ, negsuc, arith, inl, inr, length, take, drop, append_assoc, append-nil}
-use Rattle.std.specs.Prelude.{◌⊎◌, ◌&&◌, ◌==◌, cond, pos, int_le, int_lt, ◌+ℤ◌, nat_abs, nat_le, nat_lt, not, filter, find, flat_map, is_some, map, All, IsSome, OnOk, ◌≤ℤ◌}
+use Rattle.std.proofs.Common.{◌≡◌, refl, sym, ◌∙◌, ap, subst, ℕ, ◌<◌, ◌≤◌, ◌+◌, ◌-◌, List, [], ◌∷◌, ◌++◌, Option, Some, None, Result, Ok, Err, Bool, true, false, ℤ, negsuc, arith, inl, inr, length, take, drop, append_assoc, append-nil}
+use Rattle.std.specs.Prelude.{◌&&◌, ◌==◌, cond, pos, int_le, int_lt, ◌+ℤ◌, nat_abs, nat_le, nat_lt, not, filter, flat_map, is_some, IsSome, OnOk, ◌≤ℤ◌}
 use Rattle.std.specs.List.{AllByRecursion, list_all}
 use Rattle.std.proofs.Math.Seq.{drop-append_seam}
 use Rattle.std.proofs.lemmas.Bool.{and_parts, le-leb, lt-ltb}
 use Rattle.std.proofs.lemmas.Int.{ints}
-use Rattle.std.proofs.lemmas.List.Elements.{All-from_recursion, recursion_from_All}
+use Rattle.std.proofs.lemmas.List.Elements.{recursion_from_All}
 use Rattle.smil_model.specs.declared.diary.Entry.{Entry}
 use Rattle.smil_model.specs.declared.diary.Happening.{Happening}
 use Rattle.smil_model.specs.declared.diary.Happening.TheVariants as happening
@@ -13,7 +13,6 @@ use Rattle.smil_model.specs.declared.diary.LogEntry.{LogEntry}
 use Rattle.smil_model.specs.declared.document.Kind.{Kind}
 use Rattle.smil_model.specs.declared.document.Node.{Node}
 use Rattle.smil_model.specs.declared.limits.TheConstants.{LOG_ENTRIES, SERIALS}
-use Rattle.smil_model.specs.declared.order.Order.{Order}
 use Rattle.smil_model.specs.declared.order.Order.TheVariants as order
 use Rattle.smil_model.specs.declared.order.Refusal.{Refusal}
 use Rattle.smil_model.specs.declared.order.Refusal.TheVariants as refusal
@@ -23,14 +22,14 @@ use Rattle.smil_model.specs.declared.times.TheConstants.{HORIZON}
 use Rattle.smil_model.specs.declared.view.View.{View}
 use Rattle.smil_model.specs.document.Document.{Document, elements, has_id, is_continuous, is_element, node_at, serial_of}
 use Rattle.smil_model.specs.document.Limits.{limits}
-use Rattle.smil_model.specs.document.Valid.{IsNumberedTree, IsValid, kind_of}
+use Rattle.smil_model.specs.document.Valid.{IsNumberedTree, kind_of}
 use Rattle.smil_model.specs.diary.Logs.{is_log, is_logged_by, is_serial, may_happen}
 use Rattle.smil_model.specs.document.Values.{is_clock}
 use Rattle.smil_model.specs.document.Words.{is_event_name, is_raised_name}
 use Rattle.smil_model.specs.happening.Resolution.{diary_of}
 use Rattle.smil_model.specs.shown.Answers.{Accepts, Refuses, change_text, gone_text}
 use Rattle.smil_model.specs.shown.Lines.{gone_line, name_of}
-use Rattle.smil_model.specs.shown.Orders.{IsState, Presentation, and_then, at_moment_with, changes_between, changes_through, course_of, found, gone, kept_where, node_of, outcome, unless, unless_too_full, with_logged as logged_within}
+use Rattle.smil_model.specs.shown.Orders.{IsState, Presentation, and_then, at_moment_with, changes_between, changes_through, course_of, found, kept_where, node_of, outcome, unless, unless_too_full, with_logged as logged_within}
 use Rattle.smil_grammar.specs.Formats.{formats}
 use Rattle.smil_laws.proofs.Aside.{find_each}
 use Rattle.smil_tree.proofs.Spans.{all_known}

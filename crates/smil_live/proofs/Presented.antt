@@ -1,6 +1,6 @@
 -- Settled cells with the views that they give, as a presentation shows them.
-use Rattle.std.proofs.Common.{◌≡◌, refl, sym, ◌∙◌, ap, subst, ℕ, List, [], ◌∷◌, ◌++◌, Bool, true, false, ℤ, length, take, drop}
-use Rattle.std.specs.Prelude.{cond, pos, filter, flat_map, is_some, map, All, IsSome, Some}
+use Rattle.std.proofs.Common.{◌≡◌, refl, sym, ◌∙◌, ap, subst, ℕ, List, [], ◌∷◌, ◌++◌, Bool, true, false}
+use Rattle.std.specs.Prelude.{cond, pos, flat_map, is_some, map, IsSome, Some}
 use Rattle.std.specs.List.{AllByRecursion}
 use Rattle.std.proofs.lemmas.List.Elements.{All-from_recursion}
 use Rattle.smil_model.specs.declared.document.Node.{Node}
@@ -12,7 +12,7 @@ use Rattle.smil_model.specs.shown.Orders.{IsState, Presentation, at_moment, chan
 use Rattle.smil_model.specs.shown.Views.{view_of}
 use Rattle.smil_tree.proofs.Spans.{all_known}
 use Rattle.smil_cells.specs.Standing.{IsSettled, Standing, history_of}
-use Rattle.smil_live.specs.Kept.{IsPlaying, IsShown, views_at}
+use Rattle.smil_live.specs.Kept.{IsPlaying, views_at}
 use Rattle.smil_live.specs.Moves.{IsReplayed, text_of}
 use Rattle.smil_live.specs.Seen.{AreOf, Shown}
 use Rattle.smil_live.proofs.Standings.{views_settled}

@@ -1,5 +1,5 @@
 -- Presentations made anew, entry by entry of a log.
-use Rattle.std.proofs.Common.{◌≡◌, refl, sym, ◌∙◌, ap, subst, ℕ, suc, zero, ◌<◌, ◌≤◌, ◌+◌, List, [], ◌∷◌, ◌++◌, Some, None, Bool, true, false, ℤ, arith, inl, inr, length, take, drop, negsuc, w64, FitsSigned}
+use Rattle.std.proofs.Common.{◌≡◌, refl, sym, ◌∙◌, ap, subst, ℕ, suc, ◌≤◌, ◌+◌, List, [], ◌∷◌, ◌++◌, Some, None, true, ℤ, arith, inl, inr, length, take, drop, negsuc, w64, FitsSigned}
 use Rattle.std.specs.Prelude.{◌⊎◌, pos, int_le, nat_abs, slice_get, ◌≤ℤ◌}
 use Rattle.std.specs.List.{list_all}
 use Rattle.std.proofs.lemmas.Bool.{and_parts}
@@ -16,7 +16,7 @@ use Rattle.smil_diary.specs.declared.fault.BookFault.{BookFault}
 use Rattle.smil_diary.specs.declared.fault.BookFault.TheVariants as book_fault
 use Rattle.smil_laws.specs.Agreement.{course_on}
 use Rattle.smil_cells.specs.Standing.{GoesOn, IsSettled, Standing, moved_to, with_logged}
-use Rattle.smil_live.specs.Moves.{IsReplayed, IsTooFull, heard_at}
+use Rattle.smil_live.specs.Moves.{IsReplayed, IsTooFull, IsUnderWay, heard_at}
 use Rattle.smil_live.specs.Refusing.{of_book}
 use Rattle.smil_live.proofs.Full.{full_further, full_by_first}
 use Rattle.smil_live.proofs.Logs.{IsAt, at, all_at, none_before, low_through, take_whole}
@@ -65,15 +65,6 @@ full_heard p x numbered here none =
     full_further p.document p.log (x ∷ []) p.now p.now numbered (ap (int_le (pos p.now)) here ∙ itself p.now, tt) (omega arith) none
 
 -- ---- under way to a presentation
-
--- the cells stand at the entries before a place of the log of a presentation, none of which is later than it
-pub record IsUnderWay (p : Presentation) (place : ℕ) (s : Standing) : Type 0 where
-  pub document_is : s.presentation.document ≡ p.document
-  pub log_is : s.presentation.log ≡ take place p.log
-  pub rise : moments_rise (pos s.presentation.now) (drop place p.log) ≡ true
-  pub until : s.presentation.now ≤ p.now
-  pub sound : s.fault ≡ None
-  pub unmarked : s.marked ≡ None
 
 -- the next entry, at which they may settle
 pub record IsNextOf (p : Presentation) (place : ℕ) (s : Standing) (x : LogEntry) : Type 0 where

@@ -33,7 +33,8 @@ abbrev pub at_node : {A : Type 0} → List Node → ℕ → (Node → Result A R
 at_node nodes serial next = and_then (found (node_at nodes serial)) next
 
 -- the edited document has a diary, and this was told
-pub record IsEdited (before : Presentation) (document : Document) (after : Presentation) (old new : List ℕ) : Type 0 where
+pub record IsEdited (before : Presentation) (document : Document) (after : Presentation)
+    (old new : List ℕ) : Type 0 where
   pub state : after ≡ edited_to before document
   pub diary : List Entry
   pub settled : diary_of (course_of after) ≡ Some diary

@@ -1,10 +1,15 @@
+pub mod Counted
+pub mod Counts
 pub mod Editing
 pub mod Histories
 pub mod Kept
+pub mod Linked
 pub mod Moves
 pub mod Names
+pub mod References
 pub mod Refusing
 pub mod Seen
 pub mod Sets
+pub mod Sites
 pub mod Telling
 pub mod Told

@@ -1,5 +1,5 @@
 -- What orders make of a presentation.
-use Rattle.std.specs.Prelude.{◌≡◌, ◌⊎◌, ℕ, ℤ, pos, nat_abs, ◌-◌, ◌≤◌, ◌≤ℤ◌, List, [], ◌∷◌, ◌++◌, take, length, filter, flat_map, int_le, None, Some, Ok, Err, true}
+use Rattle.std.specs.Prelude.{◌≡◌, ◌⊎◌, ℕ, ℤ, pos, nat_abs, ◌-◌, ◌≤◌, ◌≤ℤ◌, List, [], ◌∷◌, ◌++◌, take, drop, length, filter, flat_map, int_le, None, Some, Ok, Err, true}
 use Rattle.smil_model.specs.declared.diary.Happening.{Happening}
 use Rattle.smil_model.specs.declared.diary.LogEntry.{LogEntry}
 use Rattle.smil_model.specs.declared.limits.TheConstants.{LOG_ENTRIES}
@@ -9,7 +9,7 @@ use Rattle.smil_model.specs.declared.order.Refusal.TheVariants as refusal
 use Rattle.smil_model.specs.declared.view.View.{View}
 use Rattle.smil_model.specs.document.Document.{Document}
 use Rattle.smil_model.specs.document.Limits.{limits}
-use Rattle.smil_model.specs.diary.Logs.{may_happen}
+use Rattle.smil_model.specs.diary.Logs.{may_happen, moments_rise}
 use Rattle.smil_model.specs.happening.Keys.{Coming}
 use Rattle.smil_model.specs.happening.Resolution.{diary_of}
 use Rattle.smil_model.specs.shown.Answers.{change_text}
@@ -71,6 +71,16 @@ sought_of p to = record {
   log = filter (λ (entry : LogEntry). int_le entry.moment (pos (nat_abs to))) p.log;
   now = nat_abs to;
 }
+
+-- cells that are under way to a presentation: they stand at the entries before a place of its log, and none of the others is
+-- before their moment
+pub record IsUnderWay (p : Presentation) (place : ℕ) (s : Standing) : Type 0 where
+  pub document_is : s.presentation.document ≡ p.document
+  pub log_is : s.presentation.log ≡ take place p.log
+  pub rise : moments_rise (pos s.presentation.now) (drop place p.log) ≡ true
+  pub until : s.presentation.now ≤ p.now
+  pub sound : s.fault ≡ None
+  pub unmarked : s.marked ≡ None
 
 -- settled cells of a presentation
 pub record IsReplayed (p : Presentation) (s : Standing) : Type 0 where

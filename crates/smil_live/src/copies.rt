@@ -29,8 +29,12 @@ pub fn with_value(
     requires value { IsText value.text.now }
     requires column { IsColumn attr.column }
     requires value_column { IsColumn value.column }
-    ensures ok { IfOk result (λ edited. at_node tree.now.nodes serial (λ n. attr_set_by limits formats tree.now n attr.entry.text.now value.entry.text.now attr.entry.column value.entry.column) ≡ Ok edited) }
-    ensures err { IfErr result (IsRefusedBy (at_node tree.now.nodes serial (λ n. attr_set_by limits formats tree.now n attr.entry.text.now value.entry.text.now attr.entry.column value.entry.column))) }
+    ensures ok { IfOk result (λ edited. at_node tree.now.nodes serial
+        (λ n. attr_set_by limits formats tree.now n attr.entry.text.now value.entry.text.now
+        attr.entry.column value.entry.column) ≡ Ok edited) }
+    ensures err { IfErr result (IsRefusedBy
+        (at_node tree.now.nodes serial (λ n. attr_set_by limits formats tree.now n
+        attr.entry.text.now value.entry.text.now attr.entry.column value.entry.column))) }
 {
     let given = match read_value(alloc, named(tree, serial, attr), value) {
         Ok(given) => given,
@@ -49,8 +53,11 @@ pub fn without_name(tree: &Tree, serial: u32, attr: Placed<'_>) -> Result<Tree, 
     requires known { IsSome (node_at tree.now.nodes serial) }
     requires name { IsText attr.text.now }
     requires column { IsColumn attr.column }
-    ensures ok { IfOk result (λ edited. at_node tree.now.nodes serial (λ n. attr_unset_by formats tree.now n attr.entry.text.now attr.entry.column) ≡ Ok edited) }
-    ensures err { IfErr result (IsRefusedBy (at_node tree.now.nodes serial (λ n. attr_unset_by formats tree.now n attr.entry.text.now attr.entry.column))) }
+    ensures ok { IfOk result (λ edited. at_node tree.now.nodes serial
+        (λ n. attr_unset_by formats tree.now n attr.entry.text.now attr.entry.column) ≡ Ok edited) }
+    ensures err { IfErr result (IsRefusedBy
+        (at_node tree.now.nodes serial (λ n. attr_unset_by formats tree.now n attr.entry.text.now
+        attr.entry.column))) }
 {
     let name = match read_name(named(tree, serial, attr)) {
         Ok(name) => name,
@@ -73,8 +80,12 @@ pub fn with_child(
     requires known { IsSome (node_at tree.now.nodes parent) }
     requires line { IsText line.text.now }
     requires column { IsColumn line.column }
-    ensures ok { IfOk result (λ edited. at_node tree.now.nodes parent (λ p. node_inserted_by limits formats tree.now p place line.entry.text.now line.entry.column) ≡ Ok edited) }
-    ensures err { IfErr result (IsRefusedBy (at_node tree.now.nodes parent (λ p. node_inserted_by limits formats tree.now p place line.entry.text.now line.entry.column))) }
+    ensures ok { IfOk result (λ edited. at_node tree.now.nodes parent
+        (λ p. node_inserted_by limits formats tree.now p place line.entry.text.now
+        line.entry.column) ≡ Ok edited) }
+    ensures err { IfErr result (IsRefusedBy
+        (at_node tree.now.nodes parent (λ p. node_inserted_by limits formats tree.now p place
+        line.entry.text.now line.entry.column))) }
 {
     let kind = match read_line_kind(line) {
         Ok(kind) => kind,
@@ -111,7 +122,8 @@ pub fn without_node(tree: &Tree, serial: u32) -> Result<Tree, Refusal>
 fn named<'a>(tree: &Tree, serial: u32, attr: Placed<'a>) -> Named<'a>
     requires { IsSome (node_at tree.now.nodes serial) }
     ensures kind { (n : AnyNode) → node_at tree.now.nodes serial ≡ Some n → result.kind ≡ n.kind }
-    ensures parent { (n : AnyNode) → node_at tree.now.nodes serial ≡ Some n → result.parent ≡ kind_of (node_at tree.now.nodes n.parent) }
+    ensures parent { (n : AnyNode) → node_at tree.now.nodes serial ≡ Some n → result.parent
+        ≡ kind_of (node_at tree.now.nodes n.parent) }
     ensures name { result.name.now ≡ attr.entry.text.now }
     ensures column { result.column ≡ attr.entry.column }
 {

@@ -1,27 +1,44 @@
 //! Orders that edit the document.
 
-ghost use Rattle.std.specs.Prelude.{◌≡◌, ◌≤◌, ◌++◌, drop, length, Ok, OnOk, OnErr, IfOk, IfErr};
+ghost use Rattle.std.specs.Prelude.{◌≡◌, ◌≤◌, ◌-◌, ◌++◌, drop, length, Ok, Option, OnOk, OnErr, IfOk, IfErr};
+ghost use Rattle.smil_model.specs.declared.document.Node.{Node as AnyNode};
 ghost use Rattle.smil_model.specs.declared.order.Order.TheVariants as order;
+ghost use Rattle.smil_model.specs.document.Document.{serial_of, time_parent};
 ghost use Rattle.smil_model.specs.shown.Answers.{Accepts, IsGiven, Refuses, gone_text};
-ghost use Rattle.smil_model.specs.shown.Orders.{IsState, changes_between};
+ghost use Rattle.smil_model.specs.shown.Orders.{IsState, changes_between, node_of};
 ghost use Rattle.smil_grammar.specs.Formats.{formats};
 ghost use Rattle.smil_report.specs.Words.{Begins};
+ghost use Rattle.smil_cells.specs.Standing.{WhereTold};
+ghost use Rattle.smil_live.specs.Counted.{IsAtLeast, IsAtMost, IsFree};
+ghost use Rattle.smil_live.specs.Counts.{agreed_under, serial_or_0};
 ghost use Rattle.smil_live.specs.Editing.{IsEdited, IsRefusedBy, edit_of};
 ghost use Rattle.smil_live.specs.Kept.{IsPlaying};
 ghost use Rattle.smil_live.specs.Moves.{IsReplayed, IsTooFull, edited_to, text_of};
+ghost use Rattle.smil_live.specs.References.{keeps_references};
+ghost use Rattle.smil_live.specs.Sites.{IsMade, most_resolving, site_nodes, site_serial, staying};
 
 use super::copies::{with_child, with_value, without_name, without_node};
 use super::lines::{put_all_gone, put_differences};
 use super::playing::Playing;
-use super::replay::{Extent, replayed};
+use super::references::{Linked, keeps_references};
+use super::replay::{cells_with, diary_through};
 use super::seen::Seen;
 use super::values::Placed;
 use smil_cells::{Cells, Table};
-use smil_model::{Bytes, Refusal, Steps, Who};
+use smil_diary::Book;
+use smil_graph::Graph;
+use smil_model::{Bytes, Doc, Refusal, Steps, Who};
 use smil_tree::Tree;
 use std::alloc::AllocError;
 use std::mem::swap;
 use std::sync::ledger::Ledger;
+
+/// Where an edit takes place: at a node that the document had, by its serial, or at a new one.
+#[derive(Clone, Copy)]
+pub(crate) enum Site {
+    Old(u32),
+    New,
+}
 
 impl<T: Table> Playing<T> {
     /// Gives an attribute of a node a value. The refusals are those of the node, of name and value, of the edit, and that of a
@@ -35,15 +52,31 @@ impl<T: Table> Playing<T> {
         steps: &mut Steps<L>,
     ) -> Result<(), Refusal>
         requires { IsGiven (order.Set who.now attr.text.now value.text.now attr.column value.column) }
-        ensures ok { OnOk result (Accepts formats self.old self.new (order.Set who.now attr.entry.text.now value.entry.text.now attr.entry.column value.entry.column) (drop (length out.old) out.new)) }
+        ensures ok { OnOk result (Accepts formats self.old self.new
+            (order.Set who.now attr.entry.text.now value.entry.text.now attr.entry.column
+            value.entry.column) (drop (length out.old) out.new)) }
         ensures appended { OnOk result (out.new ≡ out.old ++ drop (length out.old) out.new) }
-        ensures refused { IfErr result (Refuses formats self.old (order.Set who.now attr.entry.text.now value.entry.text.now attr.entry.column value.entry.column)) }
+        ensures refused { IfErr result (Refuses formats self.old
+            (order.Set who.now attr.entry.text.now value.entry.text.now attr.entry.column
+            value.entry.column)) }
         ensures kept { OnErr result (self.new ≡ self.old) }
         ensures text { OnErr result (out.new ≡ out.old) }
         ensures counted { steps.old ≤ steps.new }
+        ensures most { OnOk result (IsAtMost T.counts self.old
+            (order.Set who.now attr.entry.text.now value.entry.text.now attr.entry.column
+            value.entry.column) (steps.new - steps.old)) }
+        ensures least { OnOk result (IsAtLeast T.counts self.old
+            (order.Set who.now attr.entry.text.now value.entry.text.now attr.entry.column
+            value.entry.column) (steps.new - steps.old)) }
+        ensures free { IfErr result (λ refusal. IsFree T.counts self.old
+            (order.Set who.now attr.entry.text.now value.entry.text.now attr.entry.column
+            value.entry.column) refusal (steps.new - steps.old)) }
     {
         match self.set_copy(who, attr, value) {
-            Ok(edited) => self.take_edited(&edited, out, steps),
+            Ok(edited) => {
+                let site = self.site(who);
+                self.take_edited(&edited, site, out, steps)
+            }
             Err(refusal) => Err(refusal),
         }
     }
@@ -57,15 +90,28 @@ impl<T: Table> Playing<T> {
         steps: &mut Steps<L>,
     ) -> Result<(), Refusal>
         requires { IsGiven (order.Unset who.now attr.text.now attr.column) }
-        ensures ok { OnOk result (Accepts formats self.old self.new (order.Unset who.now attr.entry.text.now attr.entry.column) (drop (length out.old) out.new)) }
+        ensures ok { OnOk result (Accepts formats self.old self.new
+            (order.Unset who.now attr.entry.text.now attr.entry.column)
+            (drop (length out.old) out.new)) }
         ensures appended { OnOk result (out.new ≡ out.old ++ drop (length out.old) out.new) }
-        ensures refused { IfErr result (Refuses formats self.old (order.Unset who.now attr.entry.text.now attr.entry.column)) }
+        ensures refused { IfErr result (Refuses formats self.old
+            (order.Unset who.now attr.entry.text.now attr.entry.column)) }
         ensures kept { OnErr result (self.new ≡ self.old) }
         ensures text { OnErr result (out.new ≡ out.old) }
         ensures counted { steps.old ≤ steps.new }
+        ensures most { OnOk result (IsAtMost T.counts self.old
+            (order.Unset who.now attr.entry.text.now attr.entry.column) (steps.new - steps.old)) }
+        ensures least { OnOk result (IsAtLeast T.counts self.old
+            (order.Unset who.now attr.entry.text.now attr.entry.column) (steps.new - steps.old)) }
+        ensures free { IfErr result (λ refusal. IsFree T.counts self.old
+            (order.Unset who.now attr.entry.text.now attr.entry.column) refusal
+            (steps.new - steps.old)) }
     {
         match self.unset_copy(who, attr) {
-            Ok(edited) => self.take_edited(&edited, out, steps),
+            Ok(edited) => {
+                let site = self.site(who);
+                self.take_edited(&edited, site, out, steps)
+            }
             Err(refusal) => Err(refusal),
         }
     }
@@ -81,15 +127,27 @@ impl<T: Table> Playing<T> {
         steps: &mut Steps<L>,
     ) -> Result<(), Refusal>
         requires { IsGiven (order.Insert who.now place line.text.now line.column) }
-        ensures ok { OnOk result (Accepts formats self.old self.new (order.Insert who.now place line.entry.text.now line.entry.column) (drop (length out.old) out.new)) }
+        ensures ok { OnOk result (Accepts formats self.old self.new
+            (order.Insert who.now place line.entry.text.now line.entry.column)
+            (drop (length out.old) out.new)) }
         ensures appended { OnOk result (out.new ≡ out.old ++ drop (length out.old) out.new) }
-        ensures refused { IfErr result (Refuses formats self.old (order.Insert who.now place line.entry.text.now line.entry.column)) }
+        ensures refused { IfErr result (Refuses formats self.old
+            (order.Insert who.now place line.entry.text.now line.entry.column)) }
         ensures kept { OnErr result (self.new ≡ self.old) }
         ensures text { OnErr result (out.new ≡ out.old) }
         ensures counted { steps.old ≤ steps.new }
+        ensures most { OnOk result (IsAtMost T.counts self.old
+            (order.Insert who.now place line.entry.text.now line.entry.column)
+            (steps.new - steps.old)) }
+        ensures least { OnOk result (IsAtLeast T.counts self.old
+            (order.Insert who.now place line.entry.text.now line.entry.column)
+            (steps.new - steps.old)) }
+        ensures free { IfErr result (λ refusal. IsFree T.counts self.old
+            (order.Insert who.now place line.entry.text.now line.entry.column) refusal
+            (steps.new - steps.old)) }
     {
         match self.insert_copy(who, place, line) {
-            Ok(edited) => self.take_edited(&edited, out, steps),
+            Ok(edited) => self.take_edited(&edited, Site::New, out, steps),
             Err(refusal) => Err(refusal),
         }
     }
@@ -102,15 +160,23 @@ impl<T: Table> Playing<T> {
         steps: &mut Steps<L>,
     ) -> Result<(), Refusal>
         requires { IsGiven (order.Remove who.now) }
-        ensures ok { OnOk result (Accepts formats self.old self.new (order.Remove who.now) (drop (length out.old) out.new)) }
+        ensures ok { OnOk result (Accepts formats self.old self.new (order.Remove who.now)
+            (drop (length out.old) out.new)) }
         ensures appended { OnOk result (out.new ≡ out.old ++ drop (length out.old) out.new) }
         ensures refused { IfErr result (Refuses formats self.old (order.Remove who.now)) }
         ensures kept { OnErr result (self.new ≡ self.old) }
         ensures text { OnErr result (out.new ≡ out.old) }
         ensures counted { steps.old ≤ steps.new }
+        ensures most { OnOk result (IsAtMost T.counts self.old (order.Remove who.now) (steps.new - steps.old)) }
+        ensures least { OnOk result (IsAtLeast T.counts self.old (order.Remove who.now) (steps.new - steps.old)) }
+        ensures free { IfErr result (λ refusal. IsFree T.counts self.old (order.Remove who.now)
+            refusal (steps.new - steps.old)) }
     {
         match self.remove_copy(who) {
-            Ok(edited) => self.take_edited(&edited, out, steps),
+            Ok(edited) => {
+                let site = self.site(who);
+                self.take_edited(&edited, site, out, steps)
+            }
             Err(refusal) => Err(refusal),
         }
     }
@@ -118,8 +184,12 @@ impl<T: Table> Playing<T> {
     // The document with an attribute of a node set.
     fn set_copy(&self, who: &Who, attr: Placed<'_>, value: Placed<'_>) -> Result<Tree, Refusal>
         requires { IsGiven (order.Set who.now attr.text.now value.text.now attr.column value.column) }
-        ensures ok { IfOk result (λ edited. edit_of self.now (order.Set who.now attr.entry.text.now value.entry.text.now attr.entry.column value.entry.column) ≡ Ok edited) }
-        ensures err { IfErr result (IsRefusedBy (edit_of self.now (order.Set who.now attr.entry.text.now value.entry.text.now attr.entry.column value.entry.column))) }
+        ensures ok { IfOk result (λ edited. edit_of self.now
+            (order.Set who.now attr.entry.text.now value.entry.text.now attr.entry.column
+            value.entry.column) ≡ Ok edited) }
+        ensures err { IfErr result (IsRefusedBy
+            (edit_of self.now (order.Set who.now attr.entry.text.now value.entry.text.now
+            attr.entry.column value.entry.column))) }
     {
         let tree = self.cells.tree();
         tree.valid();
@@ -132,8 +202,10 @@ impl<T: Table> Playing<T> {
     // The document with an attribute of a node absent.
     fn unset_copy(&self, who: &Who, attr: Placed<'_>) -> Result<Tree, Refusal>
         requires { IsGiven (order.Unset who.now attr.text.now attr.column) }
-        ensures ok { IfOk result (λ edited. edit_of self.now (order.Unset who.now attr.entry.text.now attr.entry.column) ≡ Ok edited) }
-        ensures err { IfErr result (IsRefusedBy (edit_of self.now (order.Unset who.now attr.entry.text.now attr.entry.column))) }
+        ensures ok { IfOk result (λ edited. edit_of self.now
+            (order.Unset who.now attr.entry.text.now attr.entry.column) ≡ Ok edited) }
+        ensures err { IfErr result (IsRefusedBy
+            (edit_of self.now (order.Unset who.now attr.entry.text.now attr.entry.column))) }
     {
         let tree = self.cells.tree();
         tree.valid();
@@ -146,8 +218,10 @@ impl<T: Table> Playing<T> {
     // The document with one more node.
     fn insert_copy(&self, who: &Who, place: u32, line: Placed<'_>) -> Result<Tree, Refusal>
         requires { IsGiven (order.Insert who.now place line.text.now line.column) }
-        ensures ok { IfOk result (λ edited. edit_of self.now (order.Insert who.now place line.entry.text.now line.entry.column) ≡ Ok edited) }
-        ensures err { IfErr result (IsRefusedBy (edit_of self.now (order.Insert who.now place line.entry.text.now line.entry.column))) }
+        ensures ok { IfOk result (λ edited. edit_of self.now
+            (order.Insert who.now place line.entry.text.now line.entry.column) ≡ Ok edited) }
+        ensures err { IfErr result (IsRefusedBy
+            (edit_of self.now (order.Insert who.now place line.entry.text.now line.entry.column))) }
     {
         let tree = self.cells.tree();
         tree.valid();
@@ -170,21 +244,35 @@ impl<T: Table> Playing<T> {
         }
     }
 
-    // Resolves an edited document from moment 0 with the same log, tells what is gone and what has changed, and goes on
-    // with it.
+    // The node that an order names, as the site of an edit; 0, which is no node's serial, where there is none.
+    fn site(&self, who: &Who) -> Site
+        ensures { result ≡ Site.Old (serial_or_0 (node_of self.now.document.nodes who.now)) }
+    {
+        match self.cells.tree().find(who) {
+            Some(serial) => Site::Old(serial),
+            None => Site::Old(0),
+        }
+    }
+
+    // Resolves an edited document with the same log from the part of the diary that stays, tells what is gone and what has
+    // changed, and goes on with it.
     fn take_edited<L: Ledger>(
         &mut self,
         edited: &Tree,
+        site: Site,
         out: &mut Bytes,
         steps: &mut Steps<L>,
     ) -> Result<(), Refusal>
+        requires { IsMade self.old.document site edited.now }
         ensures ok { OnOk result (IsEdited self.old edited.now self.new out.old out.new) }
         ensures refused { IfErr result (IsTooFull (edited_to self.old edited.now)) }
         ensures kept { OnErr result (self.new ≡ self.old) }
         ensures text { OnErr result (out.new ≡ out.old) }
         ensures counted { steps.old ≤ steps.new }
+        ensures most { OnOk result (WhereTold T.counts
+            (steps.new - steps.old ≤ most_resolving self.old site edited.now)) }
     {
-        match self.edited_cells(edited, steps) {
+        match self.edited_cells(edited, site, steps) {
             Ok(mut cells) => self.take_over(&mut cells, out),
             Err(refusal) => Err(refusal),
         }
@@ -196,7 +284,8 @@ impl<T: Table> Playing<T> {
         requires state { IsState cells.old.presentation }
         requires replayed { IsReplayed cells.old.presentation cells.old }
         ensures state { OnOk result (self.new ≡ cells.old.presentation) }
-        ensures told { OnOk result (out.new ≡ out.old ++ gone_text self.old cells.old.presentation ++ text_of cells.old.presentation (changes_between self.old cells.old.presentation)) }
+        ensures told { OnOk result (out.new ≡ out.old ++ gone_text self.old cells.old.presentation
+            ++ text_of cells.old.presentation (changes_between self.old cells.old.presentation)) }
         ensures refused { IfErr result (λ refusal. refusal ≡ Refusal.Memory) }
         ensures kept { OnErr result (self.new ≡ self.old) }
         ensures text { OnErr result (out.new ≡ out.old) }
@@ -215,31 +304,65 @@ impl<T: Table> Playing<T> {
         Ok(())
     }
 
-    // The cells of an edited document, resolved from moment 0 with the same log.
+    // The cells of an edited document, resolved with the same log from the part of the diary that stays.
     fn edited_cells<L: Ledger>(
         &self,
         edited: &Tree,
+        site: Site,
         steps: &mut Steps<L>,
     ) -> Result<Cells<T>, Refusal>
+        requires { IsMade self.now.document site edited.now }
         ensures state { OnOk result (IsState (edited_to self.now edited.now)) }
         ensures ok { IfOk result (IsReplayed (edited_to self.now edited.now)) }
         ensures refused { IfErr result (IsTooFull (edited_to self.now edited.now)) }
         ensures counted { steps.old ≤ steps.new }
+        ensures most { OnOk result (WhereTold T.counts
+            (steps.new - steps.old ≤ most_resolving self.now site edited.now)) }
     {
         edited.valid();
         let doc = edited.doc_copy()?;
-        let log = self.cells.log();
-        let extent = Extent {
-            len: log.len(),
-            to: self.cells.moment(),
+        let len = self.staying(edited, &doc, site)?;
+        cells_with(&self.cells, &doc, len, steps)
+    }
+
+    // How many entries of the diary stay by an edit, unless memory runs out: those through the first begin of the time parent
+    // of the edited node, where the edit leaves the references as they were.
+    fn staying(&self, edited: &Tree, doc: &Doc, site: Site) -> Result<usize, AllocError>
+        requires made { IsMade self.now.document site edited.now }
+        requires doc { doc.now ≡ edited.now }
+        ensures { IfOk result (λ len. len ≡ staying self.now edited.now site) }
+    {
+        let (serial, parent) = edited_node(self.cells.tree(), edited, doc, site);
+        let keeps = self.keeps_references(serial, edited, doc)?;
+        Ok(entries_staying(self.cells.book(), keeps, parent))
+    }
+
+    // Whether an edit of a node leaves the references as they were, unless memory runs out.
+    fn keeps_references(&self, serial: u32, edited: &Tree, doc: &Doc) -> Result<bool, AllocError>
+        requires { doc.now ≡ edited.now }
+        ensures { IfOk result (λ keeps. keeps ≡ keeps_references serial self.now.document.nodes edited.now.nodes) }
+    {
+        let tree = self.cells.tree();
+        let before = tree.doc_copy()?;
+        let graph = Graph::of(self.alloc, edited)?;
+        let old = Linked {
+            tree,
+            nodes: before.nodes(),
+            graph: self.cells.past().graph(),
         };
-        replayed(self.alloc, &doc, log, extent, steps)
+        let new = Linked {
+            tree: edited,
+            nodes: doc.nodes(),
+            graph: &graph,
+        };
+        keeps_references(self.alloc, serial, old, new)
     }
 
     // Appends the lines of the elements that are gone, and those of the views that differ.
     fn put_edited(&self, cells: &Cells<T>, seen: &Seen, out: &mut Bytes) -> Result<(), AllocError>
         requires playing { IsPlaying cells.now seen.now }
-        ensures ok { OnOk result (out.new ≡ out.old ++ gone_text self.now cells.now.presentation ++ text_of cells.now.presentation (changes_between self.now cells.now.presentation)) }
+        ensures ok { OnOk result (out.new ≡ out.old ++ gone_text self.now cells.now.presentation
+            ++ text_of cells.now.presentation (changes_between self.now cells.now.presentation)) }
         ensures err { OnErr result (Begins out.old out.new) }
     {
         let now = cells.moment();
@@ -247,5 +370,41 @@ impl<T: Table> Playing<T> {
             return Err(fault);
         }
         put_differences(cells.tree(), now, &self.seen, seen, out)
+    }
+}
+
+// The serial of a node's time parent, if there is such a node and it has one.
+fn parent_of(tree: &Tree, serial: u32) -> Option<u32>
+    ensures { result ≡ serial_of (time_parent tree.now.nodes serial) }
+{
+    tree.find(&Who::Serial(serial))?;
+    tree.time_parent(serial)
+}
+
+// The serial of the node that was edited, and that of its time parent, if it has one.
+fn edited_node(tree: &Tree, edited: &Tree, doc: &Doc, site: Site) -> (u32, Option<u32>)
+    requires made { IsMade tree.now site edited.now }
+    requires doc { doc.now ≡ edited.now }
+    ensures serial { result.0 ≡ site_serial tree.now site }
+    ensures parent { result.1 ≡ serial_of
+        (time_parent (site_nodes tree.now edited.now site) (site_serial tree.now site)) }
+{
+    match site {
+        Site::Old(serial) => (serial, parent_of(tree, serial)),
+        Site::New => {
+            let serial = doc.next() - 1;
+            (serial, parent_of(edited, serial))
+        }
+    }
+}
+
+// How many entries of a diary stay by an edit: those through the first begin of the time parent of the edited node, if it has
+// one and the edit leaves the references as they were.
+fn entries_staying(book: &Book, keeps: bool, parent: Option<u32>) -> usize
+    ensures { (node : Option AnyNode) → serial_of node ≡ parent → result ≡ agreed_under keeps node book.now }
+{
+    match parent {
+        Some(parent) if keeps => diary_through(book, parent),
+        _ => 0,
     }
 }

@@ -30,7 +30,10 @@ pub fn put_intervals<T: Table>(
     requires state { IsState cells.now.presentation }
     requires settled { IsSettled cells.now }
     requires element { (e : AnyNode) × (node_at (elements cells.now.presentation.document.nodes) who ≡ Some e) }
-    ensures told { (e : AnyNode) → node_at (elements cells.now.presentation.document.nodes) who ≡ Some e → OnOk result (out.new ≡ out.old ++ flat_map (told_line name.now) (intervals_of (history_of cells.now) (pos cells.now.presentation.now) e)) }
+    ensures told { (e : AnyNode) → node_at (elements cells.now.presentation.document.nodes) who
+        ≡ Some e → OnOk result (out.new ≡ out.old
+        ++ flat_map (told_line name.now) (intervals_of (history_of cells.now)
+        (pos cells.now.presentation.now) e)) }
     ensures begins { Begins out.old out.new }
 {
     cells.past().possible();
@@ -50,7 +53,9 @@ fn put_present<T: Table>(
     requires sound { cells.now.fault ≡ None }
     requires state { IsState cells.now.presentation }
     requires settled { IsSettled cells.now }
-    ensures ok { (e : AnyNode) → e.serial ≡ who → OnOk result (out.new ≡ out.old ++ present_line name.now begin (end_at (history_of cells.now) (pos cells.now.presentation.now) e)) }
+    ensures ok { (e : AnyNode) → e.serial ≡ who
+        → OnOk result (out.new ≡ out.old ++ present_line name.now begin
+        (end_at (history_of cells.now) (pos cells.now.presentation.now) e)) }
     ensures err { OnErr result (out.new ≡ out.old) }
 {
     match begin {
@@ -70,7 +75,8 @@ fn present_end<T: Table>(cells: &Cells<T>, who: u32) -> Shown
     requires sound { cells.now.fault ≡ None }
     requires state { IsState cells.now.presentation }
     requires settled { IsSettled cells.now }
-    ensures { (e : AnyNode) → e.serial ≡ who → result ≡ end_at (history_of cells.now) (pos cells.now.presentation.now) e }
+    ensures { (e : AnyNode) → e.serial ≡ who → result
+        ≡ end_at (history_of cells.now) (pos cells.now.presentation.now) e }
 {
     cells.past().possible();
     match cells.interval(who) {
@@ -84,7 +90,9 @@ fn end_shown<T: Table>(cells: &Cells<T>, who: u32, end: Time) -> Shown
     requires state { IsState cells.now.presentation }
     requires settled { IsSettled cells.now }
     requires near { IsTimeNear end }
-    ensures { (e : AnyNode) → e.serial ≡ who → result ≡ shown_time (view_facts (history_of cells.now) (pos cells.now.presentation.now) None true false e) end }
+    ensures { (e : AnyNode) → e.serial ≡ who → result
+        ≡ shown_time (view_facts (history_of cells.now) (pos cells.now.presentation.now) None true
+        false e) end }
 {
     let now = cells.moment();
     let clocks = cells.clocks();

@@ -14,7 +14,8 @@ use std::alloc::AllocError;
 /// value and a target; None of all others. `Memory` where it runs out.
 pub fn layer(tree: &Tree, view: &View) -> Result<Option<Layer>, AllocError>
     requires { (n : AnyNode) × (node_at tree.now.nodes view.now.serial ≡ Some n) }
-    ensures { (n : AnyNode) → node_at tree.now.nodes view.now.serial ≡ Some n → IfOk result (λ layer. layer ≡ layer_of tree.now.nodes view.now n) }
+    ensures { (n : AnyNode) → node_at tree.now.nodes view.now.serial ≡ Some n
+        → IfOk result (λ layer. layer ≡ layer_of tree.now.nodes view.now n) }
 {
     let attrs = tree.attrs(view.serial);
     if !is_set(tree.kind(view.serial)) || !contributes(view.state) || attrs.to.is_none() {
@@ -32,7 +33,8 @@ fn layer_at(
     name: &Option<Bytes>,
     begin: Option<i64>,
 ) -> Result<Option<Layer>, AllocError>
-    ensures { (node : Option AnyNode) → target ≡ serial_of node → IfOk result (λ layer. layer ≡ layer_by place node name.now begin) }
+    ensures { (node : Option AnyNode) → target ≡ serial_of node
+        → IfOk result (λ layer. layer ≡ layer_by place node name.now begin) }
 {
     let (Some(target), Some(name), Some(begin)) = (target, name, begin) else {
         return Ok(None);

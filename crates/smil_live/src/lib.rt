@@ -10,6 +10,7 @@ mod lines;
 mod moves;
 mod names;
 mod playing;
+mod references;
 mod replay;
 mod same;
 mod seen;

@@ -30,7 +30,8 @@ pub fn name_of(tree: &Tree, serial: u32) -> Result<Who, AllocError>
 /// Appends the line of a view at a moment. Where memory is refused, `out` is as before.
 pub fn put_view(tree: &Tree, moment: i64, view: &View, out: &mut Bytes) -> Result<(), AllocError>
     requires { IsSome (node_at tree.now.nodes view.now.serial) }
-    ensures ok { OnOk result (out.new ≡ out.old ++ change_line moment (name_in tree.now.nodes view.now.serial) view.now) }
+    ensures ok { OnOk result (out.new ≡ out.old
+        ++ change_line moment (name_in tree.now.nodes view.now.serial) view.now) }
     ensures err { OnErr result (out.new ≡ out.old) }
 {
     let name = name_of(tree, view.serial)?;
@@ -46,7 +47,9 @@ pub fn put_differences(
     out: &mut Bytes,
 ) -> Result<(), AllocError>
     requires { AreOf tree.now.nodes after.now.views }
-    ensures ok { (m : ℕ) → moment ≡ pos m → OnOk result (out.new ≡ out.old ++ lines_between tree.now.nodes m before.now.views after.now.views) }
+    ensures ok { (m : ℕ) → moment ≡ pos m
+        → OnOk result (out.new ≡ out.old ++ lines_between tree.now.nodes m before.now.views
+        after.now.views) }
     ensures err { OnErr result (Begins out.old out.new) }
 {
     for view in after.views() {
@@ -64,7 +67,9 @@ fn put_difference(
     out: &mut Bytes,
 ) -> Result<(), AllocError>
     requires { IsSome (node_at tree.now.nodes view.now.serial) }
-    ensures ok { (m : ℕ) → moment ≡ pos m → OnOk result (out.new ≡ out.old ++ lines_between tree.now.nodes m before.now.views (view.now ∷ [])) }
+    ensures ok { (m : ℕ) → moment ≡ pos m
+        → OnOk result (out.new ≡ out.old ++ lines_between tree.now.nodes m before.now.views
+        (view.now ∷ [])) }
     ensures begins { OnOk result (Begins out.old out.new) }
     ensures err { OnErr result (out.new ≡ out.old) }
 {
@@ -78,7 +83,8 @@ fn put_difference(
 /// Appends the lines of all views at a moment.
 pub fn put_views(tree: &Tree, moment: i64, seen: &Seen, out: &mut Bytes) -> Result<(), AllocError>
     requires { AreOf tree.now.nodes seen.now.views }
-    ensures ok { (m : ℕ) → moment ≡ pos m → OnOk result (out.new ≡ out.old ++ lines_of tree.now.nodes m seen.now.views) }
+    ensures ok { (m : ℕ) → moment ≡ pos m
+        → OnOk result (out.new ≡ out.old ++ lines_of tree.now.nodes m seen.now.views) }
     ensures err { OnErr result (Begins out.old out.new) }
 {
     for view in seen.views() {
@@ -115,7 +121,8 @@ fn put_where_gone(
     out: &mut Bytes,
 ) -> Result<(), AllocError>
     requires { IsSome (node_at before.now.nodes serial) }
-    ensures ok { (n : AnyNode) → node_at before.now.nodes serial ≡ Some n → OnOk result (out.new ≡ out.old ++ lines_gone after.now.nodes moment (n ∷ [])) }
+    ensures ok { (n : AnyNode) → node_at before.now.nodes serial ≡ Some n
+        → OnOk result (out.new ≡ out.old ++ lines_gone after.now.nodes moment (n ∷ [])) }
     ensures begins { OnOk result (Begins out.old out.new) }
     ensures err { OnErr result (out.new ≡ out.old) }
 {

@@ -1,15 +1,17 @@
 //! Orders that go on from the present state, or back to an earlier one.
 
-ghost use Rattle.std.specs.Prelude.{◌≡◌, ◌≤◌, ◌++◌, drop, length as length_of, true, None, OnOk, OnErr, IfOk, IfErr, IfSome, IfNone, ◌≤ℤ◌, ◌+ℤ◌, pos, [], ◌∷◌, Some};
+ghost use Rattle.std.specs.Prelude.{◌≡◌, ◌≤◌, ◌-◌, ◌++◌, ℕ, Option, drop, length as length_of, true, None, OnOk, OnErr, IfOk, IfErr, IfSome, IfNone, ◌≤ℤ◌, ◌<ℤ◌, ◌+ℤ◌, pos, [], ◌∷◌, Some};
 ghost use Rattle.smil_model.specs.declared.order.Order.TheVariants as order;
 ghost use Rattle.smil_model.specs.document.Document.{is_continuous, elements, node_at};
 ghost use Rattle.smil_model.specs.document.Values.{is_clock};
 ghost use Rattle.smil_model.specs.diary.Logs.{may_happen};
-ghost use Rattle.smil_model.specs.shown.Answers.{Accepts, IsGiven, Refuses};
+ghost use Rattle.smil_model.specs.shown.Answers.{Accepts, IsGiven, MayEvaluate, Refuses};
 ghost use Rattle.smil_model.specs.shown.Orders.{IsState};
 ghost use Rattle.smil_grammar.specs.Formats.{formats};
 ghost use Rattle.smil_report.specs.Words.{Begins};
-ghost use Rattle.smil_cells.specs.Standing.{GoesOn, NothingBefore, Standing, IsSettled};
+ghost use Rattle.smil_cells.specs.Standing.{GoesOn, NothingBefore, Standing, IsSettled, WhereTold, fresh_since, reached_since};
+ghost use Rattle.smil_live.specs.Counted.{IsAtLeast, IsAtMost, IsFree};
+ghost use Rattle.smil_live.specs.Counts.{least_onward, most_onward};
 ghost use Rattle.smil_live.specs.Kept.{IsShown, views_at};
 ghost use Rattle.smil_live.specs.Moves.{IsHeardBy, IsNotHeard, IsReplayed, IsShownAt, IsTooFull, MayMove, changes_by, made, sought_of, text_of, IsFirstDue};
 ghost use Rattle.smil_model.specs.declared.document.Node.{Node as AnyNode};
@@ -19,7 +21,7 @@ ghost use Rattle.smil_live.specs.Told.{lines_between};
 use super::faults::refused_book;
 use super::lines::put_view;
 use super::playing::Playing;
-use super::replay::{Extent, entries_until, replayed};
+use super::replay::cells_at;
 use super::seen::{Seen, view_in};
 use smil_cells::{Cells, Table};
 use smil_model::{
@@ -48,12 +50,17 @@ impl<T: Table> Playing<T> {
         steps: &mut Steps<L>,
     ) -> Result<(), Refusal>
         requires { is_clock by ≡ true }
-        ensures ok { OnOk result (Accepts formats self.old self.new (order.Advance by) (drop (length_of out.old) out.new)) }
+        ensures ok { OnOk result (Accepts formats self.old self.new (order.Advance by)
+            (drop (length_of out.old) out.new)) }
         ensures appended { OnOk result (out.new ≡ out.old ++ drop (length_of out.old) out.new) }
         ensures refused { IfErr result (Refuses formats self.old (order.Advance by)) }
         ensures kept { OnErr result (self.new ≡ self.old) }
         ensures text { OnErr result (out.new ≡ out.old) }
         ensures counted { steps.old ≤ steps.new }
+        ensures most { OnOk result (IsAtMost T.counts self.old (order.Advance by) (steps.new - steps.old)) }
+        ensures least { OnOk result (IsAtLeast T.counts self.old (order.Advance by) (steps.new - steps.old)) }
+        ensures free { IfErr result (λ refusal. IsFree T.counts self.old (order.Advance by) refusal
+            (steps.new - steps.old)) }
     {
         let to = self.cells.moment() + by;
         if to > HORIZON {
@@ -75,12 +82,17 @@ impl<T: Table> Playing<T> {
         steps: &mut Steps<L>,
     ) -> Result<(), Refusal>
         requires { is_clock to ≡ true }
-        ensures ok { OnOk result (Accepts formats self.old self.new (order.Seek to) (drop (length_of out.old) out.new)) }
+        ensures ok { OnOk result (Accepts formats self.old self.new (order.Seek to)
+            (drop (length_of out.old) out.new)) }
         ensures appended { OnOk result (out.new ≡ out.old ++ drop (length_of out.old) out.new) }
         ensures refused { IfErr result (Refuses formats self.old (order.Seek to)) }
         ensures kept { OnErr result (self.new ≡ self.old) }
         ensures text { OnErr result (out.new ≡ out.old) }
         ensures counted { steps.old ≤ steps.new }
+        ensures most { OnOk result (IsAtMost T.counts self.old (order.Seek to) (steps.new - steps.old)) }
+        ensures least { OnOk result (IsAtLeast T.counts self.old (order.Seek to) (steps.new - steps.old)) }
+        ensures free { IfErr result (λ refusal. IsFree T.counts self.old (order.Seek to) refusal
+            (steps.new - steps.old)) }
     {
         if to < self.cells.moment() {
             return self.seek_back(to, out, steps);
@@ -92,7 +104,7 @@ impl<T: Table> Playing<T> {
         Ok(())
     }
 
-    // Moves to an earlier moment: the presentation is made anew with the log up to it.
+    // Moves to an earlier moment: the presentation is made anew with the diary and the log up to it.
     fn seek_back<L: Ledger>(
         &mut self,
         to: i64,
@@ -100,13 +112,18 @@ impl<T: Table> Playing<T> {
         steps: &mut Steps<L>,
     ) -> Result<(), Refusal>
         requires clock { is_clock to ≡ true }
-        requires back { to ≤ℤ pos self.old.now }
-        ensures ok { OnOk result (Accepts formats self.old self.new (order.Seek to) (drop (length_of out.old) out.new)) }
+        requires back { to <ℤ pos self.old.now }
+        ensures ok { OnOk result (Accepts formats self.old self.new (order.Seek to)
+            (drop (length_of out.old) out.new)) }
         ensures appended { OnOk result (out.new ≡ out.old ++ drop (length_of out.old) out.new) }
         ensures refused { IfErr result (Refuses formats self.old (order.Seek to)) }
         ensures kept { OnErr result (self.new ≡ self.old) }
         ensures text { OnErr result (out.new ≡ out.old) }
         ensures counted { steps.old ≤ steps.new }
+        ensures most { OnOk result (IsAtMost T.counts self.old (order.Seek to) (steps.new - steps.old)) }
+        ensures least { OnOk result (IsAtLeast T.counts self.old (order.Seek to) (steps.new - steps.old)) }
+        ensures free { IfErr result (λ refusal. IsFree T.counts self.old (order.Seek to) refusal
+            (steps.new - steps.old)) }
     {
         self.settled();
         match self.made_at(to, steps) {
@@ -115,18 +132,18 @@ impl<T: Table> Playing<T> {
         }
     }
 
-    // The cells of an earlier moment, made anew with the log up to it.
+    // The cells of an earlier moment, rebuilt from the diary up to it.
     fn made_at<L: Ledger>(&self, to: i64, steps: &mut Steps<L>) -> Result<Cells<T>, Refusal>
         requires clock { is_clock to ≡ true }
+        requires back { to <ℤ pos self.now.now }
         ensures ok { IfOk result (IsReplayed (sought_of self.now to)) }
         ensures refused { IfErr result (IsTooFull (sought_of self.now to)) }
         ensures state { IsState (sought_of self.now to) }
         ensures counted { steps.old ≤ steps.new }
+        ensures most { OnOk result (WhereTold T.counts
+            (steps.new - steps.old ≤ length_of (elements self.now.document.nodes))) }
     {
-        let log = self.cells.log();
-        let len = entries_until(log, to);
-        let doc = self.cells.tree().doc_copy()?;
-        replayed(self.alloc, &doc, log, Extent { len, to }, steps)
+        cells_at(&self.cells, to, steps)
     }
 
     /// An event on an element. `NoElement` where there is no such node, `BadPlace` where it is a priorityClass, then `LogFull`
@@ -139,12 +156,18 @@ impl<T: Table> Playing<T> {
         steps: &mut Steps<L>,
     ) -> Result<(), Refusal>
         requires { IsGiven (order.Event who.now name.now) }
-        ensures ok { OnOk result (Accepts formats self.old self.new (order.Event who.now name.now) (drop (length_of out.old) out.new)) }
+        ensures ok { OnOk result (Accepts formats self.old self.new (order.Event who.now name.now)
+            (drop (length_of out.old) out.new)) }
         ensures appended { OnOk result (out.new ≡ out.old ++ drop (length_of out.old) out.new) }
         ensures refused { IfErr result (Refuses formats self.old (order.Event who.now name.now)) }
         ensures kept { OnErr result (self.new ≡ self.old) }
         ensures text { OnErr result (out.new ≡ out.old) }
         ensures counted { steps.old ≤ steps.new }
+        ensures most { OnOk result (IsAtMost T.counts self.old (order.Event who.now name.now) (steps.new - steps.old)) }
+        ensures least { OnOk result (IsAtLeast T.counts self.old (order.Event who.now name.now)
+            (steps.new - steps.old)) }
+        ensures free { IfErr result (λ refusal. IsFree T.counts self.old
+            (order.Event who.now name.now) refusal (steps.new - steps.old)) }
     {
         self.settled();
         let serial = self.element(who)?;
@@ -162,12 +185,17 @@ impl<T: Table> Playing<T> {
         steps: &mut Steps<L>,
     ) -> Result<(), Refusal>
         requires { IsGiven (order.Media who.now length) }
-        ensures ok { OnOk result (Accepts formats self.old self.new (order.Media who.now length) (drop (length_of out.old) out.new)) }
+        ensures ok { OnOk result (Accepts formats self.old self.new (order.Media who.now length)
+            (drop (length_of out.old) out.new)) }
         ensures appended { OnOk result (out.new ≡ out.old ++ drop (length_of out.old) out.new) }
         ensures refused { IfErr result (Refuses formats self.old (order.Media who.now length)) }
         ensures kept { OnErr result (self.new ≡ self.old) }
         ensures text { OnErr result (out.new ≡ out.old) }
         ensures counted { steps.old ≤ steps.new }
+        ensures most { OnOk result (IsAtMost T.counts self.old (order.Media who.now length) (steps.new - steps.old)) }
+        ensures least { OnOk result (IsAtLeast T.counts self.old (order.Media who.now length) (steps.new - steps.old)) }
+        ensures free { IfErr result (λ refusal. IsFree T.counts self.old
+            (order.Media who.now length) refusal (steps.new - steps.old)) }
     {
         let serial = self.node(who)?;
         if !is_continuous(self.cells.tree().kind(serial)) {
@@ -195,6 +223,9 @@ impl<T: Table> Playing<T> {
         ensures kept { OnErr result (self.new ≡ self.old) }
         ensures text { OnErr result (out.new ≡ out.old) }
         ensures counted { steps.old ≤ steps.new }
+        ensures most { OnOk result (WhereTold T.counts (steps.new - steps.old ≤ most_onward self.old self.new)) }
+        ensures least { OnOk result (WhereTold T.counts (least_onward self.old self.new ≤ steps.new - steps.old)) }
+        ensures free { (most : Option ℕ) → IfErr result (λ refusal. MayEvaluate most refusal (steps.new - steps.old)) }
     {
         if self.cells.log().len() >= LOG_ENTRIES {
             return Err(Refusal::LogFull);
@@ -222,6 +253,10 @@ impl<T: Table> Playing<T> {
         ensures kept { OnErr result (self.new ≡ self.old) }
         ensures text { OnErr result (out.new ≡ out.old) }
         ensures counted { steps.old ≤ steps.new }
+        ensures most { OnOk result (WhereTold T.counts
+            (steps.new - steps.old ≤ most_onward self.old (made self.old step))) }
+        ensures least { OnOk result (WhereTold T.counts
+            (least_onward self.old (made self.old step) ≤ steps.new - steps.old)) }
     {
         let len = out.len();
         let cells = &mut self.cells;
@@ -254,12 +289,15 @@ fn go_on<T: Table, L: Ledger>(
     requires may { MayMove cells.old.presentation step }
     requires shown { IsShown cells.old seen.old }
     ensures ok { OnOk result (IsShownAt (made cells.old.presentation step) cells.new seen.new) }
-    ensures told { OnOk result (out.new ≡ out.old ++ text_of cells.old.presentation (changes_by cells.old.presentation step)) }
+    ensures told { OnOk result (out.new ≡ out.old
+        ++ text_of cells.old.presentation (changes_by cells.old.presentation step)) }
     ensures refused { IfErr result (IsTooFull (made cells.old.presentation step)) }
     ensures marked { cells.new.marked ≡ cells.old.marked }
     ensures before { seen.new.before ≡ seen.old.before }
     ensures begins { Begins out.old out.new }
     ensures counted { steps.old ≤ steps.new }
+    ensures most { OnOk result (WhereTold T.counts (steps.new - steps.old ≤ reached_since cells.old cells.new)) }
+    ensures least { OnOk result (WhereTold T.counts (fresh_since cells.old cells.new ≤ steps.new - steps.old)) }
 {
     match step {
         Move::Pass(to) => pass_through(cells, seen, to, out, steps),
@@ -279,12 +317,15 @@ fn pass_through<T: Table, L: Ledger>(
     requires may { MayMove cells.old.presentation (Move.Pass to) }
     requires shown { IsShown cells.old seen.old }
     ensures ok { OnOk result (IsShownAt (made cells.old.presentation (Move.Pass to)) cells.new seen.new) }
-    ensures told { OnOk result (out.new ≡ out.old ++ text_of cells.old.presentation (changes_by cells.old.presentation (Move.Pass to))) }
+    ensures told { OnOk result (out.new ≡ out.old
+        ++ text_of cells.old.presentation (changes_by cells.old.presentation (Move.Pass to))) }
     ensures refused { IfErr result (IsTooFull (made cells.old.presentation (Move.Pass to))) }
     ensures marked { cells.new.marked ≡ cells.old.marked }
     ensures before { seen.new.before ≡ seen.old.before }
     ensures begins { Begins out.old out.new }
     ensures counted { steps.old ≤ steps.new }
+    ensures most { OnOk result (WhereTold T.counts (steps.new - steps.old ≤ reached_since cells.old cells.new)) }
+    ensures least { OnOk result (WhereTold T.counts (fresh_since cells.old cells.new ≤ steps.new - steps.old)) }
 {
     while let Some(due) = due_by(cells, to) {
         if let Err(refusal) = settle_once(cells, seen, due, out, steps) {
@@ -316,12 +357,16 @@ fn settle_once<T: Table, L: Ledger>(
     requires may { MayMove cells.old.presentation (Move.Settle to) }
     requires shown { IsShown cells.old seen.old }
     ensures ok { OnOk result (IsShownAt (made cells.old.presentation (Move.Settle to)) cells.new seen.new) }
-    ensures told { OnOk result (out.new ≡ out.old ++ text_of cells.old.presentation (changes_by cells.old.presentation (Move.Settle to))) }
+    ensures told { OnOk result (out.new ≡ out.old
+        ++ text_of cells.old.presentation (changes_by cells.old.presentation (Move.Settle to))) }
     ensures refused { IfErr result (IsTooFull (made cells.old.presentation (Move.Settle to))) }
     ensures marked { cells.new.marked ≡ cells.old.marked }
     ensures before { seen.new.before ≡ seen.old.before }
     ensures begins { Begins out.old out.new }
     ensures counted { steps.old ≤ steps.new }
+    ensures goes_on { OnOk result (GoesOn cells.old cells.new) }
+    ensures most { OnOk result (WhereTold T.counts (steps.new - steps.old ≤ reached_since cells.old cells.new)) }
+    ensures least { OnOk result (WhereTold T.counts (fresh_since cells.old cells.new ≤ steps.new - steps.old)) }
 {
     match cells.settle(to, steps) {
         Ok(()) => put_touched(cells, seen, out),
@@ -340,12 +385,15 @@ fn hear_once<T: Table, L: Ledger>(
     requires may { MayMove cells.old.presentation (Move.Hear entry) }
     requires shown { IsShown cells.old seen.old }
     ensures ok { OnOk result (IsShownAt (made cells.old.presentation (Move.Hear entry)) cells.new seen.new) }
-    ensures told { OnOk result (out.new ≡ out.old ++ text_of cells.old.presentation (changes_by cells.old.presentation (Move.Hear entry))) }
+    ensures told { OnOk result (out.new ≡ out.old
+        ++ text_of cells.old.presentation (changes_by cells.old.presentation (Move.Hear entry))) }
     ensures refused { IfErr result (IsTooFull (made cells.old.presentation (Move.Hear entry))) }
     ensures marked { cells.new.marked ≡ cells.old.marked }
     ensures before { seen.new.before ≡ seen.old.before }
     ensures begins { Begins out.old out.new }
     ensures counted { steps.old ≤ steps.new }
+    ensures most { OnOk result (WhereTold T.counts (steps.new - steps.old ≤ reached_since cells.old cells.new)) }
+    ensures least { OnOk result (WhereTold T.counts (fresh_since cells.old cells.new ≤ steps.new - steps.old)) }
 {
     match cells.hear(entry, steps) {
         Ok(()) => put_touched(cells, seen, out),
@@ -359,9 +407,12 @@ fn put_touched<T: Table>(cells: &Cells<T>, seen: &mut Seen, out: &mut Bytes) -> 
     requires sound { cells.now.fault ≡ None }
     requires state { IsState cells.now.presentation }
     requires settled { IsSettled cells.now }
-    requires from { (old : Standing) × GoesOn old cells.now × (seen.old.views ≡ views_at old) × (cells.now.presentation.document ≡ old.presentation.document) }
+    requires from { (old : Standing) × GoesOn old cells.now × (seen.old.views ≡ views_at old)
+        × (cells.now.presentation.document ≡ old.presentation.document) }
     ensures views { OnOk result (seen.new.views ≡ views_at cells.now) }
-    ensures told { OnOk result (out.new ≡ out.old ++ lines_between cells.now.presentation.document.nodes cells.now.presentation.now seen.old.views (views_at cells.now)) }
+    ensures told { OnOk result (out.new ≡ out.old
+        ++ lines_between cells.now.presentation.document.nodes cells.now.presentation.now
+        seen.old.views (views_at cells.now)) }
     ensures refused { IfErr result (λ refusal. refusal ≡ Refusal.Memory) }
     ensures before { seen.new.before ≡ seen.old.before }
     ensures begins { Begins out.old out.new }
@@ -386,8 +437,12 @@ fn put_one<T: Table>(
     requires settled { IsSettled cells.now }
     requires element { (e : AnyNode) × (node_at (elements cells.now.presentation.document.nodes) serial ≡ Some e) }
     requires known { has_view seen.old.views serial ≡ true }
-    ensures view { (e : AnyNode) → node_at (elements cells.now.presentation.document.nodes) serial ≡ Some e → OnOk result (seen.new ≡ with_view seen.old (view_now cells.now e)) }
-    ensures told { (e : AnyNode) → node_at (elements cells.now.presentation.document.nodes) serial ≡ Some e → OnOk result (out.new ≡ out.old ++ lines_between cells.now.presentation.document.nodes cells.now.presentation.now seen.old.views (view_now cells.now e ∷ [])) }
+    ensures view { (e : AnyNode) → node_at (elements cells.now.presentation.document.nodes) serial
+        ≡ Some e → OnOk result (seen.new ≡ with_view seen.old (view_now cells.now e)) }
+    ensures told { (e : AnyNode) → node_at (elements cells.now.presentation.document.nodes) serial
+        ≡ Some e → OnOk result (out.new ≡ out.old
+        ++ lines_between cells.now.presentation.document.nodes cells.now.presentation.now
+        seen.old.views (view_now cells.now e ∷ [])) }
     ensures before { seen.new.before ≡ seen.old.before }
     ensures begins { Begins out.old out.new }
 {

@@ -1,6 +1,6 @@
 //! A presentation that answers orders.
 
-ghost use Rattle.std.specs.Prelude.{◌≡◌, ◌≤◌, ◌++◌, ◌⊎◌, drop, length, true, Some, IsSome, Ok, Err, OnOk, OnErr, IfOk, IfErr};
+ghost use Rattle.std.specs.Prelude.{◌≡◌, ◌≤◌, ◌-◌, ◌++◌, ◌⊎◌, drop, length, true, Some, IsSome, Ok, Err, OnOk, OnErr, IfOk, IfErr};
 ghost use Rattle.smil_model.specs.declared.document.Node.{Node as AnyNode};
 ghost use Rattle.smil_model.specs.declared.order.Order.TheVariants as order;
 ghost use Rattle.smil_model.specs.diary.Logs.{is_serial};
@@ -10,6 +10,9 @@ ghost use Rattle.smil_model.specs.happening.Resolution.{diary_of};
 ghost use Rattle.smil_model.specs.shown.Orders.{IsState, course_of, found, node_of, opened};
 ghost use Rattle.smil_model.specs.shown.Answers.{Accepts, IsGiven, Refuses, load_text};
 ghost use Rattle.smil_grammar.specs.Formats.{formats};
+ghost use Rattle.smil_cells.specs.Standing.{WhereTold};
+ghost use Rattle.smil_live.specs.Counted.{IsAtLeast, IsAtMost, IsFree};
+ghost use Rattle.smil_live.specs.Counts.{least_loading, most_loading};
 ghost use Rattle.smil_live.specs.Kept.{IsPlaying};
 ghost use Rattle.smil_live.specs.Moves.{IsReplayed};
 ghost use Rattle.smil_live.specs.Telling.{element_named, is_edit};
@@ -18,16 +21,18 @@ use super::lines::put_differences;
 use super::replay::{Extent, replayed};
 use super::seen::Seen;
 use super::values::Placed;
-use smil_cells::{Cells, PlainTable, Table};
+use smil_cells::{Cells, Table};
 use smil_model::{Bytes, Doc, Happening, Log, Order, Player, Refusal, Steps, Who};
+use smil_nodes::LiveTable;
 use std::alloc::Global;
 use std::marker::Model;
 use std::sync::ledger::Ledger;
 
-/// A presentation that evaluates every element after each happening.
-pub type Presentation = Playing<PlainTable>;
+/// A presentation that evaluates after each happening what it can reach.
+pub type Presentation = Playing<LiveTable>;
 
-/// A presentation, seen as its document, its log and its moment, in milliseconds of document time. It answers every order.
+/// A presentation, seen as its document, its log and its moment, in milliseconds of document time. It answers every order,
+/// and tells bounds of its interval evaluations where its table counts them.
 #[derive(Drop)]
 pub struct Playing<T: Table> {
     pub cells: Cells<T>,
@@ -61,6 +66,8 @@ impl<T: Table> Playing<T> {
         ensures refused { IfErr result (λ refusal. (refusal ≡ Refusal.Memory) ⊎ (opened doc ≡ Err refusal)) }
         ensures text { OnErr result (out.new ≡ out.old) }
         ensures counted { steps.old ≤ steps.new }
+        ensures most { IfOk result (λ playing. WhereTold T.counts (steps.new - steps.old ≤ most_loading playing)) }
+        ensures least { IfOk result (λ playing. WhereTold T.counts (least_loading playing ≤ steps.new - steps.old)) }
     {
         let extent = Extent { len: 0, to: 0 };
         match replayed(alloc, &doc, &Log::new(alloc), extent, steps) {
@@ -87,7 +94,8 @@ impl<T: Table> Playing<T> {
 
     /// The serial of a node. `NoElement` where there is no such node.
     pub fn node(&self, who: &Who) -> Result<u32, Refusal>
-        ensures ok { IfOk result (λ serial. (n : AnyNode) × (node_of self.now.document.nodes who.now ≡ Some n) × (serial ≡ n.serial)) }
+        ensures ok { IfOk result (λ serial. (n : AnyNode)
+            × (node_of self.now.document.nodes who.now ≡ Some n) × (serial ≡ n.serial)) }
         ensures known { IfOk result (λ serial. IsSome (node_at self.now.document.nodes serial)) }
         ensures serial { IfOk result (λ serial. is_serial serial ≡ true) }
         ensures err { IfErr result (λ refusal. found (node_of self.now.document.nodes who.now) ≡ Err refusal) }
@@ -100,7 +108,8 @@ impl<T: Table> Playing<T> {
 
     /// The serial of an element. `NoElement` where there is no such node, `BadPlace` where it is a priorityClass.
     pub fn element(&self, who: &Who) -> Result<u32, Refusal>
-        ensures ok { IfOk result (λ serial. (n : AnyNode) × (element_named self.now who.now ≡ Ok n) × (serial ≡ n.serial)) }
+        ensures ok { IfOk result (λ serial. (n : AnyNode) × (element_named self.now who.now ≡ Ok n)
+            × (serial ≡ n.serial)) }
         ensures serial { IfOk result (λ serial. is_serial serial ≡ true) }
         ensures err { IfErr result (λ refusal. element_named self.now who.now ≡ Err refusal) }
     {
@@ -134,6 +143,10 @@ impl<T: Table> Playing<T> {
         ensures kept { OnErr result (self.new ≡ self.old) }
         ensures text { OnErr result (out.new ≡ out.old) }
         ensures counted { steps.old ≤ steps.new }
+        ensures most { OnOk result (IsAtMost T.counts self.old (order.Key key) (steps.new - steps.old)) }
+        ensures least { OnOk result (IsAtLeast T.counts self.old (order.Key key) (steps.new - steps.old)) }
+        ensures free { IfErr result (λ refusal. IsFree T.counts self.old (order.Key key) refusal
+            (steps.new - steps.old)) }
     {
         self.settled();
         self.hear(Happening::Key { key }, out, steps)
@@ -154,6 +167,9 @@ impl<T: Table> Playing<T> {
         ensures kept { OnErr result (self.new ≡ self.old) }
         ensures text { OnErr result (out.new ≡ out.old) }
         ensures counted { steps.old ≤ steps.new }
+        ensures most { OnOk result (IsAtMost T.counts self.old order.now (steps.new - steps.old)) }
+        ensures least { OnOk result (IsAtLeast T.counts self.old order.now (steps.new - steps.old)) }
+        ensures free { IfErr result (λ refusal. IsFree T.counts self.old order.now refusal (steps.new - steps.old)) }
     {
         match order {
             Order::Set {
@@ -187,8 +203,9 @@ impl<T: Table> Playing<T> {
 }
 
 impl<T: Table> Player for Playing<T> {
-    ghost use Rattle.std.specs.Prelude.{None, true};
+    ghost use Rattle.std.specs.Prelude.{true};
     ghost use Rattle.smil_grammar.specs.Formats.{formats};
+    ghost use Rattle.smil_live.specs.Counts.{least_number, most_number, told_where};
 
     ghost formats = { λ _. formats };
 
@@ -196,9 +213,9 @@ impl<T: Table> Player for Playing<T> {
 
     ghost takes = { λ _ _. true };
 
-    ghost least_steps = { λ _ _. None };
+    ghost least_steps = { λ p order. told_where T.counts (least_number p order) };
 
-    ghost most_steps = { λ _ _. None };
+    ghost most_steps = { λ p order. told_where T.counts (most_number p order) };
 
     fn now(&self) -> i64 {
         self.cells.moment()

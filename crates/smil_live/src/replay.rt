@@ -1,16 +1,23 @@
 //! Presentations made anew from a document and a log.
 
-ghost use Rattle.std.specs.Prelude.{◌≡◌, ◌≤◌, ◌≤ℤ◌, pos, true, filter, take, int_le, [], length, None, IfOk, IfErr, OnOk};
-ghost use Rattle.smil_model.specs.declared.diary.LogEntry.{LogEntry as AnyLogEntry};
+ghost use Rattle.std.specs.Prelude.{◌≡◌, ◌≤◌, ◌+◌, ◌-◌, ◌≤ℤ◌, ◌++◌, List, pos, true, take, length, None, IfOk, IfErr, OnOk};
+ghost use Rattle.smil_model.specs.declared.diary.Entry.{Entry as AnyEntry};
 ghost use Rattle.smil_model.specs.declared.times.TheConstants.{HORIZON as the_horizon};
-ghost use Rattle.smil_model.specs.diary.Logs.{is_log, may_happen};
+ghost use Rattle.smil_model.specs.diary.Clocks.{until};
+ghost use Rattle.smil_model.specs.diary.Lawful.{is_rising_from};
+ghost use Rattle.smil_model.specs.diary.Logs.{may_happen};
+ghost use Rattle.smil_model.specs.document.Document.{elements};
 ghost use Rattle.smil_model.specs.document.Valid.{IsNumberedTree};
+ghost use Rattle.smil_model.specs.reach.Bounds.{through_begin};
 ghost use Rattle.smil_model.specs.shown.Orders.{IsState};
-ghost use Rattle.smil_live.specs.Moves.{IsReplayed, IsTooFull, heard_at, replay_of};
+ghost use Rattle.smil_cells.specs.Standing.{IsRebuilt, IsSettled, MayRebuild, Standing, WhereTold, fresh_since, reached_since};
+ghost use Rattle.smil_live.specs.Counts.{least_loading, most_loading, reached_behind};
+ghost use Rattle.smil_live.specs.Moves.{IsReplayed, IsTooFull, IsUnderWay, edited_to, heard_at, replay_of, sought_of};
 
 use super::faults::refused_book;
 use smil_cells::{Cells, Table};
-use smil_model::{Doc, Duplicate, LOG_ENTRIES, Log, LogEntry, Refusal, Steps};
+use smil_diary::Book;
+use smil_model::{Doc, Duplicate, LOG_ENTRIES, Log, LogEntry, Refusal, StepKind, Steps};
 use std::alloc::Global;
 use std::sync::ledger::Ledger;
 
@@ -36,32 +43,99 @@ pub fn replayed<T: Table, L: Ledger>(
     ensures ok { IfOk result (IsReplayed (replay_of doc.now log.now extent.len extent.to)) }
     ensures refused { IfErr result (IsTooFull (replay_of doc.now log.now extent.len extent.to)) }
     ensures counted { steps.old ≤ steps.new }
+    ensures most { IfOk result (λ cells. WhereTold T.counts
+        (steps.new - steps.old ≤ most_loading (replay_of doc.now log.now extent.len extent.to))) }
+    ensures least { IfOk result (λ cells. WhereTold T.counts
+        (least_loading (replay_of doc.now log.now extent.len extent.to) ≤ steps.new - steps.old)) }
 {
     let mut cells = Cells::<T>::new(alloc, doc, steps)?;
-    match replay_all(&mut cells, log, extent, steps) {
+    match replay_on(&mut cells, log, extent, steps) {
         Ok(()) => Ok(cells),
         Err(refusal) => Err(refusal),
     }
 }
 
-// Hears the first entries of a log at their moments, and settles up to a moment, from nothing.
-fn replay_all<T: Table, L: Ledger>(
+/// The cells of an earlier moment, rebuilt from the part of the diary up to it. The cells are settled, of a state, with no mark.
+/// `DiaryFull` where the diary would have too many entries, `Memory` where memory runs out.
+pub fn cells_at<T: Table, L: Ledger>(
+    cells: &Cells<T>,
+    to: i64,
+    steps: &mut Steps<L>,
+) -> Result<Cells<T>, Refusal>
+    requires state { IsState cells.now.presentation }
+    requires replayed { IsReplayed cells.now.presentation cells.now }
+    requires from { pos 0 ≤ℤ to }
+    requires back { to ≤ℤ pos cells.now.presentation.now }
+    ensures ok { IfOk result (IsReplayed (sought_of cells.now.presentation to)) }
+    ensures refused { IfErr result (IsTooFull (sought_of cells.now.presentation to)) }
+    ensures counted { steps.old ≤ steps.new }
+    ensures most { OnOk result (WhereTold T.counts
+        (steps.new - steps.old ≤ length (elements cells.now.presentation.document.nodes))) }
+{
+    cells.past().possible();
+    let doc = cells.tree().doc_copy()?;
+    let len = diary_until(cells.book(), to);
+    let mut earlier = cells.rebuilt(&doc, len, steps)?;
+    match earlier.settle(to, steps) {
+        Ok(()) => Ok(earlier),
+        Err(fault) => Err(refused_book(fault)),
+    }
+}
+
+/// The cells of another document with the same log at the same moment, rebuilt from the first entries of the diary, to which
+/// its resolution comes. `DiaryFull` where its diary would have too many entries, `Memory` where memory runs out.
+pub fn cells_with<T: Table, L: Ledger>(
+    cells: &Cells<T>,
+    doc: &Doc,
+    len: usize,
+    steps: &mut Steps<L>,
+) -> Result<Cells<T>, Refusal>
+    requires state { IsState (edited_to cells.now.presentation doc.now) }
+    requires rebuild { MayRebuild cells.now doc.now len }
+    requires way { (rebuilt : Standing) → IsRebuilt cells.now doc.now len rebuilt
+        → IsUnderWay (edited_to cells.now.presentation doc.now) (length rebuilt.presentation.log)
+        rebuilt }
+    ensures ok { IfOk result (IsReplayed (edited_to cells.now.presentation doc.now)) }
+    ensures refused { IfErr result (IsTooFull (edited_to cells.now.presentation doc.now)) }
+    ensures counted { steps.old ≤ steps.new }
+    ensures most { OnOk result (WhereTold T.counts
+        (steps.new - steps.old ≤ length (elements doc.now.nodes) + reached_behind len
+        (edited_to cells.now.presentation doc.now))) }
+{
+    let log = cells.log();
+    let extent = Extent {
+        len: log.len(),
+        to: cells.moment(),
+    };
+    let mut rebuilt = cells.rebuilt(doc, len, steps)?;
+    match replay_on(&mut rebuilt, log, extent, steps) {
+        Ok(()) => Ok(rebuilt),
+        Err(refusal) => Err(refusal),
+    }
+}
+
+/// Hears the entries of a log that cells have not heard yet at their moments, and settles up to a moment. `DiaryFull` where
+/// the diary would have too many entries, `Memory` where memory runs out.
+pub fn replay_on<T: Table, L: Ledger>(
     cells: &mut Cells<T>,
     log: &Log,
     extent: Extent,
     steps: &mut Steps<L>,
 ) -> Result<(), Refusal>
-    requires new { cells.old.presentation ≡ record { document = cells.old.presentation.document; log = []; now = 0 } }
-    requires sound { cells.old.fault ≡ None }
-    requires unmarked { cells.old.marked ≡ None }
+    requires way { IsUnderWay (replay_of cells.old.presentation.document log.now extent.len
+        extent.to) (length cells.old.presentation.log) cells.old }
     requires state { IsState (replay_of cells.old.presentation.document log.now extent.len extent.to) }
     requires from { pos 0 ≤ℤ extent.to }
     requires within { extent.len ≤ length log.now }
-    ensures ok { OnOk result (IsReplayed (replay_of cells.old.presentation.document log.now extent.len extent.to) cells.new) }
-    ensures refused { IfErr result (IsTooFull (replay_of cells.old.presentation.document log.now extent.len extent.to)) }
+    ensures ok { OnOk result (IsReplayed
+        (replay_of cells.old.presentation.document log.now extent.len extent.to) cells.new) }
+    ensures refused { IfErr result (IsTooFull
+        (replay_of cells.old.presentation.document log.now extent.len extent.to)) }
     ensures counted { steps.old ≤ steps.new }
+    ensures most { OnOk result (WhereTold T.counts (steps.new - steps.old ≤ reached_since cells.old cells.new)) }
+    ensures least { OnOk result (WhereTold T.counts (fresh_since cells.old cells.new ≤ steps.new - steps.old)) }
 {
-    for place in 0..extent.len {
+    for place in cells.log().len()..extent.len {
         let entry = log.get(place).unwrap();
         if let Err(refusal) = hear_again(cells, entry, steps) {
             return Err(refusal);
@@ -87,8 +161,12 @@ fn hear_again<T: Table, L: Ledger>(
     ensures state { OnOk result (cells.new.presentation ≡ heard_at cells.old.presentation entry.now) }
     ensures sound { OnOk result (cells.new.fault ≡ None) }
     ensures marked { OnOk result (cells.new.marked ≡ cells.old.marked) }
+    ensures settled { OnOk result (IsSettled cells.new) }
+    ensures grown { OnOk result ((more : List AnyEntry) × (cells.new.diary ≡ cells.old.diary ++ more)) }
     ensures refused { IfErr result (IsTooFull (heard_at cells.old.presentation entry.now)) }
     ensures counted { steps.old ≤ steps.new }
+    ensures most { OnOk result (WhereTold T.counts (steps.new - steps.old ≤ reached_since cells.old cells.new)) }
+    ensures least { OnOk result (WhereTold T.counts (fresh_since cells.old cells.new ≤ steps.new - steps.old)) }
 {
     if cells.log().len() >= LOG_ENTRIES {
         return Err(Refusal::Memory);
@@ -103,11 +181,30 @@ fn hear_again<T: Table, L: Ledger>(
     }
 }
 
-/// How many entries of a log, which stand in the order of their moments, are not later than a moment.
-pub fn entries_until(log: &Log, moment: i64) -> usize
-    requires { is_log log.now ≡ true }
-    ensures within { result ≤ length log.now }
-    ensures first { take result log.now ≡ filter (λ (entry : AnyLogEntry). int_le entry.moment moment) log.now }
+/// How many entries of a diary, which stand in the order of their moments, are not later than a moment. It takes time for
+/// those that are.
+pub fn diary_until(book: &Book, moment: i64) -> usize
+    requires { is_rising_from (pos 0) book.now ≡ true }
+    ensures within { result ≤ length book.now }
+    ensures first { take result book.now ≡ until moment book.now }
 {
-    log.slice().partition_point(|entry| entry.moment <= moment)
+    let mut len = book.len();
+    while len > 0 {
+        if book.entry(len - 1).unwrap().moment <= moment {
+            return len;
+        }
+        len -= 1;
+    }
+    0
+}
+
+/// How many entries of a diary there are through the first begin of an element; all where it has not begun.
+pub fn diary_through(book: &Book, who: u32) -> usize
+    ensures { result ≡ length (through_begin who book.now) }
+{
+    let all = book.len();
+    match book.first(who, StepKind::Began) {
+        Some(place) => place + 1,
+        None => all,
+    }
 }

@@ -78,7 +78,9 @@ impl Seen {
         requires settled { IsSettled cells.now }
         requires known { IsSome (node_at cells.now.presentation.document.nodes serial) }
         requires one { has_view self.old.views serial ≡ false }
-        ensures { (n : AnyNode) → node_at cells.now.presentation.document.nodes serial ≡ Some n → OnOk result (self.new.views ≡ self.old.views ++ map (view_now cells.now) (elements (n ∷ []))) }
+        ensures { (n : AnyNode) → node_at cells.now.presentation.document.nodes serial ≡ Some n
+            → OnOk result (self.new.views ≡ self.old.views
+            ++ map (view_now cells.now) (elements (n ∷ []))) }
     {
         if cells.tree().kind(serial).is_element() {
             self.push(view_in(cells, serial))
@@ -159,7 +161,8 @@ pub fn view_in<T: Table>(cells: &Cells<T>, serial: u32) -> View
     requires state { IsState cells.now.presentation }
     requires settled { IsSettled cells.now }
     requires element { (e : AnyNode) × (node_at (elements cells.now.presentation.document.nodes) serial ≡ Some e) }
-    ensures { (e : AnyNode) → node_at (elements cells.now.presentation.document.nodes) serial ≡ Some e → result ≡ view_now cells.now e }
+    ensures { (e : AnyNode) → node_at (elements cells.now.presentation.document.nodes) serial
+        ≡ Some e → result ≡ view_now cells.now e }
 {
     intervals_are_near();
     reached_is_past();

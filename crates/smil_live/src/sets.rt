@@ -44,7 +44,9 @@ impl Sets {
     // Takes in the layer of an element, where it has one, of another set at another place than those before.
     fn take_in(&mut self, tree: &Tree, view: &View) -> Result<(), AllocError>
         requires { IsSome (node_at tree.now.nodes view.now.serial) }
-        ensures { (before : List (ℕ × AnyLayer)) → AreSetsOf self.old before → AreApart (and_layer before (layer_in tree.now.nodes view.now)) → OnOk result (AreSetsOf self.new (and_layer before (layer_in tree.now.nodes view.now))) }
+        ensures { (before : List (ℕ × AnyLayer)) → AreSetsOf self.old before
+            → AreApart (and_layer before (layer_in tree.now.nodes view.now))
+            → OnOk result (AreSetsOf self.new (and_layer before (layer_in tree.now.nodes view.now))) }
     {
         let Some(layer) = layer(tree, view)? else {
             return Ok(());
@@ -66,7 +68,8 @@ impl Sets {
     /// The set at a place from 0, from the top down, in the stack of an attribute of a target; None past its end. It takes no
     /// memory.
     pub fn at(&self, target: u32, attr: &[u8], k: usize) -> Option<u32>
-        ensures { (all : List (ℕ × AnyLayer)) → AreSetsOf self.now all → result ≡ slice_get (stack_of all target attr.now) k }
+        ensures { (all : List (ℕ × AnyLayer)) → AreSetsOf self.now all → result
+            ≡ slice_get (stack_of all target attr.now) k }
     {
         self.sandwich.at(target, attr, k)
     }
@@ -79,7 +82,9 @@ fn note(
     target: u32,
     name: &Bytes,
 ) -> Result<(), AllocError>
-    ensures { OnOk result ((t : ℕ) → names_in table.new.entries t ≡ (if target == t then put_name (names_in table.old.entries t) name.now else names_in table.old.entries t)) }
+    ensures { OnOk result ((t : ℕ) → names_in table.new.entries t
+        ≡ (if target == t then put_name (names_in table.old.entries t) name.now else names_in
+        table.old.entries t)) }
 {
     if let Some(names) = table.get_mut(&target) {
         return put_name(names, name);

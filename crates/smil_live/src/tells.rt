@@ -106,7 +106,8 @@ impl<T: Table> Playing<T> {
     // Appends the intervals of an element. `NoElement` where there is no such node, `BadPlace` where it is a priorityClass.
     fn put_history_of(&self, who: &Who, out: &mut Bytes) -> Result<(), Refusal>
         ensures state { OnOk result (outcome formats self.now (order.History who.now) ≡ Ok self.now) }
-        ensures told { OnOk result (out.new ≡ out.old ++ history_text self.now (node_of self.now.document.nodes who.now)) }
+        ensures told { OnOk result (out.new ≡ out.old
+            ++ history_text self.now (node_of self.now.document.nodes who.now)) }
         ensures refused { IfErr result (Refuses formats self.now (order.History who.now)) }
         ensures begins { Begins out.old out.new }
     {
@@ -122,7 +123,8 @@ impl<T: Table> Playing<T> {
     // Appends the intervals of an element.
     fn put_history_at(&self, serial: u32, out: &mut Bytes) -> Result<(), AllocError>
         requires { (who : AnyWho) × (n : AnyNode) × (element_named self.now who ≡ Ok n) × (serial ≡ n.serial) }
-        ensures told { (who : AnyWho) (n : AnyNode) → element_named self.now who ≡ Ok n → serial ≡ n.serial → OnOk result (out.new ≡ out.old ++ history_text self.now (Some n)) }
+        ensures told { (who : AnyWho) (n : AnyNode) → element_named self.now who ≡ Ok n → serial
+            ≡ n.serial → OnOk result (out.new ≡ out.old ++ history_text self.now (Some n)) }
         ensures begins { Begins out.old out.new }
     {
         let name = name_of(self.cells.tree(), serial)?;
@@ -142,7 +144,8 @@ impl<T: Table> Playing<T> {
     // Appends the sets of an attribute of a node, from the top of their stack down. `NoElement` where there is no such node.
     fn put_stack(&self, who: &Who, attr: &Bytes, out: &mut Bytes) -> Result<(), Refusal>
         ensures state { OnOk result (outcome formats self.now (order.Stack who.now attr.now) ≡ Ok self.now) }
-        ensures told { OnOk result (out.new ≡ out.old ++ stack_text self.now attr.now (node_of self.now.document.nodes who.now)) }
+        ensures told { OnOk result (out.new ≡ out.old
+            ++ stack_text self.now attr.now (node_of self.now.document.nodes who.now)) }
         ensures refused { IfErr result (Refuses formats self.now (order.Stack who.now attr.now)) }
         ensures begins { Begins out.old out.new }
     {
@@ -157,7 +160,8 @@ impl<T: Table> Playing<T> {
 
     // Appends the sets of an attribute of a node, from the top of their stack down.
     fn put_stack_at(&self, target: u32, attr: &Bytes, out: &mut Bytes) -> Result<(), AllocError>
-        ensures told { (n : AnyNode) → n.serial ≡ target → OnOk result (out.new ≡ out.old ++ stack_text self.now attr.now (Some n)) }
+        ensures told { (n : AnyNode) → n.serial ≡ target
+            → OnOk result (out.new ≡ out.old ++ stack_text self.now attr.now (Some n)) }
         ensures begins { Begins out.old out.new }
     {
         let tree = self.cells.tree();
@@ -191,7 +195,8 @@ fn put_entries(log: &Log, book: &Book, out: &mut Bytes) -> Result<(), AllocError
 // Appends each attribute that is set, targets in document order.
 fn put_all_values(tree: &Tree, sets: &Sets, out: &mut Bytes) -> Result<(), AllocError>
     requires setters { (all : List (ℕ × AnyLayer)) × AreSetsAmong tree.now.nodes sets.now all }
-    ensures told { (all : List (ℕ × AnyLayer)) → AreSetsOf sets.now all → OnOk result (out.new ≡ out.old ++ flat_map (values_on tree.now.nodes all) tree.now.nodes) }
+    ensures told { (all : List (ℕ × AnyLayer)) → AreSetsOf sets.now all
+        → OnOk result (out.new ≡ out.old ++ flat_map (values_on tree.now.nodes all) tree.now.nodes) }
     ensures begins { Begins out.old out.new }
 {
     tree.valid();
@@ -207,7 +212,8 @@ fn put_all_values(tree: &Tree, sets: &Sets, out: &mut Bytes) -> Result<(), Alloc
 fn put_values_on(tree: &Tree, sets: &Sets, target: u32, out: &mut Bytes) -> Result<(), AllocError>
     requires target { IsSome (node_at tree.now.nodes target) }
     requires setters { (all : List (ℕ × AnyLayer)) × AreSetsAmong tree.now.nodes sets.now all }
-    ensures told { (n : AnyNode) (all : List (ℕ × AnyLayer)) → n.serial ≡ target → AreSetsOf sets.now all → OnOk result (out.new ≡ out.old ++ values_on tree.now.nodes all n) }
+    ensures told { (n : AnyNode) (all : List (ℕ × AnyLayer)) → n.serial ≡ target
+        → AreSetsOf sets.now all → OnOk result (out.new ≡ out.old ++ values_on tree.now.nodes all n) }
     ensures begins { Begins out.old out.new }
 {
     for name in sets.names(target) {
@@ -226,7 +232,9 @@ fn put_top(
 ) -> Result<(), AllocError>
     requires target { IsSome (node_at tree.now.nodes target) }
     requires setters { (all : List (ℕ × AnyLayer)) × AreSetsAmong tree.now.nodes sets.now all }
-    ensures told { (all : List (ℕ × AnyLayer)) → AreSetsOf sets.now all → OnOk result (out.new ≡ out.old ++ top_text tree.now.nodes target name.now (stack_of all target name.now)) }
+    ensures told { (all : List (ℕ × AnyLayer)) → AreSetsOf sets.now all
+        → OnOk result (out.new ≡ out.old ++ top_text tree.now.nodes target name.now
+        (stack_of all target name.now)) }
     ensures err { OnErr result (out.new ≡ out.old) }
 {
     let Some(setter) = sets.at(target, name.slice(), 0) else {
@@ -251,7 +259,9 @@ fn put_layers(
     out: &mut Bytes,
 ) -> Result<(), AllocError>
     requires setters { (all : List (ℕ × AnyLayer)) × AreSetsAmong tree.now.nodes sets.now all }
-    ensures told { (all : List (ℕ × AnyLayer)) → AreSetsOf sets.now all → OnOk result (out.new ≡ out.old ++ layers_text tree.now.nodes (stack_of all target attr.now)) }
+    ensures told { (all : List (ℕ × AnyLayer)) → AreSetsOf sets.now all
+        → OnOk result (out.new ≡ out.old ++ layers_text tree.now.nodes
+        (stack_of all target attr.now)) }
     ensures begins { Begins out.old out.new }
 {
     tree.valid();

@@ -29,7 +29,8 @@ impl Told {
     /// An element to which nothing has happened yet, unless memory runs out.
     pub fn new(alloc: Global, tree: &Tree, who: u32) -> Result<Told, AllocError>
         ensures who { IfOk result (λ told. told.who ≡ who) }
-        ensures nothing { (h : History) (name : AnyWho) (start : List ℕ) → h.nodes ≡ tree.now.nodes → IfOk result (λ told. IsTold (up_to h []) name start told start) }
+        ensures nothing { (h : History) (name : AnyWho) (start : List ℕ) → h.nodes ≡ tree.now.nodes
+            → IfOk result (λ told. IsTold (up_to h []) name start told start) }
     {
         Ok(Told {
             who,
@@ -42,7 +43,9 @@ impl Told {
     pub fn follow_all(&mut self, book: &Book, name: &Who, out: &mut Bytes) -> Result<(), AllocError>
         requires may { MayTell book.now name.now self.old out.old }
         requires near { AllNear book.now }
-        ensures told { (h : History) (start : List ℕ) → h.diary ≡ book.now → IsLawful h → IsTold (up_to h []) name.now start self.old out.old → OnOk result (IsTold h name.now start self.new out.new) }
+        ensures told { (h : History) (start : List ℕ) → h.diary ≡ book.now → IsLawful h
+            → IsTold (up_to h []) name.now start self.old out.old
+            → OnOk result (IsTold h name.now start self.new out.new) }
         ensures who { self.new.who ≡ self.old.who }
         ensures begins { Begins out.old out.new }
     {
@@ -56,7 +59,9 @@ impl Told {
     fn follow(&mut self, entry: Entry, name: &Who, out: &mut Bytes) -> Result<(), AllocError>
         requires follows { MayFollow self.old.clocks entry }
         requires near { HasNear entry.step }
-        ensures told { (h : History) (start : List ℕ) → IsTold h name.now start self.old out.old → IsLawful (with_entry h entry) → OnOk result (IsTold (with_entry h entry) name.now start self.new out.new) }
+        ensures told { (h : History) (start : List ℕ) → IsTold h name.now start self.old out.old
+            → IsLawful (with_entry h entry)
+            → OnOk result (IsTold (with_entry h entry) name.now start self.new out.new) }
         ensures who { self.new.who ≡ self.old.who }
         ensures begins { Begins out.old out.new }
     {
@@ -70,8 +75,12 @@ impl Told {
     fn tell(&mut self, entry: Entry, name: &Who, out: &mut Bytes) -> Result<(), AllocError>
         requires follows { MayFollow self.old.clocks entry }
         requires near { HasNear entry.step }
-        ensures present { (h : History) → AreClocksOf self.old.clocks h → IsLawful (with_entry h entry) → self.old.present ≡ told_begin h self.old.who → self.new.present ≡ begin_after h entry self.old.who }
-        ensures text { (h : History) → AreClocksOf self.old.clocks h → IsLawful (with_entry h entry) → self.old.present ≡ told_begin h self.old.who → OnOk result (out.new ≡ out.old ++ closed_text h entry self.old.who name.now) }
+        ensures present { (h : History) → AreClocksOf self.old.clocks h
+            → IsLawful (with_entry h entry) → self.old.present ≡ told_begin h self.old.who
+            → self.new.present ≡ begin_after h entry self.old.who }
+        ensures text { (h : History) → AreClocksOf self.old.clocks h → IsLawful (with_entry h entry)
+            → self.old.present ≡ told_begin h self.old.who
+            → OnOk result (out.new ≡ out.old ++ closed_text h entry self.old.who name.now) }
         ensures who { self.new.who ≡ self.old.who }
         ensures clocks { self.new.clocks ≡ self.old.clocks }
         ensures begins { Begins out.old out.new }

@@ -34,7 +34,8 @@ pub fn read_value(alloc: Global, named: Named<'_>, value: Placed<'_>) -> Result<
     requires value { IsText value.text.now }
     requires column { IsColumn named.column }
     requires value_column { IsColumn value.column }
-    ensures { GivesReading result (attr_in_line named.entry.kind named.entry.parent named.entry.name.now value.entry.text.now named.entry.column value.entry.column) }
+    ensures { GivesReading result (attr_in_line named.entry.kind named.entry.parent
+        named.entry.name.now value.entry.text.now named.entry.column value.entry.column) }
 {
     match read_attr(alloc, named.kind, named.parent, named.name, value.text) {
         Ok(attr) => Ok(attr),

@@ -18,7 +18,7 @@ use Rattle.smil_past.specs.Queues.{kept_queues}
 use Rattle.smil_instances.specs.Instances.{IsSettled}
 use Rattle.smil_past.specs.declared.kept.Kept.{Kept}
 use Rattle.smil_past.specs.Past.{Happened, IsPossible, MayFollow}
-use Rattle.smil_past.specs.Kept.{Holds, HoldsAt, HoldsAtMark, IsKeptOf, IsLast, history_by, kept_at}
+use Rattle.smil_past.specs.Kept.{Holds, IsKeptOf, IsLast, history_by}
 
 -- ---- lists
 
@@ -78,16 +78,6 @@ taken_in document log before diary y kept is clocks plays queues instances =
       instances_are = subst (λ ds. IsSettled kept.instances document log ds) is instances;
     })
 
--- what was kept at the mark is not changed by one entry more
-pub mark_push : (document : Document) (log : List LogEntry) (diary : List Entry) (y : Entry) (kept : Kept) (marked : Option (ℕ × ℕ)) → HoldsAtMark document log diary kept marked → HoldsAtMark document log (diary ++ y ∷ []) kept marked
-mark_push document log diary y kept marked holds = λ mark is.
-    let at = holds mark is in
-    record {
-      log_within = at.log_within;
-      diary_within = omega (arith, at.diary_within, length_push diary y);
-      held = subst (λ ds. Holds document (take mark.0 log) ds kept) (sym (take-append-le mark.1 diary (y ∷ []) at.diary_within)) at.held;
-    }
-
 -- ---- the same values
 
 pub holds_by : (document : Document) (log : List LogEntry) (diary now : List Entry) (kept other : Kept) → now ≡ diary → other ≡ kept → Holds document log diary kept → Holds document log now other
@@ -96,12 +86,3 @@ holds_by document log diary now kept other is same holds =
 
 pub holds_now : (document : Document) (log : List LogEntry) (diary now : List Entry) (kept : Kept) → now ≡ diary → IsPossible document log diary → IsKeptOf kept document log now → Holds document log now kept
 holds_now document log diary now kept is possible known = record { possible = subst (IsPossible document log) (sym is) possible; kept_is = known }
-
-pub mark_by : (document : Document) (log : List LogEntry) (diary now : List Entry) (kept : Kept) (marked : Option (ℕ × ℕ)) → now ≡ diary → HoldsAtMark document log diary kept marked → HoldsAtMark document log now kept marked
-mark_by document log diary now kept marked is holds = subst (λ ds. HoldsAtMark document log ds kept marked) (sym is) holds
-
--- where a mark stands, what was kept there was noted
-pub noted_at : (document : Document) (log : List LogEntry) (diary : List Entry) (kept now : Kept) (noted : Option Kept) (marked : Option (ℕ × ℕ)) (stands : Bool) → stands ≡ is_some marked → (stands ≡ true → noted ≡ Some kept) → HoldsAtMark document log diary kept marked → HoldsAtMark document log diary (kept_at noted now) marked
-noted_at document log diary kept now noted marked stands at noting holds = λ mark is.
-    let some : stands ≡ true = at ∙ ap is_some is in
-    subst (λ n. HoldsAt document log diary (kept_at n now) mark) (sym (noting some)) (holds mark is)

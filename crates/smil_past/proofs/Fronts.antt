@@ -11,11 +11,10 @@ use Rattle.smil_model.specs.diary.Lawful.{IsLawful}
 use Rattle.smil_laws.specs.Near.{HasNear}
 use Rattle.smil_laws.specs.Cut.{IsNamedBelow}
 use Rattle.smil_stretch.proofs.Diaries.{lawful_first}
-use Rattle.smil_past.specs.Past.{IsPossible, MayFollow}
-use Rattle.smil_past.specs.declared.kept.Kept.{Kept}
-use Rattle.smil_past.specs.Kept.{HoldsAtMark, history_by}
+use Rattle.smil_past.specs.Past.{IsPossible, MayFollow, unmarked}
+use Rattle.smil_past.specs.Kept.{history_by}
 
-each_front : {A : Type 0} (P : A → Type 0) (xs ys : List A) → AllByRecursion P (xs ++ ys) → AllByRecursion P xs
+pub each_front : {A : Type 0} (P : A → Type 0) (xs ys : List A) → AllByRecursion P (xs ++ ys) → AllByRecursion P xs
 each_front P [] ys each = tt
 each_front P (x ∷ xs) ys each = (each.0, each_front P xs ys each.1)
 
@@ -24,7 +23,7 @@ each_last P [] y each = each.0
 each_last P (x ∷ xs) y each = each_last P xs y each.1
 
 -- the first entries with the one at their end are the first of the first
-front_is : {A : Type 0} (xs : List A) (len place : ℕ) (y : A) → place < len → len ≤ length xs → slice_get xs place ≡ Some y → take (place + 1) (take len xs) ≡ take place xs ++ y ∷ []
+pub front_is : {A : Type 0} (xs : List A) (len place : ℕ) (y : A) → place < len → len ≤ length xs → slice_get xs place ≡ Some y → take (place + 1) (take len xs) ≡ take place xs ++ y ∷ []
 front_is xs len place y below within at =
     let long : length (take len xs) ≡ len = length-take-le len xs within in
     sym (take-append-le (place + 1) (take len xs) (drop len xs) (omega (arith, below, long)))
@@ -33,7 +32,7 @@ front_is xs len place y below within at =
     ∙ ap (λ z. take place xs ++ z ∷ []) (get_or_from_slice_get xs place y y at)
 
 -- each of them may follow those before it
-pub follows_at : (document : Document) (log : List LogEntry) (book : List Entry) (len place : ℕ) (y : Entry) → IsPossible document log (take len book) → place < len → len ≤ length book → slice_get book place ≡ Some y → MayFollow (record { document = document; log = log; diary = take place book; marked = None }) y
+pub follows_at : (document : Document) (log : List LogEntry) (book : List Entry) (len place : ℕ) (y : Entry) → IsPossible document log (take len book) → place < len → len ≤ length book → slice_get book place ≡ Some y → MayFollow (unmarked document log (take place book)) y
 follows_at document log book len place y possible below within at =
     let front = front_is book len place y below within at in
     let whole : take (place + 1) (take len book) ++ drop (place + 1) (take len book) ≡ take len book = take-append-drop (place + 1) (take len book) in
@@ -62,7 +61,3 @@ possible_before document log diary possible = record {
   named = tt;
   few = omega arith;
 }
-
--- no mark stands
-pub no_mark : (document : Document) (log : List LogEntry) (diary : List Entry) (kept : Kept) → HoldsAtMark document log diary kept None
-no_mark document log diary kept = λ mark is. let none : ⊥ = cc in absurd none

@@ -25,7 +25,7 @@ use Rattle.smil_instances.specs.SettledTimes.{instances_of, row_of, settled_rows
 use Rattle.smil_instances.proofs.Logs.{kept_grown}
 use Rattle.smil_past.specs.declared.kept.Kept.{Kept}
 use Rattle.smil_past.specs.Past.{IsPossible}
-use Rattle.smil_past.specs.Kept.{Holds, HoldsAt, HoldsAtMark, IsKeptOf, history_by}
+use Rattle.smil_past.specs.Kept.{Holds, IsKeptOf, history_by}
 
 -- ---- what is named
 
@@ -183,48 +183,16 @@ module _ (document : Document) (log more : List LogEntry) (diary : List Entry) (
   pub holds_shorter : (kept : Kept) → Holds document (log ++ more) diary kept → Holds document log diary kept
   holds_shorter kept holds = record { possible = possible_shorter holds.possible; kept_is = kept_shorter kept holds.kept_is }
 
--- ---- at a mark
-
--- the marked part of a log is not changed by what comes after it
-pub mark_longer : (document : Document) (log more : List LogEntry) (diary : List Entry) (kept : Kept) (marked : Option (ℕ × ℕ)) → HoldsAtMark document log diary kept marked → HoldsAtMark document (log ++ more) diary kept marked
-mark_longer document log more diary kept marked holds = λ mark is.
-    let at = holds mark is in
-    record {
-      log_within = omega (arith, at.log_within, length-append log more);
-      diary_within = at.diary_within;
-      held = subst (λ l. Holds document l (take mark.1 diary) kept) (sym (take-append-le mark.0 log more at.log_within)) at.held;
-    }
-
--- nor by what was taken away, where the mark lies before it
-pub mark_shorter : (document : Document) (log more : List LogEntry) (diary : List Entry) (kept : Kept) (marked : Option (ℕ × ℕ)) → ((mark : ℕ × ℕ) → marked ≡ Some mark → mark.0 ≤ length log) → HoldsAtMark document (log ++ more) diary kept marked → HoldsAtMark document log diary kept marked
-mark_shorter document log more diary kept marked within holds = λ mark is.
-    let at = holds mark is in
-    let low = within mark is in
-    record {
-      log_within = low;
-      diary_within = at.diary_within;
-      held = subst (λ l. Holds document l (take mark.1 diary) kept) (take-append-le mark.0 log more low) at.held;
-    }
-
 -- ---- one log entry more, and one less
 
 pub heard : (document : Document) (log now : List LogEntry) (entry : LogEntry) (diary : List Entry) (kept : Kept) → now ≡ log ++ entry ∷ [] → Holds document log diary kept → Holds document now diary kept
 heard document log now entry diary kept is holds =
     subst (λ l. Holds document l diary kept) (sym is) (holds_longer document log (entry ∷ []) diary holds.possible.named kept holds)
 
-pub mark_heard : (document : Document) (log now : List LogEntry) (entry : LogEntry) (diary : List Entry) (kept : Kept) (marked : Option (ℕ × ℕ)) → now ≡ log ++ entry ∷ [] → HoldsAtMark document log diary kept marked → HoldsAtMark document now diary kept marked
-mark_heard document log now entry diary kept marked is holds =
-    subst (λ l. HoldsAtMark document l diary kept marked) (sym is) (mark_longer document log (entry ∷ []) diary kept marked holds)
-
 pub unheard : (document : Document) (log full now : List LogEntry) (entry : LogEntry) (diary : List Entry) (kept : Kept) → full ≡ log ++ entry ∷ [] → now ≡ log → NamesBelow (length log) diary → Holds document full diary kept → Holds document now diary kept
 unheard document log full now entry diary kept is cut named holds =
     subst (λ l. Holds document l diary kept) (sym cut)
     (holds_shorter document log (entry ∷ []) diary named kept (subst (λ l. Holds document l diary kept) is holds))
-
-pub mark_unheard : (document : Document) (log full now : List LogEntry) (entry : LogEntry) (diary : List Entry) (kept : Kept) (marked : Option (ℕ × ℕ)) → full ≡ log ++ entry ∷ [] → now ≡ log → ((mark : ℕ × ℕ) → marked ≡ Some mark → mark.0 ≤ length log) → HoldsAtMark document full diary kept marked → HoldsAtMark document now diary kept marked
-mark_unheard document log full now entry diary kept marked is cut within holds =
-    subst (λ l. HoldsAtMark document l diary kept marked) (sym cut)
-    (mark_shorter document log (entry ∷ []) diary kept marked within (subst (λ l. HoldsAtMark document l diary kept marked) is holds))
 
 -- what is left of a log when its last entry is taken away
 pub cut_heard : (log full now : List LogEntry) (entry : LogEntry) (place : ℕ) → full ≡ log ++ entry ∷ [] → place ≡ length log → now ≡ take place full → now ≡ log

@@ -20,3 +20,4 @@ pub mod Appended
 pub mod Copied
 pub mod Fronts
 pub mod Grown
+pub mod Seconds

@@ -138,7 +138,8 @@ pub record AreClocksAt (h : History) (clocks : List NodeClock) (moment : ℤ) : 
   pub after : last_moment h.diary ≤ℤ moment
 
 -- the history before an entry, by the document, the clocks before it, and the log
-pub record IsBefore (h : History) (y : Entry) (document : Document) (clocks : List NodeClock) (log : List LogEntry) : Type 0 where
+pub record IsBefore (h : History) (y : Entry) (document : Document) (clocks : List NodeClock)
+    (log : List LogEntry) : Type 0 where
   pub same_nodes : h.nodes ≡ document.nodes
   pub same_log : h.log ≡ log
   pub known : AreClocksOf clocks h

@@ -5,3 +5,4 @@ pub mod Queues
 pub mod Syncs
 pub mod Past
 pub mod Kept
+pub mod Chronicle

@@ -25,6 +25,10 @@ pub record Happened : Type 0 where
 abbrev pub history_of : Happened → History
 history_of past = record { nodes = past.document.nodes; log = past.log; diary = past.diary }
 
+-- what has happened, where no mark stands
+abbrev pub unmarked : Document → List LogEntry → List Entry → Happened
+unmarked document log diary = record { document = document; log = log; diary = diary; marked = None }
+
 -- the past without what came after its first entries
 abbrev pub front : Happened → ℕ → History
 front past len = record { nodes = past.document.nodes; log = past.log; diary = take len past.diary }
@@ -54,7 +58,12 @@ logged_entry place moment = record { moment = moment; step = Logged place }
 
 -- a log entry that may be heard
 pub record MayHear (past : Happened) (entry : LogEntry) : Type 0 where
-  pub lawful : IsLawful (record { nodes = past.document.nodes; log = past.log ++ entry ∷ []; diary = past.diary ++ logged_entry (length past.log) entry.moment ∷ [] })
+  pub lawful : IsLawful (record {
+    nodes = past.document.nodes;
+    log = past.log
+        ++ entry ∷ [];
+    diary = past.diary ++ logged_entry (length past.log) entry.moment ∷ [];
+  })
   pub near : AllNear past.diary
   pub named : NamesBelow (length past.log) past.diary
 
@@ -72,4 +81,10 @@ with_heard past entry = record {
 
 -- the past at the mark
 abbrev pub at_mark : Happened → ℕ × ℕ → Happened
-at_mark past mark = record { document = past.document; log = take mark.0 past.log; diary = take mark.1 past.diary; marked = None }
+at_mark past mark = record {
+  document = past.document;
+  log = take mark.0 past.log;
+  diary = take
+      mark.1 past.diary;
+  marked = None;
+}

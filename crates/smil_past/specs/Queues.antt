@@ -62,16 +62,19 @@ left nodes who queue serial = if is_child_of nodes serial who then without who (
 
 -- the element is put in the queue of its time parent
 abbrev pub paused : List Node → ℕ → (ℕ → List ℕ) → ℕ → List ℕ
-paused nodes who queue serial = if is_child_of nodes serial who then put_paused nodes who (queue serial) else queue serial
+paused nodes who queue serial = if is_child_of nodes serial who then put_paused nodes who
+    (queue serial) else queue serial
 
 abbrev pub deferred : List Node → ℕ → (ℕ → List ℕ) → ℕ → List ℕ
-deferred nodes who queue serial = if is_child_of nodes serial who then put_deferred nodes who (queue serial) else queue serial
+deferred nodes who queue serial = if is_child_of nodes serial who then put_deferred nodes who
+    (queue serial) else queue serial
 
 -- the queues of a document in which there is room for the element
 pub record HasRoom (kept : List Line) (nodes : List Node) (who : ℕ) : Type 0 where
   pub queue : ℕ → List ℕ
   pub value : kept ≡ lines nodes queue
-  pub room : (serial : ℕ) → is_child_of nodes serial who ≡ true → length (queue serial) < length (time_children nodes serial)
+  pub room : (serial : ℕ) → is_child_of nodes serial who ≡ true
+      → length (queue serial) < length (time_children nodes serial)
 
 -- the queues of all elements after a step
 abbrev pub queues_after : List Node → (ℕ → List ℕ) → Step → ℕ → List ℕ

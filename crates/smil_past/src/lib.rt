@@ -2,6 +2,7 @@
 //! the queues of excls, and the references that give a time before it has happened.
 #![tactic(auto)]
 
+mod chronicle;
 pub mod kept;
 pub mod past;
 pub mod plays;

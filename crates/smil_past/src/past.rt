@@ -8,10 +8,10 @@ ghost use Rattle.smil_past.specs.Queues.{kept_queues};
 ghost use Rattle.smil_past.specs.Syncs.{all_syncs};
 ghost use Rattle.smil_instances.specs.Instances.{IsSettled};
 ghost use Rattle.smil_diary.specs.declared.fault.BookFault.TheVariants as book_fault;
-ghost use Rattle.smil_past.specs.Kept.{kept_at};
+ghost use Rattle.smil_past.specs.Chronicle.{BacksUp, EndsAtMark, LagsIfAny, Tells, reach};
 ghost use Rattle.smil_past.specs.Past.{IsPossible, MayFollow, MayHear, history_of, with_diary, with_heard, logged_entry, at_mark};
 
-use super::kept::Kept;
+use super::chronicle::Chronicle;
 use super::plays::Plays;
 use super::queues::Queues;
 use super::syncs::Syncs;
@@ -25,32 +25,32 @@ use std::alloc::{AllocError, Global};
 use std::marker::Model;
 
 /// A document, its log and its diary so far, with the graph of the document, the clocks, the plays, the queues of excls and
-/// the instance times that these give; seen as the first three, and how long log and diary were where a mark stands. What
-/// was kept at the mark is noted before it first changes.
+/// the instance times that these give; seen as the first three, and how long log and diary were where a mark stands. A
+/// second chronicle lags behind: it has the first entries of the diary, and from the first one under a mark on those up to
+/// the mark.
 #[derive(Drop)]
 pub struct Past {
     tree: Tree,
     graph: Graph,
     syncs: Syncs,
     log: Log,
-    book: Book,
-    kept: Kept,
+    chronicle: Chronicle,
+    second: Option<Chronicle>,
     mark: Option<(usize, usize)>,
-    noted: Option<Kept>,
     alloc: Global,
 }
 
 impl Model for Past {
     ghost use Rattle.std.specs.Prelude.{◌≡◌};
     ghost use Rattle.smil_past.specs.Past.{Happened};
-    ghost use Rattle.smil_past.specs.Kept.{Holds, HoldsAtMark, kept_at};
+    ghost use Rattle.smil_past.specs.Chronicle.{BacksUp, Tells};
     ghost use Rattle.smil_past.specs.Syncs.{all_syncs};
 
     ghost Value = { Happened };
 
-    ghost view = { λ p. record { document = p.tree; log = p.log; diary = p.book; marked = p.mark } };
+    ghost view = { λ p. record { document = p.tree; log = p.log; diary = p.chronicle.book; marked = p.mark } };
 
-    ghost invariant = { λ p. (p.graph.nodes ≡ p.tree.nodes) × (p.syncs ≡ all_syncs p.tree.nodes) × Holds p.tree p.log p.book p.kept × HoldsAtMark p.tree p.log p.book (kept_at p.noted p.kept) p.mark };
+    ghost invariant = { λ p. (p.graph.nodes ≡ p.tree.nodes) × (p.syncs ≡ all_syncs p.tree.nodes) × Tells p.tree p.log p.chronicle × BacksUp p.tree p.log p.chronicle.book p.second p.mark };
 }
 
 impl Past {
@@ -62,16 +62,15 @@ impl Past {
     {
         let graph = Graph::of(alloc, &tree)?;
         let syncs = Syncs::of(alloc, &tree, &graph)?;
-        let kept = Kept::new(alloc, &tree, &graph)?;
+        let chronicle = Chronicle::new(alloc, &tree, &graph)?;
         Ok(Past {
             tree,
             graph,
             syncs,
             log,
-            book: Book::new(alloc),
-            kept,
+            chronicle,
+            second: None,
             mark: None,
-            noted: None,
             alloc,
         })
     }
@@ -86,7 +85,8 @@ impl Past {
     ) -> Result<Past, AllocError>
         requires possible { IsPossible tree log (take len book.now) }
         requires within { len ≤ length book.now }
-        ensures { IfOk result (λ past. past ≡ record { document = tree; log = log; diary = take len book.now; marked = None }) }
+        ensures { IfOk result (λ past. past
+            ≡ record { document = tree; log = log; diary = take len book.now; marked = None }) }
     {
         let mut past = Past::new(alloc, tree, log)?;
         for place in 0..len {
@@ -97,23 +97,24 @@ impl Past {
     }
 
     /// Appends an entry, which may follow what has happened. `DiaryFull` exactly where the diary is full; after a refusal all
-    /// is as before. It touches what the entry concerns alone; the first one under a mark copies what is kept.
+    /// is as before. It touches what the entry concerns alone. The first one under a mark also gives the second chronicle the
+    /// entries that it lacks, so that each entry is taken in twice; where there is no second one, it copies what is kept.
     pub fn append(&mut self, entry: Entry) -> Result<(), BookFault>
         requires { MayFollow self.old entry }
         ensures ok { OnOk result (self.new ≡ with_diary self.old (self.old.diary ++ entry ∷ [])) }
         ensures err { OnErr result (self.new ≡ self.old) }
-        ensures full { IfErr result (λ fault. fault ≡ book_fault.DiaryFull → length self.old.diary ≡ limits.DIARY_ENTRIES) }
+        ensures full { IfErr result (λ fault. fault ≡ book_fault.DiaryFull → length self.old.diary
+            ≡ limits.DIARY_ENTRIES) }
     {
-        note(&mut self.noted, self.mark.is_some(), &self.kept)?;
-        self.book.push(entry)?;
-        match self.kept.take_in(&self.tree, &self.log, &self.book, entry) {
-            Ok(()) => Ok(()),
-            Err(_) => {
-                let len = self.book.len();
-                self.book.cut_back(len - 1);
-                Err(BookFault::Memory)
-            }
-        }
+        note(
+            &mut self.second,
+            &self.tree,
+            &self.log,
+            &self.chronicle,
+            self.mark,
+        )?;
+        self.chronicle.push(&self.tree, &self.log, entry)?;
+        Ok(())
     }
 
     /// Appends an entry to the log, and to the diary that it was heard at its moment. After a refusal all is as before.
@@ -122,7 +123,8 @@ impl Past {
         requires room { length self.old.log < limits.LOG_ENTRIES }
         ensures ok { OnOk result (self.new ≡ with_heard self.old entry) }
         ensures err { OnErr result (self.new ≡ self.old) }
-        ensures full { IfErr result (λ fault. fault ≡ book_fault.DiaryFull → length self.old.diary ≡ limits.DIARY_ENTRIES) }
+        ensures full { IfErr result (λ fault. fault ≡ book_fault.DiaryFull → length self.old.diary
+            ≡ limits.DIARY_ENTRIES) }
     {
         let place = self.log.len();
         let moment = entry.moment;
@@ -139,37 +141,48 @@ impl Past {
         }
     }
 
-    /// From here on `back` comes back to this, and what `append` and `hear` change is noted before. No mark stands. It takes
-    /// no memory.
+    /// From here on `back` comes back to this. No mark stands. It takes no memory; the first entry after it may, as `append`
+    /// says.
     pub fn mark(&mut self)
         requires { self.old.marked ≡ None }
-        ensures { self.new ≡ record { document = self.old.document; log = self.old.log; diary = self.old.diary; marked = Some (length self.old.log, length self.old.diary) } }
+        ensures { self.new ≡ record {
+          document = self.old.document;
+          log = self.old.log;
+          diary =
+              self.old.diary;
+          marked = Some (length self.old.log, length self.old.diary);
+        } }
     {
-        self.mark = Some((self.log.len(), self.book.len()));
-        self.noted = None;
+        self.mark = Some((self.log.len(), self.chronicle.book.len()));
     }
 
-    /// Goes back to where the mark was made. A mark stands, and none does afterwards. It takes no memory, and time for what
-    /// changed.
+    /// Goes back to where the mark was made. A mark stands, and none does afterwards. It takes no memory. Where entries came
+    /// since, the second chronicle takes the place of the first, which is dropped, so that the next first entry under a mark
+    /// copies.
     pub fn back(&mut self)
         requires { is_some self.old.marked ≡ true }
         ensures { (mark : ℕ × ℕ) → self.old.marked ≡ Some mark → self.new ≡ at_mark self.old mark }
     {
         let (log, diary) = self.mark.take().unwrap();
         self.log.cut_back(log);
-        self.book.cut_back(diary);
-        if let Some(noted) = self.noted.take() {
-            self.kept = noted;
+        if diary < self.chronicle.book.len() {
+            self.chronicle = self.second.take().unwrap();
         }
     }
 
-    /// Lets the mark go. A mark stands, and none does afterwards. It takes no memory.
+    /// Lets the mark go, from which on the second chronicle lags behind. A mark stands, and none does afterwards. It takes no
+    /// memory.
     pub fn forget(&mut self)
         requires { is_some self.old.marked ≡ true }
-        ensures { self.new ≡ record { document = self.old.document; log = self.old.log; diary = self.old.diary; marked = None } }
+        ensures { self.new ≡ record {
+          document = self.old.document;
+          log = self.old.log;
+          diary =
+              self.old.diary;
+          marked = None;
+        } }
     {
         self.mark = None;
-        self.noted = None;
     }
 
     /// The document.
@@ -204,35 +217,35 @@ impl Past {
     pub fn book(&self) -> &Book
         ensures { result.now ≡ self.now.diary }
     {
-        &self.book
+        &self.chronicle.book
     }
 
     /// The clocks of the elements.
     pub fn clocks(&self) -> &Clocks
         ensures { AreClocksOf result.now (history_of self.now) }
     {
-        &self.kept.clocks
+        &self.chronicle.kept.clocks
     }
 
     /// The plays of the elements.
     pub fn plays(&self) -> &Plays
         ensures { result.now ≡ all_played (history_of self.now) }
     {
-        &self.kept.plays
+        &self.chronicle.kept.plays
     }
 
     /// The queues of the excls.
     pub fn queues(&self) -> &Queues
         ensures { result.now ≡ kept_queues (history_of self.now) }
     {
-        &self.kept.queues
+        &self.chronicle.kept.queues
     }
 
     /// The instance times that the diary alone gives.
     pub fn instances(&self) -> &Instances
         ensures { IsSettled result.now self.now.document self.now.log self.now.diary }
     {
-        &self.kept.instances
+        &self.chronicle.kept.instances
     }
 
     /// A copy, unless memory runs out. No mark stands. The original stays. It takes in the diary's entries anew.
@@ -242,14 +255,15 @@ impl Past {
     {
         let tree = self.tree.copy()?;
         let log = self.log.copy()?;
-        Past::of(self.alloc, tree, log, &self.book, self.book.len())
+        let book = &self.chronicle.book;
+        Past::of(self.alloc, tree, log, book, book.len())
     }
 
     /// What has happened is possible: a law for proofs, which costs nothing.
     pub fn possible(&self)
         ensures { IsPossible self.now.document self.now.log self.now.diary }
     {
-        let _kept = &self.mark;
+        let _mark = &self.mark;
     }
 }
 
@@ -264,13 +278,45 @@ fn push(past: &mut Past, entry: Entry) -> Result<(), AllocError>
     }
 }
 
-// Notes what is kept, where a mark stands and nothing was noted since.
-fn note(noted: &mut Option<Kept>, marked: bool, kept: &Kept) -> Result<(), AllocError>
-    ensures ok { OnOk result (marked ≡ true → noted.new ≡ Some (kept_at noted.old kept.now)) }
-    ensures err { OnErr result (noted.new ≡ noted.old) }
+// Where a mark stands at the end of the diary, brings the second chronicle up to it.
+fn note(
+    second: &mut Option<Chronicle>,
+    tree: &Tree,
+    log: &Log,
+    first: &Chronicle,
+    mark: Option<(usize, usize)>,
+) -> Result<(), AllocError>
+    requires tells { Tells tree.now log.now first.now }
+    requires backs_up { BacksUp tree.now log.now first.now.book second.old mark }
+    ensures backs_up { BacksUp tree.now log.now first.now.book second.new mark }
+    ensures ok { OnOk result (EndsAtMark second.new mark) }
 {
-    if marked && noted.is_none() {
-        *noted = Some(kept.copy()?);
+    let Some((_, len)) = mark else {
+        return Ok(());
+    };
+    if len < first.book.len() {
+        return Ok(());
     }
-    Ok(())
+    bring_up(second, tree, log, first)
+}
+
+// Gives the second chronicle the entries of the first that it lacks; where there is none, copies the first.
+fn bring_up(
+    second: &mut Option<Chronicle>,
+    tree: &Tree,
+    log: &Log,
+    first: &Chronicle,
+) -> Result<(), AllocError>
+    requires tells { Tells tree.now log.now first.now }
+    requires lags { LagsIfAny tree.now log.now first.now.book second.old }
+    ensures lags { LagsIfAny tree.now log.now first.now.book second.new }
+    ensures ok { OnOk result (reach second.new ≡ Some (length first.now.book)) }
+{
+    match second {
+        Some(lagging) => lagging.catch_up(tree, log, &first.book, first.book.len()),
+        None => {
+            *second = Some(first.copy()?);
+            Ok(())
+        }
+    }
 }

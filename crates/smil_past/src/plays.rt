@@ -126,7 +126,8 @@ impl Plays {
     fn take_own(&mut self, clocks: &Clocks, log: &Log, entry: Entry)
         requires moment { IsMoment entry.moment }
         requires near { HasNear entry.step }
-        ensures { (h : History) → AreClocksAt h clocks.now entry.moment → h.log ≡ log.now → IsOwnTaken h entry self.old self.new }
+        ensures { (h : History) → AreClocksAt h clocks.now entry.moment → h.log ≡ log.now
+            → IsOwnTaken h entry self.old self.new }
     {
         let Some(who) = subject(log, entry.step) else {
             return;
@@ -195,7 +196,8 @@ fn idle_rows(alloc: Global, tree: &Tree) -> Result<Vec<(u32, Played)>, AllocErro
 
 /// Puts the row of a node at the end, where it is an element.
 fn push_idle(rows: &mut Vec<(u32, Played)>, serial: u32, kind: Kind) -> Result<(), AllocError>
-    ensures { OnOk result (rows.new.items ≡ rows.old.items ++ (if is_class_kind kind then [] else (serial, IDLE) ∷ [])) }
+    ensures { OnOk result (rows.new.items ≡ rows.old.items
+        ++ (if is_class_kind kind then [] else (serial, IDLE) ∷ [])) }
 {
     if kind.is_element() {
         rows.push((serial, IDLE))?;
@@ -216,7 +218,8 @@ fn places_of(alloc: Global, rows: &[(u32, Played)]) -> Result<HashMap<u32, usize
 
 /// Notes the place of a serial, where it has none yet.
 fn note_place(places: &mut HashMap<u32, usize>, serial: u32, place: usize) -> Result<(), AllocError>
-    ensures { OnOk result ((s : ℕ) → get nat_eq places.new s ≡ option_or (get nat_eq places.old s) (if serial == s then Some place else None)) }
+    ensures { OnOk result ((s : ℕ) → get nat_eq places.new s
+        ≡ option_or (get nat_eq places.old s) (if serial == s then Some place else None)) }
 {
     if places.contains_key(&serial) {
         return Ok(());

@@ -49,7 +49,8 @@ impl Queues {
     /// The queues of a document to which nothing has happened yet, unless memory runs out: all are empty, each with room for
     /// all time children.
     pub fn new(alloc: Global, tree: &Tree) -> Result<Queues, AllocError>
-        ensures { (log : List AnyLogEntry) → IfOk result (λ queues. queues ≡ kept_queues (unplayed tree.now.nodes log)) }
+        ensures { (log : List AnyLogEntry)
+            → IfOk result (λ queues. queues ≡ kept_queues (unplayed tree.now.nodes log)) }
     {
         Ok(Queues {
             queues: empty_queues(alloc, tree)?,

@@ -65,7 +65,8 @@ impl Syncs {
 
     /// What the begin or the end items of an element wait for. It takes no memory.
     pub fn of_element(&self, who: u32, side: Edge) -> &[Syncbase]
-        ensures { (nodes : List AnyNode) (e : AnyNode) → self.now ≡ all_syncs nodes → node_at (elements nodes) who ≡ Some e → result.now ≡ syncs_of nodes side e }
+        ensures { (nodes : List AnyNode) (e : AnyNode) → self.now ≡ all_syncs nodes
+            → node_at (elements nodes) who ≡ Some e → result.now ≡ syncs_of nodes side e }
     {
         match place_of(&self.places, who) {
             Some(place) => side_at(&self.rows, place, side),
@@ -111,7 +112,8 @@ fn row_of(reader: &Reader, tree: &Tree, place: usize, who: u32) -> Result<Row, A
     requires graph { reader.now.graph.now.nodes ≡ tree.now.nodes }
     requires dependents { AreDependentsOf tree.now.nodes reader.now.dependents.now }
     requires known { IsSome (node_at tree.now.nodes who) }
-    ensures { IfOk result (λ row. (e : AnyNode) → slice_get (elements tree.now.nodes) place ≡ Some e → node_at tree.now.nodes who ≡ Some e → row ≡ sync_row tree.now.nodes e) }
+    ensures { IfOk result (λ row. (e : AnyNode) → slice_get (elements tree.now.nodes) place ≡ Some e
+        → node_at tree.now.nodes who ≡ Some e → row ≡ sync_row tree.now.nodes e) }
 {
     let attrs = tree.attrs(who);
     Ok(Row {

@@ -1,10 +1,9 @@
 -- What is counted of a session, and the status that it gives.
-use Rattle.std.proofs.Common.{◌≡◌, ℕ, ◌<◌, ◌≤◌, min, length, Bool, true, false, List, refl, ap, sym, ◌∙◌, arith}
+use Rattle.std.proofs.Common.{◌≡◌, ℕ, ◌<◌, min, Bool, true, false, List, ap, ◌∙◌, arith}
 use Rattle.std.specs.Prelude.{nat_lt}
 use Rattle.std.specs.Bool.{one_answer}
 use Rattle.smil_outside.specs.Faults.{last_count}
 use Rattle.smil_top.specs.declared.counts.Counts.{Counts}
-use Rattle.smil_top.specs.declared.status.Status.{Status}
 use Rattle.smil_top.specs.declared.status.Status.TheVariants as status
 use Rattle.smil_top.specs.Cut.{OrderLines}
 use Rattle.smil_top.specs.Transcript.{Told}

@@ -1,16 +1,15 @@
 -- A house and the session that it holds.
-use Rattle.std.proofs.Common.{◌≡◌, ◌⊎◌, ℕ, zero, suc, ◌+◌, Bool, true, false, List, [], ◌∷◌, ◌++◌, length, take, drop, Option, Some, None, Result, Ok, Err, refl, ap, sym, subst, ◌∙◌, arith, inl, inr}
-use Rattle.std.specs.Prelude.{pos, cond, map, filter, find, not, nat_lt, bytes_eq, is_some, option_map, option_and_then, slice_get, slice_set, position, if◌then◌else◌}
+use Rattle.std.proofs.Common.{◌≡◌, ◌⊎◌, ℕ, zero, suc, ◌+◌, Bool, true, false, List, [], ◌∷◌, ◌++◌, length, take, drop, Option, Some, None, Ok, Err, refl, ap, sym, subst, ◌∙◌, arith, inl, inr}
+use Rattle.std.specs.Prelude.{cond, map, find, not, nat_lt, bytes_eq, is_some, option_map, option_and_then, slice_get, slice_set, if◌then◌else◌}
 use Rattle.std.proofs.lemmas.List.{length-map}
 use Rattle.std.proofs.lemmas.Slice.Eq.{bytes_eq-Decides}
 use Rattle.smil_model.specs.declared.limits.TheConstants.{PRESENTATIONS}
-use Rattle.smil_model.specs.declared.order.Refusal.{Refusal}
 use Rattle.smil_model.specs.declared.order.Refusal.TheVariants.{NameTaken, TooManyPresentations}
 use Rattle.smil_model.specs.shown.Orders.{Presentation}
 use Rattle.smil_house.specs.declared.house.Held.{Held}
 use Rattle.smil_house.specs.House.{place_of, load_refusal, without as house_without}
-use Rattle.smil_top.specs.Session.{Named, Session, is_named, presentation_of, with_state, without, may_load}
-use Rattle.smil_top.specs.Houses.{Presentations, shown, AreApart, Holds}
+use Rattle.smil_top.specs.Session.{Named, is_named, presentation_of, with_state, without, may_load}
+use Rattle.smil_top.specs.Houses.{Presentations, shown, AreApart}
 
 abbrev Place : Type 0
 Place = Held Presentation

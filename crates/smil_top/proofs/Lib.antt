@@ -6,6 +6,7 @@ pub mod Counting
 pub mod CutLines
 pub mod Cuts
 pub mod Enough
+pub mod Evaluated
 pub mod HouseLemmas
 pub mod Inputs
 pub mod Isolated
@@ -16,6 +17,7 @@ pub mod Parted
 pub mod Retold
 pub mod Serving
 pub mod Sifted
+pub mod SumLemmas
 pub mod Summed
 pub mod Sure
 pub mod Telling

@@ -2,19 +2,17 @@
 use Rattle.std.proofs.Common.{◌≡◌, ◌⊎◌, ℕ, List, [], ◌∷◌, ◌++◌, Result, Ok, Err, refl, ap, sym, subst, ◌∙◌, inl, inr}
 use Rattle.smil_model.specs.declared.order.Refusal.{Refusal}
 use Rattle.smil_model.specs.declared.order.Refusal.TheVariants.{Memory}
-use Rattle.smil_model.specs.document.Document.{Document}
 use Rattle.smil_model.specs.document.Limits.{limits}
-use Rattle.smil_grammar.specs.declared.read.Read.{Read}
 use Rattle.smil_grammar.specs.Results.{◌>>=◌}
 use Rattle.smil_grammar.specs.Scripts.{line_of}
-use Rattle.smil_grammar.specs.Outlines.{Outline, no_lines, line_within, ended, version_of}
+use Rattle.smil_grammar.specs.Outlines.{Outline, no_lines, line_within}
 use Rattle.smil_top.specs.declared.fault.Fault.{Fault}
 use Rattle.smil_top.specs.declared.given.Given.{Given as GivenDoc}
 use Rattle.smil_top.specs.declared.load.Load.{Load}
 use Rattle.smil_top.specs.declared.given.Titled.{Titled}
 use Rattle.smil_top.specs.Cut.{Numbered, LoadLines}
-use Rattle.smil_top.specs.Answers.{Refused, Given, at_line, name_of, outline_from, given_within}
-use Rattle.smil_top.specs.Kept.{Gives, IsRead, Reads, ReadsTitle, given_at, reading_of, refused_by, with_node}
+use Rattle.smil_top.specs.Answers.{Refused, at_line, name_of, outline_from, given_within}
+use Rattle.smil_top.specs.Kept.{Gives, IsRead, Reads, ReadsTitle, given_at, reading_of, with_node}
 
 -- ---- chains of steps that may be refused
 

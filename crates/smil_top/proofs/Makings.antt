@@ -1,6 +1,6 @@
 -- What is made of an order is what it is answered.
 use Rattle.std.proofs.Common.{◌≡◌, ◌⊎◌, ℕ, zero, suc, ℤ, List, [], ◌∷◌, ◌++◌, Option, Some, None, Result, Ok, Err, refl, ap, sym, subst, ◌∙◌, inl, inr}
-use Rattle.std.specs.Prelude.{pos, map, is_some, OnErr, Bool, true, false, option_map, option_and_then, slice_get, slice_set}
+use Rattle.std.specs.Prelude.{pos, map, is_some, Bool, true, false, option_map, option_and_then, slice_get, slice_set}
 use Rattle.smil_model.specs.declared.order.Order.{Order}
 use Rattle.smil_model.specs.declared.order.Refusal.{Refusal}
 use Rattle.smil_model.specs.declared.order.Refusal.TheVariants.{Memory, NoPresentation}
@@ -11,17 +11,17 @@ use Rattle.smil_model.specs.happening.Resolution.{diary_within}
 use Rattle.smil_model.specs.shown.Orders.{Formats, Presentation, course_of, kept_where, opened, outcome}
 use Rattle.smil_model.specs.shown.Answers.{answer_text, load_text}
 use Rattle.smil_model.specs.shown.Lines.{ok_line, closed_line}
-use Rattle.smil_grammar.specs.declared.read.Read.{Read}
 use Rattle.smil_grammar.specs.Results.{◌>>=◌}
 use Rattle.smil_grammar.specs.Formats.{formats}
 use Rattle.smil_script.specs.Gives.{GivesRead}
+use Rattle.smil_live.specs.Counts.{least_number, most_number}
 use Rattle.smil_house.specs.declared.house.Held.{Held}
-use Rattle.smil_house.specs.House.{place_of, load_refusal, without as house_without, IsAt, IsTurned, IsAnsweredBy, IsKeptBy, AreKept, IsRefusedBy, IsAbsent, IsRefused}
+use Rattle.smil_house.specs.House.{place_of, load_refusal, without as house_without, IsAt, IsAnsweredBy, AreKept, IsRefused}
 use Rattle.smil_top.specs.declared.answer.Answer.{Answer as AnswerText}
-use Rattle.smil_top.specs.Session.{Named, Session, presentation_of, with_state, without, may_load}
-use Rattle.smil_top.specs.Answers.{Accepted, Given, held, ordered_within, closed, loaded_within, checked, outline_in}
+use Rattle.smil_top.specs.Session.{Session, presentation_of, with_state, without, may_load}
+use Rattle.smil_top.specs.Answers.{Accepted, Given, held, ordered_within, closed, loaded_within, checked}
 use Rattle.smil_top.specs.Houses.{Presentations, shown, AreApart, Holds}
-use Rattle.smil_top.specs.Kept.{Makes, Checks, text_of, single_by, load_by}
+use Rattle.smil_top.specs.Kept.{Makes, Checks}
 use Rattle.smil_top.proofs.HouseLemmas.{presentation-held, some-held, may_load-held, may_load-free, turned-session, turned-apart, closed-session, closed-apart, added-session, added-apart}
 
 -- a refusal of a call that reads is the reading's, unless memory ran out
@@ -75,13 +75,16 @@ itself p = p
 abbrev pub every : Presentation → Order → Bool
 every p order = true
 
-abbrev pub untold_steps : Presentation → Order → Option ℕ
-untold_steps p order = None
+abbrev pub told_least : Presentation → Order → Option ℕ
+told_least p order = Some (least_number p order)
+
+abbrev pub told_most : Presentation → Order → Option ℕ
+told_most p order = Some (most_number p order)
 
 module _ (name : List ℕ) (order : Order) (house new : Presentations) (session : Session) (number : ℕ) (holds : Holds house session) where
   -- it is accepted
   pub made-ordered : (text told : List ℕ) (rise : ℕ) (moment : ℤ) → told ≡ text →
-      IsAnsweredBy the_formats itself every untold_steps untold_steps name order house new text rise moment →
+      IsAnsweredBy the_formats itself every told_least told_most name order house new text rise moment →
       Makes (Ok tt) (record { told = told; last = ok_line number name moment }) new session (ordered_within limits session number name order)
   made-ordered text told rise moment is answered =
       let before : Presentation = answered.before.player in
@@ -114,7 +117,7 @@ module _ (name : List ℕ) (order : Order) (house new : Presentations) (session 
       let new_is : new ≡ house = turned.new_is ∙ ap (λ h. slice_set house kept.place h) same ∙ set-same house kept.place kept.before turned.at.here in
       record { session_is = holds.session_is ∙ ap (map shown) (sym new_is); apart = subst AreApart (sym new_is) holds.apart }
 
-  pub unmade-ordered : (text : AnswerText) (rise : ℕ) (refusal : Refusal) → IsRefused the_formats itself untold_steps name order house rise refusal →
+  pub unmade-ordered : (text : AnswerText) (rise : ℕ) (refusal : Refusal) → IsRefused the_formats itself told_most name order house rise refusal →
       AreKept the_formats itself every name house new →
       Makes (Err refusal) text new session (ordered_within limits session number name order)
   unmade-ordered text rise refusal (inl absent) kept = (

@@ -17,11 +17,14 @@ use Rattle.smil_outside.proofs.KnownLemmas.{Appends-nil, Appends-append, Consume
 use Rattle.smil_top.specs.declared.run.Run.{Run}
 use Rattle.smil_top.specs.declared.status.Status.{Status}
 use Rattle.smil_top.specs.declared.status.Status.TheVariants as status
+use Rattle.smil_words.specs.declared.mode.Mode.{Mode}
 use Rattle.smil_words.specs.declared.mode.Mode.TheVariants as mode
-use Rattle.smil_top.specs.Cut.{Cut, cut_of, with_line, orders, unended, whole_orders}
+use Rattle.smil_top.specs.Cut.{Cut, OrderLines, cut_of, with_line, orders, unended, whole_orders}
 use Rattle.smil_top.specs.Transcript.{Told, IsTranscriptBy, untold}
-use Rattle.smil_top.specs.Serving.{counted, status_by, status_of, IsWhole, IsCutShort, IsPart, AreFirst, IsBroken, Runs, Explains, Generates, Serves}
-use Rattle.smil_top.specs.Kept.{answering, asked_by, ended_by, IsAll, IsRunning, IsText, Tells, WritesAll, WritesPart, Writes, Goes, Answers, AnswersOrders, Ends, Ran, RunsBy}
+use Rattle.smil_top.specs.Words.{is_told}
+use Rattle.smil_top.specs.Serving.{counted, status_by, status_of, IsWhole, IsPart, AreFirst, IsBroken, Runs, Explains, Generates, Serves, reads}
+use Rattle.smil_top.specs.Evaluations.{AreEvaluated, Evaluates, EvaluatesBy}
+use Rattle.smil_top.specs.Kept.{answering, asked_by, ended_by, IsAll, IsRunning, IsText, Tells, WritesAll, WritesPart, Goes, Answers, AnswersOrders, Ends, Ran, RanCounted, RunsBy}
 use Rattle.smil_top.proofs.Cuts.{cut_of-one_more, count-cut_of, whole-first, orders-first}
 
 -- the reader has not ended, or only at the end of the input
@@ -55,7 +58,7 @@ pub record IsServing (checks : Bool) (reader : Reading) (run : Run) (before rest
   pub reading : HasRead reader before rest came answered
   pub writing : HasWritten checks run taken_before taken room left answered told
 
-pub IsServing-of : (checks : Bool) (reader : Reading) (run : Run) (before rest taken_before taken : Option (List ℕ)) (room left : ℕ) (read : IsReading reader before rest) →
+abbrev pub IsServing-of : (checks : Bool) (reader : Reading) (run : Run) (before rest taken_before taken : Option (List ℕ)) (room left : ℕ) (read : IsReading reader before rest) →
     Wrote checks run taken_before taken room left read.answered → IsServing checks reader run before rest taken_before taken room left
 IsServing-of checks reader run before rest taken_before taken room left read wrote = record {
   came = read.came;
@@ -238,6 +241,23 @@ runs_all checks false true run rest came text room at_end all = (at_end, all)
 runs_all checks true false run rest came text room at_end all = (at_end, all)
 runs_all checks false false run rest came text room at_end all = (at_end, all)
 
+-- what is said of evaluations where a session is run
+EvaluatesBy-of : (checks : Bool) (ended : Status) (came : List ℕ) (rise : ℕ) → (checks ≡ false → AreEvaluated ended (orders (lines came)) rise) →
+    EvaluatesBy (Some (asked_by checks)) ended came rise
+EvaluatesBy-of true ended came rise evaluated = tt
+EvaluatesBy-of false ended came rise evaluated = evaluated refl
+
+not_told : (ended : Status) (os : List OrderLines) (rise : ℕ) → is_told ended ≡ false → AreEvaluated ended os rise
+not_told ended os rise not told none = let e : true ≡ false = sym told ∙ not in absurd cc
+
+-- nothing is said where not all was told
+pub RanCounted-untold : {checks : Bool} {ended : Status} {run : Run} {before after taken_before taken_after : Option (List ℕ)} {room rise : ℕ} → is_told ended ≡ false →
+    Ran checks ended run before after taken_before taken_after room → RanCounted checks ended run before after taken_before taken_after room rise
+RanCounted-untold {checks} {ended} {run} {before} {after} {taken_before} {taken_after} {room} {rise} not ran = record {
+  ran = ran;
+  bounded = EvaluatesBy-of checks ended ran.came rise (λ runs. not_told ended (orders (lines ran.came)) rise not);
+}
+
 module _ (checks : Bool) (old new : Reading) (run after_run : Run) (before rest after taken_before taken taken_after : Option (List ℕ)) (room left left' : ℕ) (serving : IsServing checks old run before rest taken_before taken room left) where
   abbrev cut : Cut
   cut = cut_of serving.answered
@@ -280,6 +300,32 @@ module _ (checks : Bool) (old new : Reading) (run after_run : Run) (before rest 
       let e : Ends checks ended after_run cut serving.told taken taken_after left left' = ends checks cut serving.told serving.writing.running in
       let n = next-end old new before rest after serving.came serving.answered serving.reading nexts in
       ended-by n.0 e.result ended n.1 n.2 n.3 n.4 e.answers e.ended_is
+
+  -- these bytes came
+  ended-came : (came : List ℕ) (result : Result (Unit {0}) Failed) (ended : Status) (read : Consumes before after came) (at_end : IsAtEnd after) (lines_are : lines came ≡ serving.answered) (within : length came ≤ INPUT_BYTES)
+      (answers : AnswersOrders checks result after_run (cut.whole ++ unended cut.«open») serving.told taken taken_after left left') (is : ended ≡ ended_by result answers.more) →
+      (ended-by came result ended read at_end lines_are within answers is).came ≡ came
+  unfolding ended-by
+  ended-came came (Ok done) ended read at_end lines_are within answers is = refl
+  ended-came came (Err e) ended read at_end lines_are within answers is = refl
+
+  lines-came : (ended : Status) (nexts : Nexts old new End rest after)
+      (ends : (checks : Bool) (cut : Cut) (told : Told) → IsRunning checks run cut told → Ends checks ended after_run cut told taken taken_after left left') →
+      lines (Ran-end ended nexts ends).came ≡ serving.answered
+  unfolding Ran-end
+  lines-came ended nexts ends =
+      let e : Ends checks ended after_run cut serving.told taken taken_after left left' = ends checks cut serving.told serving.writing.running in
+      let n = next-end old new before rest after serving.came serving.answered serving.reading nexts in
+      ap lines (ended-came n.0 e.result ended n.1 n.2 n.3 n.4 e.answers e.ended_is) ∙ n.3
+
+  -- with the evaluations of its orders
+  pub RanCounted-end : (ended : Status) → Nexts old new End rest after →
+      ((checks : Bool) (cut : Cut) (told : Told) → IsRunning checks run cut told → Ends checks ended after_run cut told taken taken_after left left') →
+      (rise : ℕ) → (checks ≡ false → AreEvaluated ended (cut.whole ++ unended cut.«open») rise) → RanCounted checks ended after_run before after taken_before taken_after room rise
+  RanCounted-end ended nexts ends rise evaluated = record {
+    ran = Ran-end ended nexts ends;
+    bounded = EvaluatesBy-of checks ended (Ran-end ended nexts ends).came rise (λ runs. subst (λ zs. AreEvaluated ended (orders zs) rise) (sym (lines-came ended nexts ends)) (evaluated runs));
+  }
 
   -- the input is too long
   pub Ran-too_long : Nexts old new InputTooLong rest after → Ran checks status.InputTooLong run before after taken_before taken room
@@ -375,10 +421,29 @@ Serves-ran false ended run before after taken_before taken_after room ran = reco
   served = runs-of false ended run after ran.came ran.text room ran.runs;
 }
 
+-- the same bytes came
+came-ran : (checks : Bool) (ended : Status) (run : Run) (before after taken_before taken_after : Option (List ℕ)) (room : ℕ) (ran : Ran checks ended run before after taken_before taken_after room) →
+    (Serves-ran checks ended run before after taken_before taken_after room ran).came ≡ ran.came
+unfolding Serves-ran
+came-ran true ended run before after taken_before taken_after room ran = refl
+came-ran false ended run before after taken_before taken_after room ran = refl
+
+pub Evaluates-ran : (checks : Bool) (ended : Status) (run : Run) (before after taken_before taken_after : Option (List ℕ)) (room rise : ℕ) → RanCounted checks ended run before after taken_before taken_after room rise →
+    Evaluates (Some (asked_by checks)) ended before after taken_before taken_after room rise
+Evaluates-ran checks ended run before after taken_before taken_after room rise ran = record {
+  serves = Serves-ran checks ended run before after taken_before taken_after room ran.ran;
+  bounded = subst (λ came. EvaluatesBy (Some (asked_by checks)) ended came rise) (sym (came-ran checks ended run before after taken_before taken_after room ran.ran)) ran.bounded;
+}
+
 -- there was no memory to begin with
 pub Serves-nothing : (checks : Bool) (rest taken : Option (List ℕ)) (room : ℕ) → Serves (Some (asked_by checks)) status.Memory rest rest taken taken room
 Serves-nothing true rest taken room = record { came = []; text = []; read = Consumes-nil rest; written = Appends-nil taken; served = inl (refl, refl) }
 Serves-nothing false rest taken room = record { came = []; text = []; read = Consumes-nil rest; written = Appends-nil taken; served = inl (refl, refl) }
+
+pub Evaluates-nothing : (checks : Bool) (rest taken : Option (List ℕ)) (room rise : ℕ) → Evaluates (Some (asked_by checks)) status.Memory rest rest taken taken room rise
+Evaluates-nothing checks rest taken room rise =
+    let serves = Serves-nothing checks rest taken room in
+    record { serves = serves; bounded = EvaluatesBy-of checks status.Memory serves.came rise (λ runs. not_told status.Memory (orders (lines serves.came)) rise refl) }
 
 pub Serves-explained : (ended : Status) (rest before after : Option (List ℕ)) (room : ℕ) (text : List ℕ) → Appends before after text → Explains ended text room →
     Serves None ended rest rest before after room
@@ -387,3 +452,14 @@ Serves-explained ended rest before after room text written explains = record { c
 pub Serves-generated : (number : ℕ) (ended : Status) (rest before after : Option (List ℕ)) (room : ℕ) (text : List ℕ) → Appends before after text → Generates number ended text room →
     Serves (Some (mode.Gen number)) ended rest rest before after room
 Serves-generated number ended rest before after room text written generates = record { came = []; text = text; read = Consumes-nil rest; written = written; served = (refl, generates) }
+
+-- nothing is said of evaluations where no session is read
+pub Evaluates-unread : {asked : Option Mode} {ended : Status} {before after taken_before taken_after : Option (List ℕ)} {room rise : ℕ} → reads asked ≡ false →
+    Serves asked ended before after taken_before taken_after room → Evaluates asked ended before after taken_before taken_after room rise
+Evaluates-unread {asked} {ended} {before} {after} {taken_before} {taken_after} {room} {rise} unread serves = record { serves = serves; bounded = by asked serves.came unread }
+  where
+    by : (asked : Option Mode) (came : List ℕ) → reads asked ≡ false → EvaluatesBy asked ended came rise
+    by None came none = tt
+    by (Some mode.Run) came none = absurd cc
+    by (Some mode.Check) came none = tt
+    by (Some (mode.Gen number)) came none = tt

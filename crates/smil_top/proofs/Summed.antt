@@ -1,6 +1,6 @@
 -- The session of a number: its one transcript, and what is told of it.
-use Rattle.std.proofs.Common.{◌≡◌, ◌⊎◌, ℕ, ℤ, ◌<◌, ◌≤◌, min, length, Bool, true, false, List, [], ◌∷◌, ◌++◌, Option, Some, None, Result, Ok, Err, refl, ap, sym, subst, ◌∙◌, arith, append_assoc, inl, inr}
-use Rattle.std.specs.Prelude.{pos, map, fold, nat_abs, nat_le, unwrap_or, ◌||◌, ◌&&◌, ◌==◌, codes, bytes_eq, option_map, option_and_then, slice_get, if◌then◌else◌}
+use Rattle.std.proofs.Common.{◌≡◌, ℕ, ◌<◌, ◌≤◌, min, length, Bool, true, false, List, [], ◌∷◌, ◌++◌, Option, Some, None, Ok, Err, refl, ap, sym, ◌∙◌, arith, append_assoc, inl, inr}
+use Rattle.std.specs.Prelude.{pos, fold, nat_abs, nat_le, unwrap_or, ◌||◌, ◌&&◌, ◌==◌, codes, bytes_eq, option_map, option_and_then, slice_get, if◌then◌else◌}
 use Rattle.std.specs.Option.{option_map_or}
 use Rattle.smil_model.specs.declared.order.Refusal.TheVariants.{Memory}
 use Rattle.smil_model.specs.shown.Orders.{Presentation}
@@ -12,13 +12,13 @@ use Rattle.smil_house.specs.House.{place_of, moment_of}
 use Rattle.smil_words.specs.declared.mode.Mode.{Mode}
 use Rattle.smil_words.specs.declared.mode.Mode.TheVariants.{Run, Check, Gen}
 use Rattle.smil_words.specs.declared.mode.TheConstants.{SESSIONS}
-use Rattle.smil_words.specs.Words.{mode_of, of_one, of_two, session_number, in_range}
+use Rattle.smil_words.specs.Words.{mode_of, session_number, in_range}
 use Rattle.smil_top.specs.Cut.{OrderLines, first_line}
-use Rattle.smil_top.specs.Session.{Session, presentation_of}
+use Rattle.smil_top.specs.Session.{Session}
 use Rattle.smil_top.specs.Answers.{Answer, at_line}
 use Rattle.smil_top.specs.Transcript.{Answering, Told, untold, with_answer, is_memory, IsTranscriptBy, of_nothing, and_then, transcript_by}
 use Rattle.smil_top.specs.Summary.{moment_in}
-use Rattle.smil_top.specs.Houses.{Presentations, shown, Holds}
+use Rattle.smil_top.specs.Houses.{Presentations, Holds}
 use Rattle.smil_top.proofs.HouseLemmas.{presentation-held}
 
 -- ---- the one transcript

@@ -1,18 +1,17 @@
 -- What is told of a session that was answered to its end.
-use Rattle.std.proofs.Common.{◌≡◌, ℕ, Bool, true, false, List, [], ◌++◌, length, Option, Some, None, refl, ap, sym, subst, ◌∙◌}
+use Rattle.std.proofs.Common.{◌≡◌, ℕ, Bool, true, false, List, ◌++◌, Option, Some, None, refl, ap, sym, ◌∙◌}
 use Rattle.std.specs.Prelude.{nat_lt}
 use Rattle.std.proofs.lemmas.List.{append-nil}
 use Rattle.std.specs.Io.KnownBytes.{Consumes, IsAtEnd}
 use Rattle.smil_outside.specs.Lines.{lines}
 use Rattle.smil_gen.specs.Session.{session_text}
-use Rattle.smil_top.specs.declared.generated.Summary.{Summary}
 use Rattle.smil_top.specs.declared.run.Run.{Run}
 use Rattle.smil_top.specs.declared.status.Status.{Status}
 use Rattle.smil_top.specs.declared.status.Status.TheVariants as status
 use Rattle.smil_top.specs.Cut.{OrderLines, orders}
 use Rattle.smil_top.specs.Answers.{answer_of}
 use Rattle.smil_top.specs.Transcript.{Told, transcript_by}
-use Rattle.smil_top.specs.Summary.{session_told, session_orders, told_of, summary}
+use Rattle.smil_top.specs.Summary.{session_told, session_orders, told_of}
 use Rattle.smil_top.specs.Words.{is_told}
 use Rattle.smil_top.specs.Serving.{status_by}
 use Rattle.smil_top.specs.Kept.{IsAll, IsSummary, Ran, RunsBy, Tells}
@@ -29,7 +28,8 @@ told-all status.WriteFault run rest came text room is runs = absurd cc
 told-all status.Memory run rest came text room is runs = absurd cc
 told-all status.InputTooLong run rest came text room is runs = absurd cc
 
-no-memory : (refused memory : Bool) → is_told (status_by refused memory) ≡ true → memory ≡ false
+-- a call that has told all ran out of memory at no order
+pub no-memory : (refused memory : Bool) → is_told (status_by refused memory) ≡ true → memory ≡ false
 no-memory refused false is = refl
 no-memory true true is = absurd cc
 no-memory false true is = absurd cc

@@ -2,8 +2,7 @@
 use Rattle.std.proofs.Common.{◌≡◌, ◌⊎◌, ℕ, ◌+◌, ◌<◌, ◌≤◌, suc, min, length, Bool, true, false, List, [], ◌∷◌, ◌++◌, Option, Some, None, Result, Ok, Err, refl, ap, sym, subst, ◌∙◌, arith, inl, inr, Bor}
 use Rattle.std.proofs.lemmas.List.{append-nil, length-append}
 use Rattle.std.proofs.lemmas.List.Sums.{sum_by-append}
-use Rattle.std.specs.Prelude.{OnErr, cond, option_map, ◌||◌, ◌==◌, if◌then◌else◌}
-use Rattle.std.specs.List.{count_by}
+use Rattle.std.specs.Prelude.{cond, option_map, ◌||◌, ◌==◌, if◌then◌else◌}
 use Rattle.smil_model.specs.declared.limits.TheConstants.{LINE_BYTES}
 use Rattle.smil_model.specs.declared.order.Refusal.{Refusal}
 use Rattle.smil_model.specs.declared.order.Refusal.TheVariants.{LongLine, Memory, UnfinishedLoad}
@@ -21,10 +20,10 @@ use Rattle.smil_top.specs.declared.fault.Fault.{Fault}
 use Rattle.smil_top.specs.declared.given.Given.{Given as GivenDoc}
 use Rattle.smil_top.specs.declared.load.Load.{Load}
 use Rattle.smil_top.specs.declared.run.Run.{Run}
-use Rattle.smil_top.specs.Cut.{OrderLines, single, load as load_order, LoadLines, Cut, unended}
+use Rattle.smil_top.specs.Cut.{OrderLines, single, load as load_order, LoadLines, Cut}
 use Rattle.smil_top.specs.Session.{Session}
-use Rattle.smil_top.specs.Answers.{Accepted, Refused, Answer, Given, at_line, said_within, silent, given_within, loaded_within, checked, answer_of, check_of}
-use Rattle.smil_top.specs.Transcript.{Told, IsTranscriptBy, and_then, is_memory, with_answer}
+use Rattle.smil_top.specs.Answers.{Refused, Answer, Given, at_line, said_within, silent, given_within, loaded_within, checked}
+use Rattle.smil_top.specs.Transcript.{Told, and_then, is_memory, with_answer}
 use Rattle.smil_top.specs.Summary.{line_count}
 use Rattle.smil_top.specs.Houses.{Presentations, Holds}
 use Rattle.smil_top.specs.Kept.{answering, counted, counted_on, fault_at, given_of, line_by, load_by, refused_by, said, text_of, AreCounted, Answers, AnswersOrders, Gives, Goes, IsOpen, IsRead, IsRunning, IsText, Makes, MakesAnswer, Tells, Writes, WritesAll}

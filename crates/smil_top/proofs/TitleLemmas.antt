@@ -1,5 +1,5 @@
 -- The name that a line gives is short.
-use Rattle.std.proofs.Common.{◌≡◌, ◌⊎◌, ℕ, suc, ◌<◌, ◌≤◌, Bool, true, false, List, [], ◌∷◌, length, Option, Some, None, Result, Ok, Err, refl, ap, sym, subst, ◌∙◌, arith, inl, inr}
+use Rattle.std.proofs.Common.{◌≡◌, ℕ, ◌<◌, ◌≤◌, Bool, true, false, List, [], ◌∷◌, length, Option, Some, None, Result, Ok, Err, refl, subst, arith}
 use Rattle.std.specs.Prelude.{not, ◌&&◌, ◌==◌, nat_lt, codes, bytes_eq, if◌then◌else◌}
 use Rattle.std.specs.List.{list_any}
 use Rattle.smil_model.specs.declared.limits.TheConstants.{NAME_BYTES}
@@ -7,7 +7,7 @@ use Rattle.smil_model.specs.declared.order.Order.{Order}
 use Rattle.smil_model.specs.declared.order.Refusal.{Refusal}
 use Rattle.smil_model.specs.declared.order.Refusal.TheVariants.{NotACommand}
 use Rattle.smil_grammar.specs.declared.read.Read.{Read}
-use Rattle.smil_grammar.specs.declared.read.Read.TheVariants.{Blank, Load, Close, To}
+use Rattle.smil_grammar.specs.declared.read.Read.TheVariants.{Blank, Load, Close}
 use Rattle.smil_grammar.specs.Words.{word_len}
 use Rattle.smil_grammar.specs.Scripts.{Word, first_of, is_ended, at_end, named, or_refused, to, finish, order_line, command, is_blank, is_title, is_of_title, line_of}
 use Rattle.smil_top.specs.Kept.{HoldsTitle}

@@ -49,16 +49,31 @@ pub record Cut : Type 0 where
 -- with a line outside loads
 abbrev pub cut_outside : List OrderLines → Numbered → Cut
 cut_outside whole line =
-    if opens line.text then record { count = line.number; whole = whole; «open» = Some (record { head = line; nodes = [] }) }
+    if opens line.text then record {
+      count = line.number;
+      whole = whole;
+      «open» = Some
+          (record { head = line; nodes = [] });
+    }
     else (if is_silent line.text then record { count = line.number; whole = whole; «open» = None }
     else record { count = line.number; whole = whole ++ single line ∷ []; «open» = None })
 
 -- with a line inside a load
 abbrev pub cut_inside : List OrderLines → LoadLines → Numbered → Cut
 cut_inside whole lines line =
-    if ends line.text then record { count = line.number; whole = whole ++ load lines (Some line.number) ∷ []; «open» = None }
+    if ends line.text then record {
+      count = line.number;
+      whole = whole
+          ++ load lines (Some line.number) ∷ [];
+      «open» = None;
+    }
     else (if is_silent line.text then record { count = line.number; whole = whole; «open» = Some lines }
-    else record { count = line.number; whole = whole; «open» = Some (record lines { nodes = lines.nodes ++ line ∷ [] }) })
+    else record {
+      count = line.number;
+      whole = whole;
+      «open» = Some
+          (record lines { nodes = lines.nodes ++ line ∷ [] });
+    })
 
 abbrev pub cut_by : Option LoadLines → List OrderLines → Numbered → Cut
 cut_by None whole line = cut_outside whole line

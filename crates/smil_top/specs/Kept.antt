@@ -1,5 +1,6 @@
 -- What stands between two lines of a session.
-use Rattle.std.specs.Prelude.{Bool, true, false, ◌||◌, ◌∷◌, ◌≡◌, ◌⊎◌, ℕ, List, [], map, min, ◌<◌, ◌≤◌, ◌+◌, length, take, nat_lt, ◌++◌, Option, Some, None, Result, Ok, Err, if◌then◌else◌}
+use Rattle.std.specs.Prelude.{Bool, true, false, ◌||◌, ◌≡◌, ◌⊎◌, ℕ, List, [], min, ◌<◌, ◌≤◌, ◌+◌, ◌-◌, length, take, nat_lt, ◌++◌, Option, Some, None, Result, Ok, Err, if◌then◌else◌}
+use Rattle.std.specs.Result.{result_unwrap_or}
 use Rattle.std.specs.Io.KnownBytes.{Appends, Consumes, IsAtEnd}
 use Rattle.smil_outside.specs.declared.line.TheConstants.{INPUT_BYTES}
 use Rattle.smil_outside.specs.Lines.{lines}
@@ -7,7 +8,7 @@ use Rattle.smil_model.specs.declared.limits.TheConstants.{LINE_BYTES, NAME_BYTES
 use Rattle.smil_model.specs.declared.order.Refusal.{Refusal}
 use Rattle.smil_model.specs.declared.order.Refusal.TheVariants.{Memory}
 use Rattle.smil_model.specs.document.Limits.{limits}
-use Rattle.smil_model.specs.shown.Orders.{Presentation}
+use Rattle.smil_model.specs.shown.Answers.{MayEvaluate}
 use Rattle.smil_model.specs.shown.Lines.{refusal_line}
 use Rattle.smil_outside.specs.declared.failed.Failed.{Failed}
 use Rattle.smil_outside.specs.Faults.{last_count}
@@ -36,6 +37,7 @@ use Rattle.smil_top.specs.Transcript.{Answering, MayAnswer, Told, IsTranscriptBy
 use Rattle.smil_top.specs.declared.generated.Summary.{Summary}
 use Rattle.smil_top.specs.Summary.{line_count, session_told, summary}
 use Rattle.smil_top.specs.Serving.{Runs, status_of, status_by}
+use Rattle.smil_top.specs.Evaluations.{Bound, most, least, has_full_diary, IsBounded, EvaluatesBy}
 
 -- ---- answers
 
@@ -73,9 +75,11 @@ Makes (Ok done) text house session wanted =
 Makes (Err refusal) text house session wanted = Holds house session × ((refusal ≡ Memory) ⊎ (wanted ≡ Err refusal))
 
 -- the same of a whole order
-abbrev pub MakesAnswer : Result (Unit {0}) Fault → AnswerText → Presentations → Session → Answering → OrderLines → Type 0
+abbrev pub MakesAnswer : Result (Unit {0}) Fault → AnswerText → Presentations → Session → Answering
+    → OrderLines → Type 0
 MakesAnswer (Ok done) text house session answering order =
-    (after : Session) × Holds house after × (answering session order ≡ Ok (record { text = text_of text; session = after }))
+    (after : Session) × Holds house after
+    × (answering session order ≡ Ok (record { text = text_of text; session = after }))
 MakesAnswer (Err fault) text house session answering order =
     Holds house session × MayAnswer answering session order (Err (refused_by fault))
 
@@ -226,26 +230,31 @@ WritesAll before after room left text = Appends before after text × (room ≤ l
 
 -- a part of it from its front was, for which there was no sure room
 abbrev pub WritesPart : Option (List ℕ) → Option (List ℕ) → ℕ → List ℕ → Type 0
-WritesPart before after room text = (n : ℕ) × (n < length text) × Appends before after (take n text) × (room < length text)
+WritesPart before after room text = (n : ℕ) × (n < length text) × Appends before after (take n text)
+    × (room < length text)
 
 abbrev pub Writes : Result (Unit {0}) Failed → Option (List ℕ) → Option (List ℕ) → ℕ → ℕ → List ℕ → Type 0
 Writes (Ok done) before after room left text = WritesAll before after room left text
 Writes (Err e) before after room left text = WritesPart before after room text
 
 -- more was told, and it or a part of it was written
-pub record Goes (result : Result (Unit {0}) Failed) (told more : Told) (before after : Option (List ℕ)) (room left : ℕ) : Type 0 where
+pub record Goes (result : Result (Unit {0}) Failed) (told more : Told)
+    (before after : Option (List ℕ)) (room left : ℕ) : Type 0 where
   pub text : List ℕ
   pub text_is : more.text ≡ told.text ++ text
   pub writes : Writes result before after room left text
 
 -- behind what was told more is, which answers the orders that are whole now
-pub record Answers (checks : Bool) (result : Result (Unit {0}) Failed) (run : Run) (cut : Cut) (told : Told) (before after : Option (List ℕ)) (room left : ℕ) : Type 0 where
+pub record Answers (checks : Bool) (result : Result (Unit {0}) Failed) (run : Run) (cut : Cut)
+    (told : Told) (before after : Option (List ℕ)) (room left : ℕ) : Type 0 where
   pub more : Told
   pub goes : Goes result told more before after room left
   pub running : IsRunning checks run cut more
 
 -- the same for one order more, or for the end of the input
-pub record AnswersOrders (checks : Bool) (result : Result (Unit {0}) Failed) (run : Run) (orders : List OrderLines) (told : Told) (before after : Option (List ℕ)) (room left : ℕ) : Type 0 where
+pub record AnswersOrders (checks : Bool) (result : Result (Unit {0}) Failed) (run : Run)
+    (orders : List OrderLines) (told : Told) (before after : Option (List ℕ)) (room left : ℕ) : Type
+    0 where
   pub more : Told
   pub goes : Goes result told more before after room left
   pub tells : Tells checks run orders more
@@ -256,10 +265,38 @@ ended_by (Ok done) told = status_of told
 ended_by (Err e) told = status.WriteFault
 
 -- the input has ended, all of it is answered, and the status says how; or the write failed
-pub record Ends (checks : Bool) (ended : Status) (run : Run) (cut : Cut) (told : Told) (before after : Option (List ℕ)) (room left : ℕ) : Type 0 where
+pub record Ends (checks : Bool) (ended : Status) (run : Run) (cut : Cut) (told : Told)
+    (before after : Option (List ℕ)) (room left : ℕ) : Type 0 where
   pub result : Result (Unit {0}) Failed
   pub answers : AnswersOrders checks result run (cut.whole ++ unended cut.«open») told before after room left
   pub ended_is : ended ≡ ended_by result answers.more
+
+-- ---- evaluations
+
+-- an order that is answered so has so many evaluations: within the bounds, or none where it is refused, unless a diary
+-- is full or memory ran out
+abbrev pub IsCountedBy : {E : Type 0} → (E → Refusal) → Result (Unit {0}) E → (Bound → ℕ) → ℕ → Type 0
+IsCountedBy refusal_of (Ok done) number rise = (number least ≤ rise) × (rise ≤ number most)
+IsCountedBy refusal_of (Err e) number rise = MayEvaluate (Some (number most)) (refusal_of e) rise
+
+-- by its refusal
+abbrev pub IsCounted : Result (Unit {0}) Refusal → (Bound → Result ℕ Refusal) → ℕ → Type 0
+IsCounted answered number rise =
+    IsCountedBy (λ refusal. refusal) answered (λ bound. result_unwrap_or (number bound) 0) rise
+
+-- by its fault
+abbrev pub IsOrderCounted : Result (Unit {0}) Fault → (Bound → ℕ) → ℕ → Type 0
+IsOrderCounted answered number rise = IsCountedBy (λ fault. fault.refusal) answered number rise
+
+-- the counter was at `start` before these orders, and is at `now` behind them
+pub record HasEvaluated (counts : Counts) (orders : List OrderLines) (start now : ℕ) : Type 0 where
+  pub risen : start ≤ now
+  pub bounded : counts.memory ≡ false → has_full_diary orders ≡ false → IsBounded orders (now - start)
+
+-- behind more orders it has gone on from `before` to `after`
+abbrev pub EvaluatesOn : Counts → Counts → List OrderLines → List OrderLines → ℕ → ℕ → Type 0
+EvaluatesOn old new orders more before after =
+    (start : ℕ) → HasEvaluated old orders start before → HasEvaluated new more start after
 
 -- ---- a whole call
 
@@ -284,12 +321,19 @@ RunsBy checks status.Memory run rest came text room = IsAtEnd rest × IsAll chec
 RunsBy checks ended run rest came text room = Runs (answering checks) ended rest came text room
 
 -- what a run that has begun read and wrote
-pub record Ran (checks : Bool) (ended : Status) (run : Run) (before after taken_before taken_after : Option (List ℕ)) (room : ℕ) : Type 0 where
+pub record Ran (checks : Bool) (ended : Status) (run : Run)
+    (before after taken_before taken_after : Option (List ℕ)) (room : ℕ) : Type 0 where
   pub came : List ℕ
   pub text : List ℕ
   pub read : Consumes before after came
   pub written : Appends taken_before taken_after text
   pub runs : RunsBy checks ended run after came text room
+
+-- and how often intervals were evaluated meanwhile
+pub record RanCounted (checks : Bool) (ended : Status) (run : Run)
+    (before after taken_before taken_after : Option (List ℕ)) (room rise : ℕ) : Type 0 where
+  pub ran : Ran checks ended run before after taken_before taken_after room
+  pub bounded : EvaluatesBy (Some (asked_by checks)) ended ran.came rise
 
 -- the lines that tell of a session
 pub record IsSummary (number : ℕ) (summed : Summary) : Type 0 where

@@ -199,7 +199,8 @@ AllSameBut given answered others =
 
 -- orders with other line numbers have the same answers but for these, and leave the same session
 pub record AreAside (answering : Answering) (given : ℕ → ℕ) (tried : List Tried) : Type 0 where
-  pub answers : AllSameBut given (answered_by answering tried) (answered_by answering (map (renumbered_try given) tried))
+  pub answers : AllSameBut given (answered_by answering tried)
+      (answered_by answering (map (renumbered_try given) tried))
   pub session : (told_by answering (map (renumbered_try given) tried)).session ≡ (told_by answering tried).session
 
 -- for any numbers, within any limits

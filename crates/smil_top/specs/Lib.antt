@@ -8,3 +8,4 @@ pub mod Serving
 pub mod Houses
 pub mod Kept
 pub mod Laws
+pub mod Evaluations

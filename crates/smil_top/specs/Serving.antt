@@ -53,7 +53,8 @@ pub record IsPart (text whole : List ℕ) (room : ℕ) : Type 0 where
 abbrev pub AreFirst : List OrderLines → Option (List ℕ) → List ℕ → Type 0
 AreFirst first rest came =
     ((later : List OrderLines) × (whole_orders (whole_lines (counted came)) ≡ first ++ later))
-    ⊎ (IsAtEnd rest × (length came ≤ INPUT_BYTES) × ((later : List OrderLines) × (orders (lines came) ≡ first ++ later)))
+    ⊎ (IsAtEnd rest × (length came ≤ INPUT_BYTES)
+    × ((later : List OrderLines) × (orders (lines came) ≡ first ++ later)))
 
 -- a part of the transcript of the orders that were read first
 abbrev pub IsBroken : Answering → Option (List ℕ) → List ℕ → List ℕ → ℕ → Type 0
@@ -106,7 +107,8 @@ reads (Some mode.Check) = true
 reads _ = false
 
 -- what came from the source and went to the sink, where they tell their bytes
-pub record Serves (asked : Option Mode) (status : Status) (before after taken_before taken_after : Option (List ℕ)) (room : ℕ) : Type 0 where
+pub record Serves (asked : Option Mode) (status : Status)
+    (before after taken_before taken_after : Option (List ℕ)) (room : ℕ) : Type 0 where
   pub came : List ℕ
   pub text : List ℕ
   pub read : Consumes before after came

@@ -25,7 +25,8 @@ presentation_of name session = option_map (λ (held : Named). held.presentation)
 -- with another state of the presentation of this name
 abbrev pub with_state : List ℕ → Presentation → Session → Session
 with_state name after session =
-    map (λ (held : Named). if is_named name held then record { name = held.name; presentation = after } else held) session
+    map (λ (held : Named). if is_named name held then record
+    { name = held.name; presentation = after } else held) session
 
 -- without the presentation of this name
 abbrev pub without : List ℕ → Session → Session

@@ -45,7 +45,9 @@ with_answer told (Err fault) = record told {
 -- the orders were answered in turn, each in the session that the orders before it left
 pub data IsTranscriptBy (answering : Answering) : List OrderLines → Told → Type 0 where
   of_nothing : IsTranscriptBy answering [] untold
-  and_then : {orders : List OrderLines} {told : Told} → IsTranscriptBy answering orders told → (order : OrderLines) → (answer : Answer) → MayAnswer answering told.session order answer → IsTranscriptBy answering (orders ++ order ∷ []) (with_answer told answer)
+  and_then : {orders : List OrderLines} {told : Told} → IsTranscriptBy answering orders told
+      → (order : OrderLines) → (answer : Answer) → MayAnswer answering told.session order answer
+      → IsTranscriptBy answering (orders ++ order ∷ []) (with_answer told answer)
 
 -- of a session that is run, within limits
 abbrev pub IsTranscriptWithin : Limits → List OrderLines → Told → Type 0

@@ -57,7 +57,8 @@ impl Answer {
 
     /// Writes the text. After a fault the sink has taken a part from the front of it, and not all.
     pub fn write<K: Sink>(&self, sink: &mut K) -> Result<(), Failed>
-        ensures writes { Writes result (K.taken sink.old) (K.taken sink.new) (K.sure_room sink.old) (K.sure_room sink.new) (text_of self.now) }
+        ensures writes { Writes result (K.taken sink.old) (K.taken sink.new) (K.sure_room sink.old)
+            (K.sure_room sink.new) (text_of self.now) }
         ensures cause { OnErr result (HasRisen (K.faults sink.old) (K.faults sink.new)) }
         ensures count { K.faults sink.old ≤ K.faults sink.new }
     {

@@ -37,7 +37,8 @@ pub(crate) fn summary_of<L: Ledger>(
     steps: &mut Steps<L>,
 ) -> Result<Summary, AllocError>
     requires { number ≤ SESSIONS }
-    ensures { IfOk result (IsSummary number) }
+    ensures summary { IfOk result (IsSummary number) }
+    ensures counted { steps.old ≤ steps.new }
 {
     let bytes = session_bytes(alloc, number)?;
     let mut source = MemSource::new(alloc, bytes.slice(), CHUNK, &[])?;
@@ -73,7 +74,8 @@ fn summary_text(alloc: Global, number: u32, run: &Run) -> Result<Bytes, AllocErr
 
 // The lines of these counts and this moment, unless memory runs out.
 fn lines(alloc: Global, number: u64, counts: &Counts, moment: u64) -> Result<Bytes, AllocError>
-    ensures { IfOk result (λ text. text ≡ count_lines number counts.now.orders counts.now.refused counts.now.lines moment) }
+    ensures { IfOk result (λ text. text
+        ≡ count_lines number counts.now.orders counts.now.refused counts.now.lines moment) }
 {
     let mut out = Bytes::new(alloc);
     put_count(b"session", number, &mut out)?;

@@ -38,7 +38,8 @@ impl Load {
 
     /// Reads one more line, or one that is too long.
     pub fn push(self, line: u32, text: Option<&[u8]>) -> Load
-        ensures { (lines : LoadLines) (node : List ℕ) → IsRead self lines → IsText (option_map (λ t. t.now) text.entry) node
+        ensures { (lines : LoadLines) (node : List ℕ) → IsRead self lines
+            → IsText (option_map (λ t. t.now) text.entry) node
             → IsRead result (record lines { nodes = lines.nodes ++ record { number = line; text = node } ∷ [] }) }
     {
         let first = self.line;

@@ -1,11 +1,12 @@
 //! A session that is read to its end.
 
-ghost use Rattle.std.specs.Prelude.{◌≡◌, ◌≢◌, ◌≤◌, Bool, [], IfOk};
+ghost use Rattle.std.specs.Prelude.{◌≡◌, ◌≢◌, ◌≤◌, ◌-◌, ℕ, Bool, false, [], ◌++◌, IfOk};
 ghost use Rattle.smil_outside.specs.Faults.{HasRisen};
 ghost use Rattle.smil_outside.specs.Reading.{fresh_reading};
-ghost use Rattle.smil_top.specs.Cut.{Cut, cut_of};
+ghost use Rattle.smil_top.specs.Cut.{Cut, cut_of, unended};
 ghost use Rattle.smil_top.specs.Transcript.{Told, untold};
-ghost use Rattle.smil_top.specs.Kept.{Ends, IsRunning, Ran};
+ghost use Rattle.smil_top.specs.Evaluations.{AreEvaluated};
+ghost use Rattle.smil_top.specs.Kept.{Ends, HasEvaluated, IsRunning, Ran, RanCounted};
 
 use super::run::Run;
 use super::status::Status;
@@ -50,6 +51,10 @@ pub(crate) fn answer_all<S: Source, K: Sink, L: Ledger>(
     ensures read_count { S.faults source.old ≤ S.faults source.new }
     ensures write_count { K.faults sink.old ≤ K.faults sink.new }
     ensures sure { S.never_fails source.old → result ≢ Status.ReadFault }
+    ensures counted { steps.old ≤ steps.new }
+    ensures evaluated { (checks : Bool) → IsRunning checks run.old (cut_of []) untold
+        → RanCounted checks result run.new (S.rest source.old) (S.rest source.new)
+        (K.taken sink.old) (K.taken sink.new) (K.sure_room sink.old) (steps.new - steps.old) }
 {
     'lines: loop {
         let text = match reader.next(source) {
@@ -72,6 +77,9 @@ fn end<K: Sink>(run: &mut Run, sink: &mut K) -> Status
     ensures cause { result ≡ Status.WriteFault → HasRisen (K.faults sink.old) (K.faults sink.new) }
     ensures count { K.faults sink.old ≤ K.faults sink.new }
     ensures read { result ≢ Status.ReadFault }
+    ensures evaluated { (cut : Cut) (told : Told) (start now : ℕ) → IsRunning false run.old cut told
+        → HasEvaluated run.old.counts cut.whole start now
+        → AreEvaluated result (cut.whole ++ unended cut.«open») (now - start) }
 {
     match run.end(sink) {
         Ok(()) => run.counts.status(),

@@ -1,13 +1,14 @@
 //! A session, line by line.
 
-ghost use Rattle.std.specs.Prelude.{◌≡◌, ◌≤◌, ℕ, Bool, suc, List, ◌∷◌, ◌++◌, [], length, min, option_map, None, Some, IfOk, IfSome, OnErr};
+ghost use Rattle.std.specs.Prelude.{◌≡◌, ◌≤◌, ◌-◌, ℕ, Bool, false, suc, List, ◌∷◌, ◌++◌, [], length, min, option_map, None, Some, IfOk, IfSome, OnErr};
 ghost use Rattle.smil_outside.specs.Faults.{HasRisen, last_count};
 ghost use Rattle.smil_top.specs.Cut.{Cut, LoadLines, OrderLines, single, load as load_order, cut_of, unended, with_line};
 ghost use Rattle.smil_top.specs.Session.{Session as Presentations};
 ghost use Rattle.smil_top.specs.Summary.{line_count};
 ghost use Rattle.smil_top.specs.Transcript.{Told, untold};
 ghost use Rattle.smil_top.specs.Houses.{Holds};
-ghost use Rattle.smil_top.specs.Kept.{answering, counted, said, Answers, AnswersOrders, IsRead, IsRunning, IsText, MakesAnswer, Tells, Writes};
+ghost use Rattle.smil_top.specs.Evaluations.{Bound, number_of};
+ghost use Rattle.smil_top.specs.Kept.{answering, counted, said, Answers, AnswersOrders, EvaluatesOn, IsOrderCounted, IsRead, IsRunning, IsText, MakesAnswer, Tells, Writes};
 
 use super::answer::Answer;
 use super::counts::Counts;
@@ -58,6 +59,10 @@ impl Run {
             → Answers checks result self.new (with_line cut line) told (K.taken sink.old) (K.taken sink.new) (K.sure_room sink.old) (K.sure_room sink.new) }
         ensures cause { OnErr result (HasRisen (K.faults sink.old) (K.faults sink.new)) }
         ensures count { K.faults sink.old ≤ K.faults sink.new }
+        ensures counted { steps.old ≤ steps.new }
+        ensures evaluated { (cut : Cut) (told : Told) (line : List ℕ) → IsRunning false self.old cut told
+            → number ≡ suc cut.count → IsText (option_map (λ t. t.now) text.entry) line
+            → EvaluatesOn self.old.counts self.new.counts cut.whole (with_line cut line).whole steps.old steps.new }
     {
         match self.load.take() {
             Some(load) => self.line_inside(alloc, load, number, text, sink, steps),
@@ -77,11 +82,17 @@ impl Run {
     ) -> Result<(), Failed>
         requires short { IfSome text (λ t. length t.now ≤ LINE_BYTES) }
         requires outside { self.old.load ≡ None }
-        ensures answers { (checks : Bool) (cut : Cut) (lines : LoadLines) (told : Told) (line : List ℕ) → cut.«open» ≡ Some lines → IsRead load lines
+        ensures answers { (checks : Bool) (cut : Cut) (lines : LoadLines) (told : Told)
+            (line : List ℕ) → cut.«open» ≡ Some lines → IsRead load lines
             → Tells checks self.old cut.whole told → number ≡ suc cut.count → IsText (option_map (λ t. t.now) text.entry) line
             → Answers checks result self.new (with_line cut line) told (K.taken sink.old) (K.taken sink.new) (K.sure_room sink.old) (K.sure_room sink.new) }
         ensures cause { OnErr result (HasRisen (K.faults sink.old) (K.faults sink.new)) }
         ensures count { K.faults sink.old ≤ K.faults sink.new }
+        ensures counted { steps.old ≤ steps.new }
+        ensures evaluated { (cut : Cut) (lines : LoadLines) (told : Told) (line : List ℕ) → cut.«open» ≡ Some lines
+            → IsRead load lines → Tells false self.old cut.whole told
+            → number ≡ suc cut.count → IsText (option_map (λ t. t.now) text.entry) line
+            → EvaluatesOn self.old.counts self.new.counts cut.whole (with_line cut line).whole steps.old steps.new }
     {
         match text {
             Some(text) if ends_load(text) => self.end_load(alloc, load, number, sink, steps),
@@ -112,6 +123,11 @@ impl Run {
             → Answers checks result self.new (with_line cut line) told (K.taken sink.old) (K.taken sink.new) (K.sure_room sink.old) (K.sure_room sink.new) }
         ensures cause { OnErr result (HasRisen (K.faults sink.old) (K.faults sink.new)) }
         ensures count { K.faults sink.old ≤ K.faults sink.new }
+        ensures counted { steps.old ≤ steps.new }
+        ensures evaluated { (cut : Cut) (told : Told) (line : List ℕ) → cut.«open» ≡ None
+            → Tells false self.old cut.whole told
+            → number ≡ suc cut.count → IsText (option_map (λ t. t.now) text.entry) line
+            → EvaluatesOn self.old.counts self.new.counts cut.whole (with_line cut line).whole steps.old steps.new }
     {
         match text {
             None => self.tell(
@@ -146,6 +162,10 @@ impl Run {
         ensures load { self.new.load ≡ self.old.load }
         ensures cause { OnErr result (HasRisen (K.faults sink.old) (K.faults sink.new)) }
         ensures count { K.faults sink.old ≤ K.faults sink.new }
+        ensures counted { steps.old ≤ steps.new }
+        ensures evaluated { (whole : List OrderLines) (told : Told) → Tells false self.old whole told
+            → EvaluatesOn self.old.counts self.new.counts
+            whole (whole ++ single (record { number = number; text = text.now }) ∷ []) steps.old steps.new }
     {
         self.answer.clear();
         let answered = self
@@ -163,12 +183,18 @@ impl Run {
         sink: &mut K,
         steps: &mut Steps<L>,
     ) -> Result<(), Failed>
-        ensures answers { (checks : Bool) (whole : List OrderLines) (lines : LoadLines) (told : Told) → IsRead load lines → Tells checks self.old whole told
+        ensures answers { (checks : Bool) (whole : List OrderLines) (lines : LoadLines)
+            (told : Told) → IsRead load lines → Tells checks self.old whole told
             → AnswersOrders checks result self.new (whole ++ load_order lines (Some number) ∷ []) told
             (K.taken sink.old) (K.taken sink.new) (K.sure_room sink.old) (K.sure_room sink.new) }
         ensures load { self.new.load ≡ self.old.load }
         ensures cause { OnErr result (HasRisen (K.faults sink.old) (K.faults sink.new)) }
         ensures count { K.faults sink.old ≤ K.faults sink.new }
+        ensures counted { steps.old ≤ steps.new }
+        ensures evaluated { (whole : List OrderLines) (lines : LoadLines) (told : Told) → IsRead load lines
+            → Tells false self.old whole told
+            → EvaluatesOn self.old.counts self.new.counts
+            whole (whole ++ load_order lines (Some number) ∷ []) steps.old steps.new }
     {
         let answered = self.answer_load(alloc, load, number, steps);
         self.tell(answered, sink)
@@ -182,11 +208,17 @@ impl Run {
         number: u32,
         steps: &mut Steps<L>,
     ) -> Result<(), Fault>
-        ensures answer { (session : Presentations) (lines : LoadLines) → Holds self.old.session.house session → IsRead load lines
+        ensures answer { (session : Presentations) (lines : LoadLines)
+            → Holds self.old.session.house session → IsRead load lines
             → MakesAnswer result self.new.answer self.new.session.house session (answering self.old.session.checks) (load_order lines (Some number)) }
         ensures checks { self.new.session.checks ≡ self.old.session.checks }
         ensures load { self.new.load ≡ self.old.load }
         ensures counts { self.new.counts ≡ self.old.counts }
+        ensures counted { steps.old ≤ steps.new }
+        ensures evaluated { (session : Presentations) (lines : LoadLines) → Holds self.old.session.house session
+            → IsRead load lines → self.old.session.checks ≡ false
+            → IsOrderCounted result (λ (bound : Bound). number_of bound session (load_order lines (Some number)))
+            (steps.new - steps.old) }
     {
         let line = load.line;
         self.answer.clear();
@@ -208,6 +240,8 @@ impl Run {
             (K.taken sink.old) (K.taken sink.new) (K.sure_room sink.old) (K.sure_room sink.new) }
         ensures cause { OnErr result (HasRisen (K.faults sink.old) (K.faults sink.new)) }
         ensures count { K.faults sink.old ≤ K.faults sink.new }
+        ensures evaluated { (cut : Cut) (told : Told) (steps : ℕ) → IsRunning false self.old cut told
+            → EvaluatesOn self.old.counts self.new.counts cut.whole (cut.whole ++ unended cut.«open») steps steps }
     {
         match self.load.take() {
             Some(load) => self.tell(
@@ -223,10 +257,12 @@ impl Run {
 
     // Writes the answer of an order, and counts it.
     fn tell<K: Sink>(&mut self, answered: Result<(), Fault>, sink: &mut K) -> Result<(), Failed>
-        ensures writes { Writes result (K.taken sink.old) (K.taken sink.new) (K.sure_room sink.old) (K.sure_room sink.new) (said answered self.old.answer) }
+        ensures writes { Writes result (K.taken sink.old) (K.taken sink.new) (K.sure_room sink.old)
+            (K.sure_room sink.new) (said answered self.old.answer) }
         ensures session { self.new.session ≡ self.old.session }
         ensures load { self.new.load ≡ self.old.load }
-        ensures counts { self.new.counts ≡ counted answered (min (line_count (said answered self.old.answer)) last_count) self.old.counts }
+        ensures counts { self.new.counts ≡ counted answered
+            (min (line_count (said answered self.old.answer)) last_count) self.old.counts }
         ensures cause { OnErr result (HasRisen (K.faults sink.old) (K.faults sink.new)) }
         ensures count { K.faults sink.old ≤ K.faults sink.new }
     {

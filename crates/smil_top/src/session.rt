@@ -1,6 +1,6 @@
 //! The presentations that are held, and the answers to orders.
 
-ghost use Rattle.std.specs.Prelude.{◌≡◌, ◌≤◌, ℕ, [], length, false, IfOk};
+ghost use Rattle.std.specs.Prelude.{◌≡◌, ◌≤◌, ◌-◌, ℕ, [], length, false, IfOk};
 ghost use Rattle.smil_model.specs.declared.limits.TheConstants.{NAME_BYTES};
 ghost use Rattle.smil_model.specs.document.Limits.{limits};
 ghost use Rattle.smil_model.specs.document.Valid.{IsValid};
@@ -8,8 +8,9 @@ ghost use Rattle.smil_model.specs.shown.Answers.{IsGiven};
 ghost use Rattle.smil_script.specs.Gives.{HoldsGiven};
 ghost use Rattle.smil_top.specs.Session.{Session as Presentations};
 ghost use Rattle.smil_top.specs.Answers.{checked, closed, loaded_within, ordered_within};
+ghost use Rattle.smil_top.specs.Evaluations.{Bound, line_number, loaded_number, ordered_number, said_number};
 ghost use Rattle.smil_top.specs.Houses.{Holds};
-ghost use Rattle.smil_top.specs.Kept.{given_of, line_by, load_by, no_text, single_by, Checks, HoldsTitle, Makes};
+ghost use Rattle.smil_top.specs.Kept.{given_of, line_by, load_by, no_text, single_by, Checks, HoldsTitle, IsCounted, Makes};
 
 use super::answer::Answer;
 use super::given::Given;
@@ -56,6 +57,10 @@ impl Session {
         ensures answer { (session : Presentations) → Holds self.old.house session
             → Makes result answer.new self.new.house session (line_by self.old.checks session number line.now) }
         ensures checks { self.new.checks ≡ self.old.checks }
+        ensures counted { steps.old ≤ steps.new }
+        ensures evaluated { (session : Presentations) → Holds self.old.house session → self.old.checks ≡ false
+            → IsCounted result (λ (bound : Bound). line_number bound session line.now)
+            (steps.new - steps.old) }
     {
         match read_line(alloc, line) {
             Ok(read) => self.answer_read(number, &read, answer, steps),
@@ -77,6 +82,10 @@ impl Session {
         ensures answer { (session : Presentations) → Holds self.old.house session
             → Makes result answer.new self.new.house session (single_by self.old.checks session number read.now) }
         ensures checks { self.new.checks ≡ self.old.checks }
+        ensures counted { steps.old ≤ steps.new }
+        ensures evaluated { (session : Presentations) → Holds self.old.house session → self.old.checks ≡ false
+            → IsCounted result (λ (bound : Bound). said_number bound session read.now)
+            (steps.new - steps.old) }
     {
         if self.checks {
             return Ok(());
@@ -104,6 +113,10 @@ impl Session {
         ensures answer { (session : Presentations) → Holds self.old.house session
             → Makes result answer.new self.new.house session (ordered_within limits session number name.now order.now) }
         ensures checks { self.new.checks ≡ self.old.checks }
+        ensures counted { steps.old ≤ steps.new }
+        ensures evaluated { (session : Presentations) → Holds self.old.house session
+            → IsCounted result (λ (bound : Bound). ordered_number bound session name.now order.now)
+            (steps.new - steps.old) }
     {
         match self
             .house
@@ -149,6 +162,10 @@ impl Session {
         ensures answer { (session : Presentations) → Holds self.old.house session
             → Makes result answer.new self.new.house session (load_by self.old.checks session number (given_of given)) }
         ensures checks { self.new.checks ≡ self.old.checks }
+        ensures counted { steps.old ≤ steps.new }
+        ensures evaluated { (session : Presentations) → Holds self.old.house session → self.old.checks ≡ false
+            → IsCounted result (λ (bound : Bound). loaded_number bound session (given_of given))
+            (steps.new - steps.old) }
     {
         if self.checks {
             check(number, &given, answer)
@@ -171,6 +188,10 @@ impl Session {
         ensures answer { (session : Presentations) → Holds self.old.house session
             → Makes result answer.new self.new.house session (loaded_within limits session number (given_of given)) }
         ensures checks { self.new.checks ≡ self.old.checks }
+        ensures counted { steps.old ≤ steps.new }
+        ensures evaluated { (session : Presentations) → Holds self.old.house session
+            → IsCounted result (λ (bound : Bound). loaded_number bound session (given_of given))
+            (steps.new - steps.old) }
     {
         let Given { name, doc, .. } = given;
         if let Err(refusal) = self.house.may_load(name.slice()) {

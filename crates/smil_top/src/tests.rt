@@ -1,10 +1,14 @@
 // Sessions over memory: text in, transcript out.
 
-ghost use Rattle.std.specs.Prelude.{◌≡◌, ◌<◌};
+ghost use Rattle.std.specs.Prelude.{◌≡◌, ◌<◌, ◌≤◌, length, IfOk, IsOk, OnErr};
+ghost use Rattle.std.specs.Io.KnownBytes.{ReadConsumes, WriteAppends};
+ghost use Rattle.smil_outside.specs.Faults.{HasRisen};
 
 use crate::{Status, serve};
 use smil_model::{Bytes, Steps, WordList};
-use smil_outside::{MemSink, MemSource};
+use smil_outside::{Failed, MemSink, MemSource, Sink, Source};
+use std::alloc::Global;
+use std::cell::Cell;
 use std::marker::Brand;
 use std::process::Abort;
 use std::sync::ledger::{Blank, Ledger};
@@ -31,27 +35,33 @@ const RUN: Given<'static> = Given {
     writes: &[],
 };
 
-fn serves<R: AllocGlobal + Abort, L: Ledger>(
-    rt: &R,
+// How a call ends that counts evaluations from 0.
+fn counted<S: Source, K: Sink, L: Ledger>(
+    alloc: Global,
     blank: Blank,
-    given: &Given<'_>,
-    input: &[u8],
-    wanted: (&str, Status),
-) -> Result<(), Fail>
+    words: &WordList,
+    source: &mut S,
+    sink: &mut K,
+) -> Status
     requires name { blank.name ≡ L.name }
     requires parts { blank.parts ≡ L.parts }
     requires backed { 0 < blank.parts }
 {
-    let mut words = WordList::new(rt.alloc());
-    words.push(Bytes::of(rt.alloc(), given.word.as_bytes())?)?;
-    assert!(rt; given.chunk > 0);
-    let mut source = MemSource::new(rt.alloc(), input, given.chunk, given.reads)?;
-    let mut sink = MemSink::new(rt.alloc(), 4096, given.writes)?;
     let mut steps = Steps::<L>::new(blank);
-    let status = serve(rt.alloc(), &words, &mut source, &mut sink, &mut steps);
-    assert_eq!(rt; status, wanted.1);
-    assert_eq!(rt; sink.bytes(), wanted.0.as_bytes());
-    Ok(())
+    serve(alloc, words, source, sink, &mut steps)
+}
+
+// How a call with this word ends.
+fn status_of<R: AllocGlobal, S: Source, K: Sink>(
+    rt: &R,
+    word: &str,
+    source: &mut S,
+    sink: &mut K,
+) -> Result<Status, Fail> {
+    let mut words = WordList::new(rt.alloc());
+    words.push(Bytes::of(rt.alloc(), word.as_bytes())?)?;
+    let blank = Blank::new(1);
+    Ok(counted::<_, _, Brand>(rt.alloc(), blank, &words, source, sink))
 }
 
 fn expect<R: AllocGlobal + Abort>(
@@ -61,7 +71,13 @@ fn expect<R: AllocGlobal + Abort>(
     text: &str,
     status: Status,
 ) -> Result<(), Fail> {
-    serves::<R, Brand>(rt, Blank::new(1), given, input, (text, status))
+    assert!(rt; given.chunk > 0);
+    let mut source = MemSource::new(rt.alloc(), input, given.chunk, given.reads)?;
+    let mut sink = MemSink::new(rt.alloc(), 4096, given.writes)?;
+    let ended = status_of(rt, given.word, &mut source, &mut sink)?;
+    assert_eq!(rt; ended, status);
+    assert_eq!(rt; sink.bytes(), text.as_bytes());
+    Ok(())
 }
 
 #[test]
@@ -132,4 +148,85 @@ fn reading_faults(rt: HostRuntime) -> Result<(), Fail> {
         ! 18 not-a-command\n! 19 not-a-command\n! 20 not-a-command\n! 24 bad-outline\n0 #1 frozen 0 0 0 1\nok 25 a 0\n\
         ! 28 bad-value 11\n0 #1 frozen 0 0 0 1\nok 29 a 0\n! 30 unfinished-load\n";
     expect(&rt, &RUN, input, text, Status::Refused)
+}
+
+// A sink that tells how many bytes it has taken.
+#[derive(Drop)]
+struct Telling<'a> {
+    sink: MemSink,
+    taken: &'a Cell<usize>,
+}
+
+impl Sink for Telling<'_> {
+    ghost use Rattle.std.specs.Prelude.{Some};
+
+    ghost taken = { λ s. Some s.sink.taken };
+
+    ghost faults = { λ s. s.sink.plan.faults };
+
+    fn write(&mut self, piece: &[u8]) -> Result<usize, Failed> {
+        let len = self.sink.write(piece)?;
+        self.taken.set(self.sink.bytes().len());
+        Ok(len)
+    }
+}
+
+// A source that gives a line at a read, each only once so many bytes of answers were taken.
+#[derive(Drop)]
+struct Waiting<'a> {
+    lines: &'a [(&'a str, usize)],
+    next: usize,
+    taken: &'a Cell<usize>,
+    faults: u64,
+}
+
+impl Source for Waiting<'_> {
+    ghost use Rattle.std.specs.Prelude.{None};
+
+    ghost rest = { λ _. None };
+
+    ghost faults = { λ s. s.faults };
+
+    fn read(&mut self, buf: &mut [u8]) -> Result<usize, Failed> {
+        let Some((line, wanted)) = self.lines.get(self.next) else {
+            return Ok(0);
+        };
+        if self.taken.get() != *wanted {
+            self.faults = self.faults.saturating_add(1);
+            return Err(Failed);
+        }
+        let len = line.len().min(buf.len());
+        buf[..len].copy_from_slice(&line.as_bytes()[..len]);
+        self.next += 1;
+        Ok(len)
+    }
+}
+
+// Each answer is written before the next line is read.
+#[test]
+fn answers_before_the_next_line(rt: HostRuntime) -> Result<(), Fail> {
+    let loaded = "0 #1 active 0 3000 0 0\n0 a waiting 1000 3000 0 0\nok 1 d 0\n";
+    let lines = [
+        ("load d\n", 0),
+        ("par\n", 0),
+        ("  img id=\"a\" begin=\"1s\" dur=\"2s\"\n", 0),
+        ("%%\n", 0),
+        ("d advance 5s\n", loaded.len()),
+        ("", FIRST_TEXT.len()),
+    ];
+    let taken = Cell::new(0);
+    let mut source = Waiting {
+        lines: &lines,
+        next: 0,
+        taken: &taken,
+        faults: 0,
+    };
+    let mut sink = Telling {
+        sink: MemSink::new(rt.alloc(), 4096, &[])?,
+        taken: &taken,
+    };
+    let ended = status_of(&rt, "run", &mut source, &mut sink)?;
+    assert_eq!(rt; ended, Status::Clean);
+    assert_eq!(rt; sink.sink.bytes(), FIRST_TEXT.as_bytes());
+    Ok(())
 }

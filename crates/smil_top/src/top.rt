@@ -1,10 +1,11 @@
 //! The top call.
 
-ghost use Rattle.std.specs.Prelude.{◌≡◌, ◌≢◌, ◌≤◌, ℕ, List, Some, false};
+ghost use Rattle.std.specs.Prelude.{◌≡◌, ◌≢◌, ◌≤◌, ◌-◌, ℕ, List, Some, false};
 ghost use Rattle.std.specs.Io.KnownBytes.{Appends};
 ghost use Rattle.smil_words.specs.declared.mode.TheConstants.{SESSIONS};
 ghost use Rattle.smil_outside.specs.Faults.{HasRisen};
 ghost use Rattle.smil_words.specs.Words.{mode_of};
+ghost use Rattle.smil_top.specs.Evaluations.{Evaluates};
 ghost use Rattle.smil_top.specs.Kept.{asked_by};
 ghost use Rattle.smil_top.specs.Serving.{Explains, Generates, Serves, reads};
 
@@ -32,6 +33,10 @@ const USAGE: &[u8] = b"usage: smilplay run | smilplay check | smilplay gen N\n";
 /// Where a read fails or the input is longer than `INPUT_BYTES`, the orders that were whole before it were answered; where a
 /// write fails, a part of the transcript was written. `Memory` also comes where there is none to begin with, and then nothing
 /// was read and nothing written; and with `gen N` wherever memory runs out, and then nothing was written.
+///
+/// Where `run` answers `Clean` or `Refused` and no order was refused as `DiaryFull`, the count of evaluations rises by at
+/// least the sum of the least numbers of the orders, and by at most the sum of their greatest, each by the state in which
+/// the order is answered; a refused order, a close and a blank line have 0.
 pub fn serve<S: Source, K: Sink, L: Ledger>(
     alloc: Global,
     words: &WordList,
@@ -52,6 +57,11 @@ pub fn serve<S: Source, K: Sink, L: Ledger>(
     ensures read_count { S.faults source.old ≤ S.faults source.new }
     ensures write_count { K.faults sink.old ≤ K.faults sink.new }
     ensures sure { S.never_fails source.old → result ≢ Status.ReadFault }
+
+    // How often intervals were evaluated.
+    ensures counted { steps.old ≤ steps.new }
+    ensures evaluated { Evaluates (mode_of words.now) result (S.rest source.old) (S.rest source.new)
+        (K.taken sink.old) (K.taken sink.new) (K.sure_room sink.old) (steps.new - steps.old) }
 {
     match read_words(words) {
         Ok(Mode::Run) => session(alloc, false, source, sink, steps),
@@ -63,7 +73,8 @@ pub fn serve<S: Source, K: Sink, L: Ledger>(
 
 // Writes the usage line.
 fn explain<K: Sink>(sink: &mut K) -> Status
-    ensures explains { (text : List ℕ) × Appends (K.taken sink.old) (K.taken sink.new) text × Explains result text (K.sure_room sink.old) }
+    ensures explains { (text : List ℕ) × Appends (K.taken sink.old) (K.taken sink.new) text
+        × Explains result text (K.sure_room sink.old) }
     ensures cause { result ≡ Status.WriteFault → HasRisen (K.faults sink.old) (K.faults sink.new) }
     ensures count { K.faults sink.old ≤ K.faults sink.new }
     ensures written { result ≢ Status.ReadFault }
@@ -89,6 +100,9 @@ fn session<S: Source, K: Sink, L: Ledger>(
     ensures read_count { S.faults source.old ≤ S.faults source.new }
     ensures write_count { K.faults sink.old ≤ K.faults sink.new }
     ensures sure { S.never_fails source.old → result ≢ Status.ReadFault }
+    ensures counted { steps.old ≤ steps.new }
+    ensures evaluated { Evaluates (Some (asked_by checks)) result (S.rest source.old) (S.rest source.new)
+        (K.taken sink.old) (K.taken sink.new) (K.sure_room sink.old) (steps.new - steps.old) }
 {
     match begin(alloc, checks) {
         Ok(mut begun) => answer_all(alloc, begun.reader, &mut begun.run, source, sink, steps),
@@ -104,10 +118,12 @@ fn generated<K: Sink, L: Ledger>(
     steps: &mut Steps<L>,
 ) -> Status
     requires { number ≤ SESSIONS }
-    ensures generates { (text : List ℕ) × Appends (K.taken sink.old) (K.taken sink.new) text × Generates number result text (K.sure_room sink.old) }
+    ensures generates { (text : List ℕ) × Appends (K.taken sink.old) (K.taken sink.new) text
+        × Generates number result text (K.sure_room sink.old) }
     ensures cause { result ≡ Status.WriteFault → HasRisen (K.faults sink.old) (K.faults sink.new) }
     ensures count { K.faults sink.old ≤ K.faults sink.new }
     ensures written { result ≢ Status.ReadFault }
+    ensures counted { steps.old ≤ steps.new }
 {
     let Ok(summary) = summary_of(alloc, number, steps) else {
         return Status::Memory;

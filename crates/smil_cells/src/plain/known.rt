@@ -105,7 +105,8 @@ impl Known {
     /// What comes by a key: of the row at its place the begin or end where that has this key, else
     /// the repeat. It takes no memory.
     pub fn coming(&self, key: Key) -> Option<Coming>
-        ensures { (row : AnyRow) → slice_get self.now key.position ≡ Some row → IsChosen key row.comings.moved row.comings.repeat result }
+        ensures { (row : AnyRow) → slice_get self.now key.position ≡ Some row
+            → IsChosen key row.comings.moved row.comings.repeat result }
     {
         let row = self.rows.get(key.position as usize)?;
         chosen(key, row.comings)
@@ -138,7 +139,8 @@ fn empty_rows(alloc: Global, tree: &Tree) -> Result<Vec<Row>, AllocError>
 
 // Puts the row of a node at the end, where it is an element.
 fn push_empty(rows: &mut Vec<Row>, serial: u32, kind: Kind) -> Result<(), AllocError>
-    ensures { OnOk result (rows.new.items ≡ rows.old.items ++ (if is_class_kind kind then [] else row_without serial ∷ [])) }
+    ensures { OnOk result (rows.new.items ≡ rows.old.items
+        ++ (if is_class_kind kind then [] else row_without serial ∷ [])) }
 {
     if kind.is_element() {
         rows.push(Row {
@@ -166,7 +168,8 @@ fn places_of(alloc: Global, rows: &[Row]) -> Result<HashMap<u32, usize>, AllocEr
 
 // Notes the place of a serial, where it has none yet.
 fn note_place(places: &mut HashMap<u32, usize>, serial: u32, place: usize) -> Result<(), AllocError>
-    ensures { OnOk result ((s : ℕ) → get nat_eq places.new s ≡ option_or (get nat_eq places.old s) (if serial == s then Some place else None)) }
+    ensures { OnOk result ((s : ℕ) → get nat_eq places.new s
+        ≡ option_or (get nat_eq places.old s) (if serial == s then Some place else None)) }
 {
     if places.contains_key(&serial) {
         return Ok(());

@@ -47,7 +47,8 @@ pub fn own(clocks: &Clocks, log: &Log, entry: Entry, who: u32, row: Played) -> P
     requires moment { IsMoment entry.moment }
     requires near { HasNear entry.step }
     requires on { subject_of log.now entry.step ≡ Some who }
-    ensures { (h : History) → AreClocksAt h clocks.now entry.moment → h.log ≡ log.now → result ≡ own_after h entry who row }
+    ensures { (h : History) → AreClocksAt h clocks.now entry.moment → h.log ≡ log.now → result
+        ≡ own_after h entry who row }
 {
     match entry.step {
         Step::Began { begin, .. } => began(clocks, entry.moment, who, begin, row),
@@ -167,7 +168,8 @@ fn closed(
     shown_finish: i64,
     was_cut: bool,
 ) -> Option<PastInterval>
-    ensures { (h : History) (s : ℕ) (m : ℤ) → shown_finish ≡ document_time h s finish m → result ≡ closed h s m finish was_cut begun shown_begun }
+    ensures { (h : History) (s : ℕ) (m : ℤ) → shown_finish ≡ document_time h s finish m → result
+        ≡ closed h s m finish was_cut begun shown_begun }
 {
     match (begun, shown_begun) {
         (Some(begin), Some(shown_begin)) => Some(PastInterval {

@@ -52,7 +52,8 @@ fn class_of(tree: &Tree, serial: u32) -> Class
 fn class_by(tree: &Tree, class: u32) -> Class
     requires known { IsSome (node_at tree.now.nodes class) }
     requires kind { has_kind is_class_kind (node_at tree.now.nodes class) ≡ true }
-    ensures { (s : ℕ) → class_node tree.now.nodes s ≡ node_at tree.now.nodes class → result ≡ class_facts tree.now.nodes s }
+    ensures { (s : ℕ) → class_node tree.now.nodes s ≡ node_at tree.now.nodes class → result
+        ≡ class_facts tree.now.nodes s }
 {
     let attrs = tree.attrs(class);
     Class {

@@ -57,7 +57,8 @@ pub fn first_at(queues: &[Queue], tree: &Tree, who: u32) -> Option<u32>
 pub fn take_in(queues: &mut [Queue], classes: &[Class], tree: &Tree, step: Step)
     requires classes { classes.now ≡ classes_in tree.now.nodes }
     requires may { (h : History) × MayTakeIn queues.old tree.now.nodes step h }
-    ensures { (h : History) → MayTakeIn queues.old tree.now.nodes step h → queues.new ≡ lines tree.now.nodes (queues_after tree.now.nodes (queue_of h) step) }
+    ensures { (h : History) → MayTakeIn queues.old tree.now.nodes step h → queues.new
+        ≡ lines tree.now.nodes (queues_after tree.now.nodes (queue_of h) step) }
 {
     match step {
         Step::Began { who, .. } => {

@@ -30,7 +30,10 @@ pub fn begin_syncs(
     begin: &Option<Items>,
 ) -> Result<Vec<Syncbase>, AllocError>
     requires { AreDependentsOf reader.now.graph.now.nodes reader.now.dependents.now }
-    ensures { IfOk result (λ syncs. (e : AnyNode) → slice_get (elements reader.now.graph.now.nodes) place ≡ Some e → node_at (elements reader.now.graph.now.nodes) who ≡ Some e → e.attrs.begin ≡ begin.now → syncs.items ≡ syncs_of reader.now.graph.now.nodes edge.Begin e) }
+    ensures { IfOk result (λ syncs. (e : AnyNode)
+        → slice_get (elements reader.now.graph.now.nodes) place ≡ Some e
+        → node_at (elements reader.now.graph.now.nodes) who ≡ Some e → e.attrs.begin ≡ begin.now
+        → syncs.items ≡ syncs_of reader.now.graph.now.nodes edge.Begin e) }
 {
     match begin {
         Some(items) => list_syncs(reader, place, who, Edge::Begin, items),
@@ -46,7 +49,10 @@ pub fn end_syncs(
     end: &Option<Items>,
 ) -> Result<Vec<Syncbase>, AllocError>
     requires { AreDependentsOf reader.now.graph.now.nodes reader.now.dependents.now }
-    ensures { IfOk result (λ syncs. (e : AnyNode) → slice_get (elements reader.now.graph.now.nodes) place ≡ Some e → node_at (elements reader.now.graph.now.nodes) who ≡ Some e → e.attrs.«end» ≡ end.now → syncs.items ≡ syncs_of reader.now.graph.now.nodes edge.End e) }
+    ensures { IfOk result (λ syncs. (e : AnyNode)
+        → slice_get (elements reader.now.graph.now.nodes) place ≡ Some e
+        → node_at (elements reader.now.graph.now.nodes) who ≡ Some e → e.attrs.«end» ≡ end.now
+        → syncs.items ≡ syncs_of reader.now.graph.now.nodes edge.End e) }
 {
     match end {
         Some(items) => list_syncs(reader, place, who, Edge::End, items),
@@ -63,7 +69,9 @@ fn list_syncs(
     items: &Items,
 ) -> Result<Vec<Syncbase>, AllocError>
     requires { AreDependentsOf reader.now.graph.now.nodes reader.now.dependents.now }
-    ensures { IfOk result (λ syncs. (e : AnyNode) → IsListOf reader.now.graph.now.nodes place who side e items.now → syncs.items ≡ syncs_of reader.now.graph.now.nodes side e) }
+    ensures { IfOk result (λ syncs. (e : AnyNode)
+        → IsListOf reader.now.graph.now.nodes place who side e items.now → syncs.items
+        ≡ syncs_of reader.now.graph.now.nodes side e) }
 {
     let mut syncs = Vec::new(reader.alloc);
     for item in 0..items.len() {
@@ -83,7 +91,9 @@ fn list_syncs(
 // `indefinite` in a child of an excl, whose source is nothing.
 fn default_syncs(reader: &Reader, place: usize) -> Result<Vec<Syncbase>, AllocError>
     requires { AreDependentsOf reader.now.graph.now.nodes reader.now.dependents.now }
-    ensures { IfOk result (λ syncs. (e : AnyNode) → slice_get (elements reader.now.graph.now.nodes) place ≡ Some e → e.attrs.begin ≡ None → syncs.items ≡ syncs_of reader.now.graph.now.nodes edge.Begin e) }
+    ensures { IfOk result (λ syncs. (e : AnyNode)
+        → slice_get (elements reader.now.graph.now.nodes) place ≡ Some e → e.attrs.begin ≡ None
+        → syncs.items ≡ syncs_of reader.now.graph.now.nodes edge.Begin e) }
 {
     let source = reader.dependents.source(Cell {
         row: place,

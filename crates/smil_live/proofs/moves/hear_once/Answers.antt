@@ -2,6 +2,7 @@ use Rattle.std.proofs.Common.{refl, sym, subst}
 use Rattle.smil_model.specs.shown.Orders.{IsState, Presentation}
 use Rattle.smil_cells.specs.Standing.{with_logged}
 use Rattle.smil_live.specs.declared.moves.Move.TheVariants as move
+use Rattle.smil_live.proofs.Edited.{on_ok_always}
 use Rattle.smil_live.proofs.Going.{shown_behind, told_behind}
 use Rattle.smil_live.proofs.Standings.{made_is_state, nothing_before}
 use Rattle.smil_live.proofs.moves.hear_once.Goals as goal
@@ -24,3 +25,9 @@ pub returns-in-Ok-clause-told : goal.returns-in-Ok-clause-told
 returns-in-Ok-clause-told g c =
     told_behind c.put_touched.result c.args.cells.now c.hear.new.self (with_logged c.args.cells.now.presentation c.args.entry) c.args.seen.now.views c.args.out.now c.put_touched.new.out c.in-Ok.ensures.state refl
     c.requires.shown.views_are c.requires.shown.settled c.in-Ok.ensures.settled c.put_touched.ensures.told
+
+pub returns-in-Ok-clause-most : goal.returns-in-Ok-clause-most
+returns-in-Ok-clause-most g c = on_ok_always c.put_touched.result c.in-Ok.ensures.most
+
+pub returns-in-Ok-clause-least : goal.returns-in-Ok-clause-least
+returns-in-Ok-clause-least g c = on_ok_always c.put_touched.result c.in-Ok.ensures.least

@@ -1,12 +1,14 @@
-use Rattle.std.proofs.Common.{◌≡◌, refl, sym, ◌∙◌, subst, arith, ◌-◌, ◌≤◌, ◌++◌, ◌≤ℤ◌, ℕ, ℤ, pos, nat_abs, w64, to_z, of_z, FitsSigned}
-use Rattle.std.specs.Prelude.{negsuc}
+use Rattle.std.proofs.Common.{◌≡◌, refl, sym, ◌∙◌, subst, arith, ◌-◌, ◌++◌, ◌≤ℤ◌, ℕ, ℤ, pos, nat_abs, w64, to_z, of_z, FitsSigned}
+use Rattle.std.specs.Prelude.{OnOk, negsuc}
 use Rattle.std.proofs.lemmas.Int.{ints, to_z-of_z}
 use Rattle.std.proofs.lemmas.Result.{on_ok_weaker}
 use Rattle.smil_model.specs.declared.times.TheConstants.{HORIZON}
 use Rattle.smil_model.specs.shown.Orders.{changes_between, changes_through}
 use Rattle.smil_cells.specs.Standing.{moved_to}
 use Rattle.smil_live.specs.Moves.{IsShownAt, IsTooFull, text_of}
+use Rattle.smil_live.proofs.Counted.{IsCounted, counted_first, counted_last, counted_then}
 use Rattle.smil_live.proofs.Onward.{arrives, begins_itself, begins_then, comes_nearer, due_from, passes_on, sets_out, too_full_then}
+use Rattle.smil_live.proofs.moves.pass_through.Given.{Over}
 use Rattle.smil_live.proofs.moves.pass_through.Goals as goal
 
 fits : (a : ℕ) (z : ℤ) → pos a ≤ℤ z → z ≤ℤ HORIZON → FitsSigned w64 z
@@ -15,9 +17,6 @@ fits a (negsuc k) from within = absurd (omega (arith, ints, from))
 
 not_above : (x y z : ℤ) → x ≤ℤ y → y ≤ℤ z → x ≤ℤ z
 not_above x y z p q = omega (arith, ints, p, q)
-
-no_fewer : (a b c : ℕ) → a ≤ b → b ≤ c → a ≤ c
-no_fewer a b c p q = omega (arith, p, q)
 
 pub loop-due-init : goal.loop-due-init
 loop-due-init g c =
@@ -29,7 +28,7 @@ loop-due-init g c =
       refl,
       refl,
       begins_itself c.args.out.now,
-      omega arith,
+      counted_first g.T.Table.counts s c.args.steps.now,
     )
 
 pub settle_once-requires-clause-may : goal.settle_once-requires-clause-may
@@ -86,7 +85,8 @@ loop-due-preserved g c =
       e.marked ∙ v.3,
       e.before ∙ v.4,
       begins_then c.args.out.now c.loop-due.out c.settle_once.new.out v.5 e.begins,
-      no_fewer c.args.steps.now c.loop-due.steps c.settle_once.new.steps v.6 e.counted,
+      counted_then g.T.Table.counts c.args.cells.now s c.settle_once.new.cells _ c.settle_once.new.seen c.args.steps.now c.loop-due.steps c.settle_once.new.steps v.0.presentation_is v.6 e.counted e.ok
+          e.goes_on e.most e.least,
     )
 
 pub returns-clause-told : goal.returns-clause-told
@@ -99,3 +99,18 @@ returns-clause-told g c =
     subst (λ (x : ℤ). c.settle_once-2.new.out ≡ c.args.out.now ++ text_of p (changes_through p (nat_abs x - p.now))) (to_z-of_z w64 c.args.to c.ranges.to)
     (arrives p c.args.out.now to c.loop-due.cells c.loop-due.seen c.loop-due.out v.0 c.in_default.ensures.none c.settle_once-2.new.cells c.settle_once-2.new.seen c.settle_once-2.new.out q))
     c.settle_once-2.ensures.told
+
+counted : (g : Over) (c : goal.After-settle_once-2 g) → OnOk c.settle_once-2.result (IsCounted g.T.Table.counts c.args.cells.now c.settle_once-2.new.cells c.args.steps.now c.settle_once-2.new.steps)
+counted g c =
+    let v = c.loop-due.invariant in
+    let e = c.settle_once-2.ensures in
+    counted_last c.settle_once-2.result g.T.Table.counts c.args.cells.now c.loop-due.cells c.settle_once-2.new.cells _ c.settle_once-2.new.seen c.args.steps.now c.loop-due.steps c.settle_once-2.new.steps
+    v.0.presentation_is v.6 e.counted e.ok e.goes_on e.most e.least
+
+pub returns-clause-most : goal.returns-clause-most
+returns-clause-most g c =
+    on_ok_weaker c.settle_once-2.result (λ (is : IsCounted g.T.Table.counts c.args.cells.now c.settle_once-2.new.cells c.args.steps.now c.settle_once-2.new.steps). is.most) (counted g c)
+
+pub returns-clause-least : goal.returns-clause-least
+returns-clause-least g c =
+    on_ok_weaker c.settle_once-2.result (λ (is : IsCounted g.T.Table.counts c.args.cells.now c.settle_once-2.new.cells c.args.steps.now c.settle_once-2.new.steps). is.least) (counted g c)

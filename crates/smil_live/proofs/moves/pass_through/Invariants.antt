@@ -1,7 +1,8 @@
-use Rattle.std.proofs.Common.{◌≡◌, ◌≤◌, ◌-◌}
+use Rattle.std.proofs.Common.{◌≡◌, ◌-◌}
 use Rattle.std.specs.Prelude.{nat_abs, ◌≤ℤ◌}
 use Rattle.smil_model.specs.declared.times.TheConstants.{HORIZON}
 use Rattle.smil_report.specs.Words.{Begins}
+use Rattle.smil_live.proofs.Counted.{IsCounted}
 use Rattle.smil_live.proofs.Onward.{IsPassing}
 use Rattle.smil_live.proofs.moves.pass_through.Given as goal
 
@@ -13,7 +14,7 @@ invariant-loop-due g l =
     × (l.cells.marked ≡ l.initial.cells.marked)
     × (l.seen.before ≡ l.initial.seen.before)
     × Begins l.initial.out l.out
-    × (l.initial.steps ≤ l.steps)
+    × IsCounted g.T.Table.counts l.initial.cells l.cells l.initial.steps l.steps
 
 abbrev pub decreases-loop-due : goal.decreases-loop-due
 decreases-loop-due g l = nat_abs l.to - l.cells.presentation.now

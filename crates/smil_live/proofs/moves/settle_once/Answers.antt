@@ -3,6 +3,7 @@ use Rattle.std.proofs.lemmas.Int.{to_z-of_z}
 use Rattle.smil_model.specs.shown.Orders.{IsState, Presentation}
 use Rattle.smil_cells.specs.Standing.{moved_to}
 use Rattle.smil_live.specs.declared.moves.Move.TheVariants as move
+use Rattle.smil_live.proofs.Edited.{on_ok_always}
 use Rattle.smil_live.proofs.Going.{shown_behind, told_behind}
 use Rattle.smil_live.proofs.Standings.{made_is_state}
 use Rattle.smil_live.proofs.moves.settle_once.Goals as goal
@@ -26,3 +27,12 @@ returns-in-Ok-clause-told g c =
     let is = c.in-Ok.ensures.state ∙ ap (λ (z : ℤ). moved_to p (nat_abs z)) (to_z-of_z w64 c.args.to c.ranges.to) in
     told_behind c.put_touched.result c.args.cells.now c.settle.new.self (moved_to p (nat_abs c.args.to)) c.args.seen.now.views c.args.out.now c.put_touched.new.out is refl c.requires.shown.views_are
     c.requires.shown.settled c.in-Ok.ensures.settled c.put_touched.ensures.told
+
+pub returns-in-Ok-clause-goes_on : goal.returns-in-Ok-clause-goes_on
+returns-in-Ok-clause-goes_on g c = on_ok_always c.put_touched.result c.in-Ok.ensures.goes_on
+
+pub returns-in-Ok-clause-most : goal.returns-in-Ok-clause-most
+returns-in-Ok-clause-most g c = on_ok_always c.put_touched.result c.in-Ok.ensures.most
+
+pub returns-in-Ok-clause-least : goal.returns-in-Ok-clause-least
+returns-in-Ok-clause-least g c = on_ok_always c.put_touched.result c.in-Ok.ensures.least

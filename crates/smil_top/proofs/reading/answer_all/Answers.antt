@@ -1,7 +1,10 @@
-use Rattle.std.proofs.Common.{ℕ, List, [], ◌∷◌, ◌++◌, Option, Some, Bor, ap, sym, subst, ◌∙◌, arith, inl, inr}
+use Rattle.std.proofs.Common.{ℕ, ◌-◌, List, [], ◌∷◌, ◌++◌, Option, Some, Bor, false, refl, ap, sym, subst, ◌∙◌, arith, inl, inr}
 use Rattle.std.specs.Prelude.{option_map}
 use Rattle.smil_top.specs.Cut.{cut_of}
-use Rattle.smil_top.proofs.Serving.{Nexts, Nexts-of, Hands, next-line, fault-open, HasRead, HasRead-fresh, IsServing-of, Wrote-fresh, Wrote-next, Ran-end, Ran-too_long, Ran-fault, Ran-unwritten}
+use Rattle.smil_top.specs.Transcript.{untold}
+use Rattle.smil_top.specs.Kept.{IsRunning}
+use Rattle.smil_top.proofs.Evaluated.{evaluated-fresh, evaluated-next}
+use Rattle.smil_top.proofs.Serving.{Nexts, Nexts-of, Hands, next-line, fault-open, HasRead, HasRead-fresh, IsServing-of, Wrote-fresh, Wrote-next, RanCounted-end, RanCounted-untold, Ran-too_long, Ran-fault, Ran-unwritten}
 use Rattle.smil_top.proofs.Writing.{on-err, risen-from}
 use Rattle.smil_top.proofs.reading.answer_all.Goals as goal
 use Rattle.smil_top.proofs.reading.answer_all.Goals.{in-Bytes, in-LongLine}
@@ -21,10 +24,12 @@ lines-init g c =
       reads = omega arith;
       writes = omega arith;
       sure = λ never. never;
+      steps = omega arith;
+      evaluated = λ begun. evaluated-fresh c.args.run.now.counts c.args.steps.now;
     }
 
-pub returns-in-End-clause-ran : goal.returns-in-End-clause-ran
-returns-in-End-clause-ran g c checks begun =
+pub returns-in-End-clause-evaluated : goal.returns-in-End-clause-evaluated
+returns-in-End-clause-evaluated g c checks begun =
     let rest = g.S.Source.rest in
     let read = c.lines.invariant.read in
     let e = c.next.ensures in
@@ -41,7 +46,7 @@ returns-in-End-clause-ran g c checks begun =
     (g.K.Sink.sure_room c.lines.sink)
     read
     (c.lines.invariant.wrote checks begun) in
-    Ran-end
+    RanCounted-end
     checks
     c.lines.reader
     c.next.new.self
@@ -60,6 +65,13 @@ returns-in-End-clause-ran g c checks begun =
     c.end.result
     (subst (λ a. Nexts c.lines.reader c.next.new.self a (rest c.lines.source) (rest c.next.new.source)) c.in-End.is nexts)
     c.end.ensures.ends
+    (c.lines.steps - c.args.steps.now)
+    (λ runs. c.end.ensures.evaluated (cut_of read.answered) serving.told c.args.steps.now c.lines.steps
+    (subst (λ k. IsRunning k c.lines.run (cut_of read.answered) serving.told) runs serving.writing.running)
+    (c.lines.invariant.evaluated (subst (λ k. IsRunning k c.args.run.now (cut_of []) untold) runs begun)))
+
+pub returns-in-End-clause-ran : goal.returns-in-End-clause-ran
+returns-in-End-clause-ran g c checks begun = (returns-in-End-clause-evaluated g c checks begun).ran
 
 pub returns-in-InputTooLong-clause-ran : goal.returns-in-InputTooLong-clause-ran
 returns-in-InputTooLong-clause-ran g c checks begun =
@@ -99,6 +111,9 @@ returns-in-InputTooLong-clause-ran g c checks begun =
     serving
     (subst (λ a. Nexts c.lines.reader c.next.new.self a (rest c.lines.source) (rest c.next.new.source)) c.in-InputTooLong.is nexts)
 
+pub returns-in-InputTooLong-clause-evaluated : goal.returns-in-InputTooLong-clause-evaluated
+returns-in-InputTooLong-clause-evaluated g c checks begun = RanCounted-untold refl (returns-in-InputTooLong-clause-ran g c checks begun)
+
 pub returns-in-ReadFault-clause-ran : goal.returns-in-ReadFault-clause-ran
 returns-in-ReadFault-clause-ran g c checks begun =
     let rest = g.S.Source.rest in
@@ -136,6 +151,9 @@ returns-in-ReadFault-clause-ran g c checks begun =
     left
     serving
     (subst (λ a. Nexts c.lines.reader c.next.new.self a (rest c.lines.source) (rest c.next.new.source)) c.in-ReadFault.is nexts)
+
+pub returns-in-ReadFault-clause-evaluated : goal.returns-in-ReadFault-clause-evaluated
+returns-in-ReadFault-clause-evaluated g c checks begun = RanCounted-untold refl (returns-in-ReadFault-clause-ran g c checks begun)
 
 pub returns-in-ReadFault-clause-read_cause : goal.returns-in-ReadFault-clause-read_cause
 returns-in-ReadFault-clause-read_cause g c = λ same.
@@ -192,6 +210,9 @@ returns-then-is_err-clause-ran g c checks begun =
     (sym c.is_err.ensures.value ∙ c.if-is_err.true)
     a
 
+pub returns-then-is_err-clause-evaluated : goal.returns-then-is_err-clause-evaluated
+returns-then-is_err-clause-evaluated g c checks begun = RanCounted-untold refl (returns-then-is_err-clause-ran g c checks begun)
+
 pub lines-preserved : goal.lines-preserved
 lines-preserved g c =
     let rest = g.S.Source.rest in
@@ -235,6 +256,16 @@ lines-preserved g c =
       reads = omega (arith, c.lines.invariant.reads, e.count);
       writes = omega (arith, c.lines.invariant.writes, c.line.ensures.count);
       sure = λ never. (e.sure (c.lines.invariant.sure never)).0;
+      steps = omega (arith, c.lines.invariant.steps, c.line.ensures.counted);
+      evaluated = λ begun.
+          let w = c.lines.invariant.wrote false begun in
+          evaluated-next
+          c.line.new.self.counts
+          read.answered
+          n.1
+          c.args.steps.now
+          c.line.new.steps
+          (c.line.ensures.evaluated (cut_of read.answered) w.0 n.1 w.1.running (c.number.ensures.value ∙ n.4) n.3 c.args.steps.now (c.lines.invariant.evaluated begun));
     }
 
 pub returns-then-is_err-clause-write_cause : goal.returns-then-is_err-clause-write_cause

@@ -1,12 +1,12 @@
-use Rattle.std.proofs.Common.{◌-◌, ◌≤◌, Bool, []}
+use Rattle.std.proofs.Common.{◌-◌, ◌≤◌, Bool, false, []}
 use Rattle.smil_outside.specs.declared.line.TheConstants.{INPUT_BYTES}
 use Rattle.smil_top.specs.Cut.{cut_of}
 use Rattle.smil_top.specs.Transcript.{untold}
-use Rattle.smil_top.specs.Kept.{IsRunning}
+use Rattle.smil_top.specs.Kept.{HasEvaluated, IsRunning}
 use Rattle.smil_top.proofs.Serving.{IsReading, Wrote}
 use Rattle.smil_top.proofs.reading.answer_all.Given as goal
 
--- the lines so far are read and answered; counts of faults only rise
+-- the lines so far are read and answered; counts of faults and of evaluations only rise
 abbrev pub invariant-lines : goal.invariant-lines
 invariant-lines g l = record {
   read : IsReading l.reader (g.S.Source.rest l.fn.source) (g.S.Source.rest l.source);
@@ -14,6 +14,8 @@ invariant-lines g l = record {
   reads : g.S.Source.faults l.fn.source ≤ g.S.Source.faults l.source;
   writes : g.K.Sink.faults l.fn.sink ≤ g.K.Sink.faults l.sink;
   sure : g.S.Source.never_fails l.fn.source → g.S.Source.never_fails l.source;
+  steps : l.fn.steps ≤ l.steps;
+  evaluated : IsRunning false l.fn.run (cut_of []) untold → HasEvaluated l.run.counts (cut_of read.answered).whole l.fn.steps l.steps;
 }
 
 -- each line has a number of its own, up to the limit

@@ -1,5 +1,9 @@
-use Rattle.std.proofs.Common.{Ok, Err, refl, ◌∙◌, sym}
+use Rattle.std.proofs.Common.{◌-◌, List, ◌++◌, Ok, Err, refl, ◌∙◌, sym, subst}
 use Rattle.std.specs.Prelude.{nat_lt}
+use Rattle.smil_top.specs.declared.status.Status.{Status}
+use Rattle.smil_top.specs.Cut.{OrderLines, unended}
+use Rattle.smil_top.specs.Evaluations.{AreEvaluated}
+use Rattle.smil_top.proofs.Evaluated.{evaluated-all}
 use Rattle.smil_top.proofs.Counting.{no_read_fault, ended-status}
 use Rattle.smil_top.proofs.reading.end.Goals as goal
 
@@ -21,3 +25,10 @@ returns-in-Err-clause-ends g c checks cut told running = record {
 
 pub returns-in-Ok-clause-read : goal.returns-in-Ok-clause-read
 returns-in-Ok-clause-read g c = λ is. no_read_fault (nat_lt 0 c.end.new.self.counts.refused) c.end.new.self.counts.memory (sym c.status.ensures ∙ is)
+
+pub returns-in-Ok-clause-evaluated : goal.returns-in-Ok-clause-evaluated
+returns-in-Ok-clause-evaluated g c cut told start now running evaluated =
+    let counts = c.end.new.self.counts in
+    let orders : List OrderLines = cut.whole ++ unended cut.«open» in
+    subst (λ (s : Status). AreEvaluated s orders (now - start)) (sym c.status.ensures)
+    (evaluated-all counts orders start now (nat_lt 0 counts.refused) (c.in-Ok.ensures.evaluated cut told now running start evaluated))

@@ -1,9 +1,9 @@
-use Rattle.std.proofs.Common.{◌≡◌, Option, Some, None, ap, sym, subst, ◌∙◌}
+use Rattle.std.proofs.Common.{◌≡◌, Option, Some, ap, sym, subst, ◌∙◌}
 use Rattle.smil_words.specs.declared.mode.Mode.{Mode}
 use Rattle.smil_words.specs.declared.mode.Mode.TheVariants as mode
 use Rattle.smil_words.specs.Words.{mode_of}
-use Rattle.smil_top.specs.Serving.{Serves}
-use Rattle.smil_top.proofs.Serving.{Serves-explained, Serves-generated}
+use Rattle.smil_top.specs.Serving.{Serves, reads}
+use Rattle.smil_top.proofs.Serving.{Evaluates-unread, Serves-explained, Serves-generated}
 use Rattle.smil_top.proofs.top.serve.Goals as goal
 
 pub returns-in-Ok-Gen-clause-serves : goal.returns-in-Ok-Gen-clause-serves
@@ -26,3 +26,11 @@ returns-in-Err-clause-serves g c =
     let e = c.explain.ensures.explains in
     subst (λ (m : Option Mode). Serves m c.explain.result rest rest before after room) c.in-Err.ensures
     (Serves-explained c.explain.result rest before after room e.0 e.1 e.2)
+
+pub returns-in-Ok-Gen-clause-evaluated : goal.returns-in-Ok-Gen-clause-evaluated
+returns-in-Ok-Gen-clause-evaluated g c =
+    let is : Some (mode.Gen c.in-Ok-Gen.number) ≡ mode_of c.args.words.now = ap (λ (m : Mode). Some m) (sym c.in-Ok-Gen.field-0-is) ∙ c.in-Ok-Gen.ensures in
+    Evaluates-unread (ap reads (sym is)) (returns-in-Ok-Gen-clause-serves g c)
+
+pub returns-in-Err-clause-evaluated : goal.returns-in-Err-clause-evaluated
+returns-in-Err-clause-evaluated g c = Evaluates-unread (ap reads (sym c.in-Err.ensures)) (returns-in-Err-clause-serves g c)

@@ -1,48 +1,42 @@
-use Rattle.std.proofs.Common.{◌≡◌, ◌≤ℤ◌, ℤ, pos, ap, ◌∙◌, w64, to_z, of_z, sym, subst, arith}
-use Rattle.std.specs.Prelude.{IfErr, IfOk}
-use Rattle.std.proofs.lemmas.Int.{ints}
+use Rattle.std.proofs.Common.{subst, ℕ}
+use Rattle.std.specs.Prelude.{IfErr, IfOk, OnOk, ◌-◌, ◌≤◌}
 use Rattle.smil_model.specs.shown.Orders.{IsState, Presentation}
+use Rattle.smil_cells.specs.Standing.{WhereTold}
 use Rattle.smil_live.specs.Moves.{IsReplayed, IsTooFull}
-use Rattle.smil_live.proofs.Edited.{edited_state, moment_kept, on_ok_always, replay_is}
+use Rattle.smil_live.proofs.AgreedCells.{edited_count, edited_is, edited_rebuild, edited_stands, edited_way}
+use Rattle.smil_live.proofs.Edited.{edited_state, on_ok_always}
 use Rattle.smil_live.proofs.playing.Playing.edited_cells.Goals as goal
 
-pub replayed-requires-clause-state : goal.replayed-requires-clause-state
-replayed-requires-clause-state g c =
-    let state : IsState c.args.self.now = subst IsState c.self.view_is c.self.invariant.shown_is.state in
-    let now = moment_kept c.args.self.now c.moment.result state (c.moment.ensures ∙ ap (λ (p : Presentation). pos p.now) c.self.view_is) in
-    subst IsState
-    (sym (replay_is c.args.self.now c.in_ok-doc.doc c.args.edited.now c.log-log.result.now c.len.result (to_z w64 (of_z w64 c.moment.result)) c.in_ok-doc.ensures.doc
-    (c.log-log.ensures ∙ ap (λ (p : Presentation). p.log) c.self.view_is) c.len.ensures now))
-    (edited_state c.args.self.now c.args.edited.now state c.valid.ensures)
+pub cells_with-requires-clause-state : goal.cells_with-requires-clause-state
+cells_with-requires-clause-state g c =
+    edited_stands c.self.inside.cells c.self.inside.seen c.self.invariant c.args.self.now c.self.view_is c.in_ok-doc.doc c.args.edited.now c.in_ok-doc.ensures.doc c.in_ok-doc.ensures.valid c.args.site c.requires c.in_ok-len.len c.in_ok-len.ensures
 
-pub replayed-requires-clause-from : goal.replayed-requires-clause-from
-replayed-requires-clause-from g c =
-    let state : IsState c.args.self.now = subst IsState c.self.view_is c.self.invariant.shown_is.state in
-    let now : to_z w64 (of_z w64 c.moment.result) ≡ pos c.args.self.now.now = moment_kept c.args.self.now c.moment.result state (c.moment.ensures ∙ ap (λ (p : Presentation). pos p.now) c.self.view_is) in
-    subst (λ (z : ℤ). pos 0 ≤ℤ z) (sym now) (omega (arith, ints))
+pub cells_with-requires-clause-rebuild : goal.cells_with-requires-clause-rebuild
+cells_with-requires-clause-rebuild g c =
+    edited_rebuild c.self.inside.cells c.self.inside.seen c.self.invariant c.args.self.now c.self.view_is c.in_ok-doc.doc c.args.edited.now c.in_ok-doc.ensures.doc c.in_ok-doc.ensures.valid c.args.site c.requires c.in_ok-len.len c.in_ok-len.ensures
 
-pub replayed-requires-clause-within : goal.replayed-requires-clause-within
-replayed-requires-clause-within g c = omega (arith, c.len.ensures)
+pub cells_with-requires-clause-way : goal.cells_with-requires-clause-way
+cells_with-requires-clause-way g c =
+    edited_way c.self.inside.cells c.self.inside.seen c.self.invariant c.args.self.now c.self.view_is c.in_ok-doc.doc c.args.edited.now c.in_ok-doc.ensures.doc c.in_ok-doc.ensures.valid c.args.site c.requires c.in_ok-len.len c.in_ok-len.ensures
 
 pub returns-clause-state : goal.returns-clause-state
 returns-clause-state g c =
-    let state : IsState c.args.self.now = subst IsState c.self.view_is c.self.invariant.shown_is.state in
-    on_ok_always c.replayed.result (edited_state c.args.self.now c.args.edited.now state c.valid.ensures)
+    on_ok_always c.cells_with.result (edited_state c.args.self.now c.args.edited.now (subst IsState c.self.view_is c.self.invariant.shown_is.state) c.valid.ensures)
 
 pub returns-clause-ok : goal.returns-clause-ok
 returns-clause-ok g c =
-    let state : IsState c.args.self.now = subst IsState c.self.view_is c.self.invariant.shown_is.state in
-    let now = moment_kept c.args.self.now c.moment.result state (c.moment.ensures ∙ ap (λ (p : Presentation). pos p.now) c.self.view_is) in
-    subst (λ (q : Presentation). IfOk c.replayed.result (IsReplayed q))
-    (replay_is c.args.self.now c.in_ok-doc.doc c.args.edited.now c.log-log.result.now c.len.result (to_z w64 (of_z w64 c.moment.result)) c.in_ok-doc.ensures.doc
-    (c.log-log.ensures ∙ ap (λ (p : Presentation). p.log) c.self.view_is) c.len.ensures now)
-    c.replayed.ensures.ok
+    subst (λ (q : Presentation). IfOk c.cells_with.result (IsReplayed q))
+    (edited_is c.self.inside.cells c.self.inside.seen c.self.invariant c.args.self.now c.self.view_is c.in_ok-doc.doc c.args.edited.now c.in_ok-doc.ensures.doc c.in_ok-doc.ensures.valid c.args.site c.requires c.in_ok-len.len c.in_ok-len.ensures)
+    c.cells_with.ensures.ok
 
 pub returns-clause-refused : goal.returns-clause-refused
 returns-clause-refused g c =
-    let state : IsState c.args.self.now = subst IsState c.self.view_is c.self.invariant.shown_is.state in
-    let now = moment_kept c.args.self.now c.moment.result state (c.moment.ensures ∙ ap (λ (p : Presentation). pos p.now) c.self.view_is) in
-    subst (λ (q : Presentation). IfErr c.replayed.result (IsTooFull q))
-    (replay_is c.args.self.now c.in_ok-doc.doc c.args.edited.now c.log-log.result.now c.len.result (to_z w64 (of_z w64 c.moment.result)) c.in_ok-doc.ensures.doc
-    (c.log-log.ensures ∙ ap (λ (p : Presentation). p.log) c.self.view_is) c.len.ensures now)
-    c.replayed.ensures.refused
+    subst (λ (q : Presentation). IfErr c.cells_with.result (IsTooFull q))
+    (edited_is c.self.inside.cells c.self.inside.seen c.self.invariant c.args.self.now c.self.view_is c.in_ok-doc.doc c.args.edited.now c.in_ok-doc.ensures.doc c.in_ok-doc.ensures.valid c.args.site c.requires c.in_ok-len.len c.in_ok-len.ensures)
+    c.cells_with.ensures.refused
+
+pub returns-clause-most : goal.returns-clause-most
+returns-clause-most g c =
+    subst (λ (n : ℕ). OnOk c.cells_with.result (WhereTold g.T.Table.counts (c.cells_with.new.steps - c.args.steps.now ≤ n)))
+    (edited_count c.self.inside.cells c.self.inside.seen c.self.invariant c.args.self.now c.self.view_is c.in_ok-doc.doc c.args.edited.now c.in_ok-doc.ensures.doc c.in_ok-doc.ensures.valid c.args.site c.requires c.in_ok-len.len c.in_ok-len.ensures)
+    c.cells_with.ensures.most

@@ -1,7 +1,7 @@
 use Rattle.std.proofs.Common.{◌≡◌, ◌∙◌, sym, ap, subst, not}
 use Rattle.std.specs.Prelude.{IsSome}
 use Rattle.smil_model.specs.declared.document.Kind.{Kind}
-use Rattle.smil_model.specs.document.Document.{Document, is_class_kind, is_continuous, node_at}
+use Rattle.smil_model.specs.document.Document.{Document, is_class_kind, node_at}
 use Rattle.smil_model.specs.document.Valid.{IsNumberedTree, kind_of}
 use Rattle.smil_model.specs.shown.Orders.{Presentation}
 use Rattle.smil_live.proofs.Outcomes.{an_element, kind_named, no_element}

@@ -1,6 +1,8 @@
-use Rattle.std.proofs.Common.{sym, subst}
+use Rattle.std.proofs.Common.{◌≡◌, ◌∙◌, ap, sym, subst, ◌-◌}
+use Rattle.smil_cells.specs.Standing.{Standing}
 use Rattle.smil_live.specs.Kept.{IsPlaying}
 use Rattle.smil_live.specs.Moves.{made}
+use Rattle.smil_live.proofs.Counted.{least_made, most_made}
 use Rattle.smil_live.proofs.Going.{plays_again, plays_on, shown_marked}
 use Rattle.smil_live.proofs.playing.Playing.go.Goals as goal
 use Rattle.smil_live.proofs.playing.Playing.go.Goals.{in-Ok, in-Err}
@@ -19,3 +21,15 @@ invariant_of-self g c = elim c.match-gone.branch [
       (plays_again c.self.inside.cells c.mark.new.self c.go_on-gone.new.cells w.back.new.self c.self.inside.seen c.go_on-gone.new.seen w.back-in-Err.new.self c.self.invariant c.mark.ensures
       c.go_on-gone.ensures.marked w.back.ensures c.go_on-gone.ensures.before w.back-in-Err.ensures)
 ]
+
+pub returns-clause-most : goal.returns-clause-most
+returns-clause-most g c =
+    let here : c.mark.new.self.presentation ≡ c.args.self.now = ap (λ (s : Standing). s.presentation) c.mark.ensures ∙ c.self.view_is in
+    most_made c.go_on-gone.result g.T.Table.counts c.mark.new.self c.go_on-gone.new.cells c.args.self.now c.args.step c.go_on-gone.new.seen (c.go_on-gone.new.steps - c.args.steps.now)
+    (shown_marked c.self.inside.cells c.mark.new.self c.self.inside.seen c.self.invariant.shown_is c.mark.ensures).settled here c.go_on-gone.ensures.ok c.go_on-gone.ensures.most
+
+pub returns-clause-least : goal.returns-clause-least
+returns-clause-least g c =
+    let here : c.mark.new.self.presentation ≡ c.args.self.now = ap (λ (s : Standing). s.presentation) c.mark.ensures ∙ c.self.view_is in
+    least_made c.go_on-gone.result g.T.Table.counts c.mark.new.self c.go_on-gone.new.cells c.args.self.now c.args.step c.go_on-gone.new.seen (c.go_on-gone.new.steps - c.args.steps.now)
+    (shown_marked c.self.inside.cells c.mark.new.self c.self.inside.seen c.self.invariant.shown_is c.mark.ensures).settled here c.go_on-gone.ensures.ok c.go_on-gone.ensures.least

@@ -1,8 +1,9 @@
-use Rattle.std.proofs.Common.{◌≡◌, ◌∙◌, ap, subst, arith, length, List, ℤ, pos, to_z, of_z, w64, ◌<◌, ◌++◌}
+use Rattle.std.proofs.Common.{◌≡◌, ◌∙◌, ap, sym, subst, ◌-◌, ◌≤◌, arith, length, ℤ, pos, to_z, of_z, w64, ◌<◌, ◌++◌}
 use Rattle.std.proofs.lemmas.Int.{ints}
 use Rattle.smil_model.specs.declared.limits.TheConstants.{LOG_ENTRIES}
 use Rattle.smil_model.specs.shown.Orders.{IsState, Presentation, changes_between}
-use Rattle.smil_cells.specs.Standing.{with_logged}
+use Rattle.smil_cells.specs.Standing.{WhereTold, with_logged}
+use Rattle.smil_live.specs.Counts.{least_onward, most_onward}
 use Rattle.smil_live.specs.Moves.{text_of}
 use Rattle.smil_live.proofs.Outcomes.{heard_as}
 use Rattle.smil_live.proofs.States.{within_horizon}
@@ -23,3 +24,13 @@ returns-clause-ok g c =
     (subst (λ (m : ℤ). q ≡ with_logged p (record { moment = m; what = what })) there c.in_default.ensures.state)
     c.settled.ensures.diary
     (subst (λ (m : ℤ). c.go.new.out ≡ c.args.out.now ++ text_of p (changes_between p (with_logged p (record { moment = m; what = what })))) there c.in_default.ensures.told)
+
+pub returns-clause-most : goal.returns-clause-most
+returns-clause-most g c =
+    let rise = c.go.new.steps - c.args.steps.now in
+    subst (λ (q : Presentation). WhereTold g.T.Table.counts (rise ≤ most_onward c.args.self.now q)) (sym c.in_default.ensures.state) c.in_default.ensures.most
+
+pub returns-clause-least : goal.returns-clause-least
+returns-clause-least g c =
+    let rise = c.go.new.steps - c.args.steps.now in
+    subst (λ (q : Presentation). WhereTold g.T.Table.counts (least_onward c.args.self.now q ≤ rise)) (sym c.in_default.ensures.state) c.in_default.ensures.least

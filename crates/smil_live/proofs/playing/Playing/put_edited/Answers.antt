@@ -3,8 +3,9 @@ use Rattle.std.proofs.Math.Seq.{take-append_seam}
 use Rattle.std.proofs.lemmas.Result.{on_err_weaker, on_ok_weaker}
 use Rattle.std.specs.Prelude.{length, take}
 use Rattle.smil_model.specs.shown.Orders.{Presentation, views_of}
-use Rattle.smil_live.proofs.Edited.{are_of, moment_kept, told_edited}
+use Rattle.smil_live.proofs.Edited.{are_of, told_edited}
 use Rattle.smil_live.proofs.Onward.{begins_then}
+use Rattle.smil_live.proofs.RebuiltCells.{moment_kept}
 use Rattle.smil_live.proofs.Standings.{views_settled}
 use Rattle.smil_live.proofs.playing.Playing.put_edited.Goals as goal
 

@@ -1,13 +1,24 @@
-use Rattle.std.proofs.Common.{◌≡◌, ◌∙◌, ◌++◌, arith, refl, sym, ap, subst, ℤ, pos, nat_abs, to_z, of_z, w64}
-use Rattle.std.specs.Prelude.{◌≤ℤ◌}
+use Rattle.std.proofs.Common.{◌≡◌, ◌∙◌, ◌++◌, ◌-◌, ◌≤◌, arith, refl, sym, ap, subst, ℤ, pos, nat_abs, to_z, of_z, w64}
+use Rattle.std.specs.Prelude.{◌≤ℤ◌, int_lt, false}
 use Rattle.std.proofs.lemmas.Int.{ints, to_z-of_z}
 use Rattle.smil_model.specs.shown.Orders.{IsState, Presentation, changes_between}
-use Rattle.smil_cells.specs.Standing.{moved_to}
+use Rattle.smil_cells.specs.Standing.{WhereTold, moved_to}
+use Rattle.smil_live.specs.Counts.{least_onward, most_onward}
 use Rattle.smil_live.specs.Moves.{IsTooFull, text_of}
+use Rattle.smil_live.proofs.CountedOrders.{seek_at_least, seek_at_most}
 use Rattle.smil_live.proofs.Outcomes.{clock_from, not_above, moved_as_sought, not_sought, sought, within_sought}
 use Rattle.smil_live.proofs.Standings.{state_then}
 use Rattle.smil_live.proofs.States.{within_horizon}
+use Rattle.smil_live.proofs.playing.Playing.seek.Given.{Over}
 use Rattle.smil_live.proofs.playing.Playing.seek.Goals as goal
+
+-- what is not below the present moment
+onward : (p : Presentation) (to moment : ℤ) → IsState p → to_z w64 (of_z w64 to) ≡ to → moment ≡ pos p.now → int_lt (to_z w64 (of_z w64 to)) (to_z w64 (of_z w64 moment)) ≡ false → pos p.now ≤ℤ to
+onward p to moment state there now not_below =
+    let most = within_horizon p state in
+    let here : to_z w64 (of_z w64 moment) ≡ moment = omega (arith, ints, most, now) in
+    let below : to_z w64 (of_z w64 moment) ≤ℤ to_z w64 (of_z w64 to) = not_above (to_z w64 (of_z w64 to)) (to_z w64 (of_z w64 moment)) not_below in
+    omega (arith, ints, below, now, there, here)
 
 pub returns-clause-ok : goal.returns-clause-ok
 returns-clause-ok g c =
@@ -28,10 +39,26 @@ returns-in-Err-clause-refused g c =
     let there : to_z w64 (of_z w64 to) ≡ to = to_z-of_z w64 to c.ranges.to in
     let state : IsState p = subst IsState c.self.view_is c.self.invariant.shown_is.state in
     let now : c.moment.result ≡ pos p.now = subst (λ (q : Presentation). c.moment.result ≡ pos q.now) c.self.view_is c.moment.ensures in
-    let most = within_horizon p state in
-    let here : to_z w64 (of_z w64 c.moment.result) ≡ c.moment.result = omega (arith, ints, most, now) in
-    let below : to_z w64 (of_z w64 c.moment.result) ≤ℤ to_z w64 (of_z w64 to) = not_above (to_z w64 (of_z w64 to)) (to_z w64 (of_z w64 c.moment.result)) c.if-to-moment.false in
-    let from : pos p.now ≤ℤ to = omega (arith, ints, below, now, there, here) in
+    let from = onward p to c.moment.result state there now c.if-to-moment.false in
     let full : IsTooFull (moved_to p (nat_abs to)) c.in-Err.refusal = subst (λ (z : ℤ). IsTooFull (moved_to p (nat_abs z)) c.in-Err.refusal) there c.in-Err.ensures.refused in
     not_sought p (moved_to p (nat_abs to)) to c.in-Err.refusal
     (moved_as_sought p (moved_to p (nat_abs to)) to refl (state_then p to state from (clock_from to c.requires).1)) (within_sought to c.requires) full
+
+from : (g : Over) (c : goal.After-settled g) → pos c.args.self.now.now ≤ℤ c.args.to
+from g c =
+    onward c.args.self.now c.args.to c.moment.result (subst IsState c.self.view_is c.self.invariant.shown_is.state) (to_z-of_z w64 c.args.to c.ranges.to)
+    (subst (λ (q : Presentation). c.moment.result ≡ pos q.now) c.self.view_is c.moment.ensures) c.if-to-moment.false
+
+pub returns-clause-most : goal.returns-clause-most
+returns-clause-most g c =
+    let p = c.args.self.now in
+    let rise = c.go.new.steps - c.args.steps.now in
+    seek_at_most g.T.Table.counts p c.go.new.self c.args.to rise (from g c) (returns-clause-ok g c).state
+    (subst (λ (q : Presentation). WhereTold g.T.Table.counts (rise ≤ most_onward p q)) (sym c.in_default.ensures.state) c.in_default.ensures.most)
+
+pub returns-clause-least : goal.returns-clause-least
+returns-clause-least g c =
+    let p = c.args.self.now in
+    let rise = c.go.new.steps - c.args.steps.now in
+    seek_at_least g.T.Table.counts p c.go.new.self c.args.to rise (from g c) (returns-clause-ok g c).state
+    (subst (λ (q : Presentation). WhereTold g.T.Table.counts (least_onward p q ≤ rise)) (sym c.in_default.ensures.state) c.in_default.ensures.least)

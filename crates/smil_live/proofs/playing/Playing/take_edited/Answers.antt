@@ -3,7 +3,7 @@ use Rattle.std.proofs.lemmas.Result.{IfErr-weaker}
 use Rattle.smil_model.specs.declared.order.Refusal.TheVariants as refusal
 use Rattle.smil_model.specs.shown.Orders.{IsState}
 use Rattle.smil_live.specs.Moves.{IsTooFull, edited_to}
-use Rattle.smil_live.proofs.Edited.{edited_on_ok, replayed_own}
+use Rattle.smil_live.proofs.Edited.{edited_on_ok, on_ok_always, replayed_own}
 use Rattle.smil_live.proofs.playing.Playing.take_edited.Goals as goal
 
 pub take_over-requires-clause-state : goal.take_over-requires-clause-state
@@ -19,3 +19,6 @@ returns-in-Ok-clause-ok g c =
 pub returns-in-Ok-clause-refused : goal.returns-in-Ok-clause-refused
 returns-in-Ok-clause-refused g c =
     IfErr-weaker c.take_over.result (λ e. e ≡ refusal.Memory) (IsTooFull (edited_to c.args.self.now c.args.edited.now)) (λ e h. inl h) c.take_over.ensures.refused
+
+pub returns-in-Ok-clause-most : goal.returns-in-Ok-clause-most
+returns-in-Ok-clause-most g c = on_ok_always c.take_over.result c.in-Ok.ensures.most

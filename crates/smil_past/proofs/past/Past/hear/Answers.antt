@@ -1,8 +1,9 @@
 use Rattle.std.proofs.Common.{◌≡◌, ◌≤◌, ℕ, sym, ◌∙◌, ap, subst, length, Some, [], ◌∷◌, ◌++◌}
 use Rattle.smil_laws.specs.Cut.{NamesBelow}
 use Rattle.smil_past.specs.Past.{Happened}
-use Rattle.smil_past.specs.Kept.{Holds, HoldsAtMark, kept_at}
-use Rattle.smil_past.proofs.Grown.{cut_heard, heard, mark_heard, mark_unheard, unheard}
+use Rattle.smil_past.specs.Chronicle.{BacksUp, Tells}
+use Rattle.smil_past.proofs.Grown.{cut_heard, heard, unheard}
+use Rattle.smil_past.proofs.Seconds.{backs_heard, backs_unheard}
 use Rattle.smil_past.proofs.past.Past.hear.Goals as goal
 
 pub invariant_of-self : goal.invariant_of-self
@@ -12,8 +13,8 @@ invariant_of-self c =
     let same : c.push.new.self ≡ was.log = c.in_err-push.ensures.err in (
       sound.0,
       sound.1,
-      subst (λ log. Holds was.tree log was.book was.kept) (sym same) sound.2,
-      subst (λ log. HoldsAtMark was.tree log was.book (kept_at was.noted was.kept) was.mark) (sym same) sound.3,
+      subst (λ log. Tells was.tree log was.chronicle) (sym same) sound.2,
+      subst (λ log. BacksUp was.tree log was.chronicle.book was.second was.mark) (sym same) sound.3,
     )
 
 pub invariant_of-self-2 : goal.invariant_of-self-2
@@ -22,8 +23,8 @@ invariant_of-self-2 c =
     let sound = c.self.invariant in (
       sound.0,
       sound.1,
-      heard was.tree was.log c.push.new.self c.args.entry was.book was.kept c.in_ok-push.ensures.ok sound.2,
-      mark_heard was.tree was.log c.push.new.self c.args.entry was.book (kept_at was.noted was.kept) was.mark c.in_ok-push.ensures.ok sound.3,
+      heard was.tree was.log c.push.new.self c.args.entry was.chronicle.book was.chronicle.kept c.in_ok-push.ensures.ok sound.2,
+      backs_heard was.tree was.log c.push.new.self c.args.entry was.chronicle.book was.second was.mark c.in_ok-push.ensures.ok sound.3,
     )
 
 pub invariant_of-self-in-Err : goal.invariant_of-self-in-Err
@@ -34,10 +35,10 @@ invariant_of-self-in-Err c =
     let seen = c.self-2.view_is ∙ c.in-Err.ensures.err in
     let full : now.log ≡ was.log ++ c.args.entry ∷ [] = ap (λ (v : Happened). v.log) seen ∙ c.in_ok-push.ensures.ok in
     let cut : c.cut_back.new.self ≡ was.log = cut_heard was.log now.log c.cut_back.new.self c.args.entry c.len-place.result full c.len-place.ensures c.cut_back.ensures in
-    let named : NamesBelow (length was.log) now.book = subst (NamesBelow (length was.log)) (sym (ap (λ (v : Happened). v.diary) seen)) c.self.invariant.2.possible.named in
-    let within : (mark : ℕ × ℕ) → now.mark ≡ Some mark → mark.0 ≤ length was.log = λ mark is. (c.self.invariant.3 mark (sym (ap (λ (v : Happened). v.marked) seen) ∙ is)).log_within in (
+    let named : NamesBelow (length was.log) now.chronicle.book = subst (NamesBelow (length was.log)) (sym (ap (λ (v : Happened). v.diary) seen)) c.self.invariant.2.possible.named in
+    let within : (mark : ℕ × ℕ) → now.mark ≡ Some mark → mark.0 ≤ length was.log = λ mark is. (c.self.invariant.3.at mark (sym (ap (λ (v : Happened). v.marked) seen) ∙ is)).log_within in (
       sound.0,
       sound.1,
-      unheard now.tree was.log now.log c.cut_back.new.self c.args.entry now.book now.kept full cut named sound.2,
-      mark_unheard now.tree was.log now.log c.cut_back.new.self c.args.entry now.book (kept_at now.noted now.kept) now.mark full cut within sound.3,
+      unheard now.tree was.log now.log c.cut_back.new.self c.args.entry now.chronicle.book now.chronicle.kept full cut named sound.2,
+      backs_unheard now.tree was.log now.log c.cut_back.new.self c.args.entry now.chronicle.book now.second now.mark full cut named within sound.3,
     )

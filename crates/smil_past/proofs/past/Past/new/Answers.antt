@@ -1,17 +1,23 @@
-use Rattle.std.proofs.Common.{sym, subst, []}
+use Rattle.std.proofs.Common.{ap, [], None}
 use Rattle.std.proofs.lemmas.Result.{IfOk-at_ok}
-use Rattle.smil_past.specs.Kept.{Holds, IsKeptOf}
-use Rattle.smil_past.proofs.Fronts.{no_mark}
+use Rattle.smil_past.specs.Past.{unmarked}
+use Rattle.smil_past.specs.Chronicle.{TellsNothing}
+use Rattle.smil_past.proofs.Seconds.{backs_none, lags_new}
 use Rattle.smil_past.proofs.past.Past.new.Goals as goal
 
 pub invariant_of-result : goal.invariant_of-result
 invariant_of-result c =
     let tree = c.args.tree in
     let log = c.args.log in
-    let kept = c.in_ok-kept.kept in (
+    let chronicle = c.in_ok-chronicle.chronicle in
+    let nothing = IfOk-at_ok (TellsNothing tree log) c.in_ok-chronicle.was (c.new.ensures log) in (
       c.in_ok-graph.ensures,
       c.in_ok-syncs.ensures,
-      subst (λ ds. Holds tree log ds kept) (sym c.new-2.ensures)
-          (record { possible = c.requires; kept_is = IfOk-at_ok (λ k. IsKeptOf k tree log []) c.in_ok-kept.was (c.new.ensures log) }),
-      no_mark tree log c.new-2.result kept,
+      (lags_new tree log [] chronicle c.requires nothing).tells,
+      backs_none tree log chronicle.book,
     )
+
+pub returns : goal.returns
+returns c =
+    let nothing = IfOk-at_ok (TellsNothing c.args.tree c.args.log) c.in_ok-chronicle.was (c.new.ensures c.args.log) in
+    ap (unmarked c.args.tree c.args.log) nothing.nothing

@@ -1,8 +1,10 @@
-use Rattle.std.proofs.Common.{◌≡◌, Bool, ap, sym, subst, ◌∙◌}
+use Rattle.std.proofs.Common.{◌≡◌, ℕ, ◌-◌, List, Bool, false, ap, sym, subst, ◌∙◌}
 use Rattle.smil_top.specs.declared.session.Session.{Session}
 use Rattle.smil_top.specs.Cut.{OrderLines, single}
+use Rattle.smil_top.specs.Evaluations.{line_number}
 use Rattle.smil_top.specs.Kept.{MakesAnswer, Makes, answering, fault_at, line_by}
-use Rattle.smil_top.proofs.Tells.{single-made, told-order}
+use Rattle.smil_top.proofs.Evaluated.{counted-single, evaluated-more}
+use Rattle.smil_top.proofs.Tells.{counted_as, single-made, told-order}
 use Rattle.smil_top.proofs.run.Run.answer_single.Goals as goal
 
 pub returns-clause-answers : goal.returns-clause-answers
@@ -44,3 +46,34 @@ returns-clause-answers g c checks whole told tells =
     (ap (λ (s : Session). s.checks) c.tell.ensures.session ∙ c.answer_line-answered.ensures.checks)
     c.tell.ensures.counts
     c.tell.ensures.writes
+
+pub returns-clause-evaluated : goal.returns-clause-evaluated
+returns-clause-evaluated g c whole told tells =
+    let session = told.session in
+    let number : ℕ = c.args.number in
+    let line : List ℕ = c.args.text.now in
+    let r = c.answer_line-answered.result in
+    let e = c.answer_line-answered.ensures in
+    let text = c.answer_line-answered.new.answer in
+    let between = c.answer_line-answered.new.self in
+    let rise : ℕ = c.answer_line-answered.new.steps - c.args.steps.now in
+    let makes : Makes r text between.house session (line_by false session number line) =
+    subst (λ (k : Bool). Makes r text between.house session (line_by k session number line)) tells.checks_is (e.answer session tells.holds)
+    in
+    let counts : c.tell.new.self.counts ≡ counted_as c.at.result text c.args.self.now.counts = c.tell.ensures.counts in
+    evaluated-more
+    c.args.self.now
+    c.tell.new.self.counts
+    whole
+    told
+    (single (record { number = number; text = line }))
+    (fault_at number r)
+    text
+    between.house
+    c.args.steps.now
+    c.answer_line-answered.new.steps
+    tells
+    (single-made false r text between.house session number line c.requires.short makes)
+    (counted-single r number (λ bound. line_number bound session line) rise (e.evaluated session tells.holds tells.checks_is))
+    e.counted
+    (counts ∙ ap (λ a. counted_as a text c.args.self.now.counts) c.at.ensures)

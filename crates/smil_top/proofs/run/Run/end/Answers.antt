@@ -1,10 +1,12 @@
-use Rattle.std.proofs.Common.{◌++◌, Option, None, Err, ap, sym, subst, ◌∙◌}
+use Rattle.std.proofs.Common.{[], ◌∷◌, ◌++◌, Option, None, Err, false, refl, arith, ap, sym, subst, ◌∙◌}
 use Rattle.smil_model.specs.declared.order.Refusal.TheVariants.{UnfinishedLoad}
 use Rattle.smil_top.specs.declared.fault.Fault.{Fault}
 use Rattle.smil_top.specs.declared.session.Session.{Session}
 use Rattle.smil_top.specs.Cut.{OrderLines, LoadLines, load as load_order, unended}
-use Rattle.smil_top.specs.Kept.{AnswersOrders, MakesAnswer, answering}
-use Rattle.smil_top.proofs.Tells.{load-of, unfinished-made, told-order}
+use Rattle.smil_top.specs.Evaluations.{number_of}
+use Rattle.smil_top.specs.Kept.{AnswersOrders, EvaluatesOn, MakesAnswer, answering}
+use Rattle.smil_top.proofs.Evaluated.{counted-fault, evaluated-ended, evaluated-more}
+use Rattle.smil_top.proofs.Tells.{load-of, no_load-of, unfinished-made, told-order}
 use Rattle.smil_top.proofs.run.Run.end.Goals as goal
 
 pub returns-in-Some-clause-answers : goal.returns-in-Some-clause-answers
@@ -43,3 +45,27 @@ returns-in-Some-clause-answers g c checks cut told running =
     (λ (o : Option LoadLines). AnswersOrders checks c.tell.result c.tell.new.self (cut.whole ++ unended o) told (g.K.Sink.taken c.args.sink.now) (g.K.Sink.taken c.tell.new.sink) (g.K.Sink.sure_room c.args.sink.now) (g.K.Sink.sure_room c.tell.new.sink))
     (sym found.1)
     answers
+
+pub returns-in-Some-clause-evaluated : goal.returns-in-Some-clause-evaluated
+returns-in-Some-clause-evaluated g c cut told steps running =
+    let run = c.args.self.now in
+    let load = c.in-Some.load in
+    let found = load-of load run.load cut.«open» running.load (sym c.take.ensures.value ∙ c.in-Some.is) in
+    let fault : Fault = record { line = load.line; refusal = UnfinishedLoad } in
+    let order : OrderLines = load_order found.0 None in
+    let made : MakesAnswer (Err fault) run.answer run.session.house told.session (answering false) order =
+    unfinished-made false run.answer run.session.house told.session found.0 load.line found.2.line running.tells.holds
+    in
+    let on : EvaluatesOn run.counts c.tell.new.self.counts cut.whole (cut.whole ++ order ∷ []) steps steps =
+    evaluated-more run c.tell.new.self.counts cut.whole told order (Err fault) run.answer run.session.house steps steps running.tells made
+    (counted-fault fault (λ bound. number_of bound told.session order) steps)
+    (omega arith)
+    c.tell.ensures.counts
+    in
+    subst (λ (o : Option LoadLines). EvaluatesOn run.counts c.tell.new.self.counts cut.whole (cut.whole ++ unended o) steps steps) (sym found.1) on
+
+pub returns-in-None-clause-evaluated : goal.returns-in-None-clause-evaluated
+returns-in-None-clause-evaluated g c cut told steps running =
+    let run = c.args.self.now in
+    let out = no_load-of run.load cut.«open» running.load (sym c.take.ensures.value ∙ c.in-None.is) in
+    evaluated-ended run.counts run.counts cut.whole cut.«open» steps out refl

@@ -1,4 +1,4 @@
-use Rattle.std.proofs.Common.{◌≡◌, ◌<◌, ◌≤◌, ℕ, List, [], ◌∷◌, ◌++◌, length, Some, None, Err, true, refl, ap, sym, subst, ◌∙◌, arith}
+use Rattle.std.proofs.Common.{◌≡◌, ◌<◌, ◌≤◌, ℕ, [], ◌∷◌, ◌++◌, length, Some, None, Err, false, true, refl, ap, sym, subst, ◌∙◌, arith}
 use Rattle.smil_outside.proofs.KnownLemmas.{Appends-nil}
 use Rattle.smil_model.specs.declared.limits.TheConstants.{LINE_BYTES}
 use Rattle.smil_model.specs.declared.order.Refusal.TheVariants.{LongLine}
@@ -7,8 +7,10 @@ use Rattle.smil_top.specs.declared.fault.Fault.{Fault}
 use Rattle.smil_top.specs.declared.run.Run.{Run}
 use Rattle.smil_top.specs.declared.session.Session.{Session}
 use Rattle.smil_top.specs.Cut.{OrderLines, Numbered, LoadLines, single, with_line}
+use Rattle.smil_top.specs.Evaluations.{number_of}
 use Rattle.smil_top.specs.Kept.{IsRead, IsText, MakesAnswer, answering}
 use Rattle.smil_top.proofs.CutLines.{cut-long, cut-opens}
+use Rattle.smil_top.proofs.Evaluated.{counted-fault, evaluated-cut, evaluated-more}
 use Rattle.smil_top.proofs.Tells.{Shows, long-made, told-order, running-order, running-load, tells-on}
 use Rattle.smil_top.proofs.run.Run.line_outside.Goals as goal
 
@@ -94,3 +96,19 @@ returns-in-Some-clause-answers g c checks cut told line out tells number shows =
     read
     (tells-on checks run new cut.whole told refl refl tells)
     (Appends-nil (g.K.Sink.taken c.args.sink.now), omega arith)
+
+pub returns-in-None-clause-evaluated : goal.returns-in-None-clause-evaluated
+returns-in-None-clause-evaluated g c cut told line out tells number shows =
+    let run : Run = c.args.self.now in
+    let new = c.tell.new.self.counts in
+    let count : ℕ = c.args.number in
+    let steps : ℕ = c.args.steps.now in
+    let long : LINE_BYTES < length line = subst (λ o. Shows o line) c.in-None.is shows in
+    let fault : Fault = record { line = count; refusal = LongLine } in
+    let order : OrderLines = single (record { number = count; text = line }) in
+    let made : MakesAnswer (Err fault) run.answer run.session.house told.session (answering false) order =
+    long-made false run.answer run.session.house told.session count line long tells.holds
+    in
+    let counted = counted-fault fault (λ bound. number_of bound told.session order) steps in
+    let on = evaluated-more run new cut.whole told order (Err fault) run.answer run.session.house steps steps tells made counted (omega arith) c.tell.ensures.counts in
+    evaluated-cut run.counts new cut.whole (cut.whole ++ order ∷ []) (with_line cut line) count None steps steps (cut-long cut count line number out long) on

@@ -1,4 +1,4 @@
-use Rattle.std.proofs.Common.{[], refl, ap, sym, subst, ◌∙◌}
+use Rattle.std.proofs.Common.{[], refl, ap, sym, subst}
 use Rattle.smil_top.specs.declared.session.Session.{Session}
 use Rattle.smil_top.specs.declared.counts.Counts.{Counts}
 use Rattle.smil_top.specs.Transcript.{of_nothing, untold}

@@ -4,7 +4,9 @@ use Rattle.smil_model.specs.document.Limits.{limits}
 use Rattle.smil_model.specs.shown.Lines.{ok_line}
 use Rattle.smil_top.specs.declared.answer.Answer.{Answer as AnswerText}
 use Rattle.smil_top.specs.Answers.{ordered_within}
-use Rattle.smil_top.specs.Kept.{Makes}
+use Rattle.smil_top.specs.Evaluations.{ordered_number}
+use Rattle.smil_top.specs.Kept.{IsCounted, Makes}
+use Rattle.smil_top.proofs.Evaluated.{counted-ordered, counted-unordered}
 use Rattle.smil_top.proofs.Makings.{made-ordered, unmade-ordered}
 use Rattle.smil_top.proofs.session.Session.answer_to.Goals as goal
 
@@ -38,3 +40,20 @@ returns-in-Err-clause-answer g c session holds =
     let text : AnswerText = c.args.answer.now in
     let unmade = unmade-ordered name order house new session number holds text (c.answer.new.steps - c.args.steps.now) c.in-Err.refusal c.in-Err.ensures.refused c.in-Err.ensures.kept in
     subst (λ n. Makes (Err c.in-Err.refusal) text new session (ordered_within limits session number n order)) c.slice.ensures unmade
+
+pub returns-in-Ok-clause-evaluated : goal.returns-in-Ok-clause-evaluated
+returns-in-Ok-clause-evaluated g c session holds =
+    let house = c.args.self.now.house in
+    let order = c.args.order.now in
+    let text : List ℕ = drop (length c.args.answer.now.told) c.answer.new.out in
+    let rise : ℕ = c.answer.new.steps - c.args.steps.now in
+    subst (λ n. IsCounted (Ok tt) (λ bound. ordered_number bound session n order) rise) c.slice.ensures
+    (counted-ordered c.slice.result.now order house c.answer.new.self session holds text rise c.in-Ok.now c.in-Ok.ensures.ok)
+
+pub returns-in-Err-clause-evaluated : goal.returns-in-Err-clause-evaluated
+returns-in-Err-clause-evaluated g c session holds =
+    let house = c.args.self.now.house in
+    let order = c.args.order.now in
+    let rise : ℕ = c.answer.new.steps - c.args.steps.now in
+    subst (λ n. IsCounted (Err c.in-Err.refusal) (λ bound. ordered_number bound session n order) rise) c.slice.ensures
+    (counted-unordered c.slice.result.now order house c.answer.new.self session holds rise c.in-Err.refusal c.in-Err.ensures.refused)

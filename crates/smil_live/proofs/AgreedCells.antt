@@ -1,0 +1,143 @@
+-- Cells that go on with an edited document from the part of the diary that stays, and how often edits and backward seeks have
+-- intervals evaluated.
+use Rattle.std.proofs.Common.{◌≡◌, refl, sym, ◌∙◌, ap, subst, ℕ, ◌+◌, ◌≤◌, List, length, take, ℤ, negsuc, Bool, true, false, Result, Ok, Err, arith}
+use Rattle.std.specs.Prelude.{OnOk, filter, int_le, nat_abs, nat_lt, pos, ◌<ℤ◌, ◌≤ℤ◌}
+use Rattle.std.specs.List.{list_all}
+use Rattle.std.proofs.lemmas.Bool.{and_parts, lt-ltb}
+use Rattle.std.proofs.lemmas.Int.{ints}
+use Rattle.smil_model.specs.declared.diary.LogEntry.{LogEntry}
+use Rattle.smil_model.specs.declared.order.Order.{Order}
+use Rattle.smil_model.specs.declared.order.Order.TheVariants as order
+use Rattle.smil_model.specs.declared.order.Refusal.{Refusal}
+use Rattle.smil_model.specs.diary.Logs.{may_happen, moments_rise}
+use Rattle.smil_model.specs.document.Document.{Document, elements}
+use Rattle.smil_model.specs.document.Valid.{IsValid}
+use Rattle.smil_model.specs.document.Values.{is_clock}
+use Rattle.smil_model.specs.shown.Answers.{Accepts}
+use Rattle.smil_model.specs.shown.Orders.{IsState, Presentation, course_of}
+use Rattle.smil_grammar.specs.Formats.{formats}
+use Rattle.smil_cells.specs.Standing.{IsRebuilt, MayRebuild, Standing, WhereTold}
+use Rattle.smil_live.specs.Counted.{IsAtLeast, IsAtMost}
+use Rattle.smil_live.specs.Counts.{diary_at, least_between, least_seeking, most_between, most_seeking, reached_behind}
+use Rattle.smil_live.specs.Editing.{IsEdited, edit_of}
+use Rattle.smil_live.specs.Kept.{IsPlaying}
+use Rattle.smil_live.specs.Moves.{IsReplayed, IsUnderWay, edited_to, sought_of}
+use Rattle.smil_live.specs.Seen.{Shown}
+use Rattle.smil_live.specs.Sites.{IsMade, most_resolving, site_of, staying}
+use Rattle.smil_live.specs.Telling.{is_edit}
+use Rattle.smil_live.specs.declared.edits.Site.{Site}
+use Rattle.smil_live.proofs.AgreedParts.{staying_part, staying_within}
+use Rattle.smil_live.proofs.CountedOrders.{at_least, at_most}
+use Rattle.smil_live.proofs.Edited.{edited_accepted, edited_state}
+use Rattle.smil_live.proofs.Ended.{diary_is}
+use Rattle.smil_live.proofs.Outcomes.{clock_from, sought_state}
+use Rattle.smil_live.proofs.RebuiltCells.{may_rebuild, rebuilt_way}
+use Rattle.smil_live.proofs.RebuiltParts.{IsPart, front_until}
+
+-- settled cells are those of their own presentation
+pub own_replayed : (s : Standing) (shown : Shown) → IsPlaying s shown → IsReplayed s.presentation s
+own_replayed s shown is = record { presentation_is = refl; sound = is.shown_is.sound; unmarked = is.unmarked; settled = is.shown_is.settled }
+
+-- ---- an edit
+
+module _ (s : Standing) (shown : Shown) (is : IsPlaying s shown) (p : Presentation) (view : s.presentation ≡ p) (d e : Document) (same : d ≡ e) (valid : IsValid d) (at : Site) (made : IsMade p.document at e) (len : ℕ) (count : len ≡ staying p e at) where
+  pub edited_is : edited_to s.presentation d ≡ edited_to p e
+  edited_is = ap (λ (q : Presentation). edited_to q d) view ∙ ap (edited_to p) same
+
+  pub edited_stands : IsState (edited_to s.presentation d)
+  edited_stands = edited_state s.presentation d is.shown_is.state valid
+
+  made_here : IsMade s.presentation.document at d
+  made_here = subst (λ (q : Presentation). IsMade q.document at d) (sym view) (subst (λ (x : Document). IsMade p.document at x) (sym same) made)
+
+  count_here : len ≡ staying s.presentation d at
+  count_here = count ∙ (ap (λ (x : Document). staying p x at) (sym same) ∙ ap (λ (q : Presentation). staying q d at) (sym view))
+
+  part : IsPart d.nodes s.presentation.log (take len s.diary) s.presentation.now
+  part =
+      subst (λ (n : ℕ). IsPart d.nodes s.presentation.log (take n s.diary) s.presentation.now) (sym count_here)
+      (staying_part s.presentation d at s.diary is.shown_is.state.document.numbered valid.numbered is.shown_is.state.log made_here is.shown_is.settled)
+
+  within : len ≤ length s.diary
+  within =
+      subst (λ (n : ℕ). n ≤ length s.diary) (sym count_here)
+      (staying_within s.presentation d at s.diary is.shown_is.state.document.numbered valid.numbered is.shown_is.state.log made_here is.shown_is.settled)
+
+  pub edited_rebuild : MayRebuild s d len
+  edited_rebuild = may_rebuild s d len s.presentation.now valid within is.unmarked part
+
+  pub edited_way : (t : Standing) → IsRebuilt s d len t → IsUnderWay (edited_to s.presentation d) (length t.presentation.log) t
+  edited_way t rebuilt = rebuilt_way s t d len s.presentation.now rebuilt part (edited_to s.presentation d) refl refl refl
+
+  pub edited_count : length (elements d.nodes) + reached_behind len (edited_to s.presentation d) ≡ most_resolving p at e
+  edited_count =
+      ap (λ (x : Document). length (elements x.nodes) + reached_behind len (edited_to s.presentation d)) same
+      ∙ (ap (λ (q : Presentation). length (elements e.nodes) + reached_behind len q) edited_is ∙ ap (λ (n : ℕ). length (elements e.nodes) + reached_behind n (edited_to p e)) count)
+
+-- ---- how often an edit has intervals evaluated
+
+most_is : (p : Presentation) (o : Order) (d : Document) → is_edit o ≡ true → most_resolving p (site_of p.document o) d ≡ most_between p o (edited_to p d)
+most_is p (order.Set who name value name_column column) d edits = refl
+most_is p (order.Unset who name column) d edits = refl
+most_is p (order.Insert who place line column) d edits = refl
+most_is p (order.Remove who) d edits = refl
+most_is p _ d edits = absurd cc
+
+least_is : (p q : Presentation) (o : Order) → is_edit o ≡ true → least_between p o q ≡ 0
+least_is p q (order.Set who name value name_column column) edits = refl
+least_is p q (order.Unset who name column) edits = refl
+least_is p q (order.Insert who place line column) edits = refl
+least_is p q (order.Remove who) edits = refl
+least_is p q _ edits = absurd cc
+
+pub edited_most : (r : Result (Unit {0}) Refusal) (counts : Bool) (p q : Presentation) (o : Order) (d : Document) (at : Site) (old new : List ℕ) (rise : ℕ) → is_edit o ≡ true → edit_of p o ≡ Ok d → at ≡ site_of p.document o
+    → OnOk r (IsEdited p d q old new) → OnOk r (WhereTold counts (rise ≤ most_resolving p at d)) → OnOk r (IsAtMost counts p o rise)
+edited_most (Err e) counts p q o d at old new rise edits edited here is most = tt
+edited_most (Ok x) counts p q o d at old new rise edits edited here is most =
+    at_most counts p q o rise (edited_accepted p q o d old new edits edited is).state
+    (subst (λ (n : ℕ). WhereTold counts (rise ≤ n)) (ap (λ (x : Site). most_resolving p x d) here ∙ (most_is p o d edits ∙ ap (most_between p o) (sym is.state))) most)
+
+pub edited_least : (r : Result (Unit {0}) Refusal) (counts : Bool) (p q : Presentation) (o : Order) (d : Document) (old new : List ℕ) (rise : ℕ) → is_edit o ≡ true → edit_of p o ≡ Ok d
+    → OnOk r (IsEdited p d q old new) → OnOk r (IsAtLeast counts p o rise)
+edited_least (Err e) counts p q o d old new rise edits edited is = tt
+edited_least (Ok x) counts p q o d old new rise edits edited is =
+    at_least counts p q o rise (edited_accepted p q o d old new edits edited is).state (subst (λ (n : ℕ). WhereTold counts (n ≤ rise)) (sym (least_is p q o edits)) (none counts))
+  where
+    none : (t : Bool) → WhereTold t (0 ≤ rise)
+    none true = omega arith
+    none false = tt
+
+-- ---- a seek back
+
+pub sought_stands : (p : Presentation) (to : ℤ) → IsState p → is_clock to ≡ true → IsState (sought_of p to)
+sought_stands p to state clock =
+    let rise = (and_parts (moments_rise (pos 0) p.log) (list_all (λ (x : LogEntry). may_happen x.what) p.log) state.log).0 in
+    sought_state p p.log (length (filter (λ (x : LogEntry). int_le x.moment to) p.log)) to state clock refl (front_until to (pos 0) p.log rise)
+
+below : (to : ℤ) (n : ℕ) → pos 0 ≤ℤ to → to <ℤ pos n → nat_lt (nat_abs to) n ≡ true
+below (pos k) n from back = lt-ltb k n (omega (arith, ints, back))
+below (negsuc k) n from back = absurd (omega (arith, ints, from))
+
+pub sought_most : (r : Result (Unit {0}) Refusal) (counts : Bool) (p q : Presentation) (s : Standing) (to : ℤ) (text : List ℕ) (rise : ℕ) → is_clock to ≡ true → to <ℤ pos p.now → IsReplayed (sought_of p to) s
+    → OnOk r (q ≡ s.presentation) → OnOk r (Accepts formats p q (order.Seek to) text) → WhereTold counts (rise ≤ length (elements p.document.nodes)) → OnOk r (IsAtMost counts p (order.Seek to) rise)
+sought_most (Err e) counts p q s to text rise clock back is here accepted most = tt
+sought_most (Ok x) counts p q s to text rise clock back is here accepted most =
+    at_most counts p q (order.Seek to) rise accepted.state
+    (subst (λ (t : Bool). WhereTold counts (rise ≤ most_seeking t p q)) (sym (below to p.now (clock_from to clock).0 back))
+    (subst (λ (z : Presentation). WhereTold counts (rise ≤ length (elements z.document.nodes))) (sym (here ∙ is.presentation_is)) most))
+
+pub sought_least : (r : Result (Unit {0}) Refusal) (counts : Bool) (p q : Presentation) (to : ℤ) (text : List ℕ) (rise : ℕ) → is_clock to ≡ true → to <ℤ pos p.now
+    → OnOk r (Accepts formats p q (order.Seek to) text) → OnOk r (IsAtLeast counts p (order.Seek to) rise)
+sought_least (Err e) counts p q to text rise clock back accepted = tt
+sought_least (Ok x) counts p q to text rise clock back accepted =
+    at_least counts p q (order.Seek to) rise accepted.state
+    (subst (λ (t : Bool). WhereTold counts (least_seeking t p q ≤ rise)) (sym (below to p.now (clock_from to clock).0 back)) (none counts))
+  where
+    none : (t : Bool) → WhereTold t (0 ≤ rise)
+    none true = omega arith
+    none false = tt
+
+-- ---- the diary that is kept
+
+pub diary_kept : (s : Standing) (shown : Shown) (p : Presentation) → IsPlaying s shown → s.presentation ≡ p → s.diary ≡ diary_at p
+diary_kept s shown p is view = sym (diary_is (course_of s.presentation) s.diary is.shown_is.settled) ∙ ap diary_at view

@@ -1,0 +1,145 @@
+-- How often cells that go on have intervals evaluated: by one standing after another, and by the presentations.
+use Rattle.std.proofs.Common.{◌≡◌, refl, sym, ◌∙◌, ap, subst, ℕ, ◌+◌, ◌-◌, ◌≤◌, List, [], ◌++◌, Bool, true, false, arith, length, drop, append_assoc, append-nil}
+use Rattle.std.specs.Prelude.{pos, Result, Ok, Err, OnOk}
+use Rattle.std.proofs.Math.Seq.{drop-append_seam}
+use Rattle.std.proofs.lemmas.List.Sums.{sum_by-append}
+use Rattle.smil_model.specs.declared.diary.Entry.{Entry}
+use Rattle.smil_model.specs.declared.diary.LogEntry.{LogEntry}
+use Rattle.smil_model.specs.document.Document.{Document, elements}
+use Rattle.smil_model.specs.diary.Diary.{History}
+use Rattle.smil_model.specs.interval.Current.{current_interval}
+use Rattle.smil_model.specs.reach.Bounds.{reaches}
+use Rattle.smil_model.specs.reach.Reach.{reach}
+use Rattle.smil_model.specs.shown.Orders.{Presentation, course_of}
+use Rattle.smil_cells.specs.Standing.{GoesOn, IsSettled, Standing, WhereTold, fresh, fresh_since, interval_at, moved_to, reached_since}
+use Rattle.smil_cells.proofs.OnWay.{nothing_fresh, nothing_reached, triangle}
+use Rattle.smil_live.specs.Counts.{diary_at, interval_by, least_onward, most_onward}
+use Rattle.smil_live.specs.Moves.{IsShownAt, made}
+use Rattle.smil_live.specs.Seen.{Shown}
+use Rattle.smil_live.specs.declared.moves.Move.{Move}
+use Rattle.smil_live.specs.declared.moves.Move.TheVariants as move
+use Rattle.smil_live.proofs.Ended.{diary_is}
+use Rattle.smil_live.proofs.Resolved.{resolved_is}
+
+-- ---- one standing after another
+
+-- a standing goes on from another, and so often were intervals evaluated by then
+pub record IsCounted (counts : Bool) (old new : Standing) (before after : ℕ) : Type 0 where
+  pub diary : (more : List Entry) × (new.diary ≡ old.diary ++ more)
+  pub from : before ≤ after
+  pub most : WhereTold counts (after - before ≤ reached_since old new)
+  pub least : WhereTold counts (fresh_since old new ≤ after - before)
+
+pub counted_first : (counts : Bool) (s : Standing) (steps : ℕ) → IsCounted counts s s steps steps
+counted_first counts s steps = record {
+  diary = ([], sym (append-nil s.diary));
+  from = omega arith;
+  most = nothing_reached s counts steps;
+  least = nothing_fresh s counts steps;
+}
+
+-- two standings, one after the other, with the same document and log
+module _ (old mid new : Standing) (document : mid.presentation.document ≡ old.presentation.document) (log : new.presentation.log ≡ mid.presentation.log)
+    (m n : List Entry) (first : mid.diary ≡ old.diary ++ m) (second : new.diary ≡ mid.diary ++ n) where
+  whole : new.diary ≡ old.diary ++ (m ++ n)
+  whole = second ∙ ap (λ (x : List Entry). x ++ n) first ∙ append_assoc old.diary m n
+
+  drops : (x y z : List Entry) → z ≡ x ++ y → drop (length x) z ≡ y
+  drops x y z e = ap (drop (length x)) e ∙ drop-append_seam x y
+
+  -- the reaches add up
+  adds_up : reached_since old new ≡ reached_since old mid + reached_since mid new
+  adds_up =
+      let nodes = old.presentation.document.nodes in
+      let entries = mid.presentation.log in
+      let all : reached_since old new ≡ reaches nodes entries (m ++ n) =
+      ap (λ (l : List LogEntry). reaches nodes l (drop (length old.diary) new.diary)) log ∙ ap (reaches nodes entries) (drops old.diary (m ++ n) new.diary whole) in
+      let by_mid : reached_since old mid ≡ reaches nodes entries m = ap (reaches nodes entries) (drops old.diary m mid.diary first) in
+      let by_new : reached_since mid new ≡ reaches nodes entries n =
+      ap (λ (d : Document). reaches d.nodes new.presentation.log (drop (length mid.diary) new.diary)) document
+      ∙ ap (λ (l : List LogEntry). reaches nodes l (drop (length mid.diary) new.diary)) log ∙ ap (reaches nodes entries) (drops mid.diary n new.diary second) in
+      three (reached_since old new) (reached_since old mid) (reached_since mid new) (reaches nodes entries (m ++ n)) (reaches nodes entries m) (reaches nodes entries n) all by_mid by_new
+      (sum_by-append (λ (x : Entry). length (reach nodes entries x)) m n)
+    where
+      three : (a b c x y z : ℕ) → a ≡ x → b ≡ y → c ≡ z → x ≡ y + z → a ≡ b + c
+      three a b c x y z e f g h = omega (arith, e, f, g, h)
+
+  -- what is fresh in the end was so on the way
+  fewer_fresh : fresh_since old new ≤ fresh_since old mid + fresh_since mid new
+  fewer_fresh =
+      subst (λ (d : Document). fresh_since old new ≤ fresh_since old mid + fresh d.nodes (interval_at mid) (interval_at new)) (sym document)
+      (triangle (interval_at old) (interval_at mid) (interval_at mid) (interval_at new) (λ x. refl) (elements old.presentation.document.nodes))
+
+  module _ (a b c : ℕ) (later : b ≤ c) where
+    reached_then : (counts : Bool) → IsCounted counts old mid a b → WhereTold counts (c - b ≤ reached_since mid new) → WhereTold counts (c - a ≤ reached_since old new)
+    reached_then false is on = tt
+    reached_then true is on = numbers (reached_since old mid) (reached_since mid new) (reached_since old new) adds_up is.from is.most on
+      where
+        numbers : (x y z : ℕ) → z ≡ x + y → a ≤ b → b - a ≤ x → c - b ≤ y → c - a ≤ z
+        numbers x y z e f p q = omega (arith, e, f, p, q, later)
+
+    fresh_then : (counts : Bool) → IsCounted counts old mid a b → WhereTold counts (fresh_since mid new ≤ c - b) → WhereTold counts (fresh_since old new ≤ c - a)
+    fresh_then false is on = tt
+    fresh_then true is on = numbers (fresh_since old mid) (fresh_since mid new) (fresh_since old new) fewer_fresh is.from is.least on
+      where
+        numbers : (x y z : ℕ) → z ≤ x + y → a ≤ b → x ≤ b - a → y ≤ c - b → z ≤ c - a
+        numbers x y z e f p q = omega (arith, e, f, p, q, later)
+
+    counted_on : (counts : Bool) → IsCounted counts old mid a b → WhereTold counts (c - b ≤ reached_since mid new) → WhereTold counts (fresh_since mid new ≤ c - b) → IsCounted counts old new a c
+    counted_on counts is most least = record {
+      diary = (m ++ n, whole);
+      from = let f = is.from in omega (arith, f, later);
+      most = reached_then counts is most;
+      least = fresh_then counts is least;
+    }
+
+-- a standing at a later moment that goes on from the one before
+pub counted_then : (counts : Bool) (old mid new : Standing) (moment : ℕ) (shown : Shown) (a b c : ℕ) → mid.presentation ≡ moved_to old.presentation mid.presentation.now → IsCounted counts old mid a b
+    → b ≤ c → IsShownAt (moved_to mid.presentation moment) new shown → GoesOn mid new → WhereTold counts (c - b ≤ reached_since mid new) → WhereTold counts (fresh_since mid new ≤ c - b)
+    → IsCounted counts old new a c
+counted_then counts old mid new moment shown a b c moved is later at on most least =
+    counted_on old mid new (ap (λ (p : Presentation). p.document) moved) (ap (λ (p : Presentation). p.log) at.presentation_is) is.diary.0 on.diary.0 is.diary.1 on.diary.1 a b c later counts is most least
+
+pub counted_last : {A E : Type 0} (r : Result A E) (counts : Bool) (old mid new : Standing) (moment : ℕ) (shown : Shown) (a b c : ℕ) → mid.presentation ≡ moved_to old.presentation mid.presentation.now
+    → IsCounted counts old mid a b → b ≤ c → OnOk r (IsShownAt (moved_to mid.presentation moment) new shown) → OnOk r (GoesOn mid new) → OnOk r (WhereTold counts (c - b ≤ reached_since mid new))
+    → OnOk r (WhereTold counts (fresh_since mid new ≤ c - b)) → OnOk r (IsCounted counts old new a c)
+counted_last (Err e) counts old mid new moment shown a b c moved is later at on most least = tt
+counted_last (Ok x) counts old mid new moment shown a b c moved is later at on most least =
+    counted_then counts old mid new moment shown a b c moved is later at on most least
+
+-- ---- by the presentations
+
+reached_is : (old new : Standing) → IsSettled old → IsSettled new → new.presentation.document ≡ old.presentation.document
+    → reached_since old new ≡ most_onward old.presentation new.presentation
+reached_is old new was settled document =
+    ap (λ (d : List Entry). reaches old.presentation.document.nodes new.presentation.log (drop (length d) new.diary)) (sym (diary_is (course_of old.presentation) old.diary was))
+    ∙ ap (λ (d : List Entry). reaches old.presentation.document.nodes new.presentation.log (drop (length (diary_at old.presentation)) d)) (sym (diary_is (course_of new.presentation) new.diary settled))
+    ∙ ap (λ (d : Document). reaches d.nodes new.presentation.log (drop (length (diary_at old.presentation)) (diary_at new.presentation))) (sym document)
+
+fresh_is : (old new : Standing) → IsSettled old → IsSettled new → fresh_since old new ≡ least_onward old.presentation new.presentation
+fresh_is old new was settled =
+    ap (λ (h : History). fresh old.presentation.document.nodes (current_interval h (pos old.presentation.now)) (interval_at new)) (sym (resolved_is old.presentation old.diary was))
+    ∙ ap (λ (h : History). fresh old.presentation.document.nodes (interval_by old.presentation) (current_interval h (pos new.presentation.now))) (sym (resolved_is new.presentation new.diary settled))
+
+-- a move stays with the document
+made_document : (p : Presentation) (step : Move) → (made p step).document ≡ p.document
+made_document p (move.Pass to) = refl
+made_document p (move.Settle to) = refl
+made_document p (move.Hear entry) = refl
+
+pub most_made : {A E : Type 0} (r : Result A E) (counts : Bool) (old new : Standing) (p : Presentation) (step : Move) (shown : Shown) (rise : ℕ) → IsSettled old → old.presentation ≡ p
+    → OnOk r (IsShownAt (made old.presentation step) new shown) → OnOk r (WhereTold counts (rise ≤ reached_since old new)) → OnOk r (WhereTold counts (rise ≤ most_onward p (made p step)))
+most_made (Err e) counts old new p step shown rise was here at most = tt
+most_made (Ok x) counts old new p step shown rise was here at most =
+    subst (λ (q : Presentation). WhereTold counts (rise ≤ most_onward q (made q step))) here
+    (subst (λ (q : Presentation). WhereTold counts (rise ≤ most_onward old.presentation q)) at.presentation_is
+    (subst (λ (n : ℕ). WhereTold counts (rise ≤ n))
+    (reached_is old new was at.shown_is.settled (ap (λ (q : Presentation). q.document) at.presentation_is ∙ made_document old.presentation step)) most))
+
+pub least_made : {A E : Type 0} (r : Result A E) (counts : Bool) (old new : Standing) (p : Presentation) (step : Move) (shown : Shown) (rise : ℕ) → IsSettled old → old.presentation ≡ p
+    → OnOk r (IsShownAt (made old.presentation step) new shown) → OnOk r (WhereTold counts (fresh_since old new ≤ rise)) → OnOk r (WhereTold counts (least_onward p (made p step) ≤ rise))
+least_made (Err e) counts old new p step shown rise was here at least = tt
+least_made (Ok x) counts old new p step shown rise was here at least =
+    subst (λ (q : Presentation). WhereTold counts (least_onward q (made q step) ≤ rise)) here
+    (subst (λ (q : Presentation). WhereTold counts (least_onward old.presentation q ≤ rise)) at.presentation_is
+    (subst (λ (n : ℕ). WhereTold counts (n ≤ rise)) (fresh_is old new was at.shown_is.settled) least))

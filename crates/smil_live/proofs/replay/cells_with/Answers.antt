@@ -1,0 +1,71 @@
+use Rattle.std.proofs.Common.{◌≡◌, ◌≤ℤ◌, ◌∙◌, refl, ap, sym, subst, pos, ℤ, List, length, arith, to_z, of_z, w64}
+use Rattle.std.proofs.lemmas.Int.{ints}
+use Rattle.std.proofs.lemmas.List.{length-take-le}
+use Rattle.smil_model.specs.declared.diary.Entry.{Entry}
+use Rattle.smil_model.specs.document.Document.{elements}
+use Rattle.smil_model.specs.shown.Orders.{IsState, Presentation}
+use Rattle.smil_live.specs.Moves.{IsReplayed, IsTooFull, IsUnderWay, edited_to}
+use Rattle.smil_live.proofs.RebuiltCells.{moment_kept, replay_is}
+use Rattle.smil_live.proofs.RebuiltCounts.{most_rebuilt}
+use Rattle.smil_live.proofs.replay.cells_with.Goals as goal
+
+pub replay_on-requires-clause-way : goal.replay_on-requires-clause-way
+replay_on-requires-clause-way g c =
+    let p = c.args.cells.now.presentation in
+    let doc = c.args.doc.now in
+    let t = c.in_ok-rebuilt.rebuilt in
+    let now = moment_kept (edited_to p doc) c.moment.result c.requires.state c.moment.ensures in
+    subst (λ (q : Presentation). IsUnderWay q (length t.presentation.log) t)
+    (sym (replay_is p t.presentation.document doc c.log-log.result.now c.len.result (to_z w64 (of_z w64 c.moment.result)) c.in_ok-rebuilt.ensures.rebuilt.document_is c.log-log.ensures c.len.ensures now))
+    (c.requires.way t c.in_ok-rebuilt.ensures.rebuilt)
+
+pub replay_on-requires-clause-state : goal.replay_on-requires-clause-state
+replay_on-requires-clause-state g c =
+    let p = c.args.cells.now.presentation in
+    let doc = c.args.doc.now in
+    let t = c.in_ok-rebuilt.rebuilt in
+    let now = moment_kept (edited_to p doc) c.moment.result c.requires.state c.moment.ensures in
+    subst IsState
+    (sym (replay_is p t.presentation.document doc c.log-log.result.now c.len.result (to_z w64 (of_z w64 c.moment.result)) c.in_ok-rebuilt.ensures.rebuilt.document_is c.log-log.ensures c.len.ensures now))
+    c.requires.state
+
+pub replay_on-requires-clause-from : goal.replay_on-requires-clause-from
+replay_on-requires-clause-from g c =
+    let p = c.args.cells.now.presentation in
+    let now : to_z w64 (of_z w64 c.moment.result) ≡ pos p.now = moment_kept (edited_to p c.args.doc.now) c.moment.result c.requires.state c.moment.ensures in
+    subst (λ (z : ℤ). pos 0 ≤ℤ z) (sym now) (omega (arith, ints))
+
+pub replay_on-requires-clause-within : goal.replay_on-requires-clause-within
+replay_on-requires-clause-within g c = omega (arith, c.len.ensures)
+
+pub returns-in-Ok-clause-ok : goal.returns-in-Ok-clause-ok
+returns-in-Ok-clause-ok g c =
+    let p = c.args.cells.now.presentation in
+    let doc = c.args.doc.now in
+    let t = c.in_ok-rebuilt.rebuilt in
+    let now = moment_kept (edited_to p doc) c.moment.result c.requires.state c.moment.ensures in
+    subst (λ (q : Presentation). IsReplayed q c.replay_on.new.cells)
+    (replay_is p t.presentation.document doc c.log-log.result.now c.len.result (to_z w64 (of_z w64 c.moment.result)) c.in_ok-rebuilt.ensures.rebuilt.document_is c.log-log.ensures c.len.ensures now)
+    c.in-Ok.ensures.ok
+
+pub returns-in-Err-clause-refused : goal.returns-in-Err-clause-refused
+returns-in-Err-clause-refused g c =
+    let p = c.args.cells.now.presentation in
+    let doc = c.args.doc.now in
+    let t = c.in_ok-rebuilt.rebuilt in
+    let now = moment_kept (edited_to p doc) c.moment.result c.requires.state c.moment.ensures in
+    subst (λ (q : Presentation). IsTooFull q c.in-Err.refusal)
+    (replay_is p t.presentation.document doc c.log-log.result.now c.len.result (to_z w64 (of_z w64 c.moment.result)) c.in_ok-rebuilt.ensures.rebuilt.document_is c.log-log.ensures c.len.ensures now)
+    c.in-Err.ensures.refused
+
+pub returns-in-Ok-clause-most : goal.returns-in-Ok-clause-most
+returns-in-Ok-clause-most g c =
+    let p = c.args.cells.now.presentation in
+    let doc = c.args.doc.now in
+    let t = c.in_ok-rebuilt.rebuilt in
+    let now = moment_kept (edited_to p doc) c.moment.result c.requires.state c.moment.ensures in
+    let ok = subst (λ (q : Presentation). IsReplayed q c.replay_on.new.cells)
+    (replay_is p t.presentation.document doc c.log-log.result.now c.len.result (to_z w64 (of_z w64 c.moment.result)) c.in_ok-rebuilt.ensures.rebuilt.document_is c.log-log.ensures c.len.ensures now)
+    c.in-Ok.ensures.ok in
+    most_rebuilt g.T.Table.counts (edited_to p doc) t c.replay_on.new.cells c.args.len (length (elements doc.nodes)) c.args.steps.now c.rebuilt.new.steps c.replay_on.new.steps ok c.in_ok-rebuilt.ensures.rebuilt.document_is
+    (ap (λ (l : List Entry). length l) c.in_ok-rebuilt.ensures.rebuilt.diary_is ∙ length-take-le c.args.len c.args.cells.now.diary c.requires.rebuild.within) refl c.rebuilt.ensures.counted c.replay_on.ensures.counted c.rebuilt.ensures.most c.in-Ok.ensures.most

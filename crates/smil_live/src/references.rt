@@ -1,0 +1,216 @@
+//! Whether an edit leaves the references of a document as they were.
+
+ghost use Rattle.std.specs.Prelude.{◌≡◌, ◌++◌, List, length, map, Some, IfOk, OnOk};
+ghost use Rattle.std.specs.List.{list_all};
+ghost use Rattle.smil_model.specs.declared.document.Node.{Node as AnyNode};
+ghost use Rattle.smil_model.specs.declared.document.Item.{Item as AnyItem};
+ghost use Rattle.smil_model.specs.document.Defaults.{items_of, items_or};
+ghost use Rattle.smil_model.specs.document.Dependencies.{is_looped};
+ghost use Rattle.smil_model.specs.document.Document.{element_named, elements, node_at, serial_of};
+ghost use Rattle.smil_instances.specs.Spread.{element_of};
+ghost use Rattle.smil_live.specs.Linked.{counts_at};
+ghost use Rattle.smil_live.specs.References.{are_same_marks, is_same_serial, keeps_id, keeps_loops, keeps_loops_of, keeps_references, loops};
+
+use smil_graph::Graph;
+use smil_model::{Bytes, Duplicate, Edge, Items, Node, Who};
+use smil_tree::Tree;
+use std::alloc::{AllocError, Global};
+
+/// A document in place, with its nodes in order and its graph.
+#[derive(Clone, Copy)]
+pub struct Linked<'a> {
+    pub tree: &'a Tree,
+    pub nodes: &'a [Node],
+    pub graph: &'a Graph,
+}
+
+/// Whether an edit of a node leaves the references as they were, unless memory runs out: each id of a node names the same
+/// element in both documents or none, and the items of each other element that both have are looped in both or in none.
+pub fn keeps_references(
+    alloc: Global,
+    edited: u32,
+    old: Linked<'_>,
+    new: Linked<'_>,
+) -> Result<bool, AllocError>
+    requires old_nodes { old.nodes.now ≡ old.tree.now.nodes }
+    requires new_nodes { new.nodes.now ≡ new.tree.now.nodes }
+    requires old_graph { old.graph.now.nodes ≡ old.tree.now.nodes }
+    requires new_graph { new.graph.now.nodes ≡ new.tree.now.nodes }
+    ensures { IfOk result (λ keeps. keeps ≡ keeps_references edited old.entry.tree.now.nodes new.entry.tree.now.nodes) }
+{
+    if !keeps_ids(old.nodes, old.tree, new.tree)? || !keeps_ids(new.nodes, old.tree, new.tree)? {
+        return Ok(false);
+    }
+    keeps_loops(alloc, edited, old, new)
+}
+
+// Whether the id of each of these nodes names the same element in both documents, or none.
+fn keeps_ids(nodes: &[Node], old: &Tree, new: &Tree) -> Result<bool, AllocError>
+    ensures { IfOk result (λ keeps. keeps
+        ≡ list_all (λ (n : AnyNode). keeps_id old.now.nodes new.now.nodes n.attrs.id) nodes.now) }
+{
+    for node in nodes {
+        if !keeps_id(old, new, &node.attrs.id)? {
+            return Ok(false);
+        }
+    }
+    Ok(true)
+}
+
+// Whether an id names the same element in both documents, or none.
+fn keeps_id(old: &Tree, new: &Tree, id: &Option<Bytes>) -> Result<bool, AllocError>
+    ensures { IfOk result (λ keeps. keeps ≡ keeps_id old.now.nodes new.now.nodes id.now) }
+{
+    let Some(id) = id else {
+        return Ok(true);
+    };
+    let before = named(old, id)?;
+    let after = named(new, id)?;
+    Ok(is_same_serial(before, after))
+}
+
+// The serial of the element with an id, if there is one.
+fn named(tree: &Tree, id: &Bytes) -> Result<Option<u32>, AllocError>
+    ensures { IfOk result (λ who. who ≡ serial_of (element_named tree.now.nodes id.now)) }
+{
+    tree.valid();
+    let who = Who::Id(id.copy()?);
+    Ok(element_of(tree, &who))
+}
+
+// The serial of an element, if there is such a node and it is no priorityClass.
+fn element_of(tree: &Tree, who: &Who) -> Option<u32>
+    ensures { result ≡ serial_of (element_of tree.now.nodes who.now) }
+{
+    tree.valid();
+    let serial = tree.find(who)?;
+    if tree.kind(serial).is_element() {
+        Some(serial)
+    } else {
+        None
+    }
+}
+
+// Whether two serials are the same, or both absent.
+fn is_same_serial(one: Option<u32>, other: Option<u32>) -> bool
+    ensures { result ≡ is_same_serial one other }
+{
+    match (one, other) {
+        (None, None) => true,
+        (Some(one), Some(other)) => one == other,
+        _ => false,
+    }
+}
+
+// Whether the items of each other element that both documents have are looped in both or in none.
+fn keeps_loops(
+    alloc: Global,
+    edited: u32,
+    old: Linked<'_>,
+    new: Linked<'_>,
+) -> Result<bool, AllocError>
+    requires old_nodes { old.nodes.now ≡ old.tree.now.nodes }
+    requires old_graph { old.graph.now.nodes ≡ old.tree.now.nodes }
+    requires new_graph { new.graph.now.nodes ≡ new.tree.now.nodes }
+    ensures { IfOk result (λ keeps. keeps ≡ keeps_loops edited old.entry.tree.now.nodes new.entry.tree.now.nodes) }
+{
+    for node in old.nodes {
+        if node.kind.is_element() && !keeps_loops_of(alloc, edited, old, new, node.serial)? {
+            return Ok(false);
+        }
+    }
+    Ok(true)
+}
+
+// Whether the items of an element, unless it is edited or the new document does not have it, are looped in both documents or
+// in none.
+fn keeps_loops_of(
+    alloc: Global,
+    edited: u32,
+    old: Linked<'_>,
+    new: Linked<'_>,
+    serial: u32,
+) -> Result<bool, AllocError>
+    requires old_graph { old.graph.now.nodes ≡ old.tree.now.nodes }
+    requires new_graph { new.graph.now.nodes ≡ new.tree.now.nodes }
+    ensures { IfOk result (λ keeps. keeps
+        ≡ keeps_loops_of edited old.entry.tree.now.nodes new.entry.tree.now.nodes serial) }
+{
+    if serial == edited || item_counts(new.tree, serial).is_none() {
+        return Ok(true);
+    }
+    let before = loops(alloc, old, serial)?;
+    let after = loops(alloc, new, serial)?;
+    Ok(are_same_marks(before.as_slice(), after.as_slice()))
+}
+
+// Which items of an element are looped references; nothing for a serial of no element.
+fn loops(alloc: Global, document: Linked<'_>, serial: u32) -> Result<Vec<bool>, AllocError>
+    requires graph { document.graph.now.nodes ≡ document.tree.now.nodes }
+    ensures { IfOk result (λ marks. marks.items
+        ≡ loops document.entry.tree.now.nodes
+        (node_at (elements document.entry.tree.now.nodes) serial)) }
+{
+    let mut marks = Vec::new(alloc);
+    let Some((begins, ends)) = item_counts(document.tree, serial) else {
+        return Ok(marks);
+    };
+    push_marks(document.graph, serial, Edge::Begin, begins, &mut marks)?;
+    push_marks(document.graph, serial, Edge::End, ends, &mut marks)?;
+    Ok(marks)
+}
+
+// Appends which items of one side of an element are looped references.
+fn push_marks(
+    graph: &Graph,
+    serial: u32,
+    side: Edge,
+    count: usize,
+    marks: &mut Vec<bool>,
+) -> Result<(), AllocError>
+    requires counted { (e : AnyNode) × (node_at (elements graph.now.nodes) serial ≡ Some e)
+        × (count ≡ length (items_of graph.now.nodes side e)) }
+    ensures { (e : AnyNode) → node_at (elements graph.now.nodes) serial ≡ Some e
+        → OnOk result (marks.new.items ≡ marks.old.items
+        ++ map (is_looped graph.now.nodes e.serial) (items_of graph.now.nodes side e)) }
+{
+    for item in 0..count {
+        marks.push(graph.looped(serial, side, item))?;
+    }
+    Ok(())
+}
+
+// How many items the begin and the end list of an element have; None for a serial of no element.
+fn item_counts(tree: &Tree, serial: u32) -> Option<(usize, usize)>
+    ensures { result ≡ counts_at tree.now.nodes serial }
+{
+    tree.valid();
+    let serial = element_of(tree, &Who::Serial(serial))?;
+    let attrs = tree.attrs(serial);
+    Some((count_or(&attrs.begin, 1), count_or(&attrs.end, 0)))
+}
+
+// How many items a list has, or a number where it is absent.
+fn count_or(items: &Option<Items>, without: usize) -> usize
+    ensures { (others : List AnyItem) → length others ≡ without → result ≡ length (items_or others items.now) }
+{
+    match items {
+        Some(items) => items.len(),
+        None => without,
+    }
+}
+
+// Whether two lists of marks are the same.
+fn are_same_marks(one: &[bool], other: &[bool]) -> bool
+    ensures { result ≡ are_same_marks one.now other.now }
+{
+    if one.len() != other.len() {
+        return false;
+    }
+    for (place, mark) in one.iter().enumerate() {
+        if other[place] != *mark {
+            return false;
+        }
+    }
+    true
+}

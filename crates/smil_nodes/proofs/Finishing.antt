@@ -1,0 +1,122 @@
+-- Nothing is listed any more.
+use Rattle.std.proofs.Common.{◌≡◌, refl, ◌∙◌, ap, sym, ℕ, ◌+◌, ◌-◌, ◌≤◌, List, [], ◌∷◌, ◌++◌, length, filter, Option, Some, None, ℤ, Bool, true, false, arith}
+use Rattle.std.specs.Prelude.{◌&&◌, ◌==◌, not, cond, int_le, is_some}
+use Rattle.std.proofs.lemmas.Bool.{eqb-true, or_left, or_parts}
+use Rattle.std.proofs.lemmas.Int.{ints}
+use Rattle.std.proofs.lemmas.List.Folds.{list_any-append}
+use Rattle.smil_model.specs.declared.diary.Entry.{Entry}
+use Rattle.smil_model.specs.declared.diary.LogEntry.{LogEntry}
+use Rattle.smil_model.specs.declared.interval.Interval.{Interval}
+use Rattle.smil_model.specs.declared.document.Node.{Node}
+use Rattle.smil_model.specs.declared.times.Time.{Time}
+use Rattle.smil_model.specs.declared.times.Time.TheVariants.{At, Indefinite, Unresolved}
+use Rattle.smil_model.specs.Times.{time_le}
+use Rattle.smil_model.specs.document.Document.{elements}
+use Rattle.smil_model.specs.document.Closure.{has}
+use Rattle.smil_model.specs.document.Valid.{IsDistinct}
+use Rattle.smil_model.specs.diary.Diary.{History}
+use Rattle.smil_model.specs.interval.Current.{current_interval}
+use Rattle.smil_model.specs.reach.Bounds.{reaches}
+use Rattle.smil_laws.specs.Edited.{IsOrdered}
+use Rattle.smil_graph.specs.Graph.{IsOrder}
+use Rattle.smil_cells.specs.declared.plain.known.Row.{Row}
+use Rattle.smil_cells.specs.Plain.{interval_in}
+use Rattle.smil_cells.specs.Round.{AreTaken, StayUnchanged}
+use Rattle.smil_cells.specs.Standing.{any_interval, fresh, is_same_interval}
+use Rattle.smil_cells.proofs.Current.{all_current}
+use Rattle.smil_nodes.specs.Schedule.{AreCurrent}
+use Rattle.smil_nodes.specs.Work.{AreSettled, IsCounted}
+use Rattle.smil_nodes.proofs.Counting.{passing_within, within_reaches}
+use Rattle.smil_nodes.proofs.Fixed.{current_intervals}
+
+-- rows that are as the intervals of all give them are current
+pub taken_current : (h : History) (now : ℤ) (order : List ℕ) (rows : List Row) → IsOrdered h.nodes → IsOrder h.nodes order → AreTaken h now order (length order) rows → AreCurrent rows h now
+taken_current h now order rows ordered is taken =
+    let all = all_current h now order rows ordered is taken in
+    record { rows_are = all.rows_are; comings_are = all.comings_are }
+
+pub settled_current : (h : History) (now : ℤ) (order : List ℕ) (listed : ℕ → Bool) (rows : List Row) → IsOrdered h.nodes → IsOrder h.nodes order → AreSettled h now order listed rows → ((r : ℕ) → listed r ≡ false) → AreCurrent rows h now
+settled_current h now order listed rows ordered is settled none =
+    taken_current h now order rows ordered is
+    (record {
+      of_elements = settled.of_elements;
+      rows_are = λ k place e row less at here got. settled.rows_are k place e row less at (none k) here got;
+    })
+
+-- ---- what is told of intervals that change
+
+pub told_pushed : (old new : List ℕ) (who : ℕ) (before after : List Row) → ((s : ℕ) → who == s ≡ false → interval_in after s ≡ interval_in before s) → new ≡ old ++ who ∷ [] → StayUnchanged old new before after
+told_pushed old new who before after others pushed = record {
+  more = λ s among. ap (λ xs. has xs s) pushed ∙ list_any-append (λ y. y == s) old (who ∷ []) ∙ or_left _ _ among;
+  others = λ s out. others s (or_parts _ _ ((or_parts _ _ (sym (list_any-append (λ y. y == s) old (who ∷ [])) ∙ sym (ap (λ xs. has xs s) pushed) ∙ out)).1)).0;
+}
+
+pub told_same : (old new : List ℕ) (who : ℕ) (before after : List Row) → ((s : ℕ) → who == s ≡ false → interval_in after s ≡ interval_in before s) → new ≡ old → interval_in after who ≡ interval_in before who → StayUnchanged old new before after
+told_same old new who before after others same stays = record {
+  more = λ s among. ap (λ xs. has xs s) same ∙ among;
+  others = λ s out. by_test s (who == s) refl;
+}
+  where
+    by_test : (s : ℕ) (t : Bool) → who == s ≡ t → interval_in after s ≡ interval_in before s
+    by_test s true q = let one : who ≡ s = eqb-true who s q in ap (interval_in after) (sym one) ∙ stays ∙ ap (interval_in before) one
+    by_test s false q = others s q
+
+-- the current interval of each element that is not told stays
+pub untold_stay : (front h : History) (now : ℤ) (old new : List Row) (told changed : List ℕ) → AreCurrent old front now → AreCurrent new h now → StayUnchanged told changed old new → (s : ℕ) → has changed s ≡ false → current_interval h now s ≡ current_interval front now s
+untold_stay front h now old new told changed before after unchanged s out =
+    sym (current_intervals new h now after s) ∙ unchanged.others s out ∙ current_intervals old front now before s
+
+-- ---- how many were evaluated
+
+same_self : (x : Option Interval) → is_some x && not (is_same_interval x x) ≡ false
+same_self None = refl
+same_self (Some i) = ap not (same_whole i)
+  where
+    no_less : (x : ℤ) → int_le x x ≡ true
+    no_less x = grind (arith, ints)
+
+    time_no_less : (x : Time) → time_le x x ≡ true
+    time_no_less (At x) = no_less x
+    time_no_less Indefinite = refl
+    time_no_less Unresolved = refl
+
+    same_whole : (i : Interval) → is_same_interval (Some i) (Some i) ≡ true
+    same_whole i = rw (no_less i.begin) (rw (time_no_less i.«end») refl)
+
+module _ (nodes : List Node) (log : List LogEntry) (entries : List Entry) (order : List ℕ) (listed : ℕ → Bool) (first rows : List Row) (start steps : ℕ) (counted : IsCounted nodes log entries order listed first rows start steps) where
+  -- at most as many as the entries reach
+  pub counted_most : steps - start ≤ reaches nodes log entries
+  counted_most =
+      let steps_are : steps ≡ start + length counted.taken = counted.steps_are in
+      let most : length counted.taken ≤ reaches nodes log entries = within_reaches nodes log entries counted.taken counted.distinct counted.reached in
+      omega (arith, steps_are, most)
+
+  -- at least as many as have an interval that they had not
+  pub counted_least : (before after : ℕ → Option Interval) → IsDistinct nodes → ((s : ℕ) → interval_in first s ≡ before s) → ((s : ℕ) → interval_in rows s ≡ after s) → fresh nodes before after ≤ steps - start
+  counted_least before after distinct was is =
+      let steps_are : steps ≡ start + length counted.taken = counted.steps_are in
+      let least : fresh nodes before after ≤ length counted.taken =
+      passing_within nodes (λ (e : Node). is_some (after e.serial) && not (is_same_interval (before e.serial) (after e.serial))) counted.taken distinct
+      (λ e here passes. evaluated e.serial (has counted.taken e.serial) refl passes) in
+      omega (arith, steps_are, least)
+    where
+      evaluated : (s : ℕ) (t : Bool) → has counted.taken s ≡ t → is_some (after s) && not (is_same_interval (before s) (after s)) ≡ true → t ≡ true
+      evaluated s true q passes = refl
+      evaluated s false q passes =
+          let same : after s ≡ before s = sym (is s) ∙ counted.others s q ∙ was s in
+          let never : false ≡ true = sym (same_self (after s)) ∙ ap (λ x. is_some (after s) && not (is_same_interval x (after s))) same ∙ passes in
+          cc
+
+-- at most as many elements have an interval as there are
+any_most : (test : Node → Bool) (es : List Node) → length (filter test es) ≤ length es
+any_most test [] = omega arith
+any_most test (e ∷ es) = by_test (test e) (any_most test es)
+  where
+    by_test : (t : Bool) → length (filter test es) ≤ length es → length (cond t (e ∷ filter test es) (filter test es)) ≤ length (e ∷ es)
+    by_test true l = omega (arith, l)
+    by_test false l = omega (arith, l)
+
+pub any_least : (nodes : List Node) (intervals : ℕ → Option Interval) (start steps : ℕ) → steps ≡ start + length (elements nodes) → any_interval nodes intervals ≤ steps - start
+any_least nodes intervals start steps are =
+    let few : any_interval nodes intervals ≤ length (elements nodes) = any_most (λ (e : Node). is_some (intervals e.serial)) (elements nodes) in
+    omega (arith, are, few)

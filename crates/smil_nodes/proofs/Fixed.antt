@@ -1,0 +1,97 @@
+-- The row of an element in current rows.
+use Rattle.std.proofs.Common.{◌≡◌, refl, sym, ◌∙◌, ap, ℕ, suc, zero, ◌+◌, List, [], ◌∷◌, length, map, Some, ℤ, arith}
+use Rattle.std.specs.Prelude.{option_and_then, reverse, slice_get}
+use Rattle.std.proofs.lemmas.Bool.{eqb-true}
+use Rattle.smil_model.specs.declared.document.Node.{Node}
+use Rattle.smil_model.specs.document.Document.{elements, node_at, serials}
+use Rattle.smil_model.specs.diary.Diary.{History}
+use Rattle.smil_model.specs.interval.Current.{interval_given, simple_of, current_interval}
+use Rattle.smil_model.specs.happening.Keys.{coming_of}
+use Rattle.smil_laws.specs.Edited.{IsOrdered}
+use Rattle.smil_laws.specs.Locality.{ParentsBefore}
+use Rattle.smil_laws.proofs.Rounds.{after_rounds, after_rounds-suc}
+use Rattle.smil_laws.proofs.Settled.{come_to_rest}
+use Rattle.smil_element.specs.Element.{both, coming_by}
+use Rattle.smil_element.specs.Comings.{HaveComings}
+use Rattle.smil_cells.specs.declared.plain.known.Row.{Row}
+use Rattle.smil_cells.specs.Plain as plain
+use Rattle.smil_cells.specs.Plain.{interval_in}
+use Rattle.smil_cells.specs.Round.{IsRowOf}
+use Rattle.smil_cells.proofs.Rows.{IsFirst}
+use Rattle.smil_cells.proofs.Paired.{first_at, interval_at, there_at}
+use Rattle.smil_cells.proofs.Current as current
+use Rattle.smil_cells.proofs.Taking.{elements_differ}
+use Rattle.std.specs.FinSet as set
+use Rattle.smil_model.specs.happening.Keys.{keys}
+use Rattle.smil_nodes.specs.Schedule.{AreCurrent}
+
+-- ---- current rows
+
+pub plain_current : (rows : List Row) (h : History) (now : ℤ) → AreCurrent rows h now → plain.IsCurrent rows (set.from_list (keys h now)) h now
+plain_current rows h now are = record { rows_are = are.rows_are; comings_are = are.comings_are; due_is = refl }
+
+-- they have the current intervals
+pub current_intervals : (rows : List Row) (h : History) (now : ℤ) → AreCurrent rows h now → (s : ℕ) → interval_in rows s ≡ current_interval h now s
+current_intervals rows h now are s = current.current_intervals h now rows (set.from_list (keys h now)) (plain_current rows h now are) s
+
+-- and are of the elements
+pub current_elements : (rows : List Row) (h : History) (now : ℤ) → AreCurrent rows h now → map (λ (r : Row). r.serial) rows ≡ serials (elements h.nodes)
+current_elements rows h now are = current.current_elements h now rows (set.from_list (keys h now)) (plain_current rows h now are)
+
+-- ---- the current interval of an element is given by those of all
+
+fixed : (h : History) (now : ℤ) (e : Node) → ParentsBefore (reverse h.nodes) → node_at (elements h.nodes) e.serial ≡ Some e → current_interval h now e.serial ≡ interval_given h (current_interval h now) now e
+fixed h now e first here =
+    let n = length (elements h.nodes) in
+    let next : n + 1 ≡ suc n = omega arith in
+    sym (come_to_rest h now 1 e.serial first)
+    ∙ ap (λ k. after_rounds h now k e.serial) next
+    ∙ after_rounds-suc h now n e.serial
+    ∙ ap (option_and_then (interval_given h (current_interval h now) now)) here
+
+-- ---- the row at a place
+
+pub first_serial : (who : ℕ) (rows : List Row) (k : ℕ) (row : Row) → IsFirst who rows k → slice_get rows k ≡ Some row → row.serial ≡ who
+first_serial who [] k row is got = elim is [ ]
+first_serial who (x ∷ xs) zero row is got =
+    let one : x ≡ row = cc in
+    ap (λ (r : Row). r.serial) (sym one) ∙ eqb-true x.serial who is
+first_serial who (x ∷ xs) (suc k) row is got = first_serial who xs k row is.1 got
+
+comings_at : (h : History) (now : ℤ) (place : ℕ) (es : List Node) (rows : List Row) (k n : ℕ) (e : Node) (r : Row) → HaveComings h now place es (map (λ (r : Row). r.comings) rows) → n ≡ place + k → slice_get es k ≡ Some e → slice_get rows k ≡ Some r → both r.comings.moved r.comings.repeat ≡ coming_of h (current_interval h now) now n e
+comings_at h now place [] rows k n e r is eq p q = absurd (cc)
+comings_at h now place (d ∷ ds) [] k n e r is eq p q = absurd is
+comings_at h now place (d ∷ ds) (x ∷ xs) zero n e r is eq p q =
+    let node : d ≡ e = cc in
+    let row : x ≡ r = cc in
+    let same : place ≡ n = omega (arith, eq) in
+    ap (λ (y : Row). both y.comings.moved y.comings.repeat) (sym row) ∙ is.0
+    ∙ ap (λ m. coming_of h (current_interval h now) now m d) same
+    ∙ ap (λ y. coming_of h (current_interval h now) now n y) node
+comings_at h now place (d ∷ ds) (x ∷ xs) (suc k) n e r is eq p q = comings_at h now (suc place) ds xs k n e r is.1 (omega (arith, eq)) p q
+
+-- it is as the intervals of all rows give it
+pub row_of_current : (rows : List Row) (h : History) (now : ℤ) (place : ℕ) (e : Node) (row : Row) → IsOrdered h.nodes → AreCurrent rows h now → slice_get (elements h.nodes) place ≡ Some e → slice_get rows place ≡ Some row → IsRowOf h (interval_in rows) now place e row
+row_of_current rows h now place e row ordered are here got = record {
+  serial = first_serial e.serial rows place row first got;
+  interval = own ∙ fixed h now e ordered.first there ∙ ap (λ J. interval_given h J now e) (sym same);
+  comings =
+      comings_at h now 0 (elements h.nodes) rows place place e row are.comings_are (omega arith) here got
+      ∙ ap (λ J. coming_of h J now place e) (sym same)
+      ∙ ap (λ i. coming_by h i (simple_of h (interval_in rows) e) now place e) at_own;
+}
+  where
+    first : IsFirst e.serial rows place
+    first = first_at (elements h.nodes) rows place e (elements_differ h.nodes ordered.distinct) (current_elements rows h now are) here
+
+    there : node_at (elements h.nodes) e.serial ≡ Some e
+    there = there_at (elements h.nodes) place e (elements_differ h.nodes ordered.distinct) here
+
+    same : interval_in rows ≡ current_interval h now
+    same = λ i s. current_intervals rows h now are s i
+
+    at_own : interval_in rows e.serial ≡ row.interval
+    at_own = interval_at e.serial rows place row first got
+
+    own : row.interval ≡ current_interval h now e.serial
+    own = sym at_own ∙ current_intervals rows h now are e.serial

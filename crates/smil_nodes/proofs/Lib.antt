@@ -1,0 +1,17 @@
+pub mod Best
+pub mod Climb
+pub mod Counting
+pub mod Listing
+pub mod Noted
+pub mod Noting
+pub mod Ranked
+pub mod Gap
+pub mod Apart
+pub mod Fixed
+pub mod Starting
+pub mod Working
+pub mod Tally
+pub mod Finishing
+pub mod Slotted
+pub mod Undone
+pub mod Refreshing

@@ -1,0 +1,336 @@
+-- The ranks of elements are listed one after another.
+use Rattle.std.proofs.Common.{◌≡◌, refl, sym, ◌∙◌, ap, subst, ℕ, zero, suc, ◌+◌, ◌-◌, ◌<◌, ◌≤◌, List, [], ◌∷◌, length, take, drop, get_or, Option, Some, None, Bool, true, false, arith, inl, inr}
+use Rattle.std.specs.Prelude.{◌⊎◌, ◌==◌, ◌||◌, ◌&&◌, cond, filter, is_some, option_map, slice_get, slice_range}
+use Rattle.std.specs.List.{list_any, position}
+use Rattle.std.proofs.lemmas.Bool.{and_from, and_parts, or_cases, or_left, or_right, eqb-true, eq-eqb}
+use Rattle.std.proofs.lemmas.Grind.{common_steps}
+use Rattle.std.proofs.lemmas.List.{get_or-drop, length-drop}
+use Rattle.std.proofs.lemmas.List.Folds.{list_any_more}
+use Rattle.std.proofs.Math.Seq.{take-nil}
+use Rattle.std.proofs.lemmas.List.Quantifiers.{position-Some}
+use Rattle.std.proofs.lemmas.List.Sorted.{list_any-IsPermutation}
+use Rattle.std.proofs.lemmas.Option.{get_or_from_slice_get, slice_get_within}
+use Rattle.smil_model.specs.declared.diary.Entry.{Entry}
+use Rattle.smil_model.specs.declared.diary.LogEntry.{LogEntry}
+use Rattle.smil_model.specs.declared.document.Node.{Node}
+use Rattle.smil_model.specs.document.Document.{elements, is_element, is_within, node_at, serial_of, serials}
+use Rattle.smil_model.specs.document.Closure.{has}
+use Rattle.smil_model.specs.document.Valid.{IsDistinct}
+use Rattle.smil_model.specs.reach.Reach.{key_of, reads, subject_of}
+use Rattle.smil_laws.specs.Touched.{is_touched, is_touched_from}
+use Rattle.smil_graph.specs.Graph.{IsOrder, readers_of}
+use Rattle.smil_graph.proofs.Answered.{element_at, only_element}
+use Rattle.smil_graph.proofs.Fed.{any_filter, any_there, there_any_item}
+use Rattle.smil_stretch.proofs.Above.{known_element, node_of}
+use Rattle.smil_stretch.proofs.Idle.{node_found}
+use Rattle.smil_past.proofs.Listing.{known_node}
+use Rattle.smil_element.proofs.Cutting.{part_none}
+use Rattle.smil_nodes.specs.Noted.{AreNoted, is_noted_at, is_noted_by, is_noted_through, is_self_or_reader}
+
+-- ---- a rank in an order
+
+-- what has a rank stands at it
+at_rank : (order : List ℕ) (s r : ℕ) → position (λ t. t == s) order ≡ Some r → get_or order r 0 ≡ s
+at_rank order s r at = let found = position-Some (λ t. t == s) order r 0 at in eqb-true (get_or order r 0) s found.1
+
+below : (order : List ℕ) (s r : ℕ) → position (λ t. t == s) order ≡ Some r → r < length order
+below order s r at = let found = position-Some (λ t. t == s) order r 0 at in found.0
+
+position_step : (t : ℕ → Bool) (x : ℕ) (xs : List ℕ) → position t (x ∷ xs) ≡ cond (t x) (Some 0) (option_map suc (position t xs))
+position_step t x xs = grind (arith, common_steps)
+
+-- what is in an order has a rank in it
+has_rank : (xs : List ℕ) (s : ℕ) → is_some (position (λ t. t == s) xs) ≡ has xs s
+has_rank [] s = refl
+has_rank (x ∷ xs) s = ap is_some (position_step (λ t. t == s) x xs) ∙ step (x == s) (position (λ t. t == s) xs) (has_rank xs s)
+  where
+    step : (b : Bool) (o : Option ℕ) → is_some o ≡ has xs s → is_some (cond b (Some 0) (option_map suc o)) ≡ (b || has xs s)
+    step true o q = refl
+    step false None q = q
+    step false (Some k) q = q
+
+pub known_serial : (s : ℕ) (ns : List Node) → has (serials ns) s ≡ is_some (node_at ns s)
+known_serial s [] = refl
+known_serial s (n ∷ ns) = step (n.serial == s) (known_serial s ns)
+  where
+    step : (b : Bool) → has (serials ns) s ≡ is_some (node_at ns s) → (b || has (serials ns) s) ≡ is_some (cond b (Some n) (node_at ns s))
+    step true q = refl
+    step false q = q
+
+-- the elements are those that have a rank
+pub ranked : (nodes : List Node) (order : List ℕ) (s : ℕ) → IsOrder nodes order → is_some (position (λ t. t == s) order) ≡ is_some (node_at (elements nodes) s)
+ranked nodes order s is =
+    has_rank order s
+    ∙ sym (list_any-IsPermutation (λ t. t == s) (serials (elements nodes)) order is.all)
+    ∙ known_serial s (elements nodes)
+
+-- ---- lists that grow
+
+or_none : (b : Bool) → b ≡ (b || false)
+or_none true = refl
+or_none false = refl
+
+or_grouped : (a b c : Bool) → ((a || b) || c) ≡ (a || (b || c))
+or_grouped true b c = refl
+or_grouped false b c = refl
+
+take_none : {A : Type 0} (xs : List A) → take 0 xs ≡ []
+take_none [] = refl
+take_none (x ∷ xs) = refl
+
+take_all : {A : Type 0} (xs : List A) (k : ℕ) → length xs ≤ k → take k xs ≡ xs
+take_all [] k l = take-nil k
+take_all (x ∷ xs) zero l = absurd (omega (arith, l))
+take_all (x ∷ xs) (suc k) l = ap (λ ys. x ∷ ys) (take_all xs k (omega (arith, l)))
+
+module _ (order : List ℕ) where
+  -- nothing more is listed
+  pub none_noted : (test : ℕ → Bool) (old : List ℕ) → ((s r : ℕ) → position (λ t. t == s) order ≡ Some r → test s ≡ false) → AreNoted order test old old
+  none_noted test old none = record {
+    listed = λ s r at. or_none (has old r) ∙ ap (λ b. has old r || b) (sym (none s r at));
+    ranks = λ r q. inl q;
+  }
+
+  -- one rank more
+  pub one_noted : (serial rank : ℕ) (old new : List ℕ) → position (λ t. t == serial) order ≡ Some rank → ((r : ℕ) → has new r ≡ ((r == rank) || has old r)) → AreNoted order (λ s. serial == s) old new
+  one_noted serial rank old new at put = record {
+    listed = λ s r at_s. put r ∙ turn (r == rank) (has old r) ∙ ap (λ b. has old r || b) (same s r at_s (r == rank) refl (serial == s) refl);
+    ranks = λ r q. by_case r (or_cases (r == rank) (has old r) (sym (put r) ∙ q));
+  }
+    where
+      turn : (a b : Bool) → (a || b) ≡ (b || a)
+      turn true true = refl
+      turn true false = refl
+      turn false true = refl
+      turn false false = refl
+
+      same : (s r : ℕ) → position (λ t. t == s) order ≡ Some r → (a : Bool) → r == rank ≡ a → (b : Bool) → serial == s ≡ b → a ≡ b
+      same s r at_s true p true q = refl
+      same s r at_s false p false q = refl
+      same s r at_s true p false q =
+          let one : serial ≡ s = sym (at_rank order serial rank at) ∙ ap (λ k. get_or order k 0) (sym (eqb-true r rank p)) ∙ at_rank order s r at_s in
+          let never : true ≡ false = sym (eq-eqb serial s one) ∙ q in
+          cc
+      same s r at_s false p true q =
+          let both : Some rank ≡ Some r = sym at ∙ ap (λ k. position (λ t. t == k) order) (eqb-true serial s q) ∙ at_s in
+          let one : r ≡ rank = cc in
+          let never : true ≡ false = sym (eq-eqb r rank one) ∙ p in
+          cc
+
+      by_case : (r : ℕ) → (r == rank ≡ true) ⊎ (has old r ≡ true) → (has old r ≡ true) ⊎ (r < length order)
+      by_case r (inl e) = let one = eqb-true r rank e in let low = below order serial rank at in inr (omega (arith, one, low))
+      by_case r (inr q) = inl q
+
+  -- the same by a test that agrees on all that has a rank
+  pub noted_by : (p q : ℕ → Bool) (old new : List ℕ) → ((s r : ℕ) → position (λ t. t == s) order ≡ Some r → p s ≡ q s) → AreNoted order p old new → AreNoted order q old new
+  noted_by p q old new same noted = record {
+    listed = λ s r at. noted.listed s r at ∙ ap (λ b. has old r || b) (same s r at);
+    ranks = noted.ranks;
+  }
+
+  -- more and more is listed
+  pub noted_then : (p q : ℕ → Bool) (old mid new : List ℕ) → AreNoted order p old mid → AreNoted order q mid new → AreNoted order (λ s. p s || q s) old new
+  noted_then p q old mid new first second = record {
+    listed = λ s r at. second.listed s r at ∙ ap (λ b. b || q s) (first.listed s r at) ∙ or_grouped (has old r) (p s) (q s);
+    ranks = λ r is. by_case r (second.ranks r is);
+  }
+    where
+      by_case : (r : ℕ) → (has mid r ≡ true) ⊎ (r < length order) → (has old r ≡ true) ⊎ (r < length order)
+      by_case r (inl is) = first.ranks r is
+      by_case r (inr low) = inr low
+
+  -- ---- a list one after another
+
+  pub none_taken : (xs old : List ℕ) → AreNoted order (has (take 0 xs)) old old
+  none_taken xs old = none_noted (has (take 0 xs)) old (λ s r at. ap (λ ys. has ys s) (take_none xs))
+
+  pub more_noted : (xs : List ℕ) (k : ℕ) (old now new : List ℕ) → k < length xs → AreNoted order (has (take k xs)) old now → AreNoted order (λ s. get_or xs k 0 == s) now new → AreNoted order (has (take (k + 1) xs)) old new
+  more_noted xs k old now new l so_far one =
+      noted_by (λ s. has (take k xs) s || (get_or xs k 0 == s)) (has (take (k + 1) xs)) old new
+      (λ s r at. sym (list_any_more (λ y. y == s) xs k 0 l))
+      (noted_then (has (take k xs)) (λ s. get_or xs k 0 == s) old now new so_far one)
+
+  pub all_noted : (xs : List ℕ) (k : ℕ) (old new : List ℕ) → length xs ≤ k → AreNoted order (has (take k xs)) old new → AreNoted order (has xs) old new
+  all_noted xs k old new l noted = noted_by (has (take k xs)) (has xs) old new (λ s r at. ap (λ ys. has ys s) (take_all xs k l)) noted
+
+-- ---- of the elements of a document
+
+has_kept : (p : ℕ → Bool) (xs : List ℕ) (s : ℕ) → has (filter p xs) s ≡ (has xs s && p s)
+has_kept p [] s = refl
+has_kept p (x ∷ xs) s = step (p x) refl (x == s) refl (has_kept p xs s)
+  where
+    step : (t : Bool) → p x ≡ t → (b : Bool) → x == s ≡ b → has (filter p xs) s ≡ (has xs s && p s) → has (cond t (x ∷ filter p xs) (filter p xs)) s ≡ ((b || has xs s) && p s)
+    step true e true q rest = ap (λ u. u || has (filter p xs) s) q ∙ sym e ∙ ap p (eqb-true x s q)
+    step true e false q rest = ap (λ u. u || has (filter p xs) s) q ∙ rest
+    step false e true q rest = rest ∙ none (has xs s) (ap p (sym (eqb-true x s q)) ∙ e)
+      where
+        none : (u : Bool) → p s ≡ false → (u && p s) ≡ p s
+        none true f = refl
+        none false f = sym f
+    step false e false q rest = rest
+
+module _ (nodes : List Node) (order : List ℕ) (is : IsOrder nodes order) where
+  is_known : (s : ℕ) (b : Bool) → is_some (position (λ t. t == s) order) ≡ b → is_some (node_at (elements nodes) s) ≡ b
+  is_known s b at = sym (ranked nodes order s is) ∙ at
+
+  known : (s r : ℕ) → position (λ t. t == s) order ≡ Some r → is_some (node_at (elements nodes) s) ≡ true
+  known s r at = is_known s true (ap is_some at)
+
+  -- an element is a node
+  pub node_known : (tree : List Node) (s : ℕ) → nodes ≡ tree → is_some (position (λ t. t == s) order) ≡ true → is_some (node_at tree s) ≡ true
+  node_known tree s same at = ap (λ ns. is_some (node_at ns s)) (sym same) ∙ known_node nodes s (is_known s true at)
+
+  -- a serial of no element is passed over
+  pub element_passed : (x : ℕ) (old : List ℕ) → position (λ t. t == x) order ≡ None → AreNoted order (is_self_or_reader nodes x) old old
+  element_passed x old at = none_noted order (is_self_or_reader nodes x) old (λ s r at_s. ap (λ b. b && ((x == s) || reads nodes x s)) (is_known x false (ap is_some at)))
+
+  -- an element and its readers
+  pub element_noted : (x rank : ℕ) (readers old mid new : List ℕ) → position (λ t. t == x) order ≡ Some rank → readers ≡ readers_of nodes x → ((r : ℕ) → has mid r ≡ ((r == rank) || has old r)) → AreNoted order (has readers) mid new → AreNoted order (is_self_or_reader nodes x) old new
+  element_noted x rank readers old mid new at those put noted =
+      noted_by order (λ s. (x == s) || has readers s) (is_self_or_reader nodes x) old new same
+      (noted_then order (λ s. x == s) (has readers) old mid new (one_noted order x rank old mid at put) noted)
+    where
+      reads_it : (s r : ℕ) → position (λ t. t == s) order ≡ Some r → has readers s ≡ reads nodes x s
+      reads_it s r at_s =
+          ap (λ xs. has xs s) those
+          ∙ has_kept (reads nodes x) (serials (elements nodes)) s
+          ∙ ap (λ b. b && reads nodes x s) (known_serial s (elements nodes) ∙ known s r at_s)
+
+      same : (s r : ℕ) → position (λ t. t == s) order ≡ Some r → ((x == s) || has readers s) ≡ is_self_or_reader nodes x s
+      same s r at_s =
+          ap (λ b. (x == s) || b) (reads_it s r at_s)
+          ∙ sym (ap (λ b. b && ((x == s) || reads nodes x s)) (known x rank at))
+
+  -- what is no element touches nothing
+  pub nothing_within : (x : ℕ) (old : List ℕ) → is_some (position (λ t. t == x) order) ≡ false → AreNoted order (is_touched_from nodes (Some x)) old old
+  nothing_within x old at = none_noted order (is_touched_from nodes (Some x)) old (λ s r at_s. ap (λ b. b && is_touched nodes x s) (is_known x false at))
+
+-- ---- the nodes of a part of a document, one after another
+
+same_truth : (a b : Bool) → (a ≡ true → b ≡ true) → (b ≡ true → a ≡ true) → a ≡ b
+same_truth true true f g = refl
+same_truth true false f g = sym (f refl)
+same_truth false true f g = g refl
+same_truth false false f g = refl
+
+-- a test of what a part has, with one more at its end
+pub any_part_more : {A : Type 0} (p : A → Bool) (xs : List A) (first at : ℕ) (x : A) → first ≤ at → slice_get xs at ≡ Some x → list_any p (slice_range xs first (at + 1)) ≡ (list_any p (slice_range xs first at) || p x)
+any_part_more {A} p xs first at x le there =
+    let long : (at + 1) - first ≡ (at - first) + 1 = omega (arith, le) in
+    let place : first + (at - first) ≡ at = omega (arith, le) in
+    let inside : at - first < length (drop first xs) = omega (arith, le, slice_get_within xs at x there, length-drop first xs) in
+    ap (λ k. list_any p (take k (drop first xs))) long
+    ∙ list_any_more p (drop first xs) (at - first) x inside
+    ∙ ap (λ y. list_any p (take (at - first) (drop first xs)) || p y) (get_or-drop first xs (at - first) x ∙ ap (λ k. get_or xs k x) place ∙ get_or_from_slice_get xs at x x there)
+
+-- a node with this serial passes
+any_known : (f : Node → Bool) (ns : List Node) (s : ℕ) → is_some (node_at ns s) ≡ true → ((n : Node) → n.serial ≡ s → f n ≡ true) → list_any f ns ≡ true
+any_known f [] s q t = cc
+any_known f (n ∷ ns) s q t = by_test (n.serial == s) refl q (λ r. any_known f ns s r t)
+  where
+    by_test : (b : Bool) → n.serial == s ≡ b → is_some (cond b (Some n) (node_at ns s)) ≡ true → (is_some (node_at ns s) ≡ true → list_any f ns ≡ true) → (f n || list_any f ns) ≡ true
+    by_test true e r later = or_left _ _ (t n (eqb-true n.serial s e))
+    by_test false e r later = or_right _ _ (later r)
+
+module _ (nodes : List Node) (distinct : IsDistinct nodes) (x s : ℕ) where
+  abbrev of_node : Node → Bool
+  of_node n = is_within nodes x n.serial && is_self_or_reader nodes n.serial s
+
+  abbrev of_reader : Node → Bool
+  of_reader b = is_within nodes x b.serial && reads nodes b.serial s
+
+  to_touched : list_any of_node nodes ≡ true → is_touched nodes x s ≡ true
+  to_touched q = found (any_there of_node nodes q)
+    where
+      found : ((i : ℕ) × (n : Node) × (slice_get nodes i ≡ Some n) × (of_node n ≡ true)) → is_touched nodes x s ≡ true
+      found at =
+          let n = at.1 in
+          let parts = and_parts (is_within nodes x n.serial) (is_self_or_reader nodes n.serial s) at.3 in
+          let others = and_parts (is_some (node_at (elements nodes) n.serial)) ((n.serial == s) || reads nodes n.serial s) parts.1 in
+          by_case at.0 n at.2 parts.0 others.0 (or_cases (n.serial == s) (reads nodes n.serial s) others.1)
+        where
+          by_case : (i : ℕ) (n : Node) → slice_get nodes i ≡ Some n → is_within nodes x n.serial ≡ true → is_some (node_at (elements nodes) n.serial) ≡ true → (n.serial == s ≡ true) ⊎ (reads nodes n.serial s ≡ true) → is_touched nodes x s ≡ true
+          by_case i n here w is (inl e) = or_left _ _ (ap (is_within nodes x) (sym (eqb-true n.serial s e)) ∙ w)
+          by_case i n here w is (inr r) =
+              or_right _ _
+              (any_filter is_element of_reader nodes
+              ∙ there_any_item (λ (b : Node). is_element b && of_reader b) nodes i n here
+              (and_from _ _ (known_element nodes i n distinct here is) (and_from _ _ w r)))
+
+  from_touched : is_some (node_at (elements nodes) s) ≡ true → is_touched nodes x s ≡ true → list_any of_node nodes ≡ true
+  from_touched known_s q = by_case (or_cases (is_within nodes x s) (list_any of_reader (elements nodes)) q)
+    where
+      here : is_within nodes x s ≡ true → (n : Node) → n.serial ≡ s → of_node n ≡ true
+      here w n e =
+          and_from _ _ (ap (is_within nodes x) e ∙ w)
+          (and_from _ _ (ap (λ k. is_some (node_at (elements nodes) k)) e ∙ known_s) (or_left _ _ (eq-eqb n.serial s e)))
+
+      reader : ((i : ℕ) × (n : Node) × (slice_get nodes i ≡ Some n) × ((is_element n && of_reader n) ≡ true)) → list_any of_node nodes ≡ true
+      reader at =
+          let n = at.1 in
+          let parts = and_parts (is_element n) (of_reader n) at.3 in
+          let both = and_parts (is_within nodes x n.serial) (reads nodes n.serial s) parts.1 in
+          let is : is_some (node_at (elements nodes) n.serial) ≡ true =
+          ap is_some (element_at nodes n.serial distinct ∙ ap only_element (node_of nodes at.0 n distinct at.2)) ∙ ap (λ t. is_some (cond t (Some n) None)) parts.0 in
+          there_any_item of_node nodes at.0 n at.2 (and_from _ _ both.0 (and_from _ _ is (or_right _ _ both.1)))
+
+      by_case : (is_within nodes x s ≡ true) ⊎ (list_any of_reader (elements nodes) ≡ true) → list_any of_node nodes ≡ true
+      by_case (inl w) = any_known of_node nodes s (known_node nodes s known_s) (here w)
+      by_case (inr r) = reader (any_there (λ (b : Node). is_element b && of_reader b) nodes (sym (any_filter is_element of_reader nodes) ∙ r))
+
+  -- what a node's part of the document has listed is what it touches
+  part_is : is_some (node_at (elements nodes) s) ≡ true → list_any (λ (n : Node). is_self_or_reader nodes n.serial s) (filter (λ (n : Node). is_within nodes x n.serial) nodes) ≡ is_touched nodes x s
+  part_is known_s =
+      any_filter (λ (n : Node). is_within nodes x n.serial) (λ (n : Node). is_self_or_reader nodes n.serial s) nodes
+      ∙ same_truth (list_any of_node nodes) (is_touched nodes x s) to_touched (from_touched known_s)
+
+module _ (nodes : List Node) (order : List ℕ) where
+  abbrev pub part_test : ℕ → ℕ → ℕ → Bool
+  part_test first at s = list_any (λ (n : Node). is_self_or_reader nodes n.serial s) (slice_range nodes first at)
+
+  pub no_part : (first : ℕ) (old : List ℕ) → AreNoted order (part_test first first) old old
+  no_part first old = none_noted order (part_test first first) old (λ s r at. ap (list_any (λ (n : Node). is_self_or_reader nodes n.serial s)) (part_none nodes first first (omega arith)))
+
+  -- one node more
+  pub more_part : (tree : List Node) (first at serial : ℕ) (old now new : List ℕ) → nodes ≡ tree → first ≤ at → serial_of (slice_get tree at) ≡ Some serial → AreNoted order (part_test first at) old now → AreNoted order (is_self_or_reader nodes serial) now new → AreNoted order (part_test first (at + 1)) old new
+  more_part tree first at serial old now new same le here so_far one =
+      let found = node_found nodes serial at (sym here ∙ ap (λ ns. serial_of (slice_get ns at)) (sym same)) in
+      noted_by order (λ s. part_test first at s || is_self_or_reader nodes serial s) (part_test first (at + 1)) old new
+      (λ s r at_s.
+      ap (λ k. part_test first at s || is_self_or_reader nodes k s) (sym found.serial)
+      ∙ sym (any_part_more (λ (n : Node). is_self_or_reader nodes n.serial s) nodes first at found.node le found.at))
+      (noted_then order (part_test first at) (is_self_or_reader nodes serial) old now new so_far one)
+
+  pub whole_part : IsOrder nodes order → (tree : List Node) → nodes ≡ tree → IsDistinct tree → (x first past at : ℕ) (old new : List ℕ) → is_some (position (λ t. t == x) order) ≡ true → slice_range tree first past ≡ filter (λ (n : Node). is_within tree x n.serial) tree → at ≡ past → AreNoted order (part_test first at) old new → AreNoted order (is_touched_from nodes (Some x)) old new
+  whole_part is tree same distinct x first past at old new at_x within end noted =
+      noted_by order (part_test first at) (is_touched_from nodes (Some x)) old new
+      (λ s r at_s.
+      ap (λ k. part_test first k s) end
+      ∙ ap (list_any (λ (n : Node). is_self_or_reader nodes n.serial s)) part
+      ∙ part_is nodes (subst IsDistinct (sym same) distinct) x s (known nodes order is s r at_s)
+      ∙ sym (ap (λ b. b && is_touched nodes x s) (is_known nodes order is x true at_x)))
+      noted
+    where
+      part : slice_range nodes first past ≡ filter (λ (n : Node). is_within nodes x n.serial) nodes
+      part = subst (λ (ns : List Node). slice_range ns first past ≡ filter (λ (n : Node). is_within ns x n.serial) ns) (sym same) within
+
+-- ---- the entries one after another
+
+module _ (order : List ℕ) (nodes : List Node) (log : List LogEntry) (diary : List Entry) where
+  pub no_entries : (from : ℕ) (old : List ℕ) → AreNoted order (is_noted_by nodes log (slice_range diary from from)) old old
+  no_entries from old = none_noted order (is_noted_by nodes log (slice_range diary from from)) old (λ s r at. none s)
+    where
+      none : (s : ℕ) → is_noted_by nodes log (slice_range diary from from) s ≡ false
+      none s = let nothing : from - from ≡ 0 = omega arith in ap (λ k. list_any (is_noted_at nodes log s) (take k (drop from diary))) nothing ∙ ap (list_any (is_noted_at nodes log s)) (take_none (drop from diary))
+
+  pub more_entries : (from place : ℕ) (y : Entry) (old now new : List ℕ) → from ≤ place → slice_get diary place ≡ Some y → AreNoted order (is_noted_by nodes log (slice_range diary from place)) old now → AreNoted order (is_noted_through nodes (key_of log y.step) (subject_of log y.step)) now new → AreNoted order (is_noted_by nodes log (slice_range diary from (place + 1))) old new
+  more_entries from place y old now new le here so_far one =
+      noted_by order (λ s. is_noted_by nodes log (slice_range diary from place) s || is_noted_at nodes log s y) (is_noted_by nodes log (slice_range diary from (place + 1))) old new
+      (λ s r at. sym (any_part_more (is_noted_at nodes log s) diary from place y le here))
+      (noted_then order (is_noted_by nodes log (slice_range diary from place)) (is_noted_through nodes (key_of log y.step) (subject_of log y.step)) old now new so_far one)
+
+  pub all_entries : (from place : ℕ) (old new : List ℕ) → from ≤ place → length diary ≤ place → AreNoted order (is_noted_by nodes log (slice_range diary from place)) old new → AreNoted order (is_noted_by nodes log (drop from diary)) old new
+  all_entries from place old new le most noted =
+      let rest : length (drop from diary) ≤ place - from = omega (arith, le, most, length-drop from diary) in
+      noted_by order (is_noted_by nodes log (slice_range diary from place)) (is_noted_by nodes log (drop from diary)) old new
+      (λ s r at. ap (list_any (is_noted_at nodes log s)) (take_all (drop from diary) (place - from) rest)) noted

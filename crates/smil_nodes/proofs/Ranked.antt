@@ -1,0 +1,72 @@
+-- Ranks of the elements in an order: each element has one.
+use Rattle.std.proofs.Common.{◌≡◌, refl, sym, ◌∙◌, ap, subst, ℕ, zero, suc, ◌+◌, ◌<◌, List, [], ◌∷◌, length, get_or, Option, Some, None, true, false, arith}
+use Rattle.std.specs.Prelude.{cond, not, nat_eq, nat_lt, is_some, ◌==◌}
+use Rattle.std.specs.List.{AllByRecursion, IsDistinct, position, position_or_len}
+use Rattle.std.proofs.lemmas.Bool.{eq-eqb, lt-ltb}
+use Rattle.std.proofs.lemmas.Cmp.{nat_eq_equiv}
+use Rattle.std.proofs.lemmas.Map.Keys.{IsDistinct-IsPermutation}
+use Rattle.std.proofs.lemmas.List.{length-map}
+use Rattle.std.proofs.lemmas.List.Sorted.{length_permutation}
+use Rattle.smil_model.specs.declared.document.Node.{Node}
+use Rattle.smil_model.specs.document.Document.{elements, node_at, serials}
+use Rattle.smil_laws.proofs.Rounds.{find-serial}
+use Rattle.smil_graph.specs.Graph.{IsOrder}
+use Rattle.smil_cells.proofs.Current.{ordered_element}
+
+-- ---- lists of different numbers
+
+all_at : (P : ℕ → Type 0) (xs : List ℕ) (k : ℕ) → AllByRecursion P xs → k < length xs → P (get_or xs k 0)
+all_at P [] k all lt = absurd (omega (arith, lt))
+all_at P (x ∷ xs) zero all lt = all.0
+all_at P (x ∷ xs) (suc k) all lt = all_at P xs k all.1 (omega (arith, lt))
+
+-- equal ones stand at one place
+pub one_place : (xs : List ℕ) (j k : ℕ) → IsDistinct nat_eq xs → j < length xs → k < length xs → get_or xs j 0 ≡ get_or xs k 0 → j ≡ k
+unfolding IsDistinct
+one_place [] j k distinct lt less same = absurd (omega (arith, lt))
+one_place (x ∷ xs) zero zero distinct lt less same = refl
+one_place (x ∷ xs) zero (suc k) distinct lt less same =
+    let never : false ≡ true = sym (all_at (λ y. nat_eq x y ≡ false) xs k distinct.0 (omega (arith, less))) ∙ eq-eqb x (get_or xs k 0) same in
+    cc
+one_place (x ∷ xs) (suc j) zero distinct lt less same =
+    let never : false ≡ true = sym (all_at (λ y. nat_eq x y ≡ false) xs j distinct.0 (omega (arith, lt))) ∙ eq-eqb x (get_or xs j 0) (sym same) in
+    cc
+one_place (x ∷ xs) (suc j) (suc k) distinct lt less same =
+    ap suc (one_place xs j k distinct.1 (omega (arith, lt)) (omega (arith, less)) same)
+
+first_place : (s : ℕ) (xs : List ℕ) (j : ℕ) → IsDistinct nat_eq xs → j < length xs → get_or xs j 0 ≡ s → position_or_len (λ x. x == s) xs ≡ j
+unfolding IsDistinct
+first_place s [] j distinct lt at = absurd (omega (arith, lt))
+first_place s (x ∷ xs) zero distinct lt at =
+    ap (λ t. cond (not t) (1 + position_or_len (λ y. y == s) xs) 0) (eq-eqb x s at)
+first_place s (x ∷ xs) (suc j) distinct lt at =
+    let other : x == s ≡ false = subst (λ y. nat_eq x y ≡ false) at (all_at (λ y. nat_eq x y ≡ false) xs j distinct.0 (omega (arith, lt))) in
+    let later : position_or_len (λ y. y == s) xs ≡ j = first_place s xs j distinct.1 (omega (arith, lt)) at in
+    ap (λ t. cond (not t) (1 + position_or_len (λ y. y == s) xs) 0) other ∙ omega (arith, later)
+
+-- each is found where it stands
+pub found_place : (s : ℕ) (xs : List ℕ) (j : ℕ) → IsDistinct nat_eq xs → j < length xs → get_or xs j 0 ≡ s → position (λ x. x == s) xs ≡ Some j
+found_place s xs j distinct lt at =
+    ap (λ n. cond (nat_lt n (length xs)) (Some n) None) (first_place s xs j distinct lt at)
+    ∙ ap (λ t. cond t (Some j) None) (lt-ltb j (length xs) lt)
+
+-- an order of different elements
+pub order_distinct : (nodes : List Node) (order : List ℕ) → IsDistinct nat_eq (serials (elements nodes)) → IsOrder nodes order → IsDistinct nat_eq order
+order_distinct nodes order distinct is =
+    IsDistinct-IsPermutation nat_eq nat_eq_equiv.symm (serials (elements nodes)) order is.all distinct
+
+-- of as many as there are
+pub order_length : (nodes : List Node) (order : List ℕ) → IsOrder nodes order → length order ≡ length (elements nodes)
+order_length nodes order is =
+    length_permutation (serials (elements nodes)) order is.all ∙ length-map (elements nodes) (λ (n : Node). n.serial)
+
+some_node : (o : Option Node) → is_some o ≡ true → (e : Node) × (o ≡ Some e)
+some_node None q = cc
+some_node (Some e) q = (e, refl)
+
+-- each rank is that of an element
+pub element_of : (nodes : List Node) (order : List ℕ) (rank : ℕ) → IsOrder nodes order → rank < length order → (e : Node) × (e.serial ≡ get_or order rank 0) × (node_at (elements nodes) e.serial ≡ Some e)
+element_of nodes order rank is within =
+    let some = some_node (node_at (elements nodes) (get_or order rank 0)) (ordered_element nodes order rank is within) in
+    let same : (some.0).serial ≡ get_or order rank 0 = find-serial (get_or order rank 0) (elements nodes) some.0 some.1 in
+    (some.0, same, ap (node_at (elements nodes)) same ∙ some.1)

@@ -1,0 +1,58 @@
+-- What the calls of a refresh tell, by the document's nodes and its order.
+use Rattle.std.proofs.Common.{◌≡◌, ◌∙◌, ap, sym, subst, ℕ, ◌<◌, List, [], length, drop, Some, true, inl, inr}
+use Rattle.std.specs.Prelude.{◌||◌, ◌&&◌, ◌==◌, ◌⊎◌, not, nat_eq}
+use Rattle.std.specs.List.{IsDistinct, position}
+use Rattle.std.proofs.lemmas.Bool.{or_cases}
+use Rattle.smil_model.specs.declared.document.Node.{Node}
+use Rattle.smil_model.specs.document.Closure.{has}
+use Rattle.smil_model.specs.document.Valid as valid
+use Rattle.smil_graph.specs.Graph.{IsOrder, OrderedNodes}
+use Rattle.smil_past.specs.Past.{Happened}
+use Rattle.smil_nodes.specs.Agenda.{IsTaken}
+use Rattle.smil_nodes.specs.Noted.{AreNoted, NotesEntries, is_noted_by}
+use Rattle.smil_nodes.specs.Work.{is_later_reader}
+use Rattle.smil_nodes.proofs.Counting.{elements_distinct}
+use Rattle.smil_nodes.proofs.Ranked.{order_distinct}
+
+-- the order of a graph of these nodes
+pub is_order : (graph : OrderedNodes) (nodes : List Node) (order : List ℕ) → graph.nodes ≡ nodes → IsOrder graph.nodes order → IsOrder nodes order
+is_order graph nodes order same is = subst (λ ns. IsOrder ns order) same is
+
+pub differ_in : (nodes : List Node) (order : List ℕ) → valid.IsDistinct nodes → IsOrder nodes order → IsDistinct nat_eq order
+differ_in nodes order distinct is = order_distinct nodes order (elements_distinct nodes distinct) is
+
+-- what the entries have listed
+module _ (graph : OrderedNodes) (past : Happened) (from : ℕ) (old new order : List ℕ) (kept : order ≡ graph.order) (same : graph.nodes ≡ past.document.nodes) (none : old ≡ []) (notes : NotesEntries graph past from old new) where
+  noted : AreNoted order (is_noted_by past.document.nodes past.log (drop from past.diary)) [] new
+  noted =
+      subst (λ o. AreNoted order (is_noted_by past.document.nodes past.log (drop from past.diary)) o new) none
+      (subst (λ ns. AreNoted order (is_noted_by ns past.log (drop from past.diary)) old new) same
+      (subst (λ o. AreNoted o (is_noted_by graph.nodes past.log (drop from past.diary)) old new) (sym kept) notes))
+
+  pub noted_told : (s r : ℕ) → position (λ t. t == s) order ≡ Some r → has new r ≡ is_noted_by past.document.nodes past.log (drop from past.diary) s
+  noted_told s r at = noted.listed s r at
+
+  pub noted_within : (r : ℕ) → has new r ≡ true → r < length order
+  noted_within r on = by_case (noted.ranks r on)
+    where
+      by_case : (has [] r ≡ true) ⊎ (r < length order) → r < length order
+      by_case (inl never) = cc
+      by_case (inr less) = less
+
+-- what one element has listed
+module _ (graph : OrderedNodes) (nodes : List Node) (order taken mid new : List ℕ) (rank who : ℕ) (kept : order ≡ graph.order) (same : graph.nodes ≡ nodes) (stays : mid ≡ taken) where
+  pub later_told : ((r : ℕ) → has new r ≡ (has mid r || is_later_reader graph.nodes graph.order rank who r)) → (r : ℕ) → has new r ≡ (has taken r || is_later_reader nodes order rank who r)
+  later_told told r =
+      told r
+      ∙ ap (λ l. has l r || is_later_reader graph.nodes graph.order rank who r) stays
+      ∙ ap (λ ns. has taken r || is_later_reader ns graph.order rank who r) same
+      ∙ ap (λ o. has taken r || is_later_reader nodes o rank who r) (sym kept)
+
+  pub from_later : ((r : ℕ) → has new r ≡ (has taken r || is_later_reader nodes order rank who r)) → (r : ℕ) → has new r ≡ true → (has taken r ≡ true) ⊎ (is_later_reader nodes order rank who r ≡ true)
+  from_later told r on = or_cases _ _ (sym (told r) ∙ on)
+
+pub from_taken : (nodes : List Node) (order taken mid : List ℕ) (rank who : ℕ) → mid ≡ taken → (r : ℕ) → has mid r ≡ true → (has taken r ≡ true) ⊎ (is_later_reader nodes order rank who r ≡ true)
+from_taken nodes order taken mid rank who stays r on = inl (sym (ap (λ l. has l r) stays) ∙ on)
+
+pub rest_of : (old taken mid : List ℕ) (rank : ℕ) → mid ≡ taken → IsTaken old rank taken → (r : ℕ) → has mid r ≡ (not (r == rank) && has old r)
+rest_of old taken mid rank stays off r = ap (λ l. has l r) stays ∙ off.rest r

@@ -1,0 +1,66 @@
+-- What is current before entries is, but for the elements that they touch, as these entries leave it.
+use Rattle.std.proofs.Common.{◌≡◌, sym, ◌∙◌, ap, subst, ℕ, ◌<◌, List, length, get_or, drop, ◌++◌, Some, Bool, true, false, ℤ}
+use Rattle.std.specs.Prelude.{◌==◌, nat_eq}
+use Rattle.std.specs.List.{IsDistinct, position}
+use Rattle.std.proofs.lemmas.List.{take-append-drop}
+use Rattle.smil_model.specs.declared.document.Node.{Node}
+use Rattle.smil_model.specs.document.Document.{elements, node_at}
+use Rattle.smil_model.specs.diary.Diary.{up_to}
+use Rattle.smil_model.specs.interval.Current.{simple_of}
+use Rattle.smil_laws.specs.Edited.{IsOrdered}
+use Rattle.smil_laws.specs.Touched.{GivesSame, in_reaches, is_touched_by}
+use Rattle.smil_laws.proofs.TouchedStay.{leaves_untouched}
+use Rattle.smil_graph.specs.Graph.{IsOrder}
+use Rattle.smil_element.specs.Element.{coming_by}
+use Rattle.smil_past.specs.Past.{Happened, front, history_of}
+use Rattle.smil_cells.specs.declared.plain.known.Row.{Row}
+use Rattle.smil_cells.specs.Plain.{interval_in}
+use Rattle.smil_cells.specs.Round.{IsRowOf}
+use Rattle.smil_cells.proofs.Paired.{first_at, interval_at, there_at}
+use Rattle.smil_cells.proofs.Taking.{elements_differ}
+use Rattle.smil_nodes.specs.Schedule.{AreCurrent}
+use Rattle.smil_nodes.specs.Noted.{is_noted_by}
+use Rattle.smil_nodes.specs.Work.{AreSettled}
+use Rattle.smil_nodes.proofs.Fixed.{current_elements, row_of_current}
+use Rattle.smil_nodes.proofs.Noted.{noted_reached, untouched}
+use Rattle.smil_nodes.proofs.Ranked.{element_of, found_place}
+
+module _ (past : Happened) (from : ℕ) (now : ℤ) (order : List ℕ) (rows : List Row) (listed : ℕ → Bool) (ordered : IsOrdered past.document.nodes) (is : IsOrder past.document.nodes order) (distinct : IsDistinct nat_eq order) (told : (s r : ℕ) → position (λ t. t == s) order ≡ Some r → listed r ≡ is_noted_by past.document.nodes past.log (drop from past.diary) s) where
+  whole : up_to (front past from) ((front past from).diary ++ drop from past.diary) ≡ history_of past
+  whole = ap (λ d. up_to (history_of past) d) (take-append-drop from past.diary)
+
+  given_same : (e : Node) → node_at (elements past.document.nodes) e.serial ≡ Some e → is_touched_by past.document.nodes past.log (drop from past.diary) e.serial ≡ false → GivesSame (front past from) (history_of past) (interval_in rows) now e
+  given_same e here free =
+      subst (λ k. GivesSame (front past from) k (interval_in rows) now e) whole
+      (leaves_untouched (front past from) (drop from past.diary) (interval_in rows) now e ordered.first here free)
+
+  -- the row of an element that is not touched
+  row_given : (place : ℕ) (e : Node) (row : Row) → GivesSame (front past from) (history_of past) (interval_in rows) now e → interval_in rows e.serial ≡ row.interval → IsRowOf (front past from) (interval_in rows) now place e row → IsRowOf (history_of past) (interval_in rows) now place e row
+  row_given place e row gives own was = record {
+    serial = was.serial;
+    interval = was.interval ∙ sym gives.interval;
+    comings =
+        was.comings
+        ∙ ap (λ i. coming_by (front past from) i (simple_of (front past from) (interval_in rows) e) now place e) (sym own)
+        ∙ sym (gives.coming place)
+        ∙ ap (λ i. coming_by (history_of past) i (simple_of (history_of past) (interval_in rows) e) now place e) own;
+  }
+
+  pub settled_first : AreCurrent rows (front past from) now → AreSettled (history_of past) now order listed rows
+  settled_first are = record {
+    of_elements = current_elements rows (front past from) now are;
+    rows_are = λ rank place e row lt at off here got.
+        let there = there_at (elements past.document.nodes) place e (elements_differ past.document.nodes ordered.distinct) here in
+        let first = first_at (elements past.document.nodes) rows place e (elements_differ past.document.nodes ordered.distinct) (current_elements rows (front past from) now are) here in
+        let free = untouched past.document.nodes past.log e there (drop from past.diary) (sym (told e.serial rank (found_place e.serial order rank distinct lt at)) ∙ off) in
+        row_given place e row (given_same e there free) (interval_at e.serial rows place row first got)
+        (row_of_current rows (front past from) now place e row ordered are here got);
+  }
+
+  -- a listed rank is that of an element that is in one of the reaches
+  pub first_reached : ((r : ℕ) → listed r ≡ true → r < length order) → (rank : ℕ) → listed rank ≡ true → in_reaches past.document.nodes past.log (drop from past.diary) (get_or order rank 0) ≡ true
+  first_reached within rank on =
+      let at = element_of past.document.nodes order rank is (within rank on) in
+      ap (in_reaches past.document.nodes past.log (drop from past.diary)) (sym at.1)
+      ∙ noted_reached past.document.nodes past.log at.0 at.2 (drop from past.diary)
+      (sym (told (at.0).serial rank (found_place (at.0).serial order rank distinct (within rank on) (sym at.1))) ∙ on)

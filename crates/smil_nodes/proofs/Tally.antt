@@ -1,0 +1,113 @@
+-- The elements that were evaluated, each once.
+use Rattle.std.proofs.Common.{◌≡◌, refl, ◌∙◌, ap, sym, ℕ, suc, ◌+◌, ◌<◌, ◌≤◌, List, [], ◌∷◌, length, Bool, true, false, get_or, arith, inl, inr}
+use Rattle.std.specs.Prelude.{◌==◌, ◌⊎◌, not, nat_eq}
+use Rattle.std.specs.List.{AllByRecursion, IsDistinct}
+use Rattle.std.proofs.lemmas.Bool.{eq-eqb, eqb-true, or_left, or_right, or_cases, or_parts, and_parts}
+use Rattle.smil_model.specs.declared.diary.Entry.{Entry}
+use Rattle.smil_model.specs.declared.diary.LogEntry.{LogEntry}
+use Rattle.smil_model.specs.declared.document.Node.{Node}
+use Rattle.smil_model.specs.document.Closure.{has}
+use Rattle.smil_model.specs.reach.Reach.{reads}
+use Rattle.smil_laws.specs.Touched.{in_reaches}
+use Rattle.smil_laws.proofs.TouchedReached.{reaches_hold}
+use Rattle.smil_graph.specs.Graph.{IsOrder}
+use Rattle.smil_cells.specs.declared.plain.known.Row.{Row}
+use Rattle.smil_cells.specs.Plain.{interval_in}
+use Rattle.smil_nodes.specs.Work.{IsBelow, IsCounted, is_later_reader}
+use Rattle.smil_nodes.specs.Agenda.{IsTaken}
+use Rattle.smil_nodes.proofs.Ranked.{element_of, one_place}
+use Rattle.smil_nodes.proofs.Apart.{is_reader}
+
+each_has : (P : ℕ → Type 0) (xs : List ℕ) → ((x : ℕ) → has xs x ≡ true → P x) → AllByRecursion P xs
+each_has P [] f = tt
+each_has P (x ∷ xs) f = (f x (or_left _ _ (eq-eqb x x refl)), each_has P xs (λ y q. f y (or_right _ _ q)))
+
+module _ (nodes : List Node) (log : List LogEntry) (entries : List Entry) (order : List ℕ) (first : List Row) (start : ℕ) where
+  -- nothing is evaluated yet
+  pub none_counted : (listed : ℕ → Bool) → ((r : ℕ) → listed r ≡ true → r < length order) → ((r : ℕ) → listed r ≡ true → in_reaches nodes log entries (get_or order r 0) ≡ true) → IsCounted nodes log entries order listed first first start start
+  unfolding IsDistinct
+  none_counted listed within reached = record {
+    next = 0;
+    taken = [];
+    steps_are = omega arith;
+    distinct = tt;
+    reached = λ s q. cc;
+    below = λ s q. let never : false ≡ true = q in cc;
+    others = λ s q. refl;
+    above = λ r on. (omega arith, within r on);
+    listed_reached = reached;
+  }
+
+  module _ (old : List ℕ) (before after : List Row) (steps rank who : ℕ) (is : IsOrder nodes order) (apart : IsDistinct nat_eq order) (mid : List ℕ) (lt : rank < length order) (at : get_or order rank 0 ≡ who) (off : IsTaken old rank mid) (others : (s : ℕ) → who == s ≡ false → interval_in after s ≡ interval_in before s) (so_far : IsCounted nodes log entries order (has old) first before start steps) where
+    who_reached : in_reaches nodes log entries who ≡ true
+    who_reached = ap (in_reaches nodes log entries) (sym at) ∙ so_far.listed_reached rank off.member
+
+    below_rank : so_far.next ≤ rank
+    below_rank = (so_far.above rank off.member).0
+
+    not_taken : (s : ℕ) → has so_far.taken s ≡ true → (t : Bool) → nat_eq who s ≡ t → t ≡ false
+    not_taken s q false e = refl
+    not_taken s q true e =
+        let was = so_far.below s q in
+        let same : was.rank ≡ rank = one_place order was.rank rank apart was.within lt (was.at ∙ sym (eqb-true who s e) ∙ sym at) in
+        absurd (omega (arith, same, was.below, below_rank))
+
+    mid_above : (r : ℕ) → has mid r ≡ true → (suc rank ≤ r) × (has old r ≡ true)
+    mid_above r q =
+        let parts = and_parts (not (r == rank)) (has old r) (sym (off.rest r) ∙ q) in
+        (past_rank (r == rank) refl parts.0 (off.least r parts.1), parts.1)
+      where
+        past_rank : (t : Bool) → r == rank ≡ t → not t ≡ true → rank ≤ r → suc rank ≤ r
+        past_rank true e never le = cc
+        past_rank false e other le = omega (arith, le, differs)
+          where
+            differs : r ≡ rank → ⊥
+            differs same = let never : true ≡ false = sym (eq-eqb r rank same) ∙ e in cc
+
+    reader_reached : (r : ℕ) → is_later_reader nodes order rank who r ≡ true → in_reaches nodes log entries (get_or order r 0) ≡ true
+    reader_reached r q =
+        let reader = is_reader nodes order rank who r q in
+        let at = element_of nodes order r is reader.within in
+        ap (in_reaches nodes log entries) (sym at.1)
+        ∙ (reaches_hold nodes log entries).readers who at.0 at.2 who_reached (ap (reads nodes who) at.1 ∙ reader.reading)
+
+    listed_above : (r : ℕ) → (has mid r ≡ true) ⊎ (is_later_reader nodes order rank who r ≡ true) → (suc rank ≤ r) × (r < length order)
+    listed_above r (inl q) = let was = mid_above r q in (was.0, (so_far.above r was.1).1)
+    listed_above r (inr q) = let reader = is_reader nodes order rank who r q in (omega (arith, reader.above), reader.within)
+
+    -- only ranks above it are listed from now on
+    pub rank_passed : (new : ℕ → Bool) → ((r : ℕ) → new r ≡ true → (has mid r ≡ true) ⊎ (is_later_reader nodes order rank who r ≡ true)) → (r : ℕ) → r ≤ rank → new r ≡ false
+    rank_passed new from r le = by_test (new r) refl
+      where
+        by_test : (t : Bool) → new r ≡ t → t ≡ false
+        by_test false q = refl
+        by_test true q = let above = (listed_above r (from r q)).0 in absurd (omega (arith, above, le))
+
+    -- one more is evaluated
+    pub one_counted : (new : ℕ → Bool) → ((r : ℕ) → new r ≡ true → (has mid r ≡ true) ⊎ (is_later_reader nodes order rank who r ≡ true)) → (now : ℕ) → now ≡ steps + 1 → IsCounted nodes log entries order new first after start now
+    unfolding IsDistinct
+    one_counted new from now counts = record {
+      next = suc rank;
+      taken = who ∷ so_far.taken;
+      steps_are = let before_are : steps ≡ start + length so_far.taken = so_far.steps_are in omega (arith, counts, before_are);
+      distinct = (each_has (λ s. nat_eq who s ≡ false) so_far.taken (λ s q. not_taken s q (nat_eq who s) refl), so_far.distinct);
+      reached = λ s q. is_reached s (or_cases (who == s) (has so_far.taken s) q);
+      below = λ s q. is_below s (or_cases (who == s) (has so_far.taken s) q);
+      others = λ s q. let parts = or_parts (who == s) (has so_far.taken s) q in others s parts.0 ∙ so_far.others s parts.1;
+      above = λ r on. listed_above r (from r on);
+      listed_reached = λ r on. is_listed r (from r on);
+    }
+      where
+        is_reached : (s : ℕ) → (who == s ≡ true) ⊎ (has so_far.taken s ≡ true) → in_reaches nodes log entries s ≡ true
+        is_reached s (inl e) = ap (in_reaches nodes log entries) (sym (eqb-true who s e)) ∙ who_reached
+        is_reached s (inr q) = so_far.reached s q
+
+        is_below : (s : ℕ) → (who == s ≡ true) ⊎ (has so_far.taken s ≡ true) → IsBelow order (suc rank) s
+        is_below s (inl e) = record { rank = rank; below = omega arith; within = lt; at = at ∙ eqb-true who s e }
+        is_below s (inr q) =
+            let was = so_far.below s q in
+            record { rank = was.rank; below = omega (arith, was.below, below_rank); within = was.within; at = was.at }
+
+        is_listed : (r : ℕ) → (has mid r ≡ true) ⊎ (is_later_reader nodes order rank who r ≡ true) → in_reaches nodes log entries (get_or order r 0) ≡ true
+        is_listed r (inl q) = so_far.listed_reached r (mid_above r q).1
+        is_listed r (inr q) = reader_reached r q

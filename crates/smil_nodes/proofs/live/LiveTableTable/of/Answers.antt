@@ -1,0 +1,22 @@
+use Rattle.std.proofs.Common.{◌∙◌, ◌+◌, ◌≤◌, ap, length, arith}
+use Rattle.smil_model.specs.document.Document.{Document, elements, serials}
+use Rattle.smil_model.specs.interval.Current.{current_interval}
+use Rattle.smil_past.specs.Past.{history_of}
+use Rattle.smil_cells.proofs.Empty.{empty_serials}
+use Rattle.smil_cells.proofs.Paired.{serials_in}
+use Rattle.smil_nodes.proofs.Finishing.{any_least}
+use Rattle.smil_nodes.proofs.live.LiveTableTable.of.Goals as goal
+
+pub evaluate_all-requires-clause-of_elements : goal.evaluate_all-requires-clause-of_elements
+evaluate_all-requires-clause-of_elements g c =
+    ap serials_in c.in_ok-of.ensures ∙ empty_serials (elements c.tree.result.now.nodes)
+    ∙ ap (λ (d : Document). serials (elements d.nodes)) c.tree.ensures
+
+pub returns-in_err-evaluate_all-clause-most : goal.returns-in_err-evaluate_all-clause-most
+returns-in_err-evaluate_all-clause-most g c =
+    let most : c.evaluate_all.new.steps ≤ c.args.steps.now + length (elements c.args.past.now.document.nodes) = c.evaluate_all.ensures.most in
+    omega (arith, most)
+
+pub returns-clause-least : goal.returns-clause-least
+returns-clause-least g c =
+    any_least c.args.past.now.document.nodes (current_interval (history_of c.args.past.now) c.args.moment) c.args.steps.now c.evaluate_all.new.steps c.in_ok-evaluate_all.ensures.steps

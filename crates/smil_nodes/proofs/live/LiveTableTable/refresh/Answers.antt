@@ -1,0 +1,182 @@
+use Rattle.std.proofs.Common.{◌∙◌, ap, sym, subst, refl, List, ℕ, ◌<◌, length, drop, get_or, ℤ, w64, arith}
+use Rattle.std.proofs.lemmas.Int.{to_z-of_z}
+use Rattle.smil_model.specs.document.Closure.{has}
+use Rattle.smil_model.specs.interval.Current.{current_interval}
+use Rattle.smil_laws.proofs.Numbered.{ordered}
+use Rattle.smil_past.specs.Past.{front, history_of}
+use Rattle.smil_cells.proofs.Current.{ordered_element}
+use Rattle.smil_cells.proofs.Taking.{unchanged_both, unchanged_none}
+use Rattle.smil_nodes.specs.Work.{AreSettled}
+use Rattle.smil_nodes.proofs.Gap.{gap_falls}
+use Rattle.smil_nodes.proofs.Fixed.{current_intervals}
+use Rattle.smil_nodes.proofs.Starting.{settled_first, first_reached}
+use Rattle.smil_nodes.proofs.Working.{others_stay, settled_same, settled_changed}
+use Rattle.smil_nodes.proofs.Tally.{none_counted, one_counted, rank_passed}
+use Rattle.smil_nodes.proofs.Finishing.{counted_least, counted_most, settled_current, told_pushed, told_same, untold_stay}
+use Rattle.smil_nodes.proofs.Refreshing.{differ_in, from_later, from_taken, is_order, later_told, noted_told, noted_within, rest_of}
+use Rattle.smil_nodes.proofs.live.LiveTableTable.refresh.Goals as goal
+
+pub loop-rank-init : goal.loop-rank-init
+loop-rank-init g c =
+    let past = c.args.past.now in
+    let nodes = past.document.nodes in
+    let graph = c.graph-graph.result.now in
+    let order = c.order-order.result.now in
+    let rows = c.args.self.now.schedule in
+    let listed = has c.note_touched.new.agenda in
+    let is = is_order graph nodes order c.graph-graph.ensures c.order-order.ensures.order in
+    let in_order = ordered past.document c.possible.ensures.valid.numbered in
+    let apart = differ_in nodes order c.possible.ensures.valid.numbered.distinct is in
+    let told = noted_told graph past c.args.from c.clear.new.self c.note_touched.new.agenda order c.order-order.ensures.kept c.graph-graph.ensures c.clear.ensures c.in_ok-note_touched.ensures in
+    let within = noted_within graph past c.args.from c.clear.new.self c.note_touched.new.agenda order c.order-order.ensures.kept c.graph-graph.ensures c.clear.ensures c.in_ok-note_touched.ensures in (
+      subst (λ (m : ℤ). AreSettled (history_of past) m order listed rows) (sym (to_z-of_z w64 c.args.moment c.ranges.moment))
+          (settled_first past c.args.from c.args.moment order rows listed in_order is apart told c.requires.before),
+      none_counted nodes past.log (drop c.args.from past.diary) order rows c.args.steps.now listed within
+          (first_reached past c.args.from c.args.moment order rows listed in_order is apart told within),
+      unchanged_none c.args.changed.now rows,
+      λ m. refl,
+      refl,
+      omega arith,
+    )
+
+pub evaluate-requires-clause-element : goal.evaluate-requires-clause-element
+evaluate-requires-clause-element g c =
+    let nodes = c.args.past.now.document.nodes in
+    let order = c.order-order.result.now in
+    ordered_element nodes order c.in-Some.rank
+    (is_order c.graph-graph.result.now nodes order c.graph-graph.ensures c.order-order.ensures.order)
+    ((c.loop-rank.invariant.1).above c.in-Some.rank c.in-Some.ensures.member).1
+
+pub loop-rank-smaller-in-Continue-branch-4 : goal.loop-rank-smaller-in-Continue-branch-4
+loop-rank-smaller-in-Continue-branch-4 g c =
+    let past = c.args.past.now in
+    let nodes = past.document.nodes in
+    let graph = c.graph-graph.result.now in
+    let order = c.order-order.result.now in
+    let rank = c.in-Some.rank in
+    let who = get_or order rank 0 in
+    let old = c.loop-rank.self.agenda in
+    let mid = c.take_first.new.self in
+    let kept = c.in_ok-evaluate.ensures in
+    let counted = c.loop-rank.invariant.1 in
+    let within : rank < length order = (counted.above rank c.in-Some.ensures.member).1 in
+    let is = is_order graph nodes order c.graph-graph.ensures c.order-order.ensures.order in
+    let distinct = c.possible.ensures.valid.numbered.distinct in
+    let apart = differ_in nodes order distinct is in
+    let others = others_stay (history_of past) _ who c.loop-rank.self.schedule c.evaluate.new.self.schedule distinct (c.loop-rank.invariant.0).of_elements kept.taken in
+    let told = later_told graph nodes order mid c.evaluate.new.self.agenda c.put_readers.new.agenda rank who c.order-order.ensures.kept c.graph-graph.ensures kept.agenda c.in_ok-put_readers.ensures in
+    let from = from_later graph nodes order mid c.evaluate.new.self.agenda c.put_readers.new.agenda rank who c.order-order.ensures.kept c.graph-graph.ensures kept.agenda told in
+    gap_falls (has old) (has c.put_readers.new.agenda) (length order) rank within c.in-Some.ensures.member
+    (rank_passed nodes past.log (drop c.args.from past.diary) order c.args.self.now.schedule c.args.steps.now old c.loop-rank.self.schedule c.evaluate.new.self.schedule c.loop-rank.steps rank who is apart mid within refl c.in-Some.ensures others counted
+    (has c.put_readers.new.agenda) from)
+
+pub loop-rank-preserved-in-Continue-branch-4 : goal.loop-rank-preserved-in-Continue-branch-4
+loop-rank-preserved-in-Continue-branch-4 g c =
+    let past = c.args.past.now in
+    let nodes = past.document.nodes in
+    let graph = c.graph-graph.result.now in
+    let order = c.order-order.result.now in
+    let rank = c.in-Some.rank in
+    let who = get_or order rank 0 in
+    let old = c.loop-rank.self.agenda in
+    let mid = c.take_first.new.self in
+    let kept = c.in_ok-evaluate.ensures in
+    let counted = c.loop-rank.invariant.1 in
+    let within : rank < length order = (counted.above rank c.in-Some.ensures.member).1 in
+    let is = is_order graph nodes order c.graph-graph.ensures c.order-order.ensures.order in
+    let distinct = c.possible.ensures.valid.numbered.distinct in
+    let apart = differ_in nodes order distinct is in
+    let others = others_stay (history_of past) _ who c.loop-rank.self.schedule c.evaluate.new.self.schedule distinct (c.loop-rank.invariant.0).of_elements kept.taken in
+    let told = later_told graph nodes order mid c.evaluate.new.self.agenda c.put_readers.new.agenda rank who c.order-order.ensures.kept c.graph-graph.ensures kept.agenda c.in_ok-put_readers.ensures in
+    let from = from_later graph nodes order mid c.evaluate.new.self.agenda c.put_readers.new.agenda rank who c.order-order.ensures.kept c.graph-graph.ensures kept.agenda told in (
+      settled_changed (history_of past) _ who c.loop-rank.self.schedule c.evaluate.new.self.schedule distinct (c.loop-rank.invariant.0).of_elements kept.taken order rank is within refl
+          (has old) (has mid) (has c.put_readers.new.agenda) apart c.loop-rank.invariant.0 c.in-Some.ensures.rest told,
+      one_counted nodes past.log (drop c.args.from past.diary) order c.args.self.now.schedule c.args.steps.now old c.loop-rank.self.schedule c.evaluate.new.self.schedule c.loop-rank.steps rank who is apart mid within refl c.in-Some.ensures others counted
+          (has c.put_readers.new.agenda) from c.evaluate.new.steps kept.steps,
+      unchanged_both c.args.changed.now c.loop-rank.changed c.push.new.self c.args.self.now.schedule c.loop-rank.self.schedule c.evaluate.new.self.schedule c.loop-rank.invariant.2
+          (told_pushed c.loop-rank.changed c.push.new.self who c.loop-rank.self.schedule c.evaluate.new.self.schedule others c.in_ok-push.ensures.ok),
+      λ marked. kept.back (c.loop-rank.invariant.4 ∙ marked) ∙ c.loop-rank.invariant.3 marked,
+      kept.has_mark ∙ c.loop-rank.invariant.4,
+      omega (arith, kept.counted, c.loop-rank.invariant.5),
+    )
+
+pub loop-rank-smaller : goal.loop-rank-smaller
+loop-rank-smaller g c =
+    let past = c.args.past.now in
+    let nodes = past.document.nodes in
+    let graph = c.graph-graph.result.now in
+    let order = c.order-order.result.now in
+    let rank = c.in-Some.rank in
+    let who = get_or order rank 0 in
+    let old = c.loop-rank.self.agenda in
+    let mid = c.take_first.new.self in
+    let kept = c.in_ok-evaluate.ensures in
+    let counted = c.loop-rank.invariant.1 in
+    let within : rank < length order = (counted.above rank c.in-Some.ensures.member).1 in
+    let is = is_order graph nodes order c.graph-graph.ensures c.order-order.ensures.order in
+    let distinct = c.possible.ensures.valid.numbered.distinct in
+    let apart = differ_in nodes order distinct is in
+    let others = others_stay (history_of past) _ who c.loop-rank.self.schedule c.evaluate.new.self.schedule distinct (c.loop-rank.invariant.0).of_elements kept.taken in
+    let from = from_taken nodes order mid c.evaluate.new.self.agenda rank who kept.agenda in
+    gap_falls (has old) (has c.evaluate.new.self.agenda) (length order) rank within c.in-Some.ensures.member
+    (rank_passed nodes past.log (drop c.args.from past.diary) order c.args.self.now.schedule c.args.steps.now old c.loop-rank.self.schedule c.evaluate.new.self.schedule c.loop-rank.steps rank who is apart mid within refl c.in-Some.ensures others counted
+    (has c.evaluate.new.self.agenda) from)
+
+pub loop-rank-preserved : goal.loop-rank-preserved
+loop-rank-preserved g c =
+    let past = c.args.past.now in
+    let nodes = past.document.nodes in
+    let graph = c.graph-graph.result.now in
+    let order = c.order-order.result.now in
+    let rank = c.in-Some.rank in
+    let who = get_or order rank 0 in
+    let old = c.loop-rank.self.agenda in
+    let mid = c.take_first.new.self in
+    let kept = c.in_ok-evaluate.ensures in
+    let counted = c.loop-rank.invariant.1 in
+    let within : rank < length order = (counted.above rank c.in-Some.ensures.member).1 in
+    let is = is_order graph nodes order c.graph-graph.ensures c.order-order.ensures.order in
+    let distinct = c.possible.ensures.valid.numbered.distinct in
+    let apart = differ_in nodes order distinct is in
+    let others = others_stay (history_of past) _ who c.loop-rank.self.schedule c.evaluate.new.self.schedule distinct (c.loop-rank.invariant.0).of_elements kept.taken in
+    let from = from_taken nodes order mid c.evaluate.new.self.agenda rank who kept.agenda in
+    let stays = kept.same c.if-branch.false in (
+      settled_same (history_of past) _ who c.loop-rank.self.schedule c.evaluate.new.self.schedule distinct (c.loop-rank.invariant.0).of_elements kept.taken order rank is within refl
+          (has old) (has c.evaluate.new.self.agenda) c.loop-rank.invariant.0 (rest_of old mid c.evaluate.new.self.agenda rank kept.agenda c.in-Some.ensures) stays,
+      one_counted nodes past.log (drop c.args.from past.diary) order c.args.self.now.schedule c.args.steps.now old c.loop-rank.self.schedule c.evaluate.new.self.schedule c.loop-rank.steps rank who is apart mid within refl c.in-Some.ensures others counted
+          (has c.evaluate.new.self.agenda) from c.evaluate.new.steps kept.steps,
+      unchanged_both c.args.changed.now c.loop-rank.changed c.loop-rank.changed c.args.self.now.schedule c.loop-rank.self.schedule c.evaluate.new.self.schedule c.loop-rank.invariant.2
+          (told_same c.loop-rank.changed c.loop-rank.changed who c.loop-rank.self.schedule c.evaluate.new.self.schedule others refl stays),
+      λ marked. kept.back (c.loop-rank.invariant.4 ∙ marked) ∙ c.loop-rank.invariant.3 marked,
+      kept.has_mark ∙ c.loop-rank.invariant.4,
+      omega (arith, kept.counted, c.loop-rank.invariant.5),
+    )
+
+-- the rows at the end
+pub returns-clause-current : goal.returns-clause-current
+returns-clause-current g c =
+    let past = c.args.past.now in
+    let order = c.order-order.result.now in
+    let settled : AreSettled (history_of past) c.args.moment order (has c.loop-rank.self.agenda) c.loop-rank.self.schedule =
+    subst (λ (m : ℤ). AreSettled (history_of past) m order (has c.loop-rank.self.agenda) c.loop-rank.self.schedule) (to_z-of_z w64 c.args.moment c.ranges.moment) c.loop-rank.invariant.0 in
+    settled_current (history_of past) c.args.moment order (has c.loop-rank.self.agenda) c.loop-rank.self.schedule (ordered past.document c.possible.ensures.valid.numbered)
+    (is_order c.graph-graph.result.now past.document.nodes order c.graph-graph.ensures c.order-order.ensures.order) settled
+    (λ r. ap (λ (l : List ℕ). has l r) c.in_default.ensures)
+
+pub returns-clause-changed : goal.returns-clause-changed
+returns-clause-changed g c =
+    untold_stay (front c.args.past.now c.args.from) (history_of c.args.past.now) c.args.moment c.args.self.now.schedule c.loop-rank.self.schedule c.args.changed.now c.loop-rank.changed
+    c.requires.before (returns-clause-current g c) c.loop-rank.invariant.2
+
+pub returns-clause-most : goal.returns-clause-most
+returns-clause-most g c =
+    counted_most c.args.past.now.document.nodes c.args.past.now.log (drop c.args.from c.args.past.now.diary) c.order-order.result.now (has c.loop-rank.self.agenda)
+    c.args.self.now.schedule c.loop-rank.self.schedule c.args.steps.now c.loop-rank.steps c.loop-rank.invariant.1
+
+pub returns-clause-least : goal.returns-clause-least
+returns-clause-least g c =
+    counted_least c.args.past.now.document.nodes c.args.past.now.log (drop c.args.from c.args.past.now.diary) c.order-order.result.now (has c.loop-rank.self.agenda)
+    c.args.self.now.schedule c.loop-rank.self.schedule c.args.steps.now c.loop-rank.steps c.loop-rank.invariant.1
+    (current_interval (front c.args.past.now c.args.from) c.args.moment) (current_interval (history_of c.args.past.now) c.args.moment) c.possible.ensures.valid.numbered.distinct
+    (current_intervals c.args.self.now.schedule (front c.args.past.now c.args.from) c.args.moment c.requires.before)
+    (current_intervals c.loop-rank.self.schedule (history_of c.args.past.now) c.args.moment (returns-clause-current g c))

@@ -1,0 +1,26 @@
+use Rattle.std.proofs.Common.{◌≡◌, ◌∙◌, ap, sym, subst, ◌*◌, ◌≤◌, length, map, arith}
+use Rattle.smil_model.specs.document.Document.{elements}
+use Rattle.smil_cells.specs.Rows.{AreNear, empty_row}
+use Rattle.smil_cells.proofs.Empty.{empty_near}
+use Rattle.smil_nodes.specs.Schedule.{slots_of}
+use Rattle.smil_nodes.proofs.Slotted.{rows_few, slots_empty}
+use Rattle.smil_nodes.proofs.schedule.Schedule.of.Goals as goal
+
+pub new-requires : goal.new-requires
+new-requires c =
+    let few : length c.in_ok-known.known ≤ 8000 = rows_few c.args.tree.now.nodes c.in_ok-known.known c.in_ok-known.ensures c.valid.ensures.nodes in
+    let same : length c.rows.result.now ≡ length c.in_ok-known.known = ap length c.rows.ensures in
+    omega (arith, few, same)
+
+pub invariant_of-result : goal.invariant_of-result
+invariant_of-result c =
+    let nodes = c.args.tree.now.nodes in
+    let same : length c.rows.result.now ≡ length (map empty_row (elements nodes)) = ap length c.rows.ensures ∙ ap length c.in_ok-known.ensures in
+    record {
+      near = subst AreNear (sym c.in_ok-known.ensures) (empty_near (elements nodes));
+      few = rows_few nodes c.in_ok-known.known c.in_ok-known.ensures c.valid.ensures.nodes;
+      slots_are =
+          c.in_ok-due.ensures
+          ∙ slots_empty (elements nodes) (2 * length c.rows.result.now) (omega (arith, same))
+          ∙ ap slots_of (sym c.in_ok-known.ensures);
+    }

@@ -1,0 +1,7 @@
+pub mod Agenda
+pub mod Noted
+pub mod Slots
+pub mod Schedule
+pub mod Undo
+pub mod Marked
+pub mod Work

@@ -1,0 +1,79 @@
+-- Elements evaluated in their order, in which each has a rank; those with listed ranks are left.
+use Rattle.std.specs.Prelude.{◌≡◌, ℕ, ◌<◌, ◌≤◌, ◌+◌, zero, suc, ℤ, List, nat_lt, nat_eq, ◌==◌, Bool, true, false, ◌&&◌, ◌||◌, Some, slice_get, slice_index, length, if◌then◌else◌}
+use Rattle.std.specs.List.{IsDistinct, list_any, position}
+use Rattle.smil_model.specs.declared.diary.Entry.{Entry}
+use Rattle.smil_model.specs.declared.diary.LogEntry.{LogEntry}
+use Rattle.smil_model.specs.declared.document.Node.{Node}
+use Rattle.smil_model.specs.document.Document.{elements}
+use Rattle.smil_model.specs.document.Closure.{has}
+use Rattle.smil_model.specs.diary.Diary.{History}
+use Rattle.smil_model.specs.reach.Reach.{is_option}
+use Rattle.smil_laws.specs.Touched.{in_reaches}
+use Rattle.smil_graph.specs.Graph.{OrderedNodes, readers_of}
+use Rattle.smil_cells.specs.declared.plain.known.Row.{Row}
+use Rattle.smil_cells.specs.Plain.{interval_in}
+use Rattle.smil_cells.specs.Round.{AreOfElements, IsRowOf}
+
+-- whether the element has this rank, and it is above another
+abbrev pub has_rank_above : List ℕ → ℕ → ℕ → ℕ → Bool
+has_rank_above order least rank serial =
+    nat_lt least rank && is_option rank (position (λ s. s == serial) order)
+
+-- whether this is the rank of a reader, and above that of the element that it reads
+abbrev pub is_later_reader : List Node → List ℕ → ℕ → ℕ → ℕ → Bool
+is_later_reader nodes order least serial rank =
+    list_any (has_rank_above order least rank) (readers_of nodes serial)
+
+-- besides what was, the rank of an element is listed where it is above another
+abbrev pub ListsAbove : OrderedNodes → ℕ → ℕ → List ℕ → List ℕ → Type 0
+ListsAbove graph least serial old new =
+    (rank : ℕ) → has new rank ≡ (has old rank || has_rank_above graph.order least rank serial)
+
+-- besides what was, the ranks of the readers of an element are listed that are above its own
+abbrev pub ListsReaders : OrderedNodes → ℕ → ℕ → List ℕ → List ℕ → Type 0
+ListsReaders graph least serial old new =
+    (rank : ℕ)
+    → has new rank ≡ (has old rank || is_later_reader graph.nodes graph.order least serial rank)
+
+-- the interval of an element is the same
+abbrev pub HasSame : ℕ → List Row → List Row → Type 0
+HasSame serial before after = interval_in after serial ≡ interval_in before serial
+
+-- the rows of the elements whose ranks are not listed are as the intervals of all rows give them
+pub record AreSettled (h : History) (now : ℤ) (order : List ℕ) (listed : ℕ → Bool)
+    (rows : List Row) : Type 0 where
+  pub of_elements : AreOfElements h.nodes rows
+  pub rows_are :
+      (rank place : ℕ) (e : Node) (row : Row)
+      → rank < length order → slice_index order rank ≡ e.serial → listed rank ≡ false
+      → slice_get (elements h.nodes) place ≡ Some e → slice_get rows place ≡ Some row
+      → IsRowOf h (interval_in rows) now place e row
+
+-- an element has a rank below a number
+pub record IsBelow (order : List ℕ) (next serial : ℕ) : Type 0 where
+  pub rank : ℕ
+  pub below : rank < next
+  pub within : rank < length order
+  pub at : slice_index order rank ≡ serial
+
+-- each evaluation is a step, and no element is evaluated twice; those that were, and those that
+-- are listed, are in the reaches of entries; the listed ranks are above those of the former
+pub record IsCounted (nodes : List Node) (log : List LogEntry) (entries : List Entry)
+    (order : List ℕ) (listed : ℕ → Bool) (before rows : List Row) (start steps : ℕ) : Type 0 where
+  pub next : ℕ
+  pub taken : List ℕ
+  pub steps_are : steps ≡ start + length taken
+  pub distinct : IsDistinct nat_eq taken
+  pub reached : (s : ℕ) → has taken s ≡ true → in_reaches nodes log entries s ≡ true
+  pub below : (s : ℕ) → has taken s ≡ true → IsBelow order next s
+  pub others : (s : ℕ) → has taken s ≡ false → HasSame s before rows
+  pub above : (rank : ℕ) → listed rank ≡ true → (next ≤ rank) × (rank < length order)
+  pub listed_reached :
+      (rank : ℕ) → listed rank ≡ true
+      → in_reaches nodes log entries (slice_index order rank) ≡ true
+
+-- how far the least listed rank is below a number of ranks, from a rank on; 0 where none is listed
+abbrev pub gap_from : (ℕ → Bool) → ℕ → ℕ → ℕ
+gap_from listed zero rank = 0
+gap_from listed (suc count) rank =
+    if listed rank then suc count else gap_from listed count (suc rank)

@@ -1,0 +1,13 @@
+//! The live table: after each happening only those elements are evaluated whose interval, or what
+//! comes of them, may have changed.
+#![tactic(auto)]
+
+mod agenda;
+mod due_tree;
+pub mod live;
+mod readers;
+mod schedule;
+mod touched;
+mod undo;
+
+pub use live::{LiveCells, LiveTable};

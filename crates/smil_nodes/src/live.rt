@@ -1,0 +1,219 @@
+//! The live table: only what may have changed is evaluated after a happening.
+
+ghost use Rattle.std.specs.Prelude.{◌≡◌, ◌==◌, ◌≤◌, ◌+◌, Some, true, false, length, slice_set, OnOk, IfOk, IfSome};
+ghost use Rattle.std.specs.List.{position};
+ghost use Rattle.smil_model.specs.document.Document.{elements};
+ghost use Rattle.smil_model.specs.diary.Lawful.{has_element};
+ghost use Rattle.smil_laws.specs.Near.{IsIntervalNear};
+ghost use Rattle.smil_past.specs.Past.{IsPresent, history_of};
+ghost use Rattle.smil_cells.specs.declared.plain.known.Row.{Row as AnyRow};
+ghost use Rattle.smil_cells.specs.Round.{AreOfElements, IsTaken};
+ghost use Rattle.smil_nodes.specs.Schedule.{AreCurrent};
+ghost use Rattle.smil_nodes.specs.Marked.{GoesBack};
+ghost use Rattle.smil_nodes.specs.Work.{HasSame};
+
+use super::agenda::Agenda;
+use super::readers::put_readers;
+use super::schedule::Schedule;
+use super::touched::note_touched;
+use super::undo::Undo;
+use smil_cells::plain::known::Row;
+use smil_cells::{Cells, Table};
+use smil_element::{Coming, Intervals, Room, comings_of, evaluation_of};
+use smil_model::{Duplicate, Interval, Serials, Steps};
+use smil_past::Past;
+use std::alloc::{AllocError, Global};
+use std::sync::ledger::Ledger;
+
+/// Cells over the live table.
+pub type LiveCells = Cells<LiveTable>;
+
+/// A table that evaluates, after a happening, only the elements that it touches or that wait for a
+/// pressed key, and those that read an element whose interval changed; each at most once.
+#[derive(Drop)]
+pub struct LiveTable {
+    schedule: Schedule,
+    /// The ranks, in the order of the document's graph, of the elements still to be evaluated.
+    agenda: Agenda,
+    /// Where a mark stands, the rows that changed since.
+    undo: Undo,
+    has_mark: bool,
+    room: Room,
+    alloc: Global,
+}
+
+impl Table for LiveTable {
+    ghost use Rattle.std.specs.Prelude.{true};
+    ghost use Rattle.smil_nodes.specs.Schedule.{AreCurrent, stay_current};
+    ghost use Rattle.smil_nodes.specs.Marked.{IsMarked};
+
+    ghost is_current = { λ t h now. AreCurrent t.schedule h now };
+
+    ghost is_marked = { λ t h now. IsMarked t.has_mark t.undo t.schedule h now };
+
+    ghost has_mark = { λ t. t.has_mark };
+
+    ghost counts = { true };
+
+    fn of<L: Ledger>(
+        alloc: Global,
+        past: &Past,
+        moment: i64,
+        steps: &mut Steps<L>,
+    ) -> Result<Self, AllocError> {
+        let mut table = LiveTable {
+            schedule: Schedule::of(alloc, past.tree())?,
+            agenda: Agenda::new(alloc),
+            undo: Undo::new(alloc),
+            has_mark: false,
+            room: Room::new(alloc),
+            alloc,
+        };
+        table.evaluate_all(past, moment, steps)?;
+        Ok(table)
+    }
+
+    fn refresh<L: Ledger>(
+        &mut self,
+        past: &Past,
+        from: usize,
+        moment: i64,
+        changed: &mut Serials,
+        steps: &mut Steps<L>,
+    ) -> Result<(), AllocError> {
+        past.possible();
+        let graph = past.graph();
+        let order = graph.order();
+        self.agenda.clear();
+        note_touched(self.alloc, past, graph, from, &mut self.agenda)?;
+        while let Some(rank) = self.agenda.take_first() {
+            let who = order[rank];
+            if self.evaluate(past, who, moment, steps)? {
+                changed.push(who)?;
+                put_readers(graph, who, rank, &mut self.agenda)?;
+            }
+        }
+        Ok(())
+    }
+
+    fn interval(&self, who: u32) -> Option<Interval> {
+        self.schedule.interval(who)
+    }
+
+    fn first(&self) -> Option<Coming> {
+        self.schedule.first()
+    }
+
+    fn copy(&self) -> Result<Self, AllocError> {
+        Ok(LiveTable {
+            schedule: self.schedule.copy()?,
+            agenda: Agenda::new(self.alloc),
+            undo: Undo::new(self.alloc),
+            has_mark: false,
+            room: Room::new(self.alloc),
+            alloc: self.alloc,
+        })
+    }
+
+    fn mark(&mut self) {
+        self.undo.clear();
+        self.has_mark = true;
+    }
+
+    fn back(&mut self) {
+        while let Some(row) = self.undo.take_last() {
+            self.schedule.put_back(row);
+        }
+        self.has_mark = false;
+    }
+
+    fn forget(&mut self) {
+        self.undo.clear();
+        self.has_mark = false;
+    }
+
+    ghost stays = { λ t h k m n same are. stay_current t.schedule h k m n same are };
+}
+
+impl LiveTable {
+    // Evaluates all elements, each once.
+    fn evaluate_all<L: Ledger>(
+        &mut self,
+        past: &Past,
+        moment: i64,
+        steps: &mut Steps<L>,
+    ) -> Result<(), AllocError>
+        requires moment { IsPresent past.now moment }
+        requires of_elements { AreOfElements past.now.document.nodes self.old.schedule }
+        ensures current { OnOk result (AreCurrent self.new.schedule (history_of past.now) moment) }
+        ensures has_mark { self.new.has_mark ≡ self.old.has_mark }
+        ensures counted { steps.old ≤ steps.new }
+        ensures steps { OnOk result (steps.new ≡ steps.old + length (elements past.now.document.nodes)) }
+        ensures most { steps.new ≤ steps.old + length (elements past.now.document.nodes) }
+    {
+        past.possible();
+        for who in past.graph().order() {
+            self.evaluate(past, *who, moment, steps)?;
+        }
+        Ok(())
+    }
+
+    // Evaluates an element; whether its interval changes.
+    fn evaluate<L: Ledger>(
+        &mut self,
+        past: &Past,
+        who: u32,
+        moment: i64,
+        steps: &mut Steps<L>,
+    ) -> Result<bool, AllocError>
+        requires element { has_element past.now.document.nodes who ≡ true }
+        requires moment { IsPresent past.now moment }
+        requires of_elements { AreOfElements past.now.document.nodes self.old.schedule }
+        ensures taken { OnOk result (IsTaken (history_of past.now) moment who self.old.schedule self.new.schedule) }
+        ensures same { IfOk result (λ changes. changes ≡ false → HasSame who self.old.schedule self.new.schedule) }
+        ensures agenda { self.new.agenda ≡ self.old.agenda }
+        ensures back { GoesBack self.old self.new }
+        ensures has_mark { self.new.has_mark ≡ self.old.has_mark }
+        ensures counted { steps.old ≤ steps.new }
+        ensures steps { OnOk result (steps.new ≡ steps.old + 1) }
+        ensures most { steps.new ≤ steps.old + 1 }
+    {
+        past.possible();
+        let place = self.schedule.place(who).unwrap();
+        let made = evaluation_of(past, &self.schedule, who, moment, &mut self.room, steps)?;
+        let comings = comings_of(past, who, place as u32, moment, &made);
+        let before = self.schedule.interval(who);
+        self.replace(
+            place,
+            Row {
+                serial: who,
+                interval: made.interval,
+                comings,
+            },
+        )?;
+        Ok(differ(before, made.interval))
+    }
+
+    // Puts a row in the place of the one that its element has, which is noted where a mark stands.
+    fn replace(&mut self, place: usize, row: Row) -> Result<(), AllocError>
+        requires place { position (λ (r : AnyRow). r.serial == row.serial) self.old.schedule ≡ Some place }
+        requires near { IfSome row.interval IsIntervalNear }
+        ensures put { OnOk result (self.new.schedule ≡ slice_set self.old.schedule place row) }
+        ensures back { GoesBack self.old self.new }
+        ensures agenda { self.new.agenda ≡ self.old.agenda }
+        ensures has_mark { self.new.has_mark ≡ self.old.has_mark }
+    {
+        if self.has_mark {
+            self.undo.note(self.schedule.row(place))?;
+        }
+        self.schedule.put(place, row);
+        Ok(())
+    }
+}
+
+// Whether two intervals, which may be absent, differ.
+fn differ(a: Option<Interval>, b: Option<Interval>) -> bool
+    ensures { result ≡ false → a ≡ b }
+{
+    a != b
+}

@@ -1,0 +1,126 @@
+//! The elements with their intervals, what comes of each, and what comes first.
+
+ghost use Rattle.std.specs.Prelude.{◌≡◌, ◌==◌, ◌<◌, Some, map, length, slice_get, slice_set, IfOk, IfSome};
+ghost use Rattle.std.specs.List.{position};
+ghost use Rattle.smil_model.specs.document.Document.{elements};
+ghost use Rattle.smil_laws.specs.Near.{IsIntervalNear};
+ghost use Rattle.smil_cells.specs.declared.plain.known.Row.{Row as AnyRow};
+ghost use Rattle.smil_cells.specs.Rows.{empty_row};
+ghost use Rattle.smil_nodes.specs.Schedule.{ComesFirst, slot_of};
+ghost use Rattle.smil_nodes.specs.Undo.{row_back};
+
+use super::due_tree::DueTree;
+use smil_cells::plain::known::{Known, Row};
+use smil_element::{Coming, Intervals};
+use smil_model::{Duplicate, Interval, Key};
+use smil_tree::Tree;
+use std::alloc::{AllocError, Global};
+use std::marker::Model;
+
+/// The elements of a document in document order, each with its interval, whose numbers are from
+/// -10^12 to 10^12, and what comes of it, with a tournament of the keys of all that comes; seen as
+/// the list of the rows.
+#[derive(Drop)]
+pub struct Schedule {
+    known: Known,
+    /// Two slots a row: that of its begin or end, and that of its repeat.
+    due: DueTree,
+}
+
+impl Model for Schedule {
+    ghost use Rattle.std.specs.Prelude.{List};
+    ghost use Rattle.smil_cells.specs.declared.plain.known.Row.{Row as AnyRow};
+    ghost use Rattle.smil_nodes.specs.Schedule.{IsScheduled};
+
+    ghost Value = { List AnyRow };
+
+    ghost view = { λ a. a.known };
+
+    ghost invariant = { λ a. IsScheduled a.known a.due };
+}
+
+impl Intervals for Schedule {
+    ghost use Rattle.smil_cells.specs.Plain.{interval_in};
+
+    ghost given = { interval_in };
+
+    fn interval(&self, who: u32) -> Option<Interval> {
+        self.known.interval(who)
+    }
+}
+
+impl Duplicate for Schedule {
+    fn copy(&self) -> Result<Self, AllocError> {
+        Ok(Schedule {
+            known: self.known.copy()?,
+            due: self.due.copy()?,
+        })
+    }
+}
+
+impl Schedule {
+    /// The elements of a document without intervals, of which nothing comes, unless memory runs
+    /// out.
+    pub fn of(alloc: Global, tree: &Tree) -> Result<Schedule, AllocError>
+        ensures { IfOk result (λ schedule. schedule ≡ map empty_row (elements tree.now.nodes)) }
+    {
+        tree.valid();
+        let known = Known::of(alloc, tree)?;
+        let due = DueTree::new(alloc, 2 * known.rows().len())?;
+        Ok(Schedule { known, due })
+    }
+
+    /// The place of the row of an element; None exactly where it has none. It takes no memory.
+    pub fn place(&self, who: u32) -> Option<usize>
+        ensures { result ≡ position (λ (r : AnyRow). r.serial == who) self.now }
+    {
+        self.known.place(who)
+    }
+
+    /// The row at a place. It takes no memory.
+    pub fn row(&self, place: usize) -> Row
+        requires { place < length self.now }
+        ensures row { slice_get self.now place ≡ Some result }
+        ensures near { IfSome result.interval IsIntervalNear }
+    {
+        self.known.rows()[place]
+    }
+
+    /// Puts a row in the place of the one that its element has. It takes no memory, and log n steps
+    /// for n elements.
+    pub fn put(&mut self, place: usize, row: Row)
+        requires place { position (λ (r : AnyRow). r.serial == row.serial) self.old ≡ Some place }
+        requires near { IfSome row.interval IsIntervalNear }
+        ensures { self.new ≡ slice_set self.old place row }
+    {
+        self.known.put(place, row);
+        self.due.set(2 * place, key_of(row.comings.moved));
+        self.due.set(2 * place + 1, key_of(row.comings.repeat));
+    }
+
+    /// Puts a row in the place of the one that its element has; where it has none nothing changes.
+    /// It takes no memory, and log n steps for n elements.
+    pub fn put_back(&mut self, row: Row)
+        requires { IfSome row.interval IsIntervalNear }
+        ensures { self.new ≡ row_back self.old row }
+    {
+        if let Some(place) = self.place(row.serial) {
+            self.put(place, row);
+        }
+    }
+
+    /// What comes first by the rows; where they are current, None exactly where nothing comes. It
+    /// takes no memory.
+    pub fn first(&self) -> Option<Coming>
+        ensures { ComesFirst self.now result }
+    {
+        self.known.coming(self.due.least()?)
+    }
+}
+
+// The key of what comes, if something does.
+fn key_of(coming: Option<Coming>) -> Option<Key>
+    ensures { result ≡ slot_of coming }
+{
+    coming.map(|coming| coming.key)
+}

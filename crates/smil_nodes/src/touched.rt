@@ -1,0 +1,143 @@
+//! The elements that entries touch.
+
+ghost use Rattle.std.specs.Prelude.{◌≡◌, ◌==◌, ◌≤◌, ℕ, Some, OnOk, length};
+ghost use Rattle.smil_model.specs.document.Closure.{has};
+ghost use Rattle.smil_model.specs.reach.Reach.{down_key, key_of, pressed as pressed_in};
+ghost use Rattle.smil_laws.specs.Touched.{is_touched_from};
+ghost use Rattle.smil_graph.specs.Graph.{IsOrder};
+ghost use Rattle.smil_nodes.specs.Noted.{AreNoted, NotesEntries, NotesStep, is_self_or_reader};
+
+use super::agenda::Agenda;
+use smil_graph::Graph;
+use smil_model::{Happening, Log, Serials, Step};
+use smil_past::{Past, subject};
+use smil_tree::Tree;
+use std::alloc::{AllocError, Global};
+
+/// Lists the ranks, in the order of the document's graph, of the elements that the entries from a
+/// place on touch, and for a press of a key those of its whole reach. Where memory runs out some may
+/// be listed. It takes time for what is below the entries' elements and for what reads these.
+pub fn note_touched(
+    alloc: Global,
+    past: &Past,
+    graph: &Graph,
+    from: usize,
+    agenda: &mut Agenda,
+) -> Result<(), AllocError>
+    requires within { from ≤ length past.now.diary }
+    requires graph { graph.now.nodes ≡ past.now.document.nodes }
+    ensures { OnOk result (NotesEntries graph.now past.now from agenda.old agenda.new) }
+{
+    let book = past.book();
+    for place in from..book.len() {
+        let entry = book.entry(place).unwrap();
+        note_step(alloc, past, graph, entry.step, agenda)?;
+    }
+    Ok(())
+}
+
+// Lists what a step touches, or the reach of the key whose press it hears.
+fn note_step(
+    alloc: Global,
+    past: &Past,
+    graph: &Graph,
+    step: Step,
+    agenda: &mut Agenda,
+) -> Result<(), AllocError>
+    requires { graph.now.nodes ≡ past.now.document.nodes }
+    ensures { OnOk result (NotesStep graph.now past.now.log step agenda.old agenda.new) }
+{
+    match (key(past.log(), step), subject(past.log(), step)) {
+        (Some(key), _) => note_reach(alloc, graph, key, agenda),
+        (None, Some(who)) => note_within(past.tree(), graph, who, agenda),
+        (None, None) => Ok(()),
+    }
+}
+
+// Lists the reach of a key.
+fn note_reach(alloc: Global, graph: &Graph, key: u8, agenda: &mut Agenda) -> Result<(), AllocError>
+    ensures { OnOk result (AreNoted graph.now.order (has (down_key graph.now.nodes key)) agenda.old agenda.new) }
+{
+    let mut reach = Serials::new(alloc);
+    graph.down_key(key, &mut reach)?;
+    note_all(graph, reach.slice(), agenda)
+}
+
+// Lists an element, what is below it, and what reads one of these; nothing for a serial of no
+// element.
+fn note_within(tree: &Tree, graph: &Graph, who: u32, agenda: &mut Agenda) -> Result<(), AllocError>
+    requires { graph.now.nodes ≡ tree.now.nodes }
+    ensures { OnOk result (AreNoted graph.now.order (is_touched_from graph.now.nodes (Some who))
+        agenda.old agenda.new) }
+{
+    tree.valid();
+    order_is_kept(graph);
+    if graph.place_in_order(who).is_none() {
+        return Ok(());
+    }
+    let (start, past) = tree.span(who);
+    for at in start..past {
+        let serial = tree.serial_at(at).unwrap();
+        note_element(graph, serial, agenda)?;
+    }
+    Ok(())
+}
+
+// Lists an element and what reads it; nothing for a serial of no element.
+fn note_element(graph: &Graph, serial: u32, agenda: &mut Agenda) -> Result<(), AllocError>
+    ensures { OnOk result (AreNoted graph.now.order (is_self_or_reader graph.now.nodes serial) agenda.old agenda.new) }
+{
+    order_is_kept(graph);
+    let Some(rank) = graph.place_in_order(serial) else {
+        return Ok(());
+    };
+    agenda.put(rank)?;
+    note_all(graph, graph.readers(serial), agenda)
+}
+
+// Lists elements; a serial of no element is passed over.
+fn note_all(graph: &Graph, serials: &[u32], agenda: &mut Agenda) -> Result<(), AllocError>
+    ensures { OnOk result (AreNoted graph.now.order (has serials.now) agenda.old agenda.new) }
+{
+    for serial in serials {
+        note(graph, *serial, agenda)?;
+    }
+    Ok(())
+}
+
+// Lists an element; a serial of no element is passed over.
+fn note(graph: &Graph, serial: u32, agenda: &mut Agenda) -> Result<(), AllocError>
+    ensures { OnOk result (AreNoted graph.now.order (λ (s : ℕ). serial == s) agenda.old agenda.new) }
+{
+    match graph.place_in_order(serial) {
+        Some(rank) => agenda.put(rank),
+        None => Ok(()),
+    }
+}
+
+// The key whose press a step hears, if it hears one.
+fn key(log: &Log, step: Step) -> Option<u8>
+    ensures { result ≡ key_of log.now step }
+{
+    match step {
+        Step::Logged { place } => pressed(&log.get(place as usize)?.what),
+        _ => None,
+    }
+}
+
+// The key of a logged press.
+fn pressed(what: &Happening) -> Option<u8>
+    ensures { result ≡ pressed_in what.now }
+{
+    match what {
+        Happening::Key { key } => Some(*key),
+        _ => None,
+    }
+}
+
+// The order of a graph is one of the elements: a law for proofs, which costs nothing.
+fn order_is_kept(graph: &Graph)
+    ensures { IsOrder graph.now.nodes graph.now.order }
+{
+    let _order = graph.order();
+}

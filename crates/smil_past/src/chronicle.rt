@@ -1,0 +1,90 @@
+//! A diary, with what is kept of it.
+
+ghost use Rattle.std.specs.Prelude.{◌≡◌, ◌≤◌, List, [], ◌∷◌, ◌++◌, length, take, OnOk, OnErr, IfOk, IfErr};
+ghost use Rattle.smil_model.specs.declared.limits.TheConstants as limits;
+ghost use Rattle.smil_model.specs.declared.diary.LogEntry.{LogEntry as AnyLogEntry};
+ghost use Rattle.smil_diary.specs.declared.fault.BookFault.TheVariants as book_fault;
+ghost use Rattle.smil_past.specs.Past.{IsPossible, MayFollow, unmarked};
+ghost use Rattle.smil_past.specs.Chronicle.{Lags, Tells, TellsNothing};
+
+use super::kept::Kept;
+use smil_diary::{Book, BookFault};
+use smil_graph::Graph;
+use smil_model::{Duplicate, Entry, Log};
+use smil_tree::Tree;
+use std::alloc::{AllocError, Global};
+
+/// A diary, and what is kept of it.
+#[derive(Drop)]
+pub struct Chronicle {
+    pub book: Book,
+    pub kept: Kept,
+}
+
+impl Duplicate for Chronicle {
+    fn copy(&self) -> Result<Self, AllocError> {
+        Ok(Chronicle {
+            book: self.book.copy()?,
+            kept: self.kept.copy()?,
+        })
+    }
+}
+
+impl Chronicle {
+    /// The chronicle of a document to which nothing has happened yet, unless memory runs out. The graph is that of the tree.
+    pub fn new(alloc: Global, tree: &Tree, graph: &Graph) -> Result<Chronicle, AllocError>
+        requires { graph.now.nodes ≡ tree.now.nodes }
+        ensures { (log : List AnyLogEntry) → IfOk result (TellsNothing tree.now log) }
+    {
+        Ok(Chronicle {
+            book: Book::new(alloc),
+            kept: Kept::new(alloc, tree, graph)?,
+        })
+    }
+
+    /// Appends an entry, which may follow. `DiaryFull` exactly where the diary is full; after a refusal all is as before. It
+    /// touches what the entry concerns alone.
+    pub fn push(&mut self, tree: &Tree, log: &Log, entry: Entry) -> Result<(), BookFault>
+        requires tells { Tells tree.now log.now self.old }
+        requires follows { MayFollow (unmarked tree.now log.now self.old.book) entry }
+        ensures tells { OnOk result (Tells tree.now log.now self.new) }
+        ensures ok { OnOk result (self.new.book ≡ self.old.book ++ entry ∷ []) }
+        ensures err { OnErr result (self.new ≡ self.old) }
+        ensures full { IfErr result (λ fault. fault ≡ book_fault.DiaryFull → length self.old.book
+            ≡ limits.DIARY_ENTRIES) }
+    {
+        self.book.push(entry)?;
+        match self.kept.take_in(tree, log, &self.book, entry) {
+            Ok(()) => Ok(()),
+            Err(_) => {
+                let len = self.book.len();
+                self.book.cut_back(len - 1);
+                Err(BookFault::Memory)
+            }
+        }
+    }
+
+    /// Appends those of the first `len` entries of a diary that it lacks; where memory runs out, those before. It has no
+    /// others.
+    pub fn catch_up(
+        &mut self,
+        tree: &Tree,
+        log: &Log,
+        book: &Book,
+        len: usize,
+    ) -> Result<(), AllocError>
+        requires within { len ≤ length book.now }
+        requires possible { IsPossible tree.now log.now (take len book.now) }
+        requires lags { Lags tree.now log.now (take len book.now) self.old }
+        ensures lags { Lags tree.now log.now (take len book.now) self.new }
+        ensures ok { OnOk result (self.new.book ≡ take len book.now) }
+    {
+        for place in self.book.len()..len {
+            let entry = book.entry(place).unwrap();
+            let Ok(()) = self.push(tree, log, entry) else {
+                return Err(AllocError);
+            };
+        }
+        Ok(())
+    }
+}
