@@ -1,6 +1,6 @@
 #!/bin/sh
-# cells_compare.sh ORACLE [SEED] [CASES] [FILES]: compares cells over the plain table with the reference model in the folder
-# ORACLE by random scripts: settling near and far, events, keys and lengths of media, marks that are gone back to or let go,
+# cells_compare.sh ORACLE [SEED] [CASES] [FILES] [TABLE]: compares cells over a table, `live` or `plain` (live if left out), with the
+# reference model in the folder ORACLE by random scripts: settling near and far, events, keys and lengths of media, marks that are gone back to or let go,
 # copies that go on beside their originals, and rebuilding, also of changed documents. After each call the new entries of the
 # diary, the intervals and views that changed, the moment, the next due moment and the lengths of log and diary are told;
 # of the touched elements that they are in document order, each once, and that each view that changed is among them; after
@@ -9,12 +9,17 @@
 # from outside. Its last line counts the files: `differs=0` where all is the same.
 set -eu
 . "$(dirname "$0")/program.sh"
-new_program compare_cells smil_model smil_laws smil_grammar smil_lexis smil_clock_value smil_time_list smil_attrs smil_outline smil_tree smil_graph smil_diary smil_stretch smil_duration smil_instance_rows smil_instances smil_excl smil_past smil_interval smil_endsync smil_fill smil_element smil_due smil_cells
+new_program compare_cells smil_model smil_laws smil_grammar smil_lexis smil_clock_value smil_time_list smil_attrs smil_outline smil_tree smil_graph smil_diary smil_stretch smil_duration smil_instance_rows smil_instances smil_excl smil_past smil_interval smil_endsync smil_fill smil_element smil_due smil_cells smil_nodes
+case ${5:-live} in
+    live) cells=smil_nodes::LiveCells ;;
+    plain) cells=smil_cells::PlainCells ;;
+    *) echo 'TABLE is live or plain' >&2; exit 2 ;;
+esac
 python3 "$here/bench/engine_cases.py" --kind cells --oracle "$1" --out "$work/cases" --seed "${2:-1}" --cases "${3:-500}" --files "${4:-10}"
 cat > "$program/src/main.rt" <<'RT'
 #![tactic(auto)]
 
-use smil_cells::PlainCells;
+use CELLS as ComparedCells;
 use smil_diary::BookFault;
 use smil_element::view_of;
 use smil_model::{Bytes, Doc, Entry, Happening, Interval, Kind, LogEntry, Shown, State, Step, Steps, Time, View};
@@ -27,7 +32,7 @@ use std::sync::ledger::{Blank, Ledger};
 /// Cells, and all that is told of them at the mark, where one stands.
 #[derive(Drop)]
 struct Slot {
-    cells: PlainCells,
+    cells: ComparedCells,
     marked: Option<Vec<u8>>,
 }
 
@@ -123,7 +128,7 @@ fn write_view<W: Write>(out: &mut W, view: &View) -> io::Result<()> {
 // ---- what is told of cells
 
 /// All that is told of cells, whatever was told before.
-fn write_whole<W: Write>(out: &mut W, cells: &PlainCells) -> io::Result<()> {
+fn write_whole<W: Write>(out: &mut W, cells: &ComparedCells) -> io::Result<()> {
     for place in 0..cells.book().len() {
         if let Some(entry) = cells.book().entry(place) {
             write_entry(out, entry)?;
@@ -141,7 +146,7 @@ fn write_whole<W: Write>(out: &mut W, cells: &PlainCells) -> io::Result<()> {
     write_standing(out, cells)
 }
 
-fn write_standing<W: Write>(out: &mut W, cells: &PlainCells) -> io::Result<()> {
+fn write_standing<W: Write>(out: &mut W, cells: &ComparedCells) -> io::Result<()> {
     write!(out, "now {} due ", cells.moment())?;
     match cells.next_due() {
         Some(due) => write!(out, "{due}")?,
@@ -201,7 +206,7 @@ fn tell<W: Write>(out: &mut W, stage: &mut Stage) -> io::Result<()> {
 }
 
 /// Tells whether the touched elements are in document order, each once, and which views that changed are not among them.
-fn tell_touched<W: Write>(out: &mut W, cells: &PlainCells, seen: &[u32]) -> io::Result<()> {
+fn tell_touched<W: Write>(out: &mut W, cells: &ComparedCells, seen: &[u32]) -> io::Result<()> {
     let mut next = 0;
     for serial in cells.touched().slice() {
         match cells.tree().position(*serial) {
@@ -410,7 +415,7 @@ fn outline_line<W: Write, L: Ledger>(out: &mut W, stage: &mut Stage, line: &str,
         stage.other = Some(doc);
         return Ok(true);
     }
-    let Ok(cells) = PlainCells::new(alloc, &doc, steps) else {
+    let Ok(cells) = ComparedCells::new(alloc, &doc, steps) else {
         return Ok(false);
     };
     stage.here = Some(Slot {
@@ -504,5 +509,6 @@ fn main(rt: HostRuntime) -> io::Result<()> {
     compare::<_, _, Brand>(alloc, Blank::new(1), input, &mut out)
 }
 RT
+sed -i "s/^use CELLS as/use $cells as/" "$program/src/main.rt"
 cd "$program"
 rt try --steps 1000 --seconds 300 --cases "$work/cases"
