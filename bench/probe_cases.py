@@ -1,10 +1,11 @@
 #!/usr/bin/env python3
-"""probe_cases.py --oracle DIR --out FOLDER [--seed S] [--cases N] [--files N] [--kind KIND..]
+"""probe_cases.py --oracle DIR [--out FOLDER] [--seed S] [--cases N] [--files N] [--kind KIND..]
 
-Makes cases, a line each, and what the reference model in DIR answers to them:
+Makes cases for smil_probe and what the reference model in DIR answers to them:
 FOLDER gets for each file of cases NAME, the input, and NAME.stdout, the text that
-is wanted. No value comes from the program. It prints how many cases there are of
-each kind."""
+is wanted. Without FOLDER the stored run is made: the files stdin and stdout of
+crates/smil_probe, with the cases of `FIXED` and some random ones of each kind.
+No value comes from the program. It prints how many cases there are of each kind."""
 import argparse
 import os
 import random
@@ -12,7 +13,7 @@ import sys
 
 parser = argparse.ArgumentParser()
 parser.add_argument('--oracle', required=True)
-parser.add_argument('--out', required=True)
+parser.add_argument('--out')
 parser.add_argument('--seed', type=int, default=1)
 parser.add_argument('--cases', type=int, default=1000)
 parser.add_argument('--files', type=int, default=1)
@@ -747,6 +748,36 @@ def graph_lines(world):
         yield '%d:%s /%s / %s' % (e, ''.join(' %d' % x for x in readers), ''.join(' %d' % x for x in reach), marks)
 
 
+def graph_case(lines):
+    """What `graph_lines` says of an outline, on one line, or a refusal; a node that is no element has its serial alone."""
+    text, builder = 'graph ' + '|'.join(lines), grammar.Builder(laws.LIMITS)
+    try:
+        for line in lines:
+            builder.push(line.encode())
+        world = World(builder.finish())
+    except grammar.Refusal:
+        return text, 'refused'
+    told = dict(line.split(':', 1) for line in graph_lines(world))
+    wanted = []
+    for node in world.doc.nodes:
+        wanted.append('%d' % node.serial)
+        if '%d' % node.serial in told:
+            readers, reach, marks = told['%d' % node.serial].split('/')
+            wanted += ['<'] + readers.split() + ['>'] + reach.split() + [':' + marks.strip()]
+        wanted.append('/')
+    return text, ' '.join(wanted)
+
+
+def graphs(r):
+    """A random document, now and then with a changed line."""
+    laws.CHOSEN[0] = r.choice(sorted(laws.PROFILE))
+    lines = laws.random_case(r, r.choice([4, 8, 12])).lines()
+    if r.random() < 0.1:
+        k = r.randrange(len(lines))
+        lines[k] = changed(r, lines[k])
+    return graph_case([line.replace('|', '/') for line in lines])
+
+
 def clock_lines(scene):
     """For each element its clock and its time parent's, and whether these stand."""
     for e in scene.world.elements:
@@ -879,12 +910,129 @@ def a_line(r):
 
 
 KINDS = {'times': times, 'texts': texts, 'outlines': outlines, 'durations': durations, 'intervals': intervals, 'endsync': endsyncs,
-         'excl': excls, 'keys': keys, 'diaries': diaries, 'views': views, 'lines': a_line}
+         'excl': excls, 'keys': keys, 'diaries': diaries, 'graphs': graphs, 'views': views, 'lines': a_line}
 # cases of many lines, which another program reads (documents_compare.sh)
 LONG = {'documents': documents}
 
 
 # ------------------------------------------------------------ the stored cases
+
+def fixed():
+    """Cases by hand."""
+    top = 2 ** 63 - 1
+    for t, by in [(HORIZON - 1, 1), (HORIZON, 1), (1 - HORIZON, -1), (-HORIZON, -1), (top, top), (-top - 1, -top - 1),
+                  (top, -top - 1), (INDEFINITE, -top - 1), (UNRESOLVED, -1)]:
+        yield later_case(t, by)
+    rising = [-top - 1, -1, HORIZON, INDEFINITE, UNRESOLVED]
+    for a in rising:
+        for b in rising:
+            yield order_case(a, b)
+    for text in ['00:00:00', '59:59', '1:00:00', '277777777:46:40', '277777777:46:40.001', '5', '5s', '1.5min', '0.0000000019h',
+                 '1000000000000ms', '1000000000001ms', '05:60', '5 s', '', '0:00:00.0009999999', '2h', '.5s', '5.s', '1e3']:
+        yield clock_case(text)
+    for side, seq, text in [('begin', False, '5s;a.begin+1s;click'), ('end', False, 'indefinite'), ('begin', True, '5s'),
+                            ('begin', True, '-5s'), ('begin', True, 'click'), ('begin', False, 'wallclock(2026)'),
+                            ('begin', False, '1s;;2s'), ('begin', False, ';'.join(['0s'] * 32)),
+                            ('begin', False, ';'.join(['0s'] * 33)), ('end', False, 'a\\.b.end-5s'), ('end', True, 'a.click')]:
+        yield list_case(side, seq, text)
+    for parent, text in [(None, 'par'), (None, 'img'), ('par', 'img  dur="5s" id="a"'), ('par', 'img dur="5s" dur="6s"'),
+                         ('seq', 'img begin="a.end"'), ('par', 'switch'), ('par', 'foo'), ('img', 'img'), ('excl', 'priorityClass peers="pause"'),
+                         ('par', 'priorityClass'), ('par', 'img foo="1"'), ('par', 'img speed="1"'), ('par', 'set targetElement="a" to=""')]:
+        yield node_case(parent, text)
+    for lines in [[], ['par'], ['par', '  img'], ['par', 'par'], ['par', '    img'], [' par'], ['img'], ['par id="a"', '  img id="a"'],
+                  ['seq', '  img begin="5s"  dur="1s"', '  img begin="-1s"'], ['excl', '  priorityClass', '  img'],
+                  ['outline 2 next 9', 'par #3', '  img #1'], ['outline 2 next 9', 'par #3', '  img #3'],
+                  ['outline 2 next 9', 'par #3', '  img #9'], ['outline 2 next 9', 'par #3', '  img'], ['outline 2 next', 'par #3'],
+                  ['par #3'], ['outline 2 next 9'],
+                  ['  ' * k + 'par' for k in range(32)], ['  ' * k + 'par' for k in range(33)]]:
+        yield outline_case(lines or [''])
+    for text in ['d advance 5s', 'd advance x', 'd seek 0', 'load d', 'load', 'close d', '%%', '# note', ' ', 'd event a click',
+                 'd event #2 beginEvent', 'd set a begin "5s;click"', 'd insert #1 1 img dur="5s"', 'd show', 'd key x', 'd values', 'd diary']:
+        yield script_case(text)
+    yield intermediate_case(10000, 'par repeatCount="3"')
+    yield active_end_case(10000, -25000, -5000, 2, 'par repeatCount="3"')
+    yield intermediate_case(4000, 'par repeatCount="2.5"')
+    yield active_end_case(4000, 0, 8000, 2, 'par repeatCount="2.5"')
+    yield active_end_case(6000, 0, 0, 0, 'par min="8s" max="5s"')
+    for simple in (3000, UNRESOLVED):
+        yield active_end_case(simple, 0, 0, 0, 'par min="5s" max="8s"')
+    yield simple_case(7, 'par min="5s" max="8s"')
+    for begins, f in [([-5000, 1000], Facts()), ([0, 5], Facts(simple=0)), ([-5, 3], Facts(simple=0)),
+                      ([-2000, -1000], Facts(restart='never')), ([-2000, -1000], Facts()), ([4000, 9000], Facts(passed=4000)),
+                      ([0, 1500], Facts()), ([0, 2000], Facts(last=(0, 2000))), ([0, 7], Facts(last=(0, 0))),
+                      ([0, 5000], Facts(last=(0, 2000), restart='never'))]:
+        yield interval_case(f, begins, [])
+    for begin, end, f in [(2000, [2000], Facts(last=(0, 2000), end_list='hearing')), (2000, [2000], Facts(end_list='plain')),
+                          (0, [3000], Facts(end_list='plain', min=5000, simple=10000)), (5, [3], Facts(end_list='hearing')),
+                          (5, [3], Facts(end_list='plain')), (5, [], Facts(end_list='plain')),
+                          (0, [3], Facts(end_list='plain', simple=4000, count=2500, play=(5, 0, 4000, 1, 5))),
+                          (0, [], Facts(play=(5, 0, 0, 0, None))), (0, [], Facts(deferred=True))]:
+        yield interval_case(f, [begin], end)
+    early, late, none = (False, 3000, 4000), (True, 5000, 8000), (False, None, None)
+    for kind, rule, start, kids in [('par', 'last', 1000, [early, late, none]), ('excl', 'first', 1000, [early, late, none]),
+                                    ('par', 'all', 1000, [early, late, none]), ('par', 'child', 1000, [early, late, none]),
+                                    ('seq', 'last', 1000, [early, late, none]), ('par', 'all', 1000, [early, late]),
+                                    ('seq', 'last', 1000, [early, late]), ('par', 'child', 1000, [early, none]),
+                                    ('par', 'last', 9000, [early, late, none]), ('par', 'first', 9000, [])]:
+        yield endsync_case(kind, rule, start, kids)
+    acts = ['stop', 'pause', 'defer', 'never']
+    for one in acts:
+        for other in acts:
+            for newcomer in range(3):
+                yield decide_case(1, one, other, one, newcomer)
+                yield decide_case(1, other, one, one, newcomer)
+    yield queue_case([('d', 4, 1), ('p', 5, 1), ('d', 6, 1), ('p', 7, 0), ('d', 8, 0), ('t', 0, 0), ('t', 0, 0), ('t', 0, 0),
+                      ('l', 6, 0), ('l', 6, 0), ('t', 0, 0), ('t', 0, 0)])
+    yield queue_case([('p', 6, 1), ('d', 7, 1), ('d', 9, 2)])
+    yield queue_case([('p', 4, 0), ('p', 5, 0), ('d', 6, 0), ('t', 0, 0)])
+    pairs = [((2, 3, 0), (2, 5, 0)), ((1, 5, 0), (1, 3, 0)), ((3, 5, 0), (3, 3, 0)), ((1, 5, 0), (1, 5, 1)), ((1, 5, 1), (1, 3, 0)),
+             ((1, 3, 0), (2, 1, 0)), ((2, 9, 0), (3, 9, 0))]
+    for a, b in pairs:
+        one, other = [(1000, k[0], k[1], k[1] + 1, bool(k[2])) for k in (a, b)]
+        yield before_case(one, other)
+        yield before_case(other, one)
+        yield least_case([other, one])
+        yield due_case([('+', other), ('+', one), ('+', other), ('?', one), ('-', one), ('-', one), ('?', one)])
+    yield least_case([(1001, 1, 3, 4, False), (1000, 2, 3, 4, False)])
+    yield least_case([])
+    yield full_case()
+    idle = dict(serial=7, active=False, paused=False, deferred=None, interval=None, begun=None, last=None, cut=False, fill='remove',
+                displaced=False, shows=True, frozen=False, standing=False, shift=500, iteration=3, finished=2)
+    far = 10 ** 13
+    for changes in [{}, dict(last=(-10, 20)), dict(interval=(-1000, UNRESOLVED)), dict(interval=(1000, 3000), last=(-10, 20)),
+                    dict(deferred=-40, last=(10, 20)), dict(active=True, begun=700, interval=(1000, 3000)),
+                    dict(active=True, paused=True, begun=700, interval=(-1000, INDEFINITE)), dict(fill='freeze', last=(10, 20)),
+                    dict(fill='freeze', last=(10, 20), displaced=True), dict(fill='hold', last=(10, 20), displaced=True),
+                    dict(fill='hold', last=(10, 20), interval=(1000, 3000)),
+                    dict(fill='hold', last=(10, 20), interval=(1000, 3000), shows=False), dict(fill='hold', last=(10, 20), shows=False),
+                    dict(frozen=True, last=(10, 20)), dict(frozen=True, cut=True, last=(10, 20)),
+                    dict(frozen=True, cut=True, displaced=True, last=(10, 20)), dict(cut=True, last=(10, 20)), dict(frozen=True, cut=True),
+                    dict(standing=True, interval=(1000, 3000)), dict(standing=True, active=True, begun=700, interval=(1000, 3000)),
+                    dict(standing=True, active=True, begun=700, interval=(1000, INDEFINITE)), dict(interval=(-far, far), shift=far),
+                    dict(interval=(-far, far), shift=-far)]:
+        yield view_case(Bare(**dict(idle, **changes)))
+    yield 'view 7 0 0 - 10000000000001,5 - - 0 remove 0 1 0 0 500 3 2', 'refused'
+    for state in ['idle', 'waiting', 'active', 'paused', 'deferred', 'frozen', 'done']:
+        for shown in ['3000', '-250', '-', 'indefinite', 'unresolved', '?']:
+            yield line_case('change', 5000, 'a', state, shown, '?', 4, 12)
+            yield line_case('change', 5000, '#2', state, '0', shown, 4, 12)
+    for k in range(1, 28):
+        yield refusal_case(k, k, 17)
+        yield refusal_case(4294967295, k, 4294967295)
+    for text in ['', 'nothing', 'later 5', 'later 5 x', 'book b1 <2', 'interval 1 0 - 0 - - absent always 0 indefinite 0 - - 5,3 -',
+                 'clock', 'queue x', 'refusal 1 28 1', 'decide 1 stop']:
+        yield text, 'bad' if text == 'clock' else 'refused'
+
+
+def full_case():
+    """A diary at its limit: one more entry is refused, and after one is taken back there is room for one."""
+    entries = laws.LIMITS.diary
+    last = entries // 1000 * 1000 - 1000 + 7
+    return ('book *%d c7 ?7,- <%d c7 c8 ?7,-' % (entries, entries - 1),
+            'full 0 1 0 0 0 0 %d - - - - - - - full 0 0 0 0 0 1 %d - - %d - - - - %d' % (last, last, entries - 1, entries))
+
+
+# ----------------------------------------------------------------------- files
 
 def made(kind, r):
     return (LONG.get(kind) or KINDS[kind])(r)
@@ -898,6 +1046,15 @@ def write(folder, name, cases):
 
 def main():
     r = random.Random(ARGS.seed)
+    if ARGS.out is None:
+        folder = os.path.join(os.path.dirname(os.path.abspath(__file__)), '..', 'crates', 'smil_probe')
+        cases = list(fixed())
+        for kind in KINDS:
+            cases += [KINDS[kind](r) for _ in range(40)]
+        with open(os.path.join(folder, 'stdout'), 'w') as file:
+            file.write(write(folder, 'stdin', cases))
+        print('%d cases' % len(cases))
+        return
     os.makedirs(ARGS.out, exist_ok=True)
     for kind in ARGS.kind or KINDS:
         for k in range(ARGS.files):

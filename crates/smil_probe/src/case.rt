@@ -1,0 +1,156 @@
+//! The words of a case, and the values that they give.
+
+use smil_model::{Interval, Refusal, Time};
+use std::alloc::AllocError;
+
+/// Why a case has no answer.
+#[derive(Clone, Copy, Debug, PartialEq, Eq)]
+pub enum Fault {
+    /// A word has no reading, or the call may not be made with its value.
+    Refused,
+    /// Memory ran out.
+    Memory,
+}
+
+impl From<AllocError> for Fault {
+    fn from(_: AllocError) -> Fault {
+        Fault::Memory
+    }
+}
+
+impl From<Refusal> for Fault {
+    fn from(refusal: Refusal) -> Fault {
+        match refusal {
+            Refusal::Memory => Fault::Memory,
+            _ => Fault::Refused,
+        }
+    }
+}
+
+/// Words that are separated by one character, taken one after another from the front.
+#[derive(Drop)]
+pub struct Words<'a> {
+    rest: &'a str,
+    between: char,
+}
+
+impl<'a> Words<'a> {
+    /// The words of a line.
+    pub fn of_line(text: &'a str) -> Words<'a> {
+        Words {
+            rest: text,
+            between: ' ',
+        }
+    }
+
+    /// The parts of a word, separated by commas.
+    pub fn of_word(text: &'a str) -> Words<'a> {
+        Words {
+            rest: text,
+            between: ',',
+        }
+    }
+
+    /// All that is left, as it stands.
+    pub fn rest(&self) -> &'a str {
+        self.rest
+    }
+
+    /// The next word.
+    pub fn word(&mut self) -> Result<&'a str, Fault> {
+        let rest = self.rest;
+        if rest.is_empty() {
+            return Err(Fault::Refused);
+        }
+        match rest.split_once(self.between) {
+            Some((word, rest)) => {
+                self.rest = rest;
+                Ok(word)
+            }
+            None => {
+                self.rest = "";
+                Ok(rest)
+            }
+        }
+    }
+
+    /// A number.
+    pub fn number(&mut self) -> Result<i64, Fault> {
+        number(self.word()?)
+    }
+
+    /// A number from 0 on, such as a serial.
+    pub fn natural(&mut self) -> Result<u32, Fault> {
+        natural(self.word()?)
+    }
+
+    /// A number, `indefinite` or `unresolved`.
+    pub fn time(&mut self) -> Result<Time, Fault> {
+        time(self.word()?)
+    }
+
+    /// `1` for true and `0` for false.
+    pub fn flag(&mut self) -> Result<bool, Fault> {
+        match self.word()? {
+            "1" => Ok(true),
+            "0" => Ok(false),
+            _ => Err(Fault::Refused),
+        }
+    }
+
+    /// A number, or `-` for none.
+    pub fn maybe_number(&mut self) -> Result<Option<i64>, Fault> {
+        match self.word()? {
+            "-" => Ok(None),
+            word => Ok(Some(number(word)?)),
+        }
+    }
+
+    /// A number from 0 on, or `-` for none.
+    pub fn maybe_natural(&mut self) -> Result<Option<u32>, Fault> {
+        match self.word()? {
+            "-" => Ok(None),
+            word => Ok(Some(natural(word)?)),
+        }
+    }
+
+    /// A time, or `-` for none.
+    pub fn maybe_time(&mut self) -> Result<Option<Time>, Fault> {
+        match self.word()? {
+            "-" => Ok(None),
+            word => Ok(Some(time(word)?)),
+        }
+    }
+
+    /// An interval as `BEGIN,END`, or `-` for none.
+    pub fn maybe_interval(&mut self) -> Result<Option<Interval>, Fault> {
+        match self.word()? {
+            "-" => Ok(None),
+            word => {
+                let mut parts = Words::of_word(word);
+                let begin = parts.number()?;
+                let end = parts.time()?;
+                Ok(Some(Interval { begin, end }))
+            }
+        }
+    }
+}
+
+/// A number.
+pub fn number(word: &str) -> Result<i64, Fault> {
+    word.parse::<i64>().ok().ok_or(Fault::Refused)
+}
+
+/// A number from 0 on.
+pub fn natural(word: &str) -> Result<u32, Fault> {
+    word.parse::<u32>().ok().ok_or(Fault::Refused)
+}
+
+/// A number, `indefinite` or `unresolved`.
+pub fn time(word: &str) -> Result<Time, Fault> {
+    match word {
+        "indefinite" => Ok(Time::Indefinite),
+        "unresolved" => Ok(Time::Unresolved),
+        _ => Ok(Time::At(number(word)?)),
+    }
+}

@@ -1,0 +1,56 @@
+//! Calls of smil_outline.
+
+ghost use Rattle.std.specs.Prelude.{IfOk};
+ghost use Rattle.smil_model.specs.document.Valid.{IsValid};
+
+use super::case::{Fault, Words};
+use super::printed::{put_fault, put_number};
+use smil_model::{Bytes, Doc, Refusal};
+use smil_outline::{Builder, write_doc};
+use std::alloc::{AllocError, Global};
+
+/// `outline LINE|LINE|..`: the canonical outline, or the place of the first line that is refused,
+/// from 0, and why.
+pub fn outline(alloc: Global, words: &mut Words<'_>, out: &mut Bytes) -> Result<(), Fault> {
+    let mut builder = Builder::new(alloc)?;
+    let mut lines = 0_u64;
+    for line in words.rest().split('|') {
+        if let Err(refusal) = builder.push(line.as_bytes()) {
+            return refused(out, lines, refusal);
+        }
+        lines = lines.saturating_add(1);
+    }
+    match builder.finish() {
+        Ok(doc) => Ok(put_doc(alloc, out, &doc)?),
+        Err(refusal) => refused(out, lines, refusal),
+    }
+}
+
+/// The document of an outline, with `|` between its lines.
+pub fn document(alloc: Global, text: &str) -> Result<Doc, Fault>
+    ensures { IfOk result IsValid }
+{
+    let mut builder = Builder::new(alloc)?;
+    for line in text.split('|') {
+        builder.push(line.as_bytes())?;
+    }
+    let doc = builder.finish()?;
+    Ok(doc)
+}
+
+fn refused(out: &mut Bytes, line: u64, refusal: Refusal) -> Result<(), Fault> {
+    put_number(out, line)?;
+    Ok(put_fault(out, refusal.word(), refusal.column())?)
+}
+
+/// A document, with `|` behind each line.
+fn put_doc(alloc: Global, out: &mut Bytes, doc: &Doc) -> Result<(), AllocError>
+    requires { IsValid doc.now }
+{
+    let mut text = Bytes::new(alloc);
+    write_doc(doc, &mut text)?;
+    for byte in text.slice() {
+        out.push(if *byte == b'\n' { b'|' } else { *byte })?;
+    }
+    Ok(())
+}
