@@ -1,7 +1,8 @@
 -- The ends of time children, and implicit durations.
-use Rattle.std.proofs.Common.{◌≡◌, refl, sym, ◌∙◌, ap, ℕ, ℤ, List, Bool, true, false}
-use Rattle.std.specs.Prelude.{Option, None, Some, if◌then◌else◌, not, ◌||◌, map, option_map}
+use Rattle.std.proofs.Common.{◌≡◌, refl, sym, ◌∙◌, ap, ℕ, ℤ, suc, List, [], ◌∷◌, length, ◌-◌, Bool, true, false, arith}
+use Rattle.std.specs.Prelude.{Option, None, Some, if◌then◌else◌, not, ◌||◌, map, option_map, slice_get, Result, Ok, Err}
 use Rattle.std.specs.Option.{option_or}
+use Rattle.std.specs.Result.{OnOk}
 use Rattle.std.specs.List.{last_or}
 use Rattle.smil_model.specs.declared.times.Time.{Time}
 use Rattle.smil_model.specs.declared.times.Time.TheVariants.{At, Unresolved}
@@ -21,6 +22,7 @@ use Rattle.smil_model.specs.interval.Durations.{container_duration}
 use Rattle.smil_past.specs.declared.plays.played.PastInterval.{PastInterval}
 use Rattle.smil_past.specs.declared.plays.played.Played.{Played}
 use Rattle.smil_past.specs.Played.{past_interval, played}
+use Rattle.smil_element.specs.Element.{last_alone}
 
 abbrev pub coming_of : (ℕ → Option Interval) → ℕ → Option Time
 coming_of intervals s = option_map (λ (i : Interval). i.«end») (intervals s)
@@ -70,9 +72,12 @@ module _ (h : History) (intervals : ℕ → Option Interval) (e : Node) where
   pub idle_container : is_active h.diary e.serial ≡ false → Unresolved ≡ container_implicit h intervals e
   idle_container idle = ap container_by (sym idle)
 
-  pub active_container : (kind : Kind) (endsync : Endsync) (start : ℤ) (children : List ChildEnd) → is_active h.diary e.serial ≡ true → kind ≡ e.kind → endsync ≡ endsync_of e.attrs → start ≡ iteration_start h e.serial → children ≡ map (child_end h intervals e) (time_children h.nodes e.serial) → container_duration kind endsync start children ≡ container_implicit h intervals e
-  active_container kind endsync start children active kind_is endsync_is start_is children_are =
-      (λ i. container_duration (kind_is i) (endsync_is i) (start_is i) (children_are i)) ∙ ap container_by (sym active)
+  -- the duration by ends from which it follows
+  pub active_container : (kind : Kind) (endsync : Endsync) (start : ℤ) (ends told : List ChildEnd) → is_active h.diary e.serial ≡ true → kind ≡ e.kind → endsync ≡ endsync_of e.attrs → start ≡ iteration_start h e.serial → told ≡ ends → ((sync : Endsync) (from : ℤ) → container_duration e.kind sync from ends ≡ container_duration e.kind sync from (map (child_end h intervals e) (time_children h.nodes e.serial))) → container_duration kind endsync start told ≡ container_implicit h intervals e
+  active_container kind endsync start ends told active kind_is endsync_is start_is told_is decides =
+      (λ i. container_duration (kind_is i) (endsync_is i) (start_is i) (told_is i))
+      ∙ decides (endsync_of e.attrs) (iteration_start h e.serial)
+      ∙ ap container_by (sym active)
 
   -- what is no container and has no length by its kind has that of its media
   pub media_told : (kind : Kind) → is_container_kind kind ≡ false → false ≡ not (is_container_kind kind || is_continuous kind || is_class_kind kind) → media_length h e.serial ≡ implicit_of h intervals e kind
@@ -89,3 +94,23 @@ module _ (h : History) (intervals : ℕ → Option Interval) (e : Node) where
   media_told Text container known = absurd (cc)
   media_told Brush container known = absurd (cc)
   media_told Set container known = absurd (cc)
+
+-- ---- the last time child of a seq decides
+
+pub last_decides : {A : Type 0} (f : A → ChildEnd) (endsync : Endsync) (start : ℤ) (xs : List A) → container_duration Seq endsync start (map f (last_alone xs)) ≡ container_duration Seq endsync start (map f xs)
+last_decides f endsync start [] = refl
+last_decides f endsync start (x ∷ []) = refl
+last_decides f endsync start (x ∷ y ∷ ys) = last_decides f endsync start (y ∷ ys)
+
+pub alone_at : {A : Type 0} (xs : List A) (x : A) → slice_get xs (length xs - 1) ≡ Some x → last_alone xs ≡ x ∷ []
+alone_at [] x at = cc
+alone_at (y ∷ []) x at =
+    let same : y ≡ x = cc in
+    ap (λ z. z ∷ []) same
+alone_at (y ∷ z ∷ zs) x at =
+    let place : length (y ∷ z ∷ zs) - 1 ≡ suc (length (z ∷ zs) - 1) = omega arith in
+    alone_at (z ∷ zs) x (ap (slice_get (y ∷ z ∷ zs)) (sym place) ∙ at)
+
+pub then_on_ok : {T E P Q : Type 0} (r : Result T E) → (P → Q) → OnOk r P → OnOk r Q
+then_on_ok (Ok x) f p = f p
+then_on_ok (Err x) f p = tt

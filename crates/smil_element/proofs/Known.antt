@@ -1,7 +1,8 @@
 -- The elements of a document, by their serials, and the time children of one.
-use Rattle.std.proofs.Common.{◌≡◌, refl, sym, ◌∙◌, ap, ℕ, zero, suc, ◌<◌, List, [], ◌∷◌, length, get_or, Bool, true, false}
+use Rattle.std.proofs.Common.{◌≡◌, refl, sym, ◌∙◌, ap, subst, ℕ, zero, suc, ◌<◌, ◌-◌, List, [], ◌∷◌, length, get_or, Bool, true, false}
 use Rattle.std.specs.Prelude.{Option, None, Some, is_some, if◌then◌else◌, ◌&&◌, filter, slice_get}
 use Rattle.std.proofs.lemmas.Bool.{eqb-true}
+use Rattle.std.proofs.lemmas.Option.{get_or_from_slice_get, slice_get_within}
 use Rattle.smil_model.specs.declared.document.Node.{Node}
 use Rattle.smil_model.specs.declared.document.Kind.{Kind}
 use Rattle.smil_model.specs.document.Document.{Document, elements, has_serial, is_element, is_time_child, node_at, serial_of, serials, time_children, time_parent}
@@ -77,3 +78,9 @@ child_at document numbered who k whos are inside =
       known = kept_known nodes child here.node (ap (node_at nodes) here.serial ∙ own) parts.0;
       parent = ap (λ s. serial_of (time_parent nodes s)) here.serial ∙ serial_is who (time_parent nodes here.node.serial) parts.1;
     }
+
+-- the last time child, at its place
+pub last_child : (document : Document) → IsNumberedTree document → (who : ℕ) (whos : List ℕ) → whos ≡ serials (time_children document.nodes who) → (child : ℕ) → slice_get whos (length whos - 1) ≡ Some child → IsChild document.nodes who (length whos - 1) child
+last_child document numbered who whos are child at =
+    subst (λ (s : ℕ). IsChild document.nodes who (length whos - 1) s) (get_or_from_slice_get whos (length whos - 1) child 0 at)
+    (child_at document numbered who (length whos - 1) whos are (slice_get_within whos (length whos - 1) child at))

@@ -180,7 +180,8 @@ fn repeat_at(past: &Past, who: u32, place: u32, now: i64, simple: Time) -> Optio
 // What limits the plays of an element.
 fn bounds_of(past: &Past, who: u32) -> Bounds
     requires { has_element past.now.document.nodes who ≡ true }
-    ensures { (e : AnyNode) → node_at (elements past.now.document.nodes) who ≡ Some e → result ≡ bounds_of e.attrs }
+    ensures { (e : AnyNode) → node_at (elements past.now.document.nodes) who ≡ Some e
+        → result ≡ bounds_of e.attrs }
 {
     Bounds::of_attrs(attrs_of(past, who))
 }

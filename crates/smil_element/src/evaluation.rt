@@ -1,6 +1,7 @@
 //! One evaluation of one element.
 
 ghost use Rattle.std.specs.Prelude.{◌≡◌, ◌≤◌, ◌+◌, ℕ, ℤ, Some, true, false, map, option_map, Option, IfOk, OnOk, if◌then◌else◌};
+ghost use Rattle.smil_model.specs.declared.document.Endsync.{Endsync as AnyEndsync};
 ghost use Rattle.smil_model.specs.declared.document.Node.{Node as AnyNode};
 ghost use Rattle.smil_model.specs.declared.interval.Interval.{Interval as AnyInterval};
 ghost use Rattle.smil_model.specs.declared.times.Time.TheVariants as time;
@@ -15,7 +16,7 @@ ghost use Rattle.smil_model.specs.interval.Durations.{container_duration};
 ghost use Rattle.smil_past.specs.declared.plays.played.PastInterval.{PastInterval as AnyPast};
 ghost use Rattle.smil_past.specs.Syncs.{is_empty, syncs_of};
 ghost use Rattle.smil_past.specs.Past.{IsPresent, history_of};
-ghost use Rattle.smil_element.specs.Element.{IsEvaluated};
+ghost use Rattle.smil_element.specs.Element.{IsEvaluated, last_alone};
 
 use super::expected::{Reading, is_settled, pour_begins, pour_ends};
 use super::facts::{attrs_of, facts_of, played_of};
@@ -162,7 +163,7 @@ fn ends_told<'a>(past: &'a Past, who: u32, filled: &'a [Time]) -> &'a [Time]
 }
 
 // The simple duration of an element, given the intervals of its time children. It takes time for
-// these, where the element is an active container whose duration is implicit.
+// these, where the element is an active par or excl whose duration is implicit.
 fn simple_duration<J: Intervals>(
     past: &Past,
     intervals: &J,
@@ -228,7 +229,7 @@ fn container_duration<J: Intervals>(
     if !past.book().active(who) {
         return Ok(Time::Unresolved);
     }
-    children_ends(past, intervals, who, children)?;
+    deciding_ends(past, intervals, who, children)?;
     let start = played_of(past, who).start;
     Ok(end_by(kind_of(past, who), attrs_of(past, who), start, children))
 }
@@ -244,7 +245,50 @@ fn end_by(kind: Kind, attrs: &Attrs, start: i64, children: &[ChildEnd]) -> Time
     }
 }
 
-// What the ends of the time children of a container are, in document order.
+// The ends of the time children of a container from which its implicit duration follows: of a seq
+// that of the last one alone.
+fn deciding_ends<J: Intervals>(
+    past: &Past,
+    intervals: &J,
+    who: u32,
+    children: &mut Vec<ChildEnd>,
+) -> Result<(), AllocError>
+    requires { has_element past.now.document.nodes who ≡ true }
+    ensures { (e : AnyNode) (endsync : AnyEndsync) (start : ℤ)
+        → node_at (elements past.now.document.nodes) who ≡ Some e
+        → OnOk result (container_duration e.kind endsync start children.new.items
+        ≡ container_duration e.kind endsync start
+        (map (child_end (history_of past.now) (J.given intervals.now) e)
+        (time_children past.now.document.nodes who))) }
+{
+    match kind_of(past, who) {
+        Kind::Seq => last_end(past, intervals, who, children),
+        _ => children_ends(past, intervals, who, children),
+    }
+}
+
+// The end of the last time child of a container, if it has one.
+fn last_end<J: Intervals>(
+    past: &Past,
+    intervals: &J,
+    who: u32,
+    children: &mut Vec<ChildEnd>,
+) -> Result<(), AllocError>
+    requires { has_element past.now.document.nodes who ≡ true }
+    ensures { (e : AnyNode) → node_at (elements past.now.document.nodes) who ≡ Some e
+        → OnOk result (children.new.items
+        ≡ map (child_end (history_of past.now) (J.given intervals.now) e)
+        (last_alone (time_children past.now.document.nodes who))) }
+{
+    past.possible();
+    children.clear();
+    if let Some(child) = past.tree().time_children(who).last() {
+        children.push(end_of_child(past, intervals, who, *child))?;
+    }
+    Ok(())
+}
+
+// The ends of the time children of a container, in document order.
 fn children_ends<J: Intervals>(
     past: &Past,
     intervals: &J,
@@ -317,7 +361,8 @@ fn latest_of(deferred: bool, last: Option<Time>) -> Option<Time>
 
 // Whether the endsync of a container names a child.
 fn is_named(container: &Attrs, child: &Attrs) -> bool
-    ensures { (c : AnyNode) → c.attrs ≡ child.now → result ≡ is_named_child container.now.endsync c }
+    ensures { (c : AnyNode) → c.attrs ≡ child.now
+        → result ≡ is_named_child container.now.endsync c }
 {
     match (&container.endsync, &child.id) {
         (Some(Endsync::Child(named)), Some(id)) => id.slice() == named.slice(),
@@ -328,7 +373,8 @@ fn is_named(container: &Attrs, child: &Attrs) -> bool
 // The kind of an element.
 fn kind_of(past: &Past, who: u32) -> Kind
     requires { has_element past.now.document.nodes who ≡ true }
-    ensures { (e : AnyNode) → node_at (elements past.now.document.nodes) who ≡ Some e → result ≡ e.kind }
+    ensures { (e : AnyNode) → node_at (elements past.now.document.nodes) who ≡ Some e
+        → result ≡ e.kind }
 {
     past.possible();
     past.tree().kind(who)

@@ -140,7 +140,8 @@ fn pour<T: Instant, J: Intervals>(
 // Puts the value that a time gives, if there is one, in its place among rising ones.
 fn put_some<T: Instant>(times: &mut Vec<T>, time: Option<Time>) -> Result<(), AllocError>
     requires { IsRising T.at_most times.old.items }
-    ensures { OnOk result (times.new.items ≡ with_times T.at_most T.choose (option_to_list time) times.old.items) }
+    ensures { OnOk result (times.new.items
+        ≡ with_times T.at_most T.choose (option_to_list time) times.old.items) }
 {
     let Some(time) = time else {
         return Ok(());

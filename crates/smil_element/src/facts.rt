@@ -61,7 +61,8 @@ pub(crate) fn played_of(past: &Past, who: u32) -> Played
 // The attributes of an element.
 pub(crate) fn attrs_of(past: &Past, who: u32) -> &Attrs
     requires { has_element past.now.document.nodes who ≡ true }
-    ensures { (e : AnyNode) → node_at (elements past.now.document.nodes) who ≡ Some e → result.now ≡ e.attrs }
+    ensures { (e : AnyNode) → node_at (elements past.now.document.nodes) who ≡ Some e
+        → result.now ≡ e.attrs }
 {
     past.possible();
     past.tree().attrs(who)
@@ -79,7 +80,8 @@ pub(crate) fn parent_of(past: &Past, who: u32) -> Option<u32>
 
 // Whether what has this time parent is alive.
 pub(crate) fn is_alive(past: &Past, parent: Option<u32>) -> bool
-    ensures { (node : Option AnyNode) → serial_of node ≡ parent → result ≡ diary.lives_under node past.now.diary }
+    ensures { (node : Option AnyNode) → serial_of node ≡ parent
+        → result ≡ diary.lives_under node past.now.diary }
 {
     match parent {
         Some(parent) => past.book().active(parent),

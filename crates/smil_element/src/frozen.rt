@@ -62,7 +62,8 @@ fn freezes(last: Option<PastInterval>, kept: bool, shows: bool, above: bool) -> 
 
 /// Whether a time parent is active or frozen, or there is none.
 pub(crate) fn shows(past: &Past, parent: Option<u32>, frozen: bool) -> bool
-    ensures { (node : Option AnyNode) → serial_of node ≡ parent → result ≡ (lives_under node past.now.diary || frozen) }
+    ensures { (node : Option AnyNode) → serial_of node ≡ parent
+        → result ≡ (lives_under node past.now.diary || frozen) }
 {
     is_alive(past, parent) || frozen
 }

@@ -35,7 +35,8 @@ pub fn group_of(
 ) -> Result<(), AllocError>
     requires known { IsSome (node_at parts.now.tree.now.nodes who) }
     requires parts { (h : History) × ArePartsOf parts.now h }
-    ensures { OnOk result (AppendsBy parts.now entries.old entries.new (λ h m. steps_of h m who (meant change))) }
+    ensures { OnOk result (AppendsBy parts.now entries.old entries.new
+        (λ h m. steps_of h m who (meant change))) }
 {
     match change {
         Change::Begins { begin } => begin_steps(parts, who, begin, entries),
@@ -52,7 +53,8 @@ fn repeat_steps(
     entries: &mut Vec<Entry>,
 ) -> Result<(), AllocError>
     requires known { IsSome (node_at parts.now.tree.now.nodes who) }
-    ensures { OnOk result (AppendsBy parts.now entries.old entries.new (λ h m. repeat_steps_of h who start)) }
+    ensures { OnOk result (AppendsBy parts.now entries.old entries.new
+        (λ h m. repeat_steps_of h who start)) }
 {
     stop(parts, who, Step::Repeated { who, start }, entries)
 }
@@ -66,7 +68,8 @@ fn end_steps(
 ) -> Result<(), AllocError>
     requires known { IsSome (node_at parts.now.tree.now.nodes who) }
     requires parts { (h : History) × ArePartsOf parts.now h }
-    ensures { OnOk result (AppendsBy parts.now entries.old entries.new (λ h m. end_steps_of h m who end)) }
+    ensures { OnOk result (AppendsBy parts.now entries.old entries.new
+        (λ h m. end_steps_of h m who end)) }
 {
     stop(parts, who, Step::Ended { who, end }, entries)?;
     followers(parts, who, entries)
@@ -90,7 +93,8 @@ fn followers(parts: &Parts<'_>, who: u32, entries: &mut Vec<Entry>) -> Result<()
 fn follower(parts: &Parts<'_>, excl: u32, entries: &mut Vec<Entry>) -> Result<(), AllocError>
     requires known { IsSome (node_at parts.now.tree.now.nodes excl) }
     requires parts { (h : History) × ArePartsOf parts.now h }
-    ensures { OnOk result (AppendsBy parts.now entries.old entries.new (λ h m. follower_of h m (queue_of h excl))) }
+    ensures { OnOk result (AppendsBy parts.now entries.old entries.new
+        (λ h m. follower_of h m (queue_of h excl))) }
 {
     match parts.queues.first(parts.tree, excl) {
         Some(first) => put(parts, next_step(parts, first), entries),

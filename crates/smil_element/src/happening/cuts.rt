@@ -17,7 +17,8 @@ pub fn stop(
     entries: &mut Vec<Entry>,
 ) -> Result<(), AllocError>
     requires { IsSome (node_at parts.now.tree.now.nodes who) }
-    ensures { OnOk result (Appends parts.now entries.old entries.new (cuts_below parts.now who ++ step ∷ [])) }
+    ensures { OnOk result (Appends parts.now entries.old entries.new
+        (cuts_below parts.now who ++ step ∷ [])) }
 {
     cut_below(parts, who, entries)?;
     put(parts, step, entries)

@@ -14,7 +14,8 @@ use smil_tree::Tree;
 /// The serial of the excl in which an element plays, whose end lets the queue go on.
 pub fn left_excl(parts: &Parts<'_>, who: u32) -> Option<u32>
     requires { IsSome (node_at parts.now.tree.now.nodes who) }
-    ensures { (h : History) → ArePartsOf parts.now h → result ≡ serial_of (left_excl h who (time_parent h.nodes who)) }
+    ensures { (h : History) → ArePartsOf parts.now h
+        → result ≡ serial_of (left_excl h who (time_parent h.nodes who)) }
 {
     let excl = excl_above(parts.tree, who)?;
     if is_it(playing_child(parts, excl), who) {
@@ -27,7 +28,8 @@ pub fn left_excl(parts: &Parts<'_>, who: u32) -> Option<u32>
 /// The serial of the child that plays in the excl of an element.
 pub fn rival(parts: &Parts<'_>, who: u32) -> Option<u32>
     requires { IsSome (node_at parts.now.tree.now.nodes who) }
-    ensures { (h : History) → ArePartsOf parts.now h → result ≡ serial_of (rival_in h (time_parent h.nodes who)) }
+    ensures { (h : History) → ArePartsOf parts.now h
+        → result ≡ serial_of (rival_in h (time_parent h.nodes who)) }
 {
     let excl = excl_above(parts.tree, who)?;
     playing_child(parts, excl)
@@ -66,7 +68,8 @@ fn is_excl(kind: Kind) -> bool
 
 // The serial of the playing child of an excl.
 fn playing_child(parts: &Parts<'_>, excl: u32) -> Option<u32>
-    ensures { (h : History) → ArePartsOf parts.now h → result ≡ serial_of (playing_child_of h excl) }
+    ensures { (h : History) → ArePartsOf parts.now h
+        → result ≡ serial_of (playing_child_of h excl) }
 {
     let children = parts.tree.time_children(excl);
     for place in 0..children.len() {

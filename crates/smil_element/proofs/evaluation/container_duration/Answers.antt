@@ -8,6 +8,7 @@ use Rattle.smil_model.specs.document.Defaults.{endsync_of}
 use Rattle.smil_model.specs.diary.Diary.{History, is_active}
 use Rattle.smil_model.specs.diary.Clocks.{iteration_start}
 use Rattle.smil_model.specs.interval.Current.{child_end}
+use Rattle.smil_model.specs.interval.Durations.{container_duration}
 use Rattle.smil_past.specs.declared.plays.played.Played.{Played}
 use Rattle.smil_past.proofs.References.{stands}
 use Rattle.smil_past.specs.Past.{history_of}
@@ -31,7 +32,7 @@ returns g c = λ e here.
     let fits : FitsSigned w64 start = search rules in
     let serial : e.serial ≡ c.args.who = (stands (elements h.nodes) c.args.who e here).serial in
     c.end_by.ensures
-    ∙ active_container h given e _ _ _ c.deref.result.now
+    ∙ active_container h given e _ _ _ _ c.deref.result.now
     (ap (is_active h.diary) serial
     ∙ ap (λ (d : List Entry). is_active d c.args.who) (sym c.book.ensures)
     ∙ sym c.active.ensures
@@ -39,4 +40,7 @@ returns g c = λ e here.
     (c.kind_of.ensures e here)
     (ap endsync_of (c.attrs_of.ensures e here))
     (to_z-of_z w64 start fits ∙ ap (λ (p : Played). p.start) c.played_of-start.ensures ∙ ap (iteration_start h) (sym serial))
-    (c.deref.ensures.value ∙ c.in_ok-children_ends.ensures e here ∙ ap (λ s. map (child_end h given e) (time_children h.nodes s)) (sym serial))
+    c.deref.ensures.value
+    (λ sync from.
+    c.in_ok-deciding_ends.ensures e sync from here
+    ∙ ap (λ s. container_duration e.kind sync from (map (child_end h given e) (time_children h.nodes s))) (sym serial))
