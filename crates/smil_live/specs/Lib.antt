@@ -13,3 +13,4 @@ pub mod Sets
 pub mod Sites
 pub mod Telling
 pub mod Told
+pub mod WorkedCounts

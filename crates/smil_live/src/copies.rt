@@ -16,7 +16,8 @@ use smil_model::{Duplicate, Refusal};
 use smil_tree::Tree;
 use std::alloc::Global;
 
-/// A copy in which a node has an attribute. The refusals are those of name and value, and of the edit.
+/// A copy in which a node has an attribute. The refusals are those of name and value, and of the
+/// edit.
 pub fn with_value(
     alloc: Global,
     tree: &Tree,
@@ -68,8 +69,8 @@ pub fn without_name(tree: &Tree, serial: u32, attr: Placed<'_>) -> Result<Tree, 
     Ok(edited)
 }
 
-/// A copy in which a node has one more child, at a place counted from 1. The refusals are those of the line's kind, of the
-/// place, of the line's attributes, and of the edit.
+/// A copy in which a node has one more child, at a place counted from 1. The refusals are those of
+/// the line's kind, of the place, of the line's attributes, and of the edit.
 pub fn with_child(
     alloc: Global,
     tree: &Tree,
@@ -108,8 +109,10 @@ pub fn with_child(
 /// A copy without a node and all below it. `Root` where it has no parent.
 pub fn without_node(tree: &Tree, serial: u32) -> Result<Tree, Refusal>
     requires { IsSome (node_at tree.now.nodes serial) }
-    ensures ok { IfOk result (λ edited. at_node tree.now.nodes serial (node_removed_from tree.now) ≡ Ok edited) }
-    ensures err { IfErr result (IsRefusedBy (at_node tree.now.nodes serial (node_removed_from tree.now))) }
+    ensures ok { IfOk result (λ edited. at_node tree.now.nodes serial (node_removed_from tree.now)
+        ≡ Ok edited) }
+    ensures err { IfErr result (IsRefusedBy
+        (at_node tree.now.nodes serial (node_removed_from tree.now))) }
 {
     let mut edited = tree.copy()?;
     match edited.remove(serial) {

@@ -41,8 +41,8 @@ pub(crate) enum Site {
 }
 
 impl<T: Table> Playing<T> {
-    /// Gives an attribute of a node a value. The refusals are those of the node, of name and value, of the edit, and that of a
-    /// diary without room.
+    /// Gives an attribute of a node a value. The refusals are those of the node, of name and value,
+    /// of the edit, and that of a diary without room.
     pub fn set<L: Ledger>(
         &mut self,
         who: &Who,
@@ -81,7 +81,8 @@ impl<T: Table> Playing<T> {
         }
     }
 
-    /// Takes an attribute of a node away. The refusals are those of the node, of the name, and that of a diary without room.
+    /// Takes an attribute of a node away. The refusals are those of the node, of the name, and that
+    /// of a diary without room.
     pub fn unset<L: Ledger>(
         &mut self,
         who: &Who,
@@ -116,8 +117,8 @@ impl<T: Table> Playing<T> {
         }
     }
 
-    /// Inserts a node into another at a place. The refusals are those of the parent, of the line's kind, of the place, of the
-    /// line's attributes, of the edit, and that of a diary without room.
+    /// Inserts a node into another at a place. The refusals are those of the parent, of the line's
+    /// kind, of the place, of the line's attributes, of the edit, and that of a diary without room.
     pub fn insert<L: Ledger>(
         &mut self,
         who: &Who,
@@ -152,7 +153,8 @@ impl<T: Table> Playing<T> {
         }
     }
 
-    /// Removes a node with all below it. The refusals are those of the node, `Root`, and that of a diary without room.
+    /// Removes a node with all below it. The refusals are those of the node, `Root`, and that of a
+    /// diary without room.
     pub fn remove<L: Ledger>(
         &mut self,
         who: &Who,
@@ -167,8 +169,10 @@ impl<T: Table> Playing<T> {
         ensures kept { OnErr result (self.new ≡ self.old) }
         ensures text { OnErr result (out.new ≡ out.old) }
         ensures counted { steps.old ≤ steps.new }
-        ensures most { OnOk result (IsAtMost T.counts self.old (order.Remove who.now) (steps.new - steps.old)) }
-        ensures least { OnOk result (IsAtLeast T.counts self.old (order.Remove who.now) (steps.new - steps.old)) }
+        ensures most { OnOk result (IsAtMost T.counts self.old (order.Remove who.now)
+            (steps.new - steps.old)) }
+        ensures least { OnOk result (IsAtLeast T.counts self.old (order.Remove who.now)
+            (steps.new - steps.old)) }
         ensures free { IfErr result (λ refusal. IsFree T.counts self.old (order.Remove who.now)
             refusal (steps.new - steps.old)) }
     {
@@ -244,7 +248,8 @@ impl<T: Table> Playing<T> {
         }
     }
 
-    // The node that an order names, as the site of an edit; 0, which is no node's serial, where there is none.
+    // The node that an order names, as the site of an edit; 0, which is no node's serial, where
+    // there is none.
     fn site(&self, who: &Who) -> Site
         ensures { result ≡ Site.Old (serial_or_0 (node_of self.now.document.nodes who.now)) }
     {
@@ -254,8 +259,8 @@ impl<T: Table> Playing<T> {
         }
     }
 
-    // Resolves an edited document with the same log from the part of the diary that stays, tells what is gone and what has
-    // changed, and goes on with it.
+    // Resolves an edited document with the same log from the part of the diary that stays, tells
+    // what is gone and what has changed, and goes on with it.
     fn take_edited<L: Ledger>(
         &mut self,
         edited: &Tree,
@@ -278,8 +283,8 @@ impl<T: Table> Playing<T> {
         }
     }
 
-    // Tells what is gone by other cells and what has changed, and goes on with those, which the old cells stand for then;
-    // unless memory runs out.
+    // Tells what is gone by other cells and what has changed, and goes on with those, which the old
+    // cells stand for then; unless memory runs out.
     pub(crate) fn take_over(&mut self, cells: &mut Cells<T>, out: &mut Bytes) -> Result<(), Refusal>
         requires state { IsState cells.old.presentation }
         requires replayed { IsReplayed cells.old.presentation cells.old }
@@ -304,7 +309,8 @@ impl<T: Table> Playing<T> {
         Ok(())
     }
 
-    // The cells of an edited document, resolved with the same log from the part of the diary that stays.
+    // The cells of an edited document, resolved with the same log from the part of the diary that
+    // stays.
     fn edited_cells<L: Ledger>(
         &self,
         edited: &Tree,
@@ -325,8 +331,9 @@ impl<T: Table> Playing<T> {
         cells_with(&self.cells, &doc, len, steps)
     }
 
-    // How many entries of the diary stay by an edit, unless memory runs out: those through the first begin of the time parent
-    // of the edited node, where the edit leaves the references as they were.
+    // How many entries of the diary stay by an edit, unless memory runs out: those through the
+    // first begin of the time parent of the edited node, where the edit leaves the references as
+    // they were.
     fn staying(&self, edited: &Tree, doc: &Doc, site: Site) -> Result<usize, AllocError>
         requires made { IsMade self.now.document site edited.now }
         requires doc { doc.now ≡ edited.now }
@@ -340,7 +347,8 @@ impl<T: Table> Playing<T> {
     // Whether an edit of a node leaves the references as they were, unless memory runs out.
     fn keeps_references(&self, serial: u32, edited: &Tree, doc: &Doc) -> Result<bool, AllocError>
         requires { doc.now ≡ edited.now }
-        ensures { IfOk result (λ keeps. keeps ≡ keeps_references serial self.now.document.nodes edited.now.nodes) }
+        ensures { IfOk result (λ keeps. keeps
+            ≡ keeps_references serial self.now.document.nodes edited.now.nodes) }
     {
         let tree = self.cells.tree();
         let before = tree.doc_copy()?;
@@ -398,10 +406,11 @@ fn edited_node(tree: &Tree, edited: &Tree, doc: &Doc, site: Site) -> (u32, Optio
     }
 }
 
-// How many entries of a diary stay by an edit: those through the first begin of the time parent of the edited node, if it has
-// one and the edit leaves the references as they were.
+// How many entries of a diary stay by an edit: those through the first begin of the time parent of
+// the edited node, if it has one and the edit leaves the references as they were.
 fn entries_staying(book: &Book, keeps: bool, parent: Option<u32>) -> usize
-    ensures { (node : Option AnyNode) → serial_of node ≡ parent → result ≡ agreed_under keeps node book.now }
+    ensures { (node : Option AnyNode) → serial_of node ≡ parent
+        → result ≡ agreed_under keeps node book.now }
 {
     match parent {
         Some(parent) if keeps => diary_through(book, parent),

@@ -17,8 +17,8 @@ use smil_model::{Bytes, How, Shown, Time, Who};
 use smil_report::put_history;
 use std::alloc::{AllocError, Global};
 
-/// Appends the lines of the intervals of an element, in order. The clocks are gone through from the start, since each time is
-/// carried to document time at its own moment.
+/// Appends the lines of the intervals of an element, in order. The clocks are gone through from the
+/// start, since each time is carried to document time at its own moment.
 pub fn put_intervals<T: Table>(
     alloc: Global,
     cells: &Cells<T>,
@@ -29,7 +29,8 @@ pub fn put_intervals<T: Table>(
     requires sound { cells.now.fault ≡ None }
     requires state { IsState cells.now.presentation }
     requires settled { IsSettled cells.now }
-    requires element { (e : AnyNode) × (node_at (elements cells.now.presentation.document.nodes) who ≡ Some e) }
+    requires element { (e : AnyNode)
+        × (node_at (elements cells.now.presentation.document.nodes) who ≡ Some e) }
     ensures told { (e : AnyNode) → node_at (elements cells.now.presentation.document.nodes) who
         ≡ Some e → OnOk result (out.new ≡ out.old
         ++ flat_map (told_line name.now) (intervals_of (history_of cells.now)

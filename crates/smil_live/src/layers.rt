@@ -10,8 +10,8 @@ use smil_model::{Bytes, Duplicate, Kind, Layer, Shown, State, View, Who};
 use smil_tree::Tree;
 use std::alloc::AllocError;
 
-/// The layer of an element by its view: that of a set which plays, is paused or is frozen, and has an attribute to set, a
-/// value and a target; None of all others. `Memory` where it runs out.
+/// The layer of an element by its view: that of a set which plays, is paused or is frozen, and has
+/// an attribute to set, a value and a target; None of all others. `Memory` where it runs out.
 pub fn layer(tree: &Tree, view: &View) -> Result<Option<Layer>, AllocError>
     requires { (n : AnyNode) × (node_at tree.now.nodes view.now.serial ≡ Some n) }
     ensures { (n : AnyNode) → node_at tree.now.nodes view.now.serial ≡ Some n
@@ -26,7 +26,8 @@ pub fn layer(tree: &Tree, view: &View) -> Result<Option<Layer>, AllocError>
     layer_at(place, target, &attrs.attribute_name, begin_of(view.begin))
 }
 
-// The layer of a set at a place in document order, where it has a target, an attribute to set and a begin.
+// The layer of a set at a place in document order, where it has a target, an attribute to set and a
+// begin.
 fn layer_at(
     place: u32,
     target: Option<u32>,

@@ -18,5 +18,7 @@ mod sets;
 mod tells;
 mod told;
 mod values;
+mod worked;
 
 pub use playing::{Playing, Presentation};
+pub use worked::worked_counts;

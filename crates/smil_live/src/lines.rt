@@ -100,7 +100,8 @@ pub fn put_all_gone(
     moment: i64,
     out: &mut Bytes,
 ) -> Result<(), AllocError>
-    ensures ok { OnOk result (out.new ≡ out.old ++ lines_gone after.now.nodes moment before.now.nodes) }
+    ensures ok { OnOk result (out.new ≡ out.old
+        ++ lines_gone after.now.nodes moment before.now.nodes) }
     ensures err { OnErr result (Begins out.old out.new) }
 {
     before.valid();

@@ -42,7 +42,8 @@ pub enum Move {
 }
 
 impl<T: Table> Playing<T> {
-    /// The clock moves on by so many milliseconds. `BeyondHorizon` where it would pass 10^12, then `DiaryFull`.
+    /// The clock moves on by so many milliseconds. `BeyondHorizon` where it would pass 10^12, then
+    /// `DiaryFull`.
     pub fn advance<L: Ledger>(
         &mut self,
         by: i64,
@@ -57,8 +58,10 @@ impl<T: Table> Playing<T> {
         ensures kept { OnErr result (self.new ≡ self.old) }
         ensures text { OnErr result (out.new ≡ out.old) }
         ensures counted { steps.old ≤ steps.new }
-        ensures most { OnOk result (IsAtMost T.counts self.old (order.Advance by) (steps.new - steps.old)) }
-        ensures least { OnOk result (IsAtLeast T.counts self.old (order.Advance by) (steps.new - steps.old)) }
+        ensures most { OnOk result (IsAtMost T.counts self.old (order.Advance by)
+            (steps.new - steps.old)) }
+        ensures least { OnOk result (IsAtLeast T.counts self.old (order.Advance by)
+            (steps.new - steps.old)) }
         ensures free { IfErr result (λ refusal. IsFree T.counts self.old (order.Advance by) refusal
             (steps.new - steps.old)) }
     {
@@ -73,8 +76,8 @@ impl<T: Table> Playing<T> {
         Ok(())
     }
 
-    /// Moves to a moment. Backward, the log entries that are later are removed. `DiaryFull` where the diary would have too many
-    /// entries.
+    /// Moves to a moment. Backward, the log entries that are later are removed. `DiaryFull` where
+    /// the diary would have too many entries.
     pub fn seek<L: Ledger>(
         &mut self,
         to: i64,
@@ -89,8 +92,10 @@ impl<T: Table> Playing<T> {
         ensures kept { OnErr result (self.new ≡ self.old) }
         ensures text { OnErr result (out.new ≡ out.old) }
         ensures counted { steps.old ≤ steps.new }
-        ensures most { OnOk result (IsAtMost T.counts self.old (order.Seek to) (steps.new - steps.old)) }
-        ensures least { OnOk result (IsAtLeast T.counts self.old (order.Seek to) (steps.new - steps.old)) }
+        ensures most { OnOk result (IsAtMost T.counts self.old (order.Seek to)
+            (steps.new - steps.old)) }
+        ensures least { OnOk result (IsAtLeast T.counts self.old (order.Seek to)
+            (steps.new - steps.old)) }
         ensures free { IfErr result (λ refusal. IsFree T.counts self.old (order.Seek to) refusal
             (steps.new - steps.old)) }
     {
@@ -104,7 +109,8 @@ impl<T: Table> Playing<T> {
         Ok(())
     }
 
-    // Moves to an earlier moment: the presentation is made anew with the diary and the log up to it.
+    // Moves to an earlier moment: the presentation is made anew with the diary and the log up to
+    // it.
     fn seek_back<L: Ledger>(
         &mut self,
         to: i64,
@@ -120,8 +126,10 @@ impl<T: Table> Playing<T> {
         ensures kept { OnErr result (self.new ≡ self.old) }
         ensures text { OnErr result (out.new ≡ out.old) }
         ensures counted { steps.old ≤ steps.new }
-        ensures most { OnOk result (IsAtMost T.counts self.old (order.Seek to) (steps.new - steps.old)) }
-        ensures least { OnOk result (IsAtLeast T.counts self.old (order.Seek to) (steps.new - steps.old)) }
+        ensures most { OnOk result (IsAtMost T.counts self.old (order.Seek to)
+            (steps.new - steps.old)) }
+        ensures least { OnOk result (IsAtLeast T.counts self.old (order.Seek to)
+            (steps.new - steps.old)) }
         ensures free { IfErr result (λ refusal. IsFree T.counts self.old (order.Seek to) refusal
             (steps.new - steps.old)) }
     {
@@ -146,8 +154,8 @@ impl<T: Table> Playing<T> {
         cells_at(&self.cells, to, steps)
     }
 
-    /// An event on an element. `NoElement` where there is no such node, `BadPlace` where it is a priorityClass, then `LogFull`
-    /// and `DiaryFull`.
+    /// An event on an element. `NoElement` where there is no such node, `BadPlace` where it is a
+    /// priorityClass, then `LogFull` and `DiaryFull`.
     pub fn event<L: Ledger>(
         &mut self,
         who: &Who,
@@ -163,7 +171,8 @@ impl<T: Table> Playing<T> {
         ensures kept { OnErr result (self.new ≡ self.old) }
         ensures text { OnErr result (out.new ≡ out.old) }
         ensures counted { steps.old ≤ steps.new }
-        ensures most { OnOk result (IsAtMost T.counts self.old (order.Event who.now name.now) (steps.new - steps.old)) }
+        ensures most { OnOk result (IsAtMost T.counts self.old (order.Event who.now name.now)
+            (steps.new - steps.old)) }
         ensures least { OnOk result (IsAtLeast T.counts self.old (order.Event who.now name.now)
             (steps.new - steps.old)) }
         ensures free { IfErr result (λ refusal. IsFree T.counts self.old
@@ -175,8 +184,8 @@ impl<T: Table> Playing<T> {
         self.hear(Happening::Event { who: serial, name }, out, steps)
     }
 
-    /// The length of a node's media. `NoElement` where there is no such node, `NotContinuous` where its media have no length,
-    /// then `LogFull` and `DiaryFull`.
+    /// The length of a node's media. `NoElement` where there is no such node, `NotContinuous` where
+    /// its media have no length, then `LogFull` and `DiaryFull`.
     pub fn media<L: Ledger>(
         &mut self,
         who: &Who,
@@ -192,8 +201,10 @@ impl<T: Table> Playing<T> {
         ensures kept { OnErr result (self.new ≡ self.old) }
         ensures text { OnErr result (out.new ≡ out.old) }
         ensures counted { steps.old ≤ steps.new }
-        ensures most { OnOk result (IsAtMost T.counts self.old (order.Media who.now length) (steps.new - steps.old)) }
-        ensures least { OnOk result (IsAtLeast T.counts self.old (order.Media who.now length) (steps.new - steps.old)) }
+        ensures most { OnOk result (IsAtMost T.counts self.old (order.Media who.now length)
+            (steps.new - steps.old)) }
+        ensures least { OnOk result (IsAtLeast T.counts self.old (order.Media who.now length)
+            (steps.new - steps.old)) }
         ensures free { IfErr result (λ refusal. IsFree T.counts self.old
             (order.Media who.now length) refusal (steps.new - steps.old)) }
     {
@@ -208,8 +219,8 @@ impl<T: Table> Playing<T> {
         self.hear(what, out, steps)
     }
 
-    /// What came from outside joins the log at the present moment, and what follows happens. `LogFull` where the log is, then
-    /// `DiaryFull`.
+    /// What came from outside joins the log at the present moment, and what follows happens.
+    /// `LogFull` where the log is, then `DiaryFull`.
     pub fn hear<L: Ledger>(
         &mut self,
         what: Happening,
@@ -217,15 +228,19 @@ impl<T: Table> Playing<T> {
         steps: &mut Steps<L>,
     ) -> Result<(), Refusal>
         requires { may_happen what ≡ true }
-        ensures ok { OnOk result (IsHeardBy self.old what self.new (drop (length_of out.old) out.new)) }
+        ensures ok { OnOk result (IsHeardBy self.old what self.new
+            (drop (length_of out.old) out.new)) }
         ensures appended { OnOk result (out.new ≡ out.old ++ drop (length_of out.old) out.new) }
         ensures refused { IfErr result (IsNotHeard self.old what) }
         ensures kept { OnErr result (self.new ≡ self.old) }
         ensures text { OnErr result (out.new ≡ out.old) }
         ensures counted { steps.old ≤ steps.new }
-        ensures most { OnOk result (WhereTold T.counts (steps.new - steps.old ≤ most_onward self.old self.new)) }
-        ensures least { OnOk result (WhereTold T.counts (least_onward self.old self.new ≤ steps.new - steps.old)) }
-        ensures free { (most : Option ℕ) → IfErr result (λ refusal. MayEvaluate most refusal (steps.new - steps.old)) }
+        ensures most { OnOk result (WhereTold T.counts
+            (steps.new - steps.old ≤ most_onward self.old self.new)) }
+        ensures least { OnOk result (WhereTold T.counts
+            (least_onward self.old self.new ≤ steps.new - steps.old)) }
+        ensures free { (most : Option ℕ)
+            → IfErr result (λ refusal. MayEvaluate most refusal (steps.new - steps.old)) }
     {
         if self.cells.log().len() >= LOG_ENTRIES {
             return Err(Refusal::LogFull);
@@ -248,7 +263,8 @@ impl<T: Table> Playing<T> {
     ) -> Result<(), Refusal>
         requires { MayMove self.old step }
         ensures state { OnOk result (self.new ≡ made self.old step) }
-        ensures told { OnOk result (out.new ≡ out.old ++ text_of self.old (changes_by self.old step)) }
+        ensures told { OnOk result (out.new ≡ out.old
+            ++ text_of self.old (changes_by self.old step)) }
         ensures refused { IfErr result (IsTooFull (made self.old step)) }
         ensures kept { OnErr result (self.new ≡ self.old) }
         ensures text { OnErr result (out.new ≡ out.old) }
@@ -296,8 +312,10 @@ fn go_on<T: Table, L: Ledger>(
     ensures before { seen.new.before ≡ seen.old.before }
     ensures begins { Begins out.old out.new }
     ensures counted { steps.old ≤ steps.new }
-    ensures most { OnOk result (WhereTold T.counts (steps.new - steps.old ≤ reached_since cells.old cells.new)) }
-    ensures least { OnOk result (WhereTold T.counts (fresh_since cells.old cells.new ≤ steps.new - steps.old)) }
+    ensures most { OnOk result (WhereTold T.counts
+        (steps.new - steps.old ≤ reached_since cells.old cells.new)) }
+    ensures least { OnOk result (WhereTold T.counts
+        (fresh_since cells.old cells.new ≤ steps.new - steps.old)) }
 {
     match step {
         Move::Pass(to) => pass_through(cells, seen, to, out, steps),
@@ -316,7 +334,8 @@ fn pass_through<T: Table, L: Ledger>(
 ) -> Result<(), Refusal>
     requires may { MayMove cells.old.presentation (Move.Pass to) }
     requires shown { IsShown cells.old seen.old }
-    ensures ok { OnOk result (IsShownAt (made cells.old.presentation (Move.Pass to)) cells.new seen.new) }
+    ensures ok { OnOk result (IsShownAt (made cells.old.presentation (Move.Pass to)) cells.new
+        seen.new) }
     ensures told { OnOk result (out.new ≡ out.old
         ++ text_of cells.old.presentation (changes_by cells.old.presentation (Move.Pass to))) }
     ensures refused { IfErr result (IsTooFull (made cells.old.presentation (Move.Pass to))) }
@@ -324,8 +343,10 @@ fn pass_through<T: Table, L: Ledger>(
     ensures before { seen.new.before ≡ seen.old.before }
     ensures begins { Begins out.old out.new }
     ensures counted { steps.old ≤ steps.new }
-    ensures most { OnOk result (WhereTold T.counts (steps.new - steps.old ≤ reached_since cells.old cells.new)) }
-    ensures least { OnOk result (WhereTold T.counts (fresh_since cells.old cells.new ≤ steps.new - steps.old)) }
+    ensures most { OnOk result (WhereTold T.counts
+        (steps.new - steps.old ≤ reached_since cells.old cells.new)) }
+    ensures least { OnOk result (WhereTold T.counts
+        (fresh_since cells.old cells.new ≤ steps.new - steps.old)) }
 {
     while let Some(due) = due_by(cells, to) {
         if let Err(refusal) = settle_once(cells, seen, due, out, steps) {
@@ -356,7 +377,8 @@ fn settle_once<T: Table, L: Ledger>(
 ) -> Result<(), Refusal>
     requires may { MayMove cells.old.presentation (Move.Settle to) }
     requires shown { IsShown cells.old seen.old }
-    ensures ok { OnOk result (IsShownAt (made cells.old.presentation (Move.Settle to)) cells.new seen.new) }
+    ensures ok { OnOk result (IsShownAt (made cells.old.presentation (Move.Settle to)) cells.new
+        seen.new) }
     ensures told { OnOk result (out.new ≡ out.old
         ++ text_of cells.old.presentation (changes_by cells.old.presentation (Move.Settle to))) }
     ensures refused { IfErr result (IsTooFull (made cells.old.presentation (Move.Settle to))) }
@@ -365,8 +387,10 @@ fn settle_once<T: Table, L: Ledger>(
     ensures begins { Begins out.old out.new }
     ensures counted { steps.old ≤ steps.new }
     ensures goes_on { OnOk result (GoesOn cells.old cells.new) }
-    ensures most { OnOk result (WhereTold T.counts (steps.new - steps.old ≤ reached_since cells.old cells.new)) }
-    ensures least { OnOk result (WhereTold T.counts (fresh_since cells.old cells.new ≤ steps.new - steps.old)) }
+    ensures most { OnOk result (WhereTold T.counts
+        (steps.new - steps.old ≤ reached_since cells.old cells.new)) }
+    ensures least { OnOk result (WhereTold T.counts
+        (fresh_since cells.old cells.new ≤ steps.new - steps.old)) }
 {
     match cells.settle(to, steps) {
         Ok(()) => put_touched(cells, seen, out),
@@ -384,7 +408,8 @@ fn hear_once<T: Table, L: Ledger>(
 ) -> Result<(), Refusal>
     requires may { MayMove cells.old.presentation (Move.Hear entry) }
     requires shown { IsShown cells.old seen.old }
-    ensures ok { OnOk result (IsShownAt (made cells.old.presentation (Move.Hear entry)) cells.new seen.new) }
+    ensures ok { OnOk result (IsShownAt (made cells.old.presentation (Move.Hear entry)) cells.new
+        seen.new) }
     ensures told { OnOk result (out.new ≡ out.old
         ++ text_of cells.old.presentation (changes_by cells.old.presentation (Move.Hear entry))) }
     ensures refused { IfErr result (IsTooFull (made cells.old.presentation (Move.Hear entry))) }
@@ -392,8 +417,10 @@ fn hear_once<T: Table, L: Ledger>(
     ensures before { seen.new.before ≡ seen.old.before }
     ensures begins { Begins out.old out.new }
     ensures counted { steps.old ≤ steps.new }
-    ensures most { OnOk result (WhereTold T.counts (steps.new - steps.old ≤ reached_since cells.old cells.new)) }
-    ensures least { OnOk result (WhereTold T.counts (fresh_since cells.old cells.new ≤ steps.new - steps.old)) }
+    ensures most { OnOk result (WhereTold T.counts
+        (steps.new - steps.old ≤ reached_since cells.old cells.new)) }
+    ensures least { OnOk result (WhereTold T.counts
+        (fresh_since cells.old cells.new ≤ steps.new - steps.old)) }
 {
     match cells.hear(entry, steps) {
         Ok(()) => put_touched(cells, seen, out),
@@ -401,8 +428,8 @@ fn hear_once<T: Table, L: Ledger>(
     }
 }
 
-// Puts the views of the touched elements in place, and appends the lines of those that differ from the views of an earlier
-// state, of which the last call may have changed these alone.
+// Puts the views of the touched elements in place, and appends the lines of those that differ from
+// the views of an earlier state, of which the last call may have changed these alone.
 fn put_touched<T: Table>(cells: &Cells<T>, seen: &mut Seen, out: &mut Bytes) -> Result<(), Refusal>
     requires sound { cells.now.fault ≡ None }
     requires state { IsState cells.now.presentation }
@@ -435,7 +462,8 @@ fn put_one<T: Table>(
     requires sound { cells.now.fault ≡ None }
     requires state { IsState cells.now.presentation }
     requires settled { IsSettled cells.now }
-    requires element { (e : AnyNode) × (node_at (elements cells.now.presentation.document.nodes) serial ≡ Some e) }
+    requires element { (e : AnyNode)
+        × (node_at (elements cells.now.presentation.document.nodes) serial ≡ Some e) }
     requires known { has_view seen.old.views serial ≡ true }
     ensures view { (e : AnyNode) → node_at (elements cells.now.presentation.document.nodes) serial
         ≡ Some e → OnOk result (seen.new ≡ with_view seen.old (view_now cells.now e)) }

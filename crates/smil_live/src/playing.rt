@@ -31,13 +31,24 @@ use std::sync::ledger::Ledger;
 /// A presentation that evaluates after each happening what it can reach.
 pub type Presentation = Playing<LiveTable>;
 
-/// A presentation, seen as its document, its log and its moment, in milliseconds of document time. It answers every order,
-/// and tells bounds of its interval evaluations where its table counts them.
-#[derive(Drop)]
+/// A presentation, seen as its document, its log and its moment, in milliseconds of document time.
+/// It answers every order, and tells bounds of its interval evaluations where its table counts
+/// them.
 pub struct Playing<T: Table> {
     pub cells: Cells<T>,
     pub seen: Seen,
     pub alloc: Global,
+}
+
+impl<T: Table> Drop for Playing<T> {
+    // One call for each holder: its fields are dropped here alone.
+    fn drop(self) {
+        let Playing {
+            cells: _cells,
+            seen: _seen,
+            alloc: _alloc,
+        } = self;
+    }
 }
 
 impl<T: Table> Model for Playing<T> {
@@ -52,8 +63,9 @@ impl<T: Table> Model for Playing<T> {
 }
 
 impl<T: Table> Playing<T> {
-    /// Opens a valid document at moment 0 with an empty log, and appends the lines of what is shown of it. `DiaryFull` where
-    /// its diary has too many entries, `Memory` where memory runs out; after a refusal `out` is as before.
+    /// Opens a valid document at moment 0 with an empty log, and appends the lines of what is shown
+    /// of it. `DiaryFull` where its diary has too many entries, `Memory` where memory runs out;
+    /// after a refusal `out` is as before.
     pub fn new<L: Ledger>(
         alloc: Global,
         doc: Doc,
@@ -63,11 +75,14 @@ impl<T: Table> Playing<T> {
         requires { IsValid doc }
         ensures state { IfOk result (λ playing. opened doc ≡ Ok playing) }
         ensures answer { IfOk result (λ playing. out.new ≡ out.old ++ load_text playing) }
-        ensures refused { IfErr result (λ refusal. (refusal ≡ Refusal.Memory) ⊎ (opened doc ≡ Err refusal)) }
+        ensures refused { IfErr result
+            (λ refusal. (refusal ≡ Refusal.Memory) ⊎ (opened doc ≡ Err refusal)) }
         ensures text { OnErr result (out.new ≡ out.old) }
         ensures counted { steps.old ≤ steps.new }
-        ensures most { IfOk result (λ playing. WhereTold T.counts (steps.new - steps.old ≤ most_loading playing)) }
-        ensures least { IfOk result (λ playing. WhereTold T.counts (least_loading playing ≤ steps.new - steps.old)) }
+        ensures most { IfOk result (λ playing. WhereTold T.counts
+            (steps.new - steps.old ≤ most_loading playing)) }
+        ensures least { IfOk result (λ playing. WhereTold T.counts
+            (least_loading playing ≤ steps.new - steps.old)) }
     {
         let extent = Extent { len: 0, to: 0 };
         match replayed(alloc, &doc, &Log::new(alloc), extent, steps) {
@@ -76,7 +91,8 @@ impl<T: Table> Playing<T> {
         }
     }
 
-    // A presentation over cells that are settled at moment 0, with the lines of what is shown of it.
+    // A presentation over cells that are settled at moment 0, with the lines of what is shown of
+    // it.
     fn over(alloc: Global, cells: Cells<T>, out: &mut Bytes) -> Result<Self, Refusal>
         requires state { IsState cells.presentation }
         requires replayed { IsReplayed cells.presentation cells }
@@ -98,7 +114,8 @@ impl<T: Table> Playing<T> {
             × (node_of self.now.document.nodes who.now ≡ Some n) × (serial ≡ n.serial)) }
         ensures known { IfOk result (λ serial. IsSome (node_at self.now.document.nodes serial)) }
         ensures serial { IfOk result (λ serial. is_serial serial ≡ true) }
-        ensures err { IfErr result (λ refusal. found (node_of self.now.document.nodes who.now) ≡ Err refusal) }
+        ensures err { IfErr result (λ refusal. found (node_of self.now.document.nodes who.now)
+            ≡ Err refusal) }
     {
         match self.cells.tree().find(who) {
             Some(serial) => Ok(serial),
@@ -106,7 +123,8 @@ impl<T: Table> Playing<T> {
         }
     }
 
-    /// The serial of an element. `NoElement` where there is no such node, `BadPlace` where it is a priorityClass.
+    /// The serial of an element. `NoElement` where there is no such node, `BadPlace` where it is a
+    /// priorityClass.
     pub fn element(&self, who: &Who) -> Result<u32, Refusal>
         ensures ok { IfOk result (λ serial. (n : AnyNode) × (element_named self.now who.now ≡ Ok n)
             × (serial ≡ n.serial)) }
@@ -137,14 +155,17 @@ impl<T: Table> Playing<T> {
         steps: &mut Steps<L>,
     ) -> Result<(), Refusal>
         requires { IsGiven (order.Key key) }
-        ensures ok { OnOk result (Accepts formats self.old self.new (order.Key key) (drop (length out.old) out.new)) }
+        ensures ok { OnOk result (Accepts formats self.old self.new (order.Key key)
+            (drop (length out.old) out.new)) }
         ensures appended { OnOk result (out.new ≡ out.old ++ drop (length out.old) out.new) }
         ensures refused { IfErr result (Refuses formats self.old (order.Key key)) }
         ensures kept { OnErr result (self.new ≡ self.old) }
         ensures text { OnErr result (out.new ≡ out.old) }
         ensures counted { steps.old ≤ steps.new }
-        ensures most { OnOk result (IsAtMost T.counts self.old (order.Key key) (steps.new - steps.old)) }
-        ensures least { OnOk result (IsAtLeast T.counts self.old (order.Key key) (steps.new - steps.old)) }
+        ensures most { OnOk result (IsAtMost T.counts self.old (order.Key key)
+            (steps.new - steps.old)) }
+        ensures least { OnOk result (IsAtLeast T.counts self.old (order.Key key)
+            (steps.new - steps.old)) }
         ensures free { IfErr result (λ refusal. IsFree T.counts self.old (order.Key key) refusal
             (steps.new - steps.old)) }
     {
@@ -161,7 +182,8 @@ impl<T: Table> Playing<T> {
     ) -> Result<(), Refusal>
         requires given { IsGiven order.now }
         requires edits { is_edit order.now ≡ true }
-        ensures ok { OnOk result (Accepts formats self.old self.new order.now (drop (length out.old) out.new)) }
+        ensures ok { OnOk result (Accepts formats self.old self.new order.now
+            (drop (length out.old) out.new)) }
         ensures appended { OnOk result (out.new ≡ out.old ++ drop (length out.old) out.new) }
         ensures refused { IfErr result (Refuses formats self.old order.now) }
         ensures kept { OnErr result (self.new ≡ self.old) }
@@ -169,7 +191,8 @@ impl<T: Table> Playing<T> {
         ensures counted { steps.old ≤ steps.new }
         ensures most { OnOk result (IsAtMost T.counts self.old order.now (steps.new - steps.old)) }
         ensures least { OnOk result (IsAtLeast T.counts self.old order.now (steps.new - steps.old)) }
-        ensures free { IfErr result (λ refusal. IsFree T.counts self.old order.now refusal (steps.new - steps.old)) }
+        ensures free { IfErr result (λ refusal. IsFree T.counts self.old order.now refusal
+            (steps.new - steps.old)) }
     {
         match order {
             Order::Set {

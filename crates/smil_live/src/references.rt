@@ -24,8 +24,9 @@ pub struct Linked<'a> {
     pub graph: &'a Graph,
 }
 
-/// Whether an edit of a node leaves the references as they were, unless memory runs out: each id of a node names the same
-/// element in both documents or none, and the items of each other element that both have are looped in both or in none.
+/// Whether an edit of a node leaves the references as they were, unless memory runs out: each id of
+/// a node names the same element in both documents or none, and the items of each other element
+/// that both have are looped in both or in none.
 pub fn keeps_references(
     alloc: Global,
     edited: u32,
@@ -36,7 +37,8 @@ pub fn keeps_references(
     requires new_nodes { new.nodes.now ≡ new.tree.now.nodes }
     requires old_graph { old.graph.now.nodes ≡ old.tree.now.nodes }
     requires new_graph { new.graph.now.nodes ≡ new.tree.now.nodes }
-    ensures { IfOk result (λ keeps. keeps ≡ keeps_references edited old.entry.tree.now.nodes new.entry.tree.now.nodes) }
+    ensures { IfOk result (λ keeps. keeps
+        ≡ keeps_references edited old.entry.tree.now.nodes new.entry.tree.now.nodes) }
 {
     if !keeps_ids(old.nodes, old.tree, new.tree)? || !keeps_ids(new.nodes, old.tree, new.tree)? {
         return Ok(false);
@@ -112,7 +114,8 @@ fn keeps_loops(
     requires old_nodes { old.nodes.now ≡ old.tree.now.nodes }
     requires old_graph { old.graph.now.nodes ≡ old.tree.now.nodes }
     requires new_graph { new.graph.now.nodes ≡ new.tree.now.nodes }
-    ensures { IfOk result (λ keeps. keeps ≡ keeps_loops edited old.entry.tree.now.nodes new.entry.tree.now.nodes) }
+    ensures { IfOk result (λ keeps. keeps
+        ≡ keeps_loops edited old.entry.tree.now.nodes new.entry.tree.now.nodes) }
 {
     for node in old.nodes {
         if node.kind.is_element() && !keeps_loops_of(alloc, edited, old, new, node.serial)? {
@@ -122,8 +125,8 @@ fn keeps_loops(
     Ok(true)
 }
 
-// Whether the items of an element, unless it is edited or the new document does not have it, are looped in both documents or
-// in none.
+// Whether the items of an element, unless it is edited or the new document does not have it, are
+// looped in both documents or in none.
 fn keeps_loops_of(
     alloc: Global,
     edited: u32,
@@ -192,7 +195,8 @@ fn item_counts(tree: &Tree, serial: u32) -> Option<(usize, usize)>
 
 // How many items a list has, or a number where it is absent.
 fn count_or(items: &Option<Items>, without: usize) -> usize
-    ensures { (others : List AnyItem) → length others ≡ without → result ≡ length (items_or others items.now) }
+    ensures { (others : List AnyItem) → length others ≡ without
+        → result ≡ length (items_or others items.now) }
 {
     match items {
         Some(items) => items.len(),

@@ -28,8 +28,9 @@ pub struct Extent {
     pub to: i64,
 }
 
-/// The cells of a document, with the first entries of a log heard at their moments and all settled up to a moment, from
-/// nothing. `DiaryFull` where the diary would have too many entries, `Memory` where memory runs out.
+/// The cells of a document, with the first entries of a log heard at their moments and all settled
+/// up to a moment, from nothing. `DiaryFull` where the diary would have too many entries, `Memory`
+/// where memory runs out.
 pub fn replayed<T: Table, L: Ledger>(
     alloc: Global,
     doc: &Doc,
@@ -55,8 +56,9 @@ pub fn replayed<T: Table, L: Ledger>(
     }
 }
 
-/// The cells of an earlier moment, rebuilt from the part of the diary up to it. The cells are settled, of a state, with no mark.
-/// `DiaryFull` where the diary would have too many entries, `Memory` where memory runs out.
+/// The cells of an earlier moment, rebuilt from the part of the diary up to it. The cells are
+/// settled, of a state, with no mark. `DiaryFull` where the diary would have too many entries,
+/// `Memory` where memory runs out.
 pub fn cells_at<T: Table, L: Ledger>(
     cells: &Cells<T>,
     to: i64,
@@ -82,8 +84,9 @@ pub fn cells_at<T: Table, L: Ledger>(
     }
 }
 
-/// The cells of another document with the same log at the same moment, rebuilt from the first entries of the diary, to which
-/// its resolution comes. `DiaryFull` where its diary would have too many entries, `Memory` where memory runs out.
+/// The cells of another document with the same log at the same moment, rebuilt from the first
+/// entries of the diary, to which its resolution comes. `DiaryFull` where its diary would have too
+/// many entries, `Memory` where memory runs out.
 pub fn cells_with<T: Table, L: Ledger>(
     cells: &Cells<T>,
     doc: &Doc,
@@ -114,8 +117,8 @@ pub fn cells_with<T: Table, L: Ledger>(
     }
 }
 
-/// Hears the entries of a log that cells have not heard yet at their moments, and settles up to a moment. `DiaryFull` where
-/// the diary would have too many entries, `Memory` where memory runs out.
+/// Hears the entries of a log that cells have not heard yet at their moments, and settles up to a
+/// moment. `DiaryFull` where the diary would have too many entries, `Memory` where memory runs out.
 pub fn replay_on<T: Table, L: Ledger>(
     cells: &mut Cells<T>,
     log: &Log,
@@ -124,7 +127,8 @@ pub fn replay_on<T: Table, L: Ledger>(
 ) -> Result<(), Refusal>
     requires way { IsUnderWay (replay_of cells.old.presentation.document log.now extent.len
         extent.to) (length cells.old.presentation.log) cells.old }
-    requires state { IsState (replay_of cells.old.presentation.document log.now extent.len extent.to) }
+    requires state { IsState (replay_of cells.old.presentation.document log.now extent.len
+        extent.to) }
     requires from { pos 0 ≤ℤ extent.to }
     requires within { extent.len ≤ length log.now }
     ensures ok { OnOk result (IsReplayed
@@ -132,8 +136,10 @@ pub fn replay_on<T: Table, L: Ledger>(
     ensures refused { IfErr result (IsTooFull
         (replay_of cells.old.presentation.document log.now extent.len extent.to)) }
     ensures counted { steps.old ≤ steps.new }
-    ensures most { OnOk result (WhereTold T.counts (steps.new - steps.old ≤ reached_since cells.old cells.new)) }
-    ensures least { OnOk result (WhereTold T.counts (fresh_since cells.old cells.new ≤ steps.new - steps.old)) }
+    ensures most { OnOk result (WhereTold T.counts
+        (steps.new - steps.old ≤ reached_since cells.old cells.new)) }
+    ensures least { OnOk result (WhereTold T.counts
+        (fresh_since cells.old cells.new ≤ steps.new - steps.old)) }
 {
     for place in cells.log().len()..extent.len {
         let entry = log.get(place).unwrap();
@@ -147,7 +153,8 @@ pub fn replay_on<T: Table, L: Ledger>(
     }
 }
 
-// Settles up to the moment of a log entry, and hears it. `Memory` also where the log has as many entries as may be.
+// Settles up to the moment of a log entry, and hears it. `Memory` also where the log has as many
+// entries as may be.
 fn hear_again<T: Table, L: Ledger>(
     cells: &mut Cells<T>,
     entry: &LogEntry,
@@ -162,11 +169,14 @@ fn hear_again<T: Table, L: Ledger>(
     ensures sound { OnOk result (cells.new.fault ≡ None) }
     ensures marked { OnOk result (cells.new.marked ≡ cells.old.marked) }
     ensures settled { OnOk result (IsSettled cells.new) }
-    ensures grown { OnOk result ((more : List AnyEntry) × (cells.new.diary ≡ cells.old.diary ++ more)) }
+    ensures grown { OnOk result ((more : List AnyEntry)
+        × (cells.new.diary ≡ cells.old.diary ++ more)) }
     ensures refused { IfErr result (IsTooFull (heard_at cells.old.presentation entry.now)) }
     ensures counted { steps.old ≤ steps.new }
-    ensures most { OnOk result (WhereTold T.counts (steps.new - steps.old ≤ reached_since cells.old cells.new)) }
-    ensures least { OnOk result (WhereTold T.counts (fresh_since cells.old cells.new ≤ steps.new - steps.old)) }
+    ensures most { OnOk result (WhereTold T.counts
+        (steps.new - steps.old ≤ reached_since cells.old cells.new)) }
+    ensures least { OnOk result (WhereTold T.counts
+        (fresh_since cells.old cells.new ≤ steps.new - steps.old)) }
 {
     if cells.log().len() >= LOG_ENTRIES {
         return Err(Refusal::Memory);
@@ -181,8 +191,8 @@ fn hear_again<T: Table, L: Ledger>(
     }
 }
 
-/// How many entries of a diary, which stand in the order of their moments, are not later than a moment. It takes time for
-/// those that are.
+/// How many entries of a diary, which stand in the order of their moments, are not later than a
+/// moment. It takes time for those that are.
 pub fn diary_until(book: &Book, moment: i64) -> usize
     requires { is_rising_from (pos 0) book.now ≡ true }
     ensures within { result ≤ length book.now }
@@ -198,7 +208,8 @@ pub fn diary_until(book: &Book, moment: i64) -> usize
     0
 }
 
-/// How many entries of a diary there are through the first begin of an element; all where it has not begun.
+/// How many entries of a diary there are through the first begin of an element; all where it has
+/// not begun.
 pub fn diary_through(book: &Book, who: u32) -> usize
     ensures { result ≡ length (through_begin who book.now) }
 {

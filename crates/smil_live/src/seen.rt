@@ -19,8 +19,8 @@ use std::alloc::{AllocError, Global};
 use std::collections::HashMap;
 use std::marker::Model;
 
-/// The views of elements in document order, of each element one. Where a view is changed the one before is noted until
-/// `forget`; seen as the views, with those that `back` gives.
+/// The views of elements in document order, of each element one. Where a view is changed the one
+/// before is noted until `forget`; seen as the views, with those that `back` gives.
 #[derive(Drop)]
 pub struct Seen {
     rows: Vec<View>,
@@ -52,12 +52,14 @@ impl Seen {
         }
     }
 
-    /// The views of all elements, unless memory runs out. No refusal was answered, and all is settled.
+    /// The views of all elements, unless memory runs out. No refusal was answered, and all is
+    /// settled.
     pub fn of<T: Table>(alloc: Global, cells: &Cells<T>) -> Result<Seen, AllocError>
         requires sound { cells.now.fault ≡ None }
         requires state { IsState cells.now.presentation }
         requires settled { IsSettled cells.now }
-        ensures { IfOk result (λ seen. seen ≡ record { views = views_at cells.now; before = views_at cells.now }) }
+        ensures { IfOk result (λ seen. seen
+            ≡ record { views = views_at cells.now; before = views_at cells.now }) }
     {
         let mut seen = Seen::none(alloc);
         let tree = cells.tree();
@@ -109,7 +111,8 @@ impl Seen {
         &self.rows
     }
 
-    /// The view of an element; where it is not among them a blank one, idle and without times. It takes no memory.
+    /// The view of an element; where it is not among them a blank one, idle and without times. It
+    /// takes no memory.
     pub fn view(&self, serial: u32) -> View
         ensures { result ≡ view_among self.now.views serial }
     {
@@ -119,8 +122,8 @@ impl Seen {
         }
     }
 
-    /// Puts a view in the place of that of the same element, which is noted, and tells whether the two differ. Where memory
-    /// runs out all is as before.
+    /// Puts a view in the place of that of the same element, which is noted, and tells whether the
+    /// two differ. Where memory runs out all is as before.
     pub fn put(&mut self, view: View) -> Result<bool, AllocError>
         requires { has_view self.old.views view.serial ≡ true }
         ensures differs { IfOk result (λ different. different ≡ differs self.old.views view) }
@@ -155,12 +158,14 @@ impl Seen {
     }
 }
 
-/// The view of an element at the present moment. No refusal was answered, and all is settled. It takes no memory.
+/// The view of an element at the present moment. No refusal was answered, and all is settled. It
+/// takes no memory.
 pub fn view_in<T: Table>(cells: &Cells<T>, serial: u32) -> View
     requires sound { cells.now.fault ≡ None }
     requires state { IsState cells.now.presentation }
     requires settled { IsSettled cells.now }
-    requires element { (e : AnyNode) × (node_at (elements cells.now.presentation.document.nodes) serial ≡ Some e) }
+    requires element { (e : AnyNode)
+        × (node_at (elements cells.now.presentation.document.nodes) serial ≡ Some e) }
     ensures { (e : AnyNode) → node_at (elements cells.now.presentation.document.nodes) serial
         ≡ Some e → result ≡ view_now cells.now e }
 {

@@ -15,7 +15,8 @@ use smil_tree::Tree;
 use std::alloc::{AllocError, Global};
 use std::collections::HashMap;
 
-/// The layers of all sets, and of each target the names of the attributes that are set, in the order of their bytes.
+/// The layers of all sets, and of each target the names of the attributes that are set, in the
+/// order of their bytes.
 #[derive(Drop)]
 pub struct Sets {
     sandwich: Sandwich,
@@ -41,7 +42,8 @@ impl Sets {
         Ok(sets)
     }
 
-    // Takes in the layer of an element, where it has one, of another set at another place than those before.
+    // Takes in the layer of an element, where it has one, of another set at another place than
+    // those before.
     fn take_in(&mut self, tree: &Tree, view: &View) -> Result<(), AllocError>
         requires { IsSome (node_at tree.now.nodes view.now.serial) }
         ensures { (before : List (ℕ × AnyLayer)) → AreSetsOf self.old before
@@ -55,9 +57,11 @@ impl Sets {
         self.sandwich.apply(view.serial, Some(layer))
     }
 
-    /// The names of the attributes of a target that are set, in the order of their bytes, each once. It takes no memory.
+    /// The names of the attributes of a target that are set, in the order of their bytes, each
+    /// once. It takes no memory.
     pub fn names(&self, target: u32) -> &[Bytes]
-        ensures { (all : List (ℕ × AnyLayer)) → AreSetsOf self.now all → result.now ≡ names_on all target }
+        ensures { (all : List (ℕ × AnyLayer)) → AreSetsOf self.now all
+            → result.now ≡ names_on all target }
     {
         match self.names.get(&target) {
             Some(names) => names,
@@ -65,8 +69,8 @@ impl Sets {
         }
     }
 
-    /// The set at a place from 0, from the top down, in the stack of an attribute of a target; None past its end. It takes no
-    /// memory.
+    /// The set at a place from 0, from the top down, in the stack of an attribute of a target; None
+    /// past its end. It takes no memory.
     pub fn at(&self, target: u32, attr: &[u8], k: usize) -> Option<u32>
         ensures { (all : List (ℕ × AnyLayer)) → AreSetsOf self.now all → result
             ≡ slice_get (stack_of all target attr.now) k }

@@ -32,7 +32,8 @@ impl<T: Table> Playing<T> {
     pub fn tell(&self, order: &Order, out: &mut Bytes) -> Result<(), Refusal>
         requires given { IsGiven order.now }
         requires telling { is_telling order.now ≡ true }
-        ensures ok { OnOk result (Accepts formats self.now self.now order.now (drop (length out.old) out.new)) }
+        ensures ok { OnOk result (Accepts formats self.now self.now order.now
+            (drop (length out.old) out.new)) }
         ensures appended { OnOk result (out.new ≡ out.old ++ drop (length out.old) out.new) }
         ensures refused { IfErr result (Refuses formats self.now order.now) }
         ensures text { OnErr result (out.new ≡ out.old) }
@@ -49,7 +50,8 @@ impl<T: Table> Playing<T> {
     fn put_told(&self, order: &Order, out: &mut Bytes) -> Result<(), Refusal>
         requires telling { is_telling order.now ≡ true }
         ensures state { OnOk result (outcome formats self.now order.now ≡ Ok self.now) }
-        ensures told { OnOk result (out.new ≡ out.old ++ answer_text formats self.now self.now order.now) }
+        ensures told { OnOk result (out.new ≡ out.old
+            ++ answer_text formats self.now self.now order.now) }
         ensures refused { IfErr result (Refuses formats self.now order.now) }
         ensures begins { Begins out.old out.new }
     {
@@ -66,7 +68,8 @@ impl<T: Table> Playing<T> {
     // Appends what an order asks for that names no node.
     fn put_plain(&self, order: &Order, out: &mut Bytes) -> Result<(), AllocError>
         requires { is_plain_telling order.now ≡ true }
-        ensures told { OnOk result (out.new ≡ out.old ++ answer_text formats self.now self.now order.now) }
+        ensures told { OnOk result (out.new ≡ out.old
+            ++ answer_text formats self.now self.now order.now) }
         ensures begins { Begins out.old out.new }
     {
         match order {
@@ -81,7 +84,8 @@ impl<T: Table> Playing<T> {
 
     // Appends the views of all elements.
     fn put_shown(&self, out: &mut Bytes) -> Result<(), AllocError>
-        ensures told { OnOk result (out.new ≡ out.old ++ answer_text formats self.now self.now order.Show) }
+        ensures told { OnOk result (out.new ≡ out.old
+            ++ answer_text formats self.now self.now order.Show) }
         ensures begins { Begins out.old out.new }
     {
         put_views(self.cells.tree(), self.cells.moment(), &self.seen, out)
@@ -89,7 +93,8 @@ impl<T: Table> Playing<T> {
 
     // Appends the outline of the document.
     fn put_text(&self, out: &mut Bytes) -> Result<(), AllocError>
-        ensures told { OnOk result (out.new ≡ out.old ++ answer_text formats self.now self.now order.Text) }
+        ensures told { OnOk result (out.new ≡ out.old
+            ++ answer_text formats self.now self.now order.Text) }
         ensures begins { Begins out.old out.new }
     {
         write_doc(&self.cells.tree().doc_copy()?, out)
@@ -97,13 +102,15 @@ impl<T: Table> Playing<T> {
 
     // Appends the outline of the document with its serials.
     fn put_saved(&self, out: &mut Bytes) -> Result<(), AllocError>
-        ensures told { OnOk result (out.new ≡ out.old ++ answer_text formats self.now self.now order.Save) }
+        ensures told { OnOk result (out.new ≡ out.old
+            ++ answer_text formats self.now self.now order.Save) }
         ensures begins { Begins out.old out.new }
     {
         write_doc_2(&self.cells.tree().doc_copy()?, out)
     }
 
-    // Appends the intervals of an element. `NoElement` where there is no such node, `BadPlace` where it is a priorityClass.
+    // Appends the intervals of an element. `NoElement` where there is no such node, `BadPlace`
+    // where it is a priorityClass.
     fn put_history_of(&self, who: &Who, out: &mut Bytes) -> Result<(), Refusal>
         ensures state { OnOk result (outcome formats self.now (order.History who.now) ≡ Ok self.now) }
         ensures told { OnOk result (out.new ≡ out.old
@@ -122,7 +129,8 @@ impl<T: Table> Playing<T> {
 
     // Appends the intervals of an element.
     fn put_history_at(&self, serial: u32, out: &mut Bytes) -> Result<(), AllocError>
-        requires { (who : AnyWho) × (n : AnyNode) × (element_named self.now who ≡ Ok n) × (serial ≡ n.serial) }
+        requires { (who : AnyWho) × (n : AnyNode) × (element_named self.now who ≡ Ok n)
+            × (serial ≡ n.serial) }
         ensures told { (who : AnyWho) (n : AnyNode) → element_named self.now who ≡ Ok n → serial
             ≡ n.serial → OnOk result (out.new ≡ out.old ++ history_text self.now (Some n)) }
         ensures begins { Begins out.old out.new }
@@ -133,7 +141,8 @@ impl<T: Table> Playing<T> {
 
     // Appends each attribute that is set, targets in document order.
     fn put_values(&self, out: &mut Bytes) -> Result<(), AllocError>
-        ensures told { OnOk result (out.new ≡ out.old ++ answer_text formats self.now self.now order.Values) }
+        ensures told { OnOk result (out.new ≡ out.old
+            ++ answer_text formats self.now self.now order.Values) }
         ensures begins { Begins out.old out.new }
     {
         let tree = self.cells.tree();
@@ -141,9 +150,11 @@ impl<T: Table> Playing<T> {
         put_all_values(tree, &sets, out)
     }
 
-    // Appends the sets of an attribute of a node, from the top of their stack down. `NoElement` where there is no such node.
+    // Appends the sets of an attribute of a node, from the top of their stack down. `NoElement`
+    // where there is no such node.
     fn put_stack(&self, who: &Who, attr: &Bytes, out: &mut Bytes) -> Result<(), Refusal>
-        ensures state { OnOk result (outcome formats self.now (order.Stack who.now attr.now) ≡ Ok self.now) }
+        ensures state { OnOk result (outcome formats self.now (order.Stack who.now attr.now)
+            ≡ Ok self.now) }
         ensures told { OnOk result (out.new ≡ out.old
             ++ stack_text self.now attr.now (node_of self.now.document.nodes who.now)) }
         ensures refused { IfErr result (Refuses formats self.now (order.Stack who.now attr.now)) }
@@ -171,7 +182,8 @@ impl<T: Table> Playing<T> {
 
     // Appends the document with its serials, the diary entry by entry, and the moment.
     fn put_diary(&self, out: &mut Bytes) -> Result<(), AllocError>
-        ensures told { OnOk result (out.new ≡ out.old ++ answer_text formats self.now self.now order.Diary) }
+        ensures told { OnOk result (out.new ≡ out.old
+            ++ answer_text formats self.now self.now order.Diary) }
         ensures begins { Begins out.old out.new }
     {
         self.put_saved(out)?;
@@ -208,7 +220,8 @@ fn put_all_values(tree: &Tree, sets: &Sets, out: &mut Bytes) -> Result<(), Alloc
     Ok(())
 }
 
-// Appends each attribute of a target that is set, by the top of its stack, in the order of the names' bytes.
+// Appends each attribute of a target that is set, by the top of its stack, in the order of the
+// names' bytes.
 fn put_values_on(tree: &Tree, sets: &Sets, target: u32, out: &mut Bytes) -> Result<(), AllocError>
     requires target { IsSome (node_at tree.now.nodes target) }
     requires setters { (all : List (ℕ × AnyLayer)) × AreSetsAmong tree.now.nodes sets.now all }

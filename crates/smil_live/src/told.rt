@@ -16,8 +16,8 @@ use smil_stretch::Clocks;
 use smil_tree::Tree;
 use std::alloc::{AllocError, Global};
 
-/// An element whose intervals are told: the clocks by the entries so far, and the begin of its present play, in document
-/// time.
+/// An element whose intervals are told: the clocks by the entries so far, and the begin of its
+/// present play, in document time.
 #[derive(Drop)]
 pub struct Told {
     who: u32,
@@ -70,8 +70,8 @@ impl Told {
         told
     }
 
-    // Tells what an entry makes of the element's play: the begin of its present one, and the line of the interval that it
-    // finishes.
+    // Tells what an entry makes of the element's play: the begin of its present one, and the line
+    // of the interval that it finishes.
     fn tell(&mut self, entry: Entry, name: &Who, out: &mut Bytes) -> Result<(), AllocError>
         requires follows { MayFollow self.old.clocks entry }
         requires near { HasNear entry.step }
@@ -102,7 +102,8 @@ impl Told {
 
     // Appends the line of the present play, which is finished.
     fn finish(&mut self, end: i64, how: How, name: &Who, out: &mut Bytes) -> Result<(), AllocError>
-        ensures ok { OnOk result (out.new ≡ out.old ++ finish_line name.now self.old.present end how) }
+        ensures ok { OnOk result (out.new ≡ out.old
+            ++ finish_line name.now self.old.present end how) }
         ensures err { OnErr result (out.new ≡ out.old) }
         ensures present { self.new.present ≡ None }
         ensures who { self.new.who ≡ self.old.who }

@@ -11,8 +11,8 @@ use smil_attrs::{AttrFault, NodeFault, attr_name, read_attr, read_kind, read_nod
 use smil_model::{Attr, AttrName, Attrs, Kind, Refusal};
 use std::alloc::Global;
 
-/// An attribute as an order names it, with the column of its name in the order's line, and of a node of a kind under a
-/// parent of another, None being for the root.
+/// An attribute as an order names it, with the column of its name in the order's line, and of a
+/// node of a kind under a parent of another, None being for the root.
 #[derive(Clone, Copy)]
 pub struct Named<'a> {
     pub kind: Kind,
@@ -67,7 +67,8 @@ pub fn read_line_kind(line: Placed<'_>) -> Result<Kind, Refusal>
     }
 }
 
-/// The attributes of the node line of an order, under a parent of this kind; or the refusal of the first that is refused.
+/// The attributes of the node line of an order, under a parent of this kind; or the refusal of the
+/// first that is refused.
 pub fn read_line_attrs(alloc: Global, parent: Kind, line: Placed<'_>) -> Result<Attrs, Refusal>
     requires line { IsText line.text.now }
     requires column { IsColumn line.column }

@@ -1,0 +1,12 @@
+use Rattle.std.proofs.Common.{refl}
+use Rattle.smil_live.proofs.worked.worked_counts.Goals as goal
+
+pub returns : goal.returns
+returns c = record {
+  load_at_most = refl;
+  load_at_least = refl;
+  advance_at_most = refl;
+  advance_at_least = refl;
+  seek_at_most = refl;
+  set_at_most = refl;
+}
