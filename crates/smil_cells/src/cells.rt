@@ -40,10 +40,10 @@ use std::alloc::{AllocError, Global};
 use std::marker::Model;
 use std::sync::ledger::Ledger;
 
-/// A presentation under way, whose diary is resolved moment by moment; seen as its document, its log, its moment in milliseconds
-/// of document time and its diary, with the refusal that it answers from now on, what a mark goes back to, and the elements
-/// whose views the last call may have changed.
-#[derive(Drop)]
+/// A presentation under way, whose diary is resolved moment by moment; seen as its document, its
+/// log, its moment in milliseconds of document time and its diary, with the refusal that it answers
+/// from now on, what a mark goes back to, and the elements whose views the last call may have
+/// changed.
 pub struct Cells<T: Table> {
     past: Past,
     moment: i64,
@@ -53,6 +53,22 @@ pub struct Cells<T: Table> {
     touched: Serials,
     group: Vec<Entry>,
     alloc: Global,
+}
+
+impl<T: Table> Drop for Cells<T> {
+    // One call for each holder: its fields are dropped here alone.
+    fn drop(self) {
+        let Cells {
+            past: _past,
+            moment: _moment,
+            table: _table,
+            fault: _fault,
+            mark: _mark,
+            touched: _touched,
+            group: _group,
+            alloc: _alloc,
+        } = self;
+    }
 }
 
 impl<T: Table> Model for Cells<T> {
@@ -67,15 +83,16 @@ impl<T: Table> Model for Cells<T> {
 }
 
 impl<T: Table> Cells<T> {
-    /// The cells of a valid document at moment 0, with an empty log and an empty diary, and nothing settled; unless memory runs
-    /// out.
+    /// The cells of a valid document at moment 0, with an empty log and an empty diary, and nothing
+    /// settled; unless memory runs out.
     pub fn new<L: Ledger>(
         alloc: Global,
         doc: &Doc,
         steps: &mut Steps<L>,
     ) -> Result<Self, AllocError>
         requires { IsValid doc.now }
-        ensures state { IfOk result (λ cells. cells.presentation ≡ record { document = doc.now; log = []; now = 0 }) }
+        ensures state { IfOk result (λ cells. cells.presentation
+            ≡ record { document = doc.now; log = []; now = 0 }) }
         ensures diary { IfOk result (λ cells. cells.diary ≡ []) }
         ensures sound { IfOk result (λ cells. cells.fault ≡ None) }
         ensures unmarked { IfOk result (λ cells. cells.marked ≡ None) }
@@ -89,14 +106,16 @@ impl<T: Table> Cells<T> {
         Cells::over(alloc, past, 0, steps)
     }
 
-    /// Resolves the presentation up to a moment, which is not before its own and not above 10^12. `DiaryFull` where its diary would
-    /// have too many entries, `Memory` where memory runs out, and an earlier refusal again.
+    /// Resolves the presentation up to a moment, which is not before its own and not above 10^12.
+    /// `DiaryFull` where its diary would have too many entries, `Memory` where memory runs out, and
+    /// an earlier refusal again.
     pub fn settle<L: Ledger>(&mut self, until: i64, steps: &mut Steps<L>) -> Result<(), BookFault>
         requires from { pos self.old.presentation.now ≤ℤ until }
         requires within { until ≤ℤ the_horizon }
         ensures again { (fault : AnyFault) → self.old.fault ≡ Some fault → (result ≡ Err fault)
             × (self.new ≡ self.old) }
-        ensures state { OnOk result (self.new.presentation ≡ moved_to self.old.presentation (nat_abs until)) }
+        ensures state { OnOk result (self.new.presentation
+            ≡ moved_to self.old.presentation (nat_abs until)) }
         ensures settled { OnOk result (IsSettled self.new) }
         ensures goes_on { OnOk result (GoesOn self.old self.new) }
         ensures refused { IfErr result (IsRefusing self.old self.new) }
@@ -107,8 +126,10 @@ impl<T: Table> Cells<T> {
             → (self.old.fault ≡ Some fault)
             ⊎ IsFront (course_of (moved_to self.old.presentation (nat_abs until))) self.new.diary) }
         ensures counted { steps.old ≤ steps.new }
-        ensures most { OnOk result (WhereTold T.counts (steps.new - steps.old ≤ reached_since self.old self.new)) }
-        ensures least { OnOk result (WhereTold T.counts (fresh_since self.old self.new ≤ steps.new - steps.old)) }
+        ensures most { OnOk result (WhereTold T.counts
+            (steps.new - steps.old ≤ reached_since self.old self.new)) }
+        ensures least { OnOk result (WhereTold T.counts
+            (fresh_since self.old self.new ≤ steps.new - steps.old)) }
     {
         if let Some(fault) = self.fault {
             return Err(fault);
@@ -118,8 +139,9 @@ impl<T: Table> Cells<T> {
         self.settle_through(until, steps)
     }
 
-    /// Appends an entry to the log at its moment, which is the presentation's, and resolves what follows at that moment. The
-    /// presentation is settled, and its log is not full. The answers are those of `settle`.
+    /// Appends an entry to the log at its moment, which is the presentation's, and resolves what
+    /// follows at that moment. The presentation is settled, and its log is not full. The answers
+    /// are those of `settle`.
     pub fn hear<L: Ledger>(
         &mut self,
         entry: LogEntry,
@@ -128,10 +150,12 @@ impl<T: Table> Cells<T> {
         requires moment { entry.moment ≡ pos self.old.presentation.now }
         requires may { may_happen entry.what ≡ true }
         requires room { length self.old.presentation.log + 1 ≤ the_entries }
-        requires settled { self.old.fault ≡ None → NothingBefore self.old (pos self.old.presentation.now +ℤ pos 1) }
+        requires settled { self.old.fault ≡ None
+            → NothingBefore self.old (pos self.old.presentation.now +ℤ pos 1) }
         ensures again { (fault : AnyFault) → self.old.fault ≡ Some fault → (result ≡ Err fault)
             × (self.new ≡ self.old) }
-        ensures state { OnOk result (self.new.presentation ≡ with_logged self.old.presentation entry) }
+        ensures state { OnOk result (self.new.presentation
+            ≡ with_logged self.old.presentation entry) }
         ensures settled { OnOk result (IsSettled self.new) }
         ensures goes_on { OnOk result (GoesOn self.old self.new) }
         ensures refused { IfErr result (IsRefusing self.old self.new) }
@@ -142,8 +166,10 @@ impl<T: Table> Cells<T> {
             → (self.old.fault ≡ Some fault)
             ⊎ IsFront (course_of (with_logged self.old.presentation entry)) self.new.diary) }
         ensures counted { steps.old ≤ steps.new }
-        ensures most { OnOk result (WhereTold T.counts (steps.new - steps.old ≤ reached_since self.old self.new)) }
-        ensures least { OnOk result (WhereTold T.counts (fresh_since self.old self.new ≤ steps.new - steps.old)) }
+        ensures most { OnOk result (WhereTold T.counts
+            (steps.new - steps.old ≤ reached_since self.old self.new)) }
+        ensures least { OnOk result (WhereTold T.counts
+            (fresh_since self.old self.new ≤ steps.new - steps.old)) }
     {
         if let Some(fault) = self.fault {
             return Err(fault);
@@ -157,7 +183,8 @@ impl<T: Table> Cells<T> {
         self.settle_through(until, steps)
     }
 
-    /// The current interval of an element; None where it has none. No refusal was answered. It takes no memory.
+    /// The current interval of an element; None where it has none. No refusal was answered. It
+    /// takes no memory.
     pub fn interval(&self, who: u32) -> Option<Interval>
         requires { self.now.fault ≡ None }
         ensures { result ≡ interval_at self.now who }
@@ -165,8 +192,8 @@ impl<T: Table> Cells<T> {
         self.table.interval(who)
     }
 
-    /// The moment of what comes first, in milliseconds of document time; None exactly where nothing comes. No refusal was
-    /// answered. It takes no memory.
+    /// The moment of what comes first, in milliseconds of document time; None exactly where nothing
+    /// comes. No refusal was answered. It takes no memory.
     pub fn next_due(&self) -> Option<i64>
         requires { self.now.fault ≡ None }
         ensures { result ≡ option_map (λ (c : AnyComing). c.key.value)
@@ -213,7 +240,8 @@ impl<T: Table> Cells<T> {
         self.past.log()
     }
 
-    /// The elements whose views the last `settle` or `hear` may have changed, in document order. It takes no memory.
+    /// The elements whose views the last `settle` or `hear` may have changed, in document order. It
+    /// takes no memory.
     pub fn touched(&self) -> &Serials
         ensures { result.now ≡ self.now.touched }
     {
@@ -227,15 +255,16 @@ impl<T: Table> Cells<T> {
         &self.past
     }
 
-    /// A copy, unless memory runs out. No refusal was answered and no mark stands. No interval is evaluated.
+    /// A copy, unless memory runs out. No refusal was answered and no mark stands. No interval is
+    /// evaluated.
     pub fn copy(&self) -> Result<Self, AllocError>
         requires sound { self.now.fault ≡ None }
         requires unmarked { self.now.marked ≡ None }
         ensures { IfOk result (λ copy. copy ≡ self.now) }
     {
-        let past = self.past.copy()?;
         let table = self.table.copy()?;
         let touched = self.touched.copy()?;
+        let past = self.past.copy()?;
         Ok(Cells {
             past,
             moment: self.moment,
@@ -248,7 +277,8 @@ impl<T: Table> Cells<T> {
         })
     }
 
-    /// The cells of a document with the first entries of this diary and what they name of this log, unless memory runs out.
+    /// The cells of a document with the first entries of this diary and what they name of this log,
+    /// unless memory runs out.
     pub fn rebuilt<L: Ledger>(
         &self,
         doc: &Doc,
@@ -270,8 +300,8 @@ impl<T: Table> Cells<T> {
         Cells::over(self.alloc, past, moment, steps)
     }
 
-    /// Makes these the cells of a document with the first entries of the diary and what they name of the log. After a refusal
-    /// `settle` and `hear` answer `Memory`.
+    /// Makes these the cells of a document with the first entries of the diary and what they name
+    /// of the log. After a refusal `settle` and `hear` answer `Memory`.
     pub fn rebuild<L: Ledger>(
         &mut self,
         doc: &Doc,
@@ -296,18 +326,21 @@ impl<T: Table> Cells<T> {
         }
     }
 
-    /// From here on `back` comes back to this. No refusal was answered and no mark stands. It takes no memory.
+    /// From here on `back` comes back to this. No refusal was answered and no mark stands. It takes
+    /// no memory.
     pub fn mark(&mut self)
         requires sound { self.old.fault ≡ None }
         requires unmarked { self.old.marked ≡ None }
-        ensures { self.new ≡ record self.old { marked = Some (self.old.presentation, self.old.diary) } }
+        ensures { self.new ≡ record self.old
+            { marked = Some (self.old.presentation, self.old.diary) } }
     {
         self.past.mark();
         self.table.mark();
         self.mark = Some(self.moment);
     }
 
-    /// Goes back to the mark, which stands no longer; no refusal is answered any more. It takes no memory.
+    /// Goes back to the mark, which stands no longer; no refusal is answered any more. It takes no
+    /// memory.
     pub fn back(&mut self)
         requires { is_some self.old.marked ≡ true }
         ensures { (mark : Presentation × List AnyEntry) → self.old.marked ≡ Some mark → self.new
@@ -340,7 +373,8 @@ impl<T: Table> Cells<T> {
         requires sound { self.old.fault ≡ None }
         requires from { pos self.old.presentation.now ≤ℤ until }
         requires within { until ≤ℤ the_horizon }
-        ensures state { OnOk result (self.new.presentation ≡ moved_to self.old.presentation (nat_abs until)) }
+        ensures state { OnOk result (self.new.presentation
+            ≡ moved_to self.old.presentation (nat_abs until)) }
         ensures settled { OnOk result (IsSettled self.new) }
         ensures goes_on { OnOk result (GoesOn self.old self.new) }
         ensures more { OnOk result (StayTouched self.old self.new) }
@@ -348,8 +382,10 @@ impl<T: Table> Cells<T> {
         ensures full { IfErr result (λ fault. fault ≡ book_fault.DiaryFull
             → IsFront (course_of (moved_to self.old.presentation (nat_abs until))) self.new.diary) }
         ensures counted { steps.old ≤ steps.new }
-        ensures most { OnOk result (WhereTold T.counts (steps.new - steps.old ≤ reached_since self.old self.new)) }
-        ensures least { OnOk result (WhereTold T.counts (fresh_since self.old self.new ≤ steps.new - steps.old)) }
+        ensures most { OnOk result (WhereTold T.counts
+            (steps.new - steps.old ≤ reached_since self.old self.new)) }
+        ensures least { OnOk result (WhereTold T.counts
+            (fresh_since self.old self.new ≤ steps.new - steps.old)) }
     {
         reaches_further();
         self.past.possible();
@@ -388,7 +424,8 @@ impl<T: Table> Cells<T> {
         requires from { pos self.old.presentation.now ≤ℤ moment }
         requires within { moment ≤ℤ the_horizon }
         requires quiet { NothingBefore self.old moment }
-        ensures moved { self.new ≡ record self.old { presentation = moved_to self.old.presentation (nat_abs moment) } }
+        ensures moved { self.new ≡ record self.old
+            { presentation = moved_to self.old.presentation (nat_abs moment) } }
         ensures same { IsSame (history_of self.old) (pos self.old.presentation.now)
             (history_of self.new) (pos self.new.presentation.now) }
         ensures ended { NothingBefore self.old (moment +ℤ pos 1) → IsSettled self.new }
@@ -428,7 +465,8 @@ impl<T: Table> Cells<T> {
         requires { MayBegin past moment }
         ensures begun { IfOk result (λ cells. cells ≡ begun past moment) }
         ensures counted { steps.old ≤ steps.new }
-        ensures most { WhereTold T.counts (steps.new - steps.old ≤ length (elements past.document.nodes)) }
+        ensures most { WhereTold T.counts
+            (steps.new - steps.old ≤ length (elements past.document.nodes)) }
         ensures least { IfOk result (λ cells. WhereTold T.counts
             (any_interval past.document.nodes (interval_at cells) ≤ steps.new - steps.old)) }
     {
@@ -458,8 +496,10 @@ impl<T: Table> Cells<T> {
         ensures full { IfErr result (λ fault. fault ≡ book_fault.DiaryFull
             → IsFront (course_of (with_logged self.old.presentation entry)) self.new.diary) }
         ensures counted { steps.old ≤ steps.new }
-        ensures most { OnOk result (WhereTold T.counts (steps.new - steps.old ≤ reached_since self.old self.new)) }
-        ensures least { OnOk result (WhereTold T.counts (fresh_since self.old self.new ≤ steps.new - steps.old)) }
+        ensures most { OnOk result (WhereTold T.counts
+            (steps.new - steps.old ≤ reached_since self.old self.new)) }
+        ensures least { OnOk result (WhereTold T.counts
+            (fresh_since self.old self.new ≤ steps.new - steps.old)) }
     {
         log_may_be_longer();
         reaches_further();
@@ -490,8 +530,10 @@ impl<T: Table> Cells<T> {
         ensures full { IfErr result (λ fault. fault ≡ book_fault.DiaryFull
             → IsFront (course_of self.old.presentation) self.new.diary) }
         ensures counted { steps.old ≤ steps.new }
-        ensures most { OnOk result (WhereTold T.counts (steps.new - steps.old ≤ reached_since self.old self.new)) }
-        ensures least { OnOk result (WhereTold T.counts (fresh_since self.old self.new ≤ steps.new - steps.old)) }
+        ensures most { OnOk result (WhereTold T.counts
+            (steps.new - steps.old ≤ reached_since self.old self.new)) }
+        ensures least { OnOk result (WhereTold T.counts
+            (fresh_since self.old self.new ≤ steps.new - steps.old)) }
     {
         first_is_of_element();
         resolved_is_near();
@@ -524,7 +566,8 @@ impl<T: Table> Cells<T> {
 /// Appends entries, one after another, each of which may follow what has happened by then.
 fn append_all(past: &mut Past, entries: &[Entry]) -> Result<(), BookFault>
     requires { MayAppendAll past.old entries.now }
-    ensures ok { OnOk result (past.new ≡ past_of.with_diary past.old (past.old.diary ++ entries.now)) }
+    ensures ok { OnOk result (past.new
+        ≡ past_of.with_diary past.old (past.old.diary ++ entries.now)) }
     ensures err { OnErr result (IsPart past.old entries.now past.new) }
     ensures full { IfErr result (λ fault. fault ≡ book_fault.DiaryFull
         → (length past.new.diary ≡ limits.DIARY_ENTRIES)

@@ -11,9 +11,11 @@ use smil_model::Serials;
 use smil_tree::Tree;
 use std::alloc::{AllocError, Global};
 
-/// The elements that are listed, each once and in document order; other nodes are left out. Refused where memory runs out.
+/// The elements that are listed, each once and in document order; other nodes are left out. Refused
+/// where memory runs out.
 pub fn in_order(alloc: Global, tree: &Tree, touched: &Serials) -> Result<Serials, AllocError>
-    ensures order { IfOk result (λ list. list ≡ filter (has list) (serials (elements tree.now.nodes))) }
+    ensures order { IfOk result (λ list. list
+        ≡ filter (has list) (serials (elements tree.now.nodes))) }
     ensures same { IfOk result (λ list. (e : AnyNode) → node_at (elements tree.now.nodes) e.serial
         ≡ Some e → has list e.serial ≡ has touched.now e.serial) }
 {

@@ -146,8 +146,10 @@ impl PlainTable {
     ) -> Result<(), AllocError>
         requires moment { IsPresent past.now moment }
         requires of_elements { AreOfElements past.now.document.nodes self.old.known }
-        ensures current { OnOk result (IsCurrent self.new.known self.new.due (history_of past.now) moment) }
-        ensures changed { OnOk result (StayUnchanged changed.old changed.new self.old.known self.new.known) }
+        ensures current { OnOk result (IsCurrent self.new.known self.new.due (history_of past.now)
+            moment) }
+        ensures changed { OnOk result (StayUnchanged changed.old changed.new self.old.known
+            self.new.known) }
         ensures noted { self.new.noted ≡ self.old.noted }
         ensures has_mark { self.new.has_mark ≡ self.old.has_mark }
         ensures counted { steps.old ≤ steps.new }
@@ -172,8 +174,10 @@ impl PlainTable {
         requires element { has_element past.now.document.nodes who ≡ true }
         requires moment { IsPresent past.now moment }
         requires of_elements { AreOfElements past.now.document.nodes self.old.known }
-        ensures taken { OnOk result (IsTaken (history_of past.now) moment who self.old.known self.new.known) }
-        ensures changed { OnOk result (StayUnchanged changed.old changed.new self.old.known self.new.known) }
+        ensures taken { OnOk result (IsTaken (history_of past.now) moment who self.old.known
+            self.new.known) }
+        ensures changed { OnOk result (StayUnchanged changed.old changed.new self.old.known
+            self.new.known) }
         ensures noted { self.new.noted ≡ self.old.noted }
         ensures has_mark { self.new.has_mark ≡ self.old.has_mark }
         ensures counted { steps.old ≤ steps.new }

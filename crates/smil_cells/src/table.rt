@@ -18,9 +18,10 @@ use smil_past::Past;
 use std::alloc::{AllocError, Global};
 use std::sync::ledger::Ledger;
 
-/// The current interval of each element of a document, and what comes next, kept while entries are appended. Its meanings are
-/// whether they are those of a history at a moment, whether `back` gives those of a history at a moment, whether a mark
-/// stands, and whether it tells how often intervals are evaluated.
+/// The current interval of each element of a document, and what comes next, kept while entries are
+/// appended. Its meanings are whether they are those of a history at a moment, whether `back` gives
+/// those of a history at a moment, whether a mark stands, and whether it tells how often intervals
+/// are evaluated.
 pub trait Table: Drop {
     ghost is_current: { Self → History → ℤ → Type 0 };
 
@@ -30,7 +31,8 @@ pub trait Table: Drop {
 
     ghost counts: { Bool };
 
-    /// The table of what has happened, at a moment, unless memory runs out; each element is evaluated at most once.
+    /// The table of what has happened, at a moment, unless memory runs out; each element is
+    /// evaluated at most once.
     fn of<L: Ledger>(
         alloc: Global,
         past: &Past,
@@ -41,13 +43,14 @@ pub trait Table: Drop {
         ensures current { IfOk result (λ table. is_current table (history_of past.now) moment) }
         ensures unmarked { IfOk result (λ table. has_mark table ≡ false) }
         ensures counted { steps.old ≤ steps.new }
-        ensures most { WhereTold counts (steps.new - steps.old ≤ length (elements past.now.document.nodes)) }
+        ensures most { WhereTold counts
+            (steps.new - steps.old ≤ length (elements past.now.document.nodes)) }
         ensures least { OnOk result (WhereTold counts
             (any_interval past.now.document.nodes (current_interval (history_of past.now) moment) ≤
             steps.new - steps.old)) };
 
-    /// Takes in the entries from a place on, and appends to `changed` the elements whose intervals they may have changed. After a
-    /// refusal nothing is known of the table but what `back` gives.
+    /// Takes in the entries from a place on, and appends to `changed` the elements whose intervals
+    /// they may have changed. After a refusal nothing is known of the table but what `back` gives.
     fn refresh<L: Ledger>(
         &mut self,
         past: &Past,
@@ -64,7 +67,8 @@ pub trait Table: Drop {
             → current_interval (history_of past.now) moment s
             ≡ current_interval (front past.now from) moment s) }
         ensures more { OnOk result ((s : ℕ) → has changed.old s ≡ true → has changed.new s ≡ true) }
-        ensures marked { (h : History) (now : ℤ) → is_marked self.old h now → is_marked self.new h now }
+        ensures marked { (h : History) (now : ℤ) → is_marked self.old h now
+            → is_marked self.new h now }
         ensures has_mark { has_mark self.new ≡ has_mark self.old }
         ensures counted { steps.old ≤ steps.new }
         ensures most { OnOk result (WhereTold counts
@@ -76,7 +80,8 @@ pub trait Table: Drop {
 
     /// The current interval of an element. It takes no memory.
     fn interval(&self, who: u32) -> Option<Interval>
-        ensures { (h : History) (now : ℤ) → is_current self.now h now → result ≡ current_interval h now who };
+        ensures { (h : History) (now : ℤ) → is_current self.now h now
+            → result ≡ current_interval h now who };
 
     /// What comes first; None exactly where nothing comes. It takes no memory.
     fn first(&self) -> Option<Coming>
@@ -93,20 +98,24 @@ pub trait Table: Drop {
     /// From here on `back` comes back to this. No mark stands. It takes no memory.
     fn mark(&mut self)
         requires { has_mark self.old ≡ false }
-        ensures current { (h : History) (now : ℤ) → is_current self.old h now → is_current self.new h now }
-        ensures marked { (h : History) (now : ℤ) → is_current self.old h now → is_marked self.new h now }
+        ensures current { (h : History) (now : ℤ) → is_current self.old h now
+            → is_current self.new h now }
+        ensures marked { (h : History) (now : ℤ) → is_current self.old h now
+            → is_marked self.new h now }
         ensures has_mark { has_mark self.new ≡ true };
 
     /// Goes back to the mark, which stands no longer. It takes no memory.
     fn back(&mut self)
         requires { has_mark self.old ≡ true }
-        ensures current { (h : History) (now : ℤ) → is_marked self.old h now → is_current self.new h now }
+        ensures current { (h : History) (now : ℤ) → is_marked self.old h now
+            → is_current self.new h now }
         ensures has_mark { has_mark self.new ≡ false };
 
     /// Lets the mark go. It takes no memory.
     fn forget(&mut self)
         requires { has_mark self.old ≡ true }
-        ensures current { (h : History) (now : ℤ) → is_current self.old h now → is_current self.new h now }
+        ensures current { (h : History) (now : ℤ) → is_current self.old h now
+            → is_current self.new h now }
         ensures has_mark { has_mark self.new ≡ false };
 
     /// What is current stays so where the same is current by another history.

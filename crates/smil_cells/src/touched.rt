@@ -17,8 +17,9 @@ use std::alloc::{AllocError, Global};
 // A list of more serials is put in order, so that it has each element once.
 const CROWD: usize = 100_000;
 
-/// Appends the elements in whose views the entries from a place on show. An element may be appended more than once, as long as
-/// the list is short. Refused where memory runs out. It takes time for the nodes in which they show.
+/// Appends the elements in whose views the entries from a place on show. An element may be appended
+/// more than once, as long as the list is short. Refused where memory runs out. It takes time for
+/// the nodes in which they show.
 pub fn touch(
     alloc: Global,
     past: &Past,
@@ -66,7 +67,8 @@ fn touch_step(tree: &Tree, log: &Log, step: Step, touched: &mut Serials) -> Resu
     }
 }
 
-// Appends the elements in whose views a step of an element shows; a logged event may be of a serial that no node has.
+// Appends the elements in whose views a step of an element shows; a logged event may be of a serial
+// that no node has.
 fn touch_element(tree: &Tree, step: Step, who: u32, touched: &mut Serials) -> Result<(), AllocError>
     ensures more { OnOk result ((s : ℕ) → has touched.old s ≡ true → has touched.new s ≡ true) }
     ensures shown { OnOk result ((e : AnyNode) → node_at (elements tree.now.nodes) e.serial ≡ Some e

@@ -31,7 +31,8 @@ impl Duplicate for Chronicle {
 }
 
 impl Chronicle {
-    /// The chronicle of a document to which nothing has happened yet, unless memory runs out. The graph is that of the tree.
+    /// The chronicle of a document to which nothing has happened yet, unless memory runs out. The
+    /// graph is that of the tree.
     pub fn new(alloc: Global, tree: &Tree, graph: &Graph) -> Result<Chronicle, AllocError>
         requires { graph.now.nodes ≡ tree.now.nodes }
         ensures { (log : List AnyLogEntry) → IfOk result (TellsNothing tree.now log) }
@@ -42,8 +43,8 @@ impl Chronicle {
         })
     }
 
-    /// Appends an entry, which may follow. `DiaryFull` exactly where the diary is full; after a refusal all is as before. It
-    /// touches what the entry concerns alone.
+    /// Appends an entry, which may follow. `DiaryFull` exactly where the diary is full; after a
+    /// refusal all is as before. It touches what the entry concerns alone.
     pub fn push(&mut self, tree: &Tree, log: &Log, entry: Entry) -> Result<(), BookFault>
         requires tells { Tells tree.now log.now self.old }
         requires follows { MayFollow (unmarked tree.now log.now self.old.book) entry }
@@ -64,8 +65,8 @@ impl Chronicle {
         }
     }
 
-    /// Appends those of the first `len` entries of a diary that it lacks; where memory runs out, those before. It has no
-    /// others.
+    /// Appends those of the first `len` entries of a diary that it lacks; where memory runs out,
+    /// those before. It has no others.
     pub fn catch_up(
         &mut self,
         tree: &Tree,

@@ -14,7 +14,8 @@ use smil_stretch::Clocks;
 use smil_tree::Tree;
 use std::alloc::{AllocError, Global};
 
-/// The clocks, the plays, the queues of excls and the instance times that a document and its diary give.
+/// The clocks, the plays, the queues of excls and the instance times that a document and its diary
+/// give.
 #[derive(Drop)]
 pub struct Kept {
     pub clocks: Clocks,
@@ -35,7 +36,8 @@ impl Duplicate for Kept {
 }
 
 impl Kept {
-    /// What is kept of a document to which nothing has happened yet, unless memory runs out. The graph is that of the tree.
+    /// What is kept of a document to which nothing has happened yet, unless memory runs out. The
+    /// graph is that of the tree.
     pub fn new(alloc: Global, tree: &Tree, graph: &Graph) -> Result<Kept, AllocError>
         requires { graph.now.nodes ≡ tree.now.nodes }
         ensures { (log : List AnyLogEntry) → IfOk result (λ kept. IsKeptOf kept tree.now log []) }
@@ -49,7 +51,8 @@ impl Kept {
         })
     }
 
-    /// Takes in the last entry of the book. Where memory runs out all is as before. It touches what the entry concerns alone.
+    /// Takes in the last entry of the book. Where memory runs out all is as before. It touches what
+    /// the entry concerns alone.
     pub fn take_in(
         &mut self,
         tree: &Tree,

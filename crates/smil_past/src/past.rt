@@ -24,11 +24,10 @@ use smil_tree::Tree;
 use std::alloc::{AllocError, Global};
 use std::marker::Model;
 
-/// A document, its log and its diary so far, with the graph of the document, the clocks, the plays, the queues of excls and
-/// the instance times that these give; seen as the first three, and how long log and diary were where a mark stands. A
-/// second chronicle lags behind: it has the first entries of the diary, and from the first one under a mark on those up to
-/// the mark.
-#[derive(Drop)]
+/// A document, its log and its diary so far, with the graph of the document, the clocks, the plays,
+/// the queues of excls and the instance times that these give; seen as the first three, and how
+/// long log and diary were where a mark stands. A second chronicle lags behind: it has the first
+/// entries of the diary, and from the first one under a mark on those up to the mark.
 pub struct Past {
     tree: Tree,
     graph: Graph,
@@ -38,6 +37,22 @@ pub struct Past {
     second: Option<Chronicle>,
     mark: Option<(usize, usize)>,
     alloc: Global,
+}
+
+impl Drop for Past {
+    // One call for each holder: its fields are dropped here alone.
+    fn drop(self) {
+        let Past {
+            tree: _tree,
+            graph: _graph,
+            syncs: _syncs,
+            log: _log,
+            chronicle: _chronicle,
+            second: _second,
+            mark: _mark,
+            alloc: _alloc,
+        } = self;
+    }
 }
 
 impl Model for Past {
@@ -54,11 +69,12 @@ impl Model for Past {
 }
 
 impl Past {
-    /// A document to which nothing has happened yet, with a log of which nothing was heard yet; unless memory runs out. It takes
-    /// time near linear in the document.
+    /// A document to which nothing has happened yet, with a log of which nothing was heard yet;
+    /// unless memory runs out. It takes time near linear in the document.
     pub fn new(alloc: Global, tree: Tree, log: Log) -> Result<Past, AllocError>
         requires { IsPossible tree log [] }
-        ensures { IfOk result (λ past. past ≡ record { document = tree; log = log; diary = []; marked = None }) }
+        ensures { IfOk result (λ past. past
+            ≡ record { document = tree; log = log; diary = []; marked = None }) }
     {
         let graph = Graph::of(alloc, &tree)?;
         let syncs = Syncs::of(alloc, &tree, &graph)?;
@@ -75,7 +91,8 @@ impl Past {
         })
     }
 
-    /// What has happened to a document by a log and the first entries of a diary, unless memory runs out.
+    /// What has happened to a document by a log and the first entries of a diary, unless memory
+    /// runs out.
     pub fn of(
         alloc: Global,
         tree: Tree,
@@ -96,9 +113,10 @@ impl Past {
         Ok(past)
     }
 
-    /// Appends an entry, which may follow what has happened. `DiaryFull` exactly where the diary is full; after a refusal all
-    /// is as before. It touches what the entry concerns alone. The first one under a mark also gives the second chronicle the
-    /// entries that it lacks, so that each entry is taken in twice; where there is no second one, it copies what is kept.
+    /// Appends an entry, which may follow what has happened. `DiaryFull` exactly where the diary is
+    /// full; after a refusal all is as before. It touches what the entry concerns alone. The first
+    /// one under a mark also gives the second chronicle the entries that it lacks, so that each
+    /// entry is taken in twice; where there is no second one, it copies what is kept.
     pub fn append(&mut self, entry: Entry) -> Result<(), BookFault>
         requires { MayFollow self.old entry }
         ensures ok { OnOk result (self.new ≡ with_diary self.old (self.old.diary ++ entry ∷ [])) }
@@ -117,7 +135,8 @@ impl Past {
         Ok(())
     }
 
-    /// Appends an entry to the log, and to the diary that it was heard at its moment. After a refusal all is as before.
+    /// Appends an entry to the log, and to the diary that it was heard at its moment. After a
+    /// refusal all is as before.
     pub fn hear(&mut self, entry: LogEntry) -> Result<(), BookFault>
         requires may { MayHear self.old entry }
         requires room { length self.old.log < limits.LOG_ENTRIES }
@@ -141,8 +160,8 @@ impl Past {
         }
     }
 
-    /// From here on `back` comes back to this. No mark stands. It takes no memory; the first entry after it may, as `append`
-    /// says.
+    /// From here on `back` comes back to this. No mark stands. It takes no memory; the first entry
+    /// after it may, as `append` says.
     pub fn mark(&mut self)
         requires { self.old.marked ≡ None }
         ensures { self.new ≡ record {
@@ -156,9 +175,9 @@ impl Past {
         self.mark = Some((self.log.len(), self.chronicle.book.len()));
     }
 
-    /// Goes back to where the mark was made. A mark stands, and none does afterwards. It takes no memory. Where entries came
-    /// since, the second chronicle takes the place of the first, which is dropped, so that the next first entry under a mark
-    /// copies.
+    /// Goes back to where the mark was made. A mark stands, and none does afterwards. It takes no
+    /// memory. Where entries came since, the second chronicle takes the place of the first, which
+    /// is dropped, so that the next first entry under a mark copies.
     pub fn back(&mut self)
         requires { is_some self.old.marked ≡ true }
         ensures { (mark : ℕ × ℕ) → self.old.marked ≡ Some mark → self.new ≡ at_mark self.old mark }
@@ -170,8 +189,8 @@ impl Past {
         }
     }
 
-    /// Lets the mark go, from which on the second chronicle lags behind. A mark stands, and none does afterwards. It takes no
-    /// memory.
+    /// Lets the mark go, from which on the second chronicle lags behind. A mark stands, and none
+    /// does afterwards. It takes no memory.
     pub fn forget(&mut self)
         requires { is_some self.old.marked ≡ true }
         ensures { self.new ≡ record {
@@ -248,7 +267,8 @@ impl Past {
         &self.chronicle.kept.instances
     }
 
-    /// A copy, unless memory runs out. No mark stands. The original stays. It takes in the diary's entries anew.
+    /// A copy, unless memory runs out. No mark stands. The original stays. It takes in the diary's
+    /// entries anew.
     pub fn copy(&self) -> Result<Past, AllocError>
         requires { self.now.marked ≡ None }
         ensures { IfOk result (λ copy. copy ≡ self.now) }
@@ -300,7 +320,8 @@ fn note(
     bring_up(second, tree, log, first)
 }
 
-// Gives the second chronicle the entries of the first that it lacks; where there is none, copies the first.
+// Gives the second chronicle the entries of the first that it lacks; where there is none, copies
+// the first.
 fn bring_up(
     second: &mut Option<Chronicle>,
     tree: &Tree,

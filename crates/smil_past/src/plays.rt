@@ -67,27 +67,31 @@ impl Duplicate for Plays {
 }
 
 impl Plays {
-    /// The plays of the elements of a document to which nothing has happened yet, unless memory runs out.
+    /// The plays of the elements of a document to which nothing has happened yet, unless memory
+    /// runs out.
     pub fn new(alloc: Global, tree: &Tree) -> Result<Plays, AllocError>
-        ensures { (h : History) → h.nodes ≡ tree.now.nodes → IfOk result (λ plays. plays ≡ all_played (up_to h [])) }
+        ensures { (h : History) → h.nodes ≡ tree.now.nodes
+            → IfOk result (λ plays. plays ≡ all_played (up_to h [])) }
     {
         Plays::indexed(alloc, idle_rows(alloc, tree)?)
     }
 
-    /// Takes in an entry that may follow what has happened so far, by the document, the clocks before the entry,
-    /// and the log. Its number, where it has one, is from -10^12 to 10^12. It takes no memory, and touches the
-    /// entry's element and, at a begin, a repeat, an end or a cut, its time children: an end leaves none of them
-    /// put off.
+    /// Takes in an entry that may follow what has happened so far, by the document, the clocks
+    /// before the entry, and the log. Its number, where it has one, is from -10^12 to 10^12. It
+    /// takes no memory, and touches the entry's element and, at a begin, a repeat, an end or a cut,
+    /// its time children: an end leaves none of them put off.
     pub fn follow(&mut self, tree: &Tree, clocks: &Clocks, log: &Log, entry: Entry)
         requires follows { MayBeTaken entry tree.now clocks.now log.now }
         requires near { HasNear entry.step }
-        ensures { (h : History) → IsBefore h entry tree.now clocks.now log.now → TakesIn h entry self.old self.new }
+        ensures { (h : History) → IsBefore h entry tree.now clocks.now log.now
+            → TakesIn h entry self.old self.new }
     {
         self.take_own(clocks, log, entry);
         self.take_children(tree, entry.step);
     }
 
-    /// What is kept of an element; None exactly where the document has no such element. It takes no memory.
+    /// What is kept of an element; None exactly where the document has no such element. It takes no
+    /// memory.
     pub fn of(&self, who: u32) -> Option<Played>
         ensures { (h : History) → self.now ≡ all_played h → result ≡ played_at h who }
     {
@@ -140,7 +144,8 @@ impl Plays {
 
     /// Takes in what a step makes of the time children of its element.
     fn take_children(&mut self, tree: &Tree, step: Step)
-        requires { (past : History) × (past.nodes ≡ tree.now.nodes) × (is_lawful_step past step ≡ true) }
+        requires { (past : History) × (past.nodes ≡ tree.now.nodes)
+            × (is_lawful_step past step ≡ true) }
         ensures { AreChildrenTaken tree.now.nodes step self.old self.new }
     {
         match step {

@@ -19,8 +19,9 @@ use smil_tree::Tree;
 use std::alloc::{AllocError, Global};
 use std::marker::Model;
 
-/// The queues of a document's excls and the classes of their children, seen as a queue and a class for each node, in document
-/// order. A node that is no excl has the empty queue, as long as an excl alone pauses and defers.
+/// The queues of a document's excls and the classes of their children, seen as a queue and a class
+/// for each node, in document order. A node that is no excl has the empty queue, as long as an excl
+/// alone pauses and defers.
 #[derive(Drop)]
 pub struct Queues {
     queues: Vec<Queue>,
@@ -46,8 +47,8 @@ impl Duplicate for Queues {
 }
 
 impl Queues {
-    /// The queues of a document to which nothing has happened yet, unless memory runs out: all are empty, each with room for
-    /// all time children.
+    /// The queues of a document to which nothing has happened yet, unless memory runs out: all are
+    /// empty, each with room for all time children.
     pub fn new(alloc: Global, tree: &Tree) -> Result<Queues, AllocError>
         ensures { (log : List AnyLogEntry)
             → IfOk result (λ queues. queues ≡ kept_queues (unplayed tree.now.nodes log)) }
@@ -58,20 +59,23 @@ impl Queues {
         })
     }
 
-    /// Takes in an entry, which is lawful after what has happened so far. It takes no memory, and touches the queue of the
-    /// entry's element and that of its time parent.
+    /// Takes in an entry, which is lawful after what has happened so far. It takes no memory, and
+    /// touches the queue of the entry's element and that of its time parent.
     pub fn follow(&mut self, tree: &Tree, entry: Entry)
         requires { (h : History) × IsPastOf self.old tree.now entry h }
-        ensures { (h : History) → IsPastOf self.old tree.now entry h → self.new ≡ kept_queues (with_entry h entry) }
+        ensures { (h : History) → IsPastOf self.old tree.now entry h
+            → self.new ≡ kept_queues (with_entry h entry) }
     {
         take_in(&mut self.queues, &self.classes, tree, entry.step);
     }
 
-    /// The next child of the queue of an element; None where it is empty, or there is no such element. It takes no memory.
+    /// The next child of the queue of an element; None where it is empty, or there is no such
+    /// element. It takes no memory.
     pub fn first(&self, tree: &Tree, excl: u32) -> Option<u32>
         requires known { IsSome (node_at tree.now.nodes excl) }
         requires kept { (h : History) × AreQueuesOf self.now tree.now h }
-        ensures { (h : History) → AreQueuesOf self.now tree.now h → result ≡ slice_get (queue_of h excl) 0 }
+        ensures { (h : History) → AreQueuesOf self.now tree.now h
+            → result ≡ slice_get (queue_of h excl) 0 }
     {
         first_at(&self.queues, tree, excl)
     }

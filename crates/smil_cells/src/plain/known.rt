@@ -68,7 +68,8 @@ impl Duplicate for Known {
 }
 
 impl Known {
-    /// The elements of a document without intervals, of which nothing comes; unless memory runs out.
+    /// The elements of a document without intervals, of which nothing comes; unless memory runs
+    /// out.
     pub fn of(alloc: Global, tree: &Tree) -> Result<Known, AllocError>
         ensures { IfOk result (λ known. known ≡ map empty_row (elements tree.now.nodes)) }
     {

@@ -16,10 +16,12 @@ pub struct PastInterval {
 /// What a diary says of the plays of an element, in milliseconds.
 #[derive(Clone, Copy, Debug, PartialEq, Eq)]
 pub struct Played {
-    /// The begin of the present play on the time parent's clock, and in document time; None where there is none.
+    /// The begin of the present play on the time parent's clock, and in document time; None where
+    /// there is none.
     pub begun: Option<i64>,
     pub shown_begun: Option<i64>,
-    /// The play start of the last play and the start of its last iteration, on the element's own clock.
+    /// The play start of the last play and the start of its last iteration, on the element's own
+    /// clock.
     pub first: i64,
     pub start: i64,
     /// The first and the last interval that finished since birth.

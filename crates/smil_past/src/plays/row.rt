@@ -14,8 +14,8 @@ use super::played::{PastInterval, Played};
 use smil_model::{Entry, Happening, Log, LogEntry, Step, Time};
 use smil_stretch::Clocks;
 
-/// The element that a step is on; None where it hears a press of a key, or a log entry that there is
-/// not. It takes no memory.
+/// The element that a step is on; None where it hears a press of a key, or a log entry that there
+/// is not. It takes no memory.
 pub fn subject(log: &Log, step: Step) -> Option<u32>
     ensures { result ≡ subject_of log.now step }
 {
@@ -101,7 +101,8 @@ pub fn child(birth: bool, row: Played) -> Played
 fn began(clocks: &Clocks, moment: i64, who: u32, begin: i64, row: Played) -> Played
     requires moment { IsMoment moment }
     requires near { IsNear begin }
-    ensures { (h : History) → AreClocksAt h clocks.now moment → result ≡ began_row h who moment begin row }
+    ensures { (h : History) → AreClocksAt h clocks.now moment
+        → result ≡ began_row h who moment begin row }
 {
     let start = start_of(clocks, who, begin, moment);
     Played {
@@ -118,7 +119,8 @@ fn began(clocks: &Clocks, moment: i64, who: u32, begin: i64, row: Played) -> Pla
 fn start_of(clocks: &Clocks, who: u32, begin: i64, moment: i64) -> i64
     requires moment { IsMoment moment }
     requires near { IsNear begin }
-    ensures { (h : History) → AreClocksAt h clocks.now moment → result ≡ start_of h who moment begin }
+    ensures { (h : History) → AreClocksAt h clocks.now moment
+        → result ≡ start_of h who moment begin }
 {
     clocks.run(who, moment) + (begin - clocks.outer(who, moment))
 }
@@ -134,7 +136,8 @@ fn finished(
 ) -> Played
     requires moment { IsMoment moment }
     requires near { IsNear finish }
-    ensures { (h : History) → AreClocksAt h clocks.now moment → result ≡ finished_row h who moment finish was_cut row }
+    ensures { (h : History) → AreClocksAt h clocks.now moment
+        → result ≡ finished_row h who moment finish was_cut row }
 {
     let shown_finish = clocks.to_document(who, finish, moment);
     let interval = closed(row.begun, row.shown_begun, finish, shown_finish, was_cut);
@@ -152,7 +155,8 @@ fn finished(
 fn put_off(clocks: &Clocks, moment: i64, who: u32, begin: i64, row: Played) -> Played
     requires moment { IsMoment moment }
     requires near { IsNear begin }
-    ensures { (h : History) → AreClocksAt h clocks.now moment → result ≡ deferred_row h who moment begin row }
+    ensures { (h : History) → AreClocksAt h clocks.now moment
+        → result ≡ deferred_row h who moment begin row }
 {
     Played {
         shown_deferred: Some(clocks.to_document(who, begin, moment)),

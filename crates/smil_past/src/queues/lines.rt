@@ -47,7 +47,8 @@ pub fn copied(alloc: Global, queues: &[Queue]) -> Result<Vec<Queue>, AllocError>
 pub fn first_at(queues: &[Queue], tree: &Tree, who: u32) -> Option<u32>
     requires known { IsSome (node_at tree.now.nodes who) }
     requires all { length queues.now ≡ length tree.now.nodes }
-    ensures { (queue : ℕ → List ℕ) → queues.now ≡ lines tree.now.nodes queue → result ≡ slice_get (queue who) 0 }
+    ensures { (queue : ℕ → List ℕ) → queues.now ≡ lines tree.now.nodes queue
+        → result ≡ slice_get (queue who) 0 }
 {
     let place = tree.position(who).unwrap();
     queues[place].first()
