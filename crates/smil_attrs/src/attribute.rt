@@ -56,8 +56,8 @@ fn is_seq(parent: Option<Kind>) -> bool
 }
 
 /// An attribute of a kind below a parent, None being for the root, from its name and its value. The
-/// name's faults come before the value's, and a value that is left out (`UnsupportedValue`) before one
-/// that has no reading (`BadValue`). Places are counted in bytes from the value's first byte.
+/// name's faults come before the value's, and a value that is left out (`UnsupportedValue`) before
+/// one that has no reading (`BadValue`). Places are counted in bytes from the value's first byte.
 pub fn read_attr(
     alloc: Global,
     kind: Kind,

@@ -55,7 +55,8 @@ fn put_indent(depth: u32, out: &mut Bytes) -> Result<(), AllocError>
 #[tactic(auto, using(smil_lexis::proofs::Growing::begins_on))]
 fn put_attrs(kind: Kind, attrs: &Attrs, out: &mut Bytes) -> Result<(), AllocError>
     requires { IsAttrs false kind attrs.now }
-    ensures ok { OnOk result (out.new ≡ out.old ++ flat_map (λ n. attribute_text n (value_text attrs.now n)) all_names) }
+    ensures ok { OnOk result (out.new ≡ out.old
+        ++ flat_map (λ n. attribute_text n (value_text attrs.now n)) all_names) }
     ensures err { OnErr result (Begins out.old out.new) }
 {
     for name in &NAMES {
@@ -75,10 +76,10 @@ fn put_node(depth: u32, kind: Kind, attrs: &Attrs, out: &mut Bytes) -> Result<()
     put_attrs(kind, attrs, out)
 }
 
-/// Appends the canonical line of a node: two spaces per depth, the kind, and the attributes that are there,
-/// each of which has to be one of the kind's with a value that its grammar has. There is one space before
-/// each attribute, in the fixed order of attributes, and each value has its printed spelling. No line end
-/// is appended. After a refusal `out` is as before.
+/// Appends the canonical line of a node: two spaces per depth, the kind, and the attributes that
+/// are there, each of which has to be one of the kind's with a value that its grammar has. There is
+/// one space before each attribute, in the fixed order of attributes, and each value has its
+/// printed spelling. No line end is appended. After a refusal `out` is as before.
 pub fn write_node(depth: u32, kind: Kind, attrs: &Attrs, out: &mut Bytes) -> Result<(), AllocError>
     requires { IsAttrs false kind attrs.now }
     ensures ok { OnOk result (out.new ≡ out.old ++ node_text depth kind attrs.now) }
@@ -123,9 +124,9 @@ fn put_node_2(
     put_attrs(kind, attrs, out)
 }
 
-/// Appends the canonical line of a node with its serial: that of `write_node` with a space, `#` and the serial behind the
-/// kind. The attributes have to be the kind's, with values that their grammars have, and the serial is from 1 to
-/// 999,999,999. After a refusal `out` is as before.
+/// Appends the canonical line of a node with its serial: that of `write_node` with a space, `#` and
+/// the serial behind the kind. The attributes have to be the kind's, with values that their
+/// grammars have, and the serial is from 1 to 999,999,999. After a refusal `out` is as before.
 pub fn write_node_2(
     depth: u32,
     kind: Kind,
@@ -147,8 +148,8 @@ pub fn write_node_2(
     }
 }
 
-/// Appends the header of an outline with serials, `outline 2 next` and the next serial, from 1 to 999,999,999. No line end
-/// is appended. After a refusal `out` is as before.
+/// Appends the header of an outline with serials, `outline 2 next` and the next serial, from 1 to
+/// 999,999,999. No line end is appended. After a refusal `out` is as before.
 pub fn write_header(next: u32, out: &mut Bytes) -> Result<(), AllocError>
     ensures ok { OnOk result (out.new ≡ out.old ++ header_text next) }
     ensures err { OnErr result (out.new ≡ out.old) }
@@ -163,8 +164,8 @@ pub fn write_header(next: u32, out: &mut Bytes) -> Result<(), AllocError>
     }
 }
 
-/// The next serial of the header of an outline with serials; none where the line is no such header. Its spaces are single
-/// ones, and the number has 1 to 9 digits and no leading zero.
+/// The next serial of the header of an outline with serials; none where the line is no such header.
+/// Its spaces are single ones, and the number has 1 to 9 digits and no leading zero.
 pub fn read_header(line: &[u8]) -> Option<u32>
     ensures { result ≡ header_of line.now }
 {
@@ -172,36 +173,4 @@ pub fn read_header(line: &[u8]) -> Option<u32>
         return None;
     }
     count(past(line, 15))
-}
-
-#[cfg(test)]
-mod tests {
-    use super::*;
-    use crate::attribute::read_attr;
-    use crate::nodes::read_node;
-    use smil_model::{Attr, Dur};
-    use std::test::Fail;
-
-    #[test]
-    fn reads_an_attribute(rt: HostRuntime) {
-        let read = read_attr(rt.alloc(), Kind::Img, None, b"dur", b" 2s");
-        assert!(rt; matches!(read, Ok(Attr::Dur(Dur::Clock(2000)))));
-    }
-
-    #[test]
-    fn reads_and_prints(rt: HostRuntime) -> Result<(), Fail> {
-        let Ok((kind, attrs)) = read_node(rt.alloc(), Some(Kind::Par), b"img id=\"x\"") else {
-            assert!(rt; false, "no node");
-            return Ok(());
-        };
-        let mut out = Bytes::new(rt.alloc());
-        write_node(1, kind, &attrs, &mut out)?;
-        write_node_2(0, kind, 12, &attrs, &mut out)?;
-        write_header(13, &mut out)?;
-        assert_eq!(rt;
-            out.slice(),
-            b"  img id=\"x\"img #12 id=\"x\"outline 2 next 13".as_slice()
-        );
-        Ok(())
-    }
 }

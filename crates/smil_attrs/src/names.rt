@@ -127,8 +127,8 @@ fn is_left_out(name: &[u8]) -> bool
         || is(name, b"pauseDisplay")
 }
 
-/// The attribute of a kind that this name calls. A name of SMIL that is left out is `UnsupportedName`, and
-/// any other that the kind doesn't have `UnknownAttribute`.
+/// The attribute of a kind that this name calls. A name of SMIL that is left out is
+/// `UnsupportedName`, and any other that the kind doesn't have `UnknownAttribute`.
 pub fn attr_name(kind: Kind, name: &[u8]) -> Result<AttrName, AttrFault>
     ensures { result ≡ attr_name_of kind name.now }
 {

@@ -54,8 +54,9 @@ fn attr(
     }
 }
 
-/// The attributes of a node line of this shape, from left to right, for a node of this kind below a parent, None being
-/// for the root. The first fault is answered, its column counted in bytes from 1, up to the greatest `u32`.
+/// The attributes of a node line of this shape, from left to right, for a node of this kind below a
+/// parent, None being for the root. The first fault is answered, its column counted in bytes from
+/// 1, up to the greatest `u32`.
 pub fn shape_attrs(
     alloc: Global,
     parent: Option<Kind>,
@@ -72,8 +73,8 @@ pub fn shape_attrs(
     Ok(attrs)
 }
 
-/// The kind of a node line of this shape. A name that stands twice and an unknown kind are `BadOutline`; a kind of SMIL
-/// that is left out is `Unsupported`.
+/// The kind of a node line of this shape. A name that stands twice and an unknown kind are
+/// `BadOutline`; a kind of SMIL that is left out is `Unsupported`.
 pub fn shape_kind(shape: &Shape<'_>) -> Result<Kind, NodeFault>
     ensures { result ≡ kind_of_shape (Some shape.now) }
 {
@@ -99,9 +100,10 @@ pub fn fits(parent: Option<Kind>, kind: Kind) -> bool
     }
 }
 
-/// The kind of a node line without leading spaces, exactly where `read_node` answers neither `BadOutline`
-/// nor `Unsupported` for the kind. A line that isn't of the shape of a node line, one in which a name
-/// stands twice, and an unknown kind are `BadOutline`; a kind of SMIL that is left out is `Unsupported`.
+/// The kind of a node line without leading spaces, exactly where `read_node` answers neither
+/// `BadOutline` nor `Unsupported` for the kind. A line that isn't of the shape of a node line, one
+/// in which a name stands twice, and an unknown kind are `BadOutline`; a kind of SMIL that is left
+/// out is `Unsupported`.
 pub fn read_kind(line: &[u8]) -> Result<Kind, NodeFault>
     ensures { result ≡ kind_of line.now }
 {
@@ -111,10 +113,10 @@ pub fn read_kind(line: &[u8]) -> Result<Kind, NodeFault>
     }
 }
 
-/// The kind and the attributes of a node line without leading spaces, below a parent, None being for the
-/// root. The line's faults come first (`read_kind`), then a child that the parent's kind can't have
-/// (`BadPlace`), then the attributes' faults from left to right. What is read can be written. Columns are counted
-/// in bytes from 1, up to the greatest `u32`.
+/// The kind and the attributes of a node line without leading spaces, below a parent, None being
+/// for the root. The line's faults come first (`read_kind`), then a child that the parent's kind
+/// can't have (`BadPlace`), then the attributes' faults from left to right. What is read can be
+/// written. Columns are counted in bytes from 1, up to the greatest `u32`.
 pub fn read_node(
     alloc: Global,
     parent: Option<Kind>,

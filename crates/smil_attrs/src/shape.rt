@@ -67,7 +67,8 @@ fn only_spaces(text: &[u8]) -> bool
 
 // The name before a `=`.
 fn name(run: &[u8]) -> Option<&[u8]>
-    ensures { option_map (λ name. name.now) result ≡ (if is_named run.now then Some (take (length run.now - 1) run.now) else None) }
+    ensures { option_map (λ name. name.now) result
+        ≡ (if is_named run.now then Some (take (length run.now - 1) run.now) else None) }
 {
     match run {
         [name @ .., b'='] if !name.is_empty() && no_space(run) && is_utf8(run) => Some(name),
@@ -133,7 +134,8 @@ impl<'a> Attributes<'a> {
     // Whether an attribute of this name is left.
     fn has(&self, name: &[u8]) -> bool
         requires { IsSome (attributes_in self.now) }
-        ensures { result ≡ list_any (λ (other : WrittenText). bytes_eq other.name name.now) (written_in self.now) }
+        ensures { result ≡ list_any (λ (other : WrittenText). bytes_eq other.name name.now)
+            (written_in self.now) }
     {
         let mut left = self.again();
         while let Some(attribute) = left.next() {

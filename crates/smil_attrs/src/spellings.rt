@@ -176,7 +176,8 @@ fn put_text(name: AttrName, value: &Option<Bytes>, out: &mut Bytes) -> Result<()
 }
 
 fn put_restart(name: AttrName, value: Option<Restart>, out: &mut Bytes) -> Result<(), AllocError>
-    ensures ok { OnOk result (out.new ≡ out.old ++ attribute_text name (option_map restart_text value)) }
+    ensures ok { OnOk result (out.new ≡ out.old
+        ++ attribute_text name (option_map restart_text value)) }
     ensures err { OnErr result (Begins out.old out.new) }
 {
     match value {
@@ -200,7 +201,8 @@ fn put_restart_default(
     value: Option<RestartDefault>,
     out: &mut Bytes,
 ) -> Result<(), AllocError>
-    ensures ok { OnOk result (out.new ≡ out.old ++ attribute_text name (option_map restart_default_text value)) }
+    ensures ok { OnOk result (out.new ≡ out.old
+        ++ attribute_text name (option_map restart_default_text value)) }
     ensures err { OnErr result (Begins out.old out.new) }
 {
     match value {
@@ -214,7 +216,8 @@ fn put_fill_default(
     value: Option<FillDefault>,
     out: &mut Bytes,
 ) -> Result<(), AllocError>
-    ensures ok { OnOk result (out.new ≡ out.old ++ attribute_text name (option_map fill_default_text value)) }
+    ensures ok { OnOk result (out.new ≡ out.old
+        ++ attribute_text name (option_map fill_default_text value)) }
     ensures err { OnErr result (Begins out.old out.new) }
 {
     match value {
@@ -234,7 +237,8 @@ fn put_act(name: AttrName, value: Option<Act>, out: &mut Bytes) -> Result<(), Al
 }
 
 fn put_endsync(name: AttrName, value: &Option<Endsync>, out: &mut Bytes) -> Result<(), AllocError>
-    ensures ok { OnOk result (out.new ≡ out.old ++ attribute_text name (option_map endsync_text value.now)) }
+    ensures ok { OnOk result (out.new ≡ out.old
+        ++ attribute_text name (option_map endsync_text value.now)) }
     ensures err { OnErr result (Begins out.old out.new) }
 {
     match value {
@@ -246,7 +250,8 @@ fn put_endsync(name: AttrName, value: &Option<Endsync>, out: &mut Bytes) -> Resu
 #[tactic(auto, using(smil_lexis::proofs::Growing::begins_on))]
 fn put_list(name: AttrName, value: &Option<Items>, out: &mut Bytes) -> Result<(), AllocError>
     requires { IfSome value.now (All CanWrite) }
-    ensures ok { OnOk result (out.new ≡ out.old ++ attribute_text name (option_map list_text value.now)) }
+    ensures ok { OnOk result (out.new ≡ out.old
+        ++ attribute_text name (option_map list_text value.now)) }
     ensures err { OnErr result (Begins out.old out.new) }
 {
     match value {
@@ -262,7 +267,8 @@ fn put_list(name: AttrName, value: &Option<Items>, out: &mut Bytes) -> Result<()
 #[tactic(auto, using(smil_lexis::proofs::Growing::begins_on))]
 fn put_min(name: AttrName, value: Option<i64>, out: &mut Bytes) -> Result<(), AllocError>
     requires { IfSome value FitsClock }
-    ensures ok { OnOk result (out.new ≡ out.old ++ attribute_text name (option_map (λ n. clock_text (nat_abs n)) value)) }
+    ensures ok { OnOk result (out.new ≡ out.old
+        ++ attribute_text name (option_map (λ n. clock_text (nat_abs n)) value)) }
     ensures err { OnErr result (Begins out.old out.new) }
 {
     match value {
@@ -309,7 +315,8 @@ fn put_limit(name: AttrName, value: Option<Time>, out: &mut Bytes) -> Result<(),
 
 #[tactic(auto, using(smil_lexis::proofs::Growing::begins_on))]
 fn put_repeat_count(name: AttrName, value: Option<Count>, out: &mut Bytes) -> Result<(), AllocError>
-    ensures ok { OnOk result (out.new ≡ out.old ++ attribute_text name (option_map count_text value)) }
+    ensures ok { OnOk result (out.new ≡ out.old
+        ++ attribute_text name (option_map count_text value)) }
     ensures err { OnErr result (Begins out.old out.new) }
 {
     match value {
@@ -322,8 +329,8 @@ fn put_repeat_count(name: AttrName, value: Option<Count>, out: &mut Bytes) -> Re
     }
 }
 
-/// Appends an attribute of this name, where it is there. After a refusal what was there before stays at
-/// the front.
+/// Appends an attribute of this name, where it is there. After a refusal what was there before
+/// stays at the front.
 pub fn put_attr(name: AttrName, attrs: &Attrs, out: &mut Bytes) -> Result<(), AllocError>
     requires { IfSome (attr_at attrs.now name) FitsAttr }
     ensures ok { OnOk result (out.new ≡ out.old ++ attribute_text name (value_text attrs.now name)) }

@@ -99,7 +99,8 @@ pub fn read_clock(bytes: &[u8]) -> Result<i64, ClockFault>
     }
 }
 
-/// The milliseconds of a clock value that isn't above the horizon, as other values have it: none for all other texts.
+/// The milliseconds of a clock value that isn't above the horizon, as other values have it: none
+/// for all other texts.
 #[tactic(auto, using(crate::proofs::Within::clock_ok, crate::proofs::Within::clock_err))]
 pub fn clock_within(bytes: &[u8]) -> Option<i64>
     ensures value { result ≡ option_map pos (clock_within_limit bytes.now) }
@@ -130,17 +131,3 @@ pub fn write_clock(value: i64, out: &mut Bytes) -> Result<(), AllocError>
 pub fn clock_again()
     ensures { (n : ℕ) → n ≤ nat_abs HORIZON → clock_of (clock_text n) ≡ Some n }
 {}
-
-#[cfg(test)]
-mod tests {
-    use super::*;
-    use std::test::Fail;
-
-    #[test]
-    fn writes(rt: HostRuntime) -> Result<(), Fail> {
-        let mut out = Bytes::new(rt.alloc());
-        write_clock(9_003_000, &mut out)?;
-        assert_eq!(rt; out.slice(), b"9003000ms".as_slice());
-        Ok(())
-    }
-}

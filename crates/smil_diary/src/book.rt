@@ -20,8 +20,8 @@ use smil_model::{DIARY_ENTRIES, Duplicate, Entry, StepKind};
 use std::alloc::{AllocError, Global};
 use std::marker::Model;
 
-/// What happened so far, in order: a diary of at most `DIARY_ENTRIES` entries, seen as the list of its entries. An index by
-/// element stands beside it, so that no reading goes through the entries.
+/// What happened so far, in order: a diary of at most `DIARY_ENTRIES` entries, seen as the list of
+/// its entries. An index by element stands beside it, so that no reading goes through the entries.
 #[derive(Debug, Drop)]
 pub struct Book {
     entries: Vec<Entry>,
@@ -63,12 +63,13 @@ impl Book {
         }
     }
 
-    /// Appends an entry. `DiaryFull` exactly where the diary has `DIARY_ENTRIES` entries already; after a refusal it is as
-    /// before.
+    /// Appends an entry. `DiaryFull` exactly where the diary has `DIARY_ENTRIES` entries already;
+    /// after a refusal it is as before.
     pub fn push(&mut self, entry: Entry) -> Result<(), BookFault>
         ensures ok { OnOk result (self.new ≡ self.old ++ entry ∷ []) }
         ensures err { OnErr result (self.new ≡ self.old) }
-        ensures full { (result ≡ Err book_fault.DiaryFull) ↔ (length self.old ≡ limits.DIARY_ENTRIES) }
+        ensures full { (result ≡ Err book_fault.DiaryFull) ↔
+            (length self.old ≡ limits.DIARY_ENTRIES) }
     {
         if self.len() == DIARY_ENTRIES {
             return Err(BookFault::DiaryFull);
@@ -77,8 +78,8 @@ impl Book {
         Ok(())
     }
 
-    /// Leaves the first `len` entries, of which there are as many at least. It takes no memory, and a fixed number of steps
-    /// for each entry that goes.
+    /// Leaves the first `len` entries, of which there are as many at least. It takes no memory, and
+    /// a fixed number of steps for each entry that goes.
     pub fn cut_back(&mut self, len: usize)
         requires { len ≤ length self.old }
         ensures { self.new ≡ take len self.old }
@@ -96,18 +97,20 @@ impl Book {
         self.entries.len()
     }
 
-    /// The entry at a place from 0; None exactly where the place is not below the length. It takes no memory.
+    /// The entry at a place from 0; None exactly where the place is not below the length. It takes
+    /// no memory.
     pub fn entry(&self, place: usize) -> Option<Entry>
         ensures { result ≡ slice_get self.now place }
     {
         self.entries.get(place).copied()
     }
 
-    /// How many entries there are up to and with the birth of the time children of `parent`, its last begin or repeat: 0 for
-    /// None, which stands for the root's lack of a time parent, and all of them where `parent` never began. It takes no
-    /// memory.
+    /// How many entries there are up to and with the birth of the time children of `parent`, its
+    /// last begin or repeat: 0 for None, which stands for the root's lack of a time parent, and all
+    /// of them where `parent` never began. It takes no memory.
     pub fn birth(&self, parent: Option<u32>) -> usize
-        ensures { (node : Option Node) → serial_of node ≡ parent → result ≡ birth_under node self.now }
+        ensures { (node : Option Node) → serial_of node ≡ parent
+            → result ≡ birth_under node self.now }
     {
         let Some(parent) = parent else {
             return 0;
@@ -133,15 +136,16 @@ impl Book {
         self.element(who).paused()
     }
 
-    /// Whether the begin of the element, whose time parent is `parent`, is put off. It takes no memory.
+    /// Whether the begin of the element, whose time parent is `parent`, is put off. It takes no
+    /// memory.
     pub fn deferred(&self, who: u32, parent: Option<u32>) -> bool
         ensures { (h : History) → IsOf h self.now who parent → result ≡ is_deferred h who }
     {
         self.lives_under(parent) && self.element(who).deferred_since(self.birth(parent))
     }
 
-    /// The number of the iteration of the element, whose time parent is `parent`: that of its last play since its birth, from
-    /// 0, and 0 where there is none. It takes no memory.
+    /// The number of the iteration of the element, whose time parent is `parent`: that of its last
+    /// play since its birth, from 0, and 0 where there is none. It takes no memory.
     pub fn iteration(&self, who: u32, parent: Option<u32>) -> u32
         ensures { (h : History) → IsOf h self.now who parent → result ≡ iteration h who }
     {
@@ -152,9 +156,11 @@ impl Book {
         }
     }
 
-    /// How many intervals of the element, whose time parent is `parent`, finished since its birth. It takes no memory.
+    /// How many intervals of the element, whose time parent is `parent`, finished since its birth.
+    /// It takes no memory.
     pub fn finished(&self, who: u32, parent: Option<u32>) -> u32
-        ensures { (h : History) → IsOf h self.now who parent → result ≡ length (plays h who).finished }
+        ensures { (h : History) → IsOf h self.now who parent
+            → result ≡ length (plays h who).finished }
     {
         // Under itself an element never plays: each begin of it would be a birth.
         if parent == Some(who) {
@@ -163,7 +169,8 @@ impl Book {
         self.element(who).finished_from(self.births_end(parent))
     }
 
-    /// The place of the last entry of this kind on the element; None where there is none. It takes no memory.
+    /// The place of the last entry of this kind on the element; None where there is none. It takes
+    /// no memory.
     pub fn last(&self, who: u32, kind: StepKind) -> Option<usize>
         ensures value { result ≡ last_step self.now kind who }
         ensures within { IfSome result (λ place. place < length self.now) }
@@ -171,7 +178,8 @@ impl Book {
         self.element(who).last(kind)
     }
 
-    /// The place of the first entry of this kind on the element; None where there is none. It takes no memory.
+    /// The place of the first entry of this kind on the element; None where there is none. It takes
+    /// no memory.
     pub fn first(&self, who: u32, kind: StepKind) -> Option<usize>
         ensures value { result ≡ position (λ (x : GivenEntry). is_step kind who x.step) self.now }
         ensures within { IfSome result (λ place. place < length self.now) }
@@ -189,7 +197,8 @@ impl Book {
 
     /// Whether a time parent is active, or absent.
     fn lives_under(&self, parent: Option<u32>) -> bool
-        ensures { (node : Option Node) → serial_of node ≡ parent → result ≡ lives_under node self.now }
+        ensures { (node : Option Node) → serial_of node ≡ parent
+            → result ≡ lives_under node self.now }
     {
         match parent {
             Some(parent) => self.active(parent),
@@ -206,7 +215,8 @@ impl Book {
         self.element(who).last_birth()
     }
 
-    /// How many entries there are up to and with the last begin or repeat of a time parent; 0 where there is none.
+    /// How many entries there are up to and with the last begin or repeat of a time parent; 0 where
+    /// there is none.
     fn births_end(&self, parent: Option<u32>) -> usize
         ensures { result ≡ births_end parent self.now }
     {
@@ -248,26 +258,5 @@ impl Book {
         if let Some((who, kind)) = subject(&entry.step) {
             self.index.forget(who, kind);
         }
-    }
-}
-
-#[cfg(test)]
-mod tests {
-    use super::*;
-    use smil_model::Step;
-    use std::test::Fail;
-
-    #[test]
-    fn copies(rt: HostRuntime) -> Result<(), Fail> {
-        let mut book = Book::new(rt.alloc());
-        let entry = Entry {
-            moment: 0,
-            step: Step::Began { who: 1, begin: 0 },
-        };
-        book.push(entry)?;
-        let copy = book.copy()?;
-        assert_eq!(rt; copy.entry(0), Some(entry));
-        assert!(rt; copy.active(1));
-        Ok(())
     }
 }

@@ -12,8 +12,8 @@ use super::subject::ends;
 use smil_model::StepKind;
 use std::alloc::{AllocError, Global};
 
-/// The places in a diary of the entries on one element, by kind, and of those that finished an interval of it: the ends and
-/// cuts while it was active.
+/// The places in a diary of the entries on one element, by kind, and of those that finished an
+/// interval of it: the ends and cuts while it was active.
 #[derive(Debug, Drop)]
 pub(crate) struct ElementPlaces {
     pub(crate) began: Places,
@@ -118,7 +118,8 @@ impl ElementPlaces {
             )
     }
 
-    /// Whether the last deferral is not before `birth`, and after all begins, passes, ends and cuts.
+    /// Whether the last deferral is not before `birth`, and after all begins, passes, ends and
+    /// cuts.
     pub(crate) fn deferred_since(&self, birth: usize) -> bool
         ensures { result ≡ deferred_by birth self.now }
     {
@@ -154,7 +155,8 @@ impl ElementPlaces {
         self.finished.count_from(from)
     }
 
-    /// Takes in the entry at this place, which is after all others. Where memory runs out all is as before.
+    /// Takes in the entry at this place, which is after all others. Where memory runs out all is as
+    /// before.
     pub(crate) fn note(&mut self, kind: StepKind, place: usize) -> Result<(), AllocError>
         requires { place < limits.DIARY_ENTRIES }
         ensures ok { OnOk result (self.new ≡ noted kind place self.old) }

@@ -50,7 +50,8 @@ impl Index {
         }
     }
 
-    /// Takes in the entry on an element at this place, which is after all others. Where memory runs out all is as before.
+    /// Takes in the entry on an element at this place, which is after all others. Where memory runs
+    /// out all is as before.
     pub(crate) fn note(
         &mut self,
         alloc: Global,
@@ -59,7 +60,8 @@ impl Index {
         place: usize,
     ) -> Result<(), AllocError>
         requires { place < limits.DIARY_ENTRIES }
-        ensures ok { OnOk result ((serial : ℕ) → kept self.new serial ≡ noted_at who kind place serial (kept self.old serial)) }
+        ensures ok { OnOk result ((serial : ℕ)
+            → kept self.new serial ≡ noted_at who kind place serial (kept self.old serial)) }
         ensures err { OnErr result ((serial : ℕ) → kept self.new serial ≡ kept self.old serial) }
     {
         if let Some(element) = self.elements.get_mut(&who) {
@@ -71,9 +73,11 @@ impl Index {
         Ok(())
     }
 
-    /// Lets go of the last entry, which is of this kind and on this element. An element without entries takes no memory.
+    /// Lets go of the last entry, which is of this kind and on this element. An element without
+    /// entries takes no memory.
     pub(crate) fn forget(&mut self, who: u32, kind: StepKind)
-        ensures { (serial : ℕ) → kept self.new serial ≡ forgotten_at who kind serial (kept self.old serial) }
+        ensures { (serial : ℕ) → kept self.new serial
+            ≡ forgotten_at who kind serial (kept self.old serial) }
     {
         let mut is_empty = false;
         if let Some(element) = self.elements.get_mut(&who) {

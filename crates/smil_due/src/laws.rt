@@ -17,7 +17,8 @@ pub fn order_is_total()
     ensures { IsTotal }
 {}
 
-/// The keys of all that comes by the timing model are of one document: each has the serial of the element at its place.
+/// The keys of all that comes by the timing model are of one document: each has the serial of the
+/// element at its place.
 pub fn keys_have_serials()
     ensures { KeysHaveSerials }
 {}

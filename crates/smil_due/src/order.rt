@@ -11,9 +11,9 @@ use std::cmp::Ordering;
 /// The class of a begin.
 const BEGIN: u8 = 2;
 
-/// Whether the first key happens before the second: by moment, then by class, then by place. Among keys of one moment and
-/// class the begins earlier in the document are first and of all others the later ones, and an end is before a repeat of
-/// the same element. It takes no memory.
+/// Whether the first key happens before the second: by moment, then by class, then by place. Among
+/// keys of one moment and class the begins earlier in the document are first and of all others the
+/// later ones, and an end is before a repeat of the same element. It takes no memory.
 pub fn comes_before(a: Key, b: Key) -> bool
     ensures { result ≡ Keys.comes_before a b }
 {
@@ -31,7 +31,8 @@ pub fn order_of(a: Key, b: Key) -> Ordering
         .then(a.repeat.cmp(&b.repeat))
 }
 
-/// The turn of a key among those of its moment and class: begins in document order, all others against it.
+/// The turn of a key among those of its moment and class: begins in document order, all others
+/// against it.
 fn turn(key: Key) -> i64
     ensures { result ≡ Order.turn key }
 {

@@ -41,7 +41,8 @@ impl DueQueue {
         }
     }
 
-    /// Puts in a key; one that is there already stays, once. Where memory runs out the queue is as before.
+    /// Puts in a key; one that is there already stays, once. Where memory runs out the queue is as
+    /// before.
     pub fn put(&mut self, key: Key) -> Result<(), AllocError>
         ensures ok { OnOk result (self.new ≡ set.insert self.old key) }
         ensures err { OnErr result (self.new ≡ self.old) }
@@ -58,11 +59,13 @@ impl DueQueue {
         self.due.remove(&Due { key })
     }
 
-    /// The least key, which happens first; None exactly where the queue is empty. It takes no memory.
+    /// The least key, which happens first; None exactly where the queue is empty. It takes no
+    /// memory.
     pub fn least(&self) -> Option<Key>
         ensures none { (result ≡ None) ↔ (self.now ≡ set.empty) }
         ensures least { IfSome result (IsLeast self.now) }
-        ensures of_document { (serial_at : ℕ → ℕ) (keys : List Key) → All (HasSerial serial_at) keys → self.now ≡ set.from_list keys → result ≡ least_key keys }
+        ensures of_document { (serial_at : ℕ → ℕ) (keys : List Key) → All (HasSerial serial_at) keys
+            → self.now ≡ set.from_list keys → result ≡ least_key keys }
     {
         self.due.first().map(|due| due.key)
     }
@@ -73,26 +76,5 @@ impl Duplicate for DueQueue {
         Ok(DueQueue {
             due: self.due.clone()?,
         })
-    }
-}
-
-#[cfg(test)]
-mod tests {
-    use super::*;
-    use std::test::Fail;
-
-    #[test]
-    fn copies(rt: HostRuntime) -> Result<(), Fail> {
-        let key = Key {
-            value: 3000,
-            class: 2,
-            position: 1,
-            serial: 2,
-            repeat: false,
-        };
-        let mut queue = DueQueue::new(rt.alloc());
-        queue.put(key)?;
-        assert_eq!(rt; queue.copy()?.least(), Some(key));
-        Ok(())
     }
 }

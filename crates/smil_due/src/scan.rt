@@ -7,8 +7,8 @@ ghost use Rattle.smil_model.specs.happening.Keys.{least_key};
 use super::order::comes_before;
 use smil_model::Key;
 
-/// The least key, which happens first; of equal ones the first in the slice. None exactly where there is no key. It takes
-/// no memory.
+/// The least key, which happens first; of equal ones the first in the slice. None exactly where
+/// there is no key. It takes no memory.
 pub fn least_scan(keys: &[Key]) -> Option<Key>
     ensures { result ≡ least_key keys.now }
 {

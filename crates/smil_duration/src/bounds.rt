@@ -12,8 +12,8 @@ use super::sums::{capped, moved};
 use smil_model::{Attrs, Count, Facts, Play, Time, greatest, later, least};
 use std::marker::Model;
 
-/// What limits a play: the attributes `repeatCount`, `repeatDur`, `min` and `max`, with what an absent `min` or `max`
-/// means.
+/// What limits a play: the attributes `repeatCount`, `repeatDur`, `min` and `max`, with what an
+/// absent `min` or `max` means.
 #[derive(Clone, Copy)]
 pub struct Bounds {
     count: Option<Count>,
@@ -77,8 +77,8 @@ impl Bounds {
         self.max
     }
 
-    /// The intermediate active duration: the least of the repeat count's and the repeat duration's, and the simple
-    /// duration where neither is given.
+    /// The intermediate active duration: the least of the repeat count's and the repeat duration's,
+    /// and the simple duration where neither is given.
     pub fn intermediate(&self, simple: Time) -> Time
         ensures { result ≡ intermediate_duration self.now simple }
     {
@@ -102,15 +102,18 @@ impl Bounds {
 
     /// The active end of a play, on the element's own clock.
     pub fn active_end(&self, simple: Time, play: &Play) -> Time
-        ensures { result ≡ Durations.active_end self.now simple play.now.first play.now.start play.now.iteration }
+        ensures { result ≡ Durations.active_end self.now simple play.now.first play.now.start
+            play.now.iteration }
     {
         self.within(play.first, self.intermediate_end(simple, play))
     }
 
-    /// Where the iterations or the repeat duration of a play end, whichever is first, on the element's own clock; `min` and
-    /// `max` are left aside. A simple duration of 0 ends where the present iteration starts.
+    /// Where the iterations or the repeat duration of a play end, whichever is first, on the
+    /// element's own clock; `min` and `max` are left aside. A simple duration of 0 ends where the
+    /// present iteration starts.
     pub fn intermediate_end(&self, simple: Time, play: &Play) -> Time
-        ensures { result ≡ intermediate_end self.now simple play.now.first play.now.start play.now.iteration }
+        ensures { result ≡ intermediate_end self.now simple play.now.first play.now.start
+            play.now.iteration }
     {
         if simple == Time::At(0) {
             return Time::At(play.start);
@@ -132,7 +135,8 @@ impl Bounds {
 
 /// Where the iterations or the repeat duration of a play end, of a simple duration that may repeat.
 fn repeated_end(count: Option<Count>, repeat_dur: Option<Time>, simple: Time, play: &Play) -> Time
-    ensures { result ≡ Durations.repeated_end count repeat_dur simple play.now.first play.now.start play.now.iteration }
+    ensures { result ≡ Durations.repeated_end count repeat_dur simple play.now.first play.now.start
+        play.now.iteration }
 {
     match count {
         None => match repeat_dur {
@@ -168,7 +172,8 @@ fn iterated(count: Count, done: u32, simple: Time) -> Time
     }
 }
 
-/// So many thousandths of a number, rounded down. They are at most a count's, and at least the negative of those done.
+/// So many thousandths of a number, rounded down. They are at most a count's, and at least the
+/// negative of those done.
 fn thousandths(count: i128, length: i64) -> Time
     requires low { negsuc (2 ^ 48) ≤ℤ count }
     requires high { count <ℤ pos (2 ^ 64) }

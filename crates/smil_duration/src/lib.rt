@@ -19,9 +19,9 @@ pub use smil_model::Play;
 use smil_model::{Attrs, Dur, Kind, Time};
 pub use sums::{capped, moved};
 
-/// The simple duration of an element, in milliseconds on its own clock: what `dur` states, or the implicit duration.
-/// Without `dur` it is the implicit duration, unless the element has an `end` and nothing that repeats: then it is
-/// indefinite. SMIL 3.0, "Defining the simple duration".
+/// The simple duration of an element, in milliseconds on its own clock: what `dur` states, or the
+/// implicit duration. Without `dur` it is the implicit duration, unless the element has an `end`
+/// and nothing that repeats: then it is indefinite. SMIL 3.0, "Defining the simple duration".
 pub fn simple(attrs: &Attrs, implicit: Time) -> Time
     ensures { result ≡ simple_duration attrs.now implicit }
 {
@@ -39,8 +39,8 @@ pub fn simple(attrs: &Attrs, implicit: Time) -> Time
     }
 }
 
-/// Whether the simple duration is the implicit one: with `dur="media"`, and without `dur` unless the element has an `end`
-/// and nothing that repeats. SMIL 3.0, "Defining the simple duration".
+/// Whether the simple duration is the implicit one: with `dur="media"`, and without `dur` unless
+/// the element has an `end` and nothing that repeats. SMIL 3.0, "Defining the simple duration".
 pub fn takes_implicit(attrs: &Attrs) -> bool
     ensures { result ≡ takes_implicit attrs.now attrs.now.dur }
 {
@@ -51,12 +51,15 @@ pub fn takes_implicit(attrs: &Attrs) -> bool
     }
 }
 
-/// The implicit duration of an element whose kind alone tells it: 0 for still media, indefinite for a `set`. None for a
-/// container, whose time children tell it, for continuous media, whose length a player tells, and for a `priorityClass`.
-/// SMIL 3.0, "Defining the simple duration"; for a `set`, "The set element".
+/// The implicit duration of an element whose kind alone tells it: 0 for still media, indefinite for
+/// a `set`. None for a container, whose time children tell it, for continuous media, whose length a
+/// player tells, and for a `priorityClass`. SMIL 3.0, "Defining the simple duration"; for a `set`,
+/// "The set element".
 pub fn implicit_by_kind(kind: Kind) -> Option<Time>
-    ensures told { (h : History) (intervals : ℕ → Option AnyInterval) (e : AnyNode) → IfSome result (λ length. implicit_of h intervals e kind ≡ length) }
-    ensures some { is_some result ≡ not (is_container_kind kind || is_continuous kind || is_class_kind kind) }
+    ensures told { (h : History) (intervals : ℕ → Option AnyInterval) (e : AnyNode)
+        → IfSome result (λ length. implicit_of h intervals e kind ≡ length) }
+    ensures some { is_some result ≡ not
+        (is_container_kind kind || is_continuous kind || is_class_kind kind) }
 {
     match kind {
         Kind::Img | Kind::Text | Kind::Brush => Some(Time::At(0)),
@@ -65,20 +68,21 @@ pub fn implicit_by_kind(kind: Kind) -> Option<Time>
     }
 }
 
-/// The intermediate active duration, in milliseconds on the element's own clock: the simple duration with its
-/// repetitions, before `min` and `max`. A simple duration of 0 is not repeated. SMIL 3.0, "Computing the active
-/// duration".
+/// The intermediate active duration, in milliseconds on the element's own clock: the simple
+/// duration with its repetitions, before `min` and `max`. A simple duration of 0 is not repeated.
+/// SMIL 3.0, "Computing the active duration".
 pub fn intermediate(attrs: &Attrs, simple: Time) -> Time
     ensures { result ≡ intermediate_duration (bounds_of attrs.now) simple }
 {
     Bounds::of_attrs(attrs).intermediate(simple)
 }
 
-/// The active end of a play, in milliseconds on the element's own clock: where its iterations or `repeatDur` end, from
-/// the present iteration on, between `min` and `max` after the play start. SMIL 3.0, "Computing the active
-/// duration".
+/// The active end of a play, in milliseconds on the element's own clock: where its iterations or
+/// `repeatDur` end, from the present iteration on, between `min` and `max` after the play start.
+/// SMIL 3.0, "Computing the active duration".
 pub fn active_end(attrs: &Attrs, simple: Time, play: &Play) -> Time
-    ensures { result ≡ Durations.active_end (bounds_of attrs.now) simple play.now.first play.now.start play.now.iteration }
+    ensures { result ≡ Durations.active_end (bounds_of attrs.now) simple play.now.first
+        play.now.start play.now.iteration }
 {
     Bounds::of_attrs(attrs).active_end(simple, play)
 }

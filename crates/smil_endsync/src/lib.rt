@@ -11,10 +11,10 @@ use smil_duration::capped;
 pub use smil_model::ChildEnd;
 use smil_model::{Endsync, Kind, Time, greatest, least};
 
-/// The implicit duration of an active container, in milliseconds, by the ends of its time children in document order:
-/// 0 without time children, and else where they end, less `start`, and not below 0. `start` is the start of the
-/// container's present iteration, and like the ends of the children it is on the container's own clock. SMIL 3.0,
-/// "The endsync attribute".
+/// The implicit duration of an active container, in milliseconds, by the ends of its time children
+/// in document order: 0 without time children, and else where they end, less `start`, and not below
+/// 0. `start` is the start of the container's present iteration, and like the ends of the children
+/// it is on the container's own clock. SMIL 3.0, "The endsync attribute".
 pub fn implicit(kind: Kind, endsync: &Endsync, start: i64, ends: &[ChildEnd]) -> Time
     ensures { result ≡ container_duration kind endsync.now start ends.now }
 {
@@ -59,7 +59,8 @@ fn endsync_end(endsync: &Endsync, start: i64, ends: &[ChildEnd]) -> Time
     }
 }
 
-/// The greatest of the latest ends. Children without one do not count, and `start` is it where none counts.
+/// The greatest of the latest ends. Children without one do not count, and `start` is it where none
+/// counts.
 fn last_end(start: i64, ends: &[ChildEnd]) -> Time
     ensures { result ≡ Durations.last_end start ends.now }
 {
@@ -100,7 +101,8 @@ fn all_end(ends: &[ChildEnd]) -> Time
 
 /// The greatest of a time and the latest ends, none counting as unresolved.
 fn greatest_with(time: Time, ends: &[ChildEnd]) -> Time
-    ensures { result ≡ fold greatest_time time (map (λ c. unwrap_or c.latest Time.Unresolved) ends.now) }
+    ensures { result ≡ fold greatest_time time
+        (map (λ c. unwrap_or c.latest Time.Unresolved) ends.now) }
 {
     ends.iter()
         .map(|child| child.latest.unwrap_or(Time::Unresolved))
@@ -116,7 +118,8 @@ fn first_end(ends: &[ChildEnd]) -> Time
         .fold(Time::Unresolved, |a, b| least(a, b))
 }
 
-/// The first end of the named child, none counting as unresolved. Where no child is named, the last end.
+/// The first end of the named child, none counting as unresolved. Where no child is named, the last
+/// end.
 fn named_end(start: i64, ends: &[ChildEnd]) -> Time
     ensures { result ≡ Durations.named_end start ends.now (find (λ c. c.named) ends.now) }
 {

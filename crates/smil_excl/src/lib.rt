@@ -1,4 +1,5 @@
-//! SMIL's excl: what is done when another child begins, and the queue of its paused and deferred children.
+//! SMIL's excl: what is done when another child begins, and the queue of its paused and deferred
+//! children.
 #![tactic(auto)]
 
 mod decision;

@@ -9,7 +9,8 @@ use smil_model::Duplicate;
 use std::alloc::{AllocError, Global};
 use std::marker::Model;
 
-/// The queue of an excl, seen as the children that it holds, the next one first, and the number that it has room for.
+/// The queue of an excl, seen as the children that it holds, the next one first, and the number
+/// that it has room for.
 #[derive(Debug, Drop)]
 pub struct Queue {
     held: Vec<Held>,
@@ -46,21 +47,29 @@ impl Queue {
         })
     }
 
-    /// Puts in a paused child, before all of its rank and those of later ones. There is room. It takes no memory. SMIL 3.0,
-    /// "The excl element", the pause queue.
+    /// Puts in a paused child, before all of its rank and those of later ones. There is room. It
+    /// takes no memory. SMIL 3.0, "The excl element", the pause queue.
     pub fn pause(&mut self, who: u32, rank: u32)
         requires { length self.old.held < self.old.room }
-        ensures { self.new ≡ record { held = paused_before (record { who = who; rank = rank }) self.old.held; room = self.old.room } }
+        ensures { self.new ≡ record {
+          held = paused_before (record { who = who; rank = rank })
+              self.old.held;
+          room = self.old.room;
+        } }
     {
         let place = first_not_above(&self.held, rank).unwrap_or(self.held.len());
         self.held.insert(place, Held { who, rank }).unwrap();
     }
 
-    /// Puts in a deferred child, behind all of its rank and before those of later ones. There is room. It takes no memory.
-    /// SMIL 3.0, "The excl element", the pause queue.
+    /// Puts in a deferred child, behind all of its rank and before those of later ones. There is
+    /// room. It takes no memory. SMIL 3.0, "The excl element", the pause queue.
     pub fn defer(&mut self, who: u32, rank: u32)
         requires { length self.old.held < self.old.room }
-        ensures { self.new ≡ record { held = deferred_after (record { who = who; rank = rank }) self.old.held; room = self.old.room } }
+        ensures { self.new ≡ record {
+          held = deferred_after (record { who = who; rank = rank })
+              self.old.held;
+          room = self.old.room;
+        } }
     {
         let place = first_below(&self.held, rank).unwrap_or(self.held.len());
         self.held.insert(place, Held { who, rank }).unwrap();
@@ -123,20 +132,4 @@ fn first_below(held: &[Held], rank: u32) -> Option<usize>
     ensures bound { IfSome result (λ place. place < length held.now) }
 {
     held.iter().position(|other| rank < other.rank)
-}
-
-#[cfg(test)]
-mod tests {
-    use super::*;
-    use std::test::Fail;
-
-    #[test]
-    fn copies(rt: HostRuntime) -> Result<(), Fail> {
-        let mut queue = Queue::new(rt.alloc(), 1)?;
-        queue.pause(5, 1);
-        let mut copy = queue.copy()?;
-        assert_eq!(rt; copy.take_first(), Some(5));
-        assert_eq!(rt; queue.take_first(), Some(5));
-        Ok(())
-    }
 }

@@ -69,12 +69,12 @@ fn end(facts: &ViewFacts, state: State) -> Shown
     }
 }
 
-/// The view of an element, by its facts, whose times are from -10^13 to 10^13 milliseconds. The times of the view are in
-/// milliseconds of document time.
+/// The view of an element, by its facts, whose times are from -10^13 to 10^13 milliseconds. The
+/// times of the view are in milliseconds of document time.
 ///
-/// The state is the first that applies: paused, active, deferred, frozen, waiting, done, idle. Frozen needs a finished
-/// interval, and either a fill that keeps it (SMIL 3.0, the attribute `fill`), or that this interval was cut and the time
-/// parent is frozen.
+/// The state is the first that applies: paused, active, deferred, frozen, waiting, done, idle.
+/// Frozen needs a finished interval, and either a fill that keeps it (SMIL 3.0, the attribute
+/// `fill`), or that this interval was cut and the time parent is frozen.
 pub fn view(facts: &ViewFacts) -> View
     requires { HasNumbersWithin facts.now }
     ensures { result ≡ view_by facts.now }

@@ -18,8 +18,9 @@ pub enum Part {
     Orders,
 }
 
-/// The bytes of the session of a number, from 1 to 900: a seq of so many images, each with a text that begins half a second
-/// after it, and for each a second of time and a click; then all that is shown. Unless memory runs out.
+/// The bytes of the session of a number, from 1 to 900: a seq of so many images, each with a text
+/// that begins half a second after it, and for each a second of time and a click; then all that is
+/// shown. Unless memory runs out.
 pub fn session_bytes(alloc: Global, number: u32) -> Result<Bytes, AllocError>
     requires { number ≤ 900 }
     ensures { IfOk result (λ bytes. bytes ≡ session_text number) }

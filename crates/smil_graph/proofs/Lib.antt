@@ -14,7 +14,6 @@ pub mod Answered
 pub mod Marked
 pub mod Kept
 pub mod Within
-pub mod Samples
 pub mod Ranked
 pub mod Positions
 pub mod Keyed

@@ -4,4 +4,3 @@ pub mod Kept
 pub mod Links
 pub mod Places
 pub mod Ranks
-pub mod Samples

@@ -1,5 +1,5 @@
-//! Strongly connected components: the groups of places that lead to one another along links, found by one depth-first search
-//! that keeps a path of open groups.
+//! Strongly connected components: the groups of places that lead to one another along links, found
+//! by one depth-first search that keeps a path of open groups.
 
 ghost use Rattle.std.specs.Prelude.{◌≡◌, ℕ, ◌+◌, ◌^◌, ◌<◌, List, [], ◌∷◌, length, map, slice_get, slice_index, OnOk, IfOk, Some};
 ghost use Rattle.smil_graph.specs.Links.{AreBelow, StayBelow};
@@ -22,9 +22,10 @@ pub enum Mark {
     Done(usize),
 }
 
-/// Groups of places that lead to one another, as far as a search along links has found them. The open groups lie on one path:
-/// each leads to the later ones. The last of them is done when all its links were followed, so each link of a group that is
-/// done leads into it or to one that was done before.
+/// Groups of places that lead to one another, as far as a search along links has found them. The
+/// open groups lie on one path: each leads to the later ones. The last of them is done when all its
+/// links were followed, so each link of a group that is done leads into it or to one that was done
+/// before.
 #[derive(Debug, Drop)]
 pub struct Components {
     marks: Vec<Mark>,
@@ -84,8 +85,8 @@ impl Components {
         Ok(())
     }
 
-    /// Follows the links of the open places, and of the new ones that they lead to, until no place is open. Where memory runs
-    /// out the search cannot go on.
+    /// Follows the links of the open places, and of the new ones that they lead to, until no place
+    /// is open. Where memory runs out the search cannot go on.
     pub fn follow(&mut self, rows: &[Row<usize>]) -> Result<(), AllocError>
         requires below { StayBelow (length rows.now) rows.now }
         requires grouping { IsGrouping rows.now self.old }
@@ -144,7 +145,8 @@ impl Components {
         requires place { place < length self.old.next }
         requires more { slice_index self.old.next place + 1 < 2 ^ 64 }
         requires target { target < length self.old.marks }
-        ensures { OnOk result (self.new ≡ followed (met self.old target (mark_at self.old.marks target)) place) }
+        ensures { OnOk result (self.new
+            ≡ followed (met self.old target (mark_at self.old.marks target)) place) }
     {
         match self.marks[target] {
             Mark::New => self.open_place(target)?,
@@ -162,7 +164,8 @@ impl Components {
         pop_above(&mut self.starts, position);
     }
 
-    /// Leaves the last place of the path, which stands at the position, and closes its group where the place starts it.
+    /// Leaves the last place of the path, which stands at the position, and closes its group where
+    /// the place starts it.
     fn leave(&mut self, position: usize)
         requires position { position < length self.old.members }
         requires below { AreBelow (length self.old.marks) self.old.members }
@@ -193,10 +196,11 @@ impl Components {
         self.closed += 1;
     }
 
-    /// For each place a level, which is higher where its group was done earlier; 0 where it is not done. It takes a `Vec` of
-    /// one number for each place.
+    /// For each place a level, which is higher where its group was done earlier; 0 where it is not
+    /// done. It takes a `Vec` of one number for each place.
     pub fn levels(&self, alloc: Global) -> Result<Vec<usize>, AllocError>
-        ensures { IfOk result (λ levels. levels.items ≡ map (level_of self.now.closed) self.now.marks) }
+        ensures { IfOk result (λ levels. levels.items
+            ≡ map (level_of self.now.closed) self.now.marks) }
     {
         let mut levels = Vec::with_capacity(alloc, self.marks.len())?;
         for mark in &self.marks {

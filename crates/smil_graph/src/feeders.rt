@@ -17,7 +17,8 @@ use smil_model::{Attrs, Bytes, Doc, Item, Items, Node};
 use std::alloc::{AllocError, Global};
 use std::collections::HashMap;
 
-/// For each element the places of those from which its times follow; the row of a priorityClass is empty.
+/// For each element the places of those from which its times follow; the row of a priorityClass is
+/// empty.
 pub fn feeders(
     alloc: Global,
     doc: &Doc,
@@ -26,10 +27,13 @@ pub fn feeders(
     ids: &HashMap<&[u8], usize>,
 ) -> Result<Vec<Row<usize>>, AllocError>
     requires tree { IsNumberedTree doc.now }
-    requires time_parents { IsTable doc.now.nodes (λ n. model.time_parent doc.now.nodes n.serial) time_parents.now }
+    requires time_parents { IsTable doc.now.nodes (λ n. model.time_parent doc.now.nodes n.serial)
+        time_parents.now }
     requires time_children { AreTimeChildren doc.now.nodes time_parents.now time_children.now }
-    requires ids { IsIndex doc.now.nodes (model.element_named doc.now.nodes) (λ id. get_by (λ k. bytes_eq id k.now) ids.now) }
-    ensures { IfOk result (λ rows. AreRows (length doc.now.nodes) (feeds_place doc.now.nodes) rows.items) }
+    requires ids { IsIndex doc.now.nodes (model.element_named doc.now.nodes)
+        (λ id. get_by (λ k. bytes_eq id k.now) ids.now) }
+    ensures { IfOk result (λ rows. AreRows (length doc.now.nodes) (feeds_place doc.now.nodes)
+        rows.items) }
 {
     let previous = previous_in_seqs(alloc, doc, time_parents, time_children)?;
     feeder_rows(alloc, doc, time_children, previous.as_slice(), ids)
@@ -43,7 +47,9 @@ fn feeder_rows(
     previous: &[Option<usize>],
     ids: &HashMap<&[u8], usize>,
 ) -> Result<Vec<Row<usize>>, AllocError>
-    ensures { IfOk result (λ rows. AreRows (length doc.now.nodes) (λ j i. element_follows (row time_children.now j) (up previous.now j) (λ id. get_by (λ k. bytes_eq id k.now) ids.now) (slice_get doc.now.nodes j) i) rows.items) }
+    ensures { IfOk result (λ rows. AreRows (length doc.now.nodes)
+        (λ j i. element_follows (row time_children.now j) (up previous.now j)
+        (λ id. get_by (λ k. bytes_eq id k.now) ids.now) (slice_get doc.now.nodes j) i) rows.items) }
 {
     let mut rows = Vec::with_capacity(alloc, doc.len())?;
     for place in 0..doc.len() {
@@ -62,7 +68,8 @@ fn feeder_rows(
     Ok(rows)
 }
 
-/// For each element the places of those that it reads: those from which its times follow, and those whose events it hears.
+/// For each element the places of those that it reads: those from which its times follow, and those
+/// whose events it hears.
 pub fn sources(
     alloc: Global,
     doc: &Doc,
@@ -71,8 +78,10 @@ pub fn sources(
 ) -> Result<Vec<Row<usize>>, AllocError>
     requires distinct { IsDistinct doc.now.nodes }
     requires feeders { AreRows (length doc.now.nodes) (feeds_place doc.now.nodes) feeders.now }
-    requires ids { IsIndex doc.now.nodes (model.element_named doc.now.nodes) (λ id. get_by (λ k. bytes_eq id k.now) ids.now) }
-    ensures { IfOk result (λ rows. AreRows (length doc.now.nodes) (reads_place doc.now.nodes) rows.items) }
+    requires ids { IsIndex doc.now.nodes (model.element_named doc.now.nodes)
+        (λ id. get_by (λ k. bytes_eq id k.now) ids.now) }
+    ensures { IfOk result (λ rows. AreRows (length doc.now.nodes) (reads_place doc.now.nodes)
+        rows.items) }
 {
     let mut rows = Vec::with_capacity(alloc, doc.len())?;
     for place in 0..doc.len() {
@@ -86,7 +95,8 @@ pub fn sources(
     Ok(rows)
 }
 
-/// Appends the places of those from which the times of an element follow; nothing for a priorityClass.
+/// Appends the places of those from which the times of an element follow; nothing for a
+/// priorityClass.
 fn push_feeders(
     row: &mut Row<usize>,
     node: &Node,
@@ -94,7 +104,10 @@ fn push_feeders(
     previous: Option<usize>,
     ids: &HashMap<&[u8], usize>,
 ) -> Result<(), AllocError>
-    ensures { OnOk result ((i : ℕ) → lists row.new i ≡ (lists row.old i || (model.is_element node.now && places.follows time_children.now previous (λ id. get_by (λ k. bytes_eq id k.now) ids.now) node.now i))) }
+    ensures { OnOk result ((i : ℕ)
+        → lists row.new i ≡ (lists row.old i
+        || (model.is_element node.now && places.follows time_children.now previous
+        (λ id. get_by (λ k. bytes_eq id k.now) ids.now) node.now i))) }
 {
     if !is_element(node) {
         return Ok(());
@@ -111,7 +124,9 @@ fn push_children(
     attrs: &Attrs,
     time_children: &[usize],
 ) -> Result<(), AllocError>
-    ensures { OnOk result ((i : ℕ) → lists row.new i ≡ (lists row.old i || (defaults.takes_implicit attrs.now attrs.now.dur && lists time_children.now i))) }
+    ensures { OnOk result ((i : ℕ)
+        → lists row.new i ≡ (lists row.old i
+        || (defaults.takes_implicit attrs.now attrs.now.dur && lists time_children.now i))) }
 {
     if takes_implicit(attrs) {
         push_all(row, time_children)
@@ -127,7 +142,10 @@ fn push_heard_by(
     ids: &HashMap<&[u8], usize>,
     place: usize,
 ) -> Result<(), AllocError>
-    ensures { OnOk result ((i : ℕ) → lists row.new i ≡ (lists row.old i || (model.is_element node.now && places.hears (λ id. get_by (λ k. bytes_eq id k.now) ids.now) place node.now i))) }
+    ensures { OnOk result ((i : ℕ)
+        → lists row.new i ≡ (lists row.old i
+        || (model.is_element node.now && places.hears
+        (λ id. get_by (λ k. bytes_eq id k.now) ids.now) place node.now i))) }
 {
     if !is_element(node) {
         return Ok(());
@@ -142,7 +160,10 @@ fn push_named(
     items: &Option<Items>,
     ids: &HashMap<&[u8], usize>,
 ) -> Result<(), AllocError>
-    ensures { OnOk result ((i : ℕ) → lists row.new i ≡ (lists row.old i || leads_to_place (places.named_by (λ id. get_by (λ k. bytes_eq id k.now) ids.now)) (defaults.items_or [] items.now) i)) }
+    ensures { OnOk result ((i : ℕ)
+        → lists row.new i ≡ (lists row.old i
+        || leads_to_place (places.named_by (λ id. get_by (λ k. bytes_eq id k.now) ids.now))
+        (defaults.items_or [] items.now) i)) }
 {
     let Some(items) = items else {
         return Ok(());
@@ -165,14 +186,18 @@ pub fn named_by(ids: &HashMap<&[u8], usize>, item: &Item) -> Option<usize>
     }
 }
 
-/// Appends the places of the elements whose events or repeats the items of the element at a place mean.
+/// Appends the places of the elements whose events or repeats the items of the element at a place
+/// mean.
 fn push_heard(
     row: &mut Row<usize>,
     items: &Option<Items>,
     ids: &HashMap<&[u8], usize>,
     place: usize,
 ) -> Result<(), AllocError>
-    ensures { OnOk result ((i : ℕ) → lists row.new i ≡ (lists row.old i || leads_to_place (places.source_of (λ id. get_by (λ k. bytes_eq id k.now) ids.now) place) (defaults.items_or [] items.now) i)) }
+    ensures { OnOk result ((i : ℕ)
+        → lists row.new i ≡ (lists row.old i
+        || leads_to_place (places.source_of (λ id. get_by (λ k. bytes_eq id k.now) ids.now) place)
+        (defaults.items_or [] items.now) i)) }
 {
     let Some(items) = items else {
         return Ok(());
@@ -187,7 +212,8 @@ fn push_heard(
 
 /// The place of the element whose event or repeat an item of the element at a place means.
 fn source_of(ids: &HashMap<&[u8], usize>, item: &Item, place: usize) -> Option<usize>
-    ensures { result ≡ places.source_of (λ id. get_by (λ k. bytes_eq id k.now) ids.now) place item.now }
+    ensures { result ≡ places.source_of (λ id. get_by (λ k. bytes_eq id k.now) ids.now) place
+        item.now }
 {
     match item {
         Item::Event { who, .. } => target(ids, who, place),
@@ -198,7 +224,8 @@ fn source_of(ids: &HashMap<&[u8], usize>, item: &Item, place: usize) -> Option<u
 
 /// The place of the element with this id, or the place itself where there is no id.
 fn target(ids: &HashMap<&[u8], usize>, who: &Option<Bytes>, place: usize) -> Option<usize>
-    ensures { result ≡ places.target_place (λ id. get_by (λ k. bytes_eq id k.now) ids.now) place who.now }
+    ensures { result ≡ places.target_place (λ id. get_by (λ k. bytes_eq id k.now) ids.now) place
+        who.now }
 {
     match who {
         Some(id) => ids.get(id.slice()).copied(),

@@ -21,8 +21,8 @@ use std::alloc::{AllocError, Global};
 use std::collections::HashMap;
 use std::marker::Model;
 
-/// The graph of a document, seen as the document's nodes with an order of the elements: which elements read which, which
-/// references are looped, and in what order to take the elements.
+/// The graph of a document, seen as the document's nodes with an order of the elements: which
+/// elements read which, which references are looped, and in what order to take the elements.
 #[derive(Debug, Drop)]
 pub struct Graph {
     doc: Doc,
@@ -55,16 +55,17 @@ impl Duplicate for Graph {
 }
 
 impl Graph {
-    /// The graph of the document that a tree stands for, unless memory runs out. The time grows about as the number of nodes
-    /// and references.
+    /// The graph of the document that a tree stands for, unless memory runs out. The time grows
+    /// about as the number of nodes and references.
     pub fn of(alloc: Global, tree: &Tree) -> Result<Graph, AllocError>
         ensures { IfOk result (λ graph. graph.nodes ≡ tree.now.nodes) }
     {
         Graph::over(alloc, tree.doc_copy()?)
     }
 
-    /// The graph of a document whose nodes are a numbered tree, as those of each valid document are; unless memory runs
-    /// out. It keeps a copy of the document. The time grows about as the number of nodes and references.
+    /// The graph of a document whose nodes are a numbered tree, as those of each valid document
+    /// are; unless memory runs out. It keeps a copy of the document. The time grows about as the
+    /// number of nodes and references.
     pub fn of_doc(alloc: Global, doc: &Doc) -> Result<Graph, AllocError>
         requires { IsNumberedTree doc.now }
         ensures { IfOk result (λ graph. graph.nodes ≡ doc.now.nodes) }
@@ -81,8 +82,9 @@ impl Graph {
         Ok(Graph { doc, tables, alloc })
     }
 
-    /// Whether an item, counted from 0, of the begins or ends of an element is a looped reference; false for an item of
-    /// another kind, past the last item, and for a serial of no element. It takes no memory.
+    /// Whether an item, counted from 0, of the begins or ends of an element is a looped reference;
+    /// false for an item of another kind, past the last item, and for a serial of no element. It
+    /// takes no memory.
     pub fn looped(&self, serial: u32, side: Edge, item: usize) -> bool
         ensures { result ≡ looped_at self.now.nodes serial side item }
     {
@@ -93,8 +95,9 @@ impl Graph {
         }
     }
 
-    /// The elements that read an element, in document order: those whose times follow from its times, and those with an
-    /// event or repeat item that means it; none for a serial of no element. It takes no memory.
+    /// The elements that read an element, in document order: those whose times follow from its
+    /// times, and those with an event or repeat item that means it; none for a serial of no
+    /// element. It takes no memory.
     pub fn readers(&self, serial: u32) -> &[u32]
         ensures { result.now ≡ readers_of self.now.nodes serial }
     {
@@ -104,7 +107,8 @@ impl Graph {
         )
     }
 
-    /// The elements in an order in which each dependency that is not looped goes forward. It takes no memory.
+    /// The elements in an order in which each dependency that is not looped goes forward. It takes
+    /// no memory.
     pub fn order(&self) -> &[u32]
         ensures kept { result.now ≡ self.now.order }
         ensures order { IsOrder self.now.nodes result.now }
@@ -112,15 +116,17 @@ impl Graph {
         self.tables.order.slice()
     }
 
-    /// The place of an element in the order, from 0; None exactly for a serial of no element. It takes no memory.
+    /// The place of an element in the order, from 0; None exactly for a serial of no element. It
+    /// takes no memory.
     pub fn place_in_order(&self, serial: u32) -> Option<usize>
         ensures { result ≡ position (λ s. s == serial) self.now.order }
     {
         place_of(&self.tables.ranks, serial)
     }
 
-    /// Appends the reach of an element, in document order; nothing for a serial of no element. Where memory runs out `out`
-    /// is as before. It takes time and memory for what is reached and for those that read it.
+    /// Appends the reach of an element, in document order; nothing for a serial of no element.
+    /// Where memory runs out `out` is as before. It takes time and memory for what is reached and
+    /// for those that read it.
     pub fn down(&self, serial: u32, out: &mut Serials) -> Result<(), AllocError>
         ensures ok { OnOk result (out.new ≡ out.old ++ model.down_from self.now.nodes (Some serial)) }
         ensures err { OnErr result (out.new ≡ out.old) }
@@ -134,9 +140,9 @@ impl Graph {
         }
     }
 
-    /// Appends the reach of an access key, in document order: the elements that have an item for the key, and with each one
-    /// those that read it. Where memory runs out `out` is as before. It takes time and memory for what is reached and for
-    /// those that read it.
+    /// Appends the reach of an access key, in document order: the elements that have an item for
+    /// the key, and with each one those that read it. Where memory runs out `out` is as before. It
+    /// takes time and memory for what is reached and for those that read it.
     pub fn down_key(&self, key: u8, out: &mut Serials) -> Result<(), AllocError>
         ensures ok { OnOk result (out.new ≡ out.old ++ model.down_key self.now.nodes key) }
         ensures err { OnErr result (out.new ≡ out.old) }
@@ -152,7 +158,8 @@ fn reach_at(alloc: Global, doc: &Doc, tables: &Tables, place: usize) -> Result<R
     requires tree { IsNumberedTree doc.now }
     requires tables { AreTables doc.now tables.now }
     requires element { is_element_at doc.now.nodes place ≡ true }
-    ensures { IfOk result (λ reach. (x : AnyNode) → slice_get doc.now.nodes place ≡ Some x → reach ≡ model.down doc.now.nodes x.serial) }
+    ensures { IfOk result (λ reach. (x : AnyNode) → slice_get doc.now.nodes place ≡ Some x
+        → reach ≡ model.down doc.now.nodes x.serial) }
 {
     let starts = near(
         alloc,
@@ -174,7 +181,8 @@ fn reach_from(
     requires tree { IsNumberedTree doc.now }
     requires tables { AreTables doc.now tables.now }
     requires elements { AreElements doc.now.nodes starts.now }
-    ensures { IfOk result (λ reach. (set : List ℕ) → AreOf doc.now.nodes set starts.now → reach ≡ reach_of doc.now.nodes set) }
+    ensures { IfOk result (λ reach. (set : List ℕ) → AreOf doc.now.nodes set starts.now
+        → reach ≡ reach_of doc.now.nodes set) }
 {
     let mut found = search(alloc, tables.heads.as_slice(), starts)?;
     found.sort_unstable()?;

@@ -7,8 +7,8 @@ use super::components::Components;
 use super::row::Row;
 use std::alloc::{AllocError, Global};
 
-/// A level for each place, such that no link falls, and a link that stays on its level can be gone back along links; unless
-/// memory runs out. The time is linear in the places and links.
+/// A level for each place, such that no link falls, and a link that stays on its level can be gone
+/// back along links; unless memory runs out. The time is linear in the places and links.
 pub fn levels(alloc: Global, rows: &[Row<usize>]) -> Result<Vec<usize>, AllocError>
     requires { StayBelow (length rows.now) rows.now }
     ensures { IfOk result (λ levels. AreLevels rows.now levels.items) }

@@ -1,4 +1,5 @@
-//! Which elements' times follow from which, which references are looped, and in what order to take the elements.
+//! Which elements' times follow from which, which references are looped, and in what order to take
+//! the elements.
 #![tactic(auto)]
 
 mod components;
@@ -15,8 +16,6 @@ mod row;
 mod search;
 mod stack;
 mod tables;
-#[cfg(test)]
-mod tests;
 mod turned;
 mod waiting;
 

@@ -16,7 +16,8 @@ use smil_model::{Doc, Edge, Items, Node};
 use std::alloc::{AllocError, Global};
 use std::collections::HashMap;
 
-/// For each element a mark at each item of one side that is a looped reference: one to an element of the same level.
+/// For each element a mark at each item of one side that is a looped reference: one to an element
+/// of the same level.
 pub fn looped_marks(
     alloc: Global,
     doc: &Doc,
@@ -25,7 +26,8 @@ pub fn looped_marks(
     side: Edge,
 ) -> Result<Vec<Row<bool>>, AllocError>
     requires distinct { IsDistinct doc.now.nodes }
-    requires ids { IsIndex doc.now.nodes (model.element_named doc.now.nodes) (λ id. get_by (λ k. bytes_eq id k.now) ids.now) }
+    requires ids { IsIndex doc.now.nodes (model.element_named doc.now.nodes)
+        (λ id. get_by (λ k. bytes_eq id k.now) ids.now) }
     requires levels { AreElementLevels doc.now.nodes levels.now }
     ensures { IfOk result (λ rows. AreMarks doc.now.nodes side rows.items) }
 {
@@ -52,7 +54,8 @@ fn side_of(node: &Node, side: Edge) -> &Option<Items>
     }
 }
 
-/// Appends for each item whether it is a reference of the element at a place to one of the same level.
+/// Appends for each item whether it is a reference of the element at a place to one of the same
+/// level.
 fn push_marks(
     row: &mut Row<bool>,
     items: &Option<Items>,
@@ -60,7 +63,10 @@ fn push_marks(
     levels: &[usize],
     place: usize,
 ) -> Result<(), AllocError>
-    ensures { OnOk result (row.new ≡ row.old ++ map (λ item. is_on_level levels.now place (places.named_by (λ id. get_by (λ k. bytes_eq id k.now) ids.now) item)) (defaults.items_or [] items.now)) }
+    ensures { OnOk result (row.new ≡ row.old
+        ++ map (λ item. is_on_level levels.now place
+        (places.named_by (λ id. get_by (λ k. bytes_eq id k.now) ids.now) item))
+        (defaults.items_or [] items.now)) }
 {
     let Some(items) = items else {
         return Ok(());

@@ -1,4 +1,5 @@
-//! Where a reach begins: the element, its time parent, its descendants, and in a seq or excl its siblings with theirs.
+//! Where a reach begins: the element, its time parent, its descendants, and in a seq or excl its
+//! siblings with theirs.
 
 ghost use Rattle.std.specs.Prelude.{◌≡◌, ◌||◌, length, Some, nat_eq, true, slice_get, IfOk};
 ghost use Rattle.std.specs.HashMap.{get};
@@ -23,7 +24,8 @@ pub fn near(
     place: usize,
 ) -> Result<IndexSet<usize>, AllocError>
     requires tree { IsNumberedTree doc.now }
-    requires time_parents { IsTable doc.now.nodes (λ n. model.time_parent doc.now.nodes n.serial) time_parents.now }
+    requires time_parents { IsTable doc.now.nodes (λ n. model.time_parent doc.now.nodes n.serial)
+        time_parents.now }
     requires time_children { AreTimeChildren doc.now.nodes time_parents.now time_children.now }
     requires count { length time_children.now ≡ length doc.now.nodes }
     requires element { is_element_at doc.now.nodes place ≡ true }

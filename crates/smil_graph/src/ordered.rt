@@ -15,7 +15,8 @@ use super::tables::serials_at;
 use smil_model::Doc;
 use std::alloc::{AllocError, Global};
 
-/// What an element is sorted by: first by level, then by height, the lower first, and then by place.
+/// What an element is sorted by: first by level, then by height, the lower first, and then by
+/// place.
 #[derive(Clone, Copy, Debug, PartialEq, Eq, PartialOrd, Ord)]
 struct Rank {
     level: usize,
@@ -23,8 +24,8 @@ struct Rank {
     place: usize,
 }
 
-/// The serials of the elements by level; on one level children before their time parents, and earlier siblings before
-/// later ones.
+/// The serials of the elements by level; on one level children before their time parents, and
+/// earlier siblings before later ones.
 pub fn ordered(
     alloc: Global,
     doc: &Doc,
@@ -33,7 +34,8 @@ pub fn ordered(
 ) -> Result<Row<u32>, AllocError>
     requires distinct { IsDistinct doc.now.nodes }
     requires levels { AreElementLevels doc.now.nodes levels.now }
-    requires time_parents { IsTable doc.now.nodes (λ n. time_parent doc.now.nodes n.serial) time_parents.now }
+    requires time_parents { IsTable doc.now.nodes (λ n. time_parent doc.now.nodes n.serial)
+        time_parents.now }
     ensures { IfOk result (λ order. IsOrder doc.now.nodes order) }
 {
     let heights = heights(alloc, time_parents)?;
@@ -74,7 +76,9 @@ fn ranks(
     levels: &[usize],
     heights: &[usize],
 ) -> Result<Vec<Rank>, AllocError>
-    ensures { IfOk result (λ ranks. ranks.items ≡ map (rank_of levels.now heights.now) (filter (is_element_at doc.now.nodes) (range_with_len 0 (length doc.now.nodes)))) }
+    ensures { IfOk result (λ ranks. ranks.items
+        ≡ map (rank_of levels.now heights.now)
+        (filter (is_element_at doc.now.nodes) (range_with_len 0 (length doc.now.nodes)))) }
 {
     let mut ranks = Vec::new(alloc);
     for place in 0..doc.len() {

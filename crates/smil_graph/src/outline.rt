@@ -28,7 +28,8 @@ pub fn parents(
 ) -> Result<Vec<Option<usize>>, AllocError>
     requires tree { IsNumberedTree doc.now }
     requires places { IsIndex doc.now.nodes (model.node_at doc.now.nodes) (get nat_eq places.now) }
-    ensures { IfOk result (λ table. IsTable doc.now.nodes (λ n. model.node_at doc.now.nodes n.parent) table.items) }
+    ensures { IfOk result (λ table. IsTable doc.now.nodes
+        (λ n. model.node_at doc.now.nodes n.parent) table.items) }
 {
     let mut parents = Vec::with_capacity(alloc, doc.len())?;
     for place in 0..doc.len() {
@@ -56,7 +57,8 @@ pub fn time_parents(
 ) -> Result<Vec<Option<usize>>, AllocError>
     requires tree { IsNumberedTree doc.now }
     requires parents { IsTable doc.now.nodes (λ n. model.node_at doc.now.nodes n.parent) parents.now }
-    ensures { IfOk result (λ table. IsTable doc.now.nodes (λ n. model.time_parent doc.now.nodes n.serial) table.items) }
+    ensures { IfOk result (λ table. IsTable doc.now.nodes
+        (λ n. model.time_parent doc.now.nodes n.serial) table.items) }
 {
     let mut above = Vec::with_capacity(alloc, parents.len())?;
     for place in 0..parents.len() {
@@ -108,21 +110,25 @@ pub fn time_children(
     doc: &Doc,
     time_parents: &[Option<usize>],
 ) -> Result<Vec<Row<usize>>, AllocError>
-    requires { IsTable doc.now.nodes (λ n. model.time_parent doc.now.nodes n.serial) time_parents.now }
+    requires { IsTable doc.now.nodes (λ n. model.time_parent doc.now.nodes n.serial)
+        time_parents.now }
     ensures count { IfOk result (λ rows. length rows.items ≡ length doc.now.nodes) }
-    ensures children { IfOk result (λ rows. AreTimeChildren doc.now.nodes time_parents.now rows.items) }
+    ensures children { IfOk result
+        (λ rows. AreTimeChildren doc.now.nodes time_parents.now rows.items) }
 {
     let under = parent_rows(alloc, doc, time_parents)?;
     turned(alloc, under.as_slice())
 }
 
-/// For each element a row with the place of its time parent, if it has one; the row of a priorityClass is empty.
+/// For each element a row with the place of its time parent, if it has one; the row of a
+/// priorityClass is empty.
 fn parent_rows(
     alloc: Global,
     doc: &Doc,
     time_parents: &[Option<usize>],
 ) -> Result<Vec<Row<usize>>, AllocError>
-    ensures { IfOk result (λ rows. AreRows (length doc.now.nodes) (λ p q. is_element_at doc.now.nodes p && is_place q (up time_parents.now p)) rows.items) }
+    ensures { IfOk result (λ rows. AreRows (length doc.now.nodes)
+        (λ p q. is_element_at doc.now.nodes p && is_place q (up time_parents.now p)) rows.items) }
 {
     let mut rows = Vec::with_capacity(alloc, doc.len())?;
     for place in 0..doc.len() {
@@ -143,9 +149,11 @@ pub fn previous_in_seqs(
     time_children: &[Row<usize>],
 ) -> Result<Vec<Option<usize>>, AllocError>
     requires tree { IsNumberedTree doc.now }
-    requires time_parents { IsTable doc.now.nodes (λ n. model.time_parent doc.now.nodes n.serial) time_parents.now }
+    requires time_parents { IsTable doc.now.nodes (λ n. model.time_parent doc.now.nodes n.serial)
+        time_parents.now }
     requires time_children { AreTimeChildren doc.now.nodes time_parents.now time_children.now }
-    ensures { IfOk result (λ table. IsTable doc.now.nodes (λ n. model.previous_in_seq doc.now.nodes n.serial) table.items) }
+    ensures { IfOk result (λ table. IsTable doc.now.nodes
+        (λ n. model.previous_in_seq doc.now.nodes n.serial) table.items) }
 {
     let mut table = Vec::with_capacity(alloc, doc.len())?;
     for place in 0..doc.len() {
@@ -190,7 +198,8 @@ fn is_seq(doc: &Doc, place: usize) -> bool
     }
 }
 
-/// The one before a place in a rising row; None for the first, and where the row does not have the place.
+/// The one before a place in a rising row; None for the first, and where the row does not have the
+/// place.
 fn one_before(row: &[usize], place: usize) -> Option<usize>
     requires { IsRising row.now }
     ensures { result ≡ before place None row.now }

@@ -12,7 +12,8 @@ use std::collections::HashMap;
 
 /// The place of the first node with each serial.
 pub fn serial_places(alloc: Global, doc: &Doc) -> Result<HashMap<u32, usize>, AllocError>
-    ensures { IfOk result (λ places. IsIndex doc.now.nodes (node_at doc.now.nodes) (get nat_eq places)) }
+    ensures { IfOk result (λ places. IsIndex doc.now.nodes (node_at doc.now.nodes)
+        (get nat_eq places)) }
 {
     let mut places = HashMap::new(alloc);
     for behind in 0..doc.len() {
@@ -26,7 +27,8 @@ pub fn serial_places(alloc: Global, doc: &Doc) -> Result<HashMap<u32, usize>, Al
 
 /// The place of the first element with each id.
 pub fn id_places<'a>(alloc: Global, doc: &'a Doc) -> Result<HashMap<&'a [u8], usize>, AllocError>
-    ensures { IfOk result (λ places. IsIndex doc.now.nodes (element_named doc.now.nodes) (λ id. get_by (λ k. bytes_eq id k.now) places)) }
+    ensures { IfOk result (λ places. IsIndex doc.now.nodes (element_named doc.now.nodes)
+        (λ id. get_by (λ k. bytes_eq id k.now) places)) }
 {
     let mut places = HashMap::new(alloc);
     for behind in 0..doc.len() {
@@ -44,7 +46,10 @@ fn note_id<'a>(
     node: &'a Node,
     place: usize,
 ) -> Result<(), AllocError>
-    ensures { OnOk result ((id : List ℕ) → get_by (λ k. bytes_eq id k.now) places.new ≡ (if is_element node.now && has_id id node.now.attrs.id then Some place else get_by (λ k. bytes_eq id k.now) places.old)) }
+    ensures { OnOk result ((id : List ℕ)
+        → get_by (λ k. bytes_eq id k.now) places.new
+        ≡ (if is_element node.now && has_id id node.now.attrs.id then Some place else get_by
+        (λ k. bytes_eq id k.now) places.old)) }
 {
     if is_element(node) {
         if let Some(id) = &node.attrs.id {

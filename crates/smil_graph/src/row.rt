@@ -74,7 +74,8 @@ pub fn empty_rows(alloc: Global, count: usize) -> Result<Vec<Row<usize>>, AllocE
 /// Appends a place to a row.
 pub fn push_at(rows: &mut Vec<Row<usize>>, at: usize, place: usize) -> Result<(), AllocError>
     requires { at < length rows.old.items }
-    ensures { OnOk result (rows.new.items ≡ slice_set rows.old.items at (row rows.old.items at ++ place ∷ [])) }
+    ensures { OnOk result (rows.new.items
+        ≡ slice_set rows.old.items at (row rows.old.items at ++ place ∷ [])) }
 {
     rows[at].push(place)
 }

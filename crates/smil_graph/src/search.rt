@@ -7,8 +7,8 @@ use super::row::Row;
 use indexmap::IndexSet;
 use std::alloc::{AllocError, Global};
 
-/// What is reached from the starts along the links of the rows, unless memory runs out. It takes time and memory for what is
-/// reached and its links alone.
+/// What is reached from the starts along the links of the rows, unless memory runs out. It takes
+/// time and memory for what is reached and its links alone.
 pub fn search(
     alloc: Global,
     rows: &[Row<usize>],

@@ -90,7 +90,9 @@ pub fn tables_like(alloc: Global, doc: &Doc, other: &Tables) -> Result<Tables, A
 /// A level for each node, from the rows of what each element's times follow from.
 fn element_levels(alloc: Global, feeders: &[Row<usize>]) -> Result<Vec<usize>, AllocError>
     requires { StayBelow (length feeders.now) feeders.now }
-    ensures { IfOk result (λ levels. (nodes : List Node) → IsDistinct nodes → AreRows (length nodes) (feeds_place nodes) feeders.now → AreElementLevels nodes levels.items) }
+    ensures { IfOk result (λ levels. (nodes : List Node) → IsDistinct nodes
+        → AreRows (length nodes) (feeds_place nodes) feeders.now
+        → AreElementLevels nodes levels.items) }
 {
     let fed = turned(alloc, feeders)?;
     levels(alloc, fed.as_slice())
@@ -105,7 +107,8 @@ fn heads(
 ) -> Result<Vec<Row<usize>>, AllocError>
     requires distinct { IsDistinct doc.now.nodes }
     requires feeders { AreRows (length doc.now.nodes) (feeds_place doc.now.nodes) feeders.now }
-    requires ids { IsIndex doc.now.nodes (element_named doc.now.nodes) (λ id. get_by (λ k. bytes_eq id k.now) ids.now) }
+    requires ids { IsIndex doc.now.nodes (element_named doc.now.nodes)
+        (λ id. get_by (λ k. bytes_eq id k.now) ids.now) }
     ensures { IfOk result (λ rows. AreHeads doc.now.nodes rows.items) }
 {
     let sources = sources(alloc, doc, feeders, ids)?;

@@ -10,7 +10,8 @@ use std::alloc::{AllocError, Global};
 pub fn turned(alloc: Global, rows: &[Row<usize>]) -> Result<Vec<Row<usize>>, AllocError>
     requires { StayBelow (length rows.now) rows.now }
     ensures count { IfOk result (λ heads. length heads.items ≡ length rows.now) }
-    ensures heads { IfOk result (λ heads. (i : ℕ) → i < length rows.now → row heads.items i ≡ that_have rows.now i) }
+    ensures heads { IfOk result (λ heads. (i : ℕ) → i < length rows.now
+        → row heads.items i ≡ that_have rows.now i) }
 {
     let mut heads = empty_rows(alloc, rows.len())?;
     for (place, row) in rows.iter().enumerate() {
@@ -19,8 +20,8 @@ pub fn turned(alloc: Global, rows: &[Row<usize>]) -> Result<Vec<Row<usize>>, All
     Ok(heads)
 }
 
-/// Appends a place to each of the rows that are listed, and once to a row that is listed twice. What is said of a row holds
-/// where it does not have the place before.
+/// Appends a place to each of the rows that are listed, and once to a row that is listed twice.
+/// What is said of a row holds where it does not have the place before.
 fn push_in_each(
     rows: &mut Vec<Row<usize>>,
     listed: &[usize],

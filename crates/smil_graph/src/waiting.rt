@@ -28,10 +28,12 @@ pub fn waiting(alloc: Global, doc: &Doc) -> Result<Vec<Row<usize>>, AllocError>
     Ok(rows)
 }
 
-/// Puts the place of an element into the row of each key for which it has an item; that of a priorityClass into none.
+/// Puts the place of an element into the row of each key for which it has an item; that of a
+/// priorityClass into none.
 fn push_waits(rows: &mut Vec<Row<usize>>, node: &Node, place: usize) -> Result<(), AllocError>
     requires { 256 ≤ length rows.old.items }
-    ensures { OnOk result (AreWithPlace (λ key. is_element node.now && has_key_item key node.now) place rows.old.items rows.new.items) }
+    ensures { OnOk result (AreWithPlace (λ key. is_element node.now && has_key_item key node.now)
+        place rows.old.items rows.new.items) }
 {
     if !node.kind.is_element() {
         return Ok(());
@@ -47,7 +49,8 @@ fn push_keys(
     place: usize,
 ) -> Result<(), AllocError>
     requires { 256 ≤ length rows.old.items }
-    ensures { OnOk result (AreWithPlace (λ key. list_any (is_key_item key) (items_or [] items.now)) place rows.old.items rows.new.items) }
+    ensures { OnOk result (AreWithPlace (λ key. list_any (is_key_item key) (items_or [] items.now))
+        place rows.old.items rows.new.items) }
 {
     let Some(items) = items else {
         return Ok(());

@@ -17,7 +17,8 @@ pub struct Held<P> {
     pub player: P,
 }
 
-/// At most `PRESENTATIONS` presentations, each under its name, seen as the list of them in the order in which they were loaded.
+/// At most `PRESENTATIONS` presentations, each under its name, seen as the list of them in the
+/// order in which they were loaded.
 #[derive(Drop)]
 pub struct House<P> {
     held: Vec<Held<P>>,
@@ -45,8 +46,9 @@ impl<P: Player + Drop> House<P> {
         })
     }
 
-    /// Whether a presentation may be loaded under this name. Refused with `NameTaken` where one is held under it, and else with
-    /// `TooManyPresentations` where there are `PRESENTATIONS` already. It takes no memory.
+    /// Whether a presentation may be loaded under this name. Refused with `NameTaken` where one is
+    /// held under it, and else with `TooManyPresentations` where there are `PRESENTATIONS` already.
+    /// It takes no memory.
     pub fn may_load(&self, name: &[u8]) -> Result<(), Refusal>
         ensures { result ≡ load_refusal name.now self.now }
     {
@@ -59,7 +61,8 @@ impl<P: Player + Drop> House<P> {
         }
     }
 
-    /// Holds a presentation under this name, behind all others. It may be loaded. It takes no memory.
+    /// Holds a presentation under this name, behind all others. It may be loaded. It takes no
+    /// memory.
     pub fn load(&mut self, name: Bytes, player: P)
         requires { load_refusal name self.old ≡ Ok tt }
         ensures { self.new ≡ self.old ++ record { name = name; player = player } ∷ [] }
@@ -67,9 +70,10 @@ impl<P: Player + Drop> House<P> {
         self.held.push(Held { name, player }).unwrap();
     }
 
-    /// Answers an order to the presentation of this name: appends its text but for the `ok` line, and gives its moment, in
-    /// milliseconds of document time. `NoPresentation` where there is none of this name, and else the first refusal of the
-    /// presentation, or `Memory`. All others stay as they are, and after a refusal all and the text are as before.
+    /// Answers an order to the presentation of this name: appends its text but for the `ok` line,
+    /// and gives its moment, in milliseconds of document time. `NoPresentation` where there is none
+    /// of this name, and else the first refusal of the presentation, or `Memory`. All others stay
+    /// as they are, and after a refusal all and the text are as before.
     pub fn answer<L: Ledger>(
         &mut self,
         name: &[u8],
@@ -79,10 +83,15 @@ impl<P: Player + Drop> House<P> {
     ) -> Result<i64, Refusal>
         requires given { IsGiven order.now }
         requires taken { Takes P.takes name.now order.now self.old }
-        ensures ok { IfOk result (IsAnsweredBy P.formats P.presentation P.takes P.least_steps P.most_steps name.now order.now self.old self.new (drop (length out.old) out.new) (steps.new - steps.old)) }
+        ensures ok { IfOk result (IsAnsweredBy P.formats P.presentation P.takes P.least_steps
+            P.most_steps name.now order.now self.old self.new (drop (length out.old) out.new)
+            (steps.new - steps.old)) }
         ensures appended { OnOk result (out.new ≡ out.old ++ drop (length out.old) out.new) }
-        ensures refused { IfErr result (IsRefused P.formats P.presentation P.most_steps name.now order.now self.old (steps.new - steps.old)) }
-        ensures kept { OnErr result (AreKept P.formats P.presentation P.takes name.now self.old self.new) }
+        ensures refused { IfErr result
+            (IsRefused P.formats P.presentation P.most_steps name.now order.now self.old
+            (steps.new - steps.old)) }
+        ensures kept { OnErr result (AreKept P.formats P.presentation P.takes name.now self.old
+            self.new) }
         ensures text { OnErr result (out.new ≡ out.old) }
         ensures counted { steps.old ≤ steps.new }
     {
@@ -96,11 +105,12 @@ impl<P: Player + Drop> House<P> {
         Ok(player.now())
     }
 
-    /// Closes the presentation of this name. `NoPresentation` exactly where there is none, and then all is as before. It takes
-    /// no memory.
+    /// Closes the presentation of this name. `NoPresentation` exactly where there is none, and then
+    /// all is as before. It takes no memory.
     pub fn close(&mut self, name: &[u8]) -> Result<(), Refusal>
         ensures absent { place_of name.now self.old ≡ None → result ≡ Err refusal.NoPresentation }
-        ensures closed { (place : ℕ) → place_of name.now self.old ≡ Some place → (result ≡ Ok tt) × (self.new ≡ without place self.old) }
+        ensures closed { (place : ℕ) → place_of name.now self.old ≡ Some place → (result ≡ Ok tt)
+            × (self.new ≡ without place self.old) }
         ensures kept { OnErr result (self.new ≡ self.old) }
     {
         let Some(place) = self.place(name) else {
@@ -110,8 +120,8 @@ impl<P: Player + Drop> House<P> {
         Ok(())
     }
 
-    /// The moment of the presentation of this name, in milliseconds of document time; None exactly where there is none. It
-    /// takes no memory.
+    /// The moment of the presentation of this name, in milliseconds of document time; None exactly
+    /// where there is none. It takes no memory.
     pub fn moment(&self, name: &[u8]) -> Option<i64>
         ensures { result ≡ moment_of P.presentation name.now self.now }
     {

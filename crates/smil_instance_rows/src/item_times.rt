@@ -73,10 +73,12 @@ impl ItemTimes {
         self.kept.pop_back()
     }
 
-    /// Takes the first out, if it is of a place before this one; else all stays. It takes no memory.
+    /// Takes the first out, if it is of a place before this one; else all stays. It takes no
+    /// memory.
     pub fn pop_before(&mut self, place: usize) -> Option<InstanceTime>
         ensures some { IfSome result (TakesFirst place self.old self.new) }
-        ensures none { IfNone result ((self.new ≡ self.old) × (from_place place self.old ≡ self.old)) }
+        ensures none { IfNone result ((self.new ≡ self.old)
+            × (from_place place self.old ≡ self.old)) }
     {
         match self.kept.front() {
             Some(first) => {
@@ -102,7 +104,8 @@ impl ItemTimes {
     }
 }
 
-/// Adds a instance time, and its value to the sorted ones. Where memory runs out both are as before.
+/// Adds a instance time, and its value to the sorted ones. Where memory runs out both are as
+/// before.
 pub fn add<T: Instant>(
     kept: &mut ItemTimes,
     sorted: &mut Sorted<T>,

@@ -1,5 +1,5 @@
-//! Rows of instance times: for each element, side and item the times that are kept, and for each side their values in
-//! rising order.
+//! Rows of instance times: for each element, side and item the times that are kept, and for each
+//! side their values in rising order.
 #![tactic(auto)]
 
 pub mod adds;

@@ -76,7 +76,8 @@ impl InstanceRow {
     pub fn add(&mut self, side: Edge, item: usize, last: InstanceTime) -> Result<(), AllocError>
         requires item { item < length (side_of self.old side) }
         requires order { IsNotAfter last.place (list_of self.old side item) }
-        ensures ok { OnOk result (self.new ≡ with_list self.old side item (list_of self.old side item ++ last ∷ [])) }
+        ensures ok { OnOk result (self.new
+            ≡ with_list self.old side item (list_of self.old side item ++ last ∷ [])) }
         ensures err { OnErr result (self.new ≡ self.old) }
         ensures serial { self.new.serial ≡ self.old.serial }
     {
@@ -89,7 +90,8 @@ impl InstanceRow {
     /// Takes out of an item what is of places before this one. It takes no memory.
     pub fn cut(&mut self, side: Edge, item: usize, place: usize)
         requires { item < length (side_of self.old side) }
-        ensures kept { self.new ≡ with_list self.old side item (from_place place (list_of self.old side item)) }
+        ensures kept { self.new ≡ with_list self.old side item
+            (from_place place (list_of self.old side item)) }
         ensures serial { self.new.serial ≡ self.old.serial }
     {
         match side {
@@ -101,7 +103,8 @@ impl InstanceRow {
     /// Takes out of an item all but the last instance time. It takes no memory.
     pub fn keep_last(&mut self, side: Edge, item: usize)
         requires { item < length (side_of self.old side) }
-        ensures kept { self.new ≡ with_list self.old side item (last_part (list_of self.old side item)) }
+        ensures kept { self.new ≡ with_list self.old side item
+            (last_part (list_of self.old side item)) }
         ensures serial { self.new.serial ≡ self.old.serial }
     {
         match side {
@@ -114,7 +117,8 @@ impl InstanceRow {
     pub fn undo(&mut self, side: Edge, item: usize)
         requires item { item < length (side_of self.old side) }
         requires some { 0 < length (list_of self.old side item) }
-        ensures kept { EndsWith (list_of self.old side item) (λ first last. self.new ≡ with_list self.old side item first) }
+        ensures kept { EndsWith (list_of self.old side item)
+            (λ first last. self.new ≡ with_list self.old side item first) }
         ensures serial { self.new.serial ≡ self.old.serial }
     {
         match side {
@@ -137,8 +141,8 @@ impl InstanceRow {
         self.ends.values()
     }
 
-    /// The first begin or end that is not less than the value; unresolved exactly where there is none. It takes no memory,
-    /// and log n steps for n of them.
+    /// The first begin or end that is not less than the value; unresolved exactly where there is
+    /// none. It takes no memory, and log n steps for n of them.
     pub fn first_from(&self, side: Edge, value: i64) -> Time
         ensures { result ≡ first_from value (row_times self.now side) }
     {
@@ -151,8 +155,8 @@ impl InstanceRow {
         }
     }
 
-    /// The first begin or end that is greater than the value; unresolved exactly where there is none. It takes no memory,
-    /// and log n steps for n of them.
+    /// The first begin or end that is greater than the value; unresolved exactly where there is
+    /// none. It takes no memory, and log n steps for n of them.
     pub fn first_after(&self, side: Edge, value: i64) -> Time
         ensures { result ≡ first_after value (row_times self.now side) }
     {

@@ -16,7 +16,8 @@ use std::alloc::{AllocError, Global};
 use std::collections::HashMap;
 use std::marker::Model;
 
-/// The instance times of all elements, with the places of their rows by serial; seen as the list of the rows.
+/// The instance times of all elements, with the places of their rows by serial; seen as the list of
+/// the rows.
 #[derive(Drop)]
 pub struct Rows {
     rows: Vec<InstanceRow>,
@@ -85,7 +86,8 @@ impl Rows {
     pub fn add(&mut self, cell: Cell, last: InstanceTime) -> Result<(), AllocError>
         requires cell { HasCell self.old cell }
         requires order { IsNotAfter last.place (cell_of self.old cell) }
-        ensures ok { OnOk result (self.new ≡ with_cell self.old cell (cell_of self.old cell ++ last ∷ [])) }
+        ensures ok { OnOk result (self.new
+            ≡ with_cell self.old cell (cell_of self.old cell ++ last ∷ [])) }
         ensures err { OnErr result (self.new ≡ self.old) }
     {
         self.rows[cell.row].add(cell.side, cell.item, last)
@@ -111,7 +113,8 @@ impl Rows {
     pub fn undo(&mut self, cell: Cell)
         requires cell { HasCell self.old cell }
         requires some { 0 < length (cell_of self.old cell) }
-        ensures { EndsWith (cell_of self.old cell) (λ first last. self.new ≡ with_cell self.old cell first) }
+        ensures { EndsWith (cell_of self.old cell)
+            (λ first last. self.new ≡ with_cell self.old cell first) }
     {
         self.rows[cell.row].undo(cell.side, cell.item);
     }
@@ -126,7 +129,8 @@ impl Rows {
         }
     }
 
-    /// The ends of an element, in rising order, with indefinite last; none where it has no row. It takes no memory.
+    /// The ends of an element, in rising order, with indefinite last; none where it has no row. It
+    /// takes no memory.
     pub fn ends(&self, who: u32) -> &[Time]
         ensures { result.now ≡ ends_in self.now who }
     {
@@ -136,8 +140,8 @@ impl Rows {
         }
     }
 
-    /// The first begin or end of an element that is not less than the value; unresolved exactly where there is none. It
-    /// takes no memory, and log n steps for n of them.
+    /// The first begin or end of an element that is not less than the value; unresolved exactly
+    /// where there is none. It takes no memory, and log n steps for n of them.
     pub fn first_from(&self, who: u32, side: Edge, value: i64) -> Time
         ensures { result ≡ first_from value (times_in self.now who side) }
     {
@@ -147,8 +151,8 @@ impl Rows {
         }
     }
 
-    /// The first begin or end of an element that is greater than the value; unresolved exactly where there is none. It
-    /// takes no memory, and log n steps for n of them.
+    /// The first begin or end of an element that is greater than the value; unresolved exactly
+    /// where there is none. It takes no memory, and log n steps for n of them.
     pub fn first_after(&self, who: u32, side: Edge, value: i64) -> Time
         ensures { result ≡ first_after value (times_in self.now who side) }
     {
@@ -168,15 +172,16 @@ impl Rows {
         }
     }
 
-    /// The place of the row of an element, from 0; None exactly where it has none. It takes no memory.
+    /// The place of the row of an element, from 0; None exactly where it has none. It takes no
+    /// memory.
     pub fn place(&self, who: u32) -> Option<usize>
         ensures { result ≡ place_in self.now who }
     {
         self.places.get(&who).copied()
     }
 
-    /// The serial of the element of a row, by the row's place from 0; None exactly where the place is not below the number of
-    /// rows. It takes no memory.
+    /// The serial of the element of a row, by the row's place from 0; None exactly where the place
+    /// is not below the number of rows. It takes no memory.
     pub fn serial_at(&self, place: usize) -> Option<u32>
         ensures { result ≡ option_map (λ (r : Row). r.serial) (slice_get self.now place) }
     {
@@ -198,91 +203,5 @@ impl Rows {
         ensures { option_copied result ≡ slice_get self.now place }
     {
         self.rows.get(place)
-    }
-}
-
-#[cfg(test)]
-mod tests {
-    use super::*;
-    use std::test::Fail;
-
-    const BEGINS: Cell = Cell {
-        row: 0,
-        side: Edge::Begin,
-        item: 0,
-    };
-
-    const ENDS: Cell = Cell {
-        row: 0,
-        side: Edge::End,
-        item: 0,
-    };
-
-    #[test]
-    fn read_by_element(rt: HostRuntime) -> Result<(), Fail> {
-        let mut row = InstanceRow::new(rt.alloc(), 7);
-        row.push_item(Edge::Begin)?;
-        row.push_item(Edge::End)?;
-        let mut rows = Rows::new(rt.alloc());
-        rows.push(row)?;
-        rows.add(
-            BEGINS,
-            InstanceTime {
-                place: 0,
-                time: Time::At(5),
-            },
-        )?;
-        rows.add(
-            ENDS,
-            InstanceTime {
-                place: 0,
-                time: Time::Indefinite,
-            },
-        )?;
-        assert_eq!(rt; rows.begins(7), [5].as_slice());
-        assert_eq!(rt; rows.ends(7), [Time::Indefinite].as_slice());
-        assert_eq!(rt; rows.first_from(7, Edge::Begin, 5), Time::At(5));
-        assert_eq!(rt; rows.first_after(7, Edge::Begin, 5), Time::Unresolved);
-        assert_eq!(rt; rows.first_after(7, Edge::End, 5), Time::Indefinite);
-        assert!(rt; rows.any_end(7));
-        assert!(rt; !rows.any_end(8));
-        Ok(())
-    }
-
-    #[test]
-    fn places_and_serials(rt: HostRuntime) -> Result<(), Fail> {
-        let mut rows = Rows::new(rt.alloc());
-        rows.push(InstanceRow::new(rt.alloc(), 7))?;
-        rows.push(InstanceRow::new(rt.alloc(), 9))?;
-        assert_eq!(rt; rows.place(7), Some(0));
-        assert_eq!(rt; rows.place(9), Some(1));
-        assert_eq!(rt; rows.place(8), None);
-        assert_eq!(rt; rows.serial_at(0), Some(7));
-        assert_eq!(rt; rows.serial_at(1), Some(9));
-        assert_eq!(rt; rows.serial_at(2), None);
-        Ok(())
-    }
-
-    #[test]
-    fn copies_stay(rt: HostRuntime) -> Result<(), Fail> {
-        let mut row = InstanceRow::new(rt.alloc(), 7);
-        row.push_item(Edge::Begin)?;
-        let mut rows = Rows::new(rt.alloc());
-        rows.push(row)?;
-        rows.add(
-            BEGINS,
-            InstanceTime {
-                place: 0,
-                time: Time::At(5),
-            },
-        )?;
-        let copy = rows.copy()?;
-        assert_eq!(rt; copy.len(), 1);
-        assert_eq!(rt; copy.place(7), Some(0));
-        assert_eq!(rt; copy.begins(7), [5].as_slice());
-        rows.cut(BEGINS, 1);
-        assert_eq!(rt; rows.begins(7), [].as_slice());
-        assert_eq!(rt; copy.begins(7), [5].as_slice());
-        Ok(())
     }
 }

@@ -66,7 +66,8 @@ impl<T: Instant> Side<T> {
     pub fn add(&mut self, item: usize, last: InstanceTime) -> Result<(), AllocError>
         requires item { item < length self.old }
         requires order { IsNotAfter last.place (get_or self.old item []) }
-        ensures ok { OnOk result (self.new ≡ set self.old item (get_or self.old item [] ++ last ∷ [])) }
+        ensures ok { OnOk result (self.new
+            ≡ set self.old item (get_or self.old item [] ++ last ∷ [])) }
         ensures err { OnErr result (self.new ≡ self.old) }
     {
         add(&mut self.items[item], &mut self.sorted, last)
@@ -92,7 +93,8 @@ impl<T: Instant> Side<T> {
     pub fn undo(&mut self, item: usize)
         requires item { item < length self.old }
         requires some { 0 < length (get_or self.old item []) }
-        ensures { EndsWith (get_or self.old item []) (λ first last. self.new ≡ set self.old item first) }
+        ensures { EndsWith (get_or self.old item [])
+            (λ first last. self.new ≡ set self.old item first) }
     {
         undo(&mut self.items[item], &mut self.sorted);
     }
@@ -104,16 +106,19 @@ impl<T: Instant> Side<T> {
         self.sorted.as_slice()
     }
 
-    /// The first value that is not less than this one; None exactly where there is none. It takes no memory.
+    /// The first value that is not less than this one; None exactly where there is none. It takes
+    /// no memory.
     pub fn first_from(&self, value: T) -> Option<T>
         ensures { result ≡ find (T.at_most value) (merged T.at_most T.choose self.now) }
     {
         self.sorted.first_from(value)
     }
 
-    /// The first value that is greater than this one; None exactly where there is none. It takes no memory.
+    /// The first value that is greater than this one; None exactly where there is none. It takes no
+    /// memory.
     pub fn first_after(&self, value: T) -> Option<T>
-        ensures { result ≡ find (λ other. not (T.at_most other value)) (merged T.at_most T.choose self.now) }
+        ensures { result ≡ find (λ other. not (T.at_most other value))
+            (merged T.at_most T.choose self.now) }
     {
         self.sorted.first_after(value)
     }

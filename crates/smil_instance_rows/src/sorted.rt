@@ -78,7 +78,8 @@ impl<T: Instant> Sorted<T> {
         self.values.as_slice()
     }
 
-    /// The first value that is not less than this one; None exactly where there is none. It takes no memory.
+    /// The first value that is not less than this one; None exactly where there is none. It takes
+    /// no memory.
     pub fn first_from(&self, value: T) -> Option<T>
         ensures { result ≡ find (T.at_most value) self.now }
     {
@@ -86,7 +87,8 @@ impl<T: Instant> Sorted<T> {
         self.at(place)
     }
 
-    /// The first value that is greater than this one; None exactly where there is none. It takes no memory.
+    /// The first value that is greater than this one; None exactly where there is none. It takes no
+    /// memory.
     pub fn first_after(&self, value: T) -> Option<T>
         ensures { result ≡ find (λ other. not (T.at_most other value)) self.now }
     {

@@ -32,7 +32,9 @@ pub(crate) fn adds_of(
     requires hand { IsAtHand tree.now clocks.now log.now book.now }
     requires dependents { AreDependentsOf tree.now.nodes dependents.now }
     requires rows { AreRowsOf tree.now.nodes rows.now }
-    ensures { IfOk result (λ adds. (before : List AnyEntry) (y : AnyEntry) → book.now ≡ before ++ y ∷ [] → adds.items ≡ adds_to (history_of tree.now log.now before) y cells.now) }
+    ensures { IfOk result (λ adds. (before : List AnyEntry) (y : AnyEntry)
+        → book.now ≡ before ++ y ∷ [] → adds.items
+        ≡ adds_to (history_of tree.now log.now before) y cells.now) }
 {
     let mut adds = Vec::new(alloc);
     for cell in cells {
@@ -56,7 +58,8 @@ fn given_to(
     requires hand { IsAtHand tree.now clocks.now log.now book.now }
     requires dependents { AreDependentsOf tree.now.nodes dependents.now }
     requires rows { AreRowsOf tree.now.nodes rows.now }
-    ensures { (before : List AnyEntry) (y : AnyEntry) → book.now ≡ before ++ y ∷ [] → result ≡ gift (history_of tree.now log.now before) y cell }
+    ensures { (before : List AnyEntry) (y : AnyEntry) → book.now ≡ before ++ y ∷ []
+        → result ≡ gift (history_of tree.now log.now before) y cell }
 {
     tree.valid();
     let who = rows.serial_at(cell.row)?;
@@ -75,7 +78,8 @@ fn given_item(
 ) -> Option<InstanceTime>
     requires hand { IsAtHand tree.now clocks.now log.now book.now }
     requires cell { IsCellOf tree.now.nodes cell who source }
-    ensures { (before : List AnyEntry) (y : AnyEntry) → book.now ≡ before ++ y ∷ [] → result ≡ gift (history_of tree.now log.now before) y cell }
+    ensures { (before : List AnyEntry) (y : AnyEntry) → book.now ≡ before ++ y ∷ []
+        → result ≡ gift (history_of tree.now log.now before) y cell }
 {
     match stated(tree.attrs(who), cell.side) {
         Some(items) => {
@@ -103,7 +107,8 @@ fn given_by_default(
     requires cell { IsCellOf tree.now.nodes cell who source }
     requires side { cell.side ≡ edge.Begin }
     requires absent { IsUnstated tree.now.nodes who edge.Begin }
-    ensures { (before : List AnyEntry) (y : AnyEntry) → book.now ≡ before ++ y ∷ [] → result ≡ gift (history_of tree.now log.now before) y cell }
+    ensures { (before : List AnyEntry) (y : AnyEntry) → book.now ≡ before ++ y ∷ []
+        → result ≡ gift (history_of tree.now log.now before) y cell }
 {
     if 0 < cell.item {
         return None;
@@ -122,7 +127,8 @@ fn stated(attrs: &Attrs, side: Edge) -> Option<&Items>
     }
 }
 
-/// The item of an element without `begin`, by its source: `indefinite` in an excl, and else the offset 0.
+/// The item of an element without `begin`, by its source: `indefinite` in an excl, and else the
+/// offset 0.
 fn default_begin(source: Source) -> Item
     ensures { result ≡ default_of source }
 {

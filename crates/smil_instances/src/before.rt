@@ -22,7 +22,8 @@ pub fn last_entry(book: &Book) -> Entry
 /// Whether an element was active before the last entry of a book. It takes no memory.
 pub fn was_active(book: &Book, who: u32) -> bool
     requires { 0 < length book.now }
-    ensures { (h : History) (y : AnyEntry) → IsBefore h y book.now → result ≡ active_in h.diary who }
+    ensures { (h : History) (y : AnyEntry) → IsBefore h y book.now
+        → result ≡ active_in h.diary who }
 {
     match last_entry(book).step {
         Step::Began { who: other, .. } if other == who => false,
@@ -35,7 +36,8 @@ pub fn was_active(book: &Book, who: u32) -> bool
 pub fn was_alive(tree: &Tree, book: &Book, who: u32) -> bool
     requires some { 0 < length book.now }
     requires element { has_element tree.now.nodes who ≡ true }
-    ensures { (h : History) (y : AnyEntry) → h.nodes ≡ tree.now.nodes → IsBefore h y book.now → result ≡ alive_in h who }
+    ensures { (h : History) (y : AnyEntry) → h.nodes ≡ tree.now.nodes → IsBefore h y book.now
+        → result ≡ alive_in h who }
 {
     match tree.time_parent(who) {
         Some(parent) => was_active(book, parent),
@@ -43,10 +45,13 @@ pub fn was_alive(tree: &Tree, book: &Book, who: u32) -> bool
     }
 }
 
-/// The number of the iteration that begins with the last entry of a book, a repeat of the element. It takes no memory.
+/// The number of the iteration that begins with the last entry of a book, a repeat of the element.
+/// It takes no memory.
 pub fn repeated_iteration(tree: &Tree, book: &Book, who: u32) -> u32
     requires element { has_element tree.now.nodes who ≡ true }
-    ensures { (h : History) (moment start : ℤ) → h.nodes ≡ tree.now.nodes → book.now ≡ h.diary ++ (record { moment = moment; step = Repeated who start }) ∷ [] → result ≡ suc (iteration_in h who) }
+    ensures { (h : History) (moment start : ℤ) → h.nodes ≡ tree.now.nodes
+        → book.now ≡ h.diary ++ (record { moment = moment; step = Repeated who start }) ∷ []
+        → result ≡ suc (iteration_in h who) }
 {
     tree.valid();
     // A repeat is counted where a begin since birth was.

@@ -6,8 +6,8 @@ ghost use Rattle.smil_model.specs.Times.{within_horizon};
 use smil_duration::capped;
 use smil_model::Time;
 
-/// The time `offset` milliseconds after a value on a clock that shows `from` now, on a clock that shows `to` now. It takes no
-/// memory.
+/// The time `offset` milliseconds after a value on a clock that shows `from` now, on a clock that
+/// shows `to` now. It takes no memory.
 pub fn carried(value: i64, from: i64, to: i64, offset: i64) -> Time
     ensures { result ≡ within_horizon ((to +ℤ (value -ℤ from)) +ℤ offset) }
 {

@@ -27,13 +27,15 @@ use smil_model::{Edge, Item, Log, Time};
 use smil_stretch::Clocks;
 use smil_tree::Tree;
 
-/// What the last entry of the book gives to an item of the begin or end list of the element `who`, by the clocks before that
-/// entry: a time in milliseconds on the clock of the time parent of `who`, kept at the place of the entry, or at place 0 for
-/// an offset from the start of the time parent's iteration. None exactly where it gives nothing. It takes no memory.
+/// What the last entry of the book gives to an item of the begin or end list of the element `who`,
+/// by the clocks before that entry: a time in milliseconds on the clock of the time parent of
+/// `who`, kept at the place of the entry, or at place 0 for an offset from the start of the time
+/// parent's iteration. None exactly where it gives nothing. It takes no memory.
 ///
-/// `source` is what the times of the item follow from. From a start, a begin or a repeat of the time parent gives a time;
-/// from a syncbase, a begin, or an end or cut, of the element that the item refers to; from an eventbase, an occurrence of
-/// the event that `who` hears; from a key, a press of it that `who` hears.
+/// `source` is what the times of the item follow from. From a start, a begin or a repeat of the
+/// time parent gives a time; from a syncbase, a begin, or an end or cut, of the element that the
+/// item refers to; from an eventbase, an occurrence of the event that `who` hears; from a key, a
+/// press of it that `who` hears.
 pub fn given(
     tree: &Tree,
     clocks: &Clocks,
@@ -47,7 +49,9 @@ pub fn given(
     requires hand { IsAtHand tree.now clocks.now log.now book.now }
     requires element { has_element tree.now.nodes who ≡ true }
     requires source { source ≡ source_of tree.now.nodes who item.now }
-    ensures { (h : History) (y : AnyEntry) (e : AnyNode) → IsEntryOf h y tree.now clocks.now log.now book.now → node_at (elements h.nodes) who ≡ Some e → result ≡ given_at h y e side item.now }
+    ensures { (h : History) (y : AnyEntry) (e : AnyNode)
+        → IsEntryOf h y tree.now clocks.now log.now book.now
+        → node_at (elements h.nodes) who ≡ Some e → result ≡ given_at h y e side item.now }
 {
     let place = book.len() - 1;
     let entry = book.entry(place).unwrap();
@@ -64,7 +68,8 @@ pub fn given(
     }
 }
 
-/// What the last entry of the book gives to an event, repeat or accesskey item of `who`, which means the element `of`.
+/// What the last entry of the book gives to an event, repeat or accesskey item of `who`, which
+/// means the element `of`.
 fn heard(
     tree: &Tree,
     clocks: &Clocks,
@@ -78,7 +83,9 @@ fn heard(
     requires hand { IsAtHand tree.now clocks.now log.now book.now }
     requires element { has_element tree.now.nodes who ≡ true }
     requires means { of ≡ target_of tree.now.nodes who item.now }
-    ensures { (h : History) (y : AnyEntry) (e : AnyNode) → IsEntryOf h y tree.now clocks.now log.now book.now → node_at (elements h.nodes) who ≡ Some e → result ≡ given_heard h y e side item.now of }
+    ensures { (h : History) (y : AnyEntry) (e : AnyNode)
+        → IsEntryOf h y tree.now clocks.now log.now book.now
+        → node_at (elements h.nodes) who ≡ Some e → result ≡ given_heard h y e side item.now of }
 {
     if !is_heard(tree, clocks, log, book, who, side, item, of) {
         return None;
@@ -89,8 +96,8 @@ fn heard(
     Some(InstanceTime { place, time })
 }
 
-/// Whether the last entry of the book is what an event, repeat or accesskey item of `who`, which means the element `of`,
-/// waits for, and `who` hears it.
+/// Whether the last entry of the book is what an event, repeat or accesskey item of `who`, which
+/// means the element `of`, waits for, and `who` hears it.
 fn is_heard(
     tree: &Tree,
     clocks: &Clocks,
@@ -104,7 +111,10 @@ fn is_heard(
     requires hand { IsAtHand tree.now clocks.now log.now book.now }
     requires element { has_element tree.now.nodes who ≡ true }
     requires means { of ≡ target_of tree.now.nodes who item.now }
-    ensures { (h : History) (y : AnyEntry) (e : AnyNode) → IsEntryOf h y tree.now clocks.now log.now book.now → node_at (elements h.nodes) who ≡ Some e → result ≡ (occurs_in h y of item.now && instances.hears h e side item.now) }
+    ensures { (h : History) (y : AnyEntry) (e : AnyNode)
+        → IsEntryOf h y tree.now clocks.now log.now book.now
+        → node_at (elements h.nodes) who ≡ Some e
+        → result ≡ (occurs_in h y of item.now && instances.hears h e side item.now) }
 {
     occurs(tree, log, book, of, item) && hears(tree, clocks, book, who, side, item, of)
 }

@@ -15,10 +15,11 @@ use smil_tree::Tree;
 use std::alloc::{AllocError, Global};
 use std::marker::Model;
 
-/// For each element of a document the sources of its items and the cells of the items that an entry on it can concern: those
-/// that name it, and for a begin or a repeat also those whose times start anew with its children's. For each access key the
-/// cells of the items that wait for it. Seen as the list of what is kept of each element, in document order, and the list of
-/// the cells of each key, from 0.
+/// For each element of a document the sources of its items and the cells of the items that an entry
+/// on it can concern: those that name it, and for a begin or a repeat also those whose times start
+/// anew with its children's. For each access key the cells of the items that wait for it. Seen as
+/// the list of what is kept of each element, in document order, and the list of the cells of each
+/// key, from 0.
 #[derive(Drop)]
 pub struct Dependents {
     rows: Vec<DependentsRow>,
@@ -44,8 +45,8 @@ impl Duplicate for Dependents {
 }
 
 impl Dependents {
-    /// The concerns of the document that a tree stands for, unless memory runs out. It takes time near linear in the nodes and
-    /// the items of the document.
+    /// The concerns of the document that a tree stands for, unless memory runs out. It takes time
+    /// near linear in the nodes and the items of the document.
     pub fn of(alloc: Global, tree: &Tree) -> Result<Dependents, AllocError>
         ensures { IfOk result (λ dependents. AreDependentsOf tree.now.nodes dependents) }
     {
@@ -68,8 +69,8 @@ impl Dependents {
         }
     }
 
-    /// The cells that an entry on the element at a place among the elements can concern, which is a birth or not; none where
-    /// there is no such element. It takes no memory.
+    /// The cells that an entry on the element at a place among the elements can concern, which is a
+    /// birth or not; none where there is no such element. It takes no memory.
     pub fn cells(&self, row: usize, is_birth: bool) -> &[Cell]
         ensures { result.now ≡ cells_in self.now.rows row is_birth }
     {
@@ -79,7 +80,8 @@ impl Dependents {
         }
     }
 
-    /// The cells that a press of an access key can concern: those whose items wait for it. It takes no memory.
+    /// The cells that a press of an access key can concern: those whose items wait for it. It takes
+    /// no memory.
     pub fn key_cells(&self, key: u8) -> &[Cell]
         ensures { result.now ≡ keyed_in self.now.keys key }
     {

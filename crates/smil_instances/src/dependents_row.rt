@@ -10,7 +10,8 @@ use smil_model::{Duplicate, Edge};
 use std::alloc::{AllocError, Global};
 use std::marker::Model;
 
-/// The sources of an element's items, the items that name it, and the items that its begin or repeat can concern.
+/// The sources of an element's items, the items that name it, and the items that its begin or
+/// repeat can concern.
 #[derive(Drop)]
 pub struct DependentsRow {
     begins: Vec<Source>,
@@ -40,7 +41,8 @@ impl Duplicate for DependentsRow {
 }
 
 impl DependentsRow {
-    /// The row of an element whose items have these sources, and which concerns no item. It takes no memory.
+    /// The row of an element whose items have these sources, and which concerns no item. It takes
+    /// no memory.
     pub fn new(alloc: Global, begins: Vec<Source>, ends: Vec<Source>) -> DependentsRow
         ensures { result ≡ without_cells begins.items ends.items }
     {
@@ -72,7 +74,8 @@ impl DependentsRow {
         }
     }
 
-    /// The cells that an entry on the element can concern, which is a birth or not. It takes no memory.
+    /// The cells that an entry on the element can concern, which is a birth or not. It takes no
+    /// memory.
     pub fn cells(&self, is_birth: bool) -> &[Cell]
         ensures { result.now ≡ cells_of is_birth (Some self.now) }
     {

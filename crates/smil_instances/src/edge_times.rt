@@ -11,8 +11,9 @@ use smil_duration::moved;
 use smil_model::{Edge, Entry, Step, Time};
 use smil_stretch::Clocks;
 
-/// The time that an entry gives to an item of `who` with this offset for the begins, or for the ends and cuts, of `of`, in
-/// milliseconds on the clock of the time parent of `who`; None exactly where it is none of them. It takes no memory.
+/// The time that an entry gives to an item of `who` with this offset for the begins, or for the
+/// ends and cuts, of `of`, in milliseconds on the clock of the time parent of `who`; None exactly
+/// where it is none of them. It takes no memory.
 pub fn edge_time(
     clocks: &Clocks,
     entry: Entry,
@@ -22,7 +23,8 @@ pub fn edge_time(
     offset: i64,
 ) -> Option<Time>
     requires { IsMoment entry.moment }
-    ensures { (h : History) → AreClocksAt h clocks.now entry.moment → result ≡ Instances.edge_time h who of offset entry.moment edge entry.step }
+    ensures { (h : History) → AreClocksAt h clocks.now entry.moment
+        → result ≡ Instances.edge_time h who of offset entry.moment edge entry.step }
 {
     let own = clocks.outer(who, entry.moment);
     let other = clocks.outer(of, entry.moment);

@@ -51,7 +51,10 @@ pub fn children_before(
     whos: &[u32],
 ) -> Result<Vec<Option<u32>>, AllocError>
     requires { whos.now ≡ serials (elements tree.now.nodes) }
-    ensures { IfOk result (λ befores. befores.items ≡ map (λ (n : AnyNode). serial_of (previous_child tree.now.nodes (time_parent tree.now.nodes n.serial) n.serial)) (elements tree.now.nodes)) }
+    ensures { IfOk result (λ befores. befores.items
+        ≡ map (λ (n : AnyNode). serial_of
+        (previous_child tree.now.nodes (time_parent tree.now.nodes n.serial) n.serial))
+        (elements tree.now.nodes)) }
 {
     tree.valid();
     let mut last = HashMap::new(alloc);
@@ -64,14 +67,16 @@ pub fn children_before(
     Ok(befores)
 }
 
-/// Puts a time child in the place of the last one of its parent, if it has one; the answer is the one that was there.
+/// Puts a time child in the place of the last one of its parent, if it has one; the answer is the
+/// one that was there.
 fn put_last(
     last: &mut HashMap<u32, u32>,
     parent: Option<u32>,
     who: u32,
 ) -> Result<Option<u32>, AllocError>
     ensures before { IfOk result (λ before. before ≡ option_and_then (get nat_eq last.old) parent) }
-    ensures last { OnOk result ((p : ℕ) → get nat_eq last.new p ≡ (if is_option p parent then Some who else get nat_eq last.old p)) }
+    ensures last { OnOk result ((p : ℕ)
+        → get nat_eq last.new p ≡ (if is_option p parent then Some who else get nat_eq last.old p)) }
 {
     match parent {
         Some(parent) => Ok(last.insert(parent, who)?),

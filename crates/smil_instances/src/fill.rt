@@ -28,7 +28,8 @@ pub fn fill(
     requires places { IsIndex (serials (elements tree.now.nodes)) (get nat_eq places.now) }
     requires rows { length rows.old ≡ length (elements tree.now.nodes) }
     requires sources { AreSourcesOf tree.now.nodes rows.old }
-    ensures { OnOk result (Takes tree.now.nodes (first_rows tree.now.nodes (length (elements tree.now.nodes))) rows.old rows.new) }
+    ensures { OnOk result (Takes tree.now.nodes
+        (first_rows tree.now.nodes (length (elements tree.now.nodes))) rows.old rows.new) }
 {
     for (row, who) in whos.iter().enumerate() {
         fill_side(rows, tree, places, *who, row, Edge::Begin)?;
@@ -50,7 +51,8 @@ fn fill_side(
     requires places { IsIndex (serials (elements tree.now.nodes)) (get nat_eq places.now) }
     requires rows { length rows.old ≡ length (elements tree.now.nodes) }
     requires sources { AreSourcesOf tree.now.nodes rows.old }
-    ensures { OnOk result (Takes tree.now.nodes (side_items tree.now.nodes row side) rows.old rows.new) }
+    ensures { OnOk result (Takes tree.now.nodes (side_items tree.now.nodes row side) rows.old
+        rows.new) }
 {
     for item in 0..rows[row].sources(side).len() {
         fill_cell(rows, tree, places, who, Cell { row, side, item })?;
@@ -105,9 +107,11 @@ fn base_of(source: Source) -> Option<u32>
     }
 }
 
-/// The elements of whose children a birth can change what is kept for an item of an element with this source.
+/// The elements of whose children a birth can change what is kept for an item of an element with
+/// this source.
 fn resets_of(tree: &Tree, who: u32, source: Source) -> (Option<u32>, Option<u32>)
-    ensures { (x : ℕ) → (is_option x result.0 || is_option x result.1) ≡ is_reset_with tree.now.nodes x who source }
+    ensures { (x : ℕ) → (is_option x result.0 || is_option x result.1)
+        ≡ is_reset_with tree.now.nodes x who source }
 {
     let above = parent_of(tree, who);
     match source {
@@ -119,7 +123,8 @@ fn resets_of(tree: &Tree, who: u32, source: Source) -> (Option<u32>, Option<u32>
 
 /// The serial, unless it is one of two others.
 fn other_than(who: Option<u32>, first: Option<u32>, second: Option<u32>) -> Option<u32>
-    ensures { (x : ℕ) → is_option x result ≡ (is_option x who && not (is_option x first || is_option x second)) }
+    ensures { (x : ℕ) → is_option x result
+        ≡ (is_option x who && not (is_option x first || is_option x second)) }
 {
     if who == first || who == second {
         None

@@ -24,7 +24,10 @@ pub fn fresh_rows(
     befores: &[Option<u32>],
 ) -> Result<Vec<DependentsRow>, AllocError>
     requires whos { whos.now ≡ serials (elements tree.now.nodes) }
-    requires befores { befores.now ≡ map (λ (n : AnyNode). serial_of (previous_child tree.now.nodes (time_parent tree.now.nodes n.serial) n.serial)) (elements tree.now.nodes) }
+    requires befores { befores.now
+        ≡ map (λ (n : AnyNode). serial_of
+        (previous_child tree.now.nodes (time_parent tree.now.nodes n.serial) n.serial))
+        (elements tree.now.nodes) }
     ensures { IfOk result (λ rows. rows.items ≡ fresh_rows tree.now.nodes) }
 {
     tree.valid();
@@ -43,8 +46,10 @@ fn fresh_row(
     before: Option<u32>,
 ) -> Result<DependentsRow, AllocError>
     requires known { IsSome (node_at tree.now.nodes who) }
-    requires before { before ≡ serial_of (previous_child tree.now.nodes (time_parent tree.now.nodes who) who) }
-    ensures { IfOk result (λ row. Some row ≡ option_map (fresh_row tree.now.nodes) (node_at tree.now.nodes who)) }
+    requires before { before ≡ serial_of
+        (previous_child tree.now.nodes (time_parent tree.now.nodes who) who) }
+    ensures { IfOk result (λ row. Some row
+        ≡ option_map (fresh_row tree.now.nodes) (node_at tree.now.nodes who)) }
 {
     let by_offset = source_by_offset(tree, who, before);
     let begins = begin_sources(alloc, tree, who, by_offset)?;
@@ -52,10 +57,12 @@ fn fresh_row(
     Ok(DependentsRow::new(alloc, begins, ends))
 }
 
-/// The source of an offset alone: the end of the child before in a seq, and else the start of the time parent's iteration.
+/// The source of an offset alone: the end of the child before in a seq, and else the start of the
+/// time parent's iteration.
 fn source_by_offset(tree: &Tree, who: u32, before: Option<u32>) -> Source
     requires known { IsSome (node_at tree.now.nodes who) }
-    requires before { before ≡ serial_of (previous_child tree.now.nodes (time_parent tree.now.nodes who) who) }
+    requires before { before ≡ serial_of
+        (previous_child tree.now.nodes (time_parent tree.now.nodes who) who) }
     ensures { result ≡ syncbase_or source.Start End (previous_in_seq tree.now.nodes who) }
 {
     match (kind_above(tree, who), before) {
@@ -75,8 +82,11 @@ fn begin_sources(
     by_offset: Source,
 ) -> Result<Vec<Source>, AllocError>
     requires known { IsSome (node_at tree.now.nodes who) }
-    requires by_offset { by_offset ≡ syncbase_or source.Start End (previous_in_seq tree.now.nodes who) }
-    ensures { IfOk result (λ sources. Some sources.items ≡ option_map (λ (e : AnyNode). map (source_of tree.now.nodes who) (begin_list tree.now.nodes e)) (node_at tree.now.nodes who)) }
+    requires by_offset { by_offset
+        ≡ syncbase_or source.Start End (previous_in_seq tree.now.nodes who) }
+    ensures { IfOk result (λ sources. Some sources.items
+        ≡ option_map (λ (e : AnyNode). map (source_of tree.now.nodes who)
+        (begin_list tree.now.nodes e)) (node_at tree.now.nodes who)) }
 {
     if let Some(items) = &tree.attrs(who).begin {
         return sources_of(alloc, tree, who, items, by_offset);
@@ -86,7 +96,8 @@ fn begin_sources(
     Ok(sources)
 }
 
-/// The source of the one item of an element without a begin list: nothing in an excl, and else that of an offset.
+/// The source of the one item of an element without a begin list: nothing in an excl, and else that
+/// of an offset.
 fn begin_by_default(tree: &Tree, who: u32, by_offset: Source) -> Source
     requires { IsSome (node_at tree.now.nodes who) }
     ensures { result ≡ (if is_in_excl tree.now.nodes who then source.Nothing else by_offset) }
@@ -105,8 +116,11 @@ fn end_sources(
     by_offset: Source,
 ) -> Result<Vec<Source>, AllocError>
     requires known { IsSome (node_at tree.now.nodes who) }
-    requires by_offset { by_offset ≡ syncbase_or source.Start End (previous_in_seq tree.now.nodes who) }
-    ensures { IfOk result (λ sources. Some sources.items ≡ option_map (λ (e : AnyNode). map (source_of tree.now.nodes who) (end_list e)) (node_at tree.now.nodes who)) }
+    requires by_offset { by_offset
+        ≡ syncbase_or source.Start End (previous_in_seq tree.now.nodes who) }
+    ensures { IfOk result (λ sources. Some sources.items
+        ≡ option_map (λ (e : AnyNode). map (source_of tree.now.nodes who) (end_list e))
+        (node_at tree.now.nodes who)) }
 {
     match &tree.attrs(who).end {
         Some(items) => sources_of(alloc, tree, who, items, by_offset),

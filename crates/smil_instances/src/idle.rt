@@ -30,7 +30,8 @@ pub(crate) fn idle_rows(
     dependents: &Dependents,
 ) -> Result<Rows, AllocError>
     requires { AreDependentsOf tree.now.nodes dependents.now }
-    ensures { (log : List AnyLogEntry) → IfOk result (λ rows. rows ≡ settled_rows (history_of tree.now log [])) }
+    ensures { (log : List AnyLogEntry)
+        → IfOk result (λ rows. rows ≡ settled_rows (history_of tree.now log [])) }
 {
     tree.valid();
     let mut rows = Rows::new(alloc);
@@ -63,7 +64,9 @@ fn idle_row(
 ) -> Result<InstanceRow, AllocError>
     requires dependents { AreDependentsOf tree.now.nodes dependents.now }
     requires element { IsElementAt tree.now.nodes place serial }
-    ensures { (log : List AnyLogEntry) (e : AnyNode) → slice_get (elements tree.now.nodes) place ≡ Some e → IfOk result (λ row. row ≡ row_of (history_of tree.now log []) e) }
+    ensures { (log : List AnyLogEntry) (e : AnyNode)
+        → slice_get (elements tree.now.nodes) place ≡ Some e
+        → IfOk result (λ row. row ≡ row_of (history_of tree.now log []) e) }
 {
     let mut row = InstanceRow::new(alloc, serial);
     let attrs = tree.attrs(serial);
@@ -80,7 +83,12 @@ fn push_begins(
     begin: &Option<Items>,
 ) -> Result<(), AllocError>
     requires { row.old.begins ≡ [] }
-    ensures { (document : Document) (log : List AnyLogEntry) (e : AnyNode) → AreDependentsOf document.nodes dependents.now → slice_get (elements document.nodes) place ≡ Some e → e.attrs.begin ≡ begin.now → OnOk result (row.new ≡ with_items row.old edge.Begin (map (instances_of (history_of document log []) e edge.Begin) (begin_list document.nodes e))) }
+    ensures { (document : Document) (log : List AnyLogEntry) (e : AnyNode)
+        → AreDependentsOf document.nodes dependents.now
+        → slice_get (elements document.nodes) place ≡ Some e → e.attrs.begin ≡ begin.now
+        → OnOk result (row.new ≡ with_items row.old edge.Begin
+        (map (instances_of (history_of document log []) e edge.Begin)
+        (begin_list document.nodes e))) }
 {
     match begin {
         Some(items) => push_list(row, dependents, place, Edge::Begin, items),
@@ -96,7 +104,11 @@ fn push_ends(
     end: &Option<Items>,
 ) -> Result<(), AllocError>
     requires { row.old.ends ≡ [] }
-    ensures { (document : Document) (log : List AnyLogEntry) (e : AnyNode) → AreDependentsOf document.nodes dependents.now → slice_get (elements document.nodes) place ≡ Some e → e.attrs.«end» ≡ end.now → OnOk result (row.new ≡ with_items row.old edge.End (map (instances_of (history_of document log []) e edge.End) (end_list e))) }
+    ensures { (document : Document) (log : List AnyLogEntry) (e : AnyNode)
+        → AreDependentsOf document.nodes dependents.now
+        → slice_get (elements document.nodes) place ≡ Some e → e.attrs.«end» ≡ end.now
+        → OnOk result (row.new ≡ with_items row.old edge.End
+        (map (instances_of (history_of document log []) e edge.End) (end_list e))) }
 {
     match end {
         Some(items) => push_list(row, dependents, place, Edge::End, items),
@@ -113,7 +125,11 @@ fn push_list(
     items: &Items,
 ) -> Result<(), AllocError>
     requires { side_of row.old side ≡ [] }
-    ensures { (document : Document) (log : List AnyLogEntry) (e : AnyNode) → AreDependentsOf document.nodes dependents.now → IsListOf document.nodes place e side items.now → OnOk result (row.new ≡ with_items row.old side (map (instances_of (history_of document log []) e side) items.now)) }
+    ensures { (document : Document) (log : List AnyLogEntry) (e : AnyNode)
+        → AreDependentsOf document.nodes dependents.now
+        → IsListOf document.nodes place e side items.now
+        → OnOk result (row.new ≡ with_items row.old side
+        (map (instances_of (history_of document log []) e side) items.now)) }
 {
     for item in 0..items.len() {
         let source = dependents.source(Cell {
@@ -127,15 +143,20 @@ fn push_list(
     Ok(())
 }
 
-/// Appends the item that stands for a begin list where there is none to a row without begins: an offset of 0, or
-/// `indefinite` in a child of an excl, whose source is nothing.
+/// Appends the item that stands for a begin list where there is none to a row without begins: an
+/// offset of 0, or `indefinite` in a child of an excl, whose source is nothing.
 fn push_default(
     row: &mut InstanceRow,
     dependents: &Dependents,
     place: usize,
 ) -> Result<(), AllocError>
     requires { row.old.begins ≡ [] }
-    ensures { (document : Document) (log : List AnyLogEntry) (e : AnyNode) → AreDependentsOf document.nodes dependents.now → slice_get (elements document.nodes) place ≡ Some e → e.attrs.begin ≡ None → OnOk result (row.new ≡ with_items row.old edge.Begin (map (instances_of (history_of document log []) e edge.Begin) (begin_list document.nodes e))) }
+    ensures { (document : Document) (log : List AnyLogEntry) (e : AnyNode)
+        → AreDependentsOf document.nodes dependents.now
+        → slice_get (elements document.nodes) place ≡ Some e → e.attrs.begin ≡ None
+        → OnOk result (row.new ≡ with_items row.old edge.Begin
+        (map (instances_of (history_of document log []) e edge.Begin)
+        (begin_list document.nodes e))) }
 {
     let source = dependents.source(Cell {
         row: place,
@@ -145,7 +166,8 @@ fn push_default(
     push_item(row, Edge::Begin, 0, time_from_start(source, 0))
 }
 
-/// Appends an item to a side that has so many, with the time that is known for it before the first entry, if any.
+/// Appends an item to a side that has so many, with the time that is known for it before the first
+/// entry, if any.
 fn push_item(
     row: &mut InstanceRow,
     side: Edge,
@@ -162,10 +184,12 @@ fn push_item(
     }
 }
 
-/// The time that is known for an item with this source before the first entry: an offset's from the start of the time
-/// parent, and an `indefinite` end.
+/// The time that is known for an item with this source before the first entry: an offset's from the
+/// start of the time parent, and an `indefinite` end.
 fn idle_time(item: &Item, side: Edge, source: Source) -> Option<Time>
-    ensures { (document : Document) (log : List AnyLogEntry) (e : AnyNode) → source ≡ source_of document.nodes e.serial item.now → instances_of (history_of document log []) e side item.now ≡ idle_kept result }
+    ensures { (document : Document) (log : List AnyLogEntry) (e : AnyNode)
+        → source ≡ source_of document.nodes e.serial item.now
+        → instances_of (history_of document log []) e side item.now ≡ idle_kept result }
 {
     match (item, side) {
         (Item::Offset { offset }, _) => time_from_start(source, *offset),
@@ -176,7 +200,9 @@ fn idle_time(item: &Item, side: Edge, source: Source) -> Option<Time>
 
 /// The time that is known for an offset with this source before the first entry.
 fn time_from_start(source: Source, offset: i64) -> Option<Time>
-    ensures kept { (document : Document) (log : List AnyLogEntry) (e : AnyNode) (side : AnyEdge) → source ≡ source_of document.nodes e.serial (item.Offset offset) → instances_of (history_of document log []) e side (item.Offset offset) ≡ idle_kept result }
+    ensures kept { (document : Document) (log : List AnyLogEntry) (e : AnyNode) (side : AnyEdge)
+        → source ≡ source_of document.nodes e.serial (item.Offset offset)
+        → instances_of (history_of document log []) e side (item.Offset offset) ≡ idle_kept result }
     ensures nothing { source ≡ from.Nothing → result ≡ None }
 {
     match source {

@@ -29,8 +29,8 @@ use smil_tree::Tree;
 use std::alloc::{AllocError, Global};
 use std::marker::Model;
 
-/// The instance times that a diary alone gives to each element of a document, kept item by item while entries are
-/// appended; seen as a row for each element, and what its items follow from.
+/// The instance times that a diary alone gives to each element of a document, kept item by item
+/// while entries are appended; seen as a row for each element, and what its items follow from.
 #[derive(Drop)]
 pub struct Instances {
     rows: Rows,
@@ -57,12 +57,14 @@ impl Duplicate for Instances {
 }
 
 impl Instances {
-    /// The instance times of a document to which nothing has happened yet, unless memory runs out. The graph is that of the
-    /// tree. It takes memory for each item and for each element that an item names.
+    /// The instance times of a document to which nothing has happened yet, unless memory runs out.
+    /// The graph is that of the tree. It takes memory for each item and for each element that an
+    /// item names.
     // An item names at most one element, so that the tree alone tells what each follows from.
     pub fn new(alloc: Global, tree: &Tree, _graph: &Graph) -> Result<Instances, AllocError>
         requires { _graph.now.nodes ≡ tree.now.nodes }
-        ensures { (log : List AnyLogEntry) → IfOk result (λ value. IsSettled value tree.now log []) }
+        ensures { (log : List AnyLogEntry)
+            → IfOk result (λ value. IsSettled value tree.now log []) }
     {
         let dependents = Dependents::of(alloc, tree)?;
         Ok(Instances {
@@ -72,9 +74,9 @@ impl Instances {
         })
     }
 
-    /// Takes in the last entry of the book, by the clocks before it: the instance times are those of the book without it,
-    /// and then of the whole book. Where memory runs out all is as before. It touches the items alone that the entry can
-    /// concern.
+    /// Takes in the last entry of the book, by the clocks before it: the instance times are those
+    /// of the book without it, and then of the whole book. Where memory runs out all is as before.
+    /// It touches the items alone that the entry can concern.
     pub fn note(
         &mut self,
         tree: &Tree,
@@ -83,7 +85,8 @@ impl Instances {
         book: &Book,
     ) -> Result<(), AllocError>
         requires hand { IsAtHand tree.now clocks.now log.now book.now }
-        requires taken { (before : List AnyEntry) (y : AnyEntry) → book.now ≡ before ++ y ∷ [] → IsSettled self.old tree.now log.now before }
+        requires taken { (before : List AnyEntry) (y : AnyEntry) → book.now ≡ before ++ y ∷ []
+            → IsSettled self.old tree.now log.now before }
         ensures ok { OnOk result (IsSettled self.new tree.now log.now book.now) }
         ensures err { OnErr result (self.new ≡ self.old) }
     {
@@ -91,8 +94,9 @@ impl Instances {
         take_in(self.alloc, rows, &self.dependents, tree, clocks, log, book)
     }
 
-    /// Makes these the instance times of the book, whatever they were: the same as noting its entries one after another
-    /// from the first. The document is the one that `new` was given. Where memory runs out all is as before.
+    /// Makes these the instance times of the book, whatever they were: the same as noting its
+    /// entries one after another from the first. The document is the one that `new` was given.
+    /// Where memory runs out all is as before.
     pub fn rebuild(&mut self, tree: &Tree, log: &Log, book: &Book) -> Result<(), AllocError>
         requires lawful { IsLawfulFor tree.now book.now }
         requires document { AreDependentsOf tree.now.nodes self.old.dependents }
@@ -103,41 +107,55 @@ impl Instances {
         Ok(())
     }
 
-    /// The begins of an element, in milliseconds on the clock of its time parent, in rising order; none where there is no
-    /// such element. It takes no memory.
+    /// The begins of an element, in milliseconds on the clock of its time parent, in rising order;
+    /// none where there is no such element. It takes no memory.
     pub fn begins(&self, who: u32) -> &[i64]
         ensures value { result.now ≡ begins_in self.now.rows who }
-        ensures model { (document : Document) (log : List AnyLogEntry) (diary : List AnyEntry) (now : ℤ) (e : AnyNode) → IsSettled self.now document log diary → node_at (elements document.nodes) who ≡ Some e → result.now ≡ settled_begins (history_of document log diary) now e }
+        ensures model { (document : Document) (log : List AnyLogEntry) (diary : List AnyEntry)
+            (now : ℤ) (e : AnyNode) → IsSettled self.now document log diary
+            → node_at (elements document.nodes) who ≡ Some e
+            → result.now ≡ settled_begins (history_of document log diary) now e }
     {
         rows_tell_instances();
         self.rows.begins(who)
     }
 
-    /// The ends of an element, in milliseconds on the clock of its time parent, in rising order, with indefinite last; none
-    /// where there is no such element. It takes no memory.
+    /// The ends of an element, in milliseconds on the clock of its time parent, in rising order,
+    /// with indefinite last; none where there is no such element. It takes no memory.
     pub fn ends(&self, who: u32) -> &[Time]
         ensures value { result.now ≡ ends_in self.now.rows who }
-        ensures model { (document : Document) (log : List AnyLogEntry) (diary : List AnyEntry) (now : ℤ) (e : AnyNode) → IsSettled self.now document log diary → node_at (elements document.nodes) who ≡ Some e → result.now ≡ settled_ends (history_of document log diary) now e }
+        ensures model { (document : Document) (log : List AnyLogEntry) (diary : List AnyEntry)
+            (now : ℤ) (e : AnyNode) → IsSettled self.now document log diary
+            → node_at (elements document.nodes) who ≡ Some e
+            → result.now ≡ settled_ends (history_of document log diary) now e }
     {
         rows_tell_instances();
         self.rows.ends(who)
     }
 
-    /// The first begin or end of an element that is not less than the value, in milliseconds on the clock of its time
-    /// parent; unresolved exactly where there is none. It takes no memory, and log n steps for n of them.
+    /// The first begin or end of an element that is not less than the value, in milliseconds on the
+    /// clock of its time parent; unresolved exactly where there is none. It takes no memory, and
+    /// log n steps for n of them.
     pub fn first_from(&self, who: u32, side: Edge, value: i64) -> Time
         ensures value { result ≡ first_from value (times_in self.now.rows who side) }
-        ensures model { (document : Document) (log : List AnyLogEntry) (diary : List AnyEntry) (now : ℤ) (e : AnyNode) → IsSettled self.now document log diary → node_at (elements document.nodes) who ≡ Some e → result ≡ first_from value (settled_times (history_of document log diary) now e side) }
+        ensures model { (document : Document) (log : List AnyLogEntry) (diary : List AnyEntry)
+            (now : ℤ) (e : AnyNode) → IsSettled self.now document log diary
+            → node_at (elements document.nodes) who ≡ Some e
+            → result ≡ first_from value (settled_times (history_of document log diary) now e side) }
     {
         rows_tell_instances();
         self.rows.first_from(who, side, value)
     }
 
-    /// The first begin or end of an element that is greater than the value, in milliseconds on the clock of its time parent;
-    /// unresolved exactly where there is none. It takes no memory, and log n steps for n of them.
+    /// The first begin or end of an element that is greater than the value, in milliseconds on the
+    /// clock of its time parent; unresolved exactly where there is none. It takes no memory, and
+    /// log n steps for n of them.
     pub fn first_after(&self, who: u32, side: Edge, value: i64) -> Time
         ensures value { result ≡ first_after value (times_in self.now.rows who side) }
-        ensures model { (document : Document) (log : List AnyLogEntry) (diary : List AnyEntry) (now : ℤ) (e : AnyNode) → IsSettled self.now document log diary → node_at (elements document.nodes) who ≡ Some e → result ≡ first_after value (settled_times (history_of document log diary) now e side) }
+        ensures model { (document : Document) (log : List AnyLogEntry) (diary : List AnyEntry)
+            (now : ℤ) (e : AnyNode) → IsSettled self.now document log diary
+            → node_at (elements document.nodes) who ≡ Some e
+            → result ≡ first_after value (settled_times (history_of document log diary) now e side) }
     {
         rows_tell_instances();
         self.rows.first_after(who, side, value)
@@ -146,7 +164,10 @@ impl Instances {
     /// Whether an element has any end. It takes no memory.
     pub fn any_end(&self, who: u32) -> bool
         ensures value { result ≡ has_any (ends_in self.now.rows who) }
-        ensures model { (document : Document) (log : List AnyLogEntry) (diary : List AnyEntry) (now : ℤ) (e : AnyNode) → IsSettled self.now document log diary → node_at (elements document.nodes) who ≡ Some e → result ≡ has_any (settled_ends (history_of document log diary) now e) }
+        ensures model { (document : Document) (log : List AnyLogEntry) (diary : List AnyEntry)
+            (now : ℤ) (e : AnyNode) → IsSettled self.now document log diary
+            → node_at (elements document.nodes) who ≡ Some e
+            → result ≡ has_any (settled_ends (history_of document log diary) now e) }
     {
         rows_tell_instances();
         self.rows.any_end(who)

@@ -20,8 +20,8 @@ use smil_stretch::Clocks;
 use smil_tree::Tree;
 use std::alloc::{AllocError, Global};
 
-/// Takes in the last entry of the book: of the items that it concerns adds what it gives, and then takes out what is no
-/// longer kept. Where memory runs out the rows are as before.
+/// Takes in the last entry of the book: of the items that it concerns adds what it gives, and then
+/// takes out what is no longer kept. Where memory runs out the rows are as before.
 pub(crate) fn take_in(
     alloc: Global,
     rows: &mut Rows,
@@ -33,7 +33,8 @@ pub(crate) fn take_in(
 ) -> Result<(), AllocError>
     requires hand { IsAtHand tree.now clocks.now log.now book.now }
     requires dependents { AreDependentsOf tree.now.nodes dependents.now }
-    requires rows { (before : List AnyEntry) (y : AnyEntry) → book.now ≡ before ++ y ∷ [] → rows.old ≡ settled_rows (history_of tree.now log.now before) }
+    requires rows { (before : List AnyEntry) (y : AnyEntry) → book.now ≡ before ++ y ∷ []
+        → rows.old ≡ settled_rows (history_of tree.now log.now before) }
     ensures ok { OnOk result (rows.new ≡ settled_rows (history_of tree.now log.now book.now)) }
     ensures err { OnErr result (rows.new ≡ rows.old) }
 {
@@ -66,7 +67,8 @@ fn concerned<'a>(
 ) -> &'a [Cell]
     requires rows { AreRowsOf tree.now.nodes rows.now }
     requires dependents { AreDependentsOf tree.now.nodes dependents.now }
-    ensures those { AreThose (is_concerned_cell tree.now.nodes (is_birth_step step) (subject_of log.now step) (key_of log.now step)) result.now }
+    ensures those { AreThose (is_concerned_cell tree.now.nodes (is_birth_step step)
+        (subject_of log.now step) (key_of log.now step)) result.now }
 {
     tree.valid();
     bases_are_elements();
@@ -89,7 +91,8 @@ fn keyed(dependents: &Dependents, key: Option<u8>) -> &[Cell]
     }
 }
 
-/// The element that a step is on; None where it hears a press of a key, or a log entry that there is not.
+/// The element that a step is on; None where it hears a press of a key, or a log entry that there
+/// is not.
 fn subject(step: Step, log: &Log) -> Option<u32>
     ensures { result ≡ subject_of log.now step }
 {

@@ -11,9 +11,11 @@ use smil_instance_rows::Cell;
 use smil_model::{Edge, Listed};
 use std::alloc::{AllocError, Global};
 
-/// The cells whose items wait for each key, by the sources in the rows. It takes time linear in the items.
+/// The cells whose items wait for each key, by the sources in the rows. It takes time linear in the
+/// items.
 pub fn cells_by_key(alloc: Global, rows: &[DependentsRow]) -> Result<Vec<Listed<Cell>>, AllocError>
-    ensures { IfOk result (λ keys. (key : ℕ) → AreThose (is_for_key rows.now key) (keyed_in keys.items key)) }
+    ensures { IfOk result (λ keys. (key : ℕ)
+        → AreThose (is_for_key rows.now key) (keyed_in keys.items key)) }
 {
     let mut keys = Vec::new(alloc);
     for row in 0..rows.len() {

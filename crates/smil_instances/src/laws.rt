@@ -4,7 +4,8 @@ ghost use Rattle.smil_instances.specs.Laws.{LogMayGrow, RowsTellInstances};
 ghost use Rattle.smil_instances.specs.ExpectedTimes.{InstancesAreMerged};
 ghost use Rattle.smil_instances.specs.Updates.{EntriesAreTakenIn, OnlyConcernedChange, BasesAreElements};
 
-/// The instance times of an element are those that are kept, with the expected ones put in their places.
+/// The instance times of an element are those that are kept, with the expected ones put in their
+/// places.
 pub fn instances_are_merged()
     ensures { InstancesAreMerged }
 {}
@@ -19,7 +20,8 @@ pub fn rows_tell_instances()
     ensures { RowsTellInstances }
 {}
 
-/// What is kept for an item after one more entry is what was kept and what the entry gives, without what a birth takes out.
+/// What is kept for an item after one more entry is what was kept and what the entry gives, without
+/// what a birth takes out.
 pub fn entries_are_taken_in()
     ensures { EntriesAreTakenIn }
 {}

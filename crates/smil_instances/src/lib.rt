@@ -1,5 +1,6 @@
-//! The instance times that a diary alone gives, kept while entries are appended: what the times of each item follow from,
-//! which items an entry concerns, which of these hear it, and what it gives to them.
+//! The instance times that a diary alone gives, kept while entries are appended: what the times of
+//! each item follow from, which items an entry concerns, which of these hear it, and what it gives
+//! to them.
 #![tactic(auto)]
 
 mod additions;

@@ -15,13 +15,15 @@ use smil_diary::Book;
 use smil_model::{Happening, Item, Log, LogEntry, Step};
 use smil_tree::Tree;
 
-/// Whether the last entry of the book is what an event, repeat or accesskey item waits for: the named event on the element
-/// `of`, which the item means, the begin of iteration `n` of it, or a press of the key. False for any other item, and for an
-/// event or repeat item that means no element. It takes no memory.
+/// Whether the last entry of the book is what an event, repeat or accesskey item waits for: the
+/// named event on the element `of`, which the item means, the begin of iteration `n` of it, or a
+/// press of the key. False for any other item, and for an event or repeat item that means no
+/// element. It takes no memory.
 pub fn occurs(tree: &Tree, log: &Log, book: &Book, of: Option<u32>, item: &Item) -> bool
     requires hand { (clocks : List NodeClock) × IsAtHand tree.now clocks log.now book.now }
     requires element { (x : ℕ) → of ≡ Some x → has_element tree.now.nodes x ≡ true }
-    ensures { (h : History) (y : AnyEntry) (clocks : List NodeClock) → IsEntryOf h y tree.now clocks log.now book.now → result ≡ occurs_in h y of item.now }
+    ensures { (h : History) (y : AnyEntry) (clocks : List NodeClock)
+        → IsEntryOf h y tree.now clocks log.now book.now → result ≡ occurs_in h y of item.now }
 {
     match (item, of) {
         (Item::Event { name, .. }, Some(of)) => {
@@ -90,7 +92,8 @@ fn is_logged_key(log: &Log, key: u8, place: usize) -> bool
 fn is_repeat(tree: &Tree, book: &Book, of: u32, n: u32) -> bool
     requires some { 0 < length book.now }
     requires element { has_element tree.now.nodes of ≡ true }
-    ensures { (h : History) (y : AnyEntry) → h.nodes ≡ tree.now.nodes → IsBefore h y book.now → result ≡ repeat_in h of n y.step }
+    ensures { (h : History) (y : AnyEntry) → h.nodes ≡ tree.now.nodes → IsBefore h y book.now
+        → result ≡ repeat_in h of n y.step }
 {
     match last_entry(book).step {
         Step::Repeated { who, .. } if who == of => repeated_iteration(tree, book, of) == n,

@@ -17,7 +17,8 @@ use smil_diary::Book;
 use smil_instance_rows::{Cell, Rows};
 use smil_tree::Tree;
 
-/// Takes out of each of these items what is no longer kept, by the births in the book. It takes no memory.
+/// Takes out of each of these items what is no longer kept, by the births in the book. It takes no
+/// memory.
 pub(crate) fn trim_each(
     rows: &mut Rows,
     cells: &[Cell],
@@ -28,7 +29,8 @@ pub(crate) fn trim_each(
     requires cells { HaveItems tree.now.nodes cells.now }
     requires dependents { AreDependentsOf tree.now.nodes dependents.now }
     requires rows { AreRowsOf tree.now.nodes rows.old }
-    ensures { (log : List AnyLogEntry) → rows.new ≡ with_remainders (history_of tree.now log book.now) rows.old cells.now }
+    ensures { (log : List AnyLogEntry)
+        → rows.new ≡ with_remainders (history_of tree.now log book.now) rows.old cells.now }
 {
     for cell in cells {
         trim_at(rows, *cell, dependents, tree, book);
@@ -40,7 +42,8 @@ fn trim_at(rows: &mut Rows, cell: Cell, dependents: &Dependents, tree: &Tree, bo
     requires cell { HasItem tree.now.nodes cell }
     requires dependents { AreDependentsOf tree.now.nodes dependents.now }
     requires rows { AreRowsOf tree.now.nodes rows.old }
-    ensures value { (log : List AnyLogEntry) → rows.new ≡ with_remainder (history_of tree.now log book.now) rows.old cell }
+    ensures value { (log : List AnyLogEntry)
+        → rows.new ≡ with_remainder (history_of tree.now log book.now) rows.old cell }
     ensures rows { AreRowsOf tree.now.nodes rows.new }
 {
     tree.valid();
@@ -54,7 +57,9 @@ fn trim(rows: &mut Rows, cell: Cell, who: u32, source: Source, tree: &Tree, book
     requires has { HasCell rows.old cell }
     requires cell { IsCellOf tree.now.nodes cell who source }
     requires base { (of : ℕ) → base_of source ≡ Some of → IsSome (node_at tree.now.nodes of) }
-    ensures { (log : List AnyLogEntry) → rows.new ≡ with_cell rows.old cell (remaining (history_of tree.now log book.now) who source (cell_of rows.old cell)) }
+    ensures { (log : List AnyLogEntry)
+        → rows.new ≡ with_cell rows.old cell
+        (remaining (history_of tree.now log book.now) who source (cell_of rows.old cell)) }
 {
     match source {
         Source::Start => rows.keep_last(cell),

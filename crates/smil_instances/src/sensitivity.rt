@@ -22,12 +22,13 @@ use smil_model::{Bytes, Edge, Item, Restart};
 use smil_stretch::Clocks;
 use smil_tree::Tree;
 
-/// Whether an element hears an event for an item of its begin list or end list, by what had happened before the last entry
-/// of the book (SMIL 3.0 Timing, event sensitivity). The element hears none while its time parent is not active or the clock
-/// of its time parent stands. While it is not active it hears its begin items alone. While it is active, one that may always
-/// restart hears its begin items, and those end items that are for no event of a begin item, and any other hears its end
-/// items alone. An access key is heard as an event is. `of` is the element that an event or repeat item means; a key is on
-/// none. It takes no memory.
+/// Whether an element hears an event for an item of its begin list or end list, by what had
+/// happened before the last entry of the book (SMIL 3.0 Timing, event sensitivity). The element
+/// hears none while its time parent is not active or the clock of its time parent stands. While it
+/// is not active it hears its begin items alone. While it is active, one that may always restart
+/// hears its begin items, and those end items that are for no event of a begin item, and any other
+/// hears its end items alone. An access key is heard as an event is. `of` is the element that an
+/// event or repeat item means; a key is on none. It takes no memory.
 pub fn hears(
     tree: &Tree,
     clocks: &Clocks,
@@ -40,17 +41,21 @@ pub fn hears(
     requires hand { (log : List LogEntry) × IsAtHand tree.now clocks.now log book.now }
     requires element { has_element tree.now.nodes who ≡ true }
     requires means { of ≡ target_of tree.now.nodes who item.now }
-    ensures { (h : History) (y : AnyEntry) (e : AnyNode) → IsEntryOf h y tree.now clocks.now h.log book.now → node_at (elements h.nodes) who ≡ Some e → result ≡ instances.hears h e side item.now }
+    ensures { (h : History) (y : AnyEntry) (e : AnyNode)
+        → IsEntryOf h y tree.now clocks.now h.log book.now → node_at (elements h.nodes) who ≡ Some e
+        → result ≡ instances.hears h e side item.now }
 {
     is_awake(tree, clocks, book, who)
         && is_sensitive(tree, was_active(book, who), who, side, item, of)
 }
 
-// Whether an element was alive before the last entry of the book, and the clock of its time parent ran.
+// Whether an element was alive before the last entry of the book, and the clock of its time parent
+// ran.
 fn is_awake(tree: &Tree, clocks: &Clocks, book: &Book, who: u32) -> bool
     requires some { 0 < length book.now }
     requires element { has_element tree.now.nodes who ≡ true }
-    ensures { (h : History) (y : AnyEntry) → h.nodes ≡ tree.now.nodes → IsBefore h y book.now → AreClocksOf clocks.now h → result ≡ (alive_in h who && not (outer_stands h who)) }
+    ensures { (h : History) (y : AnyEntry) → h.nodes ≡ tree.now.nodes → IsBefore h y book.now
+        → AreClocksOf clocks.now h → result ≡ (alive_in h who && not (outer_stands h who)) }
 {
     was_alive(tree, book, who) && !clocks.outer_stands(who)
 }
@@ -66,7 +71,10 @@ fn is_sensitive(
 ) -> bool
     requires element { has_element tree.now.nodes who ≡ true }
     requires means { of ≡ target_of tree.now.nodes who item.now }
-    ensures { (e : AnyNode) → node_at (elements tree.now.nodes) who ≡ Some e → result ≡ instances.is_sensitive active (restart_of tree.now.nodes e) side (list_any (instances.is_same_event tree.now.nodes e.serial item.now) (begin_list tree.now.nodes e)) }
+    ensures { (e : AnyNode) → node_at (elements tree.now.nodes) who ≡ Some e
+        → result ≡ instances.is_sensitive active (restart_of tree.now.nodes e) side
+        (list_any (instances.is_same_event tree.now.nodes e.serial item.now)
+        (begin_list tree.now.nodes e)) }
 {
     match side {
         Edge::Begin => !active || always_restarts(tree, who),
@@ -77,7 +85,8 @@ fn is_sensitive(
 // Whether an element may always restart.
 fn always_restarts(tree: &Tree, who: u32) -> bool
     requires element { has_element tree.now.nodes who ≡ true }
-    ensures { (e : AnyNode) → node_at (elements tree.now.nodes) who ≡ Some e → result ≡ is_always (restart_of tree.now.nodes e) }
+    ensures { (e : AnyNode) → node_at (elements tree.now.nodes) who ≡ Some e
+        → result ≡ is_always (restart_of tree.now.nodes e) }
 {
     tree.valid();
     let restart = tree.restart_of(who);
@@ -88,7 +97,9 @@ fn always_restarts(tree: &Tree, who: u32) -> bool
 fn is_doubled(tree: &Tree, who: u32, item: &Item, of: Option<u32>) -> bool
     requires element { has_element tree.now.nodes who ≡ true }
     requires means { of ≡ target_of tree.now.nodes who item.now }
-    ensures { (e : AnyNode) → node_at (elements tree.now.nodes) who ≡ Some e → result ≡ list_any (instances.is_same_event tree.now.nodes who item.now) (begin_list tree.now.nodes e) }
+    ensures { (e : AnyNode) → node_at (elements tree.now.nodes) who ≡ Some e
+        → result ≡ list_any (instances.is_same_event tree.now.nodes who item.now)
+        (begin_list tree.now.nodes e) }
 {
     tree.valid();
     let Some(begin) = &tree.attrs(who).begin else {
@@ -102,8 +113,8 @@ fn is_doubled(tree: &Tree, who: u32, item: &Item, of: Option<u32>) -> bool
     false
 }
 
-// Whether two items of an element are for the same event of the element `of`, which the first one means, or for the same
-// key.
+// Whether two items of an element are for the same event of the element `of`, which the first one
+// means, or for the same key.
 fn is_same_event(tree: &Tree, who: u32, item: &Item, of: Option<u32>, other: &Item) -> bool
     requires element { has_element tree.now.nodes who ≡ true }
     requires means { of ≡ target_of tree.now.nodes who item.now }
@@ -131,7 +142,8 @@ fn is_same_event(tree: &Tree, who: u32, item: &Item, of: Option<u32>, other: &It
     }
 }
 
-// Whether an item of an element means the element `of`, by the id that the item has; none means no element.
+// Whether an item of an element means the element `of`, by the id that the item has; none means no
+// element.
 fn means(tree: &Tree, who: u32, named: &Option<Bytes>, of: Option<u32>) -> bool
     requires { (x : ℕ) → of ≡ Some x → has_element tree.now.nodes x ≡ true }
     ensures { result ≡ instances.same_target of (target tree.now.nodes who named.now) }

@@ -55,7 +55,8 @@ fn element_of(tree: &Tree, who: &Who) -> Option<u32>
     }
 }
 
-/// The source of an item whose events or repeats are those of the element with the id, or of the element itself.
+/// The source of an item whose events or repeats are those of the element with the id, or of the
+/// element itself.
 fn source_by(tree: &Tree, who: u32, id: &Option<Bytes>) -> Result<Source, AllocError>
     ensures { IfOk result (λ s. s ≡ eventbase (target tree.now.nodes who id.now)) }
 {

@@ -16,8 +16,9 @@ use smil_model::{Entry, Step};
 use smil_stretch::Clocks;
 use smil_tree::Tree;
 
-/// What an entry gives to an item of `who` with this offset from the start of the time parent's iteration, in milliseconds
-/// on the time parent's clock; None exactly where it is no begin or repeat of the time parent. It takes no memory.
+/// What an entry gives to an item of `who` with this offset from the start of the time parent's
+/// iteration, in milliseconds on the time parent's clock; None exactly where it is no begin or
+/// repeat of the time parent. It takes no memory.
 pub fn started(
     tree: &Tree,
     clocks: &Clocks,
@@ -27,7 +28,8 @@ pub fn started(
 ) -> Option<InstanceTime>
     requires element { has_element tree.now.nodes who ≡ true }
     requires moment { IsMoment entry.moment }
-    ensures { (h : History) → AreClocksAt h clocks.now entry.moment → result ≡ Contribution.started h entry offset (time_parent tree.now.nodes who) }
+    ensures { (h : History) → AreClocksAt h clocks.now entry.moment
+        → result ≡ Contribution.started h entry offset (time_parent tree.now.nodes who) }
 {
     let parent = tree.time_parent(who)?;
     started_by(clocks, entry, parent, offset)
@@ -36,7 +38,8 @@ pub fn started(
 /// What an entry gives to such an item, whose time parent is `parent`.
 fn started_by(clocks: &Clocks, entry: Entry, parent: u32, offset: i64) -> Option<InstanceTime>
     requires { IsMoment entry.moment }
-    ensures { (h : History) (p : AnyNode) → AreClocksAt h clocks.now entry.moment → p.serial ≡ parent → result ≡ Contribution.started h entry offset (Some p) }
+    ensures { (h : History) (p : AnyNode) → AreClocksAt h clocks.now entry.moment
+        → p.serial ≡ parent → result ≡ Contribution.started h entry offset (Some p) }
 {
     let time = match entry.step {
         Step::Began { who, begin } if who == parent => {

@@ -162,7 +162,8 @@ fn compare_anew(
     }
 }
 
-// Takes in these entries one after another, and after each makes instance times anew, which are to be the same.
+// Takes in these entries one after another, and after each makes instance times anew, which are to
+// be the same.
 fn take_all(
     tree: &Tree,
     log: &Log,
@@ -183,7 +184,8 @@ fn take_all(
     Ok(())
 }
 
-// The instance times after these entries, which after each are those that are made anew from the first entry on.
+// The instance times after these entries, which after each are those that are made anew from the
+// first entry on.
 fn played(alloc: Global, tree: &Tree, log: &Log, entries: &[Entry]) -> Result<Instances, Fail> {
     let mut instances = idle(alloc, tree)?;
     let mut anew = idle(alloc, tree)?;
@@ -201,8 +203,8 @@ fn played(alloc: Global, tree: &Tree, log: &Log, entries: &[Entry]) -> Result<In
     Ok(instances)
 }
 
-// Whether these are the begins and ends of an element, without what the contracts say of them, so that no proof computes
-// them.
+// Whether these are the begins and ends of an element, without what the contracts say of them, so
+// that no proof computes them.
 fn tells(instances: &Instances, who: u32, begins: &[i64], ends: &[Time]) -> bool {
     instances.begins(who) == begins && instances.ends(who) == ends
 }

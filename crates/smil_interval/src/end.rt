@@ -14,14 +14,15 @@ use smil_model::{EndList, Facts, Interval, Restart, Time, greatest, later, least
 pub fn interval_at(facts: &Facts, begins: &[i64], ends: &[Time], begin: i64) -> Option<Interval>
     requires begins_rise { IsRising begins.now }
     requires ends_rise { IsRisingTimes ends.now }
-    ensures { result ≡ option_map (interval_to begin) (Intervals.interval_end facts.now begins.now ends.now begin) }
+    ensures { result ≡ option_map (interval_to begin)
+        (Intervals.interval_end facts.now begins.now ends.now begin) }
 {
     let end = interval_end(facts, begins, ends, begin)?;
     Some(Interval { begin, end })
 }
 
-/// The end of an interval that begins at `begin`: the least of the end by the duration, the limit of the end list and the
-/// next begin. None where no interval begins there.
+/// The end of an interval that begins at `begin`: the least of the end by the duration, the limit
+/// of the end list and the next begin. None where no interval begins there.
 fn interval_end(facts: &Facts, begins: &[i64], ends: &[Time], begin: i64) -> Option<Time>
     requires begins_rise { IsRising begins.now }
     requires ends_rise { IsRisingTimes ends.now }
@@ -46,8 +47,8 @@ fn duration_end(facts: &Facts, begin: i64) -> Time
     }
 }
 
-/// The limit that the end list sets, unresolved where it sets none. None where no end instance counts and the list gives
-/// no other end, so that no interval begins there.
+/// The limit that the end list sets, unresolved where it sets none. None where no end instance
+/// counts and the list gives no other end, so that no interval begins there.
 fn end_limit(facts: &Facts, ends: &[Time], begin: i64) -> Option<Time>
     requires { IsRisingTimes ends.now }
     ensures { result ≡ Intervals.end_limit facts.now ends.now begin }
@@ -58,10 +59,12 @@ fn end_limit(facts: &Facts, ends: &[Time], begin: i64) -> Option<Time>
     }
 }
 
-/// The limit of an end list that is there: the least end instance that counts, or `begin` plus `min` if that is greater.
+/// The limit of an end list that is there: the least end instance that counts, or `begin` plus
+/// `min` if that is greater.
 fn given_limit(facts: &Facts, ends: &[Time], begin: i64) -> Option<Time>
     requires { IsRisingTimes ends.now }
-    ensures { result ≡ limit_of facts.now begin ends.now (filter (counts_from facts.now.last begin) ends.now) }
+    ensures { result ≡ limit_of facts.now begin ends.now
+        (filter (counts_from facts.now.last begin) ends.now) }
 {
     match counting(ends, facts.last, begin).first() {
         Some(end) => Some(greatest(*end, moved(begin, facts.min))),
@@ -69,8 +72,8 @@ fn given_limit(facts: &Facts, ends: &[Time], begin: i64) -> Option<Time>
     }
 }
 
-/// The limit where no end instance counts: none for an active element, for one whose list has an event or repeat item,
-/// and where the list gives no instance at all.
+/// The limit where no end instance counts: none for an active element, for one whose list has an
+/// event or repeat item, and where the list gives no instance at all.
 fn no_end_counts(facts: &Facts, ends: &[Time]) -> Option<Time>
     ensures { result ≡ limit_of facts.now (pos 0) ends.now [] }
 {

@@ -16,10 +16,10 @@ pub use smil_model::{EndList, Facts};
 use smil_model::{Interval, Steps, Time};
 use std::sync::ledger::Ledger;
 
-/// The interval of an element, in milliseconds on its time parent's clock, and one more evaluation counted. It is that of
-/// the present play where the element is active, and the first or next one where the element is alive and neither active
-/// nor deferred; any other element has none. `begins` and `ends` are its instance times, the expected ones among them.
-/// SMIL 3.0, "Element life-cycle".
+/// The interval of an element, in milliseconds on its time parent's clock, and one more evaluation
+/// counted. It is that of the present play where the element is active, and the first or next one
+/// where the element is alive and neither active nor deferred; any other element has none. `begins`
+/// and `ends` are its instance times, the expected ones among them. SMIL 3.0, "Element life-cycle".
 pub fn evaluate<L: Ledger>(
     begins: &[i64],
     ends: &[Time],
@@ -62,46 +62,5 @@ fn coming(begins: &[i64], ends: &[Time], facts: &Facts) -> Option<Interval>
     match facts.last {
         None => first_interval(begins, ends, facts),
         Some(_) => next_interval(begins, ends, facts),
-    }
-}
-
-#[cfg(test)]
-mod tests {
-    use super::*;
-    use smil_model::Restart;
-    use std::marker::Brand;
-    use std::sync::ledger::Blank;
-
-    /// An element of two seconds that waits for its first interval.
-    fn waiting() -> Facts {
-        Facts {
-            alive: true,
-            deferred: false,
-            play: None,
-            parent_start: 0,
-            last: None,
-            passed: None,
-            end_list: EndList::Absent,
-            restart: Restart::Always,
-            min: 0,
-            max: Time::Indefinite,
-            simple: Time::At(2000),
-            count: None,
-            repeat_dur: None,
-        }
-    }
-
-    fn evaluated<L: Ledger>(blank: Blank, facts: &Facts) -> Option<Interval>
-        requires name { blank.name ≡ L.name }
-        requires parts { blank.parts ≡ L.parts }
-        requires backed { 0 < blank.parts }
-    {
-        let mut steps = Steps::<L>::new(blank);
-        evaluate(&[], &[], facts, &mut steps)
-    }
-
-    #[test]
-    fn evaluates_once(rt: HostRuntime) {
-        assert!(rt; evaluated::<Brand>(Blank::new(1), &waiting()).is_none());
     }
 }

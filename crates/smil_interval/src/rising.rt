@@ -29,17 +29,20 @@ pub fn not_passed(begins: &[i64], passed: Option<i64>) -> &[i64]
     }
 }
 
-/// The begins from the end of an interval on, and strictly after it where the interval has length 0.
+/// The begins from the end of an interval on, and strictly after it where the interval has length
+/// 0.
 pub fn from_end(begins: &[i64], interval: Interval) -> &[i64]
     requires { IsRising begins.now }
-    ensures part { result.now ≡ filter (is_from (Some (after_end interval.begin interval.end))) begins.now }
+    ensures part { result.now ≡ filter (is_from (Some (after_end interval.begin interval.end)))
+        begins.now }
     ensures rising { IsRising result.now }
 {
     let place = begins.partition_point(|begin| !follows(interval, *begin));
     &begins[place..]
 }
 
-/// Whether a begin stands from the end of an interval on, or strictly after it where the interval has length 0.
+/// Whether a begin stands from the end of an interval on, or strictly after it where the interval
+/// has length 0.
 fn follows(interval: Interval, begin: i64) -> bool
     ensures { result ≡ is_from (Some (after_end interval.begin interval.end)) begin }
 {
@@ -65,8 +68,8 @@ pub fn counting(ends: &[Time], last: Option<Interval>, begin: i64) -> &[Time]
     &ends[place..]
 }
 
-/// Whether an end instance counts for an interval that begins at `begin`: it is not before it, and not equal to it where
-/// the last interval ended there.
+/// Whether an end instance counts for an interval that begins at `begin`: it is not before it, and
+/// not equal to it where the last interval ended there.
 fn counts(last: Option<Interval>, begin: i64, end: Time) -> bool
     ensures { result ≡ counts_from last begin end }
 {

@@ -10,9 +10,10 @@ use super::end::interval_at;
 use super::rising::{from_end, not_passed};
 use smil_model::{Facts, Interval, Restart, Time};
 
-/// The first interval of an element, in milliseconds on its time parent's clock: the least begin is taken, and after each
-/// interval that is not accepted the least begin from its end on. None where no begin is left, or where no interval
-/// begins at one that is taken. SMIL 3.0, "Evaluation of begin and end time lists".
+/// The first interval of an element, in milliseconds on its time parent's clock: the least begin is
+/// taken, and after each interval that is not accepted the least begin from its end on. None where
+/// no begin is left, or where no interval begins at one that is taken. SMIL 3.0, "Evaluation of
+/// begin and end time lists".
 pub fn first_interval(begins: &[i64], ends: &[Time], facts: &Facts) -> Option<Interval>
     requires begins_rise { IsRising begins.now }
     requires ends_rise { IsRisingTimes ends.now }
@@ -29,9 +30,10 @@ pub fn first_interval(begins: &[i64], ends: &[Time], facts: &Facts) -> Option<In
     None
 }
 
-/// The next interval of an element, in milliseconds on its time parent's clock: that of the least begin from the last end
-/// on. None with restart `never`, where no begin is left, where no interval begins at that one, and where no interval has
-/// finished. SMIL 3.0, "Evaluation of begin and end time lists".
+/// The next interval of an element, in milliseconds on its time parent's clock: that of the least
+/// begin from the last end on. None with restart `never`, where no begin is left, where no interval
+/// begins at that one, and where no interval has finished. SMIL 3.0, "Evaluation of begin and end
+/// time lists".
 pub fn next_interval(begins: &[i64], ends: &[Time], facts: &Facts) -> Option<Interval>
     requires begins_rise { IsRising begins.now }
     requires ends_rise { IsRisingTimes ends.now }
@@ -50,7 +52,8 @@ pub fn next_interval(begins: &[i64], ends: &[Time], facts: &Facts) -> Option<Int
 fn interval_from(begins: &[i64], ends: &[Time], facts: &Facts, last: Interval) -> Option<Interval>
     requires begins_rise { IsRising begins.now }
     requires ends_rise { IsRisingTimes ends.now }
-    ensures { result ≡ next_from (Intervals.interval_end facts.now begins.now ends.now) (after_end last.begin last.end) (filter (counts_after facts.now.passed) begins.now) }
+    ensures { result ≡ next_from (Intervals.interval_end facts.now begins.now ends.now)
+        (after_end last.begin last.end) (filter (counts_after facts.now.passed) begins.now) }
 {
     let rest = not_passed(begins, facts.passed);
     match from_end(rest, last).first() {
@@ -59,7 +62,8 @@ fn interval_from(begins: &[i64], ends: &[Time], facts: &Facts, last: Interval) -
     }
 }
 
-/// Whether a first interval is accepted: it ends after the parent's play start, or begins and ends there.
+/// Whether a first interval is accepted: it ends after the parent's play start, or begins and ends
+/// there.
 fn is_accepted(parent_start: i64, interval: Interval) -> bool
     ensures { result ≡ Intervals.is_accepted parent_start interval.begin interval.end }
 {

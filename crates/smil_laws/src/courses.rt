@@ -1,5 +1,5 @@
-//! Laws of courses: what they come to, and when their diary is known. A function here has no code: its
-//! contract is the law.
+//! Laws of courses: what they come to, and when their diary is known. A function here has no code:
+//! its contract is the law.
 
 ghost use Rattle.smil_laws.specs.Courses.{EndedIsDiary, ReachedIsPast, ReachesBack, ReachesFurther, ReachesOverQuiet, TooLongIsFull};
 
@@ -18,7 +18,8 @@ pub fn reaches_further()
     ensures { ReachesFurther }
 {}
 
-/// A course that has heard its log comes to a later moment with the same diary, where nothing comes before it.
+/// A course that has heard its log comes to a later moment with the same diary, where nothing comes
+/// before it.
 pub fn reaches_over_quiet()
     ensures { ReachesOverQuiet }
 {}
@@ -28,7 +29,8 @@ pub fn reaches_back()
     ensures { ReachesBack }
 {}
 
-/// No entry of what a course comes to is later than its moment, and none names a log entry that was not heard.
+/// No entry of what a course comes to is later than its moment, and none names a log entry that was
+/// not heard.
 pub fn reached_is_past()
     ensures { ReachedIsPast }
 {}

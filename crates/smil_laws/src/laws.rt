@@ -9,7 +9,8 @@ ghost use Rattle.smil_laws.specs.Agreement.{AgreesThroughBegin, AgreesUntilBegun
 ghost use Rattle.smil_laws.specs.Image.{ImageHasDiary};
 ghost use Rattle.smil_laws.specs.Migration.{OpeningsMigrate, OutcomesMigrate};
 
-/// The dependencies that are not looped have a rank that rises along each of them, so they have no cycle.
+/// The dependencies that are not looped have a rank that rises along each of them, so they have no
+/// cycle.
 pub fn dependencies_have_rank()
     ensures { DependenciesHaveRank }
 {}
@@ -24,8 +25,8 @@ pub fn agreeing_is_current()
     ensures { AgreeingIsCurrent }
 {}
 
-/// Where no entry is later than the moment, a millisecond later the current intervals, what comes, and the views are the
-/// same.
+/// Where no entry is later than the moment, a millisecond later the current intervals, what comes,
+/// and the views are the same.
 pub fn quiet_changes_nothing()
     ensures { QuietChangesNothing }
 {}
@@ -40,8 +41,8 @@ pub fn unreached_intervals_stay()
     ensures { LeavesUnreached }
 {}
 
-/// Two documents that are the same but for the descendants of one element give, by a lawful diary in which that element
-/// has not begun, the same current intervals and the same next step.
+/// Two documents that are the same but for the descendants of one element give, by a lawful diary
+/// in which that element has not begun, the same current intervals and the same next step.
 pub fn next_step_is_same_before_begin()
     ensures { StepsAgree }
 {}
@@ -51,7 +52,8 @@ pub fn steps_agree_until_begin()
     ensures { AgreesUntilBegun }
 {}
 
-/// So the resolution of the new document comes to the old diary's part through the first begin of the element.
+/// So the resolution of the new document comes to the old diary's part through the first begin of
+/// the element.
 pub fn diaries_agree_through_begin()
     ensures { AgreesThroughBegin }
 {}
@@ -61,7 +63,8 @@ pub fn diaries_are_same_without_begin()
     ensures { SameUnlessBegun }
 {}
 
-/// An edit that leaves references as they are changes the document only below the time parent of the edited node.
+/// An edit that leaves references as they are changes the document only below the time parent of
+/// the edited node.
 pub fn edit_differs_below()
     ensures { EditDiffersBelow }
 {}
@@ -76,12 +79,14 @@ pub fn edit_keeps_diary()
     ensures { EditKeepsDiary }
 {}
 
-/// What a course reaches, it reaches with the part of the log that was heard by then, and up to that moment.
+/// What a course reaches, it reaches with the part of the log that was heard by then, and up to
+/// that moment.
 pub fn reaches_when_cut()
     ensures { ReachesWhenCut }
 {}
 
-/// So a diary that is reached is reached by the part of the log that it names, up to the moment of its last entry.
+/// So a diary that is reached is reached by the part of the log that it names, up to the moment of
+/// its last entry.
 pub fn reaches_by_its_log()
     ensures { ReachesByItsLog }
 {}

@@ -2,8 +2,8 @@
 
 ghost use Rattle.smil_laws.specs.Resolved.{GroupEndsWithBegin, GroupHasEntry, ResolvedChildrenLive, ResolvedIsLawful};
 
-/// The diary of a document and a log is lawful after each step of its resolution, where the last moment is not above the
-/// horizon.
+/// The diary of a document and a log is lawful after each step of its resolution, where the last
+/// moment is not above the horizon.
 pub fn resolved_diaries_are_lawful()
     ensures { ResolvedIsLawful }
 {}

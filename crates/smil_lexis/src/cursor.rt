@@ -86,8 +86,8 @@ impl<'a> Cursor<'a> {
         Ok((from, self.place))
     }
 
-    /// Passes the longest run of digits and gives the places where it begins and ends. Where no digit stands
-    /// next it is refused, and the cursor is as before.
+    /// Passes the longest run of digits and gives the places where it begins and ends. Where no
+    /// digit stands next it is refused, and the cursor is as before.
     pub fn digits(&mut self) -> Result<(usize, usize), BadAt>
         ensures word { result ≡ word_at self.old (prefix_len is_ascii_digit (ahead self.old)) }
         ensures after { self.new ≡ passed (prefix_len is_ascii_digit (ahead self.old)) self.old }
@@ -95,9 +95,9 @@ impl<'a> Cursor<'a> {
         self.word(runs::digits(&self.bytes[self.place..]))
     }
 
-    /// Passes the longest id, as it is written in a reference where `escaped`, and gives the places where it
-    /// begins and ends. Where no id stands next, or one of more than 64 bytes without its backslashes, it is
-    /// refused, and the cursor is as before.
+    /// Passes the longest id, as it is written in a reference where `escaped`, and gives the places
+    /// where it begins and ends. Where no id stands next, or one of more than 64 bytes without its
+    /// backslashes, it is refused, and the cursor is as before.
     pub fn id(&mut self, escaped: bool) -> Result<(usize, usize), BadAt>
         ensures word { result ≡ word_at self.old (id_len escaped (ahead self.old)) }
         ensures after { self.new ≡ passed (id_len escaped (ahead self.old)) self.old }
@@ -105,9 +105,9 @@ impl<'a> Cursor<'a> {
         self.word(runs::id(&self.bytes[self.place..], escaped))
     }
 
-    /// Passes the longest name and gives the places where it begins and ends; `begin`, `end`, `repeat` and
-    /// `indefinite` are names here. Where no name stands next, or one of more than 64 bytes, it is refused,
-    /// and the cursor is as before.
+    /// Passes the longest name and gives the places where it begins and ends; `begin`, `end`,
+    /// `repeat` and `indefinite` are names here. Where no name stands next, or one of more than 64
+    /// bytes, it is refused, and the cursor is as before.
     pub fn name(&mut self) -> Result<(usize, usize), BadAt>
         ensures word { result ≡ word_at self.old (name_len (ahead self.old)) }
         ensures after { self.new ≡ passed (name_len (ahead self.old)) self.old }
@@ -120,25 +120,5 @@ impl<'a> Cursor<'a> {
         ensures { result.now ≡ ahead self.now }
     {
         &self.bytes[self.place..]
-    }
-}
-
-#[cfg(test)]
-mod tests {
-    use super::*;
-
-    #[test]
-    fn goes_on_from_its_place(rt: HostRuntime) {
-        let mut cursor = Cursor::new(b"a1 \t=12x\\.y");
-        assert_eq!(rt; cursor.name(), Ok((0, 2)));
-        assert_eq!(rt; cursor.digits(), Err(BadAt(2)));
-        cursor.space();
-        assert_eq!(rt; cursor.place(), 4);
-        assert!(rt; !cursor.byte(b':'));
-        assert!(rt; cursor.byte(b'='));
-        assert_eq!(rt; cursor.rest().len(), 6);
-        assert_eq!(rt; cursor.digits(), Ok((5, 7)));
-        assert_eq!(rt; cursor.id(true), Ok((7, 11)));
-        assert!(rt; cursor.at_end());
     }
 }

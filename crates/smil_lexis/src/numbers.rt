@@ -80,7 +80,8 @@ pub fn fraction(digits: &[u8], first: u64) -> Option<u64>
 /// A number with an optional fraction; the number is `CAP` where it is above.
 pub fn decimal(text: &[u8], first: u64) -> Option<(u64, u64)>
     requires { first ≤ 1_000_000_000 }
-    ensures parts { result ≡ option_map (λ d. (capped d.0, d.1)) (with_fraction number_of first text.now) }
+    ensures parts { result ≡ option_map (λ d. (capped d.0, d.1))
+        (with_fraction number_of first text.now) }
     ensures bound { IfSome result (λ d. (d.0 ≤ 1_000_000_000_001) × (d.1 ≤ 300 * first)) }
 {
     match cut(text, b'.') {

@@ -126,20 +126,3 @@ pub fn behind(text: &[u8], wanted: u8) -> Option<&[u8]>
         _ => None,
     }
 }
-
-#[cfg(test)]
-mod tests {
-    use super::*;
-    use std::test::Fail;
-
-    #[test]
-    fn copies(rt: HostRuntime) -> Result<(), Fail> {
-        let mut text = unescaped(rt.alloc(), b"a\\.b")?;
-        assert_eq!(rt; text.slice(), b"a.b".as_slice());
-        append(&mut text, b"=1")?;
-        assert_eq!(rt; text.slice(), b"a.b=1".as_slice());
-        let copy = copied(rt.alloc(), b"\\x")?;
-        assert_eq!(rt; copy.slice(), b"\\x".as_slice());
-        Ok(())
-    }
-}

@@ -5,8 +5,8 @@ use super::listed::{Bytes, Listed};
 use std::alloc::AllocError;
 use std::mem::size_of;
 
-/// What came from outside: an event on the element with the serial `who`, the length of its media in milliseconds, or a
-/// press of an access key, one byte.
+/// What came from outside: an event on the element with the serial `who`, the length of its media
+/// in milliseconds, or a press of an access key, one byte.
 #[derive(Debug, PartialEq, Drop)]
 pub enum Happening {
     Event { who: u32, name: Bytes },
@@ -49,8 +49,9 @@ impl Duplicate for LogEntry {
 /// What came from outside, in order.
 pub type Log = Listed<LogEntry>;
 
-/// What happened to the element with the serial `who`, or which log entry was heard. A begin, an end and a deferred or
-/// passed begin are on the time parent's clock, the start of an iteration on the element's own, in milliseconds.
+/// What happened to the element with the serial `who`, or which log entry was heard. A begin, an
+/// end and a deferred or passed begin are on the time parent's clock, the start of an iteration on
+/// the element's own, in milliseconds.
 #[derive(Clone, Copy, Debug, PartialEq, Eq)]
 pub enum Step {
     /// It began with this begin.

@@ -9,9 +9,10 @@ use super::times::Time;
 use std::alloc::{AllocError, Global};
 use std::marker::Model;
 
-/// The kind of a node: a time container, the priorityClass of an excl, still media, continuous media, or a `set`, which
-/// sets an attribute of another node while it plays. A priorityClass has no times of its own (SMIL 3.0 Timing, the
-/// elements `par`, `seq`, `excl` and `priorityClass`; SMIL 3.0 Animation, the element `set`).
+/// The kind of a node: a time container, the priorityClass of an excl, still media, continuous
+/// media, or a `set`, which sets an attribute of another node while it plays. A priorityClass has
+/// no times of its own (SMIL 3.0 Timing, the elements `par`, `seq`, `excl` and `priorityClass`;
+/// SMIL 3.0 Animation, the element `set`).
 #[derive(Clone, Copy, Debug, PartialEq, Eq)]
 pub enum Kind {
     Par,
@@ -33,8 +34,8 @@ impl Kind {
     ghost use Rattle.std.specs.Prelude.{not};
     ghost use Rattle.smil_model.specs.document.Document.{is_class_kind};
 
-    /// Whether a node of this kind is an element, which has times and a view: each is, but a priorityClass. It has no
-    /// condition and takes no memory.
+    /// Whether a node of this kind is an element, which has times and a view: each is, but a
+    /// priorityClass. It has no condition and takes no memory.
     pub fn is_element(self) -> bool
         ensures { result ≡ not (is_class_kind self) }
     {
@@ -49,7 +50,8 @@ pub enum Edge {
     End,
 }
 
-/// An item of a begin or end list, with an offset in milliseconds (SMIL 3.0 Timing, the `begin` and `end` attributes).
+/// An item of a begin or end list, with an offset in milliseconds (SMIL 3.0 Timing, the `begin` and
+/// `end` attributes).
 #[derive(Debug, PartialEq, Drop)]
 pub enum Item {
     /// An offset alone, from the play start of the time parent.
@@ -68,7 +70,8 @@ pub enum Item {
         name: Bytes,
         offset: i64,
     },
-    /// The begin of iteration `n`, from 0, of the element with the id `who`, or of the element itself.
+    /// The begin of iteration `n`, from 0, of the element with the id `who`, or of the element
+    /// itself.
     Repeat {
         who: Option<Bytes>,
         n: u32,
@@ -141,7 +144,8 @@ impl Items {
         Ok(Items { items })
     }
 
-    /// Appends an item to a list of fewer than 32 items. Where memory runs out the list is as before.
+    /// Appends an item to a list of fewer than 32 items. Where memory runs out the list is as
+    /// before.
     pub fn push(&mut self, item: Item) -> Result<(), AllocError>
         requires { length self.old < ITEMS }
         ensures ok { OnOk result (self.new ≡ self.old ++ item ∷ []) }
@@ -157,7 +161,8 @@ impl Items {
         self.items.len()
     }
 
-    /// The item at a place from 0; None exactly where the place is not below the length. It takes no memory.
+    /// The item at a place from 0; None exactly where the place is not below the length. It takes
+    /// no memory.
     pub fn get(&self, place: usize) -> Option<&Item>
         ensures { option_copied result ≡ slice_get self.now place }
     {
@@ -198,7 +203,8 @@ pub enum Count {
     Indefinite,
 }
 
-/// A value of `restart`: whether the element may begin again (SMIL 3.0 Timing, the `restart` attribute).
+/// A value of `restart`: whether the element may begin again (SMIL 3.0 Timing, the `restart`
+/// attribute).
 #[derive(Clone, Copy, Debug, PartialEq, Eq)]
 pub enum Restart {
     Always,
@@ -208,8 +214,8 @@ pub enum Restart {
     ByDefault,
 }
 
-/// A value of `restartDefault`: the restart of the element and its descendants that state none (SMIL 3.0 Timing, the
-/// `restartDefault` attribute).
+/// A value of `restartDefault`: the restart of the element and its descendants that state none
+/// (SMIL 3.0 Timing, the `restartDefault` attribute).
 #[derive(Clone, Copy, Debug, PartialEq, Eq)]
 pub enum RestartDefault {
     Always,
@@ -230,8 +236,8 @@ pub enum Fill {
     ByDefault,
 }
 
-/// A value of `fillDefault`: the fill of the element and its descendants that state none (SMIL 3.0 Timing, the
-/// `fillDefault` attribute).
+/// A value of `fillDefault`: the fill of the element and its descendants that state none (SMIL 3.0
+/// Timing, the `fillDefault` attribute).
 #[derive(Clone, Copy, Debug, PartialEq, Eq)]
 pub enum FillDefault {
     Remove,
@@ -242,8 +248,8 @@ pub enum FillDefault {
     Inherit,
 }
 
-/// A value of `endsync`: the child or the children whose ends decide the implicit duration of a container (SMIL 3.0
-/// Timing, the `endsync` attribute).
+/// A value of `endsync`: the child or the children whose ends decide the implicit duration of a
+/// container (SMIL 3.0 Timing, the `endsync` attribute).
 #[derive(Debug, PartialEq, Drop)]
 pub enum Endsync {
     Last,
@@ -264,8 +270,8 @@ impl Duplicate for Endsync {
     }
 }
 
-/// What an excl does when a child begins while another plays: it stops or pauses the playing child, or defers the
-/// newcomer or passes it over (SMIL 3.0 Timing, the `priorityClass` element).
+/// What an excl does when a child begins while another plays: it stops or pauses the playing child,
+/// or defers the newcomer or passes it over (SMIL 3.0 Timing, the `priorityClass` element).
 #[derive(Clone, Copy, Debug, PartialEq, Eq)]
 pub enum Act {
     Stop,
@@ -274,7 +280,8 @@ pub enum Act {
     Never,
 }
 
-/// The attributes of a node, each with its value or absent. `min`, `max` and `repeat_dur` are in milliseconds.
+/// The attributes of a node, each with its value or absent. `min`, `max` and `repeat_dur` are in
+/// milliseconds.
 #[derive(Debug, PartialEq, Drop)]
 pub struct Attrs {
     pub id: Option<Bytes>,
@@ -367,8 +374,9 @@ impl Duplicate for Attrs {
     }
 }
 
-/// A node of a document, with its serial and that of its parent; the parent of the root is 0. Serials are from 1 and are
-/// not given twice; where an outline states none, they are given in document order.
+/// A node of a document, with its serial and that of its parent; the parent of the root is 0.
+/// Serials are from 1 and are not given twice; where an outline states none, they are given in
+/// document order.
 #[derive(Debug, PartialEq, Drop)]
 pub struct Node {
     pub serial: u32,
@@ -475,7 +483,8 @@ impl Doc {
         }
     }
 
-    /// Appends a node at the end of the document order. Where memory runs out the document is as before.
+    /// Appends a node at the end of the document order. Where memory runs out the document is as
+    /// before.
     pub fn push(&mut self, node: Node) -> Result<(), AllocError>
         ensures ok { OnOk result (self.new ≡ with_node self.old node) }
         ensures err { OnErr result (self.new ≡ self.old) }
@@ -490,8 +499,8 @@ impl Doc {
         self.nodes.len()
     }
 
-    /// The node at a place in document order from 0; None exactly where the place is not below the number of nodes. It
-    /// takes no memory.
+    /// The node at a place in document order from 0; None exactly where the place is not below the
+    /// number of nodes. It takes no memory.
     pub fn get(&self, place: usize) -> Option<&Node>
         ensures { option_copied result ≡ slice_get self.now.nodes place }
     {

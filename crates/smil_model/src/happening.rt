@@ -2,13 +2,14 @@
 
 use super::document::Act;
 
-/// The key of a begin, an end or a repeat that is to happen. Keys are compared by moment, then by class, then by place.
+/// The key of a begin, an end or a repeat that is to happen. Keys are compared by moment, then by
+/// class, then by place.
 #[derive(Clone, Copy, Debug, PartialEq, Eq)]
 pub struct Key {
     /// The moment, in milliseconds of document time.
     pub value: i64,
-    /// 1 for a repeat and for the end of an interval of positive length, 2 for a begin, 3 for the end of an interval of
-    /// length 0.
+    /// 1 for a repeat and for the end of an interval of positive length, 2 for a begin, 3 for the
+    /// end of an interval of length 0.
     pub class: u8,
     /// The place of the element among the elements, in document order from 0.
     pub position: u32,

@@ -1,4 +1,5 @@
-//! What the timing engine and the program around it speak of: times, documents, diaries, views and orders.
+//! What the timing engine and the program around it speak of: times, documents, diaries, views and
+//! orders.
 #![tactic(auto)]
 
 pub mod attributes;

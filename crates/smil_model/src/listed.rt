@@ -75,7 +75,8 @@ impl<T: Drop> Listed<T> {
         self.items.len()
     }
 
-    /// The element at a place from 0; None exactly where the place is not below the length. It takes no memory.
+    /// The element at a place from 0; None exactly where the place is not below the length. It
+    /// takes no memory.
     pub fn get(&self, place: usize) -> Option<&T>
         ensures { option_copied result ≡ slice_get self.now place }
     {

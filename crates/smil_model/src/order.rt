@@ -22,8 +22,9 @@ impl Duplicate for Who {
     }
 }
 
-/// An order to a presentation. Moments and lengths are in milliseconds of document time. `attr_column` is the column of
-/// the attribute's name in the order's line, and `column` that of the value or of the node, in bytes from 1.
+/// An order to a presentation. Moments and lengths are in milliseconds of document time.
+/// `attr_column` is the column of the attribute's name in the order's line, and `column` that of
+/// the value or of the node, in bytes from 1.
 #[derive(Debug, PartialEq, Drop)]
 pub enum Order {
     /// Moves on by a length.
@@ -105,28 +106,31 @@ pub enum Refusal {
     UnfinishedLoad,
     /// A node line has no reading, or, at the `%%` line, the outline has no node.
     BadOutline,
-    /// A node is more than one level deeper than the node before, or the first node is not at depth 0.
+    /// A node is more than one level deeper than the node before, or the first node is not at depth
+    /// 0.
     DepthJump,
     /// A node has depth 32 or more, the root having depth 0.
     TooDeep,
-    /// A node may not stand there: a second root, a root that is no par, seq or excl, a child of a media element, a
-    /// priorityClass outside an excl or inside another, an excl that would mix priorityClass elements with other
-    /// children, or a place that is not from 1 to the number of children plus 1. Also an event or a history of a
-    /// priorityClass.
+    /// A node may not stand there: a second root, a root that is no par, seq or excl, a child of a
+    /// media element, a priorityClass outside an excl or inside another, an excl that would mix
+    /// priorityClass elements with other children, or a place that is not from 1 to the number of
+    /// children plus 1. Also an event or a history of a priorityClass.
     BadPlace,
-    /// The kind of the node does not have the attribute, and it is none of those that are refused as unsupported. The
-    /// column is that of the name.
+    /// The kind of the node does not have the attribute, and it is none of those that are refused
+    /// as unsupported. The column is that of the name.
     UnknownAttribute { column: u32 },
-    /// An element, an attribute, a value or an item of SMIL 3.0 that this profile leaves out. The column is where it stands.
+    /// An element, an attribute, a value or an item of SMIL 3.0 that this profile leaves out. The
+    /// column is where it stands.
     Unsupported { column: u32 },
-    /// The value of the attribute has no reading. The column is that of the first faulty item in a begin or end list, and
-    /// otherwise that of the value.
+    /// The value of the attribute has no reading. The column is that of the first faulty item in a
+    /// begin or end list, and otherwise that of the value.
     BadValue { column: u32 },
     /// A begin or end list has more than 32 items. The column is that of the value.
     TooManyItems { column: u32 },
     /// Another node has the id.
     DuplicateId,
-    /// The document would have more than 8,000 nodes, or a node is inserted where the next serial is 999,999,999.
+    /// The document would have more than 8,000 nodes, or a node is inserted where the next serial
+    /// is 999,999,999.
     TooManyElements,
     /// The document would have more than 32,000 items other than offsets and `indefinite`.
     TooManyReferences,

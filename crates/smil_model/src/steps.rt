@@ -23,8 +23,9 @@ impl<L: Ledger> Model for Steps<L> {
 }
 
 impl<L: Ledger> Steps<L> {
-    /// No evaluation yet. The ledger is that of the blank, of one part at least: a caller that counts nothing passes
-    /// `Blank::new(1)` to a function over `L: Ledger`, which makes its count here.
+    /// No evaluation yet. The ledger is that of the blank, of one part at least: a caller that
+    /// counts nothing passes `Blank::new(1)` to a function over `L: Ledger`, which makes its count
+    /// here.
     pub fn new(blank: Blank) -> Steps<L>
         requires name { blank.name ≡ L.name }
         requires parts { blank.parts ≡ L.parts }

@@ -6,8 +6,9 @@ ghost use Rattle.smil_model.specs.Times.{later_time, least_time, greatest_time};
 /// The latest moment and the greatest time value, in milliseconds.
 pub const HORIZON: i64 = 1_000_000_000_000;
 
-/// A time value. Numbers stand below indefinite, and indefinite below unresolved (SMIL 3.0 Timing, computing the active
-/// duration). The place where the value stands says on which clock a number is.
+/// A time value. Numbers stand below indefinite, and indefinite below unresolved (SMIL 3.0 Timing,
+/// computing the active duration). The place where the value stands says on which clock a number
+/// is.
 #[derive(Clone, Copy, Debug, PartialEq, Eq)]
 pub enum Time {
     /// A number of milliseconds, which may be negative.
@@ -18,8 +19,9 @@ pub enum Time {
     Unresolved,
 }
 
-/// The time `by` milliseconds later. A sum above the horizon is indefinite, and one below minus the horizon is minus the
-/// horizon. Indefinite and unresolved stay. It has no condition and takes no memory.
+/// The time `by` milliseconds later. A sum above the horizon is indefinite, and one below minus the
+/// horizon is minus the horizon. Indefinite and unresolved stay. It has no condition and takes no
+/// memory.
 pub fn later(time: Time, by: i64) -> Time
     ensures { result ≡ later_time time by }
 {
@@ -38,7 +40,8 @@ pub fn later(time: Time, by: i64) -> Time
     }
 }
 
-/// The lesser of two times, in the order number, indefinite, unresolved. It has no condition and takes no memory.
+/// The lesser of two times, in the order number, indefinite, unresolved. It has no condition and
+/// takes no memory.
 pub fn least(a: Time, b: Time) -> Time
     ensures { result ≡ least_time a b }
 {
@@ -55,7 +58,8 @@ pub fn least(a: Time, b: Time) -> Time
     }
 }
 
-/// The greater of two times, in the order number, indefinite, unresolved. It has no condition and takes no memory.
+/// The greater of two times, in the order number, indefinite, unresolved. It has no condition and
+/// takes no memory.
 pub fn greatest(a: Time, b: Time) -> Time
     ensures { result ≡ greatest_time a b }
 {

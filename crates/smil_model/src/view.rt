@@ -18,7 +18,8 @@ pub enum State {
     Done,
 }
 
-/// A time as it is shown: no time, a number of milliseconds of document time, a word, or that its clock stands.
+/// A time as it is shown: no time, a number of milliseconds of document time, a word, or that its
+/// clock stands.
 #[derive(Clone, Copy, Debug, PartialEq, Eq)]
 pub enum Shown {
     Nothing,
@@ -28,8 +29,8 @@ pub enum Shown {
     Standing,
 }
 
-/// What is shown of an element at a moment, in milliseconds of document time: its state, its interval, the iteration from
-/// 0, and how many intervals have finished since birth.
+/// What is shown of an element at a moment, in milliseconds of document time: its state, its
+/// interval, the iteration from 0, and how many intervals have finished since birth.
 #[derive(Clone, Copy, Debug, PartialEq, Eq)]
 pub struct View {
     pub serial: u32,
@@ -40,8 +41,8 @@ pub struct View {
     pub finished: u32,
 }
 
-/// What the view of an element follows from. `deferred`, `begun` and `last` are in document time, and `interval` is on the
-/// time parent's clock.
+/// What the view of an element follows from. `deferred`, `begun` and `last` are in document time,
+/// and `interval` is on the time parent's clock.
 #[derive(Clone, Copy, Debug, PartialEq, Eq)]
 pub struct ViewFacts {
     pub serial: u32,
@@ -72,8 +73,9 @@ pub struct ViewFacts {
     pub finished: u32,
 }
 
-/// What a `set` that plays, or is frozen, sets: an attribute of the node with the serial `target`, since a begin in
-/// milliseconds of document time. `position` is the place of the `set` among the nodes, in document order from 0.
+/// What a `set` that plays, or is frozen, sets: an attribute of the node with the serial `target`,
+/// since a begin in milliseconds of document time. `position` is the place of the `set` among the
+/// nodes, in document order from 0.
 #[derive(Debug, PartialEq, Drop)]
 pub struct Layer {
     pub target: u32,

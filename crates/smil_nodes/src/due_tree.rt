@@ -63,8 +63,8 @@ impl DueTree {
         decide_above(&mut self.places, self.half, place);
     }
 
-    /// The least key, which happens first; of equal ones the first. None exactly where no slot has a
-    /// key. It takes no memory.
+    /// The least key, which happens first; of equal ones the first. None exactly where no slot has
+    /// a key. It takes no memory.
     pub fn least(&self) -> Option<Key>
         ensures { result ≡ least_key (keys_in self.now) }
     {

@@ -148,7 +148,8 @@ impl LiveTable {
         ensures current { OnOk result (AreCurrent self.new.schedule (history_of past.now) moment) }
         ensures has_mark { self.new.has_mark ≡ self.old.has_mark }
         ensures counted { steps.old ≤ steps.new }
-        ensures steps { OnOk result (steps.new ≡ steps.old + length (elements past.now.document.nodes)) }
+        ensures steps { OnOk result (steps.new ≡ steps.old
+            + length (elements past.now.document.nodes)) }
         ensures most { steps.new ≤ steps.old + length (elements past.now.document.nodes) }
     {
         past.possible();
@@ -169,8 +170,10 @@ impl LiveTable {
         requires element { has_element past.now.document.nodes who ≡ true }
         requires moment { IsPresent past.now moment }
         requires of_elements { AreOfElements past.now.document.nodes self.old.schedule }
-        ensures taken { OnOk result (IsTaken (history_of past.now) moment who self.old.schedule self.new.schedule) }
-        ensures same { IfOk result (λ changes. changes ≡ false → HasSame who self.old.schedule self.new.schedule) }
+        ensures taken { OnOk result (IsTaken (history_of past.now) moment who self.old.schedule
+            self.new.schedule) }
+        ensures same { IfOk result (λ changes. changes ≡ false
+            → HasSame who self.old.schedule self.new.schedule) }
         ensures agenda { self.new.agenda ≡ self.old.agenda }
         ensures back { GoesBack self.old self.new }
         ensures has_mark { self.new.has_mark ≡ self.old.has_mark }
@@ -196,7 +199,8 @@ impl LiveTable {
 
     // Puts a row in the place of the one that its element has, which is noted where a mark stands.
     fn replace(&mut self, place: usize, row: Row) -> Result<(), AllocError>
-        requires place { position (λ (r : AnyRow). r.serial == row.serial) self.old.schedule ≡ Some place }
+        requires place { position (λ (r : AnyRow). r.serial == row.serial) self.old.schedule
+            ≡ Some place }
         requires near { IfSome row.interval IsIntervalNear }
         ensures put { OnOk result (self.new.schedule ≡ slice_set self.old.schedule place row) }
         ensures back { GoesBack self.old self.new }

@@ -15,8 +15,8 @@ use smil_tree::Tree;
 use std::alloc::{AllocError, Global};
 
 /// Lists the ranks, in the order of the document's graph, of the elements that the entries from a
-/// place on touch, and for a press of a key those of its whole reach. Where memory runs out some may
-/// be listed. It takes time for what is below the entries' elements and for what reads these.
+/// place on touch, and for a press of a key those of its whole reach. Where memory runs out some
+/// may be listed. It takes time for what is below the entries' elements and for what reads these.
 pub fn note_touched(
     alloc: Global,
     past: &Past,
@@ -56,7 +56,8 @@ fn note_step(
 
 // Lists the reach of a key.
 fn note_reach(alloc: Global, graph: &Graph, key: u8, agenda: &mut Agenda) -> Result<(), AllocError>
-    ensures { OnOk result (AreNoted graph.now.order (has (down_key graph.now.nodes key)) agenda.old agenda.new) }
+    ensures { OnOk result (AreNoted graph.now.order (has (down_key graph.now.nodes key)) agenda.old
+        agenda.new) }
 {
     let mut reach = Serials::new(alloc);
     graph.down_key(key, &mut reach)?;
@@ -85,7 +86,8 @@ fn note_within(tree: &Tree, graph: &Graph, who: u32, agenda: &mut Agenda) -> Res
 
 // Lists an element and what reads it; nothing for a serial of no element.
 fn note_element(graph: &Graph, serial: u32, agenda: &mut Agenda) -> Result<(), AllocError>
-    ensures { OnOk result (AreNoted graph.now.order (is_self_or_reader graph.now.nodes serial) agenda.old agenda.new) }
+    ensures { OnOk result (AreNoted graph.now.order (is_self_or_reader graph.now.nodes serial)
+        agenda.old agenda.new) }
 {
     order_is_kept(graph);
     let Some(rank) = graph.place_in_order(serial) else {

@@ -15,38 +15,49 @@ ghost use Rattle.smil_outline.specs.Numbered.{renumbered};
 ghost use Rattle.smil_outline.specs.Written.{saved_lines};
 ghost use Rattle.smil_outline.specs.Migration.{LinesMigrate, OutlinesMigrate};
 
-/// Attributes fit the kinds of a node and its parent exactly where each that is there is one of the kind's and some
-/// text is read as it.
+/// Attributes fit the kinds of a node and its parent exactly where each that is there is one of the
+/// kind's and some text is read as it.
 pub fn attrs_fit()
-    ensures can_write { (kind : Kind) (parent : Option Kind) (attrs : Attrs) → fit_kind kind parent attrs ≡ true → IsAttrs (is_seq parent) kind attrs }
-    ensures is_read { (kind : Kind) (parent : Option Kind) (attrs : Attrs) → IsAttrs (is_seq parent) kind attrs → fit_kind kind parent attrs ≡ true }
+    ensures can_write { (kind : Kind) (parent : Option Kind) (attrs : Attrs)
+        → fit_kind kind parent attrs ≡ true → IsAttrs (is_seq parent) kind attrs }
+    ensures is_read { (kind : Kind) (parent : Option Kind) (attrs : Attrs)
+        → IsAttrs (is_seq parent) kind attrs → fit_kind kind parent attrs ≡ true }
 {}
 
-/// The canonical outline of a valid document, cut at its line feeds, is its node lines and an empty rest. No line
-/// has a control character, so no carriage return either.
+/// The canonical outline of a valid document, cut at its line feeds, is its node lines and an empty
+/// rest. No line has a control character, so no carriage return either.
 pub fn outline_lines()
-    ensures cut { (document : Document) → IsValid document → slice_split (λ b. b == 10) (outline_text document.nodes) ≡ lines_from [] document.nodes ++ [] ∷ [] }
-    ensures shown { (document : Document) → IsValid document → All (All (λ (b : ℕ). 32 ≤ b)) (lines_from [] document.nodes) }
+    ensures cut { (document : Document) → IsValid document
+        → slice_split (λ b. b == 10) (outline_text document.nodes) ≡ lines_from [] document.nodes
+        ++ [] ∷ [] }
+    ensures shown { (document : Document) → IsValid document
+        → All (All (λ (b : ℕ). 32 ≤ b)) (lines_from [] document.nodes) }
 {}
 
-/// The canonical outline of a valid document none of whose lines has more than 16,384 bytes is read as the same
-/// document, with serials from 1 in document order.
+/// The canonical outline of a valid document none of whose lines has more than 16,384 bytes is read
+/// as the same document, with serials from 1 in document order.
 pub fn outline_again()
-    ensures { (document : Document) → IsValid document → All (λ (line : List ℕ). length line ≤ LINE_BYTES) (lines_from [] document.nodes) → outline_of (lines_from [] document.nodes) ≡ Ok (renumbered document.nodes) }
+    ensures { (document : Document) → IsValid document
+        → All (λ (line : List ℕ). length line ≤ LINE_BYTES) (lines_from [] document.nodes)
+        → outline_of (lines_from [] document.nodes) ≡ Ok (renumbered document.nodes) }
 {}
 
-/// What is saved of a valid document is read as that document, with its serials and its next serial, where no line of it
-/// has more than 16,384 bytes.
+/// What is saved of a valid document is read as that document, with its serials and its next
+/// serial, where no line of it has more than 16,384 bytes.
 pub fn saved_again()
-    ensures { (document : Document) → IsValid document → All (λ (line : List ℕ). length line ≤ LINE_BYTES) (saved_lines document) → outline_of (saved_lines document) ≡ Ok document }
+    ensures { (document : Document) → IsValid document
+        → All (λ (line : List ℕ). length line ≤ LINE_BYTES) (saved_lines document)
+        → outline_of (saved_lines document) ≡ Ok document }
 {}
 
 /// What an outline is read as is a valid document.
 pub fn outline_valid()
-    ensures { (lines : List (List ℕ)) (document : Document) → outline_of lines ≡ Ok document → IsValid document }
+    ensures { (lines : List (List ℕ)) (document : Document) → outline_of lines ≡ Ok document
+        → IsValid document }
 {}
 
-/// Within larger limits a line, and an outline, is read as within smaller ones, where it is refused for none of them.
+/// Within larger limits a line, and an outline, is read as within smaller ones, where it is refused
+/// for none of them.
 pub fn outlines_migrate()
     ensures lines { LinesMigrate }
     ensures outlines { OutlinesMigrate }

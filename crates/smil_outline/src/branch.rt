@@ -6,7 +6,8 @@ ghost use Rattle.smil_grammar.specs.Outlines.{last_of};
 use smil_model::{DEPTH, Kind};
 use std::marker::Model;
 
-/// The serials and kinds of the last node and those above it, from the root down. It takes no memory.
+/// The serials and kinds of the last node and those above it, from the root down. It takes no
+/// memory.
 #[derive(Drop)]
 pub struct Branch {
     levels: [(u32, Kind); DEPTH],

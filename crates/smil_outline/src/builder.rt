@@ -21,8 +21,8 @@ use smil_model::{Attrs, DEPTH, Doc, Duplicate, Kind, LINE_BYTES, NODES, Node, Re
 use std::alloc::{AllocError, Global};
 use std::marker::Model;
 
-/// Reads an outline line by line, seen as the nodes so far, the serials and kinds of the last node and those above
-/// it, from the root down, and the next serial where a header gives it.
+/// Reads an outline line by line, seen as the nodes so far, the serials and kinds of the last node
+/// and those above it, from the root down, and the next serial where a header gives it.
 #[derive(Drop)]
 pub struct Builder {
     alloc: Global,
@@ -125,8 +125,8 @@ impl Builder {
         self.next.is_none() && self.nodes.len() == 0 && is(word, b"outline")
     }
 
-    // A node line without its leading spaces: its serial, which it gives or which is the next in document order, and
-    // its shape.
+    // A node line without its leading spaces: its serial, which it gives or which is the next in
+    // document order, and its shape.
     fn shape<'a>(&self, text: &'a [u8]) -> Option<(u32, Shape<'a>)>
         requires { length text.now ≤ LINE_BYTES }
         ensures reading { result ≡ shape_in self.now self.now.next text.now }
@@ -175,8 +175,9 @@ impl Builder {
         Ok(kind)
     }
 
-    // Whether the node above has children that can't stand beside one of this kind: priorityClass elements beside
-    // others. Those that it has are all like the last of them, which is on the branch.
+    // Whether the node above has children that can't stand beside one of this kind: priorityClass
+    // elements beside others. Those that it has are all like the last of them, which is on the
+    // branch.
     fn mixes(&self, depth: usize, kind: Kind) -> bool
         requires { depth ≤ length self.now.branch }
         ensures { result ≡ mixes_among self.now.nodes (last_of (take depth self.now.branch)) kind }
@@ -213,8 +214,10 @@ impl Builder {
         requires inside { IsInLine shape.now }
         requires near { spaces / 2 ≤ length self.now.branch }
         requires parent { parent ≡ last_of (take (spaces / 2) self.now.branch) }
-        ensures reading { GivesReading result (attrs_at self.now spaces (take (spaces / 2) self.now.branch) kind shape.now) }
-        ensures placed { OnOk result (is_misplaced_in self.now (take (spaces / 2) self.now.branch) kind ≡ false) }
+        ensures reading { GivesReading result
+            (attrs_at self.now spaces (take (spaces / 2) self.now.branch) kind shape.now) }
+        ensures placed { OnOk result (is_misplaced_in self.now (take (spaces / 2) self.now.branch)
+            kind ≡ false) }
     {
         if self.is_misplaced(spaces / 2, parent, kind) {
             return Err(Refusal::BadPlace);
@@ -231,7 +234,8 @@ impl Builder {
         attrs: Attrs,
     ) -> Result<Node, Refusal>
         ensures reading { result ≡ node_with_attrs self.now.nodes serial parent kind attrs }
-        ensures light { IfOk result (λ node. all_references self.now.nodes + references_of node.attrs ≤ REFERENCES) }
+        ensures light { IfOk result (λ node. all_references self.now.nodes
+            + references_of node.attrs ≤ REFERENCES) }
         ensures few { IfOk result (λ node. length self.now.nodes < NODES) }
         ensures serial { IfOk result (λ node. node.serial ≡ serial) }
         ensures parent { IfOk result (λ node. node.parent ≡ serial_of parent) }
@@ -258,15 +262,19 @@ impl Builder {
     fn line(&self, spaces: usize, serial: u32, shape: &Shape<'_>) -> Result<Node, Refusal>
         requires short { spaces ≤ LINE_BYTES }
         requires inside { IsInLine shape.now }
-        ensures reading { GivesReading (node_kept self.now (spaces / 2) result) (shape_within limits self.now spaces (Some (serial, shape.now))) }
+        ensures reading { GivesReading (node_kept self.now (spaces / 2) result)
+            (shape_within limits self.now spaces (Some (serial, shape.now))) }
         ensures near { OnOk result (spaces / 2 ≤ length self.now.branch) }
         ensures flat { OnOk result (spaces / 2 < DEPTH) }
         ensures fresh { OnOk result (is_bad_serial_in self.now self.now.next serial ≡ false) }
-        ensures light { IfOk result (λ node. all_references self.now.nodes + references_of node.attrs ≤ REFERENCES) }
+        ensures light { IfOk result (λ node. all_references self.now.nodes
+            + references_of node.attrs ≤ REFERENCES) }
         ensures few { IfOk result (λ node. length self.now.nodes < NODES) }
         ensures serial { IfOk result (λ node. node.serial ≡ serial) }
-        ensures parent { IfOk result (λ node. node.parent ≡ serial_of (last_of (take (spaces / 2) self.now.branch))) }
-        ensures unmixed { IfOk result (λ node. mixes_among self.now.nodes (last_of (take (spaces / 2) self.now.branch)) node.kind ≡ false) }
+        ensures parent { IfOk result (λ node. node.parent
+            ≡ serial_of (last_of (take (spaces / 2) self.now.branch))) }
+        ensures unmixed { IfOk result (λ node. mixes_among self.now.nodes
+            (last_of (take (spaces / 2) self.now.branch)) node.kind ≡ false) }
     {
         let kind = self.kind(spaces, serial, shape)?;
         let parent = self.branch.above(spaces / 2);
@@ -311,20 +319,23 @@ impl Builder {
         Ok(())
     }
 
-    /// Reads one more line, without its line feed: a header, as the first line alone, or a node line.
+    /// Reads one more line, without its line feed: a header, as the first line alone, or a node
+    /// line.
     ///
-    /// The header `outline 2 next M` makes it an outline of version 2, whose node lines give their serials, each below
-    /// `M`, which is the next serial. Without it the serials are the places in document order, from 1. A node line has
-    /// two spaces for each level, the kind, in version 2 the serial as ` #7`, and attributes.
+    /// The header `outline 2 next M` makes it an outline of version 2, whose node lines give their
+    /// serials, each below `M`, which is the next serial. Without it the serials are the places in
+    /// document order, from 1. A node line has two spaces for each level, the kind, in version 2
+    /// the serial as ` #7`, and attributes.
     ///
-    /// Refused, in this order: `LongLine` above 16,384 bytes; `BadOutline` for a first line whose first word is
-    /// `outline` that is no header, and for a line that isn't of the shape of a node line, has no serial in version 2,
-    /// or has an odd number of spaces before it, a name twice or an unknown kind; `Unsupported` for a kind that is left
-    /// out; `BadSerial` in version 2 for a serial that isn't below the header's number, or that a node has already;
-    /// `DepthJump` more than one level below the line before; `TooDeep` at depth 32; `BadPlace` for a second root, or
-    /// where the parent can't have such a child; an attribute's fault, with its column in the line from 1;
-    /// `DuplicateId`; `TooManyElements` behind 8,000 nodes; `TooManyReferences` above 32,000. `Memory` may come at any
-    /// node line. After a refusal the builder is as before.
+    /// Refused, in this order: `LongLine` above 16,384 bytes; `BadOutline` for a first line whose
+    /// first word is `outline` that is no header, and for a line that isn't of the shape of a node
+    /// line, has no serial in version 2, or has an odd number of spaces before it, a name twice or
+    /// an unknown kind; `Unsupported` for a kind that is left out; `BadSerial` in version 2 for a
+    /// serial that isn't below the header's number, or that a node has already; `DepthJump` more
+    /// than one level below the line before; `TooDeep` at depth 32; `BadPlace` for a second root,
+    /// or where the parent can't have such a child; an attribute's fault, with its column in the
+    /// line from 1; `DuplicateId`; `TooManyElements` behind 8,000 nodes; `TooManyReferences` above
+    /// 32,000. `Memory` may come at any node line. After a refusal the builder is as before.
     pub fn push(&mut self, line: &[u8]) -> Result<(), Refusal>
         ensures ok { OnOk result (with_line self.old line.now ≡ Ok self.new) }
         ensures refusal { IfErr result (GivesRefusal (with_line self.old line.now)) }
@@ -339,8 +350,9 @@ impl Builder {
         self.add(line)
     }
 
-    /// The document of the lines so far. Its next serial is the header's, or one more than it has nodes. `BadOutline`
-    /// exactly where no node line was read; `Memory` may come where there was one. The document is valid.
+    /// The document of the lines so far. Its next serial is the header's, or one more than it has
+    /// nodes. `BadOutline` exactly where no node line was read; `Memory` may come where there was
+    /// one. The document is valid.
     pub fn finish(self) -> Result<Doc, Refusal>
         ensures document { GivesDocument result (ended self) }
         ensures valid { IfOk result IsValid }
@@ -371,26 +383,5 @@ impl Builder {
             }
         }
         Ok(doc)
-    }
-}
-
-#[cfg(test)]
-mod tests {
-    use super::*;
-    use std::test::Fail;
-
-    #[test]
-    fn reads_serials(rt: HostRuntime) -> Result<(), Fail> {
-        let mut builder = Builder::new(rt.alloc())?;
-        builder.push(b"outline 2 next 9")?;
-        builder.push(b"par #3")?;
-        builder.push(b"  img #1")?;
-        assert_eq!(rt; builder.push(b"  img #3"), Err(Refusal::BadSerial));
-        assert_eq!(rt; builder.push(b"  img #9"), Err(Refusal::BadSerial));
-        assert_eq!(rt; builder.version(), 2);
-        let doc = builder.finish()?;
-        assert_eq!(rt; doc.len(), 2);
-        assert_eq!(rt; doc.next(), 9);
-        Ok(())
     }
 }

@@ -38,9 +38,11 @@ impl Ids {
         self.ids.contains(id)
     }
 
-    /// Puts in an id; one that is there already stays, once. Where memory runs out the ids are as before.
+    /// Puts in an id; one that is there already stays, once. Where memory runs out the ids are as
+    /// before.
     pub fn put(&mut self, id: Vec<u8>) -> Result<(), AllocError>
-        ensures ok { OnOk result ((other : List ℕ) → has self.new other ≡ (has self.old other || bytes_eq id.items other)) }
+        ensures ok { OnOk result ((other : List ℕ)
+            → has self.new other ≡ (has self.old other || bytes_eq id.items other)) }
         ensures err { OnErr result (self.new ≡ self.old) }
     {
         self.ids.insert(id)?;

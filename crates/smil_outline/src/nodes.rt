@@ -75,9 +75,11 @@ impl Nodes {
         self.nodes.get(place)
     }
 
-    /// Whether a node with these attributes leaves at most 32,000 items that are neither offsets nor `indefinite`.
+    /// Whether a node with these attributes leaves at most 32,000 items that are neither offsets
+    /// nor `indefinite`.
     pub fn has_room(&self, attrs: &Attrs) -> bool
-        ensures { result ≡ not (nat_lt REFERENCES (all_references self.now + references_of attrs.now)) }
+        ensures { result ≡ not (nat_lt REFERENCES
+            (all_references self.now + references_of attrs.now)) }
     {
         let left = REFERENCES - self.references;
         let begin = in_list(&attrs.begin);

@@ -40,7 +40,8 @@ pub fn in_list(items: &Option<Items>) -> usize
     }
 }
 
-/// How many items of an element's lists are neither offsets nor `indefinite`, where they aren't above 32,000.
+/// How many items of an element's lists are neither offsets nor `indefinite`, where they aren't
+/// above 32,000.
 pub fn references(attrs: &Attrs) -> usize
     requires { references_of attrs.now ≤ REFERENCES }
     ensures { result ≡ references_of attrs.now }

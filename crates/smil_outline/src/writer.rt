@@ -22,8 +22,8 @@ fn is_node(node: Option<(u32, Kind)>, serial: u32) -> bool
     matches!(node, Some((own, _)) if own == serial)
 }
 
-// The depth of a node below this parent, which is on the branch, or of the root: behind the parent's depth the
-// branch is closed.
+// The depth of a node below this parent, which is on the branch, or of the root: behind the
+// parent's depth the branch is closed.
 fn depth_below(branch: &Branch, parent: u32) -> usize
     ensures within { result ≤ length branch.now }
     ensures kept { upwards (take result branch.now) ≡ open_from parent (upwards branch.now) }
@@ -59,8 +59,11 @@ fn put_next(
 ) -> Result<(), AllocError>
     requires can_write { IsAttrs false node.now.kind node.now.attrs }
     requires shallow { length (open_from node.now.parent (upwards branch.old)) < DEPTH }
-    ensures ok { OnOk result (out.new ≡ out.old ++ line_text saved (length (open_from node.now.parent (upwards branch.old))) node.now ++ 10 ∷ []) }
-    ensures branch { OnOk result (upwards branch.new ≡ node.now.serial ∷ open_from node.now.parent (upwards branch.old)) }
+    ensures ok { OnOk result (out.new ≡ out.old
+        ++ line_text saved (length (open_from node.now.parent (upwards branch.old))) node.now
+        ++ 10 ∷ []) }
+    ensures branch { OnOk result (upwards branch.new
+        ≡ node.now.serial ∷ open_from node.now.parent (upwards branch.old)) }
     ensures err { OnErr result (Begins out.old out.new) }
 {
     let depth = depth_below(branch, node.parent);
@@ -86,8 +89,8 @@ fn put_nodes(doc: &Doc, saved: bool, out: &mut Bytes) -> Result<(), AllocError>
     Ok(())
 }
 
-/// Appends the canonical outline of a valid document: a node line (`smil_attrs::write_node`) for each node in
-/// document order, each ended by a line feed. After a refusal `out` is as before.
+/// Appends the canonical outline of a valid document: a node line (`smil_attrs::write_node`) for
+/// each node in document order, each ended by a line feed. After a refusal `out` is as before.
 pub fn write_doc(doc: &Doc, out: &mut Bytes) -> Result<(), AllocError>
     requires { IsValid doc.now }
     ensures ok { OnOk result (out.new ≡ out.old ++ outline_text doc.now.nodes) }
@@ -116,8 +119,8 @@ fn put_saved(doc: &Doc, out: &mut Bytes) -> Result<(), AllocError>
 }
 
 /// Appends the canonical outline of a valid document with its serials and its next serial: a header
-/// (`smil_attrs::write_header`) and a node line with its serial (`smil_attrs::write_node_2`) for each node in document
-/// order, each ended by a line feed. After a refusal `out` is as before.
+/// (`smil_attrs::write_header`) and a node line with its serial (`smil_attrs::write_node_2`) for
+/// each node in document order, each ended by a line feed. After a refusal `out` is as before.
 pub fn write_doc_2(doc: &Doc, out: &mut Bytes) -> Result<(), AllocError>
     requires { IsValid doc.now }
     ensures ok { OnOk result (out.new ≡ out.old ++ saved_text doc.now) }
@@ -130,44 +133,5 @@ pub fn write_doc_2(doc: &Doc, out: &mut Bytes) -> Result<(), AllocError>
             out.cut_back(before);
             Err(fault)
         }
-    }
-}
-
-#[cfg(test)]
-mod tests {
-    use super::*;
-    use smil_model::Attrs;
-    use std::alloc::Global;
-    use std::test::Fail;
-
-    // A container and an image in it, with serials as they are after an insertion.
-    fn pair(alloc: Global) -> Result<Doc, AllocError>
-        ensures { IfOk result IsValid }
-    {
-        let mut doc = Doc::new(alloc, 4);
-        doc.push(Node {
-            serial: 1,
-            kind: Kind::Par,
-            parent: 0,
-            attrs: Attrs::none(),
-        })?;
-        doc.push(Node {
-            serial: 3,
-            kind: Kind::Img,
-            parent: 1,
-            attrs: Attrs::none(),
-        })?;
-        Ok(doc)
-    }
-
-    #[test]
-    fn writes_both_versions(rt: HostRuntime) -> Result<(), Fail> {
-        let doc = pair(rt.alloc())?;
-        let mut out = Bytes::new(rt.alloc());
-        write_doc(&doc, &mut out)?;
-        write_doc_2(&doc, &mut out)?;
-        let want = "par\n  img\noutline 2 next 4\npar #1\n  img #3\n";
-        assert_eq!(rt; out.slice(), want.as_bytes());
-        Ok(())
     }
 }

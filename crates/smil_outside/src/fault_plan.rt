@@ -25,7 +25,8 @@ impl FaultPlan {
     ghost use Rattle.smil_outside.specs.Memory.{called, faulted};
 
     pub(crate) fn new(alloc: Global, fail_at: &[u32]) -> Result<FaultPlan, AllocError>
-        ensures { IfOk result (λ plan. plan ≡ record { fail_at = fail_at.now; calls = 0; faults = 0 }) }
+        ensures { IfOk result (λ plan. plan
+            ≡ record { fail_at = fail_at.now; calls = 0; faults = 0 }) }
     {
         Ok(FaultPlan {
             fail_at: Vec::from_slice(alloc, fail_at)?,

@@ -13,7 +13,8 @@ pub enum Line {
     LongLine,
     /// The input has ended, and every line was answered.
     End,
-    /// `INPUT_BYTES` bytes were read, every whole line in them was answered, and a further byte came.
+    /// `INPUT_BYTES` bytes were read, every whole line in them was answered, and a further byte
+    /// came.
     InputTooLong,
     /// A read failed, and every whole line that was read was answered.
     ReadFault,

@@ -68,8 +68,8 @@ impl LineReader {
         self.number
     }
 
-    /// The next line, or how the input ended. It takes no memory, and offers the source a room of at
-    /// least 4,096 bytes at each read.
+    /// The next line, or how the input ended. It takes no memory, and offers the source a room of
+    /// at least 4,096 bytes at each read.
     pub fn next<S: Source>(&mut self, source: &mut S) -> Line
         // Once the input has ended, the same answer comes again, and nothing is read.
         ensures again { IfSome self.old.closed (λ ending. (result ≡ answer_of ending)
@@ -114,9 +114,18 @@ impl LineReader {
         requires some { 0 < covers }
         requires within { covers ≤ length self.old.pending }
         ensures long { IsTrue is_long ⊎ (LINE_BYTES < len) → (result ≡ Line.LongLine)
-            × (self.new ≡ record self.old { pending = drop covers self.old.pending; line = []; number = self.old.number + 1 }) }
+            × (self.new ≡ record self.old {
+              pending = drop covers self.old.pending;
+              line = [];
+              number = self.old.number + 1;
+            }) }
         ensures short { is_long ≡ false → len ≤ LINE_BYTES → (result ≡ Line.Bytes)
-            × (self.new ≡ record self.old { pending = drop covers self.old.pending; line = take len self.old.pending; number = self.old.number + 1 }) }
+            × (self.new ≡ record self.old {
+              pending = drop covers self.old.pending;
+              line = take len
+                  self.old.pending;
+              number = self.old.number + 1;
+            }) }
         ensures bound { self.new.number ≤ INPUT_BYTES }
     {
         self.number += 1;

@@ -61,14 +61,16 @@ impl Sink for MemSink {
 
     ghost sure_room = { sure_room_of };
 
-    /// Takes the whole piece. It fails where the piece would pass the room, and at the numbers told.
+    /// Takes the whole piece. It fails where the piece would pass the room, and at the numbers
+    /// told.
     fn write(&mut self, piece: &[u8]) -> Result<usize, Failed>
         ensures bound { IfOk result (λ n. n ≤ length piece.now) }
         ensures progress { IfOk result (λ n. 0 < length piece.now → 0 < n) }
         ensures bytes { WriteAppends (Some self.old.taken) (Some self.new.taken) result piece.now }
         ensures cause { OnErr result (HasRisen self.old.plan.faults self.new.plan.faults) }
         ensures count { self.old.plan.faults ≤ self.new.plan.faults }
-        ensures sure { 0 < length piece.now → length piece.now ≤ sure_room_of self.old → IsOk result }
+        ensures sure { 0 < length piece.now → length piece.now ≤ sure_room_of self.old
+            → IsOk result }
         ensures room { IfOk result (λ n. sure_room_of self.old ≤ sure_room_of self.new + n) }
         ensures fails { IsErr result ↔ (Contains self.old.plan.fail_at (self.old.plan.calls + 1)
             ⊎ (self.old.room < length self.old.taken + length piece.now)) }

@@ -13,7 +13,8 @@ pub trait Sink {
     /// How often writing has failed. It never falls, and stands still at the largest `u64`.
     ghost faults: { Self → ℕ };
 
-    /// How many bytes are taken from here on without a fault. A sink that doesn't tell leaves it out.
+    /// How many bytes are taken from here on without a fault. A sink that doesn't tell leaves it
+    /// out.
     ghost sure_room: { Self → ℕ } = { λ _. 0 };
 
     /// Takes the first bytes of `piece`, and answers how many: at least one where there is one. A

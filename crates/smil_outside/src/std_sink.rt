@@ -10,8 +10,8 @@ use std::io::Write;
 use std::marker::Model;
 
 /// Hands bytes to a writer, and flushes it after each write. It counts the writer's errors and the
-/// writes that take nothing of a piece. As a sink it tells no bytes, since a flush may fail after the
-/// writer took some; its own clauses tell those of a writer that tells them.
+/// writes that take nothing of a piece. As a sink it tells no bytes, since a flush may fail after
+/// the writer took some; its own clauses tell those of a writer that tells them.
 #[derive(Drop)]
 pub struct StdSink<W: Write + Drop> {
     writer: W,
@@ -45,7 +45,8 @@ impl<W: Write + Drop> Sink for StdSink<W> {
         ensures progress { IfOk result (λ n. 0 < length piece.now → 0 < n) }
         ensures bytes { WriteAppends None None result piece.now }
         ensures taken { IfOk result (λ n. Appends self.old.bytes self.new.bytes (take n piece.now)) }
-        ensures part { OnErr result ((n : ℕ) × (n ≤ length piece.now) × Appends self.old.bytes self.new.bytes (take n piece.now)) }
+        ensures part { OnErr result ((n : ℕ) × (n ≤ length piece.now)
+            × Appends self.old.bytes self.new.bytes (take n piece.now)) }
         ensures cause { OnErr result (HasRisen self.old.faults self.new.faults) }
         ensures count { self.old.faults ≤ self.new.faults }
         ensures ok { OnOk result (self.new.faults ≡ self.old.faults) }

@@ -148,7 +148,8 @@ fn writes_all_or_a_part(rt: HostRuntime) -> Result<(), Fail> {
     Ok(())
 }
 
-// A reader and a writer of one byte at a time, which fail once nothing is left: a write of the last byte at its flush.
+// A reader and a writer of one byte at a time, which fail once nothing is left: a write of the last
+// byte at its flush.
 #[derive(Drop)]
 struct Pipe {
     left: usize,

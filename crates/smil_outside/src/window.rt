@@ -16,7 +16,8 @@ pub(crate) const WINDOW_BYTES: usize = 65_536;
 // The least room that a read offers.
 const READ_ROOM: usize = 4_096;
 
-// `buffer[line..line_end]` is the line that was cut last, and `buffer[start..end]` are the bytes behind it.
+// `buffer[line..line_end]` is the line that was cut last, and `buffer[start..end]` are the bytes
+// behind it.
 #[derive(Drop)]
 pub(crate) struct Window {
     buffer: Vec<u8>,

@@ -8,7 +8,8 @@ use super::words::{Word, put_line};
 use smil_model::{Bytes, Entry, Happening, Log, Step};
 use std::alloc::AllocError;
 
-/// Appends the line between an outline and a diary, `%%`. Where memory is refused, `out` is as before.
+/// Appends the line between an outline and a diary, `%%`. Where memory is refused, `out` is as
+/// before.
 pub fn put_outline_end(out: &mut Bytes) -> Result<(), AllocError>
     ensures ok { OnOk result (out.new ≡ out.old ++ outline_end) }
     ensures err { OnErr result (out.new ≡ out.old) }
@@ -16,8 +17,8 @@ pub fn put_outline_end(out: &mut Bytes) -> Result<(), AllocError>
     put_line(out, &[Word::Text(b"%%")])
 }
 
-/// Appends the line of the present moment behind a diary, `now NOW`, in milliseconds of document time. Where memory is
-/// refused, `out` is as before.
+/// Appends the line of the present moment behind a diary, `now NOW`, in milliseconds of document
+/// time. Where memory is refused, `out` is as before.
 pub fn put_now(out: &mut Bytes, now: i64) -> Result<(), AllocError>
     ensures ok { OnOk result (out.new ≡ out.old ++ now_line now) }
     ensures err { OnErr result (out.new ≡ out.old) }
@@ -25,8 +26,9 @@ pub fn put_now(out: &mut Bytes, now: i64) -> Result<(), AllocError>
     put_line(out, &[Word::Text(b"now"), Word::Moment(now)])
 }
 
-/// Appends an entry of a diary as `MOMENT WORD` and what follows the word: the element by its serial and the value on its
-/// clock, or what the log says was heard. Where memory is refused, `out` is as before.
+/// Appends an entry of a diary as `MOMENT WORD` and what follows the word: the element by its
+/// serial and the value on its clock, or what the log says was heard. Where memory is refused,
+/// `out` is as before.
 pub fn put_entry(out: &mut Bytes, log: &Log, entry: Entry) -> Result<(), AllocError>
     ensures ok { OnOk result (out.new ≡ out.old ++ entry_line log.now entry) }
     ensures err { OnErr result (out.new ≡ out.old) }
@@ -50,7 +52,8 @@ pub fn put_entry(out: &mut Bytes, log: &Log, entry: Entry) -> Result<(), AllocEr
 
 // Appends the line of a step that has no value.
 fn put_bare(out: &mut Bytes, at: i64, word: &[u8], who: u32) -> Result<(), AllocError>
-    ensures ok { OnOk result (out.new ≡ out.old ++ line_of (signed_decimal at ∷ word.now ∷ serial_text who ∷ [])) }
+    ensures ok { OnOk result (out.new ≡ out.old
+        ++ line_of (signed_decimal at ∷ word.now ∷ serial_text who ∷ [])) }
     ensures err { OnErr result (out.new ≡ out.old) }
 {
     put_line(
@@ -61,7 +64,8 @@ fn put_bare(out: &mut Bytes, at: i64, word: &[u8], who: u32) -> Result<(), Alloc
 
 // Appends the line of a step that has a value.
 fn put_step(out: &mut Bytes, at: i64, word: &[u8], who: u32, value: i64) -> Result<(), AllocError>
-    ensures ok { OnOk result (out.new ≡ out.old ++ line_of (signed_decimal at ∷ word.now ∷ serial_text who ∷ signed_decimal value ∷ [])) }
+    ensures ok { OnOk result (out.new ≡ out.old
+        ++ line_of (signed_decimal at ∷ word.now ∷ serial_text who ∷ signed_decimal value ∷ [])) }
     ensures err { OnErr result (out.new ≡ out.old) }
 {
     put_line(
@@ -77,7 +81,8 @@ fn put_step(out: &mut Bytes, at: i64, word: &[u8], who: u32, value: i64) -> Resu
 
 // Appends the line of what came from outside and was heard at a moment.
 fn put_heard(out: &mut Bytes, moment: i64, what: &Happening) -> Result<(), AllocError>
-    ensures ok { OnOk result (out.new ≡ out.old ++ line_of (signed_decimal moment ∷ happening_words what.now)) }
+    ensures ok { OnOk result (out.new ≡ out.old
+        ++ line_of (signed_decimal moment ∷ happening_words what.now)) }
     ensures err { OnErr result (out.new ≡ out.old) }
 {
     match what {
@@ -97,7 +102,8 @@ fn put_heard(out: &mut Bytes, moment: i64, what: &Happening) -> Result<(), Alloc
 
 // Appends the line of a press of an access key.
 fn put_key(out: &mut Bytes, moment: i64, key: u8) -> Result<(), AllocError>
-    ensures ok { OnOk result (out.new ≡ out.old ++ line_of (signed_decimal moment ∷ codes "key" ∷ (key ∷ []) ∷ [])) }
+    ensures ok { OnOk result (out.new ≡ out.old
+        ++ line_of (signed_decimal moment ∷ codes "key" ∷ (key ∷ []) ∷ [])) }
     ensures err { OnErr result (out.new ≡ out.old) }
 {
     let text = [key];

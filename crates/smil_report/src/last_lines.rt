@@ -27,8 +27,9 @@ fn put_cause(buf: &mut [u8], at: usize, refusal: Refusal) -> usize
     }
 }
 
-/// Writes the line of a refused order, `! LINE WORD` and ` COLUMN` where the refusal has one, at the front of the buffer,
-/// and gives its length. `line` is the number of the line where the fault stands. The bytes behind it stay as they were.
+/// Writes the line of a refused order, `! LINE WORD` and ` COLUMN` where the refusal has one, at
+/// the front of the buffer, and gives its length. `line` is the number of the line where the fault
+/// stands. The bytes behind it stay as they were.
 #[tactic(auto, using(crate::proofs::Places::drop_later))]
 pub fn put_refusal(buf: &mut [u8; 64], line: u32, refusal: &Refusal) -> usize
     ensures len { result ≡ length (refusal_line line refusal.now) }
@@ -54,9 +55,9 @@ fn put_next(buf: &mut [u8], at: usize, text: &[u8]) -> usize
     put(buf, at, text)
 }
 
-/// Writes the last line of an accepted order, `ok LINE NAME NOW`, at the front of the buffer, and gives its length: the
-/// number of the order's first line, the presentation's name, of at most 32 bytes, and its moment, in milliseconds of
-/// document time. The bytes behind it stay as they were.
+/// Writes the last line of an accepted order, `ok LINE NAME NOW`, at the front of the buffer, and
+/// gives its length: the number of the order's first line, the presentation's name, of at most 32
+/// bytes, and its moment, in milliseconds of document time. The bytes behind it stay as they were.
 #[tactic(auto, using(crate::proofs::Places::drop_later))]
 pub fn put_ok(buf: &mut [u8; 80], line: u32, name: &[u8], now: i64) -> usize
     requires { length name.now ≤ NAME_BYTES }
@@ -73,8 +74,9 @@ pub fn put_ok(buf: &mut [u8; 80], line: u32, name: &[u8], now: i64) -> usize
     put(buf, at, b"\n")
 }
 
-/// Writes `ok LINE NAME closed` at the front of the buffer, and gives its length: the number of the order's line, and the
-/// name, of at most 32 bytes, of the presentation that it closed. The bytes behind it stay as they were.
+/// Writes `ok LINE NAME closed` at the front of the buffer, and gives its length: the number of the
+/// order's line, and the name, of at most 32 bytes, of the presentation that it closed. The bytes
+/// behind it stay as they were.
 #[tactic(auto, using(crate::proofs::Places::drop_later))]
 pub fn put_closed(buf: &mut [u8; 80], line: u32, name: &[u8]) -> usize
     requires { length name.now ≤ NAME_BYTES }
@@ -89,8 +91,8 @@ pub fn put_closed(buf: &mut [u8; 80], line: u32, name: &[u8]) -> usize
     put(buf, at, b" closed\n")
 }
 
-/// Writes `ok LINE NAME`, the last line of a load that was only read, at the front of the buffer, and gives its length. The
-/// name has at most 32 bytes. The bytes behind it stay as they were.
+/// Writes `ok LINE NAME`, the last line of a load that was only read, at the front of the buffer,
+/// and gives its length. The name has at most 32 bytes. The bytes behind it stay as they were.
 #[tactic(auto, using(crate::proofs::Places::drop_later))]
 pub fn put_checked(buf: &mut [u8; 80], line: u32, name: &[u8]) -> usize
     requires { length name.now ≤ NAME_BYTES }

@@ -5,8 +5,6 @@ mod buffers;
 mod entries;
 mod last_lines;
 mod lines;
-#[cfg(test)]
-mod tests;
 mod words;
 
 pub use entries::{put_entry, put_now, put_outline_end};

@@ -7,8 +7,8 @@ use super::words::{Word, how_word, put_line, state_word};
 use smil_model::{Bytes, How, Shown, View, Who};
 use std::alloc::AllocError;
 
-/// Appends a changed view as `MOMENT REF STATE BEGIN END ITERATION FINISHED`. The moment and the times are in milliseconds
-/// of document time. Where memory is refused, `out` is as before.
+/// Appends a changed view as `MOMENT REF STATE BEGIN END ITERATION FINISHED`. The moment and the
+/// times are in milliseconds of document time. Where memory is refused, `out` is as before.
 pub fn put_change(out: &mut Bytes, moment: i64, name: &Who, view: &View) -> Result<(), AllocError>
     ensures ok { OnOk result (out.new ≡ out.old ++ change_line moment name.now view.now) }
     ensures err { OnErr result (out.new ≡ out.old) }
@@ -27,8 +27,8 @@ pub fn put_change(out: &mut Bytes, moment: i64, name: &Who, view: &View) -> Resu
     )
 }
 
-/// Appends `MOMENT REF gone`, for an element that was removed at that moment, in milliseconds of document time. Where
-/// memory is refused, `out` is as before.
+/// Appends `MOMENT REF gone`, for an element that was removed at that moment, in milliseconds of
+/// document time. Where memory is refused, `out` is as before.
 pub fn put_gone(out: &mut Bytes, moment: i64, name: &Who) -> Result<(), AllocError>
     ensures ok { OnOk result (out.new ≡ out.old ++ gone_line moment name.now) }
     ensures err { OnErr result (out.new ≡ out.old) }
@@ -39,8 +39,8 @@ pub fn put_gone(out: &mut Bytes, moment: i64, name: &Who) -> Result<(), AllocErr
     )
 }
 
-/// Appends an interval as `REF from BEGIN to END WORD`, with its times in milliseconds of document time. Where memory is
-/// refused, `out` is as before.
+/// Appends an interval as `REF from BEGIN to END WORD`, with its times in milliseconds of document
+/// time. Where memory is refused, `out` is as before.
 pub fn put_history(
     out: &mut Bytes,
     name: &Who,
@@ -64,7 +64,8 @@ pub fn put_history(
     )
 }
 
-/// Appends an attribute that is set as `TARGET ATTRIBUTE "VALUE" SETTER`. Where memory is refused, `out` is as before.
+/// Appends an attribute that is set as `TARGET ATTRIBUTE "VALUE" SETTER`. Where memory is refused,
+/// `out` is as before.
 pub fn put_value(
     out: &mut Bytes,
     target: &Who,
@@ -72,7 +73,8 @@ pub fn put_value(
     value: &[u8],
     setter: &Who,
 ) -> Result<(), AllocError>
-    ensures ok { OnOk result (out.new ≡ out.old ++ value_line target.now attr.now value.now setter.now) }
+    ensures ok { OnOk result (out.new ≡ out.old
+        ++ value_line target.now attr.now value.now setter.now) }
     ensures err { OnErr result (out.new ≡ out.old) }
 {
     put_line(

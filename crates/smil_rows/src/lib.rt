@@ -1,5 +1,5 @@
-//! Worked presentations, computed from the definitions. A function here has no code: its contract is what the
-//! presentation shows.
+//! Worked presentations, computed from the definitions. A function here has no code: its contract
+//! is what the presentation shows.
 #![tactic(auto)]
 
 ghost use Rattle.smil_rows.specs.OneImage.{OneImage};

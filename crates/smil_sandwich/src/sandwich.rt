@@ -10,8 +10,9 @@ use smil_model::Layer;
 use std::alloc::{AllocError, Global};
 use std::marker::Model;
 
-/// The layers of the sets that contribute, seen as the list of them from the top down, each with its set. SMIL Animation's
-/// sandwich model: the greater begin stands above, and of equal ones the later in the document.
+/// The layers of the sets that contribute, seen as the list of them from the top down, each with
+/// its set. SMIL Animation's sandwich model: the greater begin stands above, and of equal ones the
+/// later in the document.
 #[derive(Drop)]
 pub struct Sandwich {
     layers: Vec<(u32, Layer)>,
@@ -36,8 +37,8 @@ impl Sandwich {
         }
     }
 
-    /// Puts the present layer of a set in place of its old one; None where it contributes no longer, which takes no memory.
-    /// Where memory runs out all is as before.
+    /// Puts the present layer of a set in place of its old one; None where it contributes no
+    /// longer, which takes no memory. Where memory runs out all is as before.
     pub fn apply(&mut self, setter: u32, layer: Option<Layer>) -> Result<(), AllocError>
         ensures ok { OnOk result (self.new ≡ applied setter layer self.old) }
         ensures err { OnErr result (self.new ≡ self.old) }
@@ -54,11 +55,14 @@ impl Sandwich {
         Ok(())
     }
 
-    /// The set at a place from 0, from the top down, in the stack of an attribute of a target; None exactly past its end. Where
-    /// the layers of sets at different places are kept, that is their stack made from scratch. It takes no memory.
+    /// The set at a place from 0, from the top down, in the stack of an attribute of a target; None
+    /// exactly past its end. Where the layers of sets at different places are kept, that is their
+    /// stack made from scratch. It takes no memory.
     pub fn at(&self, target: u32, attr: &[u8], k: usize) -> Option<u32>
-        ensures kept { result ≡ slice_get (map (λ (l : ℕ × AnyLayer). l.0) (layers_on self.now target attr.now)) k }
-        ensures model { (all : List (ℕ × AnyLayer)) → AreKept all self.now → result ≡ slice_get (stack_of all target attr.now) k }
+        ensures kept { result ≡ slice_get
+            (map (λ (l : ℕ × AnyLayer). l.0) (layers_on self.now target attr.now)) k }
+        ensures model { (all : List (ℕ × AnyLayer)) → AreKept all self.now
+            → result ≡ slice_get (stack_of all target attr.now) k }
     {
         let mut stack = self
             .layers
@@ -77,7 +81,8 @@ fn is_on(layer: &Layer, target: u32, attr: &[u8]) -> bool
 
 // The place of the first layer that this one is above, or behind all.
 fn place_below(layers: &[(u32, Layer)], layer: &Layer) -> usize
-    ensures place { result ≡ position_or_len (λ (l : ℕ × AnyLayer). is_above layer.now l.1) layers.now }
+    ensures place { result ≡ position_or_len (λ (l : ℕ × AnyLayer). is_above layer.now l.1)
+        layers.now }
     ensures within { result ≤ length layers.now }
 {
     layers

@@ -17,7 +17,8 @@ use smil_lexis::texts::is;
 use smil_model::{Bytes, Refusal};
 use std::alloc::Global;
 
-/// Whether a line has no answer: it is white space alone, or its first byte is `#`. It takes no memory.
+/// Whether a line has no answer: it is white space alone, or its first byte is `#`. It takes no
+/// memory.
 pub fn is_blank(line: &[u8]) -> bool
     ensures { result ≡ is_blank_line line.now }
 {
@@ -44,7 +45,9 @@ fn title(alloc: Global, line: &Word<'_>) -> Result<Bytes, Refusal>
 
 // The order to a presentation, behind its name.
 fn to(alloc: Global, name: &[u8], line: &Word<'_>) -> Result<Read, Refusal>
-    ensures reading { GivesRead result (let verb : WordText × WordText = first_of line.now in to_name name.now (finish (order_line verb.0.text verb.1))) }
+    ensures reading { GivesRead result
+        (let verb : WordText × WordText = first_of line.now in to_name name.now
+        (finish (order_line verb.0.text verb.1))) }
     ensures given { IfOk result HoldsGiven }
 {
     let (verb, rest) = line.first();
@@ -72,11 +75,11 @@ fn command(alloc: Global, line: &Word<'_>) -> Result<Read, Refusal>
     }
 }
 
-/// What a script line without its line feed says. A line of white space alone, and one whose first byte is
-/// `#`, are `Blank` and take no memory. Every other line without a reading is refused as `NotACommand`, and
-/// one that has a reading but for its clock value as `BadValue` with the clock value's column, counted in
-/// bytes from 1. `Memory` may come where a name or an order is read. An order that is read is one that a
-/// presentation may be given.
+/// What a script line without its line feed says. A line of white space alone, and one whose first
+/// byte is `#`, are `Blank` and take no memory. Every other line without a reading is refused as
+/// `NotACommand`, and one that has a reading but for its clock value as `BadValue` with the clock
+/// value's column, counted in bytes from 1. `Memory` may come where a name or an order is read. An
+/// order that is read is one that a presentation may be given.
 pub fn read_line(alloc: Global, line: &[u8]) -> Result<Read, Refusal>
     requires { length line.now < 2 ^ 31 }
     ensures reading { GivesRead result (line_of line.now) }
@@ -113,30 +116,4 @@ pub fn ends_load(line: &[u8]) -> bool
     };
     let (word, rest) = line.first();
     is(word.text, b"%%") && rest.is_ended()
-}
-
-#[cfg(test)]
-mod tests {
-    use super::*;
-    use smil_model::{Order, Who};
-    use std::test::Fail;
-
-    fn order(alloc: Global, line: &[u8]) -> Result<Order, Refusal>
-        requires { length line.now < 2 ^ 31 }
-    {
-        match read_line(alloc, line)? {
-            Read::To { order, .. } => Ok(order),
-            _ => Err(Refusal::NotACommand),
-        }
-    }
-
-    #[test]
-    fn reads_a_stack(rt: HostRuntime) -> Result<(), Fail> {
-        let stack = Order::Stack {
-            who: Who::Id(Bytes::of(rt.alloc(), b"a.b-1")?),
-            attr: Bytes::of(rt.alloc(), b"region")?,
-        };
-        assert_eq!(rt; order(rt.alloc(), b" u stack a.b-1  region ")?, stack);
-        Ok(())
-    }
 }

@@ -35,10 +35,11 @@ pub fn ended(line: &Word<'_>, order: Order) -> Result<Order, Refusal>
     }
 }
 
-// The clock value that is the rest of a line. It is looked at after all else: `BadValue` only where the line
-// ends behind it.
+// The clock value that is the rest of a line. It is looked at after all else: `BadValue` only where
+// the line ends behind it.
 fn clock(line: &Word<'_>) -> Result<i64, Refusal>
-    ensures reading { (made : ℤ → OrderValue) → finish (with_clock made line.now) ≡ with_value made result }
+    ensures reading { (made : ℤ → OrderValue)
+        → finish (with_clock made line.now) ≡ with_value made result }
     ensures clock { IfOk result (λ value. is_clock value ≡ true) }
 {
     let (word, rest) = line.first();
@@ -103,7 +104,8 @@ pub fn event(alloc: Global, line: &Word<'_>) -> Result<Order, Refusal>
 
 /// `media`: an element and a length.
 pub fn media(alloc: Global, line: &Word<'_>) -> Result<Order, Refusal>
-    ensures reading { GivesRead result (finish (with_who (λ who. with_clock (order_value.Media who)) line.now)) }
+    ensures reading { GivesRead result
+        (finish (with_who (λ who. with_clock (order_value.Media who)) line.now)) }
     ensures given { IfOk result IsGiven }
 {
     let (who, line) = named(alloc, line)?;
@@ -209,7 +211,9 @@ pub fn stack(alloc: Global, line: &Word<'_>) -> Result<Order, Refusal>
 
 /// `remove`: an element.
 pub fn remove(alloc: Global, line: &Word<'_>) -> Result<Order, Refusal>
-    ensures reading { GivesRead result (finish (with_who (λ who rest. at_end rest (given_reading (order_value.Remove who))) line.now)) }
+    ensures reading { GivesRead result
+        (finish (with_who (λ who rest. at_end rest (given_reading (order_value.Remove who)))
+        line.now)) }
     ensures given { IfOk result IsGiven }
 {
     let (who, rest) = named(alloc, line)?;
@@ -218,7 +222,9 @@ pub fn remove(alloc: Global, line: &Word<'_>) -> Result<Order, Refusal>
 
 /// `history`: an element.
 pub fn history(alloc: Global, line: &Word<'_>) -> Result<Order, Refusal>
-    ensures reading { GivesRead result (finish (with_who (λ who rest. at_end rest (given_reading (order_value.History who))) line.now)) }
+    ensures reading { GivesRead result
+        (finish (with_who (λ who rest. at_end rest (given_reading (order_value.History who)))
+        line.now)) }
     ensures given { IfOk result IsGiven }
 {
     let (who, rest) = named(alloc, line)?;

@@ -33,8 +33,8 @@ fn title_len(text: &[u8]) -> usize
     text.iter().take_while(|byte| is_of_title(**byte)).count()
 }
 
-/// Whether a word is a presentation's name: a letter, then letters, digits, `_` and `-`, of at most 32 bytes,
-/// and neither `load` nor `close`.
+/// Whether a word is a presentation's name: a letter, then letters, digits, `_` and `-`, of at most
+/// 32 bytes, and neither `load` nor `close`.
 pub fn is_title(text: &[u8]) -> bool
     ensures { result ≡ is_title_text text.now }
 {
@@ -83,7 +83,8 @@ pub fn who(alloc: Global, text: &[u8]) -> Result<Who, Refusal>
     }
 }
 
-// Whether a word means something else in lists, or is the name of an event that the engine raises itself.
+// Whether a word means something else in lists, or is the name of an event that the engine raises
+// itself.
 fn is_other_name(text: &[u8]) -> bool
     ensures { result ≡ list_any (bytes_eq text.now) other_names }
 {

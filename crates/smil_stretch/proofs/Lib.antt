@@ -9,4 +9,3 @@ pub mod Refreshed
 pub mod Turning
 pub mod Tabled
 pub mod Idle
-pub mod Samples

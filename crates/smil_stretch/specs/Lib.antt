@@ -1,4 +1,3 @@
 pub mod Clocks
 pub mod Kept
 pub mod Laws
-pub mod Sample

@@ -24,9 +24,10 @@ use std::alloc::{AllocError, Global};
 use std::collections::HashMap;
 use std::marker::Model;
 
-/// The clocks of a document after what has happened so far, seen as the clock of each node in document order. Each answer
-/// is for moments from the last entry of the diary on. A clock runs, and is behind document time by what it lost, or stands
-/// while its element or one above it is paused.
+/// The clocks of a document after what has happened so far, seen as the clock of each node in
+/// document order. Each answer is for moments from the last entry of the diary on. A clock runs,
+/// and is behind document time by what it lost, or stands while its element or one above it is
+/// paused.
 #[derive(Debug, Drop)]
 pub struct Clocks {
     places: HashMap<u32, usize>,
@@ -57,7 +58,8 @@ impl Clocks {
     /// The clocks of a document after the entries of its diary, unless memory runs out.
     pub fn of(alloc: Global, tree: &Tree, book: &Book) -> Result<Self, AllocError>
         requires { IsLawfulFor tree.now book.now }
-        ensures { (h : History) → IsHistoryOf h tree.now book.now → IfOk result (λ clocks. AreClocksOf clocks h) }
+        ensures { (h : History) → IsHistoryOf h tree.now book.now
+            → IfOk result (λ clocks. AreClocksOf clocks h) }
     {
         tree.valid();
         let mut clocks = Clocks::new(alloc, tree)?;
@@ -70,17 +72,19 @@ impl Clocks {
     /// What the element's own clock shows at a moment from 0 to 10^12. It takes no memory.
     pub fn run(&self, who: u32, moment: i64) -> i64
         requires { IsMoment moment }
-        ensures value { (h : History) → AreClocksOf self.now h → last_moment h.diary ≤ℤ moment → result ≡ run_of h who moment }
+        ensures value { (h : History) → AreClocksOf self.now h → last_moment h.diary ≤ℤ moment
+            → result ≡ run_of h who moment }
         ensures near { IsNear result }
     {
         shown_by(self.clock(who), moment)
     }
 
-    /// What the clock of the element's time parent shows at a moment from 0 to 10^12, and the moment itself for the root. It
-    /// takes no memory.
+    /// What the clock of the element's time parent shows at a moment from 0 to 10^12, and the
+    /// moment itself for the root. It takes no memory.
     pub fn outer(&self, who: u32, moment: i64) -> i64
         requires { IsMoment moment }
-        ensures value { (h : History) → AreClocksOf self.now h → last_moment h.diary ≤ℤ moment → result ≡ outer_of h who moment }
+        ensures value { (h : History) → AreClocksOf self.now h → last_moment h.diary ≤ℤ moment
+            → result ≡ outer_of h who moment }
         ensures near { IsNear result }
     {
         shown_by(self.parent(who), moment)
@@ -100,30 +104,37 @@ impl Clocks {
         stands_by(self.parent(who))
     }
 
-    /// Takes in that the element, which is active and not paused, is paused at this moment. It takes no memory, and touches
-    /// the clocks of the element and of those below it alone.
+    /// Takes in that the element, which is active and not paused, is paused at this moment. It
+    /// takes no memory, and touches the clocks of the element and of those below it alone.
     pub fn pause(&mut self, who: u32, moment: i64)
         requires { MayFollow self.old (record { moment = moment; step = step.Paused who }) }
-        ensures { (h : History) → AreClocksOf self.old h → IsLawful (with_entry h (record { moment = moment; step = step.Paused who })) → AreClocksOf self.new (with_entry h (record { moment = moment; step = step.Paused who })) }
+        ensures { (h : History) → AreClocksOf self.old h
+            → IsLawful (with_entry h (record { moment = moment; step = step.Paused who }))
+            → AreClocksOf self.new (with_entry h
+            (record { moment = moment; step = step.Paused who })) }
     {
         self.turn(who, true, moment);
     }
 
-    /// Takes in that the element, which is paused, resumes, ends or is cut at this moment. It takes no memory, and touches the
-    /// clocks of the element and of those below it alone.
+    /// Takes in that the element, which is paused, resumes, ends or is cut at this moment. It takes
+    /// no memory, and touches the clocks of the element and of those below it alone.
     pub fn resume(&mut self, who: u32, moment: i64)
         requires { MayEndPause self.old who moment }
-        ensures { (h : History) (by : AnyStep) → AreClocksOf self.old h → ends_pause who by ≡ true → IsLawful (with_entry h (record { moment = moment; step = by })) → AreClocksOf self.new (with_entry h (record { moment = moment; step = by })) }
+        ensures { (h : History) (by : AnyStep) → AreClocksOf self.old h → ends_pause who by ≡ true
+            → IsLawful (with_entry h (record { moment = moment; step = by }))
+            → AreClocksOf self.new (with_entry h (record { moment = moment; step = by })) }
     {
         self.turn(who, false, moment);
     }
 
-    /// Takes in an entry of any kind, which may follow what has happened so far. A pause, and a resume, an end or a cut of a
-    /// paused element change clocks; every other entry leaves all as they are, in a fixed number of steps. It takes no memory,
-    /// and touches the clocks of the entry's element and of those below it alone.
+    /// Takes in an entry of any kind, which may follow what has happened so far. A pause, and a
+    /// resume, an end or a cut of a paused element change clocks; every other entry leaves all as
+    /// they are, in a fixed number of steps. It takes no memory, and touches the clocks of the
+    /// entry's element and of those below it alone.
     pub fn follow(&mut self, entry: Entry)
         requires { MayFollow self.old entry }
-        ensures { (h : History) → AreClocksOf self.old h → IsLawful (with_entry h entry) → AreClocksOf self.new (with_entry h entry) }
+        ensures { (h : History) → AreClocksOf self.old h → IsLawful (with_entry h entry)
+            → AreClocksOf self.new (with_entry h entry) }
     {
         match entry.step {
             Step::Paused { who } => self.pause(who, entry.moment),
@@ -136,22 +147,24 @@ impl Clocks {
         }
     }
 
-    /// A value on the clock of the element's time parent, in document time, at a moment from 0 to 10^12. The value is from
-    /// -10^13 to 10^13. It takes no memory.
+    /// A value on the clock of the element's time parent, in document time, at a moment from 0 to
+    /// 10^12. The value is from -10^13 to 10^13. It takes no memory.
     pub fn to_document(&self, who: u32, value: i64, moment: i64) -> i64
         requires value { IsCarried value }
         requires moment { IsMoment moment }
-        ensures { (h : History) → AreClocksOf self.now h → last_moment h.diary ≤ℤ moment → result ≡ document_time h who value moment }
+        ensures { (h : History) → AreClocksOf self.now h → last_moment h.diary ≤ℤ moment
+            → result ≡ document_time h who value moment }
     {
         moment + (value - self.outer(who, moment))
     }
 
-    /// A value on the clock of the time parent of `from`, on that of the time parent of `to`, at a moment from 0 to 10^12. The
-    /// value is from -10^13 to 10^13. It takes no memory.
+    /// A value on the clock of the time parent of `from`, on that of the time parent of `to`, at a
+    /// moment from 0 to 10^12. The value is from -10^13 to 10^13. It takes no memory.
     pub fn between(&self, from: u32, to: u32, value: i64, moment: i64) -> i64
         requires value { IsCarried value }
         requires moment { IsMoment moment }
-        ensures { (h : History) → AreClocksOf self.now h → last_moment h.diary ≤ℤ moment → result ≡ between_clocks h from to value moment }
+        ensures { (h : History) → AreClocksOf self.now h → last_moment h.diary ≤ℤ moment
+            → result ≡ between_clocks h from to value moment }
     {
         self.outer(to, moment) + (value - self.outer(from, moment))
     }
@@ -195,7 +208,8 @@ impl Clocks {
 
     /// Whether the node is an element that is itself paused.
     fn is_paused(&self, who: u32) -> bool
-        ensures { (h : History) → AreClocksOf self.now h → has_element h.nodes who ≡ true → result ≡ paused_in h.diary who }
+        ensures { (h : History) → AreClocksOf self.now h → has_element h.nodes who ≡ true
+            → result ≡ paused_in h.diary who }
     {
         match self.clock(who) {
             Some(node) => node.paused,
@@ -206,7 +220,8 @@ impl Clocks {
     /// Takes in that an element of the document is paused, or no longer is, from this moment on.
     fn turn(&mut self, who: u32, paused: bool, moment: i64)
         requires { MayTurn self.old who paused moment }
-        ensures { (h : History) (y : AnyEntry) → AreClocksOf self.old h → IsLawful (with_entry h y) → Turns h y who paused → y.moment ≡ moment → AreClocksOf self.new (with_entry h y) }
+        ensures { (h : History) (y : AnyEntry) → AreClocksOf self.old h → IsLawful (with_entry h y)
+            → Turns h y who paused → y.moment ≡ moment → AreClocksOf self.new (with_entry h y) }
     {
         let place = *self.places.get(&who).unwrap();
         self.clocks[place].paused = paused;
@@ -214,7 +229,8 @@ impl Clocks {
     }
 }
 
-/// The clocks of the nodes of a document to which nothing has happened yet: all run, and lost nothing.
+/// The clocks of the nodes of a document to which nothing has happened yet: all run, and lost
+/// nothing.
 fn idle_clocks(alloc: Global, tree: &Tree) -> Result<Vec<NodeClock>, AllocError>
     requires { IsNumberedTree tree.now }
     ensures { IfOk result (λ clocks. clocks.items ≡ map (idle_clock tree.now.nodes) tree.now.nodes) }
@@ -252,7 +268,9 @@ fn places_of(alloc: Global, clocks: &[NodeClock]) -> Result<HashMap<u32, usize>,
 
 /// Notes the place of a serial, where it has none yet.
 fn note_place(places: &mut HashMap<u32, usize>, serial: u32, place: usize) -> Result<(), AllocError>
-    ensures { OnOk result ((s : ℕ) → get nat_eq places.new s ≡ option_or (get nat_eq places.old s) (if serial == s then Some place else None)) }
+    ensures { OnOk result ((s : ℕ)
+        → get nat_eq places.new s ≡ option_or (get nat_eq places.old s)
+        (if serial == s then Some place else None)) }
 {
     if places.contains_key(&serial) {
         return Ok(());

@@ -8,6 +8,3 @@ mod refresh;
 
 pub use clock::{Clock, NodeClock};
 pub use clocks::Clocks;
-
-#[cfg(test)]
-mod tests;

@@ -8,12 +8,13 @@ ghost use Rattle.smil_stretch.specs.Kept.{AllFit, IsTurned, at_place, stands_by}
 
 use super::clock::{NodeClock, stands_by};
 
-/// Turns the clocks of the node at the place `first` and of those below it, which stand directly behind it, after the pause
-/// of that node began or ended at this moment.
+/// Turns the clocks of the node at the place `first` and of those below it, which stand directly
+/// behind it, after the pause of that node began or ended at this moment.
 pub(crate) fn refresh(clocks: &mut [NodeClock], first: usize, moment: i64)
     requires fit { AllFit clocks.old }
     requires moment { IsMoment moment }
-    ensures { (after : List AnyClock) → IsTurned first moment clocks.old after → clocks.new ≡ after }
+    ensures { (after : List AnyClock) → IsTurned first moment clocks.old after
+        → clocks.new ≡ after }
 {
     for place in first..clocks.len() {
         let node = clocks[place];

@@ -98,7 +98,8 @@ fn key(text: &[u8]) -> Option<Item>
     }
 }
 
-// `id` is the longest id at the front of the text, and `rest` stands behind its point, where it has one.
+// `id` is the longest id at the front of the text, and `rest` stands behind its point, where it has
+// one.
 fn subject(alloc: Global, text: &[u8], id: &[u8], rest: Option<&[u8]>) -> Result<Item, ItemFault>
     requires { id.now ≡ take (id_len true text.now) text.now }
     ensures { GivesItem result (subject_of text.now (option_map (λ rest. rest.now) rest.entry)) }
@@ -129,8 +130,8 @@ fn named(alloc: Global, text: &[u8]) -> Result<Item, ItemFault>
     subject(alloc, text, id, behind(rest, b'.'))
 }
 
-/// The item of a text without white space at its ends. `Unsupported` where it is of a form that is left out,
-/// `Bad` where it is no item, `Memory` where there is none for its words.
+/// The item of a text without white space at its ends. `Unsupported` where it is of a form that is
+/// left out, `Bad` where it is no item, `Memory` where there is none for its words.
 pub fn item(alloc: Global, text: &[u8]) -> Result<Item, ItemFault>
     ensures { GivesItem result (item_of text.now) }
 {

@@ -30,8 +30,10 @@ fn piece(alloc: Global, text: &[u8], place: usize, first: Option<usize>) -> Resu
 
 // What stands before and behind the first `;`.
 fn split(text: &[u8]) -> Option<(&[u8], &[u8])>
-    ensures pieces { MatchOption result (pieces_of text.now ≡ text.now ∷ []) (λ cut. pieces_of text.now ≡ cut.0.now ∷ pieces_of cut.1.now) }
-    ensures length { IfSome result (λ cut. length cut.0.now + 1 + length cut.1.now ≡ length text.now) }
+    ensures pieces { MatchOption result (pieces_of text.now ≡ text.now ∷ [])
+        (λ cut. pieces_of text.now ≡ cut.0.now ∷ pieces_of cut.1.now) }
+    ensures length { IfSome result
+        (λ cut. length cut.0.now + 1 + length cut.1.now ≡ length text.now) }
 {
     cut(text, b';')
 }
@@ -46,7 +48,8 @@ fn more(
 ) -> Result<(), ListFault>
     requires place { place + length text.now < 2 ^ 64 }
     requires room { length items.old + length (pieces_of text.now) ≤ ITEMS }
-    ensures { GivesMore items.new result (with_front items.old (items_from first place (pieces_of text.now))) }
+    ensures { GivesMore items.new result
+        (with_front items.old (items_from first place (pieces_of text.now))) }
 {
     match split(text) {
         Some((front, rest)) => {
@@ -119,11 +122,11 @@ fn plain(alloc: Global, text: &[u8]) -> Result<Items, ListFault>
     }
 }
 
-/// The items of a begin or end list, in the order in which they are written. `TooManyItems` where there are
-/// more than 32; else the first fault from left to right, with the number of bytes before the item:
-/// `Unsupported` for an item of a form that is left out, `Bad` for one outside the grammar. The begin of a
-/// child of a seq is one offset that isn't negative: any other list, also one with an item outside the
-/// grammar, is `Bad` at its first item. `Memory` may come at any item.
+/// The items of a begin or end list, in the order in which they are written. `TooManyItems` where
+/// there are more than 32; else the first fault from left to right, with the number of bytes before
+/// the item: `Unsupported` for an item of a form that is left out, `Bad` for one outside the
+/// grammar. The begin of a child of a seq is one offset that isn't negative: any other list, also
+/// one with an item outside the grammar, is `Bad` at its first item. `Memory` may come at any item.
 pub fn read_list(
     alloc: Global,
     bytes: &[u8],
@@ -137,26 +140,5 @@ pub fn read_list(
         plain(alloc, bytes)
     } else {
         few(alloc, bytes, None)
-    }
-}
-
-#[cfg(test)]
-mod tests {
-    use super::*;
-    use crate::spellings::write_list;
-    use smil_model::Bytes;
-    use std::test::Fail;
-
-    #[test]
-    fn reads_and_prints(rt: HostRuntime) -> Result<(), Fail> {
-        let Ok(items) = read_list(rt.alloc(), b"a.click; accessKey(x)+1s", Edge::Begin, false)
-        else {
-            assert!(rt; false, "no list");
-            return Ok(());
-        };
-        let mut out = Bytes::new(rt.alloc());
-        write_list(&items, &mut out)?;
-        assert_eq!(rt; out.slice(), b"a.click;accesskey(x)+1000ms".as_slice());
-        Ok(())
     }
 }

@@ -36,7 +36,8 @@ pub fn offset(text: &[u8]) -> Option<i64>
     }
 }
 
-/// The milliseconds of a sign and a clock value behind a word, 0 where nothing stands there; none for all other texts.
+/// The milliseconds of a sign and a clock value behind a word, 0 where nothing stands there; none
+/// for all other texts.
 pub fn tail(text: &[u8]) -> Option<i64>
     ensures { result ≡ tail_of text.now }
 {

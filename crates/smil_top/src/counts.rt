@@ -8,8 +8,9 @@ use super::fault::Fault;
 use super::status::Status;
 use smil_model::Refusal;
 
-/// How many orders were answered, how many of them were refused for a fault, how many lines the answers have, and
-/// whether an order was refused since memory ran out. Each count stands still at the greatest number.
+/// How many orders were answered, how many of them were refused for a fault, how many lines the
+/// answers have, and whether an order was refused since memory ran out. Each count stands still at
+/// the greatest number.
 #[derive(Clone, Copy, Drop)]
 pub(crate) struct Counts {
     pub orders: u64,

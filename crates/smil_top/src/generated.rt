@@ -29,8 +29,9 @@ pub(crate) struct Summary {
     pub status: Status,
 }
 
-/// Answers the session of a number, and tells how many orders it has, how many were refused, how many lines the transcript
-/// has, and the moment at its end; unless memory runs out, and then that is the answer.
+/// Answers the session of a number, and tells how many orders it has, how many were refused, how
+/// many lines the transcript has, and the moment at its end; unless memory runs out, and then that
+/// is the answer.
 pub(crate) fn summary_of<L: Ledger>(
     alloc: Global,
     number: u32,
@@ -60,7 +61,8 @@ pub(crate) fn summary_of<L: Ledger>(
     })
 }
 
-// The lines that tell of a session that was answered; unless memory runs out, or a count stands at its end.
+// The lines that tell of a session that was answered; unless memory runs out, or a count stands at
+// its end.
 fn summary_text(alloc: Global, number: u32, run: &Run) -> Result<Bytes, AllocError>
     ensures { (orders : List OrderLines) (told : Told) → Tells false run.now orders told
         → IfOk result (λ text. text ≡ told_of number orders told) }

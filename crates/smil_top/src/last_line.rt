@@ -37,7 +37,8 @@ impl LastLine {
         }
     }
 
-    /// The line of an order, whose first line has this number, to the presentation of this name, which is at this moment.
+    /// The line of an order, whose first line has this number, to the presentation of this name,
+    /// which is at this moment.
     pub fn ok(line: u32, name: &[u8], now: i64) -> LastLine
         requires { length name.now ≤ NAME_BYTES }
         ensures { result ≡ ok_line line name.now now }

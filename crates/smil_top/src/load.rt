@@ -27,7 +27,8 @@ impl Load {
     /// A load that this line opens.
     pub fn open(alloc: Global, line: u32, head: &[u8]) -> Load
         requires { length head.now ≤ LINE_BYTES }
-        ensures { IsRead result (record { head = record { number = line; text = head.now }; nodes = [] }) }
+        ensures { IsRead result (record
+            { head = record { number = line; text = head.now }; nodes = [] }) }
     {
         let reading = match read_title(alloc, head) {
             Ok(titled) => Ok(titled),
@@ -40,7 +41,10 @@ impl Load {
     pub fn push(self, line: u32, text: Option<&[u8]>) -> Load
         ensures { (lines : LoadLines) (node : List ℕ) → IsRead self lines
             → IsText (option_map (λ t. t.now) text.entry) node
-            → IsRead result (record lines { nodes = lines.nodes ++ record { number = line; text = node } ∷ [] }) }
+            → IsRead result (record lines {
+              nodes = lines.nodes
+                  ++ record { number = line; text = node } ∷ [];
+            }) }
     {
         let first = self.line;
         let reading = match self.reading {
@@ -91,7 +95,8 @@ fn push_node(
     text: Option<&[u8]>,
 ) -> Result<Titled, Fault>
     ensures { (node : List ℕ) → IsText (option_map (λ t. t.now) text.entry) node
-        → Reads result (with_node so_far.name so_far.outline (record { number = line; text = node }))
+        → Reads result (with_node so_far.name so_far.outline
+        (record { number = line; text = node }))
         ⊎ (result ≡ Err (record { line = first; refusal = Refusal.Memory })) }
 {
     let pushed = match text {

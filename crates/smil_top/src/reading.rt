@@ -22,7 +22,8 @@ pub(crate) struct Begun {
     pub run: Run,
 }
 
-/// A session before its first line, whose loads are only read or are opened too; unless memory runs out.
+/// A session before its first line, whose loads are only read or are opened too; unless memory runs
+/// out.
 pub(crate) fn begin(alloc: Global, checks: bool) -> Result<Begun, AllocError>
     ensures reader { IfOk result (λ begun. begun.reader ≡ fresh_reading) }
     ensures run { IfOk result (λ begun. IsRunning checks begun.run (cut_of []) untold) }
@@ -46,8 +47,10 @@ pub(crate) fn answer_all<S: Source, K: Sink, L: Ledger>(
     ensures ran { (checks : Bool) → IsRunning checks run.old (cut_of []) untold
         → Ran checks result run.new (S.rest source.old) (S.rest source.new)
         (K.taken sink.old) (K.taken sink.new) (K.sure_room sink.old) }
-    ensures read_cause { result ≡ Status.ReadFault → HasRisen (S.faults source.old) (S.faults source.new) }
-    ensures write_cause { result ≡ Status.WriteFault → HasRisen (K.faults sink.old) (K.faults sink.new) }
+    ensures read_cause { result ≡ Status.ReadFault
+        → HasRisen (S.faults source.old) (S.faults source.new) }
+    ensures write_cause { result ≡ Status.WriteFault
+        → HasRisen (K.faults sink.old) (K.faults sink.new) }
     ensures read_count { S.faults source.old ≤ S.faults source.new }
     ensures write_count { K.faults sink.old ≤ K.faults sink.new }
     ensures sure { S.never_fails source.old → result ≢ Status.ReadFault }
@@ -73,7 +76,8 @@ pub(crate) fn answer_all<S: Source, K: Sink, L: Ledger>(
 // Answers a load that hasn't ended, and gives the status.
 fn end<K: Sink>(run: &mut Run, sink: &mut K) -> Status
     ensures ends { (checks : Bool) (cut : Cut) (told : Told) → IsRunning checks run.old cut told
-        → Ends checks result run.new cut told (K.taken sink.old) (K.taken sink.new) (K.sure_room sink.old) (K.sure_room sink.new) }
+        → Ends checks result run.new cut told (K.taken sink.old) (K.taken sink.new)
+        (K.sure_room sink.old) (K.sure_room sink.new) }
     ensures cause { result ≡ Status.WriteFault → HasRisen (K.faults sink.old) (K.faults sink.new) }
     ensures count { K.faults sink.old ≤ K.faults sink.new }
     ensures read { result ≢ Status.ReadFault }

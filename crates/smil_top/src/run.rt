@@ -21,7 +21,8 @@ use smil_script::{ends_load, is_blank, opens_load};
 use std::alloc::{AllocError, Global};
 use std::sync::ledger::Ledger;
 
-/// A session between two lines: the load that hasn't ended, the last answer, and what is counted so far.
+/// A session between two lines: the load that hasn't ended, the last answer, and what is counted so
+/// far.
 #[derive(Drop)]
 pub(crate) struct Run {
     pub session: Session,
@@ -31,7 +32,8 @@ pub(crate) struct Run {
 }
 
 impl Run {
-    /// A session before its first line, whose loads are only read or are opened too; unless memory runs out.
+    /// A session before its first line, whose loads are only read or are opened too; unless memory
+    /// runs out.
     pub fn new(alloc: Global, checks: bool) -> Result<Run, AllocError>
         ensures { IfOk result (λ run. IsRunning checks run (cut_of []) untold) }
     {
@@ -43,8 +45,8 @@ impl Run {
         })
     }
 
-    /// Takes in the line with this number, or one that is too long, and writes the answer of the order that is
-    /// whole with it.
+    /// Takes in the line with this number, or one that is too long, and writes the answer of the
+    /// order that is whole with it.
     pub fn line<K: Sink, L: Ledger>(
         &mut self,
         alloc: Global,
@@ -54,15 +56,19 @@ impl Run {
         steps: &mut Steps<L>,
     ) -> Result<(), Failed>
         requires short { IfSome text (λ t. length t.now ≤ LINE_BYTES) }
-        ensures answers { (checks : Bool) (cut : Cut) (told : Told) (line : List ℕ) → IsRunning checks self.old cut told
+        ensures answers { (checks : Bool) (cut : Cut) (told : Told) (line : List ℕ)
+            → IsRunning checks self.old cut told
             → number ≡ suc cut.count → IsText (option_map (λ t. t.now) text.entry) line
-            → Answers checks result self.new (with_line cut line) told (K.taken sink.old) (K.taken sink.new) (K.sure_room sink.old) (K.sure_room sink.new) }
+            → Answers checks result self.new (with_line cut line) told (K.taken sink.old)
+            (K.taken sink.new) (K.sure_room sink.old) (K.sure_room sink.new) }
         ensures cause { OnErr result (HasRisen (K.faults sink.old) (K.faults sink.new)) }
         ensures count { K.faults sink.old ≤ K.faults sink.new }
         ensures counted { steps.old ≤ steps.new }
-        ensures evaluated { (cut : Cut) (told : Told) (line : List ℕ) → IsRunning false self.old cut told
+        ensures evaluated { (cut : Cut) (told : Told) (line : List ℕ)
+            → IsRunning false self.old cut told
             → number ≡ suc cut.count → IsText (option_map (λ t. t.now) text.entry) line
-            → EvaluatesOn self.old.counts self.new.counts cut.whole (with_line cut line).whole steps.old steps.new }
+            → EvaluatesOn self.old.counts self.new.counts cut.whole (with_line cut line).whole
+            steps.old steps.new }
     {
         match self.load.take() {
             Some(load) => self.line_inside(alloc, load, number, text, sink, steps),
@@ -84,15 +90,19 @@ impl Run {
         requires outside { self.old.load ≡ None }
         ensures answers { (checks : Bool) (cut : Cut) (lines : LoadLines) (told : Told)
             (line : List ℕ) → cut.«open» ≡ Some lines → IsRead load lines
-            → Tells checks self.old cut.whole told → number ≡ suc cut.count → IsText (option_map (λ t. t.now) text.entry) line
-            → Answers checks result self.new (with_line cut line) told (K.taken sink.old) (K.taken sink.new) (K.sure_room sink.old) (K.sure_room sink.new) }
+            → Tells checks self.old cut.whole told → number ≡ suc cut.count
+            → IsText (option_map (λ t. t.now) text.entry) line
+            → Answers checks result self.new (with_line cut line) told (K.taken sink.old)
+            (K.taken sink.new) (K.sure_room sink.old) (K.sure_room sink.new) }
         ensures cause { OnErr result (HasRisen (K.faults sink.old) (K.faults sink.new)) }
         ensures count { K.faults sink.old ≤ K.faults sink.new }
         ensures counted { steps.old ≤ steps.new }
-        ensures evaluated { (cut : Cut) (lines : LoadLines) (told : Told) (line : List ℕ) → cut.«open» ≡ Some lines
+        ensures evaluated { (cut : Cut) (lines : LoadLines) (told : Told) (line : List ℕ)
+            → cut.«open» ≡ Some lines
             → IsRead load lines → Tells false self.old cut.whole told
             → number ≡ suc cut.count → IsText (option_map (λ t. t.now) text.entry) line
-            → EvaluatesOn self.old.counts self.new.counts cut.whole (with_line cut line).whole steps.old steps.new }
+            → EvaluatesOn self.old.counts self.new.counts cut.whole (with_line cut line).whole
+            steps.old steps.new }
     {
         match text {
             Some(text) if ends_load(text) => self.end_load(alloc, load, number, sink, steps),
@@ -118,16 +128,20 @@ impl Run {
     ) -> Result<(), Failed>
         requires short { IfSome text (λ t. length t.now ≤ LINE_BYTES) }
         requires outside { self.old.load ≡ None }
-        ensures answers { (checks : Bool) (cut : Cut) (told : Told) (line : List ℕ) → cut.«open» ≡ None
-            → Tells checks self.old cut.whole told → number ≡ suc cut.count → IsText (option_map (λ t. t.now) text.entry) line
-            → Answers checks result self.new (with_line cut line) told (K.taken sink.old) (K.taken sink.new) (K.sure_room sink.old) (K.sure_room sink.new) }
+        ensures answers { (checks : Bool) (cut : Cut) (told : Told) (line : List ℕ)
+            → cut.«open» ≡ None
+            → Tells checks self.old cut.whole told → number ≡ suc cut.count
+            → IsText (option_map (λ t. t.now) text.entry) line
+            → Answers checks result self.new (with_line cut line) told (K.taken sink.old)
+            (K.taken sink.new) (K.sure_room sink.old) (K.sure_room sink.new) }
         ensures cause { OnErr result (HasRisen (K.faults sink.old) (K.faults sink.new)) }
         ensures count { K.faults sink.old ≤ K.faults sink.new }
         ensures counted { steps.old ≤ steps.new }
         ensures evaluated { (cut : Cut) (told : Told) (line : List ℕ) → cut.«open» ≡ None
             → Tells false self.old cut.whole told
             → number ≡ suc cut.count → IsText (option_map (λ t. t.now) text.entry) line
-            → EvaluatesOn self.old.counts self.new.counts cut.whole (with_line cut line).whole steps.old steps.new }
+            → EvaluatesOn self.old.counts self.new.counts cut.whole (with_line cut line).whole
+            steps.old steps.new }
     {
         match text {
             None => self.tell(
@@ -156,16 +170,20 @@ impl Run {
         steps: &mut Steps<L>,
     ) -> Result<(), Failed>
         requires short { length text.now ≤ LINE_BYTES }
-        ensures answers { (checks : Bool) (whole : List OrderLines) (told : Told) → Tells checks self.old whole told
-            → AnswersOrders checks result self.new (whole ++ single (record { number = number; text = text.now }) ∷ []) told
+        ensures answers { (checks : Bool) (whole : List OrderLines) (told : Told)
+            → Tells checks self.old whole told
+            → AnswersOrders checks result self.new
+            (whole ++ single (record { number = number; text = text.now }) ∷ []) told
             (K.taken sink.old) (K.taken sink.new) (K.sure_room sink.old) (K.sure_room sink.new) }
         ensures load { self.new.load ≡ self.old.load }
         ensures cause { OnErr result (HasRisen (K.faults sink.old) (K.faults sink.new)) }
         ensures count { K.faults sink.old ≤ K.faults sink.new }
         ensures counted { steps.old ≤ steps.new }
-        ensures evaluated { (whole : List OrderLines) (told : Told) → Tells false self.old whole told
+        ensures evaluated { (whole : List OrderLines) (told : Told)
+            → Tells false self.old whole told
             → EvaluatesOn self.old.counts self.new.counts
-            whole (whole ++ single (record { number = number; text = text.now }) ∷ []) steps.old steps.new }
+            whole (whole ++ single (record { number = number; text = text.now }) ∷ []) steps.old
+            steps.new }
     {
         self.answer.clear();
         let answered = self
@@ -185,13 +203,15 @@ impl Run {
     ) -> Result<(), Failed>
         ensures answers { (checks : Bool) (whole : List OrderLines) (lines : LoadLines)
             (told : Told) → IsRead load lines → Tells checks self.old whole told
-            → AnswersOrders checks result self.new (whole ++ load_order lines (Some number) ∷ []) told
+            → AnswersOrders checks result self.new (whole ++ load_order lines (Some number) ∷ [])
+            told
             (K.taken sink.old) (K.taken sink.new) (K.sure_room sink.old) (K.sure_room sink.new) }
         ensures load { self.new.load ≡ self.old.load }
         ensures cause { OnErr result (HasRisen (K.faults sink.old) (K.faults sink.new)) }
         ensures count { K.faults sink.old ≤ K.faults sink.new }
         ensures counted { steps.old ≤ steps.new }
-        ensures evaluated { (whole : List OrderLines) (lines : LoadLines) (told : Told) → IsRead load lines
+        ensures evaluated { (whole : List OrderLines) (lines : LoadLines) (told : Told)
+            → IsRead load lines
             → Tells false self.old whole told
             → EvaluatesOn self.old.counts self.new.counts
             whole (whole ++ load_order lines (Some number) ∷ []) steps.old steps.new }
@@ -210,14 +230,17 @@ impl Run {
     ) -> Result<(), Fault>
         ensures answer { (session : Presentations) (lines : LoadLines)
             → Holds self.old.session.house session → IsRead load lines
-            → MakesAnswer result self.new.answer self.new.session.house session (answering self.old.session.checks) (load_order lines (Some number)) }
+            → MakesAnswer result self.new.answer self.new.session.house session
+            (answering self.old.session.checks) (load_order lines (Some number)) }
         ensures checks { self.new.session.checks ≡ self.old.session.checks }
         ensures load { self.new.load ≡ self.old.load }
         ensures counts { self.new.counts ≡ self.old.counts }
         ensures counted { steps.old ≤ steps.new }
-        ensures evaluated { (session : Presentations) (lines : LoadLines) → Holds self.old.session.house session
+        ensures evaluated { (session : Presentations) (lines : LoadLines)
+            → Holds self.old.session.house session
             → IsRead load lines → self.old.session.checks ≡ false
-            → IsOrderCounted result (λ (bound : Bound). number_of bound session (load_order lines (Some number)))
+            → IsOrderCounted result (λ (bound : Bound). number_of bound session
+            (load_order lines (Some number)))
             (steps.new - steps.old) }
     {
         let line = load.line;
@@ -235,13 +258,16 @@ impl Run {
 
     /// The end of the input, at which a load that hasn't ended is refused.
     pub fn end<K: Sink>(&mut self, sink: &mut K) -> Result<(), Failed>
-        ensures answers { (checks : Bool) (cut : Cut) (told : Told) → IsRunning checks self.old cut told
+        ensures answers { (checks : Bool) (cut : Cut) (told : Told)
+            → IsRunning checks self.old cut told
             → AnswersOrders checks result self.new (cut.whole ++ unended cut.«open») told
             (K.taken sink.old) (K.taken sink.new) (K.sure_room sink.old) (K.sure_room sink.new) }
         ensures cause { OnErr result (HasRisen (K.faults sink.old) (K.faults sink.new)) }
         ensures count { K.faults sink.old ≤ K.faults sink.new }
-        ensures evaluated { (cut : Cut) (told : Told) (steps : ℕ) → IsRunning false self.old cut told
-            → EvaluatesOn self.old.counts self.new.counts cut.whole (cut.whole ++ unended cut.«open») steps steps }
+        ensures evaluated { (cut : Cut) (told : Told) (steps : ℕ)
+            → IsRunning false self.old cut told
+            → EvaluatesOn self.old.counts self.new.counts cut.whole
+            (cut.whole ++ unended cut.«open») steps steps }
     {
         match self.load.take() {
             Some(load) => self.tell(

@@ -43,7 +43,8 @@ impl Session {
         })
     }
 
-    /// Answers a single line: its text, or why it is refused. After a refusal the session is as before.
+    /// Answers a single line: its text, or why it is refused. After a refusal the session is as
+    /// before.
     pub fn answer_line<L: Ledger>(
         &mut self,
         alloc: Global,
@@ -55,10 +56,12 @@ impl Session {
         requires short { length line.now ≤ LINE_BYTES }
         requires empty { answer.old ≡ no_text }
         ensures answer { (session : Presentations) → Holds self.old.house session
-            → Makes result answer.new self.new.house session (line_by self.old.checks session number line.now) }
+            → Makes result answer.new self.new.house session
+            (line_by self.old.checks session number line.now) }
         ensures checks { self.new.checks ≡ self.old.checks }
         ensures counted { steps.old ≤ steps.new }
-        ensures evaluated { (session : Presentations) → Holds self.old.house session → self.old.checks ≡ false
+        ensures evaluated { (session : Presentations) → Holds self.old.house session
+            → self.old.checks ≡ false
             → IsCounted result (λ (bound : Bound). line_number bound session line.now)
             (steps.new - steps.old) }
     {
@@ -80,10 +83,12 @@ impl Session {
         requires title { HoldsTitle read.now }
         requires empty { answer.old ≡ no_text }
         ensures answer { (session : Presentations) → Holds self.old.house session
-            → Makes result answer.new self.new.house session (single_by self.old.checks session number read.now) }
+            → Makes result answer.new self.new.house session
+            (single_by self.old.checks session number read.now) }
         ensures checks { self.new.checks ≡ self.old.checks }
         ensures counted { steps.old ≤ steps.new }
-        ensures evaluated { (session : Presentations) → Holds self.old.house session → self.old.checks ≡ false
+        ensures evaluated { (session : Presentations) → Holds self.old.house session
+            → self.old.checks ≡ false
             → IsCounted result (λ (bound : Bound). said_number bound session read.now)
             (steps.new - steps.old) }
     {
@@ -111,7 +116,8 @@ impl Session {
         requires title { length name.now ≤ NAME_BYTES }
         requires empty { answer.old ≡ no_text }
         ensures answer { (session : Presentations) → Holds self.old.house session
-            → Makes result answer.new self.new.house session (ordered_within limits session number name.now order.now) }
+            → Makes result answer.new self.new.house session
+            (ordered_within limits session number name.now order.now) }
         ensures checks { self.new.checks ≡ self.old.checks }
         ensures counted { steps.old ≤ steps.new }
         ensures evaluated { (session : Presentations) → Holds self.old.house session
@@ -147,8 +153,8 @@ impl Session {
         }
     }
 
-    /// Answers a load that begins at a line and that was read without a fault: it is opened, or written where loads are only
-    /// read. After a refusal the session is as before.
+    /// Answers a load that begins at a line and that was read without a fault: it is opened, or
+    /// written where loads are only read. After a refusal the session is as before.
     pub fn answer_load<L: Ledger>(
         &mut self,
         alloc: Global,
@@ -160,10 +166,12 @@ impl Session {
         requires valid { IsValid given.doc }
         requires empty { answer.old ≡ no_text }
         ensures answer { (session : Presentations) → Holds self.old.house session
-            → Makes result answer.new self.new.house session (load_by self.old.checks session number (given_of given)) }
+            → Makes result answer.new self.new.house session
+            (load_by self.old.checks session number (given_of given)) }
         ensures checks { self.new.checks ≡ self.old.checks }
         ensures counted { steps.old ≤ steps.new }
-        ensures evaluated { (session : Presentations) → Holds self.old.house session → self.old.checks ≡ false
+        ensures evaluated { (session : Presentations) → Holds self.old.house session
+            → self.old.checks ≡ false
             → IsCounted result (λ (bound : Bound). loaded_number bound session (given_of given))
             (steps.new - steps.old) }
     {
@@ -186,7 +194,8 @@ impl Session {
         requires valid { IsValid given.doc }
         requires empty { answer.old ≡ no_text }
         ensures answer { (session : Presentations) → Holds self.old.house session
-            → Makes result answer.new self.new.house session (loaded_within limits session number (given_of given)) }
+            → Makes result answer.new self.new.house session
+            (loaded_within limits session number (given_of given)) }
         ensures checks { self.new.checks ≡ self.old.checks }
         ensures counted { steps.old ≤ steps.new }
         ensures evaluated { (session : Presentations) → Holds self.old.house session

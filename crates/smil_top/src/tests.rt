@@ -109,7 +109,8 @@ fn faults_of_the_outside(rt: HostRuntime) -> Result<(), Fail> {
     expect(&rt, &no_write, FIRST, "", Status::WriteFault)
 }
 
-// Of four reads the second one ends the load, the third one the advance, and the last one the input.
+// Of four reads the second one ends the load, the third one the advance, and the last one the
+// input.
 #[test]
 fn faults_in_the_middle(rt: HostRuntime) -> Result<(), Fail> {
     let loaded = "0 #1 active 0 3000 0 0\n0 a waiting 1000 3000 0 0\nok 1 d 0\n";

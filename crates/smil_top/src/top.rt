@@ -23,20 +23,24 @@ const USAGE: &[u8] = b"usage: smilplay run | smilplay check | smilplay gen N\n";
 
 /// Does what the words ask for.
 ///
-/// `run` reads a session's lines to the end of the input, and writes its transcript: the answer to each order is made whole and
-/// then written. `check` does the same with loads that are only read: each is answered by its canonical outline, in the
-/// version in which it came; other lines are answered only where they can't be read. `gen N` reads nothing, answers the session
-/// that the number makes, and writes how many orders it has, how many were refused, how many lines the transcript has, and
-/// the moment at its end. Any other words write the usage line and answer `Words`.
+/// `run` reads a session's lines to the end of the input, and writes its transcript: the answer to
+/// each order is made whole and then written. `check` does the same with loads that are only read:
+/// each is answered by its canonical outline, in the version in which it came; other lines are
+/// answered only where they can't be read. `gen N` reads nothing, answers the session that the
+/// number makes, and writes how many orders it has, how many were refused, how many lines the
+/// transcript has, and the moment at its end. Any other words write the usage line and answer
+/// `Words`.
 ///
-/// The answer is `Clean`, or `Refused` where an order was refused, or `Memory` where one was refused since memory ran out.
-/// Where a read fails or the input is longer than `INPUT_BYTES`, the orders that were whole before it were answered; where a
-/// write fails, a part of the transcript was written. `Memory` also comes where there is none to begin with, and then nothing
-/// was read and nothing written; and with `gen N` wherever memory runs out, and then nothing was written.
+/// The answer is `Clean`, or `Refused` where an order was refused, or `Memory` where one was
+/// refused since memory ran out. Where a read fails or the input is longer than `INPUT_BYTES`, the
+/// orders that were whole before it were answered; where a write fails, a part of the transcript
+/// was written. `Memory` also comes where there is none to begin with, and then nothing was read
+/// and nothing written; and with `gen N` wherever memory runs out, and then nothing was written.
 ///
-/// Where `run` answers `Clean` or `Refused` and no order was refused as `DiaryFull`, the count of evaluations rises by at
-/// least the sum of the least numbers of the orders, and by at most the sum of their greatest, each by the state in which
-/// the order is answered; a refused order, a close and a blank line have 0.
+/// Where `run` answers `Clean` or `Refused` and no order was refused as `DiaryFull`, the count of
+/// evaluations rises by at least the sum of the least numbers of the orders, and by at most the sum
+/// of their greatest, each by the state in which the order is answered; a refused order, a close
+/// and a blank line have 0.
 pub fn serve<S: Source, K: Sink, L: Ledger>(
     alloc: Global,
     words: &WordList,
@@ -52,8 +56,10 @@ pub fn serve<S: Source, K: Sink, L: Ledger>(
     ensures unread { reads (mode_of words.now) ≡ false → source.new ≡ source.old }
 
     // Faults come from the source and the sink alone.
-    ensures read_cause { result ≡ Status.ReadFault → HasRisen (S.faults source.old) (S.faults source.new) }
-    ensures write_cause { result ≡ Status.WriteFault → HasRisen (K.faults sink.old) (K.faults sink.new) }
+    ensures read_cause { result ≡ Status.ReadFault
+        → HasRisen (S.faults source.old) (S.faults source.new) }
+    ensures write_cause { result ≡ Status.WriteFault
+        → HasRisen (K.faults sink.old) (K.faults sink.new) }
     ensures read_count { S.faults source.old ≤ S.faults source.new }
     ensures write_count { K.faults sink.old ≤ K.faults sink.new }
     ensures sure { S.never_fails source.old → result ≢ Status.ReadFault }
@@ -95,13 +101,16 @@ fn session<S: Source, K: Sink, L: Ledger>(
 ) -> Status
     ensures serves { Serves (Some (asked_by checks)) result (S.rest source.old) (S.rest source.new)
         (K.taken sink.old) (K.taken sink.new) (K.sure_room sink.old) }
-    ensures read_cause { result ≡ Status.ReadFault → HasRisen (S.faults source.old) (S.faults source.new) }
-    ensures write_cause { result ≡ Status.WriteFault → HasRisen (K.faults sink.old) (K.faults sink.new) }
+    ensures read_cause { result ≡ Status.ReadFault
+        → HasRisen (S.faults source.old) (S.faults source.new) }
+    ensures write_cause { result ≡ Status.WriteFault
+        → HasRisen (K.faults sink.old) (K.faults sink.new) }
     ensures read_count { S.faults source.old ≤ S.faults source.new }
     ensures write_count { K.faults sink.old ≤ K.faults sink.new }
     ensures sure { S.never_fails source.old → result ≢ Status.ReadFault }
     ensures counted { steps.old ≤ steps.new }
-    ensures evaluated { Evaluates (Some (asked_by checks)) result (S.rest source.old) (S.rest source.new)
+    ensures evaluated { Evaluates (Some (asked_by checks)) result (S.rest source.old)
+        (S.rest source.new)
         (K.taken sink.old) (K.taken sink.new) (K.sure_room sink.old) (steps.new - steps.old) }
 {
     match begin(alloc, checks) {

@@ -18,7 +18,6 @@ pub mod Cuts
 pub mod Inserted
 pub mod Putting
 pub mod Refusals
-pub mod Samples
 pub mod KinLists
 pub mod KinTables
 pub mod KinTrees

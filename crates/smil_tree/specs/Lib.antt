@@ -3,4 +3,3 @@ pub mod Inherited
 pub mod Kept
 pub mod Kin
 pub mod Outcomes
-pub mod Sample

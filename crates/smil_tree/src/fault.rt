@@ -12,7 +12,8 @@ pub enum TreeFault {
     /// The node would have depth 32, the root having depth 0.
     #[error("too deep")]
     TooDeep,
-    /// The place is not from 1 to the number of children plus 1, or a node of this kind may not stand there.
+    /// The place is not from 1 to the number of children plus 1, or a node of this kind may not
+    /// stand there.
     #[error("a node of this kind may not stand there")]
     BadPlace,
     /// Another node has the id.

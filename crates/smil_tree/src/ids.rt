@@ -36,7 +36,8 @@ impl Ids {
         }
     }
 
-    /// The serial that an id leads to; None exactly where the table does not have the id. It takes no memory.
+    /// The serial that an id leads to; None exactly where the table does not have the id. It takes
+    /// no memory.
     pub fn get(&self, id: &[u8]) -> Option<u32>
         ensures { result ≡ lookup (bytes_eq id.now) self.now }
     {
@@ -45,7 +46,9 @@ impl Ids {
 
     /// Leads an id to a serial. Where memory runs out the table is as before.
     pub fn note(&mut self, id: &[u8], serial: u32) -> Result<(), AllocError>
-        ensures ok { OnOk result ((q : List ℕ) → lookup (bytes_eq q) self.new ≡ (if bytes_eq id.now q then Some serial else lookup (bytes_eq q) self.old)) }
+        ensures ok { OnOk result ((q : List ℕ)
+            → lookup (bytes_eq q) self.new
+            ≡ (if bytes_eq id.now q then Some serial else lookup (bytes_eq q) self.old)) }
         ensures err { OnErr result (self.new ≡ self.old) }
     {
         let key = Vec::from_slice(self.alloc, id)?;
@@ -55,15 +58,19 @@ impl Ids {
 
     /// Takes an id out of the table. It takes no memory.
     pub fn forget(&mut self, id: &[u8])
-        ensures { (q : List ℕ) → lookup (bytes_eq q) self.new ≡ (if bytes_eq id.now q then None else lookup (bytes_eq q) self.old) }
+        ensures { (q : List ℕ) → lookup (bytes_eq q) self.new
+            ≡ (if bytes_eq id.now q then None else lookup (bytes_eq q) self.old) }
     {
         self.serials.swap_remove(id);
     }
 }
 
-/// Leads the id of a node, if it has one, to its serial. Where memory runs out the table is as before.
+/// Leads the id of a node, if it has one, to its serial. Where memory runs out the table is as
+/// before.
 pub fn note_node(ids: &mut Ids, node: &Node) -> Result<(), AllocError>
-    ensures ok { OnOk result ((q : List ℕ) → lookup (bytes_eq q) ids.new ≡ (if bears q node.now then Some node.now.serial else lookup (bytes_eq q) ids.old)) }
+    ensures ok { OnOk result ((q : List ℕ)
+        → lookup (bytes_eq q) ids.new ≡ (if bears q node.now then Some node.now.serial else lookup
+        (bytes_eq q) ids.old)) }
     ensures err { OnErr result (ids.new ≡ ids.old) }
 {
     match &node.attrs.id {
@@ -74,7 +81,8 @@ pub fn note_node(ids: &mut Ids, node: &Node) -> Result<(), AllocError>
 
 /// Takes the id of a node, if it has one, out of the table. It takes no memory.
 pub fn forget_node(ids: &mut Ids, node: &Node)
-    ensures { (q : List ℕ) → lookup (bytes_eq q) ids.new ≡ (if bears q node.now then None else lookup (bytes_eq q) ids.old) }
+    ensures { (q : List ℕ) → lookup (bytes_eq q) ids.new
+        ≡ (if bears q node.now then None else lookup (bytes_eq q) ids.old) }
 {
     if let Some(id) = &node.attrs.id {
         ids.forget(id.slice());

@@ -19,7 +19,8 @@ use std::marker::Model;
 // Lists of serials by a serial; one without a list has the empty one.
 type Lists = HashMap<u32, Vec<u32>>;
 
-/// The serials of the children and of the time children of each node, in document order, seen as two tables of lists.
+/// The serials of the children and of the time children of each node, in document order, seen as
+/// two tables of lists.
 #[derive(Drop)]
 pub struct Kin {
     children: Lists,
@@ -47,23 +48,24 @@ impl Kin {
         }
     }
 
-    /// The serials of the nodes with this parent, in document order; the root's parent is 0. It takes no memory.
+    /// The serials of the nodes with this parent, in document order; the root's parent is 0. It
+    /// takes no memory.
     pub fn children(&self, serial: u32) -> &[u32]
         ensures { result.now ≡ list_in self.now.children serial }
     {
         list_at(&self.children, serial)
     }
 
-    /// The serials of an element's time children, in document order; none for a priorityClass, and where there is no such
-    /// node. It takes no memory.
+    /// The serials of an element's time children, in document order; none for a priorityClass, and
+    /// where there is no such node. It takes no memory.
     pub fn time_children(&self, serial: u32) -> &[u32]
         ensures { result.now ≡ list_in self.now.time_children serial }
     {
         list_at(&self.time_children, serial)
     }
 
-    /// Takes in the node at a place among these nodes, which has this time parent and no children. Where memory runs out the
-    /// kin is still that of the other nodes.
+    /// Takes in the node at a place among these nodes, which has this time parent and no children.
+    /// Where memory runs out the kin is still that of the other nodes.
     pub fn grow(
         &mut self,
         nodes: &Nodes,
@@ -72,7 +74,9 @@ impl Kin {
     ) -> Result<(), AllocError>
         requires kin { IsKinOf self.old (cut at (at + 1) nodes.now) }
         requires ordered { IsOrdered nodes.now }
-        requires leaf { (n : AnyNode) × (slice_get nodes.now at ≡ Some n) × (children (cut at (at + 1) nodes.now) n.serial ≡ []) × (time_parent ≡ serial_of (time_parent_in nodes.now n.serial)) }
+        requires leaf { (n : AnyNode) × (slice_get nodes.now at ≡ Some n)
+            × (children (cut at (at + 1) nodes.now) n.serial ≡ [])
+            × (time_parent ≡ serial_of (time_parent_in nodes.now n.serial)) }
         ensures ok { OnOk result (IsKinOf self.new nodes.now) }
         ensures err { OnErr result (IsKinOf self.new (cut at (at + 1) nodes.now)) }
     {
@@ -86,14 +90,15 @@ impl Kin {
         Ok(())
     }
 
-    /// Lets go of the nodes from a place on up to another, which are a node with this time parent and its descendants. It
-    /// takes no memory.
+    /// Lets go of the nodes from a place on up to another, which are a node with this time parent
+    /// and its descendants. It takes no memory.
     pub fn shrink(&mut self, nodes: &Nodes, time_parent: Option<u32>, start: usize, end: usize)
         requires kin { IsKinOf self.old nodes.now }
         requires ordered { IsOrdered nodes.now }
         requires in_order { start ≤ end }
         requires within { end ≤ length nodes.now }
-        requires subtree { (n : AnyNode) × IsSubtree nodes.now start end n × (time_parent ≡ serial_of (time_parent_in nodes.now n.serial)) }
+        requires subtree { (n : AnyNode) × IsSubtree nodes.now start end n
+            × (time_parent ≡ serial_of (time_parent_in nodes.now n.serial)) }
         ensures { IsKinOf self.new (cut start end nodes.now) }
     {
         let node = nodes.at(start).unwrap();
@@ -151,7 +156,8 @@ fn join(lists: &mut Lists, owner: Option<u32>, nodes: &Nodes, node: &Node, at: u
     requires room { HasRoom owner lists.old.entries }
     requires distinct { IsDistinct nodes.now }
     requires there { slice_get nodes.now at ≡ Some node.now }
-    ensures { (t : ℕ → AnyNode → Bool) → AreListsOf t lists.old.entries (cut at (at + 1) nodes.now) → ((s : ℕ) → t s node.now ≡ is_serial s owner) → AreListsOf t lists.new.entries nodes.now }
+    ensures { (t : ℕ → AnyNode → Bool) → AreListsOf t lists.old.entries (cut at (at + 1) nodes.now)
+        → ((s : ℕ) → t s node.now ≡ is_serial s owner) → AreListsOf t lists.new.entries nodes.now }
 {
     if let Some(owner) = owner {
         let index = count_before(nodes, list_at(lists, owner), at);
@@ -163,19 +169,24 @@ fn join(lists: &mut Lists, owner: Option<u32>, nodes: &Nodes, node: &Node, at: u
 fn put(lists: &mut Lists, owner: u32, index: usize, serial: u32)
     requires room { HasRoom (Some owner) lists.old.entries }
     requires within { index ≤ length (list_of lists.old.entries owner) }
-    ensures { (s : ℕ) → list_of lists.new.entries s ≡ (if owner == s then insert (list_of lists.old.entries s) index serial else list_of lists.old.entries s) }
+    ensures { (s : ℕ) → list_of lists.new.entries s
+        ≡ (if owner == s then insert (list_of lists.old.entries s) index serial else list_of
+        lists.old.entries s) }
 {
     let list = lists.get_mut(&owner).unwrap();
     list.insert(index, serial).unwrap();
 }
 
-// Lets go of the nodes from a place on up to another, in the list of a serial, if there is one, and of their own lists.
+// Lets go of the nodes from a place on up to another, in the list of a serial, if there is one, and
+// of their own lists.
 fn leave(lists: &mut Lists, owner: Option<u32>, nodes: &Nodes, start: usize, end: usize)
     requires distinct { IsDistinct nodes.now }
     requires in_order { start ≤ end }
     requires within { end ≤ length nodes.now }
     requires lists { (t : ℕ → AnyNode → Bool) × AreListsOf t lists.old.entries nodes.now }
-    ensures { (t : ℕ → AnyNode → Bool) → AreListsOf t lists.old.entries nodes.now → Separates t owner start end nodes.now → AreListsOf t lists.new.entries (cut start end nodes.now) }
+    ensures { (t : ℕ → AnyNode → Bool) → AreListsOf t lists.old.entries nodes.now
+        → Separates t owner start end nodes.now
+        → AreListsOf t lists.new.entries (cut start end nodes.now) }
 {
     if let Some(owner) = owner {
         let list = list_at(lists, owner);
@@ -190,7 +201,9 @@ fn leave(lists: &mut Lists, owner: Option<u32>, nodes: &Nodes, start: usize, end
 fn take_out(lists: &mut Lists, owner: u32, first: usize, past: usize)
     requires in_order { first ≤ past }
     requires within { past ≤ length (list_of lists.old.entries owner) }
-    ensures { (s : ℕ) → list_of lists.new.entries s ≡ (if owner == s then cut first past (list_of lists.old.entries s) else list_of lists.old.entries s) }
+    ensures { (s : ℕ) → list_of lists.new.entries s
+        ≡ (if owner == s then cut first past (list_of lists.old.entries s) else list_of
+        lists.old.entries s) }
 {
     if let Some(list) = lists.get_mut(&owner) {
         cut(list, first, past);
@@ -210,7 +223,9 @@ fn cut(list: &mut Vec<u32>, first: usize, past: usize)
 fn forget(lists: &mut Lists, nodes: &Nodes, start: usize, end: usize)
     requires in_order { start ≤ end }
     requires within { end ≤ length nodes.now }
-    ensures { (s : ℕ) → list_of lists.new.entries s ≡ (if list_any (λ (n : AnyNode). n.serial == s) (slice_range nodes.now start end) then [] else list_of lists.old.entries s) }
+    ensures { (s : ℕ) → list_of lists.new.entries s
+        ≡ (if list_any (λ (n : AnyNode). n.serial == s) (slice_range nodes.now start end) then []
+        else list_of lists.old.entries s) }
 {
     for place in start..end {
         let node = nodes.at(place).unwrap();
@@ -218,11 +233,14 @@ fn forget(lists: &mut Lists, nodes: &Nodes, start: usize, end: usize)
     }
 }
 
-// How many of these serials, in document order, stand before a place, from which on some nodes may be left out.
+// How many of these serials, in document order, stand before a place, from which on some nodes may
+// be left out.
 fn count_before(nodes: &Nodes, list: &[u32], at: usize) -> usize
     requires { IsDistinct nodes.now }
     ensures within { result ≤ length list.now }
-    ensures count { (t : AnyNode → Bool) (past : ℕ) → at ≤ past → list.now ≡ serials (filter t (cut at past nodes.now)) → result ≡ length (filter t (take at nodes.now)) }
+    ensures count { (t : AnyNode → Bool) (past : ℕ) → at ≤ past
+        → list.now ≡ serials (filter t (cut at past nodes.now))
+        → result ≡ length (filter t (take at nodes.now)) }
 {
     list.partition_point(|serial| is_before(nodes, *serial, at))
 }

@@ -52,7 +52,8 @@ impl Nodes {
         self.order.len()
     }
 
-    /// The node at a place from 0; None exactly where the place is not below the length. It takes no memory.
+    /// The node at a place from 0; None exactly where the place is not below the length. It takes
+    /// no memory.
     pub fn at(&self, place: usize) -> Option<&Node>
         ensures { option_copied result ≡ slice_get self.now place }
     {
@@ -60,7 +61,8 @@ impl Nodes {
         self.slab.get(*key)
     }
 
-    /// The place of the node with a serial; None exactly where there is no such node. It takes no memory.
+    /// The place of the node with a serial; None exactly where there is no such node. It takes no
+    /// memory.
     pub fn place(&self, serial: u32) -> Option<usize>
         ensures { result ≡ position (λ (n : AnyNode). n.serial == serial) self.now }
     {
@@ -147,7 +149,8 @@ fn put(order: &mut IndexMap<u32, usize>, slab: &mut Slab<Node>, place: usize, no
     requires fresh { key_at nat_eq order.old node.serial ≡ None }
     requires was_held { IsHeld slab.old order.old.entries }
     ensures is_held { IsHeld slab.new order.new.entries }
-    ensures nodes { held slab.new order.new.entries ≡ insert (held slab.old order.old.entries) place node }
+    ensures nodes { held slab.new order.new.entries
+        ≡ insert (held slab.old order.old.entries) place node }
 {
     let serial = node.serial;
     let key = slab.insert_reserved(node);
@@ -158,7 +161,8 @@ fn put(order: &mut IndexMap<u32, usize>, slab: &mut Slab<Node>, place: usize, no
 fn let_go(order: &IndexMap<u32, usize>, slab: &mut Slab<Node>, place: usize, end: usize)
     requires was_held { IsHeld slab.old order.now.entries }
     requires within { end ≤ index_map_len order.now }
-    ensures { (key : ℕ) → list_any (λ (e : ℕ × ℕ). e.1 == key) (cut place end order.now.entries) ≡ true → get slab.new key ≡ get slab.old key }
+    ensures { (key : ℕ) → list_any (λ (e : ℕ × ℕ). e.1 == key) (cut place end order.now.entries)
+        ≡ true → get slab.new key ≡ get slab.old key }
 {
     for at in place..end {
         let (_, key) = order.get_index(at).unwrap();

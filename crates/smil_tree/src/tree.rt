@@ -80,7 +80,8 @@ impl Tree {
         let _kept = &self.next;
     }
 
-    /// The serial of a node by its id or serial; None exactly where there is no such node. It takes no memory.
+    /// The serial of a node by its id or serial; None exactly where there is no such node. It takes
+    /// no memory.
     pub fn find(&self, who: &Who) -> Option<u32>
         ensures { result ≡ serial_of (node_of self.now.nodes who.now) }
     {
@@ -90,15 +91,16 @@ impl Tree {
         }
     }
 
-    /// The place of a node in document order, from 0; None exactly where there is no such node. It takes no memory.
+    /// The place of a node in document order, from 0; None exactly where there is no such node. It
+    /// takes no memory.
     pub fn position(&self, serial: u32) -> Option<usize>
         ensures { result ≡ first_place (λ (n : AnyNode). n.serial == serial) self.now.nodes }
     {
         self.nodes.place(serial)
     }
 
-    /// The serial of the node at a place in document order, from 0; None exactly where the place is not below the number
-    /// of nodes. It takes no memory.
+    /// The serial of the node at a place in document order, from 0; None exactly where the place is
+    /// not below the number of nodes. It takes no memory.
     pub fn serial_at(&self, position: usize) -> Option<u32>
         ensures { result ≡ serial_of (slice_get self.now.nodes position) }
     {
@@ -116,7 +118,8 @@ impl Tree {
     /// The attributes of a node. It takes no memory.
     pub fn attrs(&self, serial: u32) -> &Attrs
         requires { IsSome (node_at self.now.nodes serial) }
-        ensures { Some result.now ≡ option_map (λ (n : AnyNode). n.attrs) (node_at self.now.nodes serial) }
+        ensures { Some result.now ≡ option_map (λ (n : AnyNode). n.attrs)
+            (node_at self.now.nodes serial) }
     {
         &self.nodes.get(serial).unwrap().attrs
     }
@@ -195,6 +198,3 @@ fn references_of(doc: &Doc) -> usize
     }
     count
 }
-
-#[cfg(test)]
-mod tests;

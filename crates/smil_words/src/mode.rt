@@ -26,8 +26,8 @@ pub enum Mode {
 #[derive(Clone, Copy, Debug, PartialEq, Eq)]
 pub struct Words;
 
-/// What the words ask for: exactly `run`, `check`, or `gen` and a number from 1 to `SESSIONS`, of digits without a leading 0.
-/// Any other words are refused. It takes no memory.
+/// What the words ask for: exactly `run`, `check`, or `gen` and a number from 1 to `SESSIONS`, of
+/// digits without a leading 0. Any other words are refused. It takes no memory.
 pub fn read_words(words: &WordList) -> Result<Mode, Words>
     ensures { result_ok result ≡ mode_of words.now }
 {

@@ -1,5 +1,5 @@
-//! Reads a session of script lines from the standard input and writes its transcript to the standard output, or does
-//! what else the words ask for.
+//! Reads a session of script lines from the standard input and writes its transcript to the
+//! standard output, or does what else the words ask for.
 #![tactic(auto)]
 
 ghost use Rattle.std.specs.Prelude.{◌≡◌, ◌<◌, ◌≤◌, false};
@@ -62,10 +62,13 @@ fn play<S: Source, K: Sink, L: Ledger>(
     requires backed { 0 < blank.parts }
     ensures serves { (status : Status) × (exit_status result ≡ exit_number_of status)
         × Serves (mode_of words.now) status
-        (S.rest source.old) (S.rest source.new) (K.taken sink.old) (K.taken sink.new) (K.sure_room sink.old) }
+        (S.rest source.old) (S.rest source.new) (K.taken sink.old) (K.taken sink.new)
+        (K.sure_room sink.old) }
     ensures unread { reads (mode_of words.now) ≡ false → source.new ≡ source.old }
-    ensures read_cause { exit_status result ≡ 3 → HasRisen (S.faults source.old) (S.faults source.new) }
-    ensures write_cause { exit_status result ≡ 4 → HasRisen (K.faults sink.old) (K.faults sink.new) }
+    ensures read_cause { exit_status result ≡ 3
+        → HasRisen (S.faults source.old) (S.faults source.new) }
+    ensures write_cause { exit_status result ≡ 4
+        → HasRisen (K.faults sink.old) (K.faults sink.new) }
     ensures bound { exit_status result ≤ 6 }
 {
     let mut steps = Steps::<L>::new(blank);

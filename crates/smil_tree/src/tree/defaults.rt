@@ -13,12 +13,13 @@ use crate::nodes::Nodes;
 use smil_model::{Attrs, Fill, FillDefault, Node, Restart, RestartDefault};
 
 impl Tree {
-    /// The restart of an element: its `restart`, or where that is absent or `default` the `restartDefault` of the nearest
-    /// element, itself or above it, that states one, or else `always` (SMIL 3.0 Timing, the `restartDefault` attribute). It
-    /// takes no memory.
+    /// The restart of an element: its `restart`, or where that is absent or `default` the
+    /// `restartDefault` of the nearest element, itself or above it, that states one, or else
+    /// `always` (SMIL 3.0 Timing, the `restartDefault` attribute). It takes no memory.
     pub fn restart_of(&self, serial: u32) -> Restart
         requires { IsSome (node_at self.now.nodes serial) }
-        ensures restart { Some result ≡ option_map (restart_of self.now.nodes) (node_at self.now.nodes serial) }
+        ensures restart { Some result ≡ option_map (restart_of self.now.nodes)
+            (node_at self.now.nodes serial) }
         ensures stated { result ≡ restart.ByDefault → ⊥ }
     {
         let node = self.nodes.get(serial).unwrap();
@@ -28,12 +29,13 @@ impl Tree {
         }
     }
 
-    /// The fill of an element: its `fill`, or where that is absent or `default` the `fillDefault` of the nearest element,
-    /// itself or above it, that states one, or else `auto` (SMIL 3.0 Timing, the `fillDefault` attribute). It takes no
-    /// memory.
+    /// The fill of an element: its `fill`, or where that is absent or `default` the `fillDefault`
+    /// of the nearest element, itself or above it, that states one, or else `auto` (SMIL 3.0
+    /// Timing, the `fillDefault` attribute). It takes no memory.
     pub fn fill_of(&self, serial: u32) -> Fill
         requires { IsSome (node_at self.now.nodes serial) }
-        ensures fill { Some result ≡ option_map (fill_of self.now.nodes) (node_at self.now.nodes serial) }
+        ensures fill { Some result ≡ option_map (fill_of self.now.nodes)
+            (node_at self.now.nodes serial) }
         ensures stated { result ≡ fill.ByDefault → ⊥ }
     {
         let node = self.nodes.get(serial).unwrap();
@@ -96,7 +98,8 @@ fn default_fill(nodes: &Nodes, serial: u32) -> Fill
 
 // The restart that a node states as the default; a priorityClass states none.
 fn stated_restart(node: &Node) -> Option<Restart>
-    ensures { result ≡ (if is_element node.now then option_and_then restart_stated node.now.attrs.restart_default else None) }
+    ensures { result ≡ (if is_element node.now then option_and_then restart_stated
+        node.now.attrs.restart_default else None) }
 {
     if !node.kind.is_element() {
         return None;
@@ -111,7 +114,8 @@ fn stated_restart(node: &Node) -> Option<Restart>
 
 // The fill that a node states as the default; a priorityClass states none.
 fn stated_fill(node: &Node) -> Option<Fill>
-    ensures { result ≡ (if is_element node.now then option_and_then fill_stated node.now.attrs.fill_default else None) }
+    ensures { result ≡ (if is_element node.now then option_and_then fill_stated
+        node.now.attrs.fill_default else None) }
 {
     if !node.kind.is_element() {
         return None;

@@ -19,9 +19,10 @@ use smil_model::{Attr, AttrName, Bytes, REFERENCES};
 use std::alloc::AllocError;
 
 impl Tree {
-    /// Gives a node an attribute, which fits its kind and its parent's kind. Refused where another node has the id
-    /// (`DuplicateId`), then where more than 32,000 items would refer to an element or an event (`TooManyReferences`), and
-    /// where memory runs out (`Memory`). After a refusal the tree is as before.
+    /// Gives a node an attribute, which fits its kind and its parent's kind. Refused where another
+    /// node has the id (`DuplicateId`), then where more than 32,000 items would refer to an element
+    /// or an event (`TooManyReferences`), and where memory runs out (`Memory`). After a refusal the
+    /// tree is as before.
     pub fn set(&mut self, serial: u32, attr: Attr) -> Result<(), TreeFault>
         requires { may_take self.old.nodes serial attr ≡ true }
         ensures ok { OnOk result (set_outcome self.old serial attr ≡ Ok self.new) }
@@ -97,9 +98,11 @@ fn rename(ids: &mut Ids, nodes: &Nodes, serial: u32, attr: &Attr) -> Result<(), 
     requires known { IsSome (node_at nodes.now serial) }
     requires distinct { IsDistinct nodes.now }
     requires once { (q : List ℕ) → count_by (bears q) nodes.now ≤ 1 }
-    requires still_once { (q : List ℕ) → count_by (bears q) (changed_at (λ attrs. with_attr attrs attr.now) serial nodes.now) ≤ 1 }
+    requires still_once { (q : List ℕ)
+        → count_by (bears q) (changed_at (λ attrs. with_attr attrs attr.now) serial nodes.now) ≤ 1 }
     requires table { IsTableOf ids.old nodes.now }
-    ensures ok { OnOk result (IsTableOf ids.new (changed_at (λ attrs. with_attr attrs attr.now) serial nodes.now)) }
+    ensures ok { OnOk result (IsTableOf ids.new
+        (changed_at (λ attrs. with_attr attrs attr.now) serial nodes.now)) }
     ensures err { OnErr result (ids.new ≡ ids.old) }
 {
     match attr {
@@ -113,7 +116,9 @@ fn rename(ids: &mut Ids, nodes: &Nodes, serial: u32, attr: &Attr) -> Result<(), 
 
 // The table with another id for a serial.
 fn exchange(ids: &mut Ids, old: &Option<Bytes>, new: &[u8], serial: u32) -> Result<(), AllocError>
-    ensures ok { OnOk result ((q : List ℕ) → lookup (bytes_eq q) ids.new ≡ (if bytes_eq new.now q then Some serial else (if has_id q old.now then None else lookup (bytes_eq q) ids.old))) }
+    ensures ok { OnOk result ((q : List ℕ)
+        → lookup (bytes_eq q) ids.new ≡ (if bytes_eq new.now q then Some serial else
+        (if has_id q old.now then None else lookup (bytes_eq q) ids.old))) }
     ensures err { OnErr result (ids.new ≡ ids.old) }
 {
     ids.note(new, serial)?;
@@ -123,7 +128,9 @@ fn exchange(ids: &mut Ids, old: &Option<Bytes>, new: &[u8], serial: u32) -> Resu
 
 // The table without an id, unless it is this one.
 fn forget_other(ids: &mut Ids, old: &Option<Bytes>, new: &[u8])
-    ensures { (q : List ℕ) → lookup (bytes_eq q) ids.new ≡ (if bytes_eq new.now q then lookup (bytes_eq q) ids.old else (if has_id q old.now then None else lookup (bytes_eq q) ids.old)) }
+    ensures { (q : List ℕ) → lookup (bytes_eq q) ids.new
+        ≡ (if bytes_eq new.now q then lookup (bytes_eq q) ids.old else
+        (if has_id q old.now then None else lookup (bytes_eq q) ids.old)) }
 {
     match old {
         Some(old) if old.slice() != new => ids.forget(old.slice()),

@@ -20,15 +20,16 @@ impl Tree {
         Some(self.nodes.get(parent)?.serial)
     }
 
-    /// The serials of a node's children, priorityClasses included, in document order; none where there is no such node. It
-    /// takes no memory.
+    /// The serials of a node's children, priorityClasses included, in document order; none where
+    /// there is no such node. It takes no memory.
     pub fn children(&self, serial: u32) -> &[u32]
         ensures { result.now ≡ serials (children self.now.nodes serial) }
     {
         self.kin.children(serial)
     }
 
-    /// The serial of the priorityClass that a node is a child of; None exactly where its parent is none. It takes no memory.
+    /// The serial of the priorityClass that a node is a child of; None exactly where its parent is
+    /// none. It takes no memory.
     pub fn class_of(&self, serial: u32) -> Option<u32>
         requires { IsSome (node_at self.now.nodes serial) }
         ensures { result ≡ serial_of (class_of self.now.nodes serial) }
@@ -37,8 +38,8 @@ impl Tree {
         class_at(self.nodes.get(parent)?)
     }
 
-    /// The serial of a node's time parent, the nearest element above it; None exactly where there is none. It takes no
-    /// memory.
+    /// The serial of a node's time parent, the nearest element above it; None exactly where there
+    /// is none. It takes no memory.
     pub fn time_parent(&self, serial: u32) -> Option<u32>
         requires { IsSome (node_at self.now.nodes serial) }
         ensures { result ≡ serial_of (time_parent self.now.nodes serial) }
@@ -47,16 +48,16 @@ impl Tree {
         element_from(&self.nodes, parent)
     }
 
-    /// The serials of an element's time children, the elements whose time parent it is, in document order; none for a
-    /// priorityClass, and where there is no such node. It takes no memory.
+    /// The serials of an element's time children, the elements whose time parent it is, in document
+    /// order; none for a priorityClass, and where there is no such node. It takes no memory.
     pub fn time_children(&self, serial: u32) -> &[u32]
         ensures { result.now ≡ serials (time_children self.now.nodes serial) }
     {
         self.kin.time_children(serial)
     }
 
-    /// The serial of the time child of a node at a place among its time children, from 0; None exactly where there are
-    /// not so many. It takes no memory.
+    /// The serial of the time child of a node at a place among its time children, from 0; None
+    /// exactly where there are not so many. It takes no memory.
     pub fn time_child(&self, serial: u32, k: usize) -> Option<u32>
         requires { IsSome (node_at self.now.nodes serial) }
         ensures { result ≡ serial_of (slice_get (time_children self.now.nodes serial) k) }

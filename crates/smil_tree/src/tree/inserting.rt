@@ -25,11 +25,13 @@ use smil_model::{Attrs, Kind, NODES, Node, REFERENCES, SERIALS};
 use std::alloc::AllocError;
 
 impl Tree {
-    /// Inserts a node without children into a node, at a place among its children that is counted from 1, with attributes
-    /// that fit its kind and its parent's kind. The answer is its serial, which no node had before. Refused as by
-    /// `may_insert` (`TooDeep`, `BadPlace`), then where another node has the id (`DuplicateId`), where there would be more
-    /// than 8,000 nodes or no serial is left (`TooManyElements`), where more than 32,000 items would refer to an element or
-    /// an event (`TooManyReferences`), and where memory runs out (`Memory`). After a refusal the tree is as before.
+    /// Inserts a node without children into a node, at a place among its children that is counted
+    /// from 1, with attributes that fit its kind and its parent's kind. The answer is its serial,
+    /// which no node had before. Refused as by `may_insert` (`TooDeep`, `BadPlace`), then where
+    /// another node has the id (`DuplicateId`), where there would be more than 8,000 nodes or no
+    /// serial is left (`TooManyElements`), where more than 32,000 items would refer to an element
+    /// or an event (`TooManyReferences`), and where memory runs out (`Memory`). After a refusal the
+    /// tree is as before.
     pub fn insert(
         &mut self,
         parent: u32,
@@ -62,7 +64,9 @@ impl Tree {
     // Whether one more node may have these attributes.
     fn has_room(&self, attrs: &Attrs) -> Result<(), TreeFault>
         requires { references_among attrs.now ≤ 2 * the_items }
-        ensures { (after : Document) → length after.nodes ≡ suc (length self.now.nodes) → references after.nodes ≡ references self.now.nodes + references_among attrs.now → and_after result (Ok after) ≡ room_outcome self.now attrs.now after }
+        ensures { (after : Document) → length after.nodes ≡ suc (length self.now.nodes)
+            → references after.nodes ≡ references self.now.nodes + references_among attrs.now
+            → and_after result (Ok after) ≡ room_outcome self.now attrs.now after }
     {
         if self.knows_id(attrs) {
             return Err(TreeFault::DuplicateId);
@@ -92,8 +96,10 @@ impl Tree {
     fn put(&mut self, at: usize, node: Node) -> Result<(), AllocError>
         requires within { at ≤ length self.old.nodes }
         requires serial { node.serial ≡ self.old.next }
-        requires valid { IsValid (record { nodes = insert self.old.nodes at node; next = suc self.old.next }) }
-        ensures ok { OnOk result (self.new ≡ record { nodes = insert self.old.nodes at node; next = suc self.old.next }) }
+        requires valid { IsValid (record
+            { nodes = insert self.old.nodes at node; next = suc self.old.next }) }
+        ensures ok { OnOk result (self.new
+            ≡ record { nodes = insert self.old.nodes at node; next = suc self.old.next }) }
         ensures err { OnErr result (self.new ≡ self.old) }
     {
         let references = references_in(&node.attrs);
@@ -112,12 +118,14 @@ impl Tree {
 fn take_note(ids: &mut Ids, kin: &mut Kin, nodes: &Nodes, at: usize) -> Result<(), AllocError>
     requires within { at < length nodes.now }
     requires ordered { IsOrdered nodes.now }
-    requires leaf { (n : AnyNode) → slice_get nodes.now at ≡ Some n → children (cut at (at + 1) nodes.now) n.serial ≡ [] }
+    requires leaf { (n : AnyNode) → slice_get nodes.now at ≡ Some n
+        → children (cut at (at + 1) nodes.now) n.serial ≡ [] }
     requires once { (q : List ℕ) → count_by (bears q) nodes.now ≤ 1 }
     requires table { IsTableOf ids.old (cut at (at + 1) nodes.now) }
     requires kin { IsKinOf kin.old (cut at (at + 1) nodes.now) }
     ensures ok { OnOk result (IsTableOf ids.new nodes.now × IsKinOf kin.new nodes.now) }
-    ensures err { OnErr result (IsTableOf ids.new (cut at (at + 1) nodes.now) × IsKinOf kin.new (cut at (at + 1) nodes.now)) }
+    ensures err { OnErr result (IsTableOf ids.new (cut at (at + 1) nodes.now)
+        × IsKinOf kin.new (cut at (at + 1) nodes.now)) }
 {
     let node = nodes.at(at).unwrap();
     note_node(ids, node)?;

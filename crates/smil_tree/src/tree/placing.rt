@@ -12,9 +12,10 @@ use crate::nodes::Nodes;
 use smil_model::{DEPTH, Kind};
 
 impl Tree {
-    /// Whether a child of this kind may be inserted into a node at a place, counted from 1. Refused where the child would
-    /// have depth 32 (`TooDeep`), then where the place is not from 1 to the number of children plus 1 or a node of this
-    /// kind may not stand there (`BadPlace`). It takes no memory.
+    /// Whether a child of this kind may be inserted into a node at a place, counted from 1. Refused
+    /// where the child would have depth 32 (`TooDeep`), then where the place is not from 1 to the
+    /// number of children plus 1 or a node of this kind may not stand there (`BadPlace`). It takes
+    /// no memory.
     pub fn may_insert(&self, parent: u32, place: usize, kind: Kind) -> Result<(), TreeFault>
         requires { IsSome (node_at self.now.nodes parent) }
         ensures { result ≡ place_outcome self.now.nodes parent place kind }
@@ -34,8 +35,10 @@ impl Tree {
 
 // Whether a child of this kind may stand at a place among the children of a node of another.
 fn may_place(nodes: &Nodes, children: &[u32], parent: Kind, place: usize, kind: Kind) -> bool
-    requires { (serial : ℕ) → slice_get children.now 0 ≡ Some serial → IsSome (node_at nodes.now serial) }
-    ensures { result ≡ (nat_lt 0 place && nat_le place (suc (length children.now)) && may_hold_kind parent kind && agrees_with_first nodes.now (slice_get children.now 0) kind) }
+    requires { (serial : ℕ) → slice_get children.now 0 ≡ Some serial
+        → IsSome (node_at nodes.now serial) }
+    ensures { result ≡ (nat_lt 0 place && nat_le place (suc (length children.now))
+        && may_hold_kind parent kind && agrees_with_first nodes.now (slice_get children.now 0) kind) }
 {
     has_place(children, place) && may_hold(parent, kind) && agrees(nodes, children, kind)
 }
@@ -60,7 +63,8 @@ fn may_hold(parent: Kind, child: Kind) -> bool
 
 // Whether the first child, if there is one, agrees with a kind in being a priorityClass or not.
 fn agrees(nodes: &Nodes, children: &[u32], kind: Kind) -> bool
-    requires { (serial : ℕ) → slice_get children.now 0 ≡ Some serial → IsSome (node_at nodes.now serial) }
+    requires { (serial : ℕ) → slice_get children.now 0 ≡ Some serial
+        → IsSome (node_at nodes.now serial) }
     ensures { result ≡ agrees_with_first nodes.now (slice_get children.now 0) kind }
 {
     match children.first() {

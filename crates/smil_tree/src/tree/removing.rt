@@ -18,8 +18,9 @@ use crate::nodes::Nodes;
 use crate::references::references_in;
 
 impl Tree {
-    /// Removes a node with its descendants; their ids may be given again, their serials are not. Refused where the node has
-    /// no parent (`Root`), and then the tree is as before. It takes no memory.
+    /// Removes a node with its descendants; their ids may be given again, their serials are not.
+    /// Refused where the node has no parent (`Root`), and then the tree is as before. It takes no
+    /// memory.
     pub fn remove(&mut self, serial: u32) -> Result<(), TreeFault>
         requires { IsSome (node_at self.old.nodes serial) }
         ensures ok { OnOk result (remove_outcome self.old serial ≡ Ok self.new) }

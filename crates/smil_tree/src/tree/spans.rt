@@ -1,4 +1,5 @@
-//! Where the span of a node ends, which is the node with its descendants, and where a new child stands.
+//! Where the span of a node ends, which is the node with its descendants, and where a new child
+//! stands.
 
 ghost use Rattle.std.specs.Prelude.{◌≡◌, ℕ, ◌+◌, ◌-◌, ◌<◌, None, IsSome, filter, slice_get, slice_range};
 ghost use Rattle.smil_model.specs.declared.document.Node.{Node as AnyNode};
@@ -12,13 +13,20 @@ use crate::kin::Kin;
 use crate::nodes::Nodes;
 
 impl Tree {
-    /// The place in document order, from 0, of a node, and the one behind the last of its descendants: from the first up to
-    /// the second stand the node and its descendants, and no others. It takes no memory.
+    /// The place in document order, from 0, of a node, and the one behind the last of its
+    /// descendants: from the first up to the second stand the node and its descendants, and no
+    /// others. It takes no memory.
     pub fn span(&self, serial: u32) -> (usize, usize)
         requires { IsSome (node_at self.now.nodes serial) }
-        ensures places { result ≡ (place_in self.now.nodes serial, child_place self.now.nodes serial None) }
-        ensures within { slice_range self.now.nodes result.0 result.1 ≡ filter (λ (n : AnyNode). is_within self.now.nodes serial n.serial) self.now.nodes }
-        ensures below { slice_range self.now.nodes (result.0 + 1) result.1 ≡ descendants self.now.nodes serial }
+        ensures places { result ≡ (
+          place_in self.now.nodes serial,
+          child_place self.now.nodes serial
+              None,
+        ) }
+        ensures within { slice_range self.now.nodes result.0 result.1
+            ≡ filter (λ (n : AnyNode). is_within self.now.nodes serial n.serial) self.now.nodes }
+        ensures below { slice_range self.now.nodes (result.0 + 1) result.1
+            ≡ descendants self.now.nodes serial }
     {
         let start = self.nodes.place(serial).unwrap();
         let past = end_of(&self.nodes, &self.kin, serial);
@@ -40,13 +48,15 @@ pub fn end_of(nodes: &Nodes, kin: &Kin, serial: u32) -> usize
     nodes.place(at).unwrap() + 1
 }
 
-/// The place at which a new child of a node comes to stand, to be one of its children at a place counted from 1.
+/// The place at which a new child of a node comes to stand, to be one of its children at a place
+/// counted from 1.
 pub fn place_of_child(nodes: &Nodes, kin: &Kin, parent: u32, place: usize) -> usize
     requires counted { 0 < place }
     requires known { IsSome (node_at nodes.now parent) }
     requires kin { IsKinOf kin.now nodes.now }
     requires valid { (next : ℕ) × IsValid (record { nodes = nodes.now; next = next }) }
-    ensures { result ≡ child_place nodes.now parent (slice_get (children nodes.now parent) (place - 1)) }
+    ensures { result ≡ child_place nodes.now parent
+        (slice_get (children nodes.now parent) (place - 1)) }
 {
     match kin.children(parent).get(place - 1) {
         Some(child) => nodes.place(*child).unwrap(),
