@@ -1,8 +1,8 @@
 #!/usr/bin/env python3
 """slowest.py FOLDER [COUNT]: the modules of a crate on which the prover was longest, by the times at which it wrote
-what it had checked. FOLDER is what `rattle check` with `--jobs 1` was given as `--incremental`, empty before: in a
-crate's folder `rm -rf out/incremental; rt check --jobs 1`, and then FOLDER is out/incremental, where no other checkout on
-the machine has kept work of the crate. A module whose name ends in `Lts` is a function's lifetimes: it takes long where
+what it had checked. FOLDER is the folder that `rattle check --jobs 1` was given as `--incremental`, empty before. So in a
+crate's folder run `rm -rf out/incremental; rt check --jobs 1`, and give out/incremental; on a machine where no other
+checkout kept work of the crate, since a check begins with that. A module whose name ends in `Lts` is a function's lifetimes: it takes long where
 the function drops large values on its way out, say a document behind which another call may be refused."""
 import os
 import sys
