@@ -75,7 +75,7 @@ module _ (c : Course) (p : Progress) (heard : slice_get c.log p.heard ≡ None) 
   unheard : after_settling c p (slice_get c.log p.heard) ≡ None
   unheard = ap (λ (x : Option LogEntry). after_settling c p x) heard ∙ no_later
 
-  rests : (f : Option Coming) → ((x : Coming) → f ≡ Some x → is_due (pos p.moment) x.key ≡ false) → after_coming c p f ≡ None
+  pub rests : (f : Option Coming) → ((x : Coming) → f ≡ Some x → is_due (pos p.moment) x.key ≡ false) → after_coming c p f ≡ None
   rests None none = unheard
   rests (Some x) none = by_test (is_due (pos p.moment) x.key) (none x refl) (Some (record { moment = p.moment; heard = p.heard; diary = p.diary ++ group (history_at c p) (pos p.moment) x.key.serial x.change }))
     where

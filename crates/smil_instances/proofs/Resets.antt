@@ -8,7 +8,7 @@ use Rattle.smil_model.specs.document.Document.{time_parent}
 use Rattle.smil_model.specs.diary.Diary.{History, last_place, later_place, with_entry, gives_birth, birth_under, birth}
 use Rattle.smil_model.specs.diary.Plays.{is_birth_under}
 
-last_place-below : {A : Type 0} (test : A → Bool) (xs : List A) (k : ℕ) → last_place test xs ≡ Some k → suc k ≤ length xs
+pub last_place-below : {A : Type 0} (test : A → Bool) (xs : List A) (k : ℕ) → last_place test xs ≡ Some k → suc k ≤ length xs
 last_place-below test [] k q = cc
 last_place-below test (x ∷ xs) k q = step (test x) (last_place test xs) refl q (last_place-below test xs)
   where
@@ -18,11 +18,11 @@ last_place-below test (x ∷ xs) k q = step (test x) (last_place test xs) refl q
     step false None e q below = cc
 
 -- one that passes at the end is the last
-last_place-hit : {A : Type 0} (test : A → Bool) (xs : List A) (y : A) → test y ≡ true → last_place test (xs ++ y ∷ []) ≡ Some (length xs)
+pub last_place-hit : {A : Type 0} (test : A → Bool) (xs : List A) (y : A) → test y ≡ true → last_place test (xs ++ y ∷ []) ≡ Some (length xs)
 last_place-hit test [] y q = ap (λ t. later_place t None) q
 last_place-hit test (x ∷ xs) y q = ap (λ o. later_place (test x) o) (last_place-hit test xs y q)
 
-last_place-miss : {A : Type 0} (test : A → Bool) (xs : List A) (y : A) → test y ≡ false → last_place test (xs ++ y ∷ []) ≡ last_place test xs
+pub last_place-miss : {A : Type 0} (test : A → Bool) (xs : List A) (y : A) → test y ≡ false → last_place test (xs ++ y ∷ []) ≡ last_place test xs
 last_place-miss test [] y q = ap (λ t. later_place t None) q
 last_place-miss test (x ∷ xs) y q = ap (λ o. later_place (test x) o) (last_place-miss test xs y q)
 

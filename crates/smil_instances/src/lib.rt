@@ -31,6 +31,7 @@ pub use instances::Instances;
 pub use occurrence::occurs;
 pub use sensitivity::hears;
 pub use source::Source;
+pub use sources::{element_named, element_of};
 
 #[cfg(test)]
 mod dependents_tests;

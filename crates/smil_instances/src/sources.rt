@@ -34,7 +34,7 @@ pub fn kind_above(tree: &Tree, who: u32) -> Option<Kind>
 }
 
 /// The serial of the element with an id, if there is one.
-fn named(tree: &Tree, id: &Bytes) -> Result<Option<u32>, AllocError>
+pub fn element_named(tree: &Tree, id: &Bytes) -> Result<Option<u32>, AllocError>
     ensures { IfOk result (λ who. who ≡ serial_of (element_named tree.now.nodes id.now)) }
 {
     tree.valid();
@@ -43,7 +43,7 @@ fn named(tree: &Tree, id: &Bytes) -> Result<Option<u32>, AllocError>
 }
 
 /// The serial of an element, if there is such a node and it is no priorityClass.
-fn element_of(tree: &Tree, who: &Who) -> Option<u32>
+pub fn element_of(tree: &Tree, who: &Who) -> Option<u32>
     ensures { result ≡ serial_of (element_of tree.now.nodes who.now) }
 {
     tree.valid();
@@ -63,7 +63,7 @@ fn source_by(tree: &Tree, who: u32, id: &Option<Bytes>) -> Result<Source, AllocE
     let Some(id) = id else {
         return Ok(Source::Eventbase { of: who });
     };
-    match named(tree, id)? {
+    match element_named(tree, id)? {
         Some(of) => Ok(Source::Eventbase { of }),
         None => Ok(Source::Nothing),
     }
@@ -76,7 +76,7 @@ fn source_of(tree: &Tree, who: u32, item: &Item, by_offset: Source) -> Result<So
 {
     match item {
         Item::Offset { .. } => Ok(by_offset),
-        Item::Sync { who, edge, .. } => match named(tree, who)? {
+        Item::Sync { who, edge, .. } => match element_named(tree, who)? {
             Some(of) => Ok(Source::Syncbase { of, edge: *edge }),
             None => Ok(Source::Nothing),
         },

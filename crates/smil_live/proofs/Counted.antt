@@ -38,26 +38,24 @@ counted_first counts s steps = record {
   least = nothing_fresh s counts steps;
 }
 
--- two standings, one after the other, with the same document and log
-module _ (old mid new : Standing) (document : mid.presentation.document ≡ old.presentation.document) (log : new.presentation.log ≡ mid.presentation.log)
-    (m n : List Entry) (first : mid.diary ≡ old.diary ++ m) (second : new.diary ≡ mid.diary ++ n) where
+pub drops : (x y z : List Entry) → z ≡ x ++ y → drop (length x) z ≡ y
+drops x y z e = ap (drop (length x)) e ∙ drop-append_seam x y
+
+-- two standings, one after the other, with the same document; the first entries reach as many elements by the new log
+module _ (old mid new : Standing) (document : mid.presentation.document ≡ old.presentation.document)
+    (m n : List Entry) (first : mid.diary ≡ old.diary ++ m) (second : new.diary ≡ mid.diary ++ n)
+    (by_mid : reached_since old mid ≡ reaches old.presentation.document.nodes new.presentation.log m) where
   whole : new.diary ≡ old.diary ++ (m ++ n)
   whole = second ∙ ap (λ (x : List Entry). x ++ n) first ∙ append_assoc old.diary m n
-
-  drops : (x y z : List Entry) → z ≡ x ++ y → drop (length x) z ≡ y
-  drops x y z e = ap (drop (length x)) e ∙ drop-append_seam x y
 
   -- the reaches add up
   adds_up : reached_since old new ≡ reached_since old mid + reached_since mid new
   adds_up =
       let nodes = old.presentation.document.nodes in
-      let entries = mid.presentation.log in
-      let all : reached_since old new ≡ reaches nodes entries (m ++ n) =
-      ap (λ (l : List LogEntry). reaches nodes l (drop (length old.diary) new.diary)) log ∙ ap (reaches nodes entries) (drops old.diary (m ++ n) new.diary whole) in
-      let by_mid : reached_since old mid ≡ reaches nodes entries m = ap (reaches nodes entries) (drops old.diary m mid.diary first) in
+      let entries = new.presentation.log in
+      let all : reached_since old new ≡ reaches nodes entries (m ++ n) = ap (reaches nodes entries) (drops old.diary (m ++ n) new.diary whole) in
       let by_new : reached_since mid new ≡ reaches nodes entries n =
-      ap (λ (d : Document). reaches d.nodes new.presentation.log (drop (length mid.diary) new.diary)) document
-      ∙ ap (λ (l : List LogEntry). reaches nodes l (drop (length mid.diary) new.diary)) log ∙ ap (reaches nodes entries) (drops mid.diary n new.diary second) in
+      ap (λ (d : Document). reaches d.nodes entries (drop (length mid.diary) new.diary)) document ∙ ap (reaches nodes entries) (drops mid.diary n new.diary second) in
       three (reached_since old new) (reached_since old mid) (reached_since mid new) (reaches nodes entries (m ++ n)) (reaches nodes entries m) (reaches nodes entries n) all by_mid by_new
       (sum_by-append (λ (x : Entry). length (reach nodes entries x)) m n)
     where
@@ -85,8 +83,8 @@ module _ (old mid new : Standing) (document : mid.presentation.document ≡ old.
         numbers : (x y z : ℕ) → z ≤ x + y → a ≤ b → x ≤ b - a → y ≤ c - b → z ≤ c - a
         numbers x y z e f p q = omega (arith, e, f, p, q, later)
 
-    counted_on : (counts : Bool) → IsCounted counts old mid a b → WhereTold counts (c - b ≤ reached_since mid new) → WhereTold counts (fresh_since mid new ≤ c - b) → IsCounted counts old new a c
-    counted_on counts is most least = record {
+    pub counted_by : (counts : Bool) → IsCounted counts old mid a b → WhereTold counts (c - b ≤ reached_since mid new) → WhereTold counts (fresh_since mid new ≤ c - b) → IsCounted counts old new a c
+    counted_by counts is most least = record {
       diary = (m ++ n, whole);
       from = let f = is.from in omega (arith, f, later);
       most = reached_then counts is most;
@@ -98,7 +96,11 @@ pub counted_then : (counts : Bool) (old mid new : Standing) (moment : ℕ) (show
     → b ≤ c → IsShownAt (moved_to mid.presentation moment) new shown → GoesOn mid new → WhereTold counts (c - b ≤ reached_since mid new) → WhereTold counts (fresh_since mid new ≤ c - b)
     → IsCounted counts old new a c
 counted_then counts old mid new moment shown a b c moved is later at on most least =
-    counted_on old mid new (ap (λ (p : Presentation). p.document) moved) (ap (λ (p : Presentation). p.log) at.presentation_is) is.diary.0 on.diary.0 is.diary.1 on.diary.1 a b c later counts is most least
+    let nodes = old.presentation.document.nodes in
+    let log : new.presentation.log ≡ mid.presentation.log = ap (λ (p : Presentation). p.log) at.presentation_is in
+    let by_mid : reached_since old mid ≡ reaches nodes new.presentation.log is.diary.0 =
+    ap (λ (l : List LogEntry). reaches nodes l (drop (length old.diary) mid.diary)) (sym log) ∙ ap (reaches nodes new.presentation.log) (drops old.diary is.diary.0 mid.diary is.diary.1) in
+    counted_by old mid new (ap (λ (p : Presentation). p.document) moved) is.diary.0 on.diary.0 is.diary.1 on.diary.1 by_mid a b c later counts is most least
 
 pub counted_last : {A E : Type 0} (r : Result A E) (counts : Bool) (old mid new : Standing) (moment : ℕ) (shown : Shown) (a b c : ℕ) → mid.presentation ≡ moved_to old.presentation mid.presentation.now
     → IsCounted counts old mid a b → b ≤ c → OnOk r (IsShownAt (moved_to mid.presentation moment) new shown) → OnOk r (GoesOn mid new) → OnOk r (WhereTold counts (c - b ≤ reached_since mid new))

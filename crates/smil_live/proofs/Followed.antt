@@ -22,7 +22,7 @@ use Rattle.smil_stretch.specs.Clocks.{AreClocksOf}
 use Rattle.smil_stretch.specs.declared.clock.NodeClock.{NodeClock}
 use Rattle.smil_stretch.proofs.Moments.{EachUntil, le_from, le_self, rising_push}
 use Rattle.smil_past.proofs.Clocked.{outer_with, each_until, fold_with}
-use Rattle.smil_past.proofs.Shown.{AreUntil, IsMarked, IsUntil, mark_with}
+use Rattle.smil_past.proofs.Shown.{AreUntil, IsMarked, IsUntil, mark_with, until_after}
 use Rattle.smil_live.specs.declared.told.Told.{Told}
 use Rattle.smil_live.specs.Histories.{IsTold, begin_after, begin_by, closed_by, closed_text, finish_line, finished_text, told_begin, told_line}
 
@@ -48,41 +48,10 @@ module _ (h : History) (y : Entry) (s : ℕ) (lawful : IsLawful (with_entry h y)
 
 -- ---- no mark is later than a moment
 
-each_more : (m : ℤ) (fs : List Finished) (f : Finished) → AllByRecursion (IsUntil m) fs → IsUntil m f → AllByRecursion (IsUntil m) (fs ++ f ∷ [])
-each_more m [] f each is = (is, tt)
-each_more m (g ∷ gs) f each is = (each.0, each_more m gs f each.1 is)
-
-finish_until : (m : ℤ) (o : Option Mark) (k : Mark) (cut : Bool) (fs : List Finished) → IsMarked m o → int_le k.moment m ≡ true → AllByRecursion (IsUntil m) fs → AllByRecursion (IsUntil m) (finish_with o k cut fs)
-finish_until m None k cut fs is le each = each
-finish_until m (Some b) k cut fs is le each = each_more m fs _ each (record { begin = is; finish = le })
-
 module _ (h : History) (s : ℕ) (m : ℤ) where
-  until_after : (at : ℤ) → int_le at m ≡ true → (b : Plays) (step : Step) → AreUntil m b → AreUntil m (play_after h s at b step)
-  until_after at le b (Began who begin) are = by_own (who == s)
-    where
-      by_own : (t : Bool) → AreUntil m (cond t (record { present = Some (record { value = begin; moment = at }); finished = b.finished }) b)
-      by_own true = record { present = le; finished = are.finished }
-      by_own false = are
-  until_after at le b (Ended who end') are = by_own (who == s)
-    where
-      by_own : (t : Bool) → AreUntil m (cond t (record { present = None; finished = finish_with b.present (record { value = end'; moment = at }) false b.finished }) b)
-      by_own true = record { present = tt; finished = finish_until m b.present _ false b.finished are.present le are.finished }
-      by_own false = are
-  until_after at le b (Cut who) are = by_own (who == s)
-    where
-      by_own : (t : Bool) → AreUntil m (cond t (record { present = None; finished = finish_with b.present (record { value = outer h s at; moment = at }) true b.finished }) b)
-      by_own true = record { present = tt; finished = finish_until m b.present _ true b.finished are.present le are.finished }
-      by_own false = are
-  until_after at le b (Repeated who start) are = are
-  until_after at le b (Paused who) are = are
-  until_after at le b (Resumed who) are = are
-  until_after at le b (Deferred who begin) are = are
-  until_after at le b (Passed who begin) are = are
-  until_after at le b (Logged place) are = are
-
   until_fold : (b : Plays) (ds : List Entry) → EachUntil m ds → AreUntil m b → AreUntil m (fold (λ p (x : Entry). play_after h s x.moment p x.step) b ds)
   until_fold b [] each are = are
-  until_fold b (x ∷ xs) each are = until_fold (play_after h s x.moment b x.step) xs each.1 (until_after x.moment each.0 b x.step are)
+  until_fold b (x ∷ xs) each are = until_fold (play_after h s x.moment b x.step) xs each.1 (until_after h s m x.moment each.0 b x.step are)
 
 all_until : (h : History) (y : Entry) (s : ℕ) → IsLawful (with_entry h y) → AreUntil y.moment (all_plays h s)
 all_until h y s lawful = until_fold h s y.moment (record { present = None; finished = [] }) h.diary (each_until h y lawful) (record { present = tt; finished = tt })

@@ -22,6 +22,7 @@ use Rattle.smil_laws.proofs.Further.{is_past}
 use Rattle.smil_laws.proofs.Jumping.{over_quiet}
 use Rattle.smil_laws.proofs.Numbered.{ordered}
 use Rattle.smil_laws.proofs.Quiet.{same_later, until_later}
+use Rattle.smil_cells.proofs.Passing.{rests}
 use Rattle.smil_live.proofs.Ended.{comes_to, diary_few}
 use Rattle.smil_live.proofs.Resolved.{history_with, views_are}
 
@@ -44,30 +45,6 @@ as_before h m (suc k) first past =
   where
     same : suc m + k ≡ m + suc k
     same = omega arith
-
--- ---- a resolution at rest
-
-module _ (c : Course) (p : Progress) (heard : slice_get c.log p.heard ≡ None) (last : c.last ≡ p.moment) where
-  no_later : after_quiet c p ≡ None
-  no_later = rw last (by_test (nat_lt p.moment p.moment) (irreflexive p.moment) (Some (record { moment = suc p.moment; heard = p.heard; diary = p.diary })))
-    where
-      irreflexive : (n : ℕ) → nat_lt n n ≡ false
-      irreflexive n = grind arith
-
-      by_test : (b : Bool) → b ≡ false → (x : Option Progress) → cond b x None ≡ None
-      by_test true e x = cc
-      by_test false e x = refl
-
-  unheard : after_settling c p (slice_get c.log p.heard) ≡ None
-  unheard = ap (λ (x : Option LogEntry). after_settling c p x) heard ∙ no_later
-
-  rests : (f : Option Coming) → ((x : Coming) → f ≡ Some x → is_due (pos p.moment) x.key ≡ false) → after_coming c p f ≡ None
-  rests None none = unheard
-  rests (Some x) none = by_test (is_due (pos p.moment) x.key) (none x refl) (Some (record { moment = p.moment; heard = p.heard; diary = p.diary ++ group (history_at c p) (pos p.moment) x.key.serial x.change }))
-    where
-      by_test : (b : Bool) → b ≡ false → (y : Option Progress) → cond b y (after_settling c p (slice_get c.log p.heard)) ≡ None
-      by_test true e y = cc
-      by_test false e y = unheard
 
 -- ---- a presentation with its diary
 

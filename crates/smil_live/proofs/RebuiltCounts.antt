@@ -22,7 +22,7 @@ use Rattle.smil_cells.specs.Standing.{GoesOn, IsSettled, Standing, WhereTold, an
 use Rattle.smil_cells.proofs.OnWay.{triangle}
 use Rattle.smil_live.specs.Counts.{interval_by, least_loading, reached_behind}
 use Rattle.smil_live.specs.Moves.{IsReplayed}
-use Rattle.smil_live.proofs.Counted.{IsCounted}
+use Rattle.smil_live.proofs.Counted.{IsCounted, counted_by, drops}
 use Rattle.smil_live.proofs.Ended.{diary_is, has_ended}
 use Rattle.smil_live.proofs.Resolved.{resolved_is}
 
@@ -96,64 +96,16 @@ none_since n s = subst (λ (l : List Entry). NamesBelow n l) (sym (all_dropped s
 
 -- ---- one standing after another, with a longer log
 
-module _ (old mid new : Standing) (document : mid.presentation.document ≡ old.presentation.document) (rest : List LogEntry) (log : new.presentation.log ≡ mid.presentation.log ++ rest)
-    (named : NamesBelow (length mid.presentation.log) (drop (length old.diary) mid.diary)) (m n : List Entry) (first : mid.diary ≡ old.diary ++ m) (second : new.diary ≡ mid.diary ++ n) where
-  whole : new.diary ≡ old.diary ++ (m ++ n)
-  whole = second ∙ ap (λ (x : List Entry). x ++ n) first ∙ append_assoc old.diary m n
-
-  drops : (x y z : List Entry) → z ≡ x ++ y → drop (length x) z ≡ y
-  drops x y z e = ap (drop (length x)) e ∙ drop-append_seam x y
-
-  adds_up : reached_since old new ≡ reached_since old mid + reached_since mid new
-  adds_up =
-      let nodes = old.presentation.document.nodes in
-      let entries = new.presentation.log in
-      let all : reached_since old new ≡ reaches nodes entries (m ++ n) = ap (reaches nodes entries) (drops old.diary (m ++ n) new.diary whole) in
-      let by_mid : reached_since old mid ≡ reaches nodes entries m =
-      sym (reaches_longer nodes mid.presentation.log rest (drop (length old.diary) mid.diary) named)
-      ∙ (ap (λ (l : List LogEntry). reaches nodes l (drop (length old.diary) mid.diary)) (sym log) ∙ ap (reaches nodes entries) (drops old.diary m mid.diary first)) in
-      let by_new : reached_since mid new ≡ reaches nodes entries n =
-      ap (λ (d : Document). reaches d.nodes entries (drop (length mid.diary) new.diary)) document ∙ ap (reaches nodes entries) (drops mid.diary n new.diary second) in
-      three (reached_since old new) (reached_since old mid) (reached_since mid new) (reaches nodes entries (m ++ n)) (reaches nodes entries m) (reaches nodes entries n) all by_mid by_new
-      (sum_by-append (λ (x : Entry). length (reach nodes entries x)) m n)
-    where
-      three : (a b c x y z : ℕ) → a ≡ x → b ≡ y → c ≡ z → x ≡ y + z → a ≡ b + c
-      three a b c x y z e f g h = omega (arith, e, f, g, h)
-
-  fewer_fresh : fresh_since old new ≤ fresh_since old mid + fresh_since mid new
-  fewer_fresh =
-      subst (λ (d : Document). fresh_since old new ≤ fresh_since old mid + fresh d.nodes (interval_at mid) (interval_at new)) (sym document)
-      (triangle (interval_at old) (interval_at mid) (interval_at mid) (interval_at new) (λ x. refl) (elements old.presentation.document.nodes))
-
-  module _ (a b c : ℕ) (later : b ≤ c) where
-    reached_then : (counts : Bool) → IsCounted counts old mid a b → WhereTold counts (c - b ≤ reached_since mid new) → WhereTold counts (c - a ≤ reached_since old new)
-    reached_then false is on = tt
-    reached_then true is on = numbers (reached_since old mid) (reached_since mid new) (reached_since old new) adds_up is.from is.most on
-      where
-        numbers : (x y z : ℕ) → z ≡ x + y → a ≤ b → b - a ≤ x → c - b ≤ y → c - a ≤ z
-        numbers x y z e f p q = omega (arith, e, f, p, q, later)
-
-    fresh_then : (counts : Bool) → IsCounted counts old mid a b → WhereTold counts (fresh_since mid new ≤ c - b) → WhereTold counts (fresh_since old new ≤ c - a)
-    fresh_then false is on = tt
-    fresh_then true is on = numbers (fresh_since old mid) (fresh_since mid new) (fresh_since old new) fewer_fresh is.from is.least on
-      where
-        numbers : (x y z : ℕ) → z ≤ x + y → a ≤ b → x ≤ b - a → y ≤ c - b → z ≤ c - a
-        numbers x y z e f p q = omega (arith, e, f, p, q, later)
-
-    counted_by : (counts : Bool) → IsCounted counts old mid a b → WhereTold counts (c - b ≤ reached_since mid new) → WhereTold counts (fresh_since mid new ≤ c - b) → IsCounted counts old new a c
-    counted_by counts is most least = record {
-      diary = (m ++ n, whole);
-      from = let f = is.from in omega (arith, f, later);
-      most = reached_then counts is most;
-      least = fresh_then counts is least;
-    }
-
 -- a standing with a longer log that goes on from the one before
 pub counted_more : (counts : Bool) (old mid new : Standing) (rest : List LogEntry) (a b c : ℕ) → mid.presentation.document ≡ old.presentation.document → new.presentation.log ≡ mid.presentation.log ++ rest
     → NamesBelow (length mid.presentation.log) (drop (length old.diary) mid.diary) → IsCounted counts old mid a b → (n : List Entry) × (new.diary ≡ mid.diary ++ n) → b ≤ c
     → WhereTold counts (c - b ≤ reached_since mid new) → WhereTold counts (fresh_since mid new ≤ c - b) → IsCounted counts old new a c
 counted_more counts old mid new rest a b c document log named is grown later most least =
-    counted_by old mid new document rest log named is.diary.0 grown.0 is.diary.1 grown.1 a b c later counts is most least
+    let nodes = old.presentation.document.nodes in
+    let by_mid : reached_since old mid ≡ reaches nodes new.presentation.log is.diary.0 =
+    sym (reaches_longer nodes mid.presentation.log rest (drop (length old.diary) mid.diary) named)
+    ∙ (ap (λ (l : List LogEntry). reaches nodes l (drop (length old.diary) mid.diary)) (sym log) ∙ ap (reaches nodes new.presentation.log) (drops old.diary is.diary.0 mid.diary is.diary.1)) in
+    counted_by old mid new document is.diary.0 grown.0 is.diary.1 grown.1 by_mid a b c later counts is most least
 
 -- two steps onward, the first of them with the same log
 pub counted_twice : (counts : Bool) (old mid new : Standing) (rest : List LogEntry) (a b c : ℕ) → mid.presentation.document ≡ old.presentation.document → new.presentation.log ≡ mid.presentation.log ++ rest

@@ -6,13 +6,13 @@ ghost use Rattle.smil_model.specs.declared.document.Node.{Node as AnyNode};
 ghost use Rattle.smil_model.specs.declared.document.Item.{Item as AnyItem};
 ghost use Rattle.smil_model.specs.document.Defaults.{items_of, items_or};
 ghost use Rattle.smil_model.specs.document.Dependencies.{is_looped};
-ghost use Rattle.smil_model.specs.document.Document.{element_named, elements, node_at, serial_of};
-ghost use Rattle.smil_instances.specs.Spread.{element_of};
+ghost use Rattle.smil_model.specs.document.Document.{elements, node_at};
 ghost use Rattle.smil_live.specs.Linked.{counts_at};
 ghost use Rattle.smil_live.specs.References.{are_same_marks, is_same_serial, keeps_id, keeps_loops, keeps_loops_of, keeps_references, loops};
 
 use smil_graph::Graph;
-use smil_model::{Bytes, Duplicate, Edge, Items, Node, Who};
+use smil_instances::{element_named, element_of};
+use smil_model::{Bytes, Edge, Items, Node, Who};
 use smil_tree::Tree;
 use std::alloc::{AllocError, Global};
 
@@ -66,31 +66,9 @@ fn keeps_id(old: &Tree, new: &Tree, id: &Option<Bytes>) -> Result<bool, AllocErr
     let Some(id) = id else {
         return Ok(true);
     };
-    let before = named(old, id)?;
-    let after = named(new, id)?;
+    let before = element_named(old, id)?;
+    let after = element_named(new, id)?;
     Ok(is_same_serial(before, after))
-}
-
-// The serial of the element with an id, if there is one.
-fn named(tree: &Tree, id: &Bytes) -> Result<Option<u32>, AllocError>
-    ensures { IfOk result (λ who. who ≡ serial_of (element_named tree.now.nodes id.now)) }
-{
-    tree.valid();
-    let who = Who::Id(id.copy()?);
-    Ok(element_of(tree, &who))
-}
-
-// The serial of an element, if there is such a node and it is no priorityClass.
-fn element_of(tree: &Tree, who: &Who) -> Option<u32>
-    ensures { result ≡ serial_of (element_of tree.now.nodes who.now) }
-{
-    tree.valid();
-    let serial = tree.find(who)?;
-    if tree.kind(serial).is_element() {
-        Some(serial)
-    } else {
-        None
-    }
 }
 
 // Whether two serials are the same, or both absent.

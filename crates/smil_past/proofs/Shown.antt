@@ -136,7 +136,7 @@ finish_until m None k cut fs is le each = each
 finish_until m (Some b) k cut fs is le each = each_more m fs _ each (record { begin = is; finish = le })
 
 module _ (h : History) (s : ℕ) (m : ℤ) where
-  until_after : (at : ℤ) → int_le at m ≡ true → (b : Plays) (step : Step) → AreUntil m b → AreUntil m (play_after h s at b step)
+  pub until_after : (at : ℤ) → int_le at m ≡ true → (b : Plays) (step : Step) → AreUntil m b → AreUntil m (play_after h s at b step)
   until_after at le b (Began who begin) are = by_own (who == s)
     where
       by_own : (t : Bool) → AreUntil m (cond t (record { present = Some (record { value = begin; moment = at }); finished = b.finished }) b)

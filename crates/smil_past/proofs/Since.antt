@@ -11,23 +11,7 @@ use Rattle.smil_model.specs.declared.document.Node.{Node}
 use Rattle.smil_model.specs.document.Document.{time_parent}
 use Rattle.smil_model.specs.diary.Diary.{History, last_place, later_place, gives_birth, birth_under, since_birth, active_after, lives_under, with_entry}
 use Rattle.smil_model.specs.diary.Plays.{is_birth_under}
-
-last_place-below : {A : Type 0} (test : A → Bool) (xs : List A) (k : ℕ) → last_place test xs ≡ Some k → suc k ≤ length xs
-last_place-below test [] k q = cc
-last_place-below test (x ∷ xs) k q = step (test x) (last_place test xs) refl q (last_place-below test xs)
-  where
-    step : (t : Bool) (o : Option ℕ) → last_place test xs ≡ o → later_place t o ≡ Some k → ((j : ℕ) → last_place test xs ≡ Some j → suc j ≤ length xs) → suc k ≤ suc (length xs)
-    step t (Some j) e q below = let one : suc j ≡ k = cc in omega (arith, below j e, one)
-    step true None e q below = let one : 0 ≡ k = cc in omega (arith, one)
-    step false None e q below = cc
-
-last_place-hit : {A : Type 0} (test : A → Bool) (xs : List A) (y : A) → test y ≡ true → last_place test (xs ++ y ∷ []) ≡ Some (length xs)
-last_place-hit test [] y q = ap (λ t. later_place t None) q
-last_place-hit test (x ∷ xs) y q = ap (λ o. later_place (test x) o) (last_place-hit test xs y q)
-
-last_place-miss : {A : Type 0} (test : A → Bool) (xs : List A) (y : A) → test y ≡ false → last_place test (xs ++ y ∷ []) ≡ last_place test xs
-last_place-miss test [] y q = ap (λ t. later_place t None) q
-last_place-miss test (x ∷ xs) y q = ap (λ o. later_place (test x) o) (last_place-miss test xs y q)
+use Rattle.smil_instances.proofs.Resets.{last_place-below, last_place-hit, last_place-miss}
 
 -- an active element began
 began_once : (p : ℕ) (b : Bool) (ds : List Entry) → last_place (λ (x : Entry). gives_birth p x.step) ds ≡ None → b ≡ false → fold (λ before (x : Entry). active_after p before x.step) b ds ≡ false
