@@ -23,7 +23,6 @@ pub type PlainCells = Cells<PlainTable>;
 
 /// A table whose elements are all evaluated after each happening, in an order in which the
 /// dependencies that are not looped go forward.
-#[derive(Drop)]
 pub struct PlainTable {
     known: Known,
     due: DueQueue,
@@ -32,6 +31,20 @@ pub struct PlainTable {
     has_mark: bool,
     room: Room,
     alloc: Global,
+}
+
+impl Drop for PlainTable {
+    // One call for each holder: its fields are dropped here alone.
+    fn drop(self) {
+        let PlainTable {
+            known: _known,
+            due: _due,
+            noted: _noted,
+            has_mark: _has_mark,
+            room: _room,
+            alloc: _alloc,
+        } = self;
+    }
 }
 
 impl Table for PlainTable {

@@ -23,11 +23,22 @@ use std::marker::Model;
 
 /// The graph of a document, seen as the document's nodes with an order of the elements: which
 /// elements read which, which references are looped, and in what order to take the elements.
-#[derive(Debug, Drop)]
+#[derive(Debug)]
 pub struct Graph {
     doc: Doc,
     tables: Tables,
     alloc: Global,
+}
+
+impl Drop for Graph {
+    // One call for each holder: its fields are dropped here alone.
+    fn drop(self) {
+        let Graph {
+            doc: _doc,
+            tables: _tables,
+            alloc: _alloc,
+        } = self;
+    }
 }
 
 impl Model for Graph {

@@ -25,7 +25,7 @@ use std::alloc::{AllocError, Global};
 use std::collections::HashMap;
 
 /// What a graph keeps of its document, by places in document order.
-#[derive(Debug, Drop)]
+#[derive(Debug)]
 pub struct Tables {
     pub places: HashMap<u32, usize>,
     pub time_parents: Vec<Option<usize>>,
@@ -37,6 +37,24 @@ pub struct Tables {
     pub waiting: Vec<Row<usize>>,
     pub order: Row<u32>,
     pub ranks: HashMap<u32, usize>,
+}
+
+impl Drop for Tables {
+    // One call for each holder: its fields are dropped here alone.
+    fn drop(self) {
+        let Tables {
+            places: _places,
+            time_parents: _time_parents,
+            time_children: _time_children,
+            begins: _begins,
+            ends: _ends,
+            heads: _heads,
+            readers: _readers,
+            waiting: _waiting,
+            order: _order,
+            ranks: _ranks,
+        } = self;
+    }
 }
 
 /// What the graph of a document keeps.

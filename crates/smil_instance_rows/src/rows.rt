@@ -18,10 +18,19 @@ use std::marker::Model;
 
 /// The instance times of all elements, with the places of their rows by serial; seen as the list of
 /// the rows.
-#[derive(Drop)]
 pub struct Rows {
     rows: Vec<InstanceRow>,
     places: HashMap<u32, usize>,
+}
+
+impl Drop for Rows {
+    // One call for each holder: its fields are dropped here alone.
+    fn drop(self) {
+        let Rows {
+            rows: _rows,
+            places: _places,
+        } = self;
+    }
 }
 
 impl Model for Rows {

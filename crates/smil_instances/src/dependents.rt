@@ -20,10 +20,19 @@ use std::marker::Model;
 /// anew with its children's. For each access key the cells of the items that wait for it. Seen as
 /// the list of what is kept of each element, in document order, and the list of the cells of each
 /// key, from 0.
-#[derive(Drop)]
 pub struct Dependents {
     rows: Vec<DependentsRow>,
     keys: Vec<Listed<Cell>>,
+}
+
+impl Drop for Dependents {
+    // One call for each holder: its fields are dropped here alone.
+    fn drop(self) {
+        let Dependents {
+            rows: _rows,
+            keys: _keys,
+        } = self;
+    }
 }
 
 impl Model for Dependents {

@@ -31,11 +31,21 @@ use std::marker::Model;
 
 /// The instance times that a diary alone gives to each element of a document, kept item by item
 /// while entries are appended; seen as a row for each element, and what its items follow from.
-#[derive(Drop)]
 pub struct Instances {
     rows: Rows,
     dependents: Dependents,
     alloc: Global,
+}
+
+impl Drop for Instances {
+    // One call for each holder: its fields are dropped here alone.
+    fn drop(self) {
+        let Instances {
+            rows: _rows,
+            dependents: _dependents,
+            alloc: _alloc,
+        } = self;
+    }
 }
 
 impl Model for Instances {

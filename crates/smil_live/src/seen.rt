@@ -21,11 +21,21 @@ use std::marker::Model;
 
 /// The views of elements in document order, of each element one. Where a view is changed the one
 /// before is noted until `forget`; seen as the views, with those that `back` gives.
-#[derive(Drop)]
 pub struct Seen {
     rows: Vec<View>,
     places: HashMap<u32, usize>,
     noted: Vec<View>,
+}
+
+impl Drop for Seen {
+    // One call for each holder: its fields are dropped here alone.
+    fn drop(self) {
+        let Seen {
+            rows: _rows,
+            places: _places,
+            noted: _noted,
+        } = self;
+    }
 }
 
 impl Model for Seen {

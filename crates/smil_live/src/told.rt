@@ -18,11 +18,21 @@ use std::alloc::{AllocError, Global};
 
 /// An element whose intervals are told: the clocks by the entries so far, and the begin of its
 /// present play, in document time.
-#[derive(Drop)]
 pub struct Told {
     who: u32,
     clocks: Clocks,
     pub present: Option<i64>,
+}
+
+impl Drop for Told {
+    // One call for each holder: its fields are dropped here alone.
+    fn drop(self) {
+        let Told {
+            who: _who,
+            clocks: _clocks,
+            present: _present,
+        } = self;
+    }
 }
 
 impl Told {

@@ -453,10 +453,20 @@ pub enum AttrName {
 }
 
 /// A document, seen as its nodes in document order and the next serial.
-#[derive(Debug, PartialEq, Drop)]
+#[derive(Debug, PartialEq)]
 pub struct Doc {
     nodes: Listed<Node>,
     next: u32,
+}
+
+impl Drop for Doc {
+    // One call for each holder: its fields are dropped here alone.
+    fn drop(self) {
+        let Doc {
+            nodes: _nodes,
+            next: _next,
+        } = self;
+    }
 }
 
 impl Model for Doc {

@@ -30,7 +30,6 @@ pub type LiveCells = Cells<LiveTable>;
 
 /// A table that evaluates, after a happening, only the elements that it touches or that wait for a
 /// pressed key, and those that read an element whose interval changed; each at most once.
-#[derive(Drop)]
 pub struct LiveTable {
     schedule: Schedule,
     /// The ranks, in the order of the document's graph, of the elements still to be evaluated.
@@ -40,6 +39,20 @@ pub struct LiveTable {
     has_mark: bool,
     room: Room,
     alloc: Global,
+}
+
+impl Drop for LiveTable {
+    // One call for each holder: its fields are dropped here alone.
+    fn drop(self) {
+        let LiveTable {
+            schedule: _schedule,
+            agenda: _agenda,
+            undo: _undo,
+            has_mark: _has_mark,
+            room: _room,
+            alloc: _alloc,
+        } = self;
+    }
 }
 
 impl Table for LiveTable {

@@ -20,11 +20,20 @@ use std::marker::Model;
 /// The elements of a document in document order, each with its interval, whose numbers are from
 /// -10^12 to 10^12, and what comes of it, with a tournament of the keys of all that comes; seen as
 /// the list of the rows.
-#[derive(Drop)]
 pub struct Schedule {
     known: Known,
     /// Two slots a row: that of its begin or end, and that of its repeat.
     due: DueTree,
+}
+
+impl Drop for Schedule {
+    // One call for each holder: its fields are dropped here alone.
+    fn drop(self) {
+        let Schedule {
+            known: _known,
+            due: _due,
+        } = self;
+    }
 }
 
 impl Model for Schedule {

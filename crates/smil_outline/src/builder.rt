@@ -23,12 +23,23 @@ use std::marker::Model;
 
 /// Reads an outline line by line, seen as the nodes so far, the serials and kinds of the last node
 /// and those above it, from the root down, and the next serial where a header gives it.
-#[derive(Drop)]
 pub struct Builder {
     alloc: Global,
     nodes: Nodes,
     branch: Branch,
     next: Option<u32>,
+}
+
+impl Drop for Builder {
+    // One call for each holder: its fields are dropped here alone.
+    fn drop(self) {
+        let Builder {
+            alloc: _alloc,
+            nodes: _nodes,
+            branch: _branch,
+            next: _next,
+        } = self;
+    }
 }
 
 impl Model for Builder {

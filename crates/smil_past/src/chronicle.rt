@@ -15,10 +15,19 @@ use smil_tree::Tree;
 use std::alloc::{AllocError, Global};
 
 /// A diary, and what is kept of it.
-#[derive(Drop)]
 pub struct Chronicle {
     pub book: Book,
     pub kept: Kept,
+}
+
+impl Drop for Chronicle {
+    // One call for each holder: its fields are dropped here alone.
+    fn drop(self) {
+        let Chronicle {
+            book: _book,
+            kept: _kept,
+        } = self;
+    }
 }
 
 impl Duplicate for Chronicle {

@@ -16,12 +16,23 @@ use std::alloc::{AllocError, Global};
 
 /// The clocks, the plays, the queues of excls and the instance times that a document and its diary
 /// give.
-#[derive(Drop)]
 pub struct Kept {
     pub clocks: Clocks,
     pub plays: Plays,
     pub queues: Queues,
     pub instances: Instances,
+}
+
+impl Drop for Kept {
+    // One call for each holder: its fields are dropped here alone.
+    fn drop(self) {
+        let Kept {
+            clocks: _clocks,
+            plays: _plays,
+            queues: _queues,
+            instances: _instances,
+        } = self;
+    }
 }
 
 impl Duplicate for Kept {

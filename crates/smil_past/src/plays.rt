@@ -40,10 +40,19 @@ const IDLE: Played = Played {
 };
 
 /// What a diary says of the plays of each element, seen as the list of it in document order.
-#[derive(Drop)]
 pub struct Plays {
     places: HashMap<u32, usize>,
     rows: Vec<(u32, Played)>,
+}
+
+impl Drop for Plays {
+    // One call for each holder: its fields are dropped here alone.
+    fn drop(self) {
+        let Plays {
+            places: _places,
+            rows: _rows,
+        } = self;
+    }
 }
 
 impl Model for Plays {

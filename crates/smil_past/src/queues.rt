@@ -22,10 +22,19 @@ use std::marker::Model;
 /// The queues of a document's excls and the classes of their children, seen as a queue and a class
 /// for each node, in document order. A node that is no excl has the empty queue, as long as an excl
 /// alone pauses and defers.
-#[derive(Drop)]
 pub struct Queues {
     queues: Vec<Queue>,
     classes: Vec<Class>,
+}
+
+impl Drop for Queues {
+    // One call for each holder: its fields are dropped here alone.
+    fn drop(self) {
+        let Queues {
+            queues: _queues,
+            classes: _classes,
+        } = self;
+    }
 }
 
 impl Model for Queues {

@@ -25,10 +25,19 @@ use std::marker::Model;
 pub use sync::Syncbase;
 
 /// What the items of each element of a document wait for, in document order.
-#[derive(Drop)]
 pub struct Syncs {
     places: HashMap<u32, usize>,
     rows: Vec<Row>,
+}
+
+impl Drop for Syncs {
+    // One call for each holder: its fields are dropped here alone.
+    fn drop(self) {
+        let Syncs {
+            places: _places,
+            rows: _rows,
+        } = self;
+    }
 }
 
 impl Model for Syncs {

@@ -28,10 +28,20 @@ use std::marker::Model;
 /// document order. Each answer is for moments from the last entry of the diary on. A clock runs,
 /// and is behind document time by what it lost, or stands while its element or one above it is
 /// paused.
-#[derive(Debug, Drop)]
+#[derive(Debug)]
 pub struct Clocks {
     places: HashMap<u32, usize>,
     clocks: Vec<NodeClock>,
+}
+
+impl Drop for Clocks {
+    // One call for each holder: its fields are dropped here alone.
+    fn drop(self) {
+        let Clocks {
+            places: _places,
+            clocks: _clocks,
+        } = self;
+    }
 }
 
 impl Model for Clocks {

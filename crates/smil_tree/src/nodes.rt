@@ -16,10 +16,19 @@ use std::alloc::{AllocError, Global};
 use std::marker::Model;
 
 /// Nodes, each under a key of a slab, seen as their list in document order.
-#[derive(Drop)]
 pub struct Nodes {
     order: IndexMap<u32, usize>,
     slab: Slab<Node>,
+}
+
+impl Drop for Nodes {
+    // One call for each holder: its fields are dropped here alone.
+    fn drop(self) {
+        let Nodes {
+            order: _order,
+            slab: _slab,
+        } = self;
+    }
 }
 
 impl Model for Nodes {

@@ -27,7 +27,6 @@ use std::alloc::{AllocError, Global};
 use std::marker::Model;
 
 /// A document that is read and edited in place, seen as the document that it stands for.
-#[derive(Drop)]
 pub struct Tree {
     nodes: Nodes,
     next: u32,
@@ -35,6 +34,20 @@ pub struct Tree {
     ids: Ids,
     references: usize,
     alloc: Global,
+}
+
+impl Drop for Tree {
+    // One call for each holder: its fields are dropped here alone.
+    fn drop(self) {
+        let Tree {
+            nodes: _nodes,
+            next: _next,
+            kin: _kin,
+            ids: _ids,
+            references: _references,
+            alloc: _alloc,
+        } = self;
+    }
 }
 
 impl Model for Tree {

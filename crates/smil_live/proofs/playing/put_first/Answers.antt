@@ -10,6 +10,6 @@ put_differences-requires g c =
 
 pub returns-clause-answer : goal.returns-clause-answer
 returns-clause-answer g c =
-    told_load c.args.cells.now c.tree.result.now c.none.result.views c.in-Ok.seen.views 0 c.args.out.now c.put_differences-2.new.out c.requires.replayed.settled
+    told_load c.args.cells.now c.tree.result.now c.none.result.views c.in-Ok.seen.views 0 c.args.out.now c.put_differences.new.out c.requires.replayed.settled
     c.tree.ensures (ap (λ (x : Shown). x.views) c.none.ensures) (ap (λ (x : Shown). x.views) c.in-Ok.ensures) (sym c.requires.moment)
     (c.in_default.ensures.ok 0 refl)
