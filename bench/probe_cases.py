@@ -20,9 +20,11 @@ parser.add_argument('--files', type=int, default=1)
 parser.add_argument('--kind', nargs='*')
 ARGS = parser.parse_args()
 sys.path.insert(0, ARGS.oracle)
+import engine_cases  # noqa: E402
 import grammar  # noqa: E402
 import laws  # noqa: E402
 import model  # noqa: E402
+import session  # noqa: E402
 from model import INDEFINITE, UNRESOLVED, Play, Scene, TooFull, World, is_number  # noqa: E402
 
 REQUEST = 20
@@ -908,9 +910,274 @@ def a_line(r):
         return 'closed 8 p', 'ok 8 p closed'
     return refusal_case(r.choice([0, 1, 4294967295]), r.randint(1, 27), r.choice([1, 17, 4294967295]))
 
+# ---------------------------------------------------------------------- trees
+
+class Edited:
+    """A document as the model edits it."""
+
+    def __init__(self, doc):
+        self.doc = doc
+
+    def answer(self, order):
+        """What an edit answers."""
+        p = session.Presentation.__new__(session.Presentation)
+        p.limits, p.doc, p.log, p.now, p.views, made = laws.LIMITS, self.doc, [], 0, {}, []
+        p.edit = lambda doc: made.append(doc) or []
+        # columns by which a refusal of a value tells its place from 0, and one of a line its column
+        columns = {'set': (-1, 0), 'unset': (-1,), 'insert': (1,), 'remove': ()}[order[0]]
+        try:
+            p.answer(order[:len(order) - len(columns)] + columns)
+        except grammar.Refusal as refusal:
+            told = refusal.column is not None and (order[0] == 'insert' or refusal.word in ('bad-value', 'unsupported'))
+            return refusal.word + (' %d' % refusal.column if told and refusal.column >= 0 else '')
+        serial = self.doc.next
+        self.doc = made[0]
+        return '%d' % serial if order[0] == 'insert' else 'ok'
+
+
+def serials(nodes):
+    return ['%d' % serial for serial in nodes]
+
+
+def node_row(world, node):
+    """What a tree tells of a node."""
+    e, doc = node.serial, world.doc
+    above = doc.node(node.parent)
+    in_class = above is not None and above.kind == 'priorityClass'
+    time_parent = world.time_parent.get(e) if node.kind != 'priorityClass' else node.parent
+    kids = world.time_children.get(e, []) if node.kind != 'priorityClass' else []
+    place, ident = world.position[e], node.attrs.get('id')
+    row = ['%d %d' % (e, place), maybe(node.parent or None), maybe(node.parent if in_class else None), maybe(time_parent),
+           '%d %d' % (place, place + len(doc.subtree(e))), '<'] + serials(n.serial for n in doc.children(e))
+    row += ['>'] + serials(kids) + [maybe(kids[-1] if kids else None), '-', ':',
+                                    maybe(None if ident is None else doc.by_id(ident).serial)]
+    if node.kind != 'priorityClass':
+        row += [world._restart[e][0], world._fill[e][0]]
+    return ' '.join(row + ['/'])
+
+
+def tree_case(lines, orders):
+    """The answers of edits, and the document that they make."""
+    text, builder = 'tree %s|%%%%|%s' % ('|'.join(lines), '|'.join(orders)), grammar.Builder(laws.LIMITS)
+    try:
+        for line in lines:
+            builder.push(line.encode())
+        edited, wanted = Edited(builder.finish()), []
+        for line in orders:
+            if grammar.is_blank(line.encode()):
+                continue
+            read = grammar.read_line(line.encode(), REQUEST)
+            if read[0] != 'to' or read[2][0] not in ('set', 'unset', 'insert', 'remove'):
+                return text, 'refused'
+            wanted.append(edited.answer(read[2]))
+    except grammar.Refusal:
+        return text, 'refused'
+    world = World(edited.doc)
+    wanted.append(''.join(line.decode() + '|' for line in grammar.write_doc(edited.doc, 2)))
+    return text, ' '.join(wanted + [node_row(world, node) for node in edited.doc.nodes])
+
+
+def name_text(r, doc):
+    """A node by its serial or its id, now and then one that isn't there."""
+    node = r.choice(doc.nodes)
+    if r.random() < 0.03:
+        return r.choice(['#77', 'nobody', 'a', 'b', 'c'])
+    return node.attrs['id'].decode() if 'id' in node.attrs and r.random() < 0.4 else '#%d' % node.serial
+
+
+def edit_value(r, doc, name, node, kind, parent):
+    """A value of an attribute, mostly one that can be read."""
+    ids = [n.attrs['id'].decode() for n in doc.nodes if 'id' in n.attrs]
+    if name == 'id':
+        return r.choice(laws.IDS + 'xyz') if r.random() < 0.9 else ident(r)
+    if name in laws.CHANCE and r.random() < 0.8:
+        return laws.value(r, name, ids, kind, parent)
+    return value_text(r, name).replace('"', '')
+
+
+def edit_text(r, doc):
+    """A script line that edits a document."""
+    who = name_text(r, doc)
+    node = doc.node(int(who[1:])) if who[0] == '#' else doc.by_id(who.encode())
+    node = node or doc.nodes[0]
+    above = doc.node(node.parent)
+    names = list(grammar.attrs_of(node.kind, REQUEST))
+    k = r.random()
+    if k < 0.35:
+        name = 'id' if r.random() < 0.25 else r.choice(names + ['begin', 'peers', 'speed', 'foo'] if r.random() < 0.2 else names)
+        return 'd set %s %s "%s"' % (who, name, edit_value(r, doc, name, node, node.kind, above and above.kind))
+    if k < 0.5:
+        have = sorted(node.attrs) if r.random() < 0.7 else names
+        return 'd unset %s %s' % (who, r.choice(have or names) if r.random() < 0.95 else r.choice(['foo', 'speed', 'peers', 'dur']))
+    if k < 0.85:
+        if node.kind not in ('par', 'seq', 'excl', 'priorityClass') and r.random() < 0.8:
+            inner = [n for n in doc.nodes if n.kind in ('par', 'seq', 'excl', 'priorityClass')]
+            node = r.choice(inner)
+            who = '#%d' % node.serial
+        kids = doc.children(node.serial)
+        kind = r.choice(['img', 'img', 'par', 'seq', 'excl', 'priorityClass', 'audio', 'set'])
+        if node.kind == 'excl' and r.random() < 0.7:
+            kind = 'priorityClass' if kids and kids[0].kind == 'priorityClass' else 'img'
+        attrs = [(name, edit_value(r, doc, name, node, kind, node.kind))
+                 for name in grammar.attrs_of(kind, REQUEST) if r.random() < (0.5 if name == 'id' else 0.12)]
+        line = kind + ''.join(' %s="%s"' % pair for pair in attrs)
+        place = r.randint(1, len(kids) + 1) if r.random() < 0.93 else r.choice([0, len(kids) + 2, 999999999])
+        return 'd insert %s %d %s' % (who, place, changed(r, line) if r.random() < 0.05 else line)
+    return 'd remove %s' % who
+
+
+def trees(r):
+    """A random document that is edited some times."""
+    lines = [line.replace('|', '/') for line in some_document(r).lines()]
+    if r.random() < 0.3:
+        lines = [line.decode() for line in grammar.write_doc(engine_cases.doc_of(lines), 2)]
+        lines[0] = 'outline 2 next %d' % (int(lines[0].split()[-1]) + r.choice([0, 0, 5, 1000]))
+    edited, orders = Edited(engine_cases.doc_of(lines)), []
+    for _ in range(r.choice([0, 1, 2, 4, 8, 15])):
+        line = edit_text(r, edited.doc).replace('|', '/')
+        orders.append(line)
+        try:
+            edited.answer(grammar.read_line(line.encode(), REQUEST)[2])
+        except grammar.Refusal:
+            if r.random() < 0.9:
+                orders.pop()
+    if r.random() < 0.02:
+        orders.append(r.choice(['', '# note', 'd show', 'load d', 'd set', 'd remove']))
+    return tree_case(lines, orders)
+
+
+def some_document(r):
+    """A random case of any profile."""
+    small = laws.SMALL[:]
+    try:
+        return engine_cases.some_case(r)[0]
+    finally:
+        laws.SMALL[:] = small
+
+
+# ---------------------------------------------------------------------- plays
+
+def first_time(values, least):
+    return time_text(next((t for t in values if t >= least), UNRESOLVED))
+
+
+def clocks_row(scene, e, before):
+    m = scene.moment
+    between = scene.outer(e, m) + (7 - scene.outer(before, m))
+    return '%d %d %d %s %s %d %d /' % (e, scene.run(e, m), scene.outer(e, m), flag(scene.stands(e)), flag(scene.outer_stands(e)),
+                                      scene.to_document(e, 7, m), between)
+
+
+def instances_row(scene, e):
+    begins = sorted(t for t in scene.settled_instances(e, 'begin') if is_number(t))
+    ends = sorted(scene.settled_instances(e, 'end'))
+    row = ['%d <' % e] + [time_text(t) for t in begins] + ['>'] + [time_text(t) for t in ends] + [':', flag(bool(ends))]
+    for value in (scene.outer(e, scene.moment), begins[0] if begins else 0):
+        row += [first_time(begins, value), first_time(ends, value), first_time(begins, value + 1), first_time(ends, value + 1)]
+    return ' '.join(row + ['/'])
+
+
+def told_play(scene):
+    """The moment, the clocks and the instance times, each the same where they are made anew."""
+    elements = scene.world.elements
+    rows = ['%d' % scene.moment]
+    rows += [clocks_row(scene, e, before) for e, before in zip(elements, elements[:1] + elements)] + ['1']
+    return ' '.join(rows + [instances_row(scene, e) for e in elements] + ['1'])
+
+
+class Refused(Exception):
+    pass
+
+
+def ordered(play, order):
+    """The log and the moment of a play after an order."""
+    verb, now, log = order[0], play.scene.moment, list(play.log)
+    if verb in ('advance', 'seek'):
+        until = now + order[1] if verb == 'advance' else order[1]
+        if not now <= until <= HORIZON:
+            raise Refused()
+        return log, until
+    if verb == 'key':
+        return log + [(now, 'key', None, order[1])], now
+    if verb not in ('event', 'media'):
+        raise Refused()
+    kind, who = order[1]
+    serial = who if kind == 'serial' else play.world.ids.get(who, 0)
+    if not serial:
+        raise Refused()
+    return log + [(now, verb, serial, order[2])], now
+
+
+def play_case(lines, orders, bound=None):
+    """What is told of a document after orders; TooFull where its diary has more entries than the bound."""
+    text, builder = 'play %s|%%%%|%s' % ('|'.join(lines), '|'.join(orders)), grammar.Builder(laws.LIMITS)
+    try:
+        for line in lines:
+            builder.push(line.encode())
+        play = engine_cases.played(World(builder.finish()), [], [], 0)
+        play.bound = bound
+        play.to([], 0)
+        for line in orders:
+            if grammar.is_blank(line.encode()):
+                continue
+            read = grammar.read_line(line.encode(), REQUEST)
+            if read[0] != 'to':
+                return text, 'refused'
+            play.to(*ordered(play, read[2]))
+    except (grammar.Refusal, Refused):
+        return text, 'refused'
+    return text, told_play(play.scene)
+
+
+def named_text(r, case, serial):
+    ident = next((line.attrs.get('id') for _, line in case.root.walk() if line.serial == serial), None)
+    return ident if ident is not None and r.random() < 0.4 else '#%d' % serial
+
+
+def order_texts(r, case):
+    """The log of a case as script lines, and moments between and behind."""
+    moments = [entry[0] for entry in case.real_log()]
+    lines, now, last = [], 0, max([case.now] + moments)
+    steps = [(entry[0], entry) for entry in case.real_log()]
+    steps += [(r.randint(0, max(last, 1)), None) for _ in range(r.choice([0, 1, 2]))]
+    for moment, entry in sorted(steps, key=lambda step: step[0]) + [(r.choice([last, last, r.randint(0, max(last, 1))]), None)]:
+        if moment > now:
+            lines.append('d seek %dms' % moment if r.random() < 0.5 else 'd advance %dms' % (moment - now))
+            now = moment
+        if entry is None:
+            continue
+        _, what, who, value = entry
+        if what == 'key':
+            lines.append('d key %s' % chr(value))
+        elif what == 'event':
+            lines.append('d event %s %s' % (named_text(r, case, who), value.decode()))
+        else:
+            lines.append('d media %s %dms' % (named_text(r, case, who), value))
+    return lines, now
+
+
+def plays(r):
+    """A random document that is played for a while."""
+    while True:
+        case = some_document(r)
+        outline = [line.replace('|', '/') for line in case.lines()]
+        orders, now = order_texts(r, case)
+        k = r.random()
+        if k < 0.02:
+            orders.insert(r.randint(0, len(orders)), r.choice(['', '# note', 'd show', 'load d', 'd seek', 'd remove #1']))
+        elif k < 0.04:
+            orders.append(r.choice(['d seek 1000000000000ms', 'd advance 1000000000000ms', 'd event #999 click',
+                                    'd event nobody click', 'd event #1 beginEvent', 'd media #1 5ms', 'd event #0 click']))
+        elif k < 0.05 and now:
+            orders.append('d seek %dms' % r.randrange(now))
+        try:
+            return play_case(outline, orders, 200)
+        except TooFull:
+            continue
+
 
 KINDS = {'times': times, 'texts': texts, 'outlines': outlines, 'durations': durations, 'intervals': intervals, 'endsync': endsyncs,
-         'excl': excls, 'keys': keys, 'diaries': diaries, 'graphs': graphs, 'views': views, 'lines': a_line}
+         'excl': excls, 'keys': keys, 'diaries': diaries, 'graphs': graphs, 'views': views, 'lines': a_line, 'trees': trees, 'plays': plays}
 # cases of many lines, which another program reads (documents_compare.sh)
 LONG = {'documents': documents}
 
@@ -1022,6 +1289,56 @@ def fixed():
     for text in ['', 'nothing', 'later 5', 'later 5 x', 'book b1 <2', 'interval 1 0 - 0 - - absent always 0 indefinite 0 - - 5,3 -',
                  'clock', 'queue x', 'refusal 1 28 1', 'decide 1 stop']:
         yield text, 'bad' if text == 'clock' else 'refused'
+    yield from fixed_trees()
+    yield from fixed_plays()
+
+
+def fixed_trees():
+    """Edits by hand: each refusal, and what each edit changes."""
+    par, excl = ['par id="a"', '  img id="b"'], ['excl', '  priorityClass id="p"', '    img id="b"', '  priorityClass']
+    deep = ['  ' * k + 'par' for k in range(32)]
+    for lines, orders in [
+            (par, []), (par, ['set b id "a"', 'set b id "b"', 'set b id "c"', 'set b dur "5s"', 'set #2 id "b"', 'unset c id']),
+            (par, ['unset a id', 'set #2 id "a"', 'remove a', 'insert #1 1 img id="a"', 'remove a', 'remove a', 'remove #1']),
+            (par, ['set b speed "1"', 'set b foo "1"', 'set b begin "wallclock(2026)"', 'set b begin "5s;"', 'set b dur "x"',
+                   'set b end "%s"' % ';'.join(['0s'] * 33), 'set b peers "stop"', 'unset b foo', 'unset b speed', 'unset b dur']),
+            (par, ['insert b 1 img', 'insert a 0 img', 'insert a 3 img', 'insert a 2 priorityClass', 'insert a 1 foo',
+                   'insert a 1 switch', 'insert a 1 img id="b"', 'insert a 1 img dur="x"', 'insert a 1 img dur="1s" dur="2s"',
+                   'insert a 1 img foo="1"', 'insert a 1 seq', 'insert a 3 par id="d"', 'insert d 1 audio']),
+            (excl, ['insert #1 1 img', 'insert #1 2 priorityClass', 'insert p 1 excl id="e"', 'insert e 1 img', 'insert e 1 priorityClass',
+                    'set p higher "stop"', 'set p dur "5s"', 'remove p', 'insert #1 1 priorityClass peers="pause"']),
+            (deep, ['insert #31 1 img', 'insert #32 1 img', 'remove #2', 'insert #1 1 seq', 'set #33 title "x"']),
+            (['outline 2 next 999999998', 'par #7'], ['insert #7 1 img', 'insert #7 1 img', 'remove #999999998', 'insert #7 1 img']),
+            (['outline 2 next 9', 'seq #3', '  img #1 begin="5s"'], ['insert #3 2 img begin="#1.end"', 'set #1 begin "click"', 'set #1 begin "1s"',
+                                                                     'insert #3 2 img begin="a.end"', 'insert #3 1 img', 'remove #1']),
+            (['par restartDefault="never" fillDefault="hold"', '  seq fillDefault="inherit"', '    img fill="freeze"', '    img restart="default"'],
+             ['unset #1 restartDefault', 'set #2 restartDefault "whenNotActive"', 'set #3 fill "default"', 'insert #2 1 par']),
+            (['par', '  seq', '    img', '    img', '  excl', '    img', '    par', '      img'],
+             ['remove #2', 'insert #5 2 img', 'remove #7', 'insert #1 1 img', 'insert #1 3 set to="x"', 'remove #5'])]:
+        yield tree_case(lines, ['d ' + order for order in orders])
+    for lines, orders in [(['img'], []), (par, ['d show']), (par, ['load d']), (par, ['d remove']), (par, ['', '# note', 'd remove b'])]:
+        yield tree_case(lines, orders)
+    yield 'tree par', 'refused'
+    yield 'tree par|%%', 'refused'
+
+
+def fixed_plays():
+    """Presentations by hand: pauses, repeats, events, keys and lengths, and orders that are refused."""
+    pauses = ['par dur="indefinite"', '  excl id="x" dur="indefinite"', '    priorityClass peers="pause"',
+              '      par id="a" begin="1s" dur="10s"', '        img id="c" begin="b.begin+2s" dur="3s" end="o.end;click"',
+              '      img id="b" begin="3s;c.begin" dur="2s"', '  img id="o" begin="a.begin+4s;c.end" dur="2s" end="key.end;accesskey(y)"']
+    repeats = ['seq id="s" repeatCount="2"', '  par id="p" dur="4s" repeatCount="2.5"', '    img id="i" begin="1s;p.repeat(1)" dur="1s"',
+               '  audio id="m" begin="1s" end="accesskey(x);s.click+1s"']
+    for lines, orders in [
+            (['par'], []), (pauses, []), (pauses, ['seek 1s']), (pauses, ['seek 3s']), (pauses, ['seek 4s']), (pauses, ['seek 5s', 'advance 1s']),
+            (pauses, ['seek 7s', 'event c click', 'advance 500ms']), (pauses, ['seek 4s', 'event #4 click', 'key y', 'seek 30s']),
+            (pauses, ['seek 1000000000000ms']), (repeats, ['seek 5s']), (repeats, ['seek 11s', 'media m 7s', 'advance 3s']),
+            (repeats, ['seek 11s', 'media #4 7s', 'key x', 'event s click', 'advance 1s', 'advance 999999987000ms']),
+            (repeats, ['seek 5s', 'seek 4s']), (repeats, ['advance 1000000000000ms', 'advance 0', 'advance 1ms']),
+            (repeats, ['event nobody click']), (repeats, ['event #999999999 click']), (repeats, ['event #0 click']),
+            (repeats, ['event s beginEvent']), (repeats, ['show']), (['img'], [])]:
+        yield play_case(lines, ['d ' + order for order in orders])
+    yield 'play par|%%|load d', 'refused'
 
 
 def full_case():

@@ -12,7 +12,7 @@ work=$(mktemp -d)
 trap 'rm -rf "$work"' EXIT
 program=${PROBE:-$here/crates/smil_probe/out/smil_probe}
 [ -n "${PROBE:-}" ] || (cd "$here/crates/smil_probe" && rt run < /dev/null > /dev/null 2>&1)
-kinds=${*:-times texts outlines durations intervals endsync excl keys diaries graphs views lines}
+kinds=${*:-times texts outlines durations intervals endsync excl keys diaries graphs views lines trees plays}
 for kind in $kinds; do
     runs=0
     differ=0

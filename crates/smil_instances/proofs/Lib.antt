@@ -6,11 +6,9 @@ pub mod Births
 pub mod BySource
 pub mod Changes
 pub mod Concerned
-pub mod DependentsSamples
 pub mod EdgeTimes
 pub mod EntryTimes
 pub mod Extents
-pub mod Following
 pub mod Gifts
 pub mod Growth
 pub mod Hands
@@ -29,7 +27,6 @@ pub mod Places
 pub mod Readings
 pub mod Rebuilt
 pub mod Resets
-pub mod Samples
 pub mod Sensitive
 pub mod Siblings
 pub mod Spreading

@@ -1,7 +1,6 @@
 pub mod Before
 pub mod Contribution
 pub mod Dependents
-pub mod DependentsSample
 pub mod Entry
 pub mod ExpectedTimes
 pub mod Idle
@@ -10,7 +9,6 @@ pub mod Intake
 pub mod Keys
 pub mod Laws
 pub mod Occurrence
-pub mod Sample
 pub mod SettledTimes
 pub mod Sources
 pub mod Spread

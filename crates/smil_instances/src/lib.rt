@@ -32,8 +32,3 @@ pub use occurrence::occurs;
 pub use sensitivity::hears;
 pub use source::Source;
 pub use sources::{element_named, element_of};
-
-#[cfg(test)]
-mod dependents_tests;
-#[cfg(test)]
-mod tests;

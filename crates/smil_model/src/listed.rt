@@ -117,36 +117,3 @@ impl Listed<u8> {
         self.items.extend_from_slice(bytes)
     }
 }
-
-#[cfg(test)]
-mod tests {
-    use super::*;
-    use std::test::Fail;
-
-    #[test]
-    fn bytes(rt: HostRuntime) -> Result<(), Fail> {
-        let mut bytes = Bytes::of(rt.alloc(), b"cli")?;
-        bytes.append(b"c")?;
-        bytes.push(107)?;
-        assert_eq!(rt; bytes.slice(), b"click".as_slice());
-        assert_eq!(rt; bytes.copy()?.slice(), b"click".as_slice());
-        assert_eq!(rt; bytes.get(4), Some(&107));
-        assert_eq!(rt; bytes.get(5), None);
-        Ok(())
-    }
-
-    #[test]
-    fn serials_and_words(rt: HostRuntime) -> Result<(), Fail> {
-        let mut serials = Serials::new(rt.alloc());
-        serials.push(7)?;
-        serials.push(9)?;
-        assert_eq!(rt; serials.get(1), Some(&9));
-        assert_eq!(rt; serials.copy()?, serials);
-        let mut words = WordList::new(rt.alloc());
-        words.push(Bytes::of(rt.alloc(), b"gen")?)?;
-        words.push(Bytes::of(rt.alloc(), b"1")?)?;
-        assert_eq!(rt; words.len(), 2);
-        assert_eq!(rt; words.copy()?, words);
-        Ok(())
-    }
-}

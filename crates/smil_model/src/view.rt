@@ -102,21 +102,3 @@ pub enum How {
     Cut,
     Playing,
 }
-
-#[cfg(test)]
-mod tests {
-    use super::*;
-    use std::test::Fail;
-
-    #[test]
-    fn layers(rt: HostRuntime) -> Result<(), Fail> {
-        let layer = Layer {
-            target: 2,
-            attr: Bytes::of(rt.alloc(), b"region")?,
-            begin: 1000,
-            position: 3,
-        };
-        assert_eq!(rt; layer.copy()?, layer);
-        Ok(())
-    }
-}

@@ -1,2 +1,4 @@
+pub mod Fitted
 pub mod Lengths
+pub mod Played
 pub mod Rises

@@ -4,7 +4,7 @@ ghost use Rattle.smil_model.specs.document.Valid.{IsValid};
 
 use super::case::{Fault, Words};
 use super::outlines::document;
-use super::printed::{put, put_number, put_word};
+use super::printed::{put, put_number, put_serials, put_word};
 use smil_graph::Graph;
 use smil_model::{Bytes, Doc, Duplicate, Edge, Items, Node, Serials};
 use std::alloc::{AllocError, Global};
@@ -42,14 +42,6 @@ fn put_node(alloc: Global, out: &mut Bytes, graph: &Graph, node: &Node) -> Resul
         put_loops(out, graph, node)?;
     }
     put_word(out, "/")
-}
-
-/// Serials, one behind another.
-fn put_serials(out: &mut Bytes, serials: &[u32]) -> Result<(), AllocError> {
-    for serial in serials {
-        put_number(out, *serial)?;
-    }
-    Ok(())
 }
 
 /// Which items of an element's begin and end lists are looped.

@@ -7,16 +7,21 @@ mod case;
 mod diaries;
 mod dues;
 mod durations;
+mod edits;
 mod ends;
 mod excls;
 mod graphs;
+mod moments;
+mod orders;
 mod outlines;
+mod plays;
 mod printed;
 mod rising;
 mod scripts;
 mod searches;
 mod texts;
 mod times;
+mod trees;
 mod views;
 
 use case::{Fault, Words};
@@ -73,6 +78,8 @@ fn answer(alloc: Global, words: &mut Words<'_>, out: &mut Bytes) -> Result<(), F
         "interval" => searches::interval(alloc, words, out),
         "endsync" => ends::implicit_by(alloc, words, out),
         "view" => views::viewed(words, out),
+        "tree" => trees::tree(alloc, words, out),
+        "play" => plays::play(alloc, words, out),
         word => answer_lists(alloc, word, words, out),
     }
 }

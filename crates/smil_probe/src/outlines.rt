@@ -4,9 +4,9 @@ ghost use Rattle.std.specs.Prelude.{IfOk};
 ghost use Rattle.smil_model.specs.document.Valid.{IsValid};
 
 use super::case::{Fault, Words};
-use super::printed::{put_fault, put_number};
+use super::printed::{put_fault, put_gap, put_number};
 use smil_model::{Bytes, Doc, Refusal};
-use smil_outline::{Builder, write_doc};
+use smil_outline::{Builder, write_doc, write_doc_2};
 use std::alloc::{AllocError, Global};
 
 /// `outline LINE|LINE|..`: the canonical outline, or the place of the first line that is refused,
@@ -49,6 +49,21 @@ fn put_doc(alloc: Global, out: &mut Bytes, doc: &Doc) -> Result<(), AllocError>
 {
     let mut text = Bytes::new(alloc);
     write_doc(doc, &mut text)?;
+    put_lines(out, &text)
+}
+
+/// A document with its serials, with `|` behind each line.
+pub fn put_saved(alloc: Global, out: &mut Bytes, doc: &Doc) -> Result<(), AllocError>
+    requires { IsValid doc.now }
+{
+    let mut text = Bytes::new(alloc);
+    write_doc_2(doc, &mut text)?;
+    put_gap(out)?;
+    put_lines(out, &text)
+}
+
+/// Lines, with `|` in the place of each line feed.
+fn put_lines(out: &mut Bytes, text: &Bytes) -> Result<(), AllocError> {
     for byte in text.slice() {
         out.push(if *byte == b'\n' { b'|' } else { *byte })?;
     }

@@ -71,3 +71,11 @@ pub fn put_fault(out: &mut Bytes, word: &str, column: Option<u32>) -> Result<(),
         None => Ok(()),
     }
 }
+
+/// Serials, one behind another.
+pub fn put_serials(out: &mut Bytes, serials: &[u32]) -> Result<(), AllocError> {
+    for serial in serials {
+        put_number(out, *serial)?;
+    }
+    Ok(())
+}

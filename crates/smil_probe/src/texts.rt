@@ -49,7 +49,7 @@ pub fn list(alloc: Global, words: &mut Words<'_>, out: &mut Bytes) -> Result<(),
 }
 
 /// A fault with its place.
-fn placed(out: &mut Bytes, word: &str, place: usize) -> Result<(), Fault> {
+pub fn placed(out: &mut Bytes, word: &str, place: usize) -> Result<(), Fault> {
     put_word(out, word)?;
     put_number(out, place)?;
     Ok(())
@@ -74,7 +74,7 @@ pub fn node(alloc: Global, words: &mut Words<'_>, out: &mut Bytes) -> Result<(),
 }
 
 /// Why a node line has no reading.
-fn node_fault(out: &mut Bytes, fault: NodeFault) -> Result<(), Fault> {
+pub fn node_fault(out: &mut Bytes, fault: NodeFault) -> Result<(), Fault> {
     let (word, column) = match fault {
         NodeFault::BadOutline => ("bad-outline", None),
         NodeFault::BadPlace => ("bad-place", None),

@@ -14,8 +14,6 @@ mod reading;
 mod run;
 mod session;
 mod status;
-#[cfg(test)]
-mod tests;
 mod top;
 
 pub use status::Status;

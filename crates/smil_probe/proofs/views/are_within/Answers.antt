@@ -1,6 +1,5 @@
 use Rattle.std.proofs.Common.{arith, rules}
 use Rattle.std.proofs.lemmas.Grind.{common_steps}
-use Rattle.smil_fill.specs.Numbers.{HasNumbersWithin}
 use Rattle.smil_probe.proofs.views.are_within.Goals as goal
 
 pub returns-then-is_pair_within : goal.returns-then-is_pair_within

@@ -1,0 +1,78 @@
+-- Attributes that are read for a node fit it.
+use Rattle.std.proofs.Common.{◌≡◌, ℕ, List, true, Option, Some, None, Ok, refl, sym, ap, ◌∙◌}
+use Rattle.std.specs.Prelude.{IsSome}
+use Rattle.smil_model.specs.declared.document.Node.{Node}
+use Rattle.smil_model.specs.declared.document.Kind.{Kind}
+use Rattle.smil_model.specs.declared.document.Attr.{Attr}
+use Rattle.smil_model.specs.declared.document.Attrs.{Attrs}
+use Rattle.smil_model.specs.document.Document.{Document, node_at, serial_of}
+use Rattle.smil_model.specs.document.Edits.{with_attr}
+use Rattle.smil_model.specs.document.Valid.{IsValid, kind_of}
+use Rattle.smil_model.specs.document.Values.{fit_kind}
+use Rattle.smil_model.specs.happening.Queue.{parent_of}
+use Rattle.smil_grammar.specs.Nodes.{attribute_of, is_seq, node_of}
+use Rattle.smil_attrs.proofs.Kept.{with_stays}
+use Rattle.smil_attrs.proofs.Noded.{attribute_is, node_is}
+use Rattle.smil_laws.proofs.Rounds.{find-serial}
+use Rattle.smil_outline.proofs.Fitting.{fits}
+use Rattle.smil_outline.proofs.Ranging.{ranges}
+use Rattle.smil_tree.specs.Outcomes.{may_bear, may_take, passes}
+use Rattle.smil_tree.proofs.Keeping.{fits_at}
+
+-- a node that is there
+record There (nodes : List Node) (s : ℕ) : Type 0 where
+  node : Node
+  at : node_at nodes s ≡ Some node
+
+there : (nodes : List Node) (s : ℕ) → IsSome (node_at nodes s) → There nodes s
+there nodes s some = by_node (node_at nodes s) refl some
+  where
+    by_node : (o : Option Node) → node_at nodes s ≡ o → IsSome o → There nodes s
+    by_node None at h = absurd cc
+    by_node (Some n) at h = record { node = n; at = at }
+
+kind_there : (nodes : List Node) (s : ℕ) (n : Node) (kind : Kind) → node_at nodes s ≡ Some n → Some kind ≡ kind_of (node_at nodes s) → kind ≡ n.kind
+kind_there nodes s n kind at is = let found : Some kind ≡ Some n.kind = is ∙ ap kind_of at in cc
+
+given_fits : (k : Kind) (parent : Option Kind) (attrs : Attrs) (name value : List ℕ) (given : Attr) → fit_kind k parent attrs ≡ true → attribute_of (is_seq parent) k name value ≡ Ok given → fit_kind k parent (with_attr attrs given) ≡ true
+given_fits k parent attrs name value given fit read =
+    let had = attribute_is (is_seq parent) k name value given read in
+    ranges k parent (with_attr attrs given) (with_stays (is_seq parent) k attrs given (fits k parent attrs fit) had.0 had.1)
+
+-- an attribute of a node that is read for its kind and its parent's
+pub may_take_read : (d : Document) (s : ℕ) (kind : Kind) (parent : Option Kind) (name value : List ℕ) (given : Attr) → IsValid d → IsSome (node_at d.nodes s) → Some kind ≡ kind_of (node_at d.nodes s) → ((n : Node) → node_at d.nodes s ≡ Some n → parent ≡ kind_of (node_at d.nodes n.parent)) → attribute_of (is_seq parent) kind name value ≡ Ok given → may_take d.nodes s given ≡ true
+may_take_read d s kind parent name value given valid some kind_is parent_is read =
+    let n : There d.nodes s = there d.nodes s some in
+    let above : Option Kind = kind_of (node_at d.nodes n.node.parent) in
+    let own : kind ≡ n.node.kind = kind_there d.nodes s n.node kind n.at kind_is in
+    ap (λ (o : Option Node). passes (λ (m : Node). fit_kind m.kind (kind_of (node_at d.nodes m.parent)) (with_attr m.attrs given)) o) n.at
+    ∙ given_fits n.node.kind above n.node.attrs name value given (fits_at d.nodes s n.node valid.fitting n.at)
+    (ap (λ p. attribute_of (is_seq p) n.node.kind name value) (sym (parent_is n.node n.at)) ∙ ap (λ k. attribute_of (is_seq parent) k name value) (sym own) ∙ read)
+
+-- a node line that is read for a child of a node
+pub may_bear_read : (nodes : List Node) (s : ℕ) (parent kind : Kind) (line : List ℕ) (attrs : Attrs) → IsSome (node_at nodes s) → Some parent ≡ kind_of (node_at nodes s) → node_of (Some parent) line ≡ Ok (kind, attrs) → may_bear nodes s kind attrs ≡ true
+may_bear_read nodes s parent kind line attrs some parent_is read =
+    let p : There nodes s = there nodes s some in
+    let own : parent ≡ p.node.kind = kind_there nodes s p.node parent p.at parent_is in
+    ap (λ (o : Option Node). passes (λ (m : Node). fit_kind kind (Some m.kind) attrs) o) p.at
+    ∙ ap (λ (k : Kind). fit_kind kind (Some k) attrs) (sym own)
+    ∙ ranges kind (Some parent) attrs (node_is (Some parent) line kind attrs read).1
+
+-- ---- the parent of a node
+
+parent_at : (nodes : List Node) (n : Node) (parent : ℕ) (o : Option Node) → node_at nodes n.parent ≡ o → Some parent ≡ serial_of o → node_at nodes parent ≡ o
+parent_at nodes n parent None at is = absurd cc
+parent_at nodes n parent (Some m) at is =
+    let same : parent ≡ m.serial = cc in
+    ap (λ t. node_at nodes t) (same ∙ find-serial n.parent nodes m at) ∙ at
+
+pub parent_there : (nodes : List Node) (s parent : ℕ) (n : Node) → node_at nodes s ≡ Some n → Some parent ≡ serial_of (parent_of nodes (node_at nodes s)) → node_at nodes parent ≡ node_at nodes n.parent
+parent_there nodes s parent n at is =
+    parent_at nodes n parent (node_at nodes n.parent) refl (is ∙ ap (λ (o : Option Node). serial_of (parent_of nodes o)) at)
+
+pub no_parent : (nodes : List Node) (s : ℕ) (n : Node) → node_at nodes s ≡ Some n → None ≡ serial_of (parent_of nodes (node_at nodes s)) → None ≡ kind_of (node_at nodes n.parent)
+no_parent nodes s n at is = by_node (node_at nodes n.parent) (is ∙ ap (λ (o : Option Node). serial_of (parent_of nodes o)) at)
+  where
+    by_node : (o : Option Node) → None ≡ serial_of o → None ≡ kind_of o
+    by_node None h = refl
+    by_node (Some m) h = absurd cc

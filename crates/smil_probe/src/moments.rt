@@ -1,0 +1,122 @@
+//! Calls of smil_stretch and smil_instances: clocks and instance times at a moment.
+
+ghost use Rattle.smil_model.specs.Times.{IsMoment};
+
+use super::printed::{put_flag, put_number, put_time, put_word};
+use smil_instances::Instances;
+use smil_model::{Bytes, Edge, Time};
+use smil_stretch::Clocks;
+use std::alloc::AllocError;
+
+/// The clocks of elements.
+pub fn put_clocks(
+    out: &mut Bytes,
+    clocks: &Clocks,
+    whos: &[u32],
+    moment: i64,
+) -> Result<(), AllocError>
+    requires { IsMoment moment }
+{
+    let mut before = whos.first().copied().unwrap_or(0);
+    for who in whos {
+        put_clock(out, clocks, *who, before, moment)?;
+        before = *who;
+    }
+    Ok(())
+}
+
+/// The clocks of an element: what its own and its time parent's show, whether they stand, 7 on the
+/// latter in document time, and what that clock shows where that of the element before shows 7.
+fn put_clock(
+    out: &mut Bytes,
+    clocks: &Clocks,
+    who: u32,
+    before: u32,
+    moment: i64,
+) -> Result<(), AllocError>
+    requires { IsMoment moment }
+{
+    put_number(out, who)?;
+    put_number(out, clocks.run(who, moment))?;
+    put_number(out, clocks.outer(who, moment))?;
+    put_flag(out, clocks.stands(who))?;
+    put_flag(out, clocks.outer_stands(who))?;
+    put_number(out, clocks.to_document(who, 7, moment))?;
+    put_number(out, clocks.between(before, who, 7, moment))?;
+    put_word(out, "/")
+}
+
+/// The instance times of elements.
+pub fn put_instances(
+    out: &mut Bytes,
+    instances: &Instances,
+    clocks: &Clocks,
+    whos: &[u32],
+    moment: i64,
+) -> Result<(), AllocError>
+    requires { IsMoment moment }
+{
+    for who in whos {
+        put_instance(out, instances, *who, clocks.outer(*who, moment))?;
+    }
+    Ok(())
+}
+
+/// The begins of an element behind `<`, its ends behind `>`; and behind `:` whether it has an end,
+/// and the first times of both sides by two values: what the clock of the time parent shows, and
+/// the first begin, or 0 where there is none.
+fn put_instance(
+    out: &mut Bytes,
+    instances: &Instances,
+    who: u32,
+    now: i64,
+) -> Result<(), AllocError> {
+    put_number(out, who)?;
+    put_word(out, "<")?;
+    put_begins(out, instances.begins(who))?;
+    put_word(out, ">")?;
+    put_ends(out, instances.ends(who))?;
+    put_word(out, ":")?;
+    put_flag(out, instances.any_end(who))?;
+    put_first(out, instances, who, now)?;
+    let first = instances.begins(who).first().copied().unwrap_or(0);
+    put_first(out, instances, who, first)?;
+    put_word(out, "/")
+}
+
+/// Begins that rise, each once.
+fn put_begins(out: &mut Bytes, begins: &[i64]) -> Result<(), AllocError> {
+    let mut last = None;
+    for begin in begins {
+        if last != Some(*begin) {
+            put_number(out, *begin)?;
+        }
+        last = Some(*begin);
+    }
+    Ok(())
+}
+
+/// Ends that rise, each once.
+fn put_ends(out: &mut Bytes, ends: &[Time]) -> Result<(), AllocError> {
+    let mut last = None;
+    for end in ends {
+        if last != Some(*end) {
+            put_time(out, *end)?;
+        }
+        last = Some(*end);
+    }
+    Ok(())
+}
+
+/// The first begin and the first end from a value on, and those after it.
+fn put_first(
+    out: &mut Bytes,
+    instances: &Instances,
+    who: u32,
+    value: i64,
+) -> Result<(), AllocError> {
+    put_time(out, instances.first_from(who, Edge::Begin, value))?;
+    put_time(out, instances.first_from(who, Edge::End, value))?;
+    put_time(out, instances.first_after(who, Edge::Begin, value))?;
+    put_time(out, instances.first_after(who, Edge::End, value))
+}

@@ -1,0 +1,220 @@
+//! Presentations that are played, whose clocks and instance times are told.
+
+ghost use Rattle.std.specs.Prelude.{◌≡◌, ◌<◌, ◌+ℤ◌, pos, true, false, None, IfOk, OnOk};
+ghost use Rattle.smil_cells.specs.Standing.{NothingBefore};
+ghost use Rattle.smil_model.specs.diary.Logs.{is_serial, may_happen};
+ghost use Rattle.smil_model.specs.document.Valid.{IsValid};
+ghost use Rattle.smil_model.specs.shown.Answers.{IsGiven};
+
+use super::case::{Fault, Words};
+use super::moments::{put_clocks, put_instances};
+use super::orders::{lines_of, order_of, parted};
+use super::outlines::document;
+use super::printed::{put_flag, put_gap, put_number};
+use smil_cells::PlainCells;
+use smil_diary::BookFault;
+use smil_instances::Instances;
+use smil_instances::elements::elements;
+use smil_model::{
+    Bytes, Doc, HORIZON, Happening, LOG_ENTRIES, LogEntry, Order, SERIALS, Steps, Who, WordList,
+};
+use smil_past::Past;
+use smil_stretch::Clocks;
+use smil_tree::Tree;
+use std::alloc::{AllocError, Global};
+use std::marker::Brand;
+use std::sync::ledger::{Blank, Ledger};
+
+/// `play LINE|LINE|..|%%|ORDER|ORDER|..`: the document of an outline plays from moment 0 on by
+/// script lines whose orders are `advance`, `seek` to a later moment, `event`, `media` and `key`.
+/// In the end its clocks and its instance times are told.
+pub fn play(alloc: Global, words: &mut Words<'_>, out: &mut Bytes) -> Result<(), Fault> {
+    let (outline, orders) = parted(words.rest())?;
+    let doc = document(alloc, outline)?;
+    let lines = lines_of(alloc, orders)?;
+    played::<Brand>(alloc, Blank::new(1), &doc, &lines, out)
+}
+
+/// Plays a document by orders, whose evaluations are counted.
+fn played<L: Ledger>(
+    alloc: Global,
+    blank: Blank,
+    doc: &Doc,
+    lines: &WordList,
+    out: &mut Bytes,
+) -> Result<(), Fault>
+    requires name { blank.name ≡ L.name }
+    requires parts { blank.parts ≡ L.parts }
+    requires backed { 0 < blank.parts }
+    requires valid { IsValid doc.now }
+{
+    let mut steps = Steps::<L>::new(blank);
+    let mut cells = PlainCells::new(alloc, doc, &mut steps)?;
+    settle(&mut cells, 0, &mut steps)?;
+    for line in lines.slice() {
+        if let Some(order) = order_of(alloc, line.slice())? {
+            take(&mut cells, order, &mut steps)?;
+        }
+    }
+    tell_clocks(alloc, out, &cells)?;
+    tell_times(alloc, out, &cells)
+}
+
+/// One order.
+fn take<L: Ledger>(cells: &mut PlainCells, order: Order, steps: &mut Steps<L>) -> Result<(), Fault>
+    requires sound { cells.old.fault ≡ None }
+    requires given { IsGiven order }
+    ensures { OnOk result (cells.new.fault ≡ None) }
+{
+    match order {
+        Order::Advance { by } => {
+            let until = cells.moment().saturating_add(by);
+            settle(cells, until, steps)
+        }
+        Order::Seek { to } => settle(cells, to, steps),
+        Order::Event { who, name } => {
+            let who = serial_of(cells.tree(), &who)?;
+            hear(cells, Happening::Event { who, name }, steps)
+        }
+        Order::Media { who, length } => {
+            let who = serial_of(cells.tree(), &who)?;
+            hear(cells, Happening::Media { who, length }, steps)
+        }
+        Order::Key { key } => hear(cells, Happening::Key { key }, steps),
+        _ => Err(Fault::Refused),
+    }
+}
+
+/// A serial, which need not be a node's, or that of the node with an id.
+fn serial_of(tree: &Tree, who: &Who) -> Result<u32, Fault>
+    ensures { IfOk result (λ serial. is_serial serial ≡ true) }
+{
+    let serial = match who {
+        Who::Serial(serial) => Some(*serial),
+        who => tree.find(who),
+    };
+    match serial {
+        Some(serial) if 1 <= serial && serial <= SERIALS => Ok(serial),
+        _ => Err(Fault::Refused),
+    }
+}
+
+/// Plays on to a moment, which is not before the present one.
+fn settle<L: Ledger>(cells: &mut PlainCells, until: i64, steps: &mut Steps<L>) -> Result<(), Fault>
+    requires { cells.old.fault ≡ None }
+    ensures { OnOk result (cells.new.fault ≡ None) }
+{
+    if until < cells.moment() || until > HORIZON {
+        return Err(Fault::Refused);
+    }
+    match cells.settle(until, steps) {
+        Ok(()) => Ok(()),
+        Err(fault) => Err(refusal(fault)),
+    }
+}
+
+/// Hears what came from outside, where nothing is due and the log has room.
+fn hear<L: Ledger>(
+    cells: &mut PlainCells,
+    what: Happening,
+    steps: &mut Steps<L>,
+) -> Result<(), Fault>
+    requires sound { cells.old.fault ≡ None }
+    requires may { may_happen what ≡ true }
+    ensures { OnOk result (cells.new.fault ≡ None) }
+{
+    let moment = cells.moment();
+    if cells.log().len() >= LOG_ENTRIES || is_due(cells) {
+        return Err(Fault::Refused);
+    }
+    match cells.hear(LogEntry { moment, what }, steps) {
+        Ok(()) => Ok(()),
+        Err(fault) => Err(refusal(fault)),
+    }
+}
+
+/// Whether something comes at the present moment.
+fn is_due(cells: &PlainCells) -> bool
+    requires { cells.now.fault ≡ None }
+    ensures { result ≡ false → NothingBefore cells.now (pos cells.now.presentation.now +ℤ pos 1) }
+{
+    match cells.next_due() {
+        Some(due) => due <= cells.moment(),
+        None => false,
+    }
+}
+
+fn refusal(fault: BookFault) -> Fault {
+    match fault {
+        BookFault::DiaryFull => Fault::Refused,
+        BookFault::Memory => Fault::Memory,
+    }
+}
+
+/// The present moment, the clocks of the elements, and whether those that are made anew are the
+/// same.
+fn tell_clocks(alloc: Global, out: &mut Bytes, cells: &PlainCells) -> Result<(), Fault> {
+    let moment = cells.moment();
+    if moment < 0 || moment > HORIZON {
+        return Err(Fault::Refused);
+    }
+    let whos = elements(alloc, cells.tree())?;
+    let mut shown = Bytes::new(alloc);
+    put_clocks(&mut shown, cells.clocks(), &whos, moment)?;
+    let mut again = Bytes::new(alloc);
+    put_clocks(
+        &mut again,
+        &clocks_anew(alloc, cells.past())?,
+        &whos,
+        moment,
+    )?;
+    put_number(out, moment)?;
+    put_text(out, &shown)?;
+    put_flag(out, shown == again)?;
+    Ok(())
+}
+
+/// The clocks after the entries of the diary, made anew.
+fn clocks_anew(alloc: Global, past: &Past) -> Result<Clocks, AllocError> {
+    past.possible();
+    Clocks::of(alloc, past.tree(), past.book())
+}
+
+/// The instance times of the elements, which are made anew, and whether those that were kept are
+/// the same.
+fn tell_times(alloc: Global, out: &mut Bytes, cells: &PlainCells) -> Result<(), Fault> {
+    let moment = cells.moment();
+    if moment < 0 || moment > HORIZON {
+        return Err(Fault::Refused);
+    }
+    let whos = elements(alloc, cells.tree())?;
+    let past = cells.past();
+    let mut anew = Bytes::new(alloc);
+    put_instances(
+        &mut anew,
+        &instances_anew(alloc, past)?,
+        past.clocks(),
+        &whos,
+        moment,
+    )?;
+    let mut kept = Bytes::new(alloc);
+    put_instances(&mut kept, past.instances(), past.clocks(), &whos, moment)?;
+    put_text(out, &anew)?;
+    put_flag(out, anew == kept)?;
+    Ok(())
+}
+
+/// The instance times after the entries of the diary, made anew.
+fn instances_anew(alloc: Global, past: &Past) -> Result<Instances, AllocError> {
+    past.possible();
+    let tree = past.tree();
+    let mut instances = Instances::new(alloc, tree, past.graph())?;
+    instances.rebuild(tree, past.log(), past.book())?;
+    Ok(instances)
+}
+
+/// Appends a text behind what stands there.
+fn put_text(out: &mut Bytes, text: &Bytes) -> Result<(), AllocError> {
+    put_gap(out)?;
+    out.append(text.slice())
+}

@@ -1,0 +1,62 @@
+//! Serves sessions over memory and tells how each went: the worked sessions, as a run.
+//!
+//! The standard input is a list of sessions. A header begins one, its input stands below, and it is
+//! served at its `end`:
+//!
+//!     session run chunk=3 writes=2
+//!     |load d
+//!     |par dur="1s"
+//!     crlf|%%
+//!     open|d text
+//!     end
+//!
+//! | Line | What it says |
+//! |---|---|
+//! | `session WORD..` | a session with these words of the program, whose input is read in pieces |
+//! | .. `chunk=N` | a read gives at most N bytes, 1 at least; 4,096 where this is left out |
+//! | .. `room=N` | N bytes may be written, and no write that would pass them; 65,536 where left out |
+//! | .. `reads=N,N..` `writes=N,N..` | the reads and the writes that fail, counted from 1 |
+//! | `\|TEXT` | a line of the input that ends with a line feed |
+//! | `crlf\|TEXT` | one that ends with a carriage return and a line feed |
+//! | `open\|TEXT` | one without an end |
+//! | `end` | the session is served |
+//! | `turns WORD..` | a session that is read line by line |
+//! | `N\|TEXT` | a line, which ends with a line feed: a read gives it if N bytes of answers were taken, no more and no fewer, and fails otherwise |
+//! | `end N` | the input ends if N bytes of answers were taken; the session is served |
+//!
+//! An empty line and one that begins with `#` say nothing. Of each session are written `session` and
+//! the number of its header among all headers, the transcript as it was taken, and `exit` with the
+//! exit number. A line that has no reading is left out, and told as `refused` with its number among
+//! the lines; a header so where its session has no end. `memory` in that place says that there was
+//! none for what the line asks.
+#![tactic(auto)]
+
+mod fault;
+mod listing;
+mod numbers;
+mod pieces;
+mod serving;
+mod session;
+mod telling;
+mod turns;
+mod waiting;
+
+use listing::Listing;
+use smil_model::Bytes;
+use std::io::{self, BufRead, BufReader, BufWriter, Write};
+
+fn main(rt: HostRuntime) -> io::Result<()> {
+    let alloc = rt.alloc();
+    let mut out = BufWriter::new(alloc, io::writer(&rt))?;
+    let mut listing = Listing::new();
+    for line in BufReader::new(alloc, rt.reader())?.lines(alloc) {
+        let line = line?;
+        let mut told = Bytes::new(alloc);
+        listing.take(alloc, line.as_str(), &mut told)?;
+        out.write_all(told.slice())?;
+    }
+    let mut told = Bytes::new(alloc);
+    listing.finish(&mut told)?;
+    out.write_all(told.slice())?;
+    out.flush()
+}

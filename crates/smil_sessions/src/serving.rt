@@ -1,0 +1,85 @@
+//! Sessions, served.
+
+ghost use Rattle.std.specs.Prelude.{◌≡◌, ◌<◌};
+
+use super::pieces::{Pieces, ROOM};
+use super::session::{Input, Session};
+use super::telling::Telling;
+use super::turns::Turns;
+use super::waiting::Waiting;
+use smil_model::{Bytes, Steps, WordList};
+use smil_outside::{MemSink, MemSource, Sink, Source};
+use smil_top::{Status, serve};
+use std::alloc::{AllocError, Global};
+use std::cell::Cell;
+use std::marker::Brand;
+use std::sync::ledger::{Blank, Ledger};
+
+/// Serves a session, appends its transcript, and gives its status.
+pub fn serve_session(
+    alloc: Global,
+    session: &Session,
+    told: &mut Bytes,
+) -> Result<Status, AllocError> {
+    match &session.input {
+        Input::Pieces(pieces) => serve_pieces(alloc, &session.words, pieces, told),
+        Input::Turns(turns) => serve_turns(alloc, &session.words, turns, told),
+    }
+}
+
+fn serve_pieces(
+    alloc: Global,
+    words: &WordList,
+    pieces: &Pieces,
+    told: &mut Bytes,
+) -> Result<Status, AllocError> {
+    let text = pieces.text.slice();
+    let mut source = MemSource::new(alloc, text, pieces.chunk, pieces.reads.slice())?;
+    let mut sink = MemSink::new(alloc, pieces.room, pieces.writes.slice())?;
+    let status = status_of(alloc, words, &mut source, &mut sink);
+    told.append(sink.bytes())?;
+    Ok(status)
+}
+
+fn serve_turns(
+    alloc: Global,
+    words: &WordList,
+    turns: &Turns,
+    told: &mut Bytes,
+) -> Result<Status, AllocError> {
+    let taken = Cell::new(0);
+    let mut source = Waiting::new(turns, &taken);
+    let mut sink = Telling {
+        sink: MemSink::new(alloc, ROOM, &[])?,
+        taken: &taken,
+    };
+    let status = status_of(alloc, words, &mut source, &mut sink);
+    told.append(sink.sink.bytes())?;
+    Ok(status)
+}
+
+// How a session ends.
+fn status_of<S: Source, K: Sink>(
+    alloc: Global,
+    words: &WordList,
+    source: &mut S,
+    sink: &mut K,
+) -> Status {
+    counted::<_, _, Brand>(alloc, Blank::new(1), words, source, sink)
+}
+
+// How a session ends whose evaluations are counted from 0.
+fn counted<S: Source, K: Sink, L: Ledger>(
+    alloc: Global,
+    blank: Blank,
+    words: &WordList,
+    source: &mut S,
+    sink: &mut K,
+) -> Status
+    requires name { blank.name ≡ L.name }
+    requires parts { blank.parts ≡ L.parts }
+    requires backed { 0 < blank.parts }
+{
+    let mut steps = Steps::<L>::new(blank);
+    serve(alloc, words, source, sink, &mut steps)
+}
