@@ -1,7 +1,8 @@
 #!/bin/sh
 # gate.sh [LOG]: runs `rt ci` on this checkout, and prints what each part of it takes as a table: processor seconds of each
-# crate's proof, of its tests' proof and of its must-fail edits, and the longest chain of crates by the clock. What an
-# earlier run on this machine passed is not proved again: for a run from nothing take a machine that has kept nothing.
+# crate's proof, of its tests' proof, of the check that its must-fail edits begin with and of these edits, and the longest
+# chain of crates by the clock. What an earlier run on this machine passed is not proved again: for a run from nothing take
+# a machine that has kept nothing.
 # The log of the run goes to LOG.
 set -eu
 cd "$(dirname "$0")/.."

@@ -1,6 +1,7 @@
 #!/usr/bin/env python3
 """gate_times.py PID CRATES: watches the processes below PID until it ends, and prints a table of the processor time that
-the prover took for each crate's proof, tests and edits, and the longest chain of the crates in the file CRATES.
+the prover took for each crate's proof, its tests, the check that its edits begin with, and its edits, with how many these
+were and the longest; and the longest chain of the crates in the file CRATES.
 
 A process is looked at once a second, so what ran shorter is counted in part. Linux alone: it reads /proc."""
 import os
@@ -8,7 +9,7 @@ import sys
 import time
 
 TICK = os.sysconf('SC_CLK_TCK')
-PARTS = ('proof', 'tests', 'edits')
+PARTS = ('proof', 'tests', 'first check', 'edits')
 
 
 def stat(pid):
@@ -33,7 +34,8 @@ def part_of(pid):
         return None
     crate = words[words.index('--crate-name') + 1]
     if 'rt-edit-' in folder:
-        return crate, 'edits'
+        over = words[words.index('--incremental') + 1] if '--incremental' in words else ''
+        return crate, 'first check' if over.endswith('/seed') else 'edits'
     return crate, 'tests' if '--test' in words else 'proof'
 
 
@@ -47,7 +49,7 @@ def below(root, parents):
 
 
 def watch(root):
-    """Processor seconds of each (crate, part), and when each was first and last seen."""
+    """Processor seconds of each process of each (crate, part), and how long there were any by the clock."""
     spent, seen = {}, {}
     while stat(root):
         stats = {int(p): stat(p) for p in os.listdir('/proc') if p.isdigit()}
@@ -60,10 +62,10 @@ def watch(root):
         if is_over(root):
             break
         time.sleep(1)
-    sums = {}
+    each = {}
     for part, seconds in spent.values():
-        sums[part] = sums.get(part, 0) + seconds
-    return sums, {part: last - first for part, (first, last) in seen.items()}
+        each.setdefault(part, []).append(seconds)
+    return each, {part: last - first for part, (first, last) in seen.items()}
 
 
 def is_over(pid):
@@ -88,20 +90,27 @@ def longest(crates, clock):
     return max((chain(name) for name in crates), key=lambda c: c[0])
 
 
+def all_of(each, part):
+    """Processor seconds of a part of all crates."""
+    return sum(sum(seconds) for (_, its_part), seconds in each.items() if its_part == part)
+
+
 def main():
     root, path = int(sys.argv[1]), sys.argv[2]
     start = time.time()
-    sums, clock = watch(root)
+    each, clock = watch(root)
     crates = {}
     for line in open(path):
         line = line.split('#')[0]
         if ':' in line:
             name, deps = line.split(':', 1)
             crates[name.split()[0]] = deps.split()
-    print('| Crate | Proof | Tests | Edits |\n|---|---|---|---|')
+    print('| Crate | Proof | Tests | First check | Edits | Tried | Longest |\n|---|---|---|---|---|---|---|')
     for name in crates:
-        print('| %s | %s |' % (name, ' | '.join('%.0f' % sums.get((name, p), 0) for p in PARTS)))
-    print('| all | %s |' % ' | '.join('%.0f' % sum(s for (_, q), s in sums.items() if q == p) for p in PARTS))
+        edits = each.get((name, 'edits'), [])
+        sums = ['%.0f' % sum(each.get((name, part), [])) for part in PARTS]
+        print('| %s | %s | %d | %.0f |' % (name, ' | '.join(sums), len(edits), max(edits, default=0)))
+    print('| all | %s | | |' % ' | '.join('%.0f' % all_of(each, part) for part in PARTS))
     seconds, chain = longest(crates, clock)
     print('\nprocessor seconds; %.0f minutes by the clock; longest chain %.0f s by the clock: %s'
           % ((time.time() - start) / 60, seconds, ', '.join(chain)))
