@@ -1,5 +1,5 @@
 #!/usr/bin/env python3
-"""differential.py --oracle DIR [--seed S] [--cases N] [--keep DIR] [--folder DIR] -- PROGRAM
+"""differential.py --oracle DIR [--seed S] [--cases N] [--one] [--keep DIR] [--folder DIR] -- PROGRAM
 
 Random scripts, answered by PROGRAM (with the word `run`) and by the reference
 model in DIR; text and status are compared. A difference is printed and, with
@@ -8,8 +8,8 @@ the model's own generator makes them: documents with all that is played, and
 orders of all kinds to them. The others read: loads of a par with one image in
 many spellings, lines with small faults, loads with a value near the grammar,
 outlines with serials, script lines of each order near the grammar, and loads
-that are near a limit. Many scripts go at a time, separated by lines that end a
-load and close what is held.
+that are near a limit. With --one each script plays one presentation. Many scripts
+go at a time, separated by lines that end a load and close what is held.
 
 With --folder nothing is run: each input is written there with the model's text
 beside it, as NAME and NAME.stdout, for `rt try --cases` (readers_compare.sh)."""
@@ -25,6 +25,7 @@ def arguments():
     parser.add_argument('--oracle', required=True)
     parser.add_argument('--seed', type=int, default=1)
     parser.add_argument('--cases', type=int, default=1000)
+    parser.add_argument('--one', action='store_true')
     parser.add_argument('--keep')
     parser.add_argument('--folder')
     parser.add_argument('program', nargs='*')
@@ -35,8 +36,8 @@ ARGS = arguments()
 sys.path.insert(0, ARGS.oracle)
 import diff  # noqa: E402
 import grammar  # noqa: E402
+import laws_session  # noqa: E402
 import session  # noqa: E402
-
 
 
 class Built(int):
@@ -210,8 +211,16 @@ def orders(r):
     return b'\n'.join(changed(r, [r.choice(ORDERS)], [0, 1, 1, 2])[0] for _ in range(10)) + b'\n'
 
 
+def played_alone(r):
+    """A script that plays one presentation, with edits and seeks."""
+    case = diff.good_case(r, r.choice([4, 7, 10]), REQUEST)
+    return '\n'.join(line for order in laws_session.random_orders(r, case, 'a') for line in order).encode()
+
+
 def script(r, case):
     """One script: every other one is played."""
+    if ARGS.one:
+        return played_alone(r)
     if case % 2 == 0:
         return b'\n'.join(diff.KINDS['play'][0](r, REQUEST)[1])
     if case % 500 == 499:

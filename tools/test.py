@@ -36,8 +36,10 @@ def run_session(program, words, text):
     return run.stdout.decode("utf-8", "replace"), run.returncode
 
 
-def status_of(transcript):
-    """The exit number that belongs to the transcript of `run` or `check`."""
+def status_of(words, transcript):
+    """The exit number that belongs to a session's words and its transcript."""
+    if words[0] not in ("run", "check", "gen"):
+        return 2
     return 1 if re.search(r"^! ", transcript, re.MULTILINE) else 0
 
 
@@ -130,7 +132,7 @@ def page_results(program, lines):
     """For each tested block of a page: the block, its line, what stands in it, and what it should be."""
     for words, text, block in session_parts(lines):
         found, status = run_session(program, words, text.encode())
-        if status != status_of(found):
+        if status != status_of(words, found):
             found += f"exit number {status}\n"
         yield block, block.text(lines), found
     for block in blocks_of(lines):
@@ -156,7 +158,7 @@ def test_page(program, page, fill, report):
 def test_example(program, session, fill, report):
     words = Path(f"{session}.args").read_text().split("\n")[:-1]
     found, status = run_session(program, words, session.read_bytes())
-    if words[0] in ("run", "check", "gen") and status != status_of(found):
+    if status != status_of(words, found):
         found += f"exit number {status}\n"
     wanted = Path(f"{session}.stdout")
     if fill and (not wanted.exists() or wanted.read_text() != found):
