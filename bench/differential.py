@@ -1,5 +1,5 @@
 #!/usr/bin/env python3
-"""differential.py --oracle DIR [--seed S] [--cases N] [--one] [--keep DIR] [--folder DIR] -- PROGRAM
+"""differential.py --oracle DIR [--seed S] [--cases N] [--one] [--seconds T] [--keep DIR] [--folder DIR] -- PROGRAM
 
 Random scripts, answered by PROGRAM (with the word `run`) and by the reference
 model in DIR; text and status are compared. A difference is printed and, with
@@ -9,13 +9,15 @@ orders of all kinds to them. The others read: loads of a par with one image in
 many spellings, lines with small faults, loads with a value near the grammar,
 outlines with serials, script lines of each order near the grammar, and loads
 that are near a limit. With --one each script plays one presentation. Many scripts
-go at a time, separated by lines that end a load and close what is held.
+go at a time, separated by lines that end a load and close what is held; with
+--seconds those over which the model takes longer are left out, and told.
 
 With --folder nothing is run: each input is written there with the model's text
 beside it, as NAME and NAME.stdout, for `rt try --cases` (readers_compare.sh)."""
 import argparse
 import os
 import random
+import signal
 import subprocess
 import sys
 
@@ -26,6 +28,7 @@ def arguments():
     parser.add_argument('--seed', type=int, default=1)
     parser.add_argument('--cases', type=int, default=1000)
     parser.add_argument('--one', action='store_true')
+    parser.add_argument('--seconds', type=int, default=0)
     parser.add_argument('--keep')
     parser.add_argument('--folder')
     parser.add_argument('program', nargs='*')
@@ -243,6 +246,22 @@ def answer_of_model(data, limits):
     return told.text(), 1 if told.refused else 0
 
 
+def stop(number, frame):
+    raise TimeoutError
+
+
+def answer_in_time(data, limits):
+    """The model's answer, or None where it takes longer than it may."""
+    signal.signal(signal.SIGALRM, stop)
+    signal.alarm(ARGS.seconds)
+    try:
+        return answer_of_model(data, limits)
+    except TimeoutError:
+        return None
+    finally:
+        signal.alarm(0)
+
+
 def fewer(lines, differs):
     """The lines without those that the difference doesn't need."""
     size = len(lines) // 2
@@ -265,7 +284,7 @@ def write(name, data):
 
 def main():
     limits = grammar.Limits(REQUEST)
-    seen, answers = {}, 0
+    seen, answers, left_out = {}, 0, 0
 
     def told(data):
         run = subprocess.run(ARGS.program + ['run'], input=data, capture_output=True)
@@ -275,7 +294,11 @@ def main():
         data = b'\n'.join(lines)
         return told(data) != answer_of_model(data, limits)
     for case, count, data in scripts():
-        want = answer_of_model(data, limits)
+        want = answer_in_time(data, limits)
+        if want is None:
+            left_out += count
+            print('left out: seed %d case %d, %d scripts' % (ARGS.seed, case, count), flush=True)
+            continue
         for line in want[0].split(b'\n'):
             word = line.split()[2].decode() if line.startswith(b'! ') else 'ok' if line.startswith(b'ok ') else None
             if word:
@@ -293,7 +316,7 @@ def main():
                 write(os.path.join(ARGS.keep, '%d-%d.in' % (ARGS.seed, case)), data)
             sys.exit(1)
     print('%d scripts, %d answers%s; %s' % (
-        ARGS.cases, answers, '' if ARGS.folder else ', 0 differences', ', '.join('%s %d' % (word, seen[word]) for word in sorted(seen))))
+        ARGS.cases - left_out, answers, '' if ARGS.folder else ', 0 differences', ', '.join('%s %d' % (word, seen[word]) for word in sorted(seen))))
 
 
 main()
