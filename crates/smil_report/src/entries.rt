@@ -1,8 +1,9 @@
 //! The lines of a diary.
 
-ghost use Rattle.std.specs.Prelude.{◌≡◌, ◌++◌, [], ◌∷◌, codes, OnOk, OnErr};
+ghost use Rattle.std.specs.Prelude.{◌≡◌, ◌++◌, [], ◌∷◌, codes, map, OnOk, OnErr};
 ghost use Rattle.std.specs.Fmt.{signed_decimal};
 ghost use Rattle.smil_model.specs.shown.Lines.{entry_line, happening_words, line_of, now_line, outline_end, serial_text};
+ghost use Rattle.smil_report.specs.Words.{word_text};
 
 use super::words::{Word, put_line};
 use smil_model::{Bytes, Entry, Happening, Log, Step};
@@ -35,14 +36,14 @@ pub fn put_entry(out: &mut Bytes, log: &Log, entry: Entry) -> Result<(), AllocEr
 {
     let at = entry.moment;
     match entry.step {
-        Step::Began { who, begin } => put_step(out, at, b"began", who, begin),
-        Step::Repeated { who, start } => put_step(out, at, b"repeated", who, start),
-        Step::Ended { who, end } => put_step(out, at, b"ended", who, end),
-        Step::Deferred { who, begin } => put_step(out, at, b"deferred", who, begin),
-        Step::Passed { who, begin } => put_step(out, at, b"passed", who, begin),
-        Step::Cut { who } => put_bare(out, at, b"cut", who),
-        Step::Paused { who } => put_bare(out, at, b"paused", who),
-        Step::Resumed { who } => put_bare(out, at, b"resumed", who),
+        Step::Began { who, begin } => put_line(out, &valued(at, b"began", who, begin)),
+        Step::Repeated { who, start } => put_line(out, &valued(at, b"repeated", who, start)),
+        Step::Ended { who, end } => put_line(out, &valued(at, b"ended", who, end)),
+        Step::Deferred { who, begin } => put_line(out, &valued(at, b"deferred", who, begin)),
+        Step::Passed { who, begin } => put_line(out, &valued(at, b"passed", who, begin)),
+        Step::Cut { who } => put_line(out, &bare(at, b"cut", who)),
+        Step::Paused { who } => put_line(out, &bare(at, b"paused", who)),
+        Step::Resumed { who } => put_line(out, &bare(at, b"resumed", who)),
         Step::Logged { place } => match log.get(place as usize) {
             Some(heard) => put_heard(out, at, &heard.what),
             None => put_line(out, &[Word::Moment(at)]),
@@ -50,33 +51,24 @@ pub fn put_entry(out: &mut Bytes, log: &Log, entry: Entry) -> Result<(), AllocEr
     }
 }
 
-// Appends the line of a step that has no value.
-fn put_bare(out: &mut Bytes, at: i64, word: &[u8], who: u32) -> Result<(), AllocError>
-    ensures ok { OnOk result (out.new ≡ out.old
-        ++ line_of (signed_decimal at ∷ word.now ∷ serial_text who ∷ [])) }
-    ensures err { OnErr result (out.new ≡ out.old) }
+// The words of the line of a step that has no value.
+fn bare(at: i64, word: &[u8], who: u32) -> [Word<'_>; 3]
+    ensures { map word_text result ≡ signed_decimal at ∷ word.now ∷ serial_text who ∷ [] }
 {
-    put_line(
-        out,
-        &[Word::Moment(at), Word::Text(word), Word::Serial(who)],
-    )
+    [Word::Moment(at), Word::Text(word), Word::Serial(who)]
 }
 
-// Appends the line of a step that has a value.
-fn put_step(out: &mut Bytes, at: i64, word: &[u8], who: u32, value: i64) -> Result<(), AllocError>
-    ensures ok { OnOk result (out.new ≡ out.old
-        ++ line_of (signed_decimal at ∷ word.now ∷ serial_text who ∷ signed_decimal value ∷ [])) }
-    ensures err { OnErr result (out.new ≡ out.old) }
+// The words of the line of a step that has a value.
+fn valued(at: i64, word: &[u8], who: u32, value: i64) -> [Word<'_>; 4]
+    ensures { map word_text result
+        ≡ signed_decimal at ∷ word.now ∷ serial_text who ∷ signed_decimal value ∷ [] }
 {
-    put_line(
-        out,
-        &[
-            Word::Moment(at),
-            Word::Text(word),
-            Word::Serial(who),
-            Word::Moment(value),
-        ],
-    )
+    [
+        Word::Moment(at),
+        Word::Text(word),
+        Word::Serial(who),
+        Word::Moment(value),
+    ]
 }
 
 // Appends the line of what came from outside and was heard at a moment.
@@ -95,7 +87,9 @@ fn put_heard(out: &mut Bytes, moment: i64, what: &Happening) -> Result<(), Alloc
                 Word::Text(name.slice()),
             ],
         ),
-        Happening::Media { who, length } => put_step(out, moment, b"media", *who, *length),
+        Happening::Media { who, length } => {
+            put_line(out, &valued(moment, b"media", *who, *length))
+        }
         Happening::Key { key } => put_key(out, moment, *key),
     }
 }
