@@ -19,7 +19,7 @@ const TENTH: u64 = 100_000_000;
 // Whole milliseconds of a number with its billionths.
 fn milliseconds(unit: u64, number: u64, billionths: u64) -> u64
     requires unit { unit ≤ 3_600_000 }
-    requires number { number ≤ 1_000_000_000_001 }
+    requires number { number ≤ CAP }
     requires billionths { billionths ≤ 30_000_000_000 }
     ensures value { result ≡ number * unit + billionths * unit / 1_000_000_000 }
     ensures bound { result ≤ 3_600_001_000_000_000_000 }

@@ -7,6 +7,7 @@ use Rattle.std.proofs.Math.Nat.{pow-suc, one-le-pow}
 use Rattle.std.specs.Char.{is_ascii_digit}
 use Rattle.smil_grammar.specs.Numbers.{number_after, number_of, weight}
 use Rattle.smil_lexis.specs.Capped.{capped}
+use Rattle.smil_lexis.specs.declared.numbers.TheConstants.{CAP}
 
 abbrev pub capped_after : ℕ → List ℕ → Option ℕ
 capped_after n digits = option_map capped (number_after n digits)
@@ -20,7 +21,7 @@ pub capped-same : (n m : ℕ) (digits : List ℕ) → capped n ≡ capped m → 
 capped-same n m [] e = ap (λ k. Some k) e
 capped-same n m (b ∷ digits) e = capped-either (is_ascii_digit b) (number_after (n * 10 + (b - 48)) digits) (number_after (m * 10 + (b - 48)) digits) (capped-same (n * 10 + (b - 48)) (m * 10 + (b - 48)) digits (omega arith))
 
-pub goes_on : (n i next : ℕ) (digits : List ℕ) (total : Option ℕ) → i < length digits → is_ascii_digit (get_or digits i 0) ≡ true → next ≡ min (n * 10 + (get_or digits i 0 - 48)) 1_000_000_000_001
+pub goes_on : (n i next : ℕ) (digits : List ℕ) (total : Option ℕ) → i < length digits → is_ascii_digit (get_or digits i 0) ≡ true → next ≡ min (n * 10 + (get_or digits i 0 - 48)) CAP
     → capped_after n (drop i digits) ≡ total → capped_after next (drop (i + 1) digits) ≡ total
 goes_on n i next digits total lt digit next-is so_far =
     let b : ℕ = get_or digits i 0 in

@@ -5,14 +5,15 @@ ghost use Rattle.smil_grammar.specs.Numbers.{number_of, sixty_of, weight, fracti
 ghost use Rattle.smil_lexis.specs.Capped.{capped};
 
 use super::texts::cut;
+use smil_model::HORIZON;
 
-/// The least number that stands for itself and all greater ones.
-pub const CAP: u64 = 1_000_000_000_001;
+/// The least number above the horizon, which stands for itself and all greater ones.
+pub const CAP: u64 = HORIZON as u64 + 1;
 
 /// The number that one digit or more write, `CAP` where it is above.
 pub fn whole(digits: &[u8]) -> Option<u64>
     ensures number { result ≡ option_map capped (number_of digits.now) }
-    ensures bound { IfSome result (λ n. n ≤ 1_000_000_000_001) }
+    ensures bound { IfSome result (λ n. n ≤ CAP) }
 {
     if digits.is_empty() {
         return None;
@@ -82,7 +83,7 @@ pub fn decimal(text: &[u8], first: u64) -> Option<(u64, u64)>
     requires { first ≤ 1_000_000_000 }
     ensures parts { result ≡ option_map (λ d. (capped d.0, d.1))
         (with_fraction number_of first text.now) }
-    ensures bound { IfSome result (λ d. (d.0 ≤ 1_000_000_000_001) × (d.1 ≤ 300 * first)) }
+    ensures bound { IfSome result (λ d. (d.0 ≤ CAP) × (d.1 ≤ 300 * first)) }
 {
     match cut(text, b'.') {
         Some((front, back)) => Some((whole(front)?, fraction(back, first)?)),
