@@ -13,21 +13,6 @@ use smil_lexis::texts::{cut, trim};
 use smil_model::{Edge, ITEMS, Item, Items};
 use std::alloc::Global;
 
-fn piece(alloc: Global, text: &[u8], place: usize, first: Option<usize>) -> Result<Item, ListFault>
-    requires { place + length text.now < 2 ^ 64 }
-    ensures { GivesList result (piece_at first place text.now) }
-{
-    let here = place + white(text);
-    match item(alloc, trim(text)) {
-        Ok(item) => Ok(item),
-        Err(ItemFault::Bad) => Err(ListFault::Bad {
-            place: first.unwrap_or(here),
-        }),
-        Err(ItemFault::Unsupported) => Err(ListFault::Unsupported { place: here }),
-        Err(ItemFault::Memory) => Err(ListFault::Memory),
-    }
-}
-
 // What stands before and behind the first `;`.
 fn split(text: &[u8]) -> Option<(&[u8], &[u8])>
     ensures pieces { MatchOption result (pieces_of text.now ≡ text.now ∷ [])
@@ -38,63 +23,84 @@ fn split(text: &[u8]) -> Option<(&[u8], &[u8])>
     cut(text, b';')
 }
 
-// Reads the pieces of a text, which stands at this place, and appends their items.
-fn more(
-    alloc: Global,
-    items: &mut Items,
-    text: &[u8],
-    place: usize,
-    first: Option<usize>,
-) -> Result<(), ListFault>
-    requires place { place + length text.now < 2 ^ 64 }
-    requires room { length items.old + length (pieces_of text.now) ≤ ITEMS }
-    ensures { GivesMore items.new result
-        (with_front items.old (items_from first place (pieces_of text.now))) }
-{
-    match split(text) {
-        Some((front, rest)) => {
-            items.push(piece(alloc, front, place, first)?)?;
-            more(alloc, items, rest, place + front.len() + 1, first)
-        }
-        None => {
-            items.push(piece(alloc, text, place, first)?)?;
-            Ok(())
-        }
-    }
-}
-
-// The items of a text of no more pieces than a list may have.
-fn all(alloc: Global, text: &[u8], first: Option<usize>) -> Result<Items, ListFault>
-    requires { length (pieces_of text.now) ≤ ITEMS }
-    ensures { GivesList result (items_from first 0 (pieces_of text.now)) }
-{
-    match split(text) {
-        Some((front, rest)) => {
-            let mut items = Items::new(alloc, piece(alloc, front, 0, first)?)?;
-            more(alloc, &mut items, rest, front.len() + 1, first)?;
-            Ok(items)
-        }
-        None => {
-            let items = Items::new(alloc, piece(alloc, text, 0, first)?)?;
-            Ok(items)
-        }
-    }
-}
-
 fn semicolons(text: &[u8]) -> usize
     ensures { result ≡ count_by (λ b. b == 59) text.now }
 {
     text.iter().filter(|byte| **byte == b';').count()
 }
 
-#[tactic(auto, using(crate::proofs::Pieces::pieces_count))]
-fn few(alloc: Global, text: &[u8], first: Option<usize>) -> Result<Items, ListFault>
-    ensures { GivesList result (few_items first text.now) }
-{
-    if semicolons(text) >= ITEMS {
-        return Err(ListFault::TooManyItems);
+// How a list is read: with memory for its items, and the place at which a malformed item is
+// answered where it isn't the item's own.
+#[derive(Clone, Copy)]
+struct Reader {
+    alloc: Global,
+    first: Option<usize>,
+}
+
+impl Reader {
+    // The item of a piece, which stands at this place.
+    fn piece(&self, text: &[u8], place: usize) -> Result<Item, ListFault>
+        requires { place + length text.now < 2 ^ 64 }
+        ensures { GivesList result (piece_at self.now.first place text.now) }
+    {
+        let here = place + white(text);
+        match item(self.alloc, trim(text)) {
+            Ok(item) => Ok(item),
+            Err(ItemFault::Bad) => Err(ListFault::Bad {
+                place: self.first.unwrap_or(here),
+            }),
+            Err(ItemFault::Unsupported) => Err(ListFault::Unsupported { place: here }),
+            Err(ItemFault::Memory) => Err(ListFault::Memory),
+        }
     }
-    all(alloc, text, first)
+
+    // Reads the pieces of a text, which stands at this place, and appends their items.
+    fn more(&self, items: &mut Items, text: &[u8], place: usize) -> Result<(), ListFault>
+        requires place { place + length text.now < 2 ^ 64 }
+        requires room { length items.old + length (pieces_of text.now) ≤ ITEMS }
+        ensures { GivesMore items.new result
+            (with_front items.old (items_from self.now.first place (pieces_of text.now))) }
+    {
+        match split(text) {
+            Some((front, rest)) => {
+                items.push(self.piece(front, place)?)?;
+                self.more(items, rest, place + front.len() + 1)
+            }
+            None => {
+                items.push(self.piece(text, place)?)?;
+                Ok(())
+            }
+        }
+    }
+
+    // The items of a text of no more pieces than a list may have.
+    fn all(&self, text: &[u8]) -> Result<Items, ListFault>
+        requires { length (pieces_of text.now) ≤ ITEMS }
+        ensures { GivesList result (items_from self.now.first 0 (pieces_of text.now)) }
+    {
+        match split(text) {
+            Some((front, rest)) => {
+                let mut items = Items::new(self.alloc, self.piece(front, 0)?)?;
+                self.more(&mut items, rest, front.len() + 1)?;
+                Ok(items)
+            }
+            None => {
+                let items = Items::new(self.alloc, self.piece(text, 0)?)?;
+                Ok(items)
+            }
+        }
+    }
+
+    // The items of a text.
+    #[tactic(auto, using(crate::proofs::Pieces::pieces_count))]
+    fn few(&self, text: &[u8]) -> Result<Items, ListFault>
+        ensures { GivesList result (few_items self.now.first text.now) }
+    {
+        if semicolons(text) >= ITEMS {
+            return Err(ListFault::TooManyItems);
+        }
+        self.all(text)
+    }
 }
 
 fn is_plain(items: &Items) -> bool
@@ -114,7 +120,11 @@ fn plain(alloc: Global, text: &[u8]) -> Result<Items, ListFault>
     ensures { GivesList result (list_of true text.now) }
 {
     let place = white(text);
-    let items = few(alloc, text, Some(place))?;
+    let reader = Reader {
+        alloc,
+        first: Some(place),
+    };
+    let items = reader.few(text)?;
     if is_plain(&items) {
         Ok(items)
     } else {
@@ -139,6 +149,6 @@ pub fn read_list(
     if seq_child && matches!(side, Edge::Begin) {
         plain(alloc, bytes)
     } else {
-        few(alloc, bytes, None)
+        Reader { alloc, first: None }.few(bytes)
     }
 }

@@ -1,8 +1,7 @@
-use Rattle.std.proofs.Common.{◌≡◌, subst, ℕ, ℤ, List, ◌++◌, arith, OnOk}
+use Rattle.std.proofs.Common.{◌≡◌, subst, ℤ, ◌++◌, arith, OnOk}
 use mir.Syntax.{w64}
-use mir.Val.{SFits, to_z, of_z}
+use mir.Val.{SFits}
 use Rattle.std.proofs.lemmas.Int.{ints, to_z-of_z}
-use Rattle.smil_model.specs.declared.document.Item.{Item}
 use Rattle.smil_model.specs.declared.document.Item.TheVariants.{Key}
 use Rattle.smil_grammar.specs.Spellings.{item_text, CanWrite, IsWithin}
 use Rattle.smil_time_list.proofs.spellings.put_item.Goals as goal
