@@ -10,7 +10,7 @@ use super::kinds;
 use super::spellings::put_attr;
 use itoa::Buffer;
 use smil_lexis::texts::{append, past};
-use smil_model::{AttrName, Attrs, Bytes, Kind};
+use smil_model::{AttrName, Attrs, Bytes, Kind, Node};
 use smil_time_list::offsets::count;
 use std::alloc::AllocError;
 
@@ -107,39 +107,29 @@ fn put_number(text: &[u8], number: u32, out: &mut Bytes) -> Result<(), AllocErro
 }
 
 #[tactic(auto, using(smil_lexis::proofs::Growing::begins_on))]
-fn put_node_2(
-    depth: u32,
-    kind: Kind,
-    serial: u32,
-    attrs: &Attrs,
-    out: &mut Bytes,
-) -> Result<(), AllocError>
-    requires { IsAttrs false kind attrs.now }
-    ensures ok { OnOk result (out.new ≡ out.old ++ saved_node_text depth kind serial attrs.now) }
+fn put_node_2(depth: u32, node: &Node, out: &mut Bytes) -> Result<(), AllocError>
+    requires { IsAttrs false node.now.kind node.now.attrs }
+    ensures ok { OnOk result (out.new ≡ out.old
+        ++ saved_node_text depth node.now.kind node.now.serial node.now.attrs) }
     ensures err { OnErr result (Begins out.old out.new) }
 {
     put_indent(depth, out)?;
-    append(out, kinds::text(kind))?;
-    put_number(b" #", serial, out)?;
-    put_attrs(kind, attrs, out)
+    append(out, kinds::text(node.kind))?;
+    put_number(b" #", node.serial, out)?;
+    put_attrs(node.kind, &node.attrs, out)
 }
 
 /// Appends the canonical line of a node with its serial: that of `write_node` with a space, `#` and
 /// the serial behind the kind. The attributes have to be the kind's, with values that their
 /// grammars have, and the serial is from 1 to 999,999,999. After a refusal `out` is as before.
-pub fn write_node_2(
-    depth: u32,
-    kind: Kind,
-    serial: u32,
-    attrs: &Attrs,
-    out: &mut Bytes,
-) -> Result<(), AllocError>
-    requires can_write { IsAttrs false kind attrs.now }
-    ensures ok { OnOk result (out.new ≡ out.old ++ saved_node_text depth kind serial attrs.now) }
+pub fn write_node_2(depth: u32, node: &Node, out: &mut Bytes) -> Result<(), AllocError>
+    requires can_write { IsAttrs false node.now.kind node.now.attrs }
+    ensures ok { OnOk result (out.new ≡ out.old
+        ++ saved_node_text depth node.now.kind node.now.serial node.now.attrs) }
     ensures err { OnErr result (out.new ≡ out.old) }
 {
     let before = out.len();
-    match put_node_2(depth, kind, serial, attrs, out) {
+    match put_node_2(depth, node, out) {
         Ok(()) => Ok(()),
         Err(fault) => {
             out.cut_back(before);

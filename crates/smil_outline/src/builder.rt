@@ -80,24 +80,6 @@ fn kind(spaces: usize, shape: &Shape<'_>) -> Result<Kind, Refusal>
     }
 }
 
-// The attributes of a node line of this shape, below this parent.
-fn attrs_below(
-    alloc: Global,
-    spaces: usize,
-    parent: Option<(u32, Kind)>,
-    kind: Kind,
-    shape: &Shape<'_>,
-) -> Result<Attrs, Refusal>
-    requires short { spaces ≤ LINE_BYTES }
-    requires near { IsInLine shape.now }
-    ensures reading { GivesReading result (in_line spaces (attrs_in parent kind shape.now)) }
-{
-    match shape_attrs(alloc, parent.map(|parent| parent.1), kind, shape) {
-        Ok(attrs) => Ok(attrs),
-        Err(fault) => Err(refused(spaces, fault)),
-    }
-}
-
 fn is_class(kind: Kind) -> bool
     ensures { result ≡ is_class_kind kind }
 {
@@ -213,6 +195,24 @@ impl Builder {
             || self.mixes(depth, kind)
     }
 
+    // The attributes of a node line of this shape, below this parent.
+    fn attrs_below(
+        &self,
+        spaces: usize,
+        parent: Option<(u32, Kind)>,
+        kind: Kind,
+        shape: &Shape<'_>,
+    ) -> Result<Attrs, Refusal>
+        requires short { spaces ≤ LINE_BYTES }
+        requires near { IsInLine shape.now }
+        ensures reading { GivesReading result (in_line spaces (attrs_in parent kind shape.now)) }
+    {
+        match shape_attrs(self.alloc, parent.map(|parent| parent.1), kind, shape) {
+            Ok(attrs) => Ok(attrs),
+            Err(fault) => Err(refused(spaces, fault)),
+        }
+    }
+
     // The attributes of a node of this kind below this parent, where it may stand there.
     fn attrs(
         &self,
@@ -233,7 +233,7 @@ impl Builder {
         if self.is_misplaced(spaces / 2, parent, kind) {
             return Err(Refusal::BadPlace);
         }
-        attrs_below(self.alloc, spaces, parent, kind, shape)
+        self.attrs_below(spaces, parent, kind, shape)
     }
 
     // The node with these attributes, within the limits of a document.

@@ -43,7 +43,7 @@ fn put_line(node: &Node, depth: usize, saved: bool, out: &mut Bytes) -> Result<(
     ensures err { OnErr result (out.new ≡ out.old) }
 {
     if saved {
-        write_node_2(depth as u32, node.kind, node.serial, &node.attrs, out)
+        write_node_2(depth as u32, node, out)
     } else {
         write_node(depth as u32, node.kind, &node.attrs, out)
     }

@@ -8,7 +8,7 @@ use Rattle.smil_grammar.specs.Nodes.{attrs_from, is_seq}
 use Rattle.smil_grammar.specs.Outlines.{in_line, attrs_in}
 use Rattle.smil_outline.specs.Gives.{GivesReading}
 use Rattle.smil_outline.proofs.Placed.{attrs_refused, fault_is_near}
-use Rattle.smil_outline.proofs.builder.attrs_below.Goals as goal
+use Rattle.smil_outline.proofs.builder.Builder.attrs_below.Goals as goal
 
 pub refused-requires-clause-near : goal.refused-requires-clause-near
 refused-requires-clause-near c = fault_is_near (is_seq c.map.result) c.args.kind c.args.shape.now c.in-Err.fault c.requires.near c.in-Err.ensures
