@@ -36,34 +36,37 @@ fn answers<R: AllocGlobal + Abort, S: Source>(rt: &R, source: &mut S) -> Result<
 
 fn expect_lines<R: AllocGlobal + Abort>(
     rt: &R,
-    bytes: &[u8],
-    chunk: usize,
-    fail_at: &[u32],
+    mut source: MemSource,
     wanted: &str,
 ) -> Result<(), Fail> {
-    assert!(rt; chunk > 0);
-    let mut source = MemSource::new(rt.alloc(), bytes, chunk, fail_at)?;
     let found = answers(rt, &mut source)?;
-    assert_eq!(rt; found.as_slice(), wanted.as_bytes(), "in chunks of {chunk}");
+    assert_eq!(rt; found.as_slice(), wanted.as_bytes());
     Ok(())
 }
 
 #[test]
 fn cuts_lines_whatever_the_chunks(rt: HostRuntime) -> Result<(), Fail> {
     for chunk in [1, 2, 3, 100] {
+        assert!(rt; chunk > 0);
         let text = b"one\r\n\ntwo\rx\n\r\n\r\r\nlast\r";
         let wanted = "1:one\n2:\n3:two\rx\n4:\n5:\r\n6:last\r\nEnd";
-        expect_lines(&rt, text, chunk, &[], wanted)?;
-        expect_lines(&rt, b"a\n", chunk, &[], "1:a\nEnd")?;
-        expect_lines(&rt, b"", chunk, &[], "End")?;
+        expect_lines(&rt, MemSource::new(rt.alloc(), text, chunk, &[])?, wanted)?;
+        expect_lines(
+            &rt,
+            MemSource::new(rt.alloc(), b"a\n", chunk, &[])?,
+            "1:a\nEnd",
+        )?;
+        expect_lines(&rt, MemSource::new(rt.alloc(), b"", chunk, &[])?, "End")?;
     }
     Ok(())
 }
 
 #[test]
 fn whole_lines_come_before_a_fault(rt: HostRuntime) -> Result<(), Fail> {
-    expect_lines(&rt, b"a\nb\n", 9, &[1], "ReadFault")?;
-    expect_lines(&rt, b"a\nb\nrest\n", 6, &[2], "1:a\n2:b\nReadFault")
+    let early = MemSource::new(rt.alloc(), b"a\nb\n", 9, &[1])?;
+    expect_lines(&rt, early, "ReadFault")?;
+    let later = MemSource::new(rt.alloc(), b"a\nb\nrest\n", 6, &[2])?;
+    expect_lines(&rt, later, "1:a\n2:b\nReadFault")
 }
 
 // Reads the first line of so many bytes and this end.

@@ -15,7 +15,7 @@ use smil_lexis::numbers::short;
 use smil_lexis::runs;
 use smil_lexis::texts::{behind, copied, is};
 use smil_lexis::utf8::is_utf8;
-use smil_model::{Bytes, Refusal, Who};
+use smil_model::{Bytes, NAME_BYTES, Refusal, Who};
 use smil_time_list::offsets::count;
 use std::alloc::Global;
 
@@ -41,7 +41,7 @@ pub fn is_title(text: &[u8]) -> bool
     match text {
         [b'A'..=b'Z' | b'a'..=b'z', rest @ ..] => {
             title_len(rest) == rest.len()
-                && rest.len() < 32
+                && rest.len() < NAME_BYTES
                 && !is(text, b"load")
                 && !is(text, b"close")
         }
