@@ -23,7 +23,7 @@ use smil_cells::Table;
 use smil_diary::Book;
 use smil_model::{Bytes, Log, Order, Refusal, Who};
 use smil_outline::{write_doc, write_doc_2};
-use smil_report::{put_entry, put_layer, put_now, put_outline_end, put_value};
+use smil_report::{SetValue, put_entry, put_layer, put_now, put_outline_end, put_value};
 use smil_tree::Tree;
 use std::alloc::AllocError;
 
@@ -256,10 +256,12 @@ fn put_top(
     let value = value_of(tree, setter);
     put_value(
         out,
-        &name_of(tree, target)?,
-        name.slice(),
-        value,
-        &name_of(tree, setter)?,
+        &SetValue {
+            target: &name_of(tree, target)?,
+            attr: name.slice(),
+            value,
+            setter: &name_of(tree, setter)?,
+        },
     )
 }
 

@@ -64,26 +64,29 @@ pub fn put_history(
     )
 }
 
+/// An attribute of an element that is set, with its value and the set on top of its stack.
+#[derive(Drop)]
+pub struct SetValue<'a> {
+    pub target: &'a Who,
+    pub attr: &'a [u8],
+    pub value: &'a [u8],
+    pub setter: &'a Who,
+}
+
 /// Appends an attribute that is set as `TARGET ATTRIBUTE "VALUE" SETTER`. Where memory is refused,
 /// `out` is as before.
-pub fn put_value(
-    out: &mut Bytes,
-    target: &Who,
-    attr: &[u8],
-    value: &[u8],
-    setter: &Who,
-) -> Result<(), AllocError>
+pub fn put_value(out: &mut Bytes, set: &SetValue<'_>) -> Result<(), AllocError>
     ensures ok { OnOk result (out.new ≡ out.old
-        ++ value_line target.now attr.now value.now setter.now) }
+        ++ value_line set.now.target.now set.now.attr.now set.now.value.now set.now.setter.now) }
     ensures err { OnErr result (out.new ≡ out.old) }
 {
     put_line(
         out,
         &[
-            Word::Name(target),
-            Word::Text(attr),
-            Word::Quoted(value),
-            Word::Name(setter),
+            Word::Name(set.target),
+            Word::Text(set.attr),
+            Word::Quoted(set.value),
+            Word::Name(set.setter),
         ],
     )
 }
