@@ -22,10 +22,20 @@ use std::marker::Model;
 
 /// What happened so far, in order: a diary of at most `DIARY_ENTRIES` entries, seen as the list of
 /// its entries. An index by element stands beside it, so that no reading goes through the entries.
-#[derive(Debug, Drop)]
+#[derive(Debug)]
 pub struct Book {
     entries: Vec<Entry>,
     index: Index,
+}
+
+impl Drop for Book {
+    // One call for each holder: its fields are dropped here alone.
+    fn drop(self) {
+        let Book {
+            entries: _entries,
+            index: _index,
+        } = self;
+    }
 }
 
 impl Model for Book {

@@ -14,7 +14,7 @@ use std::alloc::{AllocError, Global};
 
 /// The places in a diary of the entries on one element, by kind, and of those that finished an
 /// interval of it: the ends and cuts while it was active.
-#[derive(Debug, Drop)]
+#[derive(Debug)]
 pub(crate) struct ElementPlaces {
     pub(crate) began: Places,
     pub(crate) repeated: Places,
@@ -25,6 +25,23 @@ pub(crate) struct ElementPlaces {
     pub(crate) deferred: Places,
     pub(crate) passed: Places,
     pub(crate) finished: Places,
+}
+
+impl Drop for ElementPlaces {
+    // One call for each holder: its fields are dropped here alone.
+    fn drop(self) {
+        let ElementPlaces {
+            began: _began,
+            repeated: _repeated,
+            ended: _ended,
+            cut: _cut,
+            paused: _paused,
+            resumed: _resumed,
+            deferred: _deferred,
+            passed: _passed,
+            finished: _finished,
+        } = self;
+    }
 }
 
 impl ElementPlaces {
