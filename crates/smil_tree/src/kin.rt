@@ -19,6 +19,22 @@ use std::marker::Model;
 // Lists of serials by a serial; one without a list has the empty one.
 type Lists = HashMap<u32, Vec<u32>>;
 
+// A node that comes in, with its place among the nodes.
+#[derive(Clone, Copy)]
+struct Newcomer<'a> {
+    nodes: &'a Nodes,
+    node: &'a Node,
+    at: usize,
+}
+
+// The nodes from a place on up to another.
+#[derive(Clone, Copy)]
+struct Span<'a> {
+    nodes: &'a Nodes,
+    start: usize,
+    end: usize,
+}
+
 /// The serials of the children and of the time children of each node, in document order, seen as
 /// two tables of lists.
 #[derive(Drop)]
@@ -85,8 +101,9 @@ impl Kin {
         let time_parent = if_element(node, time_parent);
         make_room(&mut self.children, parent, self.alloc)?;
         make_room(&mut self.time_children, time_parent, self.alloc)?;
-        join(&mut self.children, parent, nodes, node, at);
-        join(&mut self.time_children, time_parent, nodes, node, at);
+        let newcomer = Newcomer { nodes, node, at };
+        join(&mut self.children, parent, &newcomer);
+        join(&mut self.time_children, time_parent, &newcomer);
         Ok(())
     }
 
@@ -102,8 +119,9 @@ impl Kin {
         ensures { IsKinOf self.new (cut start end nodes.now) }
     {
         let node = nodes.at(start).unwrap();
-        leave(&mut self.children, Some(node.parent), nodes, start, end);
-        leave(&mut self.time_children, time_parent, nodes, start, end);
+        let span = Span { nodes, start, end };
+        leave(&mut self.children, Some(node.parent), &span);
+        leave(&mut self.time_children, time_parent, &span);
     }
 }
 
@@ -151,17 +169,20 @@ fn reserve(lists: &mut Lists, owner: u32, alloc: Global) -> Result<(), AllocErro
     Ok(())
 }
 
-// Puts the node at a place into the list of a serial, if there is one.
-fn join(lists: &mut Lists, owner: Option<u32>, nodes: &Nodes, node: &Node, at: usize)
+// Puts a node that comes in into the list of a serial, if there is one.
+fn join(lists: &mut Lists, owner: Option<u32>, newcomer: &Newcomer<'_>)
     requires room { HasRoom owner lists.old.entries }
-    requires distinct { IsDistinct nodes.now }
-    requires there { slice_get nodes.now at ≡ Some node.now }
-    ensures { (t : ℕ → AnyNode → Bool) → AreListsOf t lists.old.entries (cut at (at + 1) nodes.now)
-        → ((s : ℕ) → t s node.now ≡ is_serial s owner) → AreListsOf t lists.new.entries nodes.now }
+    requires distinct { IsDistinct newcomer.now.nodes.now }
+    requires there { slice_get newcomer.now.nodes.now newcomer.now.at ≡ Some newcomer.now.node.now }
+    ensures { (t : ℕ → AnyNode → Bool)
+        → AreListsOf t lists.old.entries
+        (cut newcomer.now.at (newcomer.now.at + 1) newcomer.now.nodes.now)
+        → ((s : ℕ) → t s newcomer.now.node.now ≡ is_serial s owner)
+        → AreListsOf t lists.new.entries newcomer.now.nodes.now }
 {
     if let Some(owner) = owner {
-        let index = count_before(nodes, list_at(lists, owner), at);
-        put(lists, owner, index, node.serial);
+        let index = count_before(newcomer.nodes, list_at(lists, owner), newcomer.at);
+        put(lists, owner, index, newcomer.node.serial);
     }
 }
 
@@ -177,24 +198,24 @@ fn put(lists: &mut Lists, owner: u32, index: usize, serial: u32)
     list.insert(index, serial).unwrap();
 }
 
-// Lets go of the nodes from a place on up to another, in the list of a serial, if there is one, and
-// of their own lists.
-fn leave(lists: &mut Lists, owner: Option<u32>, nodes: &Nodes, start: usize, end: usize)
-    requires distinct { IsDistinct nodes.now }
-    requires in_order { start ≤ end }
-    requires within { end ≤ length nodes.now }
-    requires lists { (t : ℕ → AnyNode → Bool) × AreListsOf t lists.old.entries nodes.now }
-    ensures { (t : ℕ → AnyNode → Bool) → AreListsOf t lists.old.entries nodes.now
-        → Separates t owner start end nodes.now
-        → AreListsOf t lists.new.entries (cut start end nodes.now) }
+// Lets go of the nodes of a span, in the list of a serial, if there is one, and of their own lists.
+fn leave(lists: &mut Lists, owner: Option<u32>, span: &Span<'_>)
+    requires distinct { IsDistinct span.now.nodes.now }
+    requires in_order { span.now.start ≤ span.now.end }
+    requires within { span.now.end ≤ length span.now.nodes.now }
+    requires lists { (t : ℕ → AnyNode → Bool) × AreListsOf t lists.old.entries span.now.nodes.now }
+    ensures { (t : ℕ → AnyNode → Bool) → AreListsOf t lists.old.entries span.now.nodes.now
+        → Separates t owner span.now.start span.now.end span.now.nodes.now
+        → AreListsOf t lists.new.entries
+        (cut span.now.start span.now.end span.now.nodes.now) }
 {
     if let Some(owner) = owner {
         let list = list_at(lists, owner);
-        let first = count_before(nodes, list, start);
-        let past = count_before(nodes, list, end);
+        let first = count_before(span.nodes, list, span.start);
+        let past = count_before(span.nodes, list, span.end);
         take_out(lists, owner, first, past);
     }
-    forget(lists, nodes, start, end);
+    forget(lists, span);
 }
 
 // Takes what stands from one index on up to another out of the list of a serial.
@@ -219,16 +240,17 @@ fn cut(list: &mut Vec<u32>, first: usize, past: usize)
     list.drain(first..past);
 }
 
-// Drops the lists of the nodes from a place on up to another.
-fn forget(lists: &mut Lists, nodes: &Nodes, start: usize, end: usize)
-    requires in_order { start ≤ end }
-    requires within { end ≤ length nodes.now }
+// Drops the lists of the nodes of a span.
+fn forget(lists: &mut Lists, span: &Span<'_>)
+    requires in_order { span.now.start ≤ span.now.end }
+    requires within { span.now.end ≤ length span.now.nodes.now }
     ensures { (s : ℕ) → list_of lists.new.entries s
-        ≡ (if list_any (λ (n : AnyNode). n.serial == s) (slice_range nodes.now start end) then []
+        ≡ (if list_any (λ (n : AnyNode). n.serial == s)
+        (slice_range span.now.nodes.now span.now.start span.now.end) then []
         else list_of lists.old.entries s) }
 {
-    for place in start..end {
-        let node = nodes.at(place).unwrap();
+    for place in span.start..span.end {
+        let node = span.nodes.at(place).unwrap();
         lists.remove(&node.serial);
     }
 }

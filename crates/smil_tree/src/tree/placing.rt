@@ -11,6 +11,14 @@ use crate::fault::TreeFault;
 use crate::nodes::Nodes;
 use smil_model::{DEPTH, Kind};
 
+// A node under which a child may be put: its kind and its children, among the nodes of its tree.
+#[derive(Clone, Copy)]
+struct Parent<'a> {
+    nodes: &'a Nodes,
+    kind: Kind,
+    children: &'a [u32],
+}
+
 impl Tree {
     /// Whether a child of this kind may be inserted into a node at a place, counted from 1. Refused
     /// where the child would have depth 32 (`TooDeep`), then where the place is not from 1 to the
@@ -24,8 +32,12 @@ impl Tree {
         if DEPTH <= height(&self.nodes, node.parent) + 1 {
             return Err(TreeFault::TooDeep);
         }
-        let children = self.kin.children(parent);
-        if may_place(&self.nodes, children, node.kind, place, kind) {
+        let parent = Parent {
+            nodes: &self.nodes,
+            kind: node.kind,
+            children: self.kin.children(parent),
+        };
+        if may_place(&parent, place, kind) {
             Ok(())
         } else {
             Err(TreeFault::BadPlace)
@@ -33,14 +45,15 @@ impl Tree {
     }
 }
 
-// Whether a child of this kind may stand at a place among the children of a node of another.
-fn may_place(nodes: &Nodes, children: &[u32], parent: Kind, place: usize, kind: Kind) -> bool
-    requires { (serial : ℕ) → slice_get children.now 0 ≡ Some serial
-        → IsSome (node_at nodes.now serial) }
-    ensures { result ≡ (nat_lt 0 place && nat_le place (suc (length children.now))
-        && may_hold_kind parent kind && agrees_with_first nodes.now (slice_get children.now 0) kind) }
+// Whether a child of this kind may stand at a place among the children of a node.
+fn may_place(parent: &Parent<'_>, place: usize, kind: Kind) -> bool
+    requires { (serial : ℕ) → slice_get parent.now.children.now 0 ≡ Some serial
+        → IsSome (node_at parent.now.nodes.now serial) }
+    ensures { result ≡ (nat_lt 0 place && nat_le place (suc (length parent.now.children.now))
+        && may_hold_kind parent.now.kind kind
+        && agrees_with_first parent.now.nodes.now (slice_get parent.now.children.now 0) kind) }
 {
-    has_place(children, place) && may_hold(parent, kind) && agrees(nodes, children, kind)
+    has_place(parent.children, place) && may_hold(parent.kind, kind) && agrees(parent, kind)
 }
 
 // Whether a place is from 1 to the number of children plus 1.
@@ -62,13 +75,14 @@ fn may_hold(parent: Kind, child: Kind) -> bool
 }
 
 // Whether the first child, if there is one, agrees with a kind in being a priorityClass or not.
-fn agrees(nodes: &Nodes, children: &[u32], kind: Kind) -> bool
-    requires { (serial : ℕ) → slice_get children.now 0 ≡ Some serial
-        → IsSome (node_at nodes.now serial) }
-    ensures { result ≡ agrees_with_first nodes.now (slice_get children.now 0) kind }
+fn agrees(parent: &Parent<'_>, kind: Kind) -> bool
+    requires { (serial : ℕ) → slice_get parent.now.children.now 0 ≡ Some serial
+        → IsSome (node_at parent.now.nodes.now serial) }
+    ensures { result
+        ≡ agrees_with_first parent.now.nodes.now (slice_get parent.now.children.now 0) kind }
 {
-    match children.first() {
-        Some(child) => nodes.get(*child).unwrap().kind.is_element() == kind.is_element(),
+    match parent.children.first() {
+        Some(child) => parent.nodes.get(*child).unwrap().kind.is_element() == kind.is_element(),
         None => true,
     }
 }

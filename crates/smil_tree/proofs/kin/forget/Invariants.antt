@@ -6,4 +6,4 @@ use Rattle.smil_tree.specs.Kin.{list_of}
 use Rattle.smil_tree.proofs.kin.forget.Given as goal
 
 abbrev pub invariant-loop-place : goal.invariant-loop-place
-invariant-loop-place l = (s : ℕ) → list_of l.lists.entries s ≡ cond (list_any (λ (n : Node). n.serial == s) (slice_range l.nodes l.fn.start l.place)) [] (list_of l.initial.lists.entries s)
+invariant-loop-place l = (s : ℕ) → list_of l.lists.entries s ≡ cond (list_any (λ (n : Node). n.serial == s) (slice_range l.span.nodes.now l.span.start l.place)) [] (list_of l.initial.lists.entries s)

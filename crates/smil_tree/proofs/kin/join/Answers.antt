@@ -6,15 +6,15 @@ use Rattle.smil_tree.proofs.kin.join.Goals as goal
 
 pub returns-in-Some : goal.returns-in-Some
 returns-in-Some c = λ t lists own.
-    let le : c.args.at ≤ c.args.at + 1 = omega arith in
-    subst (AreListsOf t c.put.new.lists.entries) (around_place c.args.nodes.now c.args.at c.args.node.now c.requires.there)
-    (joined c.args.lists.now.entries c.put.new.lists.entries c.in-Some.owner c.count_before-index.result (take c.args.at c.args.nodes.now) c.args.node.now (drop (c.args.at + 1) c.args.nodes.now) t lists
+    let le : c.args.newcomer.now.at ≤ c.args.newcomer.now.at + 1 = omega arith in
+    subst (AreListsOf t c.put.new.lists.entries) (around_place c.args.newcomer.now.nodes.now c.args.newcomer.now.at c.args.newcomer.now.node.now c.requires.there)
+    (joined c.args.lists.now.entries c.put.new.lists.entries c.in-Some.owner c.count_before-index.result (take c.args.newcomer.now.at c.args.newcomer.now.nodes.now) c.args.newcomer.now.node.now (drop (c.args.newcomer.now.at + 1) c.args.newcomer.now.nodes.now) t lists
     (λ s. own s ∙ ap (is_serial s) c.in-Some.is)
-    (c.count_before-index.ensures.count (t c.in-Some.owner) (c.args.at + 1) le (c.list_at.ensures ∙ lists c.in-Some.owner))
+    (c.count_before-index.ensures.count (t c.in-Some.owner) (c.args.newcomer.now.at + 1) le (c.list_at.ensures ∙ lists c.in-Some.owner))
     c.put.ensures)
 
 pub returns-in_default : goal.returns-in_default
 returns-in_default c = λ t lists own.
-    subst (AreListsOf t c.args.lists.now.entries) (around_place c.args.nodes.now c.args.at c.args.node.now c.requires.there)
-    (joined_none c.args.lists.now.entries (take c.args.at c.args.nodes.now) c.args.node.now (drop (c.args.at + 1) c.args.nodes.now) t lists
+    subst (AreListsOf t c.args.lists.now.entries) (around_place c.args.newcomer.now.nodes.now c.args.newcomer.now.at c.args.newcomer.now.node.now c.requires.there)
+    (joined_none c.args.lists.now.entries (take c.args.newcomer.now.at c.args.newcomer.now.nodes.now) c.args.newcomer.now.node.now (drop (c.args.newcomer.now.at + 1) c.args.newcomer.now.nodes.now) t lists
     (λ s. own s ∙ ap (is_serial s) c.in_default.is))
