@@ -65,13 +65,11 @@ leads_more of items k item p i old mid new here is so pushed =
 
 -- ---- rows of a node
 
-pub feeder_row : (o : Option Node) (n : Node) (children children' : List ℕ) (previous previous' : Option ℕ) (named : List ℕ → Option ℕ) (i : ℕ) (new empty : List ℕ) → empty ≡ [] → children ≡ children' → previous ≡ previous' → Some n ≡ o → lists new i ≡ (lists empty i || (is_element n && follows children previous named n i)) → lists new i ≡ element_follows children' previous' named o i
-feeder_row o n children children' previous previous' named i new empty none c p at pushed =
+pub feeder_row : (o : Option Node) (n : Node) (children : List ℕ) (previous : Option ℕ) (named : List ℕ → Option ℕ) (i : ℕ) (new empty : List ℕ) → empty ≡ [] → Some n ≡ o → lists new i ≡ (lists empty i || (is_element n && follows children previous named n i)) → lists new i ≡ element_follows children previous named o i
+feeder_row o n children previous named i new empty none at pushed =
     pushed
     ∙ ap (λ r. lists r i || (is_element n && follows children previous named n i)) none
-    ∙ ap (λ x. is_element n && follows x previous named n i) c
-    ∙ ap (λ x. is_element n && follows children' x named n i) p
-    ∙ ap (λ z. element_follows children' previous' named z i) at
+    ∙ ap (λ z. element_follows children previous named z i) at
 
 pub no_feeder_row : (o : Option Node) (children : List ℕ) (previous : Option ℕ) (named : List ℕ → Option ℕ) (i : ℕ) (new : List ℕ) → new ≡ [] → None ≡ o → lists new i ≡ element_follows children previous named o i
 no_feeder_row o children previous named i new none at = ap (λ r. lists r i) none ∙ ap (λ z. element_follows children previous named z i) at

@@ -5,63 +5,70 @@ ghost use Rattle.std.specs.HashMap.{get_by};
 ghost use Rattle.smil_model.specs.document.Defaults as defaults;
 ghost use Rattle.smil_model.specs.document.Dependencies.{has_implicit_duration};
 ghost use Rattle.smil_model.specs.document.Document as model;
+ghost use Rattle.smil_graph.specs.Links as links;
 ghost use Rattle.smil_graph.specs.Links.{lists, row, AreRows};
 ghost use Rattle.smil_graph.specs.Places as places;
 ghost use Rattle.smil_graph.specs.Places.{is_place, up, leads_to_place, element_follows, feeds_place, reads_place, IsIndex, IsTable, AreTimeChildren};
 ghost use Rattle.smil_model.specs.document.Valid.{IsNumberedTree, IsDistinct};
 
-use super::outline::{is_element, place_at, previous_in_seqs};
+use super::outline::{TimeTree, is_element, place_at, previous_in_seqs};
 use super::row::{Row, push_all, push_one, row_at};
 use smil_duration::takes_implicit;
 use smil_model::{Attrs, Bytes, Doc, Item, Items, Node};
 use std::alloc::{AllocError, Global};
 use std::collections::HashMap;
 
+/// Where those are found from which the times of an element follow: the time children of each node,
+/// the child before each node in a seq, and the elements by their ids.
+#[derive(Drop)]
+struct Index<'a, 'b> {
+    children: &'a [Row<usize>],
+    previous: &'a [Option<usize>],
+    ids: &'a HashMap<&'b [u8], usize>,
+}
+
 /// For each element the places of those from which its times follow; the row of a priorityClass is
 /// empty.
 pub fn feeders(
     alloc: Global,
-    doc: &Doc,
-    time_parents: &[Option<usize>],
-    time_children: &[Row<usize>],
+    tree: &TimeTree<'_>,
     ids: &HashMap<&[u8], usize>,
 ) -> Result<Vec<Row<usize>>, AllocError>
-    requires tree { IsNumberedTree doc.now }
-    requires time_parents { IsTable doc.now.nodes (λ n. model.time_parent doc.now.nodes n.serial)
-        time_parents.now }
-    requires time_children { AreTimeChildren doc.now.nodes time_parents.now time_children.now }
-    requires ids { IsIndex doc.now.nodes (model.element_named doc.now.nodes)
+    requires numbered { IsNumberedTree tree.now.doc.now }
+    requires parents { IsTable tree.now.doc.now.nodes
+        (λ n. model.time_parent tree.now.doc.now.nodes n.serial) tree.now.parents.now }
+    requires children { AreTimeChildren tree.now.doc.now.nodes tree.now.parents.now
+        tree.now.children.now }
+    requires ids { IsIndex tree.now.doc.now.nodes (model.element_named tree.now.doc.now.nodes)
         (λ id. get_by (λ k. bytes_eq id k.now) ids.now) }
-    ensures { IfOk result (λ rows. AreRows (length doc.now.nodes) (feeds_place doc.now.nodes)
-        rows.items) }
+    ensures { IfOk result (λ rows. AreRows (length tree.now.doc.now.nodes)
+        (feeds_place tree.now.doc.now.nodes) rows.items) }
 {
-    let previous = previous_in_seqs(alloc, doc, time_parents, time_children)?;
-    feeder_rows(alloc, doc, time_children, previous.as_slice(), ids)
+    let previous = previous_in_seqs(alloc, tree)?;
+    let index = Index {
+        children: tree.children,
+        previous: previous.as_slice(),
+        ids,
+    };
+    feeder_rows(alloc, tree.doc, &index)
 }
 
-/// The same rows by the children before in seqs.
+/// The same rows by an index.
 fn feeder_rows(
     alloc: Global,
     doc: &Doc,
-    time_children: &[Row<usize>],
-    previous: &[Option<usize>],
-    ids: &HashMap<&[u8], usize>,
+    index: &Index<'_, '_>,
 ) -> Result<Vec<Row<usize>>, AllocError>
     ensures { IfOk result (λ rows. AreRows (length doc.now.nodes)
-        (λ j i. element_follows (row time_children.now j) (up previous.now j)
-        (λ id. get_by (λ k. bytes_eq id k.now) ids.now) (slice_get doc.now.nodes j) i) rows.items) }
+        (λ j i. element_follows (row index.now.children.now j) (up index.now.previous.now j)
+        (λ id. get_by (λ k. bytes_eq id k.now) index.now.ids.now) (slice_get doc.now.nodes j) i)
+        rows.items) }
 {
     let mut rows = Vec::with_capacity(alloc, doc.len())?;
     for place in 0..doc.len() {
         let mut row = Row::new(alloc);
         if let Some(node) = doc.get(place) {
-            push_feeders(
-                &mut row,
-                node,
-                row_at(time_children, place),
-                place_at(previous, place),
-                ids,
-            )?;
+            push_feeders(&mut row, index, node, place)?;
         }
         rows.push(row)?;
     }
@@ -95,27 +102,27 @@ pub fn sources(
     Ok(rows)
 }
 
-/// Appends the places of those from which the times of an element follow; nothing for a
+/// Appends the places of those from which the times of the element at a place follow; nothing for a
 /// priorityClass.
 fn push_feeders(
     row: &mut Row<usize>,
+    index: &Index<'_, '_>,
     node: &Node,
-    time_children: &[usize],
-    previous: Option<usize>,
-    ids: &HashMap<&[u8], usize>,
+    place: usize,
 ) -> Result<(), AllocError>
     ensures { OnOk result ((i : ℕ)
         → lists row.new i ≡ (lists row.old i
-        || (model.is_element node.now && places.follows time_children.now previous
-        (λ id. get_by (λ k. bytes_eq id k.now) ids.now) node.now i))) }
+        || (model.is_element node.now && places.follows (links.row index.now.children.now place)
+        (up index.now.previous.now place)
+        (λ id. get_by (λ k. bytes_eq id k.now) index.now.ids.now) node.now i))) }
 {
     if !is_element(node) {
         return Ok(());
     }
-    push_children(row, &node.attrs, time_children)?;
-    push_one(row, previous)?;
-    push_named(row, &node.attrs.begin, ids)?;
-    push_named(row, &node.attrs.end, ids)
+    push_children(row, &node.attrs, row_at(index.children, place))?;
+    push_one(row, place_at(index.previous, place))?;
+    push_named(row, &node.attrs.begin, index.ids)?;
+    push_named(row, &node.attrs.end, index.ids)
 }
 
 /// Appends the time children where the simple duration is implicit.

@@ -11,7 +11,7 @@ ghost use Rattle.smil_graph.specs.Kept.{marked_at, row_of, element_place, reach_
 ghost use Rattle.smil_graph.specs.Places.{is_element_at};
 
 use super::near::near;
-use super::outline::is_element_at;
+use super::outline::{TimeTree, is_element_at};
 use super::row::{Row, row_at};
 use super::search::search;
 use super::tables::{Tables, serials_at, tables_like, tables_of};
@@ -172,13 +172,12 @@ fn reach_at(alloc: Global, doc: &Doc, tables: &Tables, place: usize) -> Result<R
     ensures { IfOk result (λ reach. (x : AnyNode) → slice_get doc.now.nodes place ≡ Some x
         → reach ≡ model.down doc.now.nodes x.serial) }
 {
-    let starts = near(
-        alloc,
+    let tree = TimeTree {
         doc,
-        tables.time_parents.as_slice(),
-        tables.time_children.as_slice(),
-        place,
-    )?;
+        parents: tables.time_parents.as_slice(),
+        children: tables.time_children.as_slice(),
+    };
+    let starts = near(alloc, &tree, place)?;
     reach_from(alloc, doc, tables, starts.as_slice())
 }
 

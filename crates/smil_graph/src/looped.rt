@@ -16,19 +16,26 @@ use smil_model::{Doc, Edge, Items, Node};
 use std::alloc::{AllocError, Global};
 use std::collections::HashMap;
 
+/// What tells looped references: the places of the elements by their ids, and a level for each
+/// node.
+#[derive(Drop)]
+pub struct Loops<'a, 'b> {
+    pub ids: &'a HashMap<&'b [u8], usize>,
+    pub levels: &'a [usize],
+}
+
 /// For each element a mark at each item of one side that is a looped reference: one to an element
 /// of the same level.
 pub fn looped_marks(
     alloc: Global,
     doc: &Doc,
-    ids: &HashMap<&[u8], usize>,
-    levels: &[usize],
+    loops: &Loops<'_, '_>,
     side: Edge,
 ) -> Result<Vec<Row<bool>>, AllocError>
     requires distinct { IsDistinct doc.now.nodes }
     requires ids { IsIndex doc.now.nodes (model.element_named doc.now.nodes)
-        (λ id. get_by (λ k. bytes_eq id k.now) ids.now) }
-    requires levels { AreElementLevels doc.now.nodes levels.now }
+        (λ id. get_by (λ k. bytes_eq id k.now) loops.now.ids.now) }
+    requires levels { AreElementLevels doc.now.nodes loops.now.levels.now }
     ensures { IfOk result (λ rows. AreMarks doc.now.nodes side rows.items) }
 {
     let mut rows = Vec::with_capacity(alloc, doc.len())?;
@@ -36,7 +43,7 @@ pub fn looped_marks(
         let mut row = Row::new(alloc);
         if let Some(node) = doc.get(place) {
             if is_element(node) {
-                push_marks(&mut row, side_of(node, side), ids, levels, place)?;
+                push_marks(&mut row, side_of(node, side), loops, place)?;
             }
         }
         rows.push(row)?;
@@ -59,13 +66,12 @@ fn side_of(node: &Node, side: Edge) -> &Option<Items>
 fn push_marks(
     row: &mut Row<bool>,
     items: &Option<Items>,
-    ids: &HashMap<&[u8], usize>,
-    levels: &[usize],
+    loops: &Loops<'_, '_>,
     place: usize,
 ) -> Result<(), AllocError>
     ensures { OnOk result (row.new ≡ row.old
-        ++ map (λ item. is_on_level levels.now place
-        (places.named_by (λ id. get_by (λ k. bytes_eq id k.now) ids.now) item))
+        ++ map (λ item. is_on_level loops.now.levels.now place
+        (places.named_by (λ id. get_by (λ k. bytes_eq id k.now) loops.now.ids.now) item))
         (defaults.items_or [] items.now)) }
 {
     let Some(items) = items else {
@@ -73,7 +79,7 @@ fn push_marks(
     };
     for k in 0..items.len() {
         if let Some(item) = items.get(k) {
-            row.push(is_on_level(levels, place, named_by(ids, item)))?;
+            row.push(is_on_level(loops.levels, place, named_by(loops.ids, item)))?;
         }
     }
     Ok(())

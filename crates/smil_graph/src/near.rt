@@ -8,31 +8,26 @@ ghost use Rattle.smil_model.specs.document.Valid.{IsNumberedTree};
 ghost use Rattle.smil_graph.specs.Kept.{AreNear, top_of, takes_turns};
 ghost use Rattle.smil_graph.specs.Places.{up, is_element_at, IsTable, AreTimeChildren};
 
-use super::outline::place_at;
-use super::row::Row;
+use super::outline::{TimeTree, place_at};
 use super::search::search;
 use indexmap::IndexSet;
 use smil_model::{Doc, Kind};
 use std::alloc::{AllocError, Global};
 
 /// The places at which the reach of an element begins.
-pub fn near(
-    alloc: Global,
-    doc: &Doc,
-    time_parents: &[Option<usize>],
-    time_children: &[Row<usize>],
-    place: usize,
-) -> Result<IndexSet<usize>, AllocError>
-    requires tree { IsNumberedTree doc.now }
-    requires time_parents { IsTable doc.now.nodes (λ n. model.time_parent doc.now.nodes n.serial)
-        time_parents.now }
-    requires time_children { AreTimeChildren doc.now.nodes time_parents.now time_children.now }
-    requires count { length time_children.now ≡ length doc.now.nodes }
-    requires element { is_element_at doc.now.nodes place ≡ true }
-    ensures { IfOk result (λ found. AreNear doc.now.nodes place found.keys) }
+pub fn near(alloc: Global, tree: &TimeTree<'_>, place: usize) -> Result<IndexSet<usize>, AllocError>
+    requires numbered { IsNumberedTree tree.now.doc.now }
+    requires parents { IsTable tree.now.doc.now.nodes
+        (λ n. model.time_parent tree.now.doc.now.nodes n.serial) tree.now.parents.now }
+    requires children { AreTimeChildren tree.now.doc.now.nodes tree.now.parents.now
+        tree.now.children.now }
+    requires count { length tree.now.children.now ≡ length tree.now.doc.now.nodes }
+    requires element { is_element_at tree.now.doc.now.nodes place ≡ true }
+    ensures { IfOk result (λ found. AreNear tree.now.doc.now.nodes place found.keys) }
 {
-    let parent = place_at(time_parents, place);
-    let mut found = search(alloc, time_children, &[top_of(doc, parent, place)])?;
+    let parent = place_at(tree.parents, place);
+    let top = top_of(tree.doc, parent, place);
+    let mut found = search(alloc, tree.children, &[top])?;
     if let Some(parent) = parent {
         found.insert(parent)?;
     }

@@ -13,6 +13,14 @@ use smil_model::{Doc, Kind, Node};
 use std::alloc::{AllocError, Global};
 use std::collections::HashMap;
 
+/// A document with the places of the time parents and of the time children of its nodes.
+#[derive(Drop)]
+pub struct TimeTree<'a> {
+    pub doc: &'a Doc,
+    pub parents: &'a [Option<usize>],
+    pub children: &'a [Row<usize>],
+}
+
 /// Whether a node is an element.
 pub fn is_element(node: &Node) -> bool
     ensures { result ≡ model.is_element node.now }
@@ -144,20 +152,20 @@ fn parent_rows(
 /// For each node the place of the child before it, where its time parent is a seq.
 pub fn previous_in_seqs(
     alloc: Global,
-    doc: &Doc,
-    time_parents: &[Option<usize>],
-    time_children: &[Row<usize>],
+    tree: &TimeTree<'_>,
 ) -> Result<Vec<Option<usize>>, AllocError>
-    requires tree { IsNumberedTree doc.now }
-    requires time_parents { IsTable doc.now.nodes (λ n. model.time_parent doc.now.nodes n.serial)
-        time_parents.now }
-    requires time_children { AreTimeChildren doc.now.nodes time_parents.now time_children.now }
-    ensures { IfOk result (λ table. IsTable doc.now.nodes
-        (λ n. model.previous_in_seq doc.now.nodes n.serial) table.items) }
+    requires numbered { IsNumberedTree tree.now.doc.now }
+    requires parents { IsTable tree.now.doc.now.nodes
+        (λ n. model.time_parent tree.now.doc.now.nodes n.serial) tree.now.parents.now }
+    requires children { AreTimeChildren tree.now.doc.now.nodes tree.now.parents.now
+        tree.now.children.now }
+    ensures { IfOk result (λ table. IsTable tree.now.doc.now.nodes
+        (λ n. model.previous_in_seq tree.now.doc.now.nodes n.serial) table.items) }
 {
-    let mut table = Vec::with_capacity(alloc, doc.len())?;
-    for place in 0..doc.len() {
-        let entry = previous_of(doc, place_at(time_parents, place), time_children, place);
+    let mut table = Vec::with_capacity(alloc, tree.doc.len())?;
+    for place in 0..tree.doc.len() {
+        let parent = place_at(tree.parents, place);
+        let entry = previous_of(tree.doc, parent, tree.children, place);
         table.push(entry)?;
     }
     Ok(table)

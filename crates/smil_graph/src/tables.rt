@@ -12,9 +12,9 @@ ghost use Rattle.smil_graph.specs.Kept.{AreElementLevels, AreHeads, AreReaders, 
 
 use super::feeders::{feeders, sources};
 use super::levels::levels;
-use super::looped::looped_marks;
+use super::looped::{Loops, looped_marks};
 use super::ordered::ordered;
-use super::outline::{parents, time_children, time_parents};
+use super::outline::{TimeTree, parents, time_children, time_parents};
 use super::places::{id_places, serial_places};
 use super::ranks::ranks_of;
 use super::row::{Row, row_of};
@@ -67,19 +67,22 @@ pub fn tables_of(alloc: Global, doc: &Doc) -> Result<Tables, AllocError>
     let time_parents = time_parents(alloc, doc, parents.as_slice())?;
     let time_children = time_children(alloc, doc, time_parents.as_slice())?;
     let ids = id_places(alloc, doc)?;
-    let feeders = feeders(
-        alloc,
+    let tree = TimeTree {
         doc,
-        time_parents.as_slice(),
-        time_children.as_slice(),
-        &ids,
-    )?;
+        parents: time_parents.as_slice(),
+        children: time_children.as_slice(),
+    };
+    let feeders = feeders(alloc, &tree, &ids)?;
     let levels = element_levels(alloc, feeders.as_slice())?;
     let heads = heads(alloc, doc, feeders.as_slice(), &ids)?;
     let order = ordered(alloc, doc, levels.as_slice(), time_parents.as_slice())?;
+    let loops = Loops {
+        ids: &ids,
+        levels: levels.as_slice(),
+    };
     Ok(Tables {
-        begins: looped_marks(alloc, doc, &ids, levels.as_slice(), Edge::Begin)?,
-        ends: looped_marks(alloc, doc, &ids, levels.as_slice(), Edge::End)?,
+        begins: looped_marks(alloc, doc, &loops, Edge::Begin)?,
+        ends: looped_marks(alloc, doc, &loops, Edge::End)?,
         readers: readers(alloc, doc, heads.as_slice())?,
         waiting: waiting(alloc, doc)?,
         ranks: ranks_of(alloc, order.slice())?,

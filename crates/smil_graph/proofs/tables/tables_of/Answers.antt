@@ -3,6 +3,9 @@ use Rattle.smil_graph.specs.Places.{feeds_place}
 use Rattle.smil_graph.proofs.Kept.{rows_stay, feeds_low}
 use Rattle.smil_graph.proofs.tables.tables_of.Goals as goal
 
+pub feeders-requires-clause-parents : goal.feeders-requires-clause-parents
+feeders-requires-clause-parents c = rw c.as_slice-3.ensures.value c.in_ok-time_parents.ensures
+
 pub element_levels-requires : goal.element_levels-requires
 element_levels-requires c = rw c.as_slice-5.ensures.value (rows_stay (length c.args.doc.now.nodes) (feeds_place c.args.doc.now.nodes) c.in_ok-feeders.feeders.items c.in_ok-feeders.ensures (λ i j l q. feeds_low c.args.doc.now.nodes i j q))
 
