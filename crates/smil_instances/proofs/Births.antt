@@ -1,5 +1,5 @@
 -- What a birth gives to an offset, step by step.
-use Rattle.std.proofs.Common.{◌≡◌, ◌∙◌, ap, ℕ, ℤ, Option, Some, None, Bool, true}
+use Rattle.std.proofs.Common.{◌≡◌, refl, ◌∙◌, ap, ℕ, ℤ, Option, Some, None, Bool, true}
 use Rattle.std.specs.Prelude.{cond, pos, ◌+ℤ◌, ◌==◌}
 use Rattle.std.proofs.lemmas.Bool.{eq-eqb}
 use Rattle.smil_model.specs.declared.diary.Entry.{Entry}
@@ -7,6 +7,7 @@ use Rattle.smil_model.specs.declared.diary.Step.{Step}
 use Rattle.smil_model.specs.declared.diary.Step.TheVariants.{Began, Repeated}
 use Rattle.smil_model.specs.declared.document.Node.{Node}
 use Rattle.smil_model.specs.Times.{within_horizon}
+use Rattle.smil_model.specs.document.Document.{serial_of}
 use Rattle.smil_model.specs.diary.Diary.{History, gives_birth}
 use Rattle.smil_model.specs.diary.Clocks.{start_of, iteration_start_after}
 use Rattle.smil_instance_rows.specs.declared.item_times.InstanceTime.{InstanceTime}
@@ -31,3 +32,13 @@ module _ (h : History) (y : Entry) (offset : ℤ) (p : Node) where
   pub repeated_starts : (on : ℕ) (start : ℤ) → y.step ≡ Repeated on start → on ≡ p.serial → started h y offset (Some p) ≡ Some (instance_at 0 (within_horizon (start +ℤ offset)))
   unfolding by_step
   repeated_starts on start q r = ap by_step q ∙ by_repeated start (on == p.serial) (eq-eqb on p.serial r)
+
+-- ---- by the time parent, if there is one
+
+pub started_under : (h : History) (y : Entry) (offset : ℤ) (told : Option InstanceTime) (parent : ℕ) → ((x : Node) → x.serial ≡ parent → told ≡ started h y offset (Some x)) → (p : Option Node) → serial_of p ≡ Some parent → told ≡ started h y offset p
+started_under h y offset told parent is None q = cc
+started_under h y offset told parent is (Some x) q = let own : x.serial ≡ parent = cc in is x own
+
+pub unstarted : (h : History) (y : Entry) (offset : ℤ) (p : Option Node) → serial_of p ≡ None → None ≡ started h y offset p
+unstarted h y offset None q = refl
+unstarted h y offset (Some x) q = cc

@@ -7,6 +7,7 @@ use Rattle.smil_model.specs.diary.Diary.{History, with_entry}
 use Rattle.smil_model.specs.diary.Lawful.{IsLawful}
 use Rattle.smil_stretch.specs.declared.clock.NodeClock.{NodeClock}
 use Rattle.smil_stretch.specs.Clocks.{AreClocksOf}
+use Rattle.smil_instances.specs.declared.arrival.Arrival.{Arrival}
 
 -- the history before an entry, by what is at hand once it was appended: the document, the clocks before it, the log, and
 -- the diary with it
@@ -22,3 +23,11 @@ pub record IsAtHand (document : Document) (clocks : List NodeClock) (log : List 
   pub past : History
   pub entry : Entry
   pub is_entry : IsEntryOf past entry document clocks log diary
+
+-- the arrival is that of this entry, with what was before it
+abbrev pub IsArrivalOf : History → Entry → Arrival → Type 0
+IsArrivalOf h y arrival = IsEntryOf h y arrival.tree.now arrival.clocks.now arrival.log.now arrival.book.now
+
+-- it is that of some entry
+abbrev pub HasArrived : Arrival → Type 0
+HasArrived arrival = IsAtHand arrival.tree.now arrival.clocks.now arrival.log.now arrival.book.now

@@ -3,19 +3,17 @@
 ghost use Rattle.std.specs.Prelude.{◌≡◌, List, [], ◌∷◌, ◌++◌, IfOk, option_copied};
 ghost use Rattle.smil_model.specs.declared.diary.Entry.{Entry as AnyEntry};
 ghost use Rattle.smil_model.specs.declared.document.Edge.TheVariants as edge;
-ghost use Rattle.smil_instances.specs.Entry.{IsAtHand};
+ghost use Rattle.smil_instances.specs.Entry.{HasArrived};
 ghost use Rattle.smil_instances.specs.Dependents.{AreDependentsOf};
 ghost use Rattle.smil_instances.specs.Intake.{history_of, default_of, IsCellOf, IsUnstated, given_to as gift, adds_to, AreRowsOf};
 ghost use Rattle.smil_model.specs.document.Defaults.{stated_list};
 
+use super::arrival::Arrival;
 use super::contribution::given;
-use super::dependents::Dependents;
+use super::items::{CellItem, ListItem};
 use super::source::Source;
-use smil_diary::Book;
 use smil_instance_rows::{Add, Cell, InstanceTime, Rows};
-use smil_model::{Attrs, Edge, Item, Items, Log};
-use smil_stretch::Clocks;
-use smil_tree::Tree;
+use smil_model::{Attrs, Edge, Item, Items};
 use std::alloc::{AllocError, Global};
 
 /// What the last entry gives to the items of these cells, in their order, unless memory runs out.
@@ -23,22 +21,18 @@ pub(crate) fn adds_of(
     alloc: Global,
     rows: &Rows,
     cells: &[Cell],
-    dependents: &Dependents,
-    tree: &Tree,
-    clocks: &Clocks,
-    log: &Log,
-    book: &Book,
+    arrival: &Arrival<'_>,
 ) -> Result<Vec<Add>, AllocError>
-    requires hand { IsAtHand tree.now clocks.now log.now book.now }
-    requires dependents { AreDependentsOf tree.now.nodes dependents.now }
-    requires rows { AreRowsOf tree.now.nodes rows.now }
+    requires hand { HasArrived arrival.now }
+    requires dependents { AreDependentsOf arrival.now.tree.now.nodes arrival.now.dependents.now }
+    requires rows { AreRowsOf arrival.now.tree.now.nodes rows.now }
     ensures { IfOk result (λ adds. (before : List AnyEntry) (y : AnyEntry)
-        → book.now ≡ before ++ y ∷ [] → adds.items
-        ≡ adds_to (history_of tree.now log.now before) y cells.now) }
+        → arrival.now.book.now ≡ before ++ y ∷ [] → adds.items
+        ≡ adds_to (history_of arrival.now.tree.now arrival.now.log.now before) y cells.now) }
 {
     let mut adds = Vec::new(alloc);
     for cell in cells {
-        if let Some(kept) = given_to(rows, *cell, dependents, tree, clocks, log, book) {
+        if let Some(kept) = given_to(rows, *cell, arrival) {
             adds.push(Add { cell: *cell, kept })?;
         }
     }
@@ -46,75 +40,63 @@ pub(crate) fn adds_of(
 }
 
 /// What the last entry gives to a cell's item.
-fn given_to(
-    rows: &Rows,
-    cell: Cell,
-    dependents: &Dependents,
-    tree: &Tree,
-    clocks: &Clocks,
-    log: &Log,
-    book: &Book,
-) -> Option<InstanceTime>
-    requires hand { IsAtHand tree.now clocks.now log.now book.now }
-    requires dependents { AreDependentsOf tree.now.nodes dependents.now }
-    requires rows { AreRowsOf tree.now.nodes rows.now }
-    ensures { (before : List AnyEntry) (y : AnyEntry) → book.now ≡ before ++ y ∷ []
-        → result ≡ gift (history_of tree.now log.now before) y cell }
+fn given_to(rows: &Rows, cell: Cell, arrival: &Arrival<'_>) -> Option<InstanceTime>
+    requires hand { HasArrived arrival.now }
+    requires dependents { AreDependentsOf arrival.now.tree.now.nodes arrival.now.dependents.now }
+    requires rows { AreRowsOf arrival.now.tree.now.nodes rows.now }
+    ensures { (before : List AnyEntry) (y : AnyEntry)
+        → arrival.now.book.now ≡ before ++ y ∷ []
+        → result ≡ gift (history_of arrival.now.tree.now arrival.now.log.now before) y cell }
 {
-    tree.valid();
+    arrival.tree.valid();
     let who = rows.serial_at(cell.row)?;
-    given_item(cell, who, dependents.source(cell), tree, clocks, log, book)
+    let source = arrival.dependents.source(cell);
+    given_item(arrival, CellItem { cell, who, source })
 }
 
-/// What the last entry gives to an item of this element with this source.
-fn given_item(
-    cell: Cell,
-    who: u32,
-    source: Source,
-    tree: &Tree,
-    clocks: &Clocks,
-    log: &Log,
-    book: &Book,
-) -> Option<InstanceTime>
-    requires hand { IsAtHand tree.now clocks.now log.now book.now }
-    requires cell { IsCellOf tree.now.nodes cell who source }
-    ensures { (before : List AnyEntry) (y : AnyEntry) → book.now ≡ before ++ y ∷ []
-        → result ≡ gift (history_of tree.now log.now before) y cell }
+/// What the last entry gives to the item of a cell.
+fn given_item(arrival: &Arrival<'_>, own: CellItem) -> Option<InstanceTime>
+    requires hand { HasArrived arrival.now }
+    requires cell { IsCellOf arrival.now.tree.now.nodes own.cell own.who own.source }
+    ensures { (before : List AnyEntry) (y : AnyEntry)
+        → arrival.now.book.now ≡ before ++ y ∷ []
+        → result ≡ gift (history_of arrival.now.tree.now arrival.now.log.now before) y own.cell }
 {
-    match stated(tree.attrs(who), cell.side) {
+    let CellItem { cell, who, source } = own;
+    let side = cell.side;
+    match stated(arrival.tree.attrs(who), side) {
         Some(items) => {
             let item = items.get(cell.item)?;
-            given(tree, clocks, log, book, who, cell.side, item, source)
+            given(arrival, &ListItem { who, side, item }, source)
         }
-        None => match cell.side {
-            Edge::Begin => given_by_default(cell, who, source, tree, clocks, log, book),
+        None => match side {
+            Edge::Begin => given_by_default(arrival, own),
             Edge::End => None,
         },
     }
 }
 
-/// What the last entry gives to an item of this element, which has no `begin`.
-fn given_by_default(
-    cell: Cell,
-    who: u32,
-    source: Source,
-    tree: &Tree,
-    clocks: &Clocks,
-    log: &Log,
-    book: &Book,
-) -> Option<InstanceTime>
-    requires hand { IsAtHand tree.now clocks.now log.now book.now }
-    requires cell { IsCellOf tree.now.nodes cell who source }
-    requires side { cell.side ≡ edge.Begin }
-    requires absent { IsUnstated tree.now.nodes who edge.Begin }
-    ensures { (before : List AnyEntry) (y : AnyEntry) → book.now ≡ before ++ y ∷ []
-        → result ≡ gift (history_of tree.now log.now before) y cell }
+/// What the last entry gives to the item of a cell, whose element has no `begin`.
+fn given_by_default(arrival: &Arrival<'_>, own: CellItem) -> Option<InstanceTime>
+    requires hand { HasArrived arrival.now }
+    requires cell { IsCellOf arrival.now.tree.now.nodes own.cell own.who own.source }
+    requires side { own.cell.side ≡ edge.Begin }
+    requires absent { IsUnstated arrival.now.tree.now.nodes own.who edge.Begin }
+    ensures { (before : List AnyEntry) (y : AnyEntry)
+        → arrival.now.book.now ≡ before ++ y ∷ []
+        → result ≡ gift (history_of arrival.now.tree.now arrival.now.log.now before) y own.cell }
 {
+    let CellItem { cell, who, source } = own;
     if 0 < cell.item {
         return None;
     }
     let item = default_begin(source);
-    given(tree, clocks, log, book, who, Edge::Begin, &item, source)
+    let listed = ListItem {
+        who,
+        side: Edge::Begin,
+        item: &item,
+    };
+    given(arrival, &listed, source)
 }
 
 /// The list of `begin` or `end`, where it is stated.

@@ -7,25 +7,20 @@ ghost use Rattle.smil_model.specs.Times.{IsMoment};
 ghost use Rattle.smil_instances.specs.Contribution.{AreClocksAt};
 
 use super::carried::carried;
+use super::syncbase::Syncbase;
 use smil_duration::moved;
 use smil_model::{Edge, Entry, Step, Time};
 use smil_stretch::Clocks;
 
-/// The time that an entry gives to an item of `who` with this offset for the begins, or for the
-/// ends and cuts, of `of`, in milliseconds on the clock of the time parent of `who`; None exactly
-/// where it is none of them. It takes no memory.
-pub fn edge_time(
-    clocks: &Clocks,
-    entry: Entry,
-    who: u32,
-    of: u32,
-    edge: Edge,
-    offset: i64,
-) -> Option<Time>
+/// The time that an entry gives to an item of `who` for the begins, or for the ends and cuts, that
+/// it waits for, in milliseconds on the clock of the time parent of `who`; None exactly where it is
+/// none of them. It takes no memory.
+pub fn edge_time(clocks: &Clocks, entry: Entry, who: u32, sync: Syncbase) -> Option<Time>
     requires { IsMoment entry.moment }
     ensures { (h : History) → AreClocksAt h clocks.now entry.moment
-        → result ≡ Instances.edge_time h who of offset entry.moment edge entry.step }
+        → result ≡ Instances.edge_time h who sync.of sync.offset entry.moment sync.edge entry.step }
 {
+    let Syncbase { of, edge, offset } = sync;
     let own = clocks.outer(who, entry.moment);
     let other = clocks.outer(of, entry.moment);
     match edge {

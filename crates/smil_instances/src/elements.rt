@@ -76,7 +76,8 @@ fn put_last(
 ) -> Result<Option<u32>, AllocError>
     ensures before { IfOk result (λ before. before ≡ option_and_then (get nat_eq last.old) parent) }
     ensures last { OnOk result ((p : ℕ)
-        → get nat_eq last.new p ≡ (if is_option p parent then Some who else get nat_eq last.old p)) }
+        → get nat_eq last.new p
+        ≡ (if is_option p parent then Some who else get nat_eq last.old p)) }
 {
     match parent {
         Some(parent) => Ok(last.insert(parent, who)?),

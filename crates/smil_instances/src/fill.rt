@@ -31,70 +31,84 @@ pub fn fill(
     ensures { OnOk result (Takes tree.now.nodes
         (first_rows tree.now.nodes (length (elements tree.now.nodes))) rows.old rows.new) }
 {
+    let index = Index { tree, places };
     for (row, who) in whos.iter().enumerate() {
-        fill_side(rows, tree, places, *who, row, Edge::Begin)?;
-        fill_side(rows, tree, places, *who, row, Edge::End)?;
+        index.fill_side(rows, *who, row, Edge::Begin)?;
+        index.fill_side(rows, *who, row, Edge::End)?;
     }
     Ok(())
 }
 
-/// Notes each cell of one side of an element in the rows.
-fn fill_side(
-    rows: &mut [DependentsRow],
-    tree: &Tree,
-    places: &HashMap<u32, usize>,
-    who: u32,
-    row: usize,
-    side: Edge,
-) -> Result<(), AllocError>
-    requires who { has_serial who (slice_get (elements tree.now.nodes) row) ≡ true }
-    requires places { IsIndex (serials (elements tree.now.nodes)) (get nat_eq places.now) }
-    requires rows { length rows.old ≡ length (elements tree.now.nodes) }
-    requires sources { AreSourcesOf tree.now.nodes rows.old }
-    ensures { OnOk result (Takes tree.now.nodes (side_items tree.now.nodes row side) rows.old
-        rows.new) }
-{
-    for item in 0..rows[row].sources(side).len() {
-        fill_cell(rows, tree, places, who, Cell { row, side, item })?;
-    }
-    Ok(())
+/// A document with the places of its elements by their serials.
+#[derive(Clone, Copy)]
+struct Index<'a> {
+    tree: &'a Tree,
+    places: &'a HashMap<u32, usize>,
 }
 
-/// Notes a cell of an element in the rows of the elements whose entries can concern it.
-fn fill_cell(
-    rows: &mut [DependentsRow],
-    tree: &Tree,
-    places: &HashMap<u32, usize>,
-    who: u32,
-    cell: Cell,
-) -> Result<(), AllocError>
-    requires who { has_serial who (slice_get (elements tree.now.nodes) cell.row) ≡ true }
-    requires places { IsIndex (serials (elements tree.now.nodes)) (get nat_eq places.now) }
-    requires rows { length rows.old ≡ length (elements tree.now.nodes) }
-    requires sources { AreSourcesOf tree.now.nodes rows.old }
-    ensures { OnOk result (Takes tree.now.nodes (goes_to_all tree.now.nodes cell) rows.old rows.new) }
-{
-    let source = rows[cell.row].source(cell.side, cell.item);
-    let base = base_of(source);
-    let (above, beside) = resets_of(tree, who, source);
-    note(rows, tree, places, base, false, cell)?;
-    note(rows, tree, places, base, true, cell)?;
-    note(
-        rows,
-        tree,
-        places,
-        other_than(above, base, None),
-        true,
-        cell,
-    )?;
-    note(
-        rows,
-        tree,
-        places,
-        other_than(beside, base, above),
-        true,
-        cell,
-    )
+impl Index<'_> {
+    /// Notes each cell of one side of an element in the rows.
+    fn fill_side(
+        &self,
+        rows: &mut [DependentsRow],
+        who: u32,
+        row: usize,
+        side: Edge,
+    ) -> Result<(), AllocError>
+        requires who { has_serial who (slice_get (elements self.now.tree.now.nodes) row) ≡ true }
+        requires places { IsIndex (serials (elements self.now.tree.now.nodes))
+            (get nat_eq self.now.places.now) }
+        requires rows { length rows.old ≡ length (elements self.now.tree.now.nodes) }
+        requires sources { AreSourcesOf self.now.tree.now.nodes rows.old }
+        ensures { OnOk result (Takes self.now.tree.now.nodes
+            (side_items self.now.tree.now.nodes row side) rows.old rows.new) }
+    {
+        for item in 0..rows[row].sources(side).len() {
+            self.fill_cell(rows, who, Cell { row, side, item })?;
+        }
+        Ok(())
+    }
+
+    /// Notes a cell of an element in the rows of the elements whose entries can concern it.
+    fn fill_cell(&self, rows: &mut [DependentsRow], who: u32, cell: Cell) -> Result<(), AllocError>
+        requires who { has_serial who (slice_get (elements self.now.tree.now.nodes) cell.row)
+            ≡ true }
+        requires places { IsIndex (serials (elements self.now.tree.now.nodes))
+            (get nat_eq self.now.places.now) }
+        requires rows { length rows.old ≡ length (elements self.now.tree.now.nodes) }
+        requires sources { AreSourcesOf self.now.tree.now.nodes rows.old }
+        ensures { OnOk result (Takes self.now.tree.now.nodes
+            (goes_to_all self.now.tree.now.nodes cell) rows.old rows.new) }
+    {
+        let source = rows[cell.row].source(cell.side, cell.item);
+        let base = base_of(source);
+        let (above, beside) = resets_of(self.tree, who, source);
+        self.note(rows, base, false, cell)?;
+        self.note(rows, base, true, cell)?;
+        self.note(rows, other_than(above, base, None), true, cell)?;
+        self.note(rows, other_than(beside, base, above), true, cell)
+    }
+
+    /// Notes a cell in the row of an element, if there is one.
+    fn note(
+        &self,
+        rows: &mut [DependentsRow],
+        who: Option<u32>,
+        is_birth: bool,
+        cell: Cell,
+    ) -> Result<(), AllocError>
+        requires places { IsIndex (serials (elements self.now.tree.now.nodes))
+            (get nat_eq self.now.places.now) }
+        requires rows { length rows.old ≡ length (elements self.now.tree.now.nodes) }
+        ensures { OnOk result (Takes self.now.tree.now.nodes (goes_to who is_birth cell) rows.old
+            rows.new) }
+    {
+        let Some(who) = who else { return Ok(()) };
+        match self.places.get(&who) {
+            Some(row) => rows[*row].push(is_birth, cell),
+            None => Ok(()),
+        }
+    }
 }
 
 /// The element whose begins and ends, or whose events, a source names.
@@ -130,25 +144,5 @@ fn other_than(who: Option<u32>, first: Option<u32>, second: Option<u32>) -> Opti
         None
     } else {
         who
-    }
-}
-
-/// Notes a cell in the row of an element, if there is one.
-fn note(
-    rows: &mut [DependentsRow],
-    tree: &Tree,
-    places: &HashMap<u32, usize>,
-    who: Option<u32>,
-    is_birth: bool,
-    cell: Cell,
-) -> Result<(), AllocError>
-    requires places { IsIndex (serials (elements tree.now.nodes)) (get nat_eq places.now) }
-    requires rows { length rows.old ≡ length (elements tree.now.nodes) }
-    ensures { OnOk result (Takes tree.now.nodes (goes_to who is_birth cell) rows.old rows.new) }
-{
-    let Some(who) = who else { return Ok(()) };
-    match places.get(&who) {
-        Some(row) => rows[*row].push(is_birth, cell),
-        None => Ok(()),
     }
 }

@@ -11,7 +11,7 @@ ghost use Rattle.smil_instances.specs.Spread.{fresh_row, fresh_rows};
 
 use super::dependents_row::DependentsRow;
 use super::source::Source;
-use super::sources::{kind_above, sources_of};
+use super::sources::{Element, kind_above, sources_of};
 use smil_model::{Edge, Kind};
 use smil_tree::Tree;
 use std::alloc::{AllocError, Global};
@@ -52,8 +52,13 @@ fn fresh_row(
         ≡ option_map (fresh_row tree.now.nodes) (node_at tree.now.nodes who)) }
 {
     let by_offset = source_by_offset(tree, who, before);
-    let begins = begin_sources(alloc, tree, who, by_offset)?;
-    let ends = end_sources(alloc, tree, who, by_offset)?;
+    let element = Element {
+        tree,
+        who,
+        by_offset,
+    };
+    let begins = begin_sources(alloc, &element)?;
+    let ends = end_sources(alloc, &element)?;
     Ok(DependentsRow::new(alloc, begins, ends))
 }
 
@@ -75,55 +80,49 @@ fn source_by_offset(tree: &Tree, who: u32, before: Option<u32>) -> Source
 }
 
 /// The sources of the items of an element's begin list.
-fn begin_sources(
-    alloc: Global,
-    tree: &Tree,
-    who: u32,
-    by_offset: Source,
-) -> Result<Vec<Source>, AllocError>
-    requires known { IsSome (node_at tree.now.nodes who) }
-    requires by_offset { by_offset
-        ≡ syncbase_or source.Start End (previous_in_seq tree.now.nodes who) }
+fn begin_sources(alloc: Global, element: &Element<'_>) -> Result<Vec<Source>, AllocError>
+    requires known { IsSome (node_at element.now.tree.now.nodes element.now.who) }
+    requires by_offset { element.now.by_offset ≡ syncbase_or source.Start End
+        (previous_in_seq element.now.tree.now.nodes element.now.who) }
     ensures { IfOk result (λ sources. Some sources.items
-        ≡ option_map (λ (e : AnyNode). map (source_of tree.now.nodes who)
-        (begin_list tree.now.nodes e)) (node_at tree.now.nodes who)) }
+        ≡ option_map (λ (e : AnyNode). map
+        (source_of element.now.tree.now.nodes element.now.who)
+        (begin_list element.now.tree.now.nodes e))
+        (node_at element.now.tree.now.nodes element.now.who)) }
 {
-    if let Some(items) = &tree.attrs(who).begin {
-        return sources_of(alloc, tree, who, items, by_offset);
+    if let Some(items) = &element.tree.attrs(element.who).begin {
+        return sources_of(alloc, element, items);
     }
     let mut sources = Vec::new(alloc);
-    sources.push(begin_by_default(tree, who, by_offset))?;
+    sources.push(begin_by_default(element))?;
     Ok(sources)
 }
 
 /// The source of the one item of an element without a begin list: nothing in an excl, and else that
 /// of an offset.
-fn begin_by_default(tree: &Tree, who: u32, by_offset: Source) -> Source
-    requires { IsSome (node_at tree.now.nodes who) }
-    ensures { result ≡ (if is_in_excl tree.now.nodes who then source.Nothing else by_offset) }
+fn begin_by_default(element: &Element<'_>) -> Source
+    requires { IsSome (node_at element.now.tree.now.nodes element.now.who) }
+    ensures { result ≡ (if is_in_excl element.now.tree.now.nodes element.now.who
+        then source.Nothing else element.now.by_offset) }
 {
-    match kind_above(tree, who) {
+    match kind_above(element.tree, element.who) {
         Some(Kind::Excl) => Source::Nothing,
-        _ => by_offset,
+        _ => element.by_offset,
     }
 }
 
 /// The sources of the items of an element's end list.
-fn end_sources(
-    alloc: Global,
-    tree: &Tree,
-    who: u32,
-    by_offset: Source,
-) -> Result<Vec<Source>, AllocError>
-    requires known { IsSome (node_at tree.now.nodes who) }
-    requires by_offset { by_offset
-        ≡ syncbase_or source.Start End (previous_in_seq tree.now.nodes who) }
+fn end_sources(alloc: Global, element: &Element<'_>) -> Result<Vec<Source>, AllocError>
+    requires known { IsSome (node_at element.now.tree.now.nodes element.now.who) }
+    requires by_offset { element.now.by_offset ≡ syncbase_or source.Start End
+        (previous_in_seq element.now.tree.now.nodes element.now.who) }
     ensures { IfOk result (λ sources. Some sources.items
-        ≡ option_map (λ (e : AnyNode). map (source_of tree.now.nodes who) (end_list e))
-        (node_at tree.now.nodes who)) }
+        ≡ option_map (λ (e : AnyNode). map
+        (source_of element.now.tree.now.nodes element.now.who) (end_list e))
+        (node_at element.now.tree.now.nodes element.now.who)) }
 {
-    match &tree.attrs(who).end {
-        Some(items) => sources_of(alloc, tree, who, items, by_offset),
+    match &element.tree.attrs(element.who).end {
+        Some(items) => sources_of(alloc, element, items),
         None => Ok(Vec::new(alloc)),
     }
 }

@@ -38,7 +38,9 @@ pub(crate) fn idle_rows(
     let mut node = 0;
     while let Some(serial) = tree.serial_at(node) {
         if is_element(tree, serial) {
-            let row = idle_row(alloc, tree, dependents, rows.len(), serial)?;
+            let place = rows.len();
+            let sources = ElementSources { dependents, place };
+            let row = idle_row(alloc, tree, &sources, serial)?;
             rows.push(row)?;
         }
         node += 1;
@@ -54,64 +56,70 @@ fn is_element(tree: &Tree, serial: u32) -> bool
     !matches!(tree.kind(serial), Kind::PriorityClass)
 }
 
-/// The row of the element at a place among the elements.
+/// What the items of the element at a place among the elements follow from.
+#[derive(Clone, Copy)]
+struct ElementSources<'a> {
+    dependents: &'a Dependents,
+    place: usize,
+}
+
+/// The row of the element that has these sources.
 fn idle_row(
     alloc: Global,
     tree: &Tree,
-    dependents: &Dependents,
-    place: usize,
+    sources: &ElementSources<'_>,
     serial: u32,
 ) -> Result<InstanceRow, AllocError>
-    requires dependents { AreDependentsOf tree.now.nodes dependents.now }
-    requires element { IsElementAt tree.now.nodes place serial }
+    requires dependents { AreDependentsOf tree.now.nodes sources.now.dependents.now }
+    requires element { IsElementAt tree.now.nodes sources.now.place serial }
     ensures { (log : List AnyLogEntry) (e : AnyNode)
-        → slice_get (elements tree.now.nodes) place ≡ Some e
+        → slice_get (elements tree.now.nodes) sources.now.place ≡ Some e
         → IfOk result (λ row. row ≡ row_of (history_of tree.now log []) e) }
 {
     let mut row = InstanceRow::new(alloc, serial);
     let attrs = tree.attrs(serial);
-    push_begins(&mut row, dependents, place, &attrs.begin)?;
-    push_ends(&mut row, dependents, place, &attrs.end)?;
+    push_begins(&mut row, sources, &attrs.begin)?;
+    push_ends(&mut row, sources, &attrs.end)?;
     Ok(row)
 }
 
 /// Appends the items of the begin list of an element, with this `begin`, to a row without begins.
 fn push_begins(
     row: &mut InstanceRow,
-    dependents: &Dependents,
-    place: usize,
+    sources: &ElementSources<'_>,
     begin: &Option<Items>,
 ) -> Result<(), AllocError>
     requires { row.old.begins ≡ [] }
     ensures { (document : Document) (log : List AnyLogEntry) (e : AnyNode)
-        → AreDependentsOf document.nodes dependents.now
-        → slice_get (elements document.nodes) place ≡ Some e → e.attrs.begin ≡ begin.now
+        → AreDependentsOf document.nodes sources.now.dependents.now
+        → slice_get (elements document.nodes) sources.now.place ≡ Some e
+        → e.attrs.begin ≡ begin.now
         → OnOk result (row.new ≡ with_items row.old edge.Begin
         (map (instances_of (history_of document log []) e edge.Begin)
         (begin_list document.nodes e))) }
 {
     match begin {
-        Some(items) => push_list(row, dependents, place, Edge::Begin, items),
-        None => push_default(row, dependents, place),
+        Some(items) => push_list(row, sources, Edge::Begin, items),
+        None => push_default(row, sources),
     }
 }
 
 /// Appends the items of the end list of an element, with this `end`, to a row without ends.
 fn push_ends(
     row: &mut InstanceRow,
-    dependents: &Dependents,
-    place: usize,
+    sources: &ElementSources<'_>,
     end: &Option<Items>,
 ) -> Result<(), AllocError>
     requires { row.old.ends ≡ [] }
     ensures { (document : Document) (log : List AnyLogEntry) (e : AnyNode)
-        → AreDependentsOf document.nodes dependents.now
-        → slice_get (elements document.nodes) place ≡ Some e → e.attrs.«end» ≡ end.now
+        → AreDependentsOf document.nodes sources.now.dependents.now
+        → slice_get (elements document.nodes) sources.now.place ≡ Some e
+        → e.attrs.«end» ≡ end.now
         → OnOk result (row.new ≡ with_items row.old edge.End
         (map (instances_of (history_of document log []) e edge.End) (end_list e))) }
 {
     match end {
-        Some(items) => push_list(row, dependents, place, Edge::End, items),
+        Some(items) => push_list(row, sources, Edge::End, items),
         None => Ok(()),
     }
 }
@@ -119,21 +127,20 @@ fn push_ends(
 /// Appends the items of a begin or end list to a row that has none on that side.
 fn push_list(
     row: &mut InstanceRow,
-    dependents: &Dependents,
-    place: usize,
+    sources: &ElementSources<'_>,
     side: Edge,
     items: &Items,
 ) -> Result<(), AllocError>
     requires { side_of row.old side ≡ [] }
     ensures { (document : Document) (log : List AnyLogEntry) (e : AnyNode)
-        → AreDependentsOf document.nodes dependents.now
-        → IsListOf document.nodes place e side items.now
+        → AreDependentsOf document.nodes sources.now.dependents.now
+        → IsListOf document.nodes sources.now.place e side items.now
         → OnOk result (row.new ≡ with_items row.old side
         (map (instances_of (history_of document log []) e side) items.now)) }
 {
     for item in 0..items.len() {
-        let source = dependents.source(Cell {
-            row: place,
+        let source = sources.dependents.source(Cell {
+            row: sources.place,
             side,
             item,
         });
@@ -145,21 +152,17 @@ fn push_list(
 
 /// Appends the item that stands for a begin list where there is none to a row without begins: an
 /// offset of 0, or `indefinite` in a child of an excl, whose source is nothing.
-fn push_default(
-    row: &mut InstanceRow,
-    dependents: &Dependents,
-    place: usize,
-) -> Result<(), AllocError>
+fn push_default(row: &mut InstanceRow, sources: &ElementSources<'_>) -> Result<(), AllocError>
     requires { row.old.begins ≡ [] }
     ensures { (document : Document) (log : List AnyLogEntry) (e : AnyNode)
-        → AreDependentsOf document.nodes dependents.now
-        → slice_get (elements document.nodes) place ≡ Some e → e.attrs.begin ≡ None
+        → AreDependentsOf document.nodes sources.now.dependents.now
+        → slice_get (elements document.nodes) sources.now.place ≡ Some e → e.attrs.begin ≡ None
         → OnOk result (row.new ≡ with_items row.old edge.Begin
         (map (instances_of (history_of document log []) e edge.Begin)
         (begin_list document.nodes e))) }
 {
-    let source = dependents.source(Cell {
-        row: place,
+    let source = sources.dependents.source(Cell {
+        row: sources.place,
         side: Edge::Begin,
         item: 0,
     });

@@ -16,6 +16,7 @@ ghost use Rattle.smil_instances.specs.Dependents.{AreDependentsOf};
 ghost use Rattle.smil_instances.specs.Instances.{IsSettled, settled_times};
 ghost use Rattle.smil_instances.specs.Intake.{history_of};
 
+use super::arrival::Arrival;
 use super::dependents::Dependents;
 use super::idle::idle_rows;
 use super::intake::take_in;
@@ -100,8 +101,14 @@ impl Instances {
         ensures ok { OnOk result (IsSettled self.new tree.now log.now book.now) }
         ensures err { OnErr result (self.new ≡ self.old) }
     {
-        let rows = &mut self.rows;
-        take_in(self.alloc, rows, &self.dependents, tree, clocks, log, book)
+        let arrival = Arrival {
+            tree,
+            dependents: &self.dependents,
+            clocks,
+            log,
+            book,
+        };
+        take_in(self.alloc, &mut self.rows, &arrival)
     }
 
     /// Makes these the instance times of the book, whatever they were: the same as noting its
@@ -113,8 +120,36 @@ impl Instances {
         ensures ok { OnOk result (IsSettled self.new tree.now log.now book.now) }
         ensures err { OnErr result (self.new ≡ self.old) }
     {
-        self.rows = rows_of(self.alloc, tree, &self.dependents, log, book)?;
+        self.rows = self.rows_of(tree, log, book)?;
         Ok(())
+    }
+
+    /// The rows of the document after the entries of its book, each taken in by the clocks before
+    /// it.
+    fn rows_of(&self, tree: &Tree, log: &Log, book: &Book) -> Result<Rows, AllocError>
+        requires lawful { IsLawfulFor tree.now book.now }
+        requires document { AreDependentsOf tree.now.nodes self.now.dependents }
+        ensures { IfOk result (λ rows. rows
+            ≡ settled_rows (history_of tree.now log.now book.now)) }
+    {
+        let dependents = &self.dependents;
+        let mut rows = idle_rows(self.alloc, tree, dependents)?;
+        let mut front = Book::new(self.alloc);
+        let mut clocks = Clocks::of(self.alloc, tree, &front)?;
+        for place in 0..book.len() {
+            let entry = book.entry(place).unwrap();
+            push(&mut front, entry)?;
+            let arrival = Arrival {
+                tree,
+                dependents,
+                clocks: &clocks,
+                log,
+                book: &front,
+            };
+            take_in(self.alloc, &mut rows, &arrival)?;
+            clocks.follow(entry);
+        }
+        Ok(rows)
     }
 
     /// The begins of an element, in milliseconds on the clock of its time parent, in rising order;
@@ -165,7 +200,8 @@ impl Instances {
         ensures model { (document : Document) (log : List AnyLogEntry) (diary : List AnyEntry)
             (now : ℤ) (e : AnyNode) → IsSettled self.now document log diary
             → node_at (elements document.nodes) who ≡ Some e
-            → result ≡ first_after value (settled_times (history_of document log diary) now e side) }
+            → result ≡ first_after value
+            (settled_times (history_of document log diary) now e side) }
     {
         rows_tell_instances();
         self.rows.first_after(who, side, value)
@@ -182,30 +218,6 @@ impl Instances {
         rows_tell_instances();
         self.rows.any_end(who)
     }
-}
-
-/// The rows of a document after the entries of its book, each taken in by the clocks before it.
-fn rows_of(
-    alloc: Global,
-    tree: &Tree,
-    dependents: &Dependents,
-    log: &Log,
-    book: &Book,
-) -> Result<Rows, AllocError>
-    requires lawful { IsLawfulFor tree.now book.now }
-    requires document { AreDependentsOf tree.now.nodes dependents.now }
-    ensures { IfOk result (λ rows. rows ≡ settled_rows (history_of tree.now log.now book.now)) }
-{
-    let mut rows = idle_rows(alloc, tree, dependents)?;
-    let mut front = Book::new(alloc);
-    let mut clocks = Clocks::of(alloc, tree, &front)?;
-    for place in 0..book.len() {
-        let entry = book.entry(place).unwrap();
-        push(&mut front, entry)?;
-        take_in(alloc, &mut rows, dependents, tree, &clocks, log, &front)?;
-        clocks.follow(entry);
-    }
-    Ok(rows)
 }
 
 /// Appends an entry of a book to the front of that book, which therefore is not full.

@@ -5,19 +5,17 @@ ghost use Rattle.smil_model.specs.declared.diary.Entry.{Entry as AnyEntry};
 ghost use Rattle.smil_model.specs.reach.Reach.{key_of, pressed as pressed_in, subject as subject_in, subject_of};
 ghost use Rattle.smil_instances.specs.SettledTimes.{settled_rows};
 ghost use Rattle.smil_instances.specs.Sources.{is_birth as is_birth_step, AreThose};
-ghost use Rattle.smil_instances.specs.Entry.{IsAtHand};
+ghost use Rattle.smil_instances.specs.Entry.{HasArrived};
 ghost use Rattle.smil_instances.specs.Dependents.{AreDependentsOf};
 ghost use Rattle.smil_instances.specs.Intake.{history_of, is_concerned_cell, keyed_by, AreRowsOf};
 
 use super::additions::adds_of;
+use super::arrival::Arrival;
 use super::dependents::Dependents;
 use super::laws::{bases_are_elements, entries_are_taken_in, only_concerned_items_change};
 use super::remainder::trim_each;
-use smil_diary::Book;
 use smil_instance_rows::{Cell, Rows, add_each};
-use smil_model::{Entry, Happening, Log, Step};
-use smil_stretch::Clocks;
-use smil_tree::Tree;
+use smil_model::{Happening, Log, Step};
 use std::alloc::{AllocError, Global};
 
 /// Takes in the last entry of the book: of the items that it concerns adds what it gives, and then
@@ -25,58 +23,42 @@ use std::alloc::{AllocError, Global};
 pub(crate) fn take_in(
     alloc: Global,
     rows: &mut Rows,
-    dependents: &Dependents,
-    tree: &Tree,
-    clocks: &Clocks,
-    log: &Log,
-    book: &Book,
+    arrival: &Arrival<'_>,
 ) -> Result<(), AllocError>
-    requires hand { IsAtHand tree.now clocks.now log.now book.now }
-    requires dependents { AreDependentsOf tree.now.nodes dependents.now }
-    requires rows { (before : List AnyEntry) (y : AnyEntry) → book.now ≡ before ++ y ∷ []
-        → rows.old ≡ settled_rows (history_of tree.now log.now before) }
-    ensures ok { OnOk result (rows.new ≡ settled_rows (history_of tree.now log.now book.now)) }
+    requires hand { HasArrived arrival.now }
+    requires dependents { AreDependentsOf arrival.now.tree.now.nodes arrival.now.dependents.now }
+    requires rows { (before : List AnyEntry) (y : AnyEntry)
+        → arrival.now.book.now ≡ before ++ y ∷ []
+        → rows.old ≡ settled_rows (history_of arrival.now.tree.now arrival.now.log.now before) }
+    ensures ok { OnOk result (rows.new ≡ settled_rows
+        (history_of arrival.now.tree.now arrival.now.log.now arrival.now.book.now)) }
     ensures err { OnErr result (rows.new ≡ rows.old) }
 {
-    tree.valid();
+    arrival.tree.valid();
     entries_are_taken_in();
     only_concerned_items_change();
-    let entry = last_of(book);
-    let cells = concerned(rows, dependents, tree, log, entry.step);
-    let adds = adds_of(alloc, rows, cells, dependents, tree, clocks, log, book)?;
+    let entry = arrival.last_entry();
+    let cells = concerned(rows, arrival, entry.step);
+    let adds = adds_of(alloc, rows, cells, arrival)?;
     add_each(rows, adds.as_slice())?;
-    trim_each(rows, cells, dependents, tree, book);
+    trim_each(rows, cells, arrival);
     Ok(())
 }
 
-/// The last entry.
-fn last_of(book: &Book) -> Entry
-    requires { (before : List AnyEntry) × (y : AnyEntry) × (book.now ≡ before ++ y ∷ []) }
-    ensures { (before : List AnyEntry) (y : AnyEntry) → book.now ≡ before ++ y ∷ [] → result ≡ y }
-{
-    book.entry(book.len() - 1).unwrap()
-}
-
 /// The items that an entry with this step concerns.
-fn concerned<'a>(
-    rows: &Rows,
-    dependents: &'a Dependents,
-    tree: &Tree,
-    log: &Log,
-    step: Step,
-) -> &'a [Cell]
-    requires rows { AreRowsOf tree.now.nodes rows.now }
-    requires dependents { AreDependentsOf tree.now.nodes dependents.now }
-    ensures those { AreThose (is_concerned_cell tree.now.nodes (is_birth_step step)
-        (subject_of log.now step) (key_of log.now step)) result.now }
+fn concerned<'a>(rows: &Rows, arrival: &Arrival<'a>, step: Step) -> &'a [Cell]
+    requires rows { AreRowsOf arrival.now.tree.now.nodes rows.now }
+    requires dependents { AreDependentsOf arrival.now.tree.now.nodes arrival.now.dependents.now }
+    ensures those { AreThose (is_concerned_cell arrival.now.tree.now.nodes (is_birth_step step)
+        (subject_of arrival.now.log.now step) (key_of arrival.now.log.now step)) result.now }
 {
-    tree.valid();
+    arrival.tree.valid();
     bases_are_elements();
-    let Some(on) = subject(step, log) else {
-        return keyed(dependents, key(step, log));
+    let Some(on) = subject(step, arrival.log) else {
+        return keyed(arrival.dependents, key(step, arrival.log));
     };
     match rows.place(on) {
-        Some(row) => dependents.cells(row, is_birth(step)),
+        Some(row) => arrival.dependents.cells(row, is_birth(step)),
         None => &[],
     }
 }

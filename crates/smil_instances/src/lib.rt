@@ -4,6 +4,7 @@
 #![tactic(auto)]
 
 mod additions;
+mod arrival;
 mod before;
 mod carried;
 mod contribution;
@@ -16,6 +17,7 @@ mod fresh;
 mod idle;
 pub mod instances;
 mod intake;
+mod items;
 mod keys;
 pub mod laws;
 mod occurrence;
@@ -24,11 +26,15 @@ mod sensitivity;
 mod source;
 mod sources;
 mod starts;
+mod syncbase;
 
+pub use arrival::Arrival;
 pub use contribution::given;
 pub use dependents::Dependents;
 pub use instances::Instances;
+pub use items::ListItem;
 pub use occurrence::occurs;
 pub use sensitivity::hears;
 pub use source::Source;
 pub use sources::{element_named, element_of};
+pub use syncbase::Syncbase;

@@ -10,6 +10,7 @@ ghost use Rattle.smil_instances.specs.Before.{IsBefore};
 ghost use Rattle.smil_instances.specs.Entry.{IsAtHand, IsEntryOf};
 ghost use Rattle.smil_instances.specs.Occurrence.{occurs_in};
 
+use super::arrival::Arrival;
 use super::before::{last_entry, repeated_iteration};
 use smil_diary::Book;
 use smil_model::{Happening, Item, Log, LogEntry, Step};
@@ -19,12 +20,20 @@ use smil_tree::Tree;
 /// named event on the element `of`, which the item means, the begin of iteration `n` of it, or a
 /// press of the key. False for any other item, and for an event or repeat item that means no
 /// element. It takes no memory.
-pub fn occurs(tree: &Tree, log: &Log, book: &Book, of: Option<u32>, item: &Item) -> bool
-    requires hand { (clocks : List NodeClock) × IsAtHand tree.now clocks log.now book.now }
-    requires element { (x : ℕ) → of ≡ Some x → has_element tree.now.nodes x ≡ true }
+pub fn occurs(arrival: &Arrival<'_>, of: Option<u32>, item: &Item) -> bool
+    requires hand { (clocks : List NodeClock)
+        × IsAtHand arrival.now.tree.now clocks arrival.now.log.now arrival.now.book.now }
+    requires element { (x : ℕ) → of ≡ Some x → has_element arrival.now.tree.now.nodes x ≡ true }
     ensures { (h : History) (y : AnyEntry) (clocks : List NodeClock)
-        → IsEntryOf h y tree.now clocks log.now book.now → result ≡ occurs_in h y of item.now }
+        → IsEntryOf h y arrival.now.tree.now clocks arrival.now.log.now arrival.now.book.now
+        → result ≡ occurs_in h y of item.now }
 {
+    let Arrival {
+        tree,
+        log,
+        book,
+        ..
+    } = *arrival;
     match (item, of) {
         (Item::Event { name, .. }, Some(of)) => {
             is_event(log, of, name.slice(), last_entry(book).step)

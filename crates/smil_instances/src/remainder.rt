@@ -10,7 +10,8 @@ ghost use Rattle.smil_instances.specs.Updates.{remaining};
 ghost use Rattle.smil_instances.specs.Dependents.{AreDependentsOf};
 ghost use Rattle.smil_instances.specs.Intake.{history_of, HasItem, HaveItems, IsCellOf, with_remainder, with_remainders, AreRowsOf};
 
-use super::dependents::Dependents;
+use super::arrival::Arrival;
+use super::items::CellItem;
 use super::laws::bases_are_elements;
 use super::source::Source;
 use smil_diary::Book;
@@ -19,48 +20,46 @@ use smil_tree::Tree;
 
 /// Takes out of each of these items what is no longer kept, by the births in the book. It takes no
 /// memory.
-pub(crate) fn trim_each(
-    rows: &mut Rows,
-    cells: &[Cell],
-    dependents: &Dependents,
-    tree: &Tree,
-    book: &Book,
-)
-    requires cells { HaveItems tree.now.nodes cells.now }
-    requires dependents { AreDependentsOf tree.now.nodes dependents.now }
-    requires rows { AreRowsOf tree.now.nodes rows.old }
-    ensures { (log : List AnyLogEntry)
-        → rows.new ≡ with_remainders (history_of tree.now log book.now) rows.old cells.now }
+pub(crate) fn trim_each(rows: &mut Rows, cells: &[Cell], arrival: &Arrival<'_>)
+    requires cells { HaveItems arrival.now.tree.now.nodes cells.now }
+    requires dependents { AreDependentsOf arrival.now.tree.now.nodes arrival.now.dependents.now }
+    requires rows { AreRowsOf arrival.now.tree.now.nodes rows.old }
+    ensures { (log : List AnyLogEntry) → rows.new
+        ≡ with_remainders (history_of arrival.now.tree.now log arrival.now.book.now) rows.old
+        cells.now }
 {
     for cell in cells {
-        trim_at(rows, *cell, dependents, tree, book);
+        trim_at(rows, *cell, arrival);
     }
 }
 
 /// Takes out of an item what is no longer kept.
-fn trim_at(rows: &mut Rows, cell: Cell, dependents: &Dependents, tree: &Tree, book: &Book)
-    requires cell { HasItem tree.now.nodes cell }
-    requires dependents { AreDependentsOf tree.now.nodes dependents.now }
-    requires rows { AreRowsOf tree.now.nodes rows.old }
-    ensures value { (log : List AnyLogEntry)
-        → rows.new ≡ with_remainder (history_of tree.now log book.now) rows.old cell }
-    ensures rows { AreRowsOf tree.now.nodes rows.new }
+fn trim_at(rows: &mut Rows, cell: Cell, arrival: &Arrival<'_>)
+    requires cell { HasItem arrival.now.tree.now.nodes cell }
+    requires dependents { AreDependentsOf arrival.now.tree.now.nodes arrival.now.dependents.now }
+    requires rows { AreRowsOf arrival.now.tree.now.nodes rows.old }
+    ensures value { (log : List AnyLogEntry) → rows.new
+        ≡ with_remainder (history_of arrival.now.tree.now log arrival.now.book.now) rows.old cell }
+    ensures rows { AreRowsOf arrival.now.tree.now.nodes rows.new }
 {
-    tree.valid();
+    arrival.tree.valid();
     bases_are_elements();
     let who = rows.serial_at(cell.row).unwrap();
-    trim(rows, cell, who, dependents.source(cell), tree, book);
+    let source = arrival.dependents.source(cell);
+    let own = CellItem { cell, who, source };
+    trim(rows, own, arrival.tree, arrival.book);
 }
 
-/// Takes out of an item of this element with this source what is no longer kept.
-fn trim(rows: &mut Rows, cell: Cell, who: u32, source: Source, tree: &Tree, book: &Book)
-    requires has { HasCell rows.old cell }
-    requires cell { IsCellOf tree.now.nodes cell who source }
-    requires base { (of : ℕ) → base_of source ≡ Some of → IsSome (node_at tree.now.nodes of) }
+/// Takes out of the item of a cell what is no longer kept.
+fn trim(rows: &mut Rows, own: CellItem, tree: &Tree, book: &Book)
+    requires has { HasCell rows.old own.cell }
+    requires cell { IsCellOf tree.now.nodes own.cell own.who own.source }
+    requires base { (of : ℕ) → base_of own.source ≡ Some of → IsSome (node_at tree.now.nodes of) }
     ensures { (log : List AnyLogEntry)
-        → rows.new ≡ with_cell rows.old cell
-        (remaining (history_of tree.now log book.now) who source (cell_of rows.old cell)) }
+        → rows.new ≡ with_cell rows.old own.cell (remaining (history_of tree.now log book.now)
+        own.who own.source (cell_of rows.old own.cell)) }
 {
+    let CellItem { cell, who, source } = own;
     match source {
         Source::Start => rows.keep_last(cell),
         Source::Syncbase { of, .. } => {

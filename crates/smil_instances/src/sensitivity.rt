@@ -16,7 +16,9 @@ ghost use Rattle.smil_instances.specs.Before.{IsBefore};
 ghost use Rattle.smil_instances.specs.Entry.{IsAtHand, IsEntryOf};
 ghost use Rattle.smil_instances.specs.Occurrence.{target_of, is_always};
 
+use super::arrival::Arrival;
 use super::before::{was_active, was_alive};
+use super::items::ListItem;
 use smil_diary::Book;
 use smil_model::{Bytes, Edge, Item, Restart};
 use smil_stretch::Clocks;
@@ -29,24 +31,18 @@ use smil_tree::Tree;
 /// hears its begin items, and those end items that are for no event of a begin item, and any other
 /// hears its end items alone. An access key is heard as an event is. `of` is the element that an
 /// event or repeat item means; a key is on none. It takes no memory.
-pub fn hears(
-    tree: &Tree,
-    clocks: &Clocks,
-    book: &Book,
-    who: u32,
-    side: Edge,
-    item: &Item,
-    of: Option<u32>,
-) -> bool
-    requires hand { (log : List LogEntry) × IsAtHand tree.now clocks.now log book.now }
-    requires element { has_element tree.now.nodes who ≡ true }
-    requires means { of ≡ target_of tree.now.nodes who item.now }
+pub fn hears(arrival: &Arrival<'_>, own: &ListItem<'_>, of: Option<u32>) -> bool
+    requires hand { (log : List LogEntry)
+        × IsAtHand arrival.now.tree.now arrival.now.clocks.now log arrival.now.book.now }
+    requires element { has_element arrival.now.tree.now.nodes own.now.who ≡ true }
+    requires means { of ≡ target_of arrival.now.tree.now.nodes own.now.who own.now.item.now }
     ensures { (h : History) (y : AnyEntry) (e : AnyNode)
-        → IsEntryOf h y tree.now clocks.now h.log book.now → node_at (elements h.nodes) who ≡ Some e
-        → result ≡ instances.hears h e side item.now }
+        → IsEntryOf h y arrival.now.tree.now arrival.now.clocks.now h.log arrival.now.book.now
+        → node_at (elements h.nodes) own.now.who ≡ Some e
+        → result ≡ instances.hears h e own.now.side own.now.item.now }
 {
-    is_awake(tree, clocks, book, who)
-        && is_sensitive(tree, was_active(book, who), who, side, item, of)
+    is_awake(arrival.tree, arrival.clocks, arrival.book, own.who)
+        && is_sensitive(arrival.tree, was_active(arrival.book, own.who), own, of)
 }
 
 // Whether an element was alive before the last entry of the book, and the clock of its time parent
@@ -61,24 +57,17 @@ fn is_awake(tree: &Tree, clocks: &Clocks, book: &Book, who: u32) -> bool
 }
 
 // Whether an element of a document, which is active or not, is sensitive to events for an item.
-fn is_sensitive(
-    tree: &Tree,
-    active: bool,
-    who: u32,
-    side: Edge,
-    item: &Item,
-    of: Option<u32>,
-) -> bool
-    requires element { has_element tree.now.nodes who ≡ true }
-    requires means { of ≡ target_of tree.now.nodes who item.now }
-    ensures { (e : AnyNode) → node_at (elements tree.now.nodes) who ≡ Some e
-        → result ≡ instances.is_sensitive active (restart_of tree.now.nodes e) side
-        (list_any (instances.is_same_event tree.now.nodes e.serial item.now)
+fn is_sensitive(tree: &Tree, active: bool, own: &ListItem<'_>, of: Option<u32>) -> bool
+    requires element { has_element tree.now.nodes own.now.who ≡ true }
+    requires means { of ≡ target_of tree.now.nodes own.now.who own.now.item.now }
+    ensures { (e : AnyNode) → node_at (elements tree.now.nodes) own.now.who ≡ Some e
+        → result ≡ instances.is_sensitive active (restart_of tree.now.nodes e) own.now.side
+        (list_any (instances.is_same_event tree.now.nodes e.serial own.now.item.now)
         (begin_list tree.now.nodes e)) }
 {
-    match side {
-        Edge::Begin => !active || always_restarts(tree, who),
-        Edge::End => active && !(always_restarts(tree, who) && is_doubled(tree, who, item, of)),
+    match own.side {
+        Edge::Begin => !active || always_restarts(tree, own.who),
+        Edge::End => active && !(always_restarts(tree, own.who) && is_doubled(tree, own, of)),
     }
 }
 
@@ -94,19 +83,19 @@ fn always_restarts(tree: &Tree, who: u32) -> bool
 }
 
 // Whether a begin item of an element is for the same event as an item.
-fn is_doubled(tree: &Tree, who: u32, item: &Item, of: Option<u32>) -> bool
-    requires element { has_element tree.now.nodes who ≡ true }
-    requires means { of ≡ target_of tree.now.nodes who item.now }
-    ensures { (e : AnyNode) → node_at (elements tree.now.nodes) who ≡ Some e
-        → result ≡ list_any (instances.is_same_event tree.now.nodes who item.now)
+fn is_doubled(tree: &Tree, own: &ListItem<'_>, of: Option<u32>) -> bool
+    requires element { has_element tree.now.nodes own.now.who ≡ true }
+    requires means { of ≡ target_of tree.now.nodes own.now.who own.now.item.now }
+    ensures { (e : AnyNode) → node_at (elements tree.now.nodes) own.now.who ≡ Some e
+        → result ≡ list_any (instances.is_same_event tree.now.nodes own.now.who own.now.item.now)
         (begin_list tree.now.nodes e) }
 {
     tree.valid();
-    let Some(begin) = &tree.attrs(who).begin else {
+    let Some(begin) = &tree.attrs(own.who).begin else {
         return false;
     };
     for place in 0..begin.len() {
-        if is_same_event(tree, who, item, of, begin.get(place).unwrap()) {
+        if is_same_event(tree, own, of, begin.get(place).unwrap()) {
             return true;
         }
     }
@@ -115,12 +104,13 @@ fn is_doubled(tree: &Tree, who: u32, item: &Item, of: Option<u32>) -> bool
 
 // Whether two items of an element are for the same event of the element `of`, which the first one
 // means, or for the same key.
-fn is_same_event(tree: &Tree, who: u32, item: &Item, of: Option<u32>, other: &Item) -> bool
-    requires element { has_element tree.now.nodes who ≡ true }
-    requires means { of ≡ target_of tree.now.nodes who item.now }
-    ensures { result ≡ instances.is_same_event tree.now.nodes who item.now other.now }
+fn is_same_event(tree: &Tree, own: &ListItem<'_>, of: Option<u32>, other: &Item) -> bool
+    requires element { has_element tree.now.nodes own.now.who ≡ true }
+    requires means { of ≡ target_of tree.now.nodes own.now.who own.now.item.now }
+    ensures { result
+        ≡ instances.is_same_event tree.now.nodes own.now.who own.now.item.now other.now }
 {
-    match (item, other) {
+    match (own.item, other) {
         (
             Item::Event { name, .. },
             Item::Event {
@@ -128,7 +118,7 @@ fn is_same_event(tree: &Tree, who: u32, item: &Item, of: Option<u32>, other: &It
                 name: other_name,
                 ..
             },
-        ) => means(tree, who, named, of) && name.slice() == other_name.slice(),
+        ) => means(tree, own.who, named, of) && name.slice() == other_name.slice(),
         (
             Item::Repeat { n, .. },
             Item::Repeat {
@@ -136,7 +126,7 @@ fn is_same_event(tree: &Tree, who: u32, item: &Item, of: Option<u32>, other: &It
                 n: m,
                 ..
             },
-        ) => { means(tree, who, named, of) && n == m }
+        ) => { means(tree, own.who, named, of) && n == m }
         (Item::Key { key, .. }, Item::Key { key: other_key, .. }) => key == other_key,
         _ => false,
     }

@@ -15,6 +15,14 @@ use smil_model::{Bytes, Duplicate, Edge, Item, Items, Kind, Who};
 use smil_tree::Tree;
 use std::alloc::{AllocError, Global};
 
+/// An element of a document, with the source of an offset alone in its lists.
+#[derive(Clone, Copy)]
+pub struct Element<'a> {
+    pub tree: &'a Tree,
+    pub who: u32,
+    pub by_offset: Source,
+}
+
 /// The serial of a node's time parent, if there is such a node and it has one.
 pub fn parent_of(tree: &Tree, who: u32) -> Option<u32>
     ensures { result ≡ serial_of (time_parent tree.now.nodes who) }
@@ -69,11 +77,18 @@ fn source_by(tree: &Tree, who: u32, id: &Option<Bytes>) -> Result<Source, AllocE
     }
 }
 
-/// The source of an item of an element; for an offset alone it is given.
-fn source_of(tree: &Tree, who: u32, item: &Item, by_offset: Source) -> Result<Source, AllocError>
-    requires { by_offset ≡ syncbase_or source.Start End (previous_in_seq tree.now.nodes who) }
-    ensures { IfOk result (λ s. s ≡ source_of tree.now.nodes who item.now) }
+/// The source of an item of an element.
+fn source_of(element: &Element<'_>, item: &Item) -> Result<Source, AllocError>
+    requires { element.now.by_offset ≡ syncbase_or source.Start End
+        (previous_in_seq element.now.tree.now.nodes element.now.who) }
+    ensures { IfOk result (λ s. s
+        ≡ source_of element.now.tree.now.nodes element.now.who item.now) }
 {
+    let Element {
+        tree,
+        who,
+        by_offset,
+    } = *element;
     match item {
         Item::Offset { .. } => Ok(by_offset),
         Item::Sync { who, edge, .. } => match element_named(tree, who)? {
@@ -89,18 +104,18 @@ fn source_of(tree: &Tree, who: u32, item: &Item, by_offset: Source) -> Result<So
 /// The sources of the items of a list of an element.
 pub fn sources_of(
     alloc: Global,
-    tree: &Tree,
-    who: u32,
+    element: &Element<'_>,
     items: &Items,
-    by_offset: Source,
 ) -> Result<Vec<Source>, AllocError>
-    requires { by_offset ≡ syncbase_or source.Start End (previous_in_seq tree.now.nodes who) }
-    ensures { IfOk result (λ sources. sources.items ≡ map (source_of tree.now.nodes who) items.now) }
+    requires { element.now.by_offset ≡ syncbase_or source.Start End
+        (previous_in_seq element.now.tree.now.nodes element.now.who) }
+    ensures { IfOk result (λ sources. sources.items
+        ≡ map (source_of element.now.tree.now.nodes element.now.who) items.now) }
 {
     let mut sources = Vec::with_capacity(alloc, items.len())?;
     for place in 0..items.len() {
         let item = items.get(place).unwrap();
-        sources.push(source_of(tree, who, item, by_offset)?)?;
+        sources.push(source_of(element, item)?)?;
     }
     Ok(sources)
 }

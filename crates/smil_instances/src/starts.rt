@@ -1,10 +1,9 @@
 //! The time that a birth gives to an offset.
 
-ghost use Rattle.std.specs.Prelude.{◌≡◌, true, Some};
+ghost use Rattle.std.specs.Prelude.{◌≡◌, Option, Some};
 ghost use Rattle.smil_model.specs.declared.document.Node.{Node as AnyNode};
-ghost use Rattle.smil_model.specs.document.Document.{time_parent};
+ghost use Rattle.smil_model.specs.document.Document.{serial_of};
 ghost use Rattle.smil_model.specs.diary.Diary.{History};
-ghost use Rattle.smil_model.specs.diary.Lawful.{has_element};
 ghost use Rattle.smil_instances.specs.Contribution;
 ghost use Rattle.smil_model.specs.Times.{IsMoment};
 ghost use Rattle.smil_instances.specs.Contribution.{AreClocksAt};
@@ -14,25 +13,24 @@ use smil_duration::moved;
 use smil_instance_rows::InstanceTime;
 use smil_model::{Entry, Step};
 use smil_stretch::Clocks;
-use smil_tree::Tree;
 
-/// What an entry gives to an item of `who` with this offset from the start of the time parent's
-/// iteration, in milliseconds on the time parent's clock; None exactly where it is no begin or
-/// repeat of the time parent. It takes no memory.
+/// What an entry gives to an item with this offset from the start of the iteration of its element's
+/// time parent, if it has one, in milliseconds on the time parent's clock; None exactly where it is
+/// no begin or repeat of the time parent. It takes no memory.
 pub fn started(
-    tree: &Tree,
     clocks: &Clocks,
     entry: Entry,
-    who: u32,
+    parent: Option<u32>,
     offset: i64,
 ) -> Option<InstanceTime>
-    requires element { has_element tree.now.nodes who ≡ true }
-    requires moment { IsMoment entry.moment }
-    ensures { (h : History) → AreClocksAt h clocks.now entry.moment
-        → result ≡ Contribution.started h entry offset (time_parent tree.now.nodes who) }
+    requires { IsMoment entry.moment }
+    ensures { (h : History) (p : Option AnyNode) → AreClocksAt h clocks.now entry.moment
+        → serial_of p ≡ parent → result ≡ Contribution.started h entry offset p }
 {
-    let parent = tree.time_parent(who)?;
-    started_by(clocks, entry, parent, offset)
+    match parent {
+        Some(parent) => started_by(clocks, entry, parent, offset),
+        None => None,
+    }
 }
 
 /// What an entry gives to such an item, whose time parent is `parent`.

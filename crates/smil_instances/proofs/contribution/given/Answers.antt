@@ -4,10 +4,12 @@ use mir.Val.{SFits}
 use Rattle.std.proofs.lemmas.Int.{to_z-of_z}
 use Rattle.smil_model.specs.declared.document.Item.{Item}
 use Rattle.smil_model.specs.declared.document.Node.{Node}
+use Rattle.smil_model.specs.document.Document.{time_parent}
 use Rattle.smil_instances.specs.declared.source.Source.{Source}
 use Rattle.smil_instances.specs.Sources.{source_of}
 use Rattle.smil_instances.proofs.BySource.{serial_is, means, key_means, start_given, edge_given, event_given, key_given, start_read, edge_read}
-use Rattle.smil_instances.proofs.LastEntry.{entry_read, place_read, clocks_read, moment_read}
+use Rattle.smil_instances.proofs.LastEntry.{place_read, clocks_read}
+use Rattle.smil_instances.proofs.Targets.{known_node}
 use Rattle.smil_instances.proofs.contribution.given.Goals as goal
 
 -- the source of the item by the nodes of the history
@@ -15,53 +17,48 @@ source_read : (nodes ns : List Node) (who s : ℕ) (item : Item) (source kind : 
 source_read nodes ns who s item source kind is own q r =
     ap (λ k. source_of nodes k item) own ∙ ap (λ l. source_of l who item) is ∙ sym q ∙ r
 
-pub started-requires-clause-moment : goal.started-requires-clause-moment
-started-requires-clause-moment c =
-    moment_read _ _ _ _ c.requires.hand c.len-place.result c.unwrap-entry.result c.entry.result c.len-place.ensures.value c.entry.ensures c.unwrap-entry.ensures
-
-pub edge_time-time-requires : goal.edge_time-time-requires
-edge_time-time-requires c =
-    moment_read _ _ _ _ c.requires.hand c.len-place.result c.unwrap-entry.result c.entry.result c.len-place.ensures.value c.entry.ensures c.unwrap-entry.ensures
+pub time_parent-parent-requires : goal.time_parent-parent-requires
+time_parent-parent-requires c = known_node c.args.arrival.now.tree.now.nodes c.args.own.now.who c.requires.element
 
 pub returns-in-Start : goal.returns-in-Start
 returns-in-Start c = λ h y e is at.
-    let own = serial_is h.nodes c.args.who e at in
-    let same = entry_read _ _ _ _ h y is c.len-place.result c.unwrap-entry.result c.entry.result c.len-place.ensures.value c.entry.ensures c.unwrap-entry.ensures in
+    let own = serial_is h.nodes c.args.own.now.who e at in
+    let same = c.last_entry-entry.ensures.value h.diary y is.same_diary in
     let fits : SFits w64 c.offset_of-offset.result = search rules in
-    c.started.ensures h (clocks_read _ _ _ _ h y is c.unwrap-entry.result same)
-    ∙ start_read h y e c.args.side c.args.who own c.unwrap-entry.result same c.args.tree.now.nodes _ _ is.same_nodes (to_z-of_z w64 c.offset_of-offset.result fits ∙ c.offset_of-offset.ensures)
-    ∙ sym (start_given h y e c.args.side c.args.item.now (source_read h.nodes c.args.tree.now.nodes c.args.who e.serial c.args.item.now c.args.source _ is.same_nodes own c.requires.source c.in-Start.is))
+    c.started.ensures h (time_parent c.args.arrival.now.tree.now.nodes c.args.own.now.who) (clocks_read _ _ _ _ h y is c.last_entry-entry.result same) (sym c.time_parent-parent.ensures)
+    ∙ start_read h y e c.args.own.now.side c.args.own.now.who own c.last_entry-entry.result same c.args.arrival.now.tree.now.nodes _ _ is.same_nodes (to_z-of_z w64 c.offset_of-offset.result fits ∙ c.offset_of-offset.ensures)
+    ∙ sym (start_given h y e c.args.own.now.side c.args.own.now.item.now (source_read h.nodes c.args.arrival.now.tree.now.nodes c.args.own.now.who e.serial c.args.own.now.item.now c.args.source _ is.same_nodes own c.requires.source c.in-Start.is))
 
 pub returns-in-Syncbase : goal.returns-in-Syncbase
 returns-in-Syncbase c = λ h y e is at.
-    let own = serial_is h.nodes c.args.who e at in
-    let same = entry_read _ _ _ _ h y is c.len-place.result c.unwrap-entry.result c.entry.result c.len-place.ensures.value c.entry.ensures c.unwrap-entry.ensures in
+    let own = serial_is h.nodes c.args.own.now.who e at in
+    let same = c.last_entry-entry.ensures.value h.diary y is.same_diary in
     let fits : SFits w64 c.offset_of-offset.result = search rules in
     c.at_place.ensures
-    ∙ edge_read h y e c.args.side c.args.who own c.unwrap-entry.result same c.in-Syncbase.of c.in-Syncbase.edge _ _ _ c.edge_time-time.result
-    (c.edge_time-time.ensures h (clocks_read _ _ _ _ h y is c.unwrap-entry.result same))
+    ∙ edge_read h y e c.args.own.now.side c.args.own.now.who own c.last_entry-entry.result same c.in-Syncbase.of c.in-Syncbase.edge _ _ _ c.edge_time-time.result
+    (c.edge_time-time.ensures h (clocks_read _ _ _ _ h y is c.last_entry-entry.result same))
     (to_z-of_z w64 c.offset_of-offset.result fits ∙ c.offset_of-offset.ensures)
-    (place_read _ _ _ _ h y is c.len-place.result c.len-place.ensures.value)
-    ∙ sym (edge_given h y e c.args.side c.args.item.now c.in-Syncbase.of c.in-Syncbase.edge (source_read h.nodes c.args.tree.now.nodes c.args.who e.serial c.args.item.now c.args.source _ is.same_nodes own c.requires.source c.in-Syncbase.is))
+    (place_read _ _ _ _ h y is c.len.result c.len.ensures.value)
+    ∙ sym (edge_given h y e c.args.own.now.side c.args.own.now.item.now c.in-Syncbase.of c.in-Syncbase.edge (source_read h.nodes c.args.arrival.now.tree.now.nodes c.args.own.now.who e.serial c.args.own.now.item.now c.args.source _ is.same_nodes own c.requires.source c.in-Syncbase.is))
 
 pub heard-requires-clause-means : goal.heard-requires-clause-means
 heard-requires-clause-means c =
-    sym (means c.args.tree.now.nodes c.args.who c.args.item.now c.in-Eventbase.of (sym c.requires.source ∙ c.in-Eventbase.is))
+    sym (means c.args.arrival.now.tree.now.nodes c.args.own.now.who c.args.own.now.item.now c.in-Eventbase.of (sym c.requires.source ∙ c.in-Eventbase.is))
 
 pub heard-requires-in-Key-clause-means : goal.heard-requires-in-Key-clause-means
 heard-requires-in-Key-clause-means c =
-    key_means c.args.tree.now.nodes c.args.who c.args.item.now c.in-Key.key (sym c.requires.source ∙ c.in-Key.is)
+    key_means c.args.arrival.now.tree.now.nodes c.args.own.now.who c.args.own.now.item.now c.in-Key.key (sym c.requires.source ∙ c.in-Key.is)
 
 pub returns-in-Eventbase : goal.returns-in-Eventbase
 returns-in-Eventbase c = λ h y e is at.
     c.heard.ensures h y e is at
     ∙ sym
-    (event_given h y e c.args.side c.args.item.now c.in-Eventbase.of
-    (source_read h.nodes c.args.tree.now.nodes c.args.who e.serial c.args.item.now c.args.source _ is.same_nodes (serial_is h.nodes c.args.who e at) c.requires.source c.in-Eventbase.is))
+    (event_given h y e c.args.own.now.side c.args.own.now.item.now c.in-Eventbase.of
+    (source_read h.nodes c.args.arrival.now.tree.now.nodes c.args.own.now.who e.serial c.args.own.now.item.now c.args.source _ is.same_nodes (serial_is h.nodes c.args.own.now.who e at) c.requires.source c.in-Eventbase.is))
 
 pub returns-in-Key : goal.returns-in-Key
 returns-in-Key c = λ h y e is at.
     c.heard-in-Key.ensures h y e is at
     ∙ sym
-    (key_given h y e c.args.side c.args.item.now c.in-Key.key
-    (source_read h.nodes c.args.tree.now.nodes c.args.who e.serial c.args.item.now c.args.source _ is.same_nodes (serial_is h.nodes c.args.who e at) c.requires.source c.in-Key.is))
+    (key_given h y e c.args.own.now.side c.args.own.now.item.now c.in-Key.key
+    (source_read h.nodes c.args.arrival.now.tree.now.nodes c.args.own.now.who e.serial c.args.own.now.item.now c.args.source _ is.same_nodes (serial_is h.nodes c.args.own.now.who e at) c.requires.source c.in-Key.is))

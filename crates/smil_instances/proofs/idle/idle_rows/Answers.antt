@@ -1,10 +1,8 @@
-use Rattle.std.proofs.Common.{◌≡◌, ◌∙◌, sym, ap, ℕ, ◌+◌, ◌<◌, List, [], ◌∷◌, ◌++◌, length, map, take, Some, true, false, arith}
-use Rattle.std.specs.Prelude.{slice_get}
+use Rattle.std.proofs.Common.{◌≡◌, ◌∙◌, sym, ap, ℕ, List, [], ◌∷◌, ◌++◌, map, take, Some, arith}
 use Rattle.std.proofs.lemmas.List.{take_all}
 use Rattle.smil_model.specs.declared.document.Node.{Node}
-use Rattle.smil_model.specs.document.Document.{elements, is_element, node_at}
+use Rattle.smil_model.specs.document.Document.{elements, node_at}
 use Rattle.smil_model.specs.document.Valid.{IsDistinct}
-use Rattle.smil_model.specs.diary.Diary.{History}
 use Rattle.smil_tree.proofs.Making.{fresh_at}
 use Rattle.smil_stretch.proofs.Above.{node_of}
 use Rattle.smil_stretch.proofs.Idle.{node_found, node_inside, node_known, none_left}
@@ -32,7 +30,7 @@ idle_row-requires-clause-element c =
     let is = sym (c.is_element.ensures found.node there) ∙ c.if-is_element.true in
     record {
       element = found.node;
-      here = element_here (history_of c.args.tree.now [] []) ns k c.len.result found.node c.loop-serial.rows found.at is (c.loop-serial.invariant []) c.len.ensures;
+      here = element_here (history_of c.args.tree.now [] []) ns k c.len-place.result found.node c.loop-serial.rows found.at is (c.loop-serial.invariant []) c.len-place.ensures;
       known = there;
       same = found.serial;
     }
@@ -45,7 +43,7 @@ push-requires c =
     let found = node_found ns c.in-Some.serial k c.in-Some.ensures in
     let there = known ns c.in-Some.serial k found c.valid.ensures.numbered.distinct in
     let is = sym (c.is_element.ensures found.node there) ∙ c.if-is_element.true in
-    let here = element_here h ns k c.len.result found.node c.loop-serial.rows found.at is (c.loop-serial.invariant []) c.len.ensures in
+    let here = element_here h ns k c.len-place.result found.node c.loop-serial.rows found.at is (c.loop-serial.invariant []) c.len-place.ensures in
     ap (λ (rs : List Row). place_in rs c.in_ok-row.row.serial) (c.loop-serial.invariant [])
     ∙ ap (λ (r : Row). place_in (map (row_of h) (elements (take k ns))) r.serial) (c.in_ok-row.ensures [] found.node here)
     ∙ row_absent h (take k ns) found.node.serial (fresh_at ns k found.node c.valid.ensures.numbered.distinct found.at)
@@ -66,7 +64,7 @@ loop-serial-preserved c = λ log.
     elim c.if-is_element.branch [
       | then-is_element+in_ok-row+in_ok-push w ↦
           let is = sym (c.is_element.ensures found.node there) ∙ w.if-is_element.true in
-          let here = element_here h ns k w.len.result found.node c.loop-serial.rows found.at is (c.loop-serial.invariant log) w.len.ensures in
+          let here = element_here h ns k w.len-place.result found.node c.loop-serial.rows found.at is (c.loop-serial.invariant log) w.len-place.ensures in
           w.rows-is
           ∙ w.in_ok-push.ensures.ok
           ∙ ap (λ r. c.loop-serial.rows ++ r ∷ []) (w.in_ok-row.ensures log found.node here)

@@ -1,4 +1,4 @@
-use Rattle.std.proofs.Common.{◌≡◌, ◌∙◌, ap, sym, rules, [], w64}
+use Rattle.std.proofs.Common.{◌∙◌, ap, sym, rules, [], w64}
 use Rattle.std.proofs.lemmas.Int.{to_z-of_z}
 use mir.Val.{SFits}
 use Rattle.smil_model.specs.declared.document.Item.TheVariants.{Offset}

@@ -1,4 +1,4 @@
-use Rattle.std.proofs.Common.{◌∙◌, ap, sym, map, []}
+use Rattle.std.proofs.Common.{◌∙◌, ap, map, []}
 use Rattle.smil_model.specs.declared.document.Edge.TheVariants.{Begin}
 use Rattle.smil_instances.specs.SettledTimes.{instances_of}
 use Rattle.smil_instances.specs.Idle.{with_items}

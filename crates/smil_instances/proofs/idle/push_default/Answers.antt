@@ -9,4 +9,4 @@ returns c = λ document log e are here none.
     on_ok c.push_item.result c.push_item.ensures (λ q.
     q
     ∙ ap (with_items c.args.row.now Begin)
-    (default_kept document log e c.args.dependents.now c.args.place are here none c.source-source.result c.time_from_start.result c.source-source.ensures (c.time_from_start.ensures.kept document log e Begin) c.time_from_start.ensures.nothing))
+    (default_kept document log e c.args.sources.now.dependents.now c.args.sources.now.place are here none c.source-source.result c.time_from_start.result c.source-source.ensures (c.time_from_start.ensures.kept document log e Begin) c.time_from_start.ensures.nothing))

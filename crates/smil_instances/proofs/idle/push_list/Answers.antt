@@ -6,7 +6,7 @@ use Rattle.smil_instance_rows.specs.Rows.{Row}
 use Rattle.smil_instances.specs.SettledTimes.{instances_of}
 use Rattle.smil_instances.specs.Idle.{idle_kept, with_items}
 use Rattle.smil_instances.specs.Intake.{history_of}
-use Rattle.smil_instances.proofs.Starting.{items_grow, map_more, more_items, no_items, source_here}
+use Rattle.smil_instances.proofs.Starting.{items_grow, map_more, more_items, source_here}
 use Rattle.smil_instances.proofs.idle.push_list.Goals as goal
 
 pub loop-item-preserved : goal.loop-item-preserved
@@ -23,7 +23,7 @@ loop-item-preserved c =
           ∙ ap (λ (r : Row). with_items r side (idle_kept c.idle_time-time.result ∷ [])) (c.loop-item.invariant.1 document log e are list)
           ∙ more_items c.args.row.now side (map kept (take i c.args.items.now)) _
           ∙ ap (λ ks. with_items c.args.row.now side (map kept (take i c.args.items.now) ++ ks ∷ []))
-          (sym (c.idle_time-time.ensures document log e (c.source-source.ensures ∙ source_here document.nodes c.args.dependents.now _ e c.unwrap.result.now are list.here (ap (λ is. slice_get is i) (sym list.same) ∙ there))))
+          (sym (c.idle_time-time.ensures document log e (c.source-source.ensures ∙ source_here document.nodes c.args.sources.now.dependents.now _ e c.unwrap.result.now are list.here (ap (λ is. slice_get is i) (sym list.same) ∙ there))))
           ∙ ap (with_items c.args.row.now side) (map_more kept c.args.items.now i c.unwrap.result.now there),
     )
 

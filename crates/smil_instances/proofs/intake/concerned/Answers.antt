@@ -8,21 +8,21 @@ use Rattle.smil_instances.proofs.intake.concerned.Goals as goal
 
 pub returns-in-Some-place : goal.returns-in-Some-place
 returns-in-Some-place c =
-    let nodes = c.args.tree.now.nodes in
+    let nodes = c.args.arrival.now.tree.now.nodes in
     let birth = is_birth c.args.step in
-    let key = key_of c.args.log.now c.args.step in
+    let key = key_of c.args.arrival.now.log.now c.args.step in
     record {
       those =
           subst (λ on. AreThose (is_concerned_cell nodes birth on key) c.cells.result.now) c.in-Some.ensures
-          (subst (AreThose (is_concerned_cell nodes birth (Some c.in-Some.on) key)) (sym (c.cells.ensures ∙ ap (cells_in c.args.dependents.now.rows c.in-Some-place.row) c.is_birth.ensures))
-          (those_of nodes c.valid.ensures.numbered.distinct c.args.rows.now c.args.dependents.now birth c.in-Some.on key c.in-Some-place.row c.requires.rows c.requires.dependents (sym c.place.ensures ∙ c.in-Some-place.is)));
+          (subst (AreThose (is_concerned_cell nodes birth (Some c.in-Some.on) key)) (sym (c.cells.ensures ∙ ap (cells_in c.args.arrival.now.dependents.now.rows c.in-Some-place.row) c.is_birth.ensures))
+          (those_of nodes c.valid.ensures.numbered.distinct c.args.rows.now c.args.arrival.now.dependents.now birth c.in-Some.on key c.in-Some-place.row c.requires.rows c.requires.dependents (sym c.place.ensures ∙ c.in-Some-place.is)));
     }
 
 pub returns-in-None : goal.returns-in-None
 returns-in-None c =
-    let nodes = c.args.tree.now.nodes in
+    let nodes = c.args.arrival.now.tree.now.nodes in
     let birth = is_birth c.args.step in
-    let key = key_of c.args.log.now c.args.step in
+    let key = key_of c.args.arrival.now.log.now c.args.step in
     record {
       those =
           subst (λ on. AreThose (is_concerned_cell nodes birth on key) []) c.in-Some.ensures
@@ -31,12 +31,12 @@ returns-in-None c =
 
 pub returns-in_default : goal.returns-in_default
 returns-in_default c =
-    let nodes = c.args.tree.now.nodes in
+    let nodes = c.args.arrival.now.tree.now.nodes in
     let birth = is_birth c.args.step in
-    let key = key_of c.args.log.now c.args.step in
+    let key = key_of c.args.arrival.now.log.now c.args.step in
     record {
       those =
           subst (λ on. AreThose (is_concerned_cell nodes birth on key) c.keyed.result.now) c.in_default.ensures
-          (subst (AreThose (is_concerned_cell nodes birth None key)) (sym (c.keyed.ensures ∙ ap (keyed_by c.args.dependents.now) c.key.ensures))
-          (those_keyed nodes c.valid.ensures.numbered.distinct c.args.dependents.now birth key c.requires.dependents));
+          (subst (AreThose (is_concerned_cell nodes birth None key)) (sym (c.keyed.ensures ∙ ap (keyed_by c.args.arrival.now.dependents.now) c.key.ensures))
+          (those_keyed nodes c.valid.ensures.numbered.distinct c.args.arrival.now.dependents.now birth key c.requires.dependents));
     }

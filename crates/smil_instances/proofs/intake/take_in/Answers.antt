@@ -16,13 +16,13 @@ pub concerned-cells-requires-clause-rows : goal.concerned-cells-requires-clause-
 concerned-cells-requires-clause-rows c =
     let hand = c.requires.hand in
     ap (map shape_of) (c.requires.rows hand.past.diary hand.entry hand.is_entry.same_diary)
-    ∙ settled_shape (history_of c.args.tree.now c.args.log.now hand.past.diary)
+    ∙ settled_shape (history_of c.args.arrival.now.tree.now c.args.arrival.now.log.now hand.past.diary)
 
 pub adds_of-requires-clause-rows : goal.adds_of-requires-clause-rows
 adds_of-requires-clause-rows c =
     let hand = c.requires.hand in
     ap (map shape_of) (c.requires.rows hand.past.diary hand.entry hand.is_entry.same_diary)
-    ∙ settled_shape (history_of c.args.tree.now c.args.log.now hand.past.diary)
+    ∙ settled_shape (history_of c.args.arrival.now.tree.now c.args.arrival.now.log.now hand.past.diary)
 
 pub add_each-requires : goal.add_each-requires
 add_each-requires c =
@@ -30,18 +30,18 @@ add_each-requires c =
     let before = hand.past.diary in
     let y = hand.entry in
     let q = hand.is_entry.same_diary in
-    let nodes = c.args.tree.now.nodes in
-    let log = c.args.log.now in
+    let nodes = c.args.arrival.now.tree.now.nodes in
+    let log = c.args.arrival.now.log.now in
     let cells = c.concerned-cells.result.now in
     subst (Fits c.args.rows.now) (sym (c.as_slice.ensures.value ∙ c.in_ok-adds.ensures before y q))
     (adds_fit nodes log before y cells
-    (subst (λ (z : Entry). AreThose (is_concerned_cell nodes (is_birth z.step) (subject_of log z.step) (key_of log z.step)) cells) (c.last_of-entry.ensures before y q) c.concerned-cells.ensures.those)
+    (subst (λ (z : Entry). AreThose (is_concerned_cell nodes (is_birth z.step) (subject_of log z.step) (key_of log z.step)) cells) (c.last_entry-entry.ensures.value before y q) c.concerned-cells.ensures.those)
     c.args.rows.now (c.requires.rows before y q))
 
 pub trim_each-requires-clause-cells : goal.trim_each-requires-clause-cells
 trim_each-requires-clause-cells c =
-    let step = c.last_of-entry.result.step in
-    those_have_items c.args.tree.now.nodes (is_birth step) (subject_of c.args.log.now step) (key_of c.args.log.now step) c.concerned-cells.result.now c.concerned-cells.ensures.those
+    let step = c.last_entry-entry.result.step in
+    those_have_items c.args.arrival.now.tree.now.nodes (is_birth step) (subject_of c.args.arrival.now.log.now step) (key_of c.args.arrival.now.log.now step) c.concerned-cells.result.now c.concerned-cells.ensures.those
 
 pub trim_each-requires-clause-rows : goal.trim_each-requires-clause-rows
 trim_each-requires-clause-rows c =
@@ -49,7 +49,7 @@ trim_each-requires-clause-rows c =
     ap (map shape_of) c.in_ok-add_each.ensures.ok
     ∙ adds_shape c.args.rows.now c.as_slice.result.now
     ∙ ap (map shape_of) (c.requires.rows hand.past.diary hand.entry hand.is_entry.same_diary)
-    ∙ settled_shape (history_of c.args.tree.now c.args.log.now hand.past.diary)
+    ∙ settled_shape (history_of c.args.arrival.now.tree.now c.args.arrival.now.log.now hand.past.diary)
 
 pub returns-clause-ok : goal.returns-clause-ok
 returns-clause-ok c =
@@ -57,16 +57,16 @@ returns-clause-ok c =
     let before = hand.past.diary in
     let y = hand.entry in
     let q = hand.is_entry.same_diary in
-    let document = c.args.tree.now in
-    let log = c.args.log.now in
-    let book = c.args.book.now in
+    let document = c.args.arrival.now.tree.now in
+    let log = c.args.arrival.now.log.now in
+    let book = c.args.arrival.now.book.now in
     let rows = c.args.rows.now in
     let cells = c.concerned-cells.result.now in
     let past = history_of document log before in
-    let those = subst (λ (z : Entry). AreThose (is_concerned_cell document.nodes (is_birth z.step) (subject_of log z.step) (key_of log z.step)) cells) (c.last_of-entry.ensures before y q) c.concerned-cells.ensures.those in
+    let those = subst (λ (z : Entry). AreThose (is_concerned_cell document.nodes (is_birth z.step) (subject_of log z.step) (key_of log z.step)) cells) (c.last_entry-entry.ensures.value before y q) c.concerned-cells.ensures.those in
     let added = with_adds rows (adds_to past y cells) in
     c.trim_each.ensures log
     ∙ ap (λ rs. with_remainders (history_of document log book) rs cells) (c.in_ok-add_each.ensures.ok ∙ ap (with_adds rows) (c.as_slice.ensures.value ∙ c.in_ok-adds.ensures before y q))
     ∙ subst (λ (diary : List Entry). with_remainders (history_of document log diary) added cells ≡ settled_rows (history_of document log diary)) (sym q)
     (taken_in document.nodes log before y cells those rows (c.requires.rows before y q) c.entries_are_taken_in.ensures c.only_concerned_items_change.ensures
-    (timely past y document c.args.clocks.now log book (at_hand document c.args.clocks.now log book before y hand q)))
+    (timely past y document c.args.arrival.now.clocks.now log book (at_hand document c.args.arrival.now.clocks.now log book before y hand q)))

@@ -1,6 +1,5 @@
 use Rattle.std.proofs.Common.{◌≡◌, sym, ap, ◌∙◌, ◌≤◌, length, arith, ◌+◌}
-use Rattle.std.specs.Prelude.{slice_get}
-use Rattle.smil_instances.specs.Dependents.{ElementDependents, source_in, source_or, source_under, sources_of}
+use Rattle.smil_instances.specs.Dependents.{source_in, source_under, sources_of}
 use Rattle.smil_instances.specs.Keys.{first_keys, goes_to_key, is_for_key, side_keys}
 use Rattle.smil_instances.specs.Spread.{one_if}
 use Rattle.smil_instances.proofs.Keyed.{all_of_side, by_rows, keys_same, keys_then}

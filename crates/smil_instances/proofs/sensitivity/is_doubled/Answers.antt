@@ -9,30 +9,30 @@ use Rattle.smil_instances.proofs.BeginLists.{free_without, list_is, none_more, o
 use Rattle.smil_instances.proofs.sensitivity.is_doubled.Goals as goal
 
 pub attrs-requires : goal.attrs-requires
-attrs-requires c = known_node c.args.tree.now.nodes c.args.who c.requires.element
+attrs-requires c = known_node c.args.tree.now.nodes c.args.own.now.who c.requires.element
 
 pub returns-in_default : goal.returns-in_default
 returns-in_default c = λ e at.
-    let same = attrs_of c.args.tree.now.nodes c.args.who e c.attrs.result.now c.valid.ensures.numbered.distinct at c.attrs.ensures in
-    sym (free_without c.args.tree.now.nodes c.args.who c.args.item.now e (sym (ap (λ (a : Attrs). a.begin) same) ∙ c.in_default.is))
+    let same = attrs_of c.args.tree.now.nodes c.args.own.now.who e c.attrs.result.now c.valid.ensures.numbered.distinct at c.attrs.ensures in
+    sym (free_without c.args.tree.now.nodes c.args.own.now.who c.args.own.now.item.now e (sym (ap (λ (a : Attrs). a.begin) same) ∙ c.in_default.is))
 
 pub loop-place-preserved : goal.loop-place-preserved
 loop-place-preserved c =
-    none_more (is_same_event c.args.tree.now.nodes c.args.who c.args.item.now) c.in-Some.begin c.loop-place.place c.unwrap.result.now
+    none_more (is_same_event c.args.tree.now.nodes c.args.own.now.who c.args.own.now.item.now) c.in-Some.begin c.loop-place.place c.unwrap.result.now
     (sym c.get.ensures ∙ ap option_copied c.unwrap.ensures) c.loop-place.invariant (sym c.is_same_event.ensures ∙ c.if-is_same_event.false)
 
 pub returns-then-is_same_event : goal.returns-then-is_same_event
 returns-then-is_same_event c = λ e at.
-    let test = is_same_event c.args.tree.now.nodes c.args.who c.args.item.now in
-    let same = attrs_of c.args.tree.now.nodes c.args.who e c.attrs.result.now c.valid.ensures.numbered.distinct at c.attrs.ensures in
+    let test = is_same_event c.args.tree.now.nodes c.args.own.now.who c.args.own.now.item.now in
+    let same = attrs_of c.args.tree.now.nodes c.args.own.now.who e c.attrs.result.now c.valid.ensures.numbered.distinct at c.attrs.ensures in
     sym
     (ap (list_any test) (list_is c.args.tree.now.nodes e c.attrs.result.now c.in-Some.begin same c.in-Some.is)
     ∙ one_found test c.in-Some.begin c.loop-place.place c.unwrap.result.now (sym c.get.ensures ∙ ap option_copied c.unwrap.ensures) (sym c.is_same_event.ensures ∙ c.if-is_same_event.true))
 
 pub returns : goal.returns
 returns c = λ e at.
-    let test = is_same_event c.args.tree.now.nodes c.args.who c.args.item.now in
-    let same = attrs_of c.args.tree.now.nodes c.args.who e c.attrs.result.now c.valid.ensures.numbered.distinct at c.attrs.ensures in
+    let test = is_same_event c.args.tree.now.nodes c.args.own.now.who c.args.own.now.item.now in
+    let same = attrs_of c.args.tree.now.nodes c.args.own.now.who e c.attrs.result.now c.valid.ensures.numbered.distinct at c.attrs.ensures in
     sym
     (ap (list_any test) (list_is c.args.tree.now.nodes e c.attrs.result.now c.in-Some.begin same c.in-Some.is)
     ∙ ap (list_any test) (sym (take_all c.loop-place.place c.in-Some.begin (omega (arith, c.loop-place-test.false, c.len-place-end.ensures))))

@@ -4,4 +4,4 @@ use Rattle.smil_instances.proofs.sources.sources_of.Given as goal
 
 -- the sources of the first items
 abbrev pub invariant-loop-place : goal.invariant-loop-place
-invariant-loop-place l = l.sources.items ≡ map (source_of l.tree.nodes l.who) (take l.place l.items)
+invariant-loop-place l = l.sources.items ≡ map (source_of l.element.tree.now.nodes l.element.who) (take l.place l.items)

@@ -1,5 +1,14 @@
-use Rattle.smil_instances.proofs.Targets.{known_node}
+use Rattle.std.proofs.Common.{◌∙◌, ap, Some, w64}
+use Rattle.std.proofs.lemmas.Int.{to_z-of_z}
+use Rattle.smil_instances.specs.Contribution.{started}
+use Rattle.smil_instances.proofs.Births.{started_under, unstarted}
 use Rattle.smil_instances.proofs.starts.started.Goals as goal
 
-pub time_parent-requires : goal.time_parent-requires
-time_parent-requires c = known_node c.args.tree.now.nodes c.args.who c.requires.element
+pub returns-in-None : goal.returns-in-None
+returns-in-None c = λ h p are q. unstarted h c.args.entry c.args.offset p (q ∙ c.in-None.is)
+
+pub returns-in-Some : goal.returns-in-Some
+returns-in-Some c = λ h p are q.
+    started_under h c.args.entry c.args.offset c.started_by.result c.in-Some.parent
+    (λ x is. c.started_by.ensures h x are is ∙ ap (λ o. started h c.args.entry o (Some x)) (to_z-of_z w64 c.args.offset c.ranges.offset))
+    p (q ∙ c.in-Some.is)

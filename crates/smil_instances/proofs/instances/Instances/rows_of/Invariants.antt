@@ -2,7 +2,7 @@ use Rattle.std.proofs.Common.{◌≡◌, take}
 use Rattle.smil_stretch.specs.Clocks.{AreClocksOf}
 use Rattle.smil_instances.specs.SettledTimes.{settled_rows}
 use Rattle.smil_instances.specs.Intake.{history_of}
-use Rattle.smil_instances.proofs.instances.rows_of.Given as goal
+use Rattle.smil_instances.proofs.instances.Instances.rows_of.Given as goal
 
 -- the rows and the clocks of the first entries
 abbrev pub invariant-loop-place : goal.invariant-loop-place

@@ -1,4 +1,4 @@
-use Rattle.std.proofs.Common.{◌≡◌, ◌∙◌, sym, ap, refl, subst, ◌+◌, ◌∷◌, ◌++◌, [], List, Some, take, arith}
+use Rattle.std.proofs.Common.{◌≡◌, ◌∙◌, sym, ap, refl, subst, ◌∷◌, ◌++◌, [], List, Some, take, arith}
 use Rattle.std.specs.Prelude.{is_some, slice_get}
 use Rattle.smil_model.specs.declared.diary.Entry.{Entry}
 use Rattle.smil_stretch.specs.Clocks.{AreClocksOf}
@@ -6,7 +6,7 @@ use Rattle.smil_stretch.proofs.Idle.{entry_there}
 use Rattle.smil_instances.specs.SettledTimes.{settled_rows}
 use Rattle.smil_instances.specs.Intake.{history_of}
 use Rattle.smil_instances.proofs.Rebuilt.{at_hand, lawful_of, next_front, next_is, next_lawful}
-use Rattle.smil_instances.proofs.instances.rows_of.Goals as goal
+use Rattle.smil_instances.proofs.instances.Instances.rows_of.Goals as goal
 
 pub of-requires : goal.of-requires
 of-requires c = record {

@@ -1,0 +1,36 @@
+//! The last entry of a diary, as it is taken in.
+
+ghost use Rattle.std.specs.Prelude.{◌≡◌, List, [], ◌∷◌, ◌++◌};
+ghost use Rattle.smil_model.specs.declared.diary.Entry.{Entry as AnyEntry};
+ghost use Rattle.smil_model.specs.Times.{IsMoment};
+ghost use Rattle.smil_instances.specs.Entry.{HasArrived};
+
+use super::before::last_entry;
+use super::dependents::Dependents;
+use smil_diary::Book;
+use smil_model::{Entry, Log};
+use smil_stretch::Clocks;
+use smil_tree::Tree;
+
+/// The last entry of a diary, as it is taken in: the document, what its items depend on, the clocks
+/// before the entry, the log, and the book with it.
+#[derive(Clone, Copy)]
+pub struct Arrival<'a> {
+    pub tree: &'a Tree,
+    pub dependents: &'a Dependents,
+    pub clocks: &'a Clocks,
+    pub log: &'a Log,
+    pub book: &'a Book,
+}
+
+impl Arrival<'_> {
+    /// The entry. It takes no memory.
+    pub fn last_entry(&self) -> Entry
+        requires { HasArrived self.now }
+        ensures value { (before : List AnyEntry) (y : AnyEntry)
+            → self.now.book.now ≡ before ++ y ∷ [] → result ≡ y }
+        ensures moment { IsMoment result.moment }
+    {
+        last_entry(self.book)
+    }
+}
