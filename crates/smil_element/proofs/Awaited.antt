@@ -20,7 +20,7 @@ use Rattle.smil_instances.specs.SettledTimes.{row_of}
 use Rattle.smil_instances.proofs.Begins.{are_merged}
 use Rattle.smil_instances.proofs.Lists.{take_next}
 use Rattle.smil_interval.proofs.Sorting.{rising_rises, rising_times_rise}
-use Rattle.smil_past.specs.declared.syncs.sync.Syncbase.{Syncbase}
+use Rattle.smil_instances.specs.declared.syncbase.Syncbase.{Syncbase}
 use Rattle.smil_past.specs.Syncs.{expected_by, is_empty, syncs_of}
 use Rattle.smil_past.proofs.Law.{syncs_tell}
 use Rattle.smil_element.specs.Pouring.{with_times}

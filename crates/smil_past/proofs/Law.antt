@@ -14,7 +14,7 @@ use Rattle.smil_model.specs.document.Dependencies.{leads_to}
 use Rattle.smil_model.specs.diary.Diary.{History}
 use Rattle.smil_model.specs.interval.Instances.{expected_times}
 use Rattle.smil_instances.specs.ExpectedTimes.{expected_before, expected_named, expected_of}
-use Rattle.smil_past.specs.declared.syncs.sync.Syncbase.{Syncbase}
+use Rattle.smil_instances.specs.declared.syncbase.Syncbase.{Syncbase}
 use Rattle.smil_past.specs.Syncs.{SyncsTellExpected, expected_by, from_end, from_named, sync_of}
 
 module _ (h : History) (intervals : ℕ → Option Interval) (now : ℤ) (e : Node) where

@@ -22,7 +22,7 @@ use Rattle.smil_graph.specs.Graph.{is_looped_item, looped_at, looped_of}
 use Rattle.smil_instances.specs.Dependents.{DocumentDependents, AreDependentsOf, source_in}
 use Rattle.smil_instances.specs.Spread.{IsIndex}
 use Rattle.smil_instances.proofs.Lists.{take_next}
-use Rattle.smil_past.specs.declared.syncs.sync.Syncbase.{Syncbase}
+use Rattle.smil_instances.specs.declared.syncbase.Syncbase.{Syncbase}
 use Rattle.smil_past.specs.Syncs.{IsListOf, SyncRow, all_syncs, from_end, from_named, listed, serials_in, sync_by, sync_from, sync_of, sync_row, syncs_of, syncs_on}
 
 -- ---- one item

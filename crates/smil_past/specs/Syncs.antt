@@ -18,7 +18,7 @@ use Rattle.smil_model.specs.interval.Instances.{expected_times}
 use Rattle.smil_instances.specs.ExpectedTimes.{expected_of}
 use Rattle.smil_instances.specs.declared.source.Source.{Source}
 use Rattle.smil_instances.specs.declared.source.Source.TheVariants as source
-use Rattle.smil_past.specs.declared.syncs.sync.Syncbase.{Syncbase}
+use Rattle.smil_instances.specs.declared.syncbase.Syncbase.{Syncbase}
 
 abbrev pub from_end : ℤ → Option Node → Option Syncbase
 from_end offset None = None

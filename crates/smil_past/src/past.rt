@@ -124,13 +124,12 @@ impl Past {
         ensures full { IfErr result (λ fault. fault ≡ book_fault.DiaryFull → length self.old.diary
             ≡ limits.DIARY_ENTRIES) }
     {
-        note(
-            &mut self.second,
-            &self.tree,
-            &self.log,
-            &self.chronicle,
-            self.mark,
-        )?;
+        let first = First {
+            tree: &self.tree,
+            log: &self.log,
+            chronicle: &self.chronicle,
+        };
+        note(&mut self.second, &first, self.mark)?;
         self.chronicle.push(&self.tree, &self.log, entry)?;
         Ok(())
     }
@@ -298,45 +297,51 @@ fn push(past: &mut Past, entry: Entry) -> Result<(), AllocError>
     }
 }
 
+// The first chronicle, with the document and the log of which it tells.
+#[derive(Clone, Copy)]
+struct First<'a> {
+    tree: &'a Tree,
+    log: &'a Log,
+    chronicle: &'a Chronicle,
+}
+
 // Where a mark stands at the end of the diary, brings the second chronicle up to it.
 fn note(
     second: &mut Option<Chronicle>,
-    tree: &Tree,
-    log: &Log,
-    first: &Chronicle,
+    first: &First<'_>,
     mark: Option<(usize, usize)>,
 ) -> Result<(), AllocError>
-    requires tells { Tells tree.now log.now first.now }
-    requires backs_up { BacksUp tree.now log.now first.now.book second.old mark }
-    ensures backs_up { BacksUp tree.now log.now first.now.book second.new mark }
+    requires tells { Tells first.now.tree.now first.now.log.now first.now.chronicle.now }
+    requires backs_up { BacksUp first.now.tree.now first.now.log.now first.now.chronicle.now.book
+        second.old mark }
+    ensures backs_up { BacksUp first.now.tree.now first.now.log.now first.now.chronicle.now.book
+        second.new mark }
     ensures ok { OnOk result (EndsAtMark second.new mark) }
 {
     let Some((_, len)) = mark else {
         return Ok(());
     };
-    if len < first.book.len() {
+    if len < first.chronicle.book.len() {
         return Ok(());
     }
-    bring_up(second, tree, log, first)
+    bring_up(second, first)
 }
 
 // Gives the second chronicle the entries of the first that it lacks; where there is none, copies
 // the first.
-fn bring_up(
-    second: &mut Option<Chronicle>,
-    tree: &Tree,
-    log: &Log,
-    first: &Chronicle,
-) -> Result<(), AllocError>
-    requires tells { Tells tree.now log.now first.now }
-    requires lags { LagsIfAny tree.now log.now first.now.book second.old }
-    ensures lags { LagsIfAny tree.now log.now first.now.book second.new }
-    ensures ok { OnOk result (reach second.new ≡ Some (length first.now.book)) }
+fn bring_up(second: &mut Option<Chronicle>, first: &First<'_>) -> Result<(), AllocError>
+    requires tells { Tells first.now.tree.now first.now.log.now first.now.chronicle.now }
+    requires lags { LagsIfAny first.now.tree.now first.now.log.now first.now.chronicle.now.book
+        second.old }
+    ensures lags { LagsIfAny first.now.tree.now first.now.log.now first.now.chronicle.now.book
+        second.new }
+    ensures ok { OnOk result (reach second.new ≡ Some (length first.now.chronicle.now.book)) }
 {
+    let book = &first.chronicle.book;
     match second {
-        Some(lagging) => lagging.catch_up(tree, log, &first.book, first.book.len()),
+        Some(lagging) => lagging.catch_up(first.tree, first.log, book, book.len()),
         None => {
-            *second = Some(first.copy()?);
+            *second = Some(first.chronicle.copy()?);
             Ok(())
         }
     }

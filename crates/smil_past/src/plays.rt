@@ -18,7 +18,7 @@ mod row;
 
 pub use played::{PastInterval, Played};
 pub use row::subject;
-use row::{child, own};
+use row::{OwnEntry, child, own_row};
 use smil_model::{Duplicate, Entry, Kind, Log, Step, Time};
 use smil_stretch::Clocks;
 use smil_tree::Tree;
@@ -148,7 +148,13 @@ impl Plays {
         let Some(row) = self.row(who) else {
             return;
         };
-        self.put(who, own(clocks, log, entry, who, row));
+        let own = OwnEntry {
+            who,
+            entry,
+            clocks,
+            log,
+        };
+        self.put(who, own_row(&own, row));
     }
 
     /// Takes in what a step makes of the time children of its element.

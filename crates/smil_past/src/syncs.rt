@@ -10,19 +10,18 @@ ghost use Rattle.smil_past.specs.Syncs.{all_syncs, side_in, sync_row, syncs_of};
 pub mod laws;
 mod lists;
 pub mod row;
-pub mod sync;
 
-use lists::{Reader, begin_syncs, end_syncs};
+use lists::Reader;
 use row::Row;
 use smil_graph::Graph;
 use smil_instances::Dependents;
+pub use smil_instances::Syncbase;
 use smil_instances::elements::{elements, places_of};
 use smil_model::Edge;
 use smil_tree::Tree;
 use std::alloc::{AllocError, Global};
 use std::collections::HashMap;
 use std::marker::Model;
-pub use sync::Syncbase;
 
 /// What the items of each element of a document wait for, in document order.
 pub struct Syncs {
@@ -127,7 +126,7 @@ fn row_of(reader: &Reader, tree: &Tree, place: usize, who: u32) -> Result<Row, A
     let attrs = tree.attrs(who);
     Ok(Row {
         serial: who,
-        begins: begin_syncs(reader, place, who, &attrs.begin)?,
-        ends: end_syncs(reader, place, who, &attrs.end)?,
+        begins: reader.begin_syncs(place, who, &attrs.begin)?,
+        ends: reader.end_syncs(place, who, &attrs.end)?,
     })
 }

@@ -42,36 +42,41 @@ fn happened_to(what: &Happening) -> Option<u32>
     }
 }
 
+/// An entry on the element with the serial `who`, with the clocks before it and the log.
+#[derive(Clone, Copy)]
+pub struct OwnEntry<'a> {
+    pub who: u32,
+    pub entry: Entry,
+    pub clocks: &'a Clocks,
+    pub log: &'a Log,
+}
+
 /// What an entry makes of the row of the element that it is on. It takes no memory.
-pub fn own(clocks: &Clocks, log: &Log, entry: Entry, who: u32, row: Played) -> Played
-    requires moment { IsMoment entry.moment }
-    requires near { HasNear entry.step }
-    requires on { subject_of log.now entry.step ≡ Some who }
-    ensures { (h : History) → AreClocksAt h clocks.now entry.moment → h.log ≡ log.now → result
-        ≡ own_after h entry who row }
+pub fn own_row(own: &OwnEntry<'_>, row: Played) -> Played
+    requires moment { IsMoment own.now.entry.moment }
+    requires near { HasNear own.now.entry.step }
+    requires on { subject_of own.now.log.now own.now.entry.step ≡ Some own.now.who }
+    ensures { (h : History) → AreClocksAt h own.now.clocks.now own.now.entry.moment
+        → h.log ≡ own.now.log.now → result ≡ own_after h own.now.entry own.now.who row }
 {
-    match entry.step {
-        Step::Began { begin, .. } => began(clocks, entry.moment, who, begin, row),
+    match own.entry.step {
+        Step::Began { begin, .. } => began(own, begin, row),
         Step::Repeated { start, .. } => Played { start, ..row },
-        Step::Ended { end, .. } => finished(clocks, entry.moment, who, end, false, row),
-        Step::Cut { .. } => finished(
-            clocks,
-            entry.moment,
-            who,
-            clocks.outer(who, entry.moment),
-            true,
-            row,
-        ),
+        Step::Ended { end, .. } => finished(own, end, false, row),
+        Step::Cut { .. } => {
+            let finish = own.clocks.outer(own.who, own.entry.moment);
+            finished(own, finish, true, row)
+        }
         Step::Paused { .. } => row,
         Step::Resumed { .. } => row,
-        Step::Deferred { begin, .. } => put_off(clocks, entry.moment, who, begin, row),
+        Step::Deferred { begin, .. } => put_off(own, begin, row),
         Step::Passed { begin, .. } => Played {
             shown_deferred: None,
             passed: greater(row.passed, begin),
             ..row
         },
         Step::Logged { place } => Played {
-            length: told(log, place, who, row.length),
+            length: told(own.log, place, own.who, row.length),
             ..row
         },
     }
@@ -98,16 +103,22 @@ pub fn child(birth: bool, row: Played) -> Played
 }
 
 // What a begin makes of a row.
-fn began(clocks: &Clocks, moment: i64, who: u32, begin: i64, row: Played) -> Played
-    requires moment { IsMoment moment }
+fn began(own: &OwnEntry<'_>, begin: i64, row: Played) -> Played
+    requires moment { IsMoment own.now.entry.moment }
     requires near { IsNear begin }
-    ensures { (h : History) → AreClocksAt h clocks.now moment
-        → result ≡ began_row h who moment begin row }
+    ensures { (h : History) → AreClocksAt h own.now.clocks.now own.now.entry.moment
+        → result ≡ began_row h own.now.who own.now.entry.moment begin row }
 {
-    let start = start_of(clocks, who, begin, moment);
+    let OwnEntry {
+        who,
+        entry,
+        clocks,
+        ..
+    } = *own;
+    let start = start_of(clocks, who, begin, entry.moment);
     Played {
         begun: Some(begin),
-        shown_begun: Some(clocks.to_document(who, begin, moment)),
+        shown_begun: Some(clocks.to_document(who, begin, entry.moment)),
         first: start,
         start,
         shown_deferred: None,
@@ -126,21 +137,20 @@ fn start_of(clocks: &Clocks, who: u32, begin: i64, moment: i64) -> i64
 }
 
 // What a finish with a value makes of a row.
-fn finished(
-    clocks: &Clocks,
-    moment: i64,
-    who: u32,
-    finish: i64,
-    was_cut: bool,
-    row: Played,
-) -> Played
-    requires moment { IsMoment moment }
+fn finished(own: &OwnEntry<'_>, finish: i64, was_cut: bool, row: Played) -> Played
+    requires moment { IsMoment own.now.entry.moment }
     requires near { IsNear finish }
-    ensures { (h : History) → AreClocksAt h clocks.now moment
-        → result ≡ finished_row h who moment finish was_cut row }
+    ensures { (h : History) → AreClocksAt h own.now.clocks.now own.now.entry.moment
+        → result ≡ finished_row h own.now.who own.now.entry.moment finish was_cut row }
 {
-    let shown_finish = clocks.to_document(who, finish, moment);
-    let interval = closed(row.begun, row.shown_begun, finish, shown_finish, was_cut);
+    let OwnEntry {
+        who,
+        entry,
+        clocks,
+        ..
+    } = *own;
+    let shown_finish = clocks.to_document(who, finish, entry.moment);
+    let interval = closed(&row, finish, shown_finish, was_cut);
     Played {
         begun: None,
         shown_begun: None,
@@ -152,30 +162,30 @@ fn finished(
 }
 
 // What a begin that is put off makes of a row.
-fn put_off(clocks: &Clocks, moment: i64, who: u32, begin: i64, row: Played) -> Played
-    requires moment { IsMoment moment }
+fn put_off(own: &OwnEntry<'_>, begin: i64, row: Played) -> Played
+    requires moment { IsMoment own.now.entry.moment }
     requires near { IsNear begin }
-    ensures { (h : History) → AreClocksAt h clocks.now moment
-        → result ≡ deferred_row h who moment begin row }
+    ensures { (h : History) → AreClocksAt h own.now.clocks.now own.now.entry.moment
+        → result ≡ deferred_row h own.now.who own.now.entry.moment begin row }
 {
+    let OwnEntry {
+        who,
+        entry,
+        clocks,
+        ..
+    } = *own;
     Played {
-        shown_deferred: Some(clocks.to_document(who, begin, moment)),
+        shown_deferred: Some(clocks.to_document(who, begin, entry.moment)),
         ..row
     }
 }
 
-// The interval of a play that finishes; None where there is no play.
-fn closed(
-    begun: Option<i64>,
-    shown_begun: Option<i64>,
-    finish: i64,
-    shown_finish: i64,
-    was_cut: bool,
-) -> Option<PastInterval>
+// The interval of the play of a row, which finishes; None where there is no play.
+fn closed(row: &Played, finish: i64, shown_finish: i64, was_cut: bool) -> Option<PastInterval>
     ensures { (h : History) (s : ℕ) (m : ℤ) → shown_finish ≡ document_time h s finish m → result
-        ≡ closed h s m finish was_cut begun shown_begun }
+        ≡ closed h s m finish was_cut row.now.begun row.now.shown_begun }
 {
-    match (begun, shown_begun) {
+    match (row.begun, row.shown_begun) {
         (Some(begin), Some(shown_begin)) => Some(PastInterval {
             begin,
             finish,

@@ -7,10 +7,9 @@ ghost use Rattle.smil_model.specs.document.Document.{elements, node_at};
 ghost use Rattle.smil_instances.specs.Dependents.{AreDependentsOf};
 ghost use Rattle.smil_past.specs.Syncs.{listed, offset_of, sync_by, syncs_of, IsListOf};
 
-use super::sync::Syncbase;
 use smil_graph::Graph;
 use smil_instance_rows::Cell;
-use smil_instances::{Dependents, Source};
+use smil_instances::{Dependents, Source, Syncbase};
 use smil_model::{Edge, Item, Items};
 use std::alloc::{AllocError, Global};
 
@@ -22,90 +21,92 @@ pub struct Reader<'a> {
     pub dependents: &'a Dependents,
 }
 
-/// What the items of the begin list of the element at a place wait for, whose `begin` this is.
-pub fn begin_syncs(
-    reader: &Reader,
-    place: usize,
-    who: u32,
-    begin: &Option<Items>,
-) -> Result<Vec<Syncbase>, AllocError>
-    requires { AreDependentsOf reader.now.graph.now.nodes reader.now.dependents.now }
-    ensures { IfOk result (λ syncs. (e : AnyNode)
-        → slice_get (elements reader.now.graph.now.nodes) place ≡ Some e
-        → node_at (elements reader.now.graph.now.nodes) who ≡ Some e → e.attrs.begin ≡ begin.now
-        → syncs.items ≡ syncs_of reader.now.graph.now.nodes edge.Begin e) }
-{
-    match begin {
-        Some(items) => list_syncs(reader, place, who, Edge::Begin, items),
-        None => default_syncs(reader, place),
+impl Reader<'_> {
+    /// What the items of the begin list of the element at a place wait for, whose `begin` this is.
+    pub fn begin_syncs(
+        &self,
+        place: usize,
+        who: u32,
+        begin: &Option<Items>,
+    ) -> Result<Vec<Syncbase>, AllocError>
+        requires { AreDependentsOf self.now.graph.now.nodes self.now.dependents.now }
+        ensures { IfOk result (λ syncs. (e : AnyNode)
+            → slice_get (elements self.now.graph.now.nodes) place ≡ Some e
+            → node_at (elements self.now.graph.now.nodes) who ≡ Some e → e.attrs.begin ≡ begin.now
+            → syncs.items ≡ syncs_of self.now.graph.now.nodes edge.Begin e) }
+    {
+        match begin {
+            Some(items) => self.list_syncs(place, who, Edge::Begin, items),
+            None => self.default_syncs(place),
+        }
     }
-}
 
-/// What the items of the end list of the element at a place wait for, whose `end` this is.
-pub fn end_syncs(
-    reader: &Reader,
-    place: usize,
-    who: u32,
-    end: &Option<Items>,
-) -> Result<Vec<Syncbase>, AllocError>
-    requires { AreDependentsOf reader.now.graph.now.nodes reader.now.dependents.now }
-    ensures { IfOk result (λ syncs. (e : AnyNode)
-        → slice_get (elements reader.now.graph.now.nodes) place ≡ Some e
-        → node_at (elements reader.now.graph.now.nodes) who ≡ Some e → e.attrs.«end» ≡ end.now
-        → syncs.items ≡ syncs_of reader.now.graph.now.nodes edge.End e) }
-{
-    match end {
-        Some(items) => list_syncs(reader, place, who, Edge::End, items),
-        None => Ok(Vec::new(reader.alloc)),
+    /// What the items of the end list of the element at a place wait for, whose `end` this is.
+    pub fn end_syncs(
+        &self,
+        place: usize,
+        who: u32,
+        end: &Option<Items>,
+    ) -> Result<Vec<Syncbase>, AllocError>
+        requires { AreDependentsOf self.now.graph.now.nodes self.now.dependents.now }
+        ensures { IfOk result (λ syncs. (e : AnyNode)
+            → slice_get (elements self.now.graph.now.nodes) place ≡ Some e
+            → node_at (elements self.now.graph.now.nodes) who ≡ Some e → e.attrs.«end» ≡ end.now
+            → syncs.items ≡ syncs_of self.now.graph.now.nodes edge.End e) }
+    {
+        match end {
+            Some(items) => self.list_syncs(place, who, Edge::End, items),
+            None => Ok(Vec::new(self.alloc)),
+        }
     }
-}
 
-// What the items of a list of the element at a place wait for.
-fn list_syncs(
-    reader: &Reader,
-    place: usize,
-    who: u32,
-    side: Edge,
-    items: &Items,
-) -> Result<Vec<Syncbase>, AllocError>
-    requires { AreDependentsOf reader.now.graph.now.nodes reader.now.dependents.now }
-    ensures { IfOk result (λ syncs. (e : AnyNode)
-        → IsListOf reader.now.graph.now.nodes place who side e items.now → syncs.items
-        ≡ syncs_of reader.now.graph.now.nodes side e) }
-{
-    let mut syncs = Vec::new(reader.alloc);
-    for item in 0..items.len() {
-        let source = reader.dependents.source(Cell {
+    // What the items of a list of the element at a place wait for.
+    fn list_syncs(
+        &self,
+        place: usize,
+        who: u32,
+        side: Edge,
+        items: &Items,
+    ) -> Result<Vec<Syncbase>, AllocError>
+        requires { AreDependentsOf self.now.graph.now.nodes self.now.dependents.now }
+        ensures { IfOk result (λ syncs. (e : AnyNode)
+            → IsListOf self.now.graph.now.nodes place who side e items.now → syncs.items
+            ≡ syncs_of self.now.graph.now.nodes side e) }
+    {
+        let mut syncs = Vec::new(self.alloc);
+        for item in 0..items.len() {
+            let source = self.dependents.source(Cell {
+                row: place,
+                side,
+                item,
+            });
+            let looped = self.graph.looped(who, side, item);
+            let sync = sync_by(looped, items.get(item).unwrap(), source);
+            push_some(&mut syncs, sync)?;
+        }
+        Ok(syncs)
+    }
+
+    // What the item waits for that stands for a begin list where there is none: an offset of 0, or
+    // `indefinite` in a child of an excl, whose source is nothing.
+    fn default_syncs(&self, place: usize) -> Result<Vec<Syncbase>, AllocError>
+        requires { AreDependentsOf self.now.graph.now.nodes self.now.dependents.now }
+        ensures { IfOk result (λ syncs. (e : AnyNode)
+            → slice_get (elements self.now.graph.now.nodes) place ≡ Some e → e.attrs.begin ≡ None
+            → syncs.items ≡ syncs_of self.now.graph.now.nodes edge.Begin e) }
+    {
+        let source = self.dependents.source(Cell {
             row: place,
-            side,
-            item,
+            side: Edge::Begin,
+            item: 0,
         });
-        let looped = reader.graph.looped(who, side, item);
-        let sync = sync_by(looped, items.get(item).unwrap(), source);
-        push_some(&mut syncs, sync)?;
+        let mut syncs = Vec::new(self.alloc);
+        push_some(
+            &mut syncs,
+            sync_by(false, &Item::Offset { offset: 0 }, source),
+        )?;
+        Ok(syncs)
     }
-    Ok(syncs)
-}
-
-// What the item waits for that stands for a begin list where there is none: an offset of 0, or
-// `indefinite` in a child of an excl, whose source is nothing.
-fn default_syncs(reader: &Reader, place: usize) -> Result<Vec<Syncbase>, AllocError>
-    requires { AreDependentsOf reader.now.graph.now.nodes reader.now.dependents.now }
-    ensures { IfOk result (λ syncs. (e : AnyNode)
-        → slice_get (elements reader.now.graph.now.nodes) place ≡ Some e → e.attrs.begin ≡ None
-        → syncs.items ≡ syncs_of reader.now.graph.now.nodes edge.Begin e) }
-{
-    let source = reader.dependents.source(Cell {
-        row: place,
-        side: Edge::Begin,
-        item: 0,
-    });
-    let mut syncs = Vec::new(reader.alloc);
-    push_some(
-        &mut syncs,
-        sync_by(false, &Item::Offset { offset: 0 }, source),
-    )?;
-    Ok(syncs)
 }
 
 // Appends what there is.

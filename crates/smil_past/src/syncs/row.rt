@@ -3,7 +3,7 @@
 ghost use Rattle.std.specs.Prelude.{◌≡◌};
 ghost use Rattle.smil_past.specs.Syncs.{syncs_on};
 
-use super::sync::Syncbase;
+use smil_instances::Syncbase;
 use smil_model::Edge;
 use std::marker::Model;
 

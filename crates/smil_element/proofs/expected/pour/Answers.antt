@@ -3,7 +3,7 @@ use Rattle.std.specs.Prelude.{flat_map, get_or, option_to_list, pos}
 use Rattle.std.proofs.lemmas.Option.{slice_get-get_or}
 use Rattle.std.proofs.lemmas.List.{take_all}
 use Rattle.smil_model.specs.declared.document.Edge.TheVariants.{Begin}
-use Rattle.smil_past.specs.declared.syncs.sync.Syncbase.{Syncbase}
+use Rattle.smil_instances.specs.declared.syncbase.Syncbase.{Syncbase}
 use Rattle.smil_past.specs.Syncs.{expected_by}
 use Rattle.smil_past.specs.Past.{history_of}
 use Rattle.smil_element.specs.Pouring.{with_times}

@@ -12,37 +12,37 @@ catch_up-requires-clause-within c = omega (arith, c.len.ensures.value)
 
 pub catch_up-requires-clause-possible : goal.catch_up-requires-clause-possible
 catch_up-requires-clause-possible c =
-    let book = c.args.first.now.book in
+    let book = c.args.first.now.chronicle.now.book in
     let whole : take c.len.result book ≡ book = take_all c.len.result book (omega (arith, c.len.ensures.value)) in
-    subst (IsPossible c.args.tree.now c.args.log.now) (sym whole) c.requires.tells.possible
+    subst (IsPossible c.args.first.now.tree.now c.args.first.now.log.now) (sym whole) c.requires.tells.possible
 
 pub catch_up-requires-clause-lags : goal.catch_up-requires-clause-lags
 catch_up-requires-clause-lags c =
-    let book = c.args.first.now.book in
+    let book = c.args.first.now.chronicle.now.book in
     let whole : take c.len.result book ≡ book = take_all c.len.result book (omega (arith, c.len.ensures.value)) in
-    subst (λ ds. Lags c.args.tree.now c.args.log.now ds c.in-Some.lagging) (sym whole) (c.requires.lags c.in-Some.lagging c.in-Some.is)
+    subst (λ ds. Lags c.args.first.now.tree.now c.args.first.now.log.now ds c.in-Some.lagging) (sym whole) (c.requires.lags c.in-Some.lagging c.in-Some.is)
 
 pub returns-in_err-copy-in-None-clause-lags : goal.returns-in_err-copy-in-None-clause-lags
 returns-in_err-copy-in-None-clause-lags c = c.requires.lags
 
 pub returns-in-Some-clause-lags : goal.returns-in-Some-clause-lags
 returns-in-Some-clause-lags c =
-    let book = c.args.first.now.book in
+    let book = c.args.first.now.chronicle.now.book in
     let whole : take c.len.result book ≡ book = take_all c.len.result book (omega (arith, c.len.ensures.value)) in
     λ k is.
     let same : c.catch_up.new.self ≡ k = cc in
-    subst (Lags c.args.tree.now c.args.log.now book) same (subst (λ ds. Lags c.args.tree.now c.args.log.now ds c.catch_up.new.self) whole c.catch_up.ensures.lags)
+    subst (Lags c.args.first.now.tree.now c.args.first.now.log.now book) same (subst (λ ds. Lags c.args.first.now.tree.now c.args.first.now.log.now ds c.catch_up.new.self) whole c.catch_up.ensures.lags)
 
 pub returns-in-Some-clause-ok : goal.returns-in-Some-clause-ok
 returns-in-Some-clause-ok c =
-    let book = c.args.first.now.book in
+    let book = c.args.first.now.chronicle.now.book in
     let whole : take c.len.result book ≡ book = take_all c.len.result book (omega (arith, c.len.ensures.value)) in
     on_ok_weaker c.catch_up.result (λ is. ap (λ ds. Some (length ds)) (is ∙ whole)) c.catch_up.ensures.ok
 
 pub returns-in_ok-copy-in-None-clause-lags : goal.returns-in_ok-copy-in-None-clause-lags
 returns-in_ok-copy-in-None-clause-lags c = λ k is.
     let same : c.in_ok-copy-in-None.field-0 ≡ k = cc in
-    subst (Lags c.args.tree.now c.args.log.now c.args.first.now.book) (sym c.in_ok-copy-in-None.ensures ∙ same) (lags_itself c.args.tree.now c.args.log.now c.args.first.now c.requires.tells)
+    subst (Lags c.args.first.now.tree.now c.args.first.now.log.now c.args.first.now.chronicle.now.book) (sym c.in_ok-copy-in-None.ensures ∙ same) (lags_itself c.args.first.now.tree.now c.args.first.now.log.now c.args.first.now.chronicle.now c.requires.tells)
 
 pub returns-in_ok-copy-in-None-clause-ok : goal.returns-in_ok-copy-in-None-clause-ok
 returns-in_ok-copy-in-None-clause-ok c =

@@ -2,8 +2,8 @@ use Rattle.std.proofs.Common.{◌≡◌, take}
 use Rattle.std.specs.Prelude.{filter_map}
 use Rattle.smil_model.specs.declared.document.Node.{Node}
 use Rattle.smil_past.specs.Syncs.{IsListOf, sync_of}
-use Rattle.smil_past.proofs.syncs.lists.list_syncs.Given as goal
+use Rattle.smil_past.proofs.syncs.lists.Reader.list_syncs.Given as goal
 
 -- what the first items wait for
 abbrev pub invariant-loop-item : goal.invariant-loop-item
-invariant-loop-item l = (e : Node) → IsListOf l.reader.graph.now.nodes l.place l.who l.side e l.items → l.syncs.items ≡ filter_map (sync_of l.reader.graph.now.nodes e.serial) (take l.item l.items)
+invariant-loop-item l = (e : Node) → IsListOf l.self.graph.now.nodes l.place l.who l.side e l.items → l.syncs.items ≡ filter_map (sync_of l.self.graph.now.nodes e.serial) (take l.item l.items)
