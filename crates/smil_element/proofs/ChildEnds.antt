@@ -22,10 +22,9 @@ use Rattle.smil_model.specs.interval.Durations.{container_duration}
 use Rattle.smil_past.specs.declared.plays.played.PastInterval.{PastInterval}
 use Rattle.smil_past.specs.declared.plays.played.Played.{Played}
 use Rattle.smil_past.specs.Played.{past_interval, played}
+use Rattle.smil_element.specs.declared.endings.Ending.{Ending}
 use Rattle.smil_element.specs.Element.{last_alone}
-
-abbrev pub coming_of : (ℕ → Option Interval) → ℕ → Option Time
-coming_of intervals s = option_map (λ (i : Interval). i.«end») (intervals s)
+use Rattle.smil_element.specs.Endings.{ending_by}
 
 abbrev pub finish_in : Option PastInterval → Option Time
 finish_in past = option_map (λ (f : PastInterval). At f.finish) past
@@ -33,32 +32,29 @@ finish_in past = option_map (λ (f : PastInterval). At f.finish) past
 abbrev pub unless_deferred : Bool → Option Time → Option Time
 unless_deferred deferred last = if deferred then Some Unresolved else last
 
-module _ (h : History) (intervals : ℕ → Option Interval) (e n : Node) (child : ℕ) (serial : n.serial ≡ child) (kept : Played) (kept_is : kept ≡ played h child) where
+module _ (h : History) (child : ℕ) (kept : Played) (kept_is : kept ≡ played h child) where
   finishes : (o : Option Finished) → finish_in (option_map (past_interval h child) o) ≡ option_map finish_time o
   finishes None = refl
   finishes (Some f) = refl
 
-  first_told : (coming first : Option Time) → coming ≡ coming_of intervals child → first ≡ option_or (finish_in kept.first_finished) coming → first ≡ (child_end h intervals e n).first
-  first_told coming first coming_is first_is =
-      first_is
-      ∙ (λ i. option_or (finish_in (kept_is i).first_finished) (coming_is i))
-      ∙ ap (λ o. option_or o (coming_of intervals child)) (finishes (first_of (plays h child).finished))
-      ∙ ap (λ s. option_or (option_map finish_time (first_of (plays h s).finished)) (coming_of intervals s)) (sym serial)
-
-  latest_told : (coming latest : Option Time) (deferred : Bool) → coming ≡ coming_of intervals child → deferred ≡ is_deferred h child → latest ≡ option_or coming (unless_deferred deferred (finish_in kept.last_finished)) → latest ≡ (child_end h intervals e n).latest
-  latest_told coming latest deferred coming_is deferred_is latest_is =
-      latest_is
-      ∙ (λ i. option_or (coming_is i) (unless_deferred (deferred_is i) (finish_in (kept_is i).last_finished)))
-      ∙ ap (λ o. option_or (coming_of intervals child) (unless_deferred (is_deferred h child) o)) (finishes (last_or None (plays h child).finished))
-      ∙ ap (λ s. option_or (coming_of intervals s) (unless_deferred (is_deferred h s) (option_map finish_time (last_or None (plays h s).finished)))) (sym serial)
-
-  pub child_told : (named : Bool) (coming first latest : Option Time) (deferred : Bool) → named ≡ is_named_child e.attrs.endsync n → coming ≡ coming_of intervals child → deferred ≡ is_deferred h child → first ≡ option_or (finish_in kept.first_finished) coming → latest ≡ option_or coming (unless_deferred deferred (finish_in kept.last_finished)) → record { named = named; first = first; latest = latest } ≡ child_end h intervals e n
-  child_told named coming first latest deferred named_is coming_is deferred_is first_is latest_is =
+  pub ending_told : (interval : Option Interval) (coming first latest : Option Time) (deferred : Bool) → coming ≡ option_map (λ (i : Interval). i.«end») interval → deferred ≡ is_deferred h child → first ≡ option_or (finish_in kept.first_finished) coming → latest ≡ option_or coming (unless_deferred deferred (finish_in kept.last_finished)) → record { first = first; latest = latest } ≡ ending_by h interval child
+  ending_told interval coming first latest deferred coming_is deferred_is first_is latest_is =
       λ i. record {
-        named = named_is i;
-        first = first_told coming first coming_is first_is i;
-        latest = latest_told coming latest deferred coming_is deferred_is latest_is i;
+        first =
+            (first_is
+            ∙ (λ j. option_or (finish_in (kept_is j).first_finished) (coming_is j))
+            ∙ ap (λ o. option_or o (option_map (λ (x : Interval). x.«end») interval)) (finishes (first_of (plays h child).finished))) i;
+        latest =
+            (latest_is
+            ∙ (λ j. option_or (coming_is j) (unless_deferred (deferred_is j) (finish_in (kept_is j).last_finished)))
+            ∙ ap (λ o. option_or (option_map (λ (x : Interval). x.«end») interval) (unless_deferred (is_deferred h child) o)) (finishes (last_or None (plays h child).finished))) i;
       }
+
+-- what a container takes of a time child is its ending, and whether it is named
+pub child_told : (h : History) (intervals : ℕ → Option Interval) (e n : Node) (child : ℕ) (named : Bool) (ending : Ending) → n.serial ≡ child → named ≡ is_named_child e.attrs.endsync n → ending ≡ ending_by h (intervals child) child → record { named = named; first = ending.first; latest = ending.latest } ≡ child_end h intervals e n
+child_told h intervals e n child named ending serial named_is ending_is =
+    (λ i. record { named = named_is i; first = (ending_is i).first; latest = (ending_is i).latest })
+    ∙ ap (λ s. record { named = is_named_child e.attrs.endsync n; first = (ending_by h (intervals s) s).first; latest = (ending_by h (intervals s) s).latest }) (sym serial)
 
 -- ---- implicit durations
 
@@ -72,12 +68,8 @@ module _ (h : History) (intervals : ℕ → Option Interval) (e : Node) where
   pub idle_container : is_active h.diary e.serial ≡ false → Unresolved ≡ container_implicit h intervals e
   idle_container idle = ap container_by (sym idle)
 
-  -- the duration by ends from which it follows
-  pub active_container : (kind : Kind) (endsync : Endsync) (start : ℤ) (ends told : List ChildEnd) → is_active h.diary e.serial ≡ true → kind ≡ e.kind → endsync ≡ endsync_of e.attrs → start ≡ iteration_start h e.serial → told ≡ ends → ((sync : Endsync) (from : ℤ) → container_duration e.kind sync from ends ≡ container_duration e.kind sync from (map (child_end h intervals e) (time_children h.nodes e.serial))) → container_duration kind endsync start told ≡ container_implicit h intervals e
-  active_container kind endsync start ends told active kind_is endsync_is start_is told_is decides =
-      (λ i. container_duration (kind_is i) (endsync_is i) (start_is i) (told_is i))
-      ∙ decides (endsync_of e.attrs) (iteration_start h e.serial)
-      ∙ ap container_by (sym active)
+  pub active_container : is_active h.diary e.serial ≡ true → container_duration e.kind (endsync_of e.attrs) (iteration_start h e.serial) (map (child_end h intervals e) (time_children h.nodes e.serial)) ≡ container_implicit h intervals e
+  active_container active = ap container_by (sym active)
 
   -- what is no container and has no length by its kind has that of its media
   pub media_told : (kind : Kind) → is_container_kind kind ≡ false → false ≡ not (is_container_kind kind || is_continuous kind || is_class_kind kind) → media_length h e.serial ≡ implicit_of h intervals e kind

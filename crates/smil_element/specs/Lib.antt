@@ -4,3 +4,4 @@ pub mod Comings
 pub mod Shown
 pub mod Displaced
 pub mod Pouring
+pub mod Endings

@@ -1,31 +1,26 @@
 //! One evaluation of one element.
 
-ghost use Rattle.std.specs.Prelude.{◌≡◌, ◌≤◌, ◌+◌, ℕ, ℤ, Some, true, false, map, option_map, Option, IfOk, OnOk, if◌then◌else◌};
-ghost use Rattle.smil_model.specs.declared.document.Endsync.{Endsync as AnyEndsync};
+ghost use Rattle.std.specs.Prelude.{◌≡◌, ◌≤◌, ◌+◌, ℕ, ℤ, Some, true, false, Option, IfOk, OnOk};
 ghost use Rattle.smil_model.specs.declared.document.Node.{Node as AnyNode};
 ghost use Rattle.smil_model.specs.declared.interval.Interval.{Interval as AnyInterval};
-ghost use Rattle.smil_model.specs.declared.times.Time.TheVariants as time;
 ghost use Rattle.smil_model.specs.declared.document.Edge.TheVariants as edge;
-ghost use Rattle.smil_model.specs.document.Document.{elements, node_at, is_container_kind, serial_of, time_children, time_parent};
-ghost use Rattle.smil_model.specs.document.Defaults.{endsync_of};
+ghost use Rattle.smil_model.specs.document.Document.{elements, node_at, is_container_kind};
+ghost use Rattle.smil_model.specs.document.Dependencies.{has_implicit_duration};
 ghost use Rattle.smil_model.specs.diary.Lawful.{has_element};
 ghost use Rattle.smil_model.specs.interval.Instances.{begin_times, end_times};
 ghost use Rattle.smil_model.specs.interval.Current;
-ghost use Rattle.smil_model.specs.interval.Current.{child_end, container_implicit, is_named_child, simple_of};
-ghost use Rattle.smil_model.specs.interval.Durations.{container_duration};
-ghost use Rattle.smil_past.specs.declared.plays.played.PastInterval.{PastInterval as AnyPast};
+ghost use Rattle.smil_model.specs.interval.Current.{container_implicit, simple_of};
 ghost use Rattle.smil_past.specs.Syncs.{is_empty, syncs_of};
 ghost use Rattle.smil_past.specs.Past.{IsPresent, history_of};
-ghost use Rattle.smil_element.specs.Element.{IsEvaluated, last_alone};
+ghost use Rattle.smil_element.specs.Element.{IsEvaluated};
 
 use super::expected::{Reading, is_settled, pour_begins, pour_ends};
-use super::facts::{attrs_of, facts_of, played_of};
-use super::intervals::Intervals;
+use super::facts::{attrs_of, facts_of, kind_of, played_of};
+use super::intervals::{Containers, Intervals};
 use smil_duration::{implicit_by_kind, simple, takes_implicit};
-use smil_endsync::implicit;
 use smil_interval::evaluate;
-use smil_model::{Attrs, ChildEnd, Edge, Endsync, Interval, Kind, Steps, Time};
-use smil_past::{Past, PastInterval};
+use smil_model::{ChildEnd, Edge, Interval, Kind, Steps, Time};
+use smil_past::Past;
 use std::alloc::{AllocError, Global};
 use std::sync::ledger::Ledger;
 
@@ -56,8 +51,9 @@ impl Room {
 }
 
 /// The interval of an element at a moment, given those of the others, and its simple duration; one
-/// evaluation is counted. Memory may be wanted for the lists that it reads, and then none is.
-pub fn evaluation_of<J: Intervals, L: Ledger>(
+/// evaluation is counted. What is kept of the ends of its time children is right where its duration
+/// is implicit. Memory may be wanted for the lists that it reads, and then none is.
+pub fn evaluation_of<J: Containers, L: Ledger>(
     past: &Past,
     intervals: &J,
     who: u32,
@@ -67,6 +63,8 @@ pub fn evaluation_of<J: Intervals, L: Ledger>(
 ) -> Result<Evaluated, AllocError>
     requires element { has_element past.now.document.nodes who ≡ true }
     requires moment { IsPresent past.now now }
+    requires known { (e : AnyNode) → node_at (elements past.now.document.nodes) who ≡ Some e
+        → has_implicit_duration e ≡ true → J.knows_ends intervals.now (history_of past.now) who }
     ensures made { (e : AnyNode) → node_at (elements past.now.document.nodes) who ≡ Some e
         → IfOk result (IsEvaluated (history_of past.now) (J.given intervals.now) now e) }
     ensures steps { OnOk result (steps.new ≡ steps.old + 1) }
@@ -162,15 +160,16 @@ fn ends_told<'a>(past: &'a Past, who: u32, filled: &'a [Time]) -> &'a [Time]
     }
 }
 
-// The simple duration of an element, given the intervals of its time children. It takes time for
-// these, where the element is an active par or excl whose duration is implicit.
-fn simple_duration<J: Intervals>(
+// The simple duration of an element, given the intervals of its time children.
+fn simple_duration<J: Containers>(
     past: &Past,
     intervals: &J,
     who: u32,
     children: &mut Vec<ChildEnd>,
 ) -> Result<Time, AllocError>
-    requires { has_element past.now.document.nodes who ≡ true }
+    requires element { has_element past.now.document.nodes who ≡ true }
+    requires known { (e : AnyNode) → node_at (elements past.now.document.nodes) who ≡ Some e
+        → has_implicit_duration e ≡ true → J.knows_ends intervals.now (history_of past.now) who }
     ensures { (e : AnyNode) → node_at (elements past.now.document.nodes) who ≡ Some e
         → IfOk result (λ simple. simple ≡ simple_of (history_of past.now) (J.given intervals.now) e) }
 {
@@ -184,13 +183,14 @@ fn simple_duration<J: Intervals>(
 
 // The implicit duration of an element: by its kind, or what the time children of a container tell,
 // or the length of continuous media that the diary tells.
-fn implicit_duration<J: Intervals>(
+fn implicit_duration<J: Containers>(
     past: &Past,
     intervals: &J,
     who: u32,
     children: &mut Vec<ChildEnd>,
 ) -> Result<Time, AllocError>
-    requires { has_element past.now.document.nodes who ≡ true }
+    requires element { has_element past.now.document.nodes who ≡ true }
+    requires known { J.knows_ends intervals.now (history_of past.now) who }
     ensures { (e : AnyNode) → node_at (elements past.now.document.nodes) who ≡ Some e
         → IfOk result (λ implicit. implicit
         ≡ Current.implicit_duration (history_of past.now) (J.given intervals.now) e) }
@@ -215,13 +215,14 @@ fn media_duration(past: &Past, who: u32, kind: Kind) -> Time
 }
 
 // The implicit duration of a container, unresolved while it is not active.
-fn container_duration<J: Intervals>(
+fn container_duration<J: Containers>(
     past: &Past,
     intervals: &J,
     who: u32,
     children: &mut Vec<ChildEnd>,
 ) -> Result<Time, AllocError>
-    requires { has_element past.now.document.nodes who ≡ true }
+    requires element { has_element past.now.document.nodes who ≡ true }
+    requires known { J.knows_ends intervals.now (history_of past.now) who }
     ensures { (e : AnyNode) → node_at (elements past.now.document.nodes) who ≡ Some e
         → IfOk result (λ implicit. implicit
         ≡ container_implicit (history_of past.now) (J.given intervals.now) e) }
@@ -229,153 +230,6 @@ fn container_duration<J: Intervals>(
     if !past.book().active(who) {
         return Ok(Time::Unresolved);
     }
-    deciding_ends(past, intervals, who, children)?;
     let start = played_of(past, who).start;
-    Ok(end_by(kind_of(past, who), attrs_of(past, who), start, children))
-}
-
-// The implicit duration of an active container, by the ends of its time children; `last` where it
-// has no `endsync`.
-fn end_by(kind: Kind, attrs: &Attrs, start: i64, children: &[ChildEnd]) -> Time
-    ensures { result ≡ container_duration kind (endsync_of attrs.now) start children.now }
-{
-    match &attrs.endsync {
-        Some(endsync) => implicit(kind, endsync, start, children),
-        None => implicit(kind, &Endsync::Last, start, children),
-    }
-}
-
-// The ends of the time children of a container from which its implicit duration follows: of a seq
-// that of the last one alone.
-fn deciding_ends<J: Intervals>(
-    past: &Past,
-    intervals: &J,
-    who: u32,
-    children: &mut Vec<ChildEnd>,
-) -> Result<(), AllocError>
-    requires { has_element past.now.document.nodes who ≡ true }
-    ensures { (e : AnyNode) (endsync : AnyEndsync) (start : ℤ)
-        → node_at (elements past.now.document.nodes) who ≡ Some e
-        → OnOk result (container_duration e.kind endsync start children.new.items
-        ≡ container_duration e.kind endsync start
-        (map (child_end (history_of past.now) (J.given intervals.now) e)
-        (time_children past.now.document.nodes who))) }
-{
-    match kind_of(past, who) {
-        Kind::Seq => last_end(past, intervals, who, children),
-        _ => children_ends(past, intervals, who, children),
-    }
-}
-
-// The end of the last time child of a container, if it has one.
-fn last_end<J: Intervals>(
-    past: &Past,
-    intervals: &J,
-    who: u32,
-    children: &mut Vec<ChildEnd>,
-) -> Result<(), AllocError>
-    requires { has_element past.now.document.nodes who ≡ true }
-    ensures { (e : AnyNode) → node_at (elements past.now.document.nodes) who ≡ Some e
-        → OnOk result (children.new.items
-        ≡ map (child_end (history_of past.now) (J.given intervals.now) e)
-        (last_alone (time_children past.now.document.nodes who))) }
-{
-    past.possible();
-    children.clear();
-    if let Some(child) = past.tree().time_children(who).last() {
-        children.push(end_of_child(past, intervals, who, *child))?;
-    }
-    Ok(())
-}
-
-// The ends of the time children of a container, in document order.
-fn children_ends<J: Intervals>(
-    past: &Past,
-    intervals: &J,
-    who: u32,
-    children: &mut Vec<ChildEnd>,
-) -> Result<(), AllocError>
-    requires { has_element past.now.document.nodes who ≡ true }
-    ensures { (e : AnyNode) → node_at (elements past.now.document.nodes) who ≡ Some e
-        → OnOk result (children.new.items
-        ≡ map (child_end (history_of past.now) (J.given intervals.now) e)
-        (time_children past.now.document.nodes who)) }
-{
-    past.possible();
-    children.clear();
-    for child in past.tree().time_children(who) {
-        children.push(end_of_child(past, intervals, who, *child))?;
-    }
-    Ok(())
-}
-
-// The first and the latest end of a time child of a container. It takes no memory.
-fn end_of_child<J: Intervals>(past: &Past, intervals: &J, who: u32, child: u32) -> ChildEnd
-    requires container { has_element past.now.document.nodes who ≡ true }
-    requires child { has_element past.now.document.nodes child ≡ true }
-    ensures { (e c : AnyNode) → node_at (elements past.now.document.nodes) who ≡ Some e
-        → node_at (elements past.now.document.nodes) child ≡ Some c
-        → serial_of (time_parent past.now.document.nodes child) ≡ Some who → result
-        ≡ child_end (history_of past.now) (J.given intervals.now) e c }
-{
-    let played = played_of(past, child);
-    let coming = coming_end(intervals.interval(child));
-    let deferred = past.book().deferred(child, Some(who));
-    ChildEnd {
-        named: is_named(attrs_of(past, who), attrs_of(past, child)),
-        first: finish_of(played.first_finished).or(coming),
-        latest: coming.or(latest_of(deferred, finish_of(played.last_finished))),
-    }
-}
-
-// The end of an interval.
-fn coming_end(interval: Option<Interval>) -> Option<Time>
-    ensures { result ≡ option_map (λ (i : AnyInterval). i.«end») interval }
-{
-    match interval {
-        Some(interval) => Some(interval.end),
-        None => None,
-    }
-}
-
-// The finish of a past interval.
-fn finish_of(past: Option<PastInterval>) -> Option<Time>
-    ensures { result ≡ option_map (λ (f : AnyPast). time.At f.finish) past }
-{
-    match past {
-        Some(past) => Some(Time::At(past.finish)),
-        None => None,
-    }
-}
-
-// The latest end that has happened, and unresolved while the element is deferred.
-fn latest_of(deferred: bool, last: Option<Time>) -> Option<Time>
-    ensures { result ≡ (if deferred then Some time.Unresolved else last) }
-{
-    if deferred {
-        Some(Time::Unresolved)
-    } else {
-        last
-    }
-}
-
-// Whether the endsync of a container names a child.
-fn is_named(container: &Attrs, child: &Attrs) -> bool
-    ensures { (c : AnyNode) → c.attrs ≡ child.now
-        → result ≡ is_named_child container.now.endsync c }
-{
-    match (&container.endsync, &child.id) {
-        (Some(Endsync::Child(named)), Some(id)) => id.slice() == named.slice(),
-        _ => false,
-    }
-}
-
-// The kind of an element.
-fn kind_of(past: &Past, who: u32) -> Kind
-    requires { has_element past.now.document.nodes who ≡ true }
-    ensures { (e : AnyNode) → node_at (elements past.now.document.nodes) who ≡ Some e
-        → result ≡ e.kind }
-{
-    past.possible();
-    past.tree().kind(who)
+    intervals.implicit(past, who, start, children)
 }

@@ -15,7 +15,7 @@ ghost use Rattle.smil_past.specs.Played.{played as kept_of};
 ghost use Rattle.smil_element.specs.Element.{interval_in, shift_of};
 
 use smil_duration::Bounds;
-use smil_model::{Attrs, EndList, Facts, Interval, Item, Items, Play, Time};
+use smil_model::{Attrs, EndList, Facts, Interval, Item, Items, Kind, Play, Time};
 use smil_past::{Past, PastInterval, Played};
 
 /// The facts of an element at a moment, by its simple duration. It takes no memory, and a step for
@@ -66,6 +66,16 @@ pub(crate) fn attrs_of(past: &Past, who: u32) -> &Attrs
 {
     past.possible();
     past.tree().attrs(who)
+}
+
+// The kind of an element.
+pub(crate) fn kind_of(past: &Past, who: u32) -> Kind
+    requires { has_element past.now.document.nodes who ≡ true }
+    ensures { (e : AnyNode) → node_at (elements past.now.document.nodes) who ≡ Some e
+        → result ≡ e.kind }
+{
+    past.possible();
+    past.tree().kind(who)
 }
 
 // The time parent of an element, which is an element; None for the root.

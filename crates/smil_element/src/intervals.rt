@@ -1,10 +1,20 @@
 //! Intervals of elements, however they are kept.
 
-ghost use Rattle.std.specs.Prelude.{◌≡◌, ℕ, Option, IfSome};
+ghost use Rattle.std.specs.Prelude.{◌≡◌, ℕ, Option, Some, true, map, IfOk, IfSome};
+ghost use Rattle.smil_model.specs.declared.document.Node.{Node as AnyNode};
 ghost use Rattle.smil_model.specs.declared.interval.Interval.{Interval as AnyInterval};
+ghost use Rattle.smil_model.specs.document.Document.{elements, node_at, time_children};
+ghost use Rattle.smil_model.specs.document.Defaults.{endsync_of};
+ghost use Rattle.smil_model.specs.diary.Diary.{History};
+ghost use Rattle.smil_model.specs.diary.Lawful.{has_element};
+ghost use Rattle.smil_model.specs.interval.Current.{child_end};
+ghost use Rattle.smil_model.specs.interval.Durations.{container_duration};
 ghost use Rattle.smil_laws.specs.Near.{IsIntervalNear};
+ghost use Rattle.smil_past.specs.Past.{history_of};
 
-use smil_model::Interval;
+use smil_model::{ChildEnd, Interval, Time};
+use smil_past::Past;
+use std::alloc::AllocError;
 
 /// Intervals of elements, with numbers from -10^12 to 10^12.
 pub trait Intervals {
@@ -15,4 +25,29 @@ pub trait Intervals {
     fn interval(&self, who: u32) -> Option<Interval>
         ensures value { result ≡ given self.now who }
         ensures near { IfSome result IsIntervalNear };
+}
+
+/// Intervals of elements, and what they make of the time children of containers. Its meaning is
+/// whether what is kept of the ends of an element's time children is right for a history; where
+/// nothing is kept it always is.
+pub trait Containers: Intervals {
+    ghost knows_ends: { Self → History → ℕ → Type 0 };
+
+    /// The implicit duration of an active container, in milliseconds, where what is kept of its time
+    /// children is right; `start` is the start of its present iteration. Memory may be wanted for a
+    /// list of their ends.
+    fn implicit(
+        &self,
+        past: &Past,
+        who: u32,
+        start: i64,
+        children: &mut Vec<ChildEnd>,
+    ) -> Result<Time, AllocError>
+        requires element { has_element past.now.document.nodes who ≡ true }
+        requires known { knows_ends self.now (history_of past.now) who }
+        ensures { (e : AnyNode) → node_at (elements past.now.document.nodes) who ≡ Some e
+            → IfOk result (λ implicit. implicit
+            ≡ container_duration e.kind (endsync_of e.attrs) start
+            (map (child_end (history_of past.now) (Self.given self.now) e)
+            (time_children past.now.document.nodes who))) };
 }

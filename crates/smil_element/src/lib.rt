@@ -4,6 +4,7 @@
 
 pub mod comings;
 mod displaced;
+pub mod endings;
 pub mod evaluation;
 pub mod expected;
 pub mod facts;
@@ -13,8 +14,9 @@ pub mod intervals;
 pub mod view;
 
 pub use comings::{Comings, comings_of};
+pub use endings::{Ending, ending_of, is_named, walked_duration};
 pub use evaluation::{Evaluated, Room, evaluation_of};
 pub use facts::facts_of;
 pub use happening::{Change, Coming, Parts, group_of};
-pub use intervals::Intervals;
+pub use intervals::{Containers, Intervals};
 pub use view::view_of;

@@ -7,6 +7,9 @@ ghost use Rattle.smil_model.specs.interval.Durations;
 ghost use Rattle.smil_model.specs.interval.Durations.{container_duration};
 ghost use Rattle.smil_endsync.specs.Known;
 
+mod ends;
+
+pub use ends::Ends;
 use smil_duration::capped;
 pub use smil_model::ChildEnd;
 use smil_model::{Endsync, Kind, Time, greatest, least};

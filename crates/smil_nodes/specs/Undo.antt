@@ -1,8 +1,12 @@
--- Rows as they were before they changed, by which a table goes back to its mark.
-use Rattle.std.specs.Prelude.{◌≡◌, ◌⊎◌, ℕ, List, [], ◌∷◌, ◌++◌, ◌==◌, Bool, true, Option, Some, None, slice_set}
-use Rattle.std.specs.List.{list_any, position}
+-- Elements as they were before they changed, by which a table goes back to its mark.
+use Rattle.std.specs.Prelude.{◌≡◌, ◌⊎◌, ℕ, List, [], ◌∷◌, ◌++◌, ◌==◌, Bool, true, Option, Some, None, slice_set, IfSome}
+use Rattle.std.specs.List.{AllByRecursion, list_any, position}
 use Rattle.smil_model.specs.document.Closure.{has}
+use Rattle.smil_laws.specs.Near.{IsIntervalNear}
+use Rattle.smil_element.specs.declared.endings.Ending.{Ending}
 use Rattle.smil_cells.specs.declared.plain.known.Row.{Row}
+use Rattle.smil_nodes.specs.declared.undo.Noted.{Noted}
+use Rattle.smil_nodes.specs.Endings.{KeptEnds, put_ending}
 
 -- a row in the place of another; nothing where there is none
 abbrev pub row_put : List Row → Row → Option ℕ → List Row
@@ -14,18 +18,37 @@ abbrev pub row_back : List Row → Row → List Row
 row_back rows row = row_put rows row (position (λ (r : Row). r.serial == row.serial) rows)
 
 -- the rows put back from the last to the first
-abbrev pub rows_back : List Row → List Row → List Row
+abbrev pub rows_back : List Row → List Noted → List Row
 rows_back rows [] = rows
-rows_back rows (row ∷ later) = row_back (rows_back rows later) row
+rows_back rows (noted ∷ later) = row_back (rows_back rows later) noted.row
 
--- whether one of the rows is of the element
-abbrev pub has_row : List Row → ℕ → Bool
-has_row rows serial = list_any (λ (r : Row). r.serial == serial) rows
+-- an ending put for the element at a place; nothing where there is none
+abbrev pub ending_put : KeptEnds → Ending → Option ℕ → KeptEnds
+ending_put kept ending None = kept
+ending_put kept ending (Some place) = put_ending kept place ending
 
--- each of the elements has one of the rows
-abbrev pub HaveRows : List ℕ → List Row → Type 0
-HaveRows noted rows = (s : ℕ) → has noted s ≡ true → has_row rows s ≡ true
+-- an ending put for the element of its row
+abbrev pub ending_back : List Row → KeptEnds → Noted → KeptEnds
+ending_back rows kept noted =
+    ending_put kept noted.ending (position (λ (r : Row). r.serial == noted.row.serial) rows)
 
--- a row is put behind the others, or none
-abbrev pub MayGrow : List Row → Row → List Row → Type 0
-MayGrow old row new = (new ≡ old) ⊎ (new ≡ old ++ row ∷ [])
+-- the endings put back from the last to the first, by the places of the elements' rows
+abbrev pub ends_back : List Row → KeptEnds → List Noted → KeptEnds
+ends_back rows kept [] = kept
+ends_back rows kept (noted ∷ later) = ending_back rows (ends_back rows kept later) noted
+
+-- the numbers of each noted interval are near
+abbrev pub AreNearNotes : List Noted → Type 0
+AreNearNotes notes = AllByRecursion (λ (n : Noted). IfSome n.row.interval IsIntervalNear) notes
+
+-- whether one of the notes is of the element
+abbrev pub has_row : List Noted → ℕ → Bool
+has_row notes serial = list_any (λ (n : Noted). n.row.serial == serial) notes
+
+-- each of the elements has one of the notes
+abbrev pub HaveRows : List ℕ → List Noted → Type 0
+HaveRows noted notes = (s : ℕ) → has noted s ≡ true → has_row notes s ≡ true
+
+-- a note is put behind the others, or none
+abbrev pub MayGrow : List Noted → Noted → List Noted → Type 0
+MayGrow old note new = (new ≡ old) ⊎ (new ≡ old ++ note ∷ [])

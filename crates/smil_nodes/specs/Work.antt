@@ -56,6 +56,13 @@ pub record IsBelow (order : List ℕ) (next serial : ℕ) : Type 0 where
   pub within : rank < length order
   pub at : slice_index order rank ≡ serial
 
+-- an element has a rank that is not listed
+pub record IsUnlisted (order : List ℕ) (listed : ℕ → Bool) (serial : ℕ) : Type 0 where
+  pub rank : ℕ
+  pub within : rank < length order
+  pub at : slice_index order rank ≡ serial
+  pub free : listed rank ≡ false
+
 -- each evaluation is a step, and no element is evaluated twice; those that were, and those that
 -- are listed, are in the reaches of entries; the listed ranks are above those of the former
 pub record IsCounted (nodes : List Node) (log : List LogEntry) (entries : List Entry)

@@ -4,9 +4,11 @@
 
 mod agenda;
 mod due_tree;
+mod endings;
 pub mod live;
 mod readers;
 mod schedule;
+mod sources;
 mod touched;
 mod undo;
 

@@ -2,24 +2,30 @@
 
 ghost use Rattle.std.specs.Prelude.{◌≡◌, ◌==◌, ◌≤◌, ◌+◌, Some, true, false, length, slice_set, OnOk, IfOk, IfSome};
 ghost use Rattle.std.specs.List.{position};
-ghost use Rattle.smil_model.specs.document.Document.{elements};
+ghost use Rattle.smil_model.specs.declared.document.Node.{Node as AnyNode};
+ghost use Rattle.smil_model.specs.document.Document.{elements, node_at};
+ghost use Rattle.smil_model.specs.document.Dependencies.{has_implicit_duration};
 ghost use Rattle.smil_model.specs.diary.Lawful.{has_element};
 ghost use Rattle.smil_laws.specs.Near.{IsIntervalNear};
 ghost use Rattle.smil_past.specs.Past.{IsPresent, history_of};
 ghost use Rattle.smil_cells.specs.declared.plain.known.Row.{Row as AnyRow};
 ghost use Rattle.smil_cells.specs.Round.{AreOfElements, IsTaken};
-ghost use Rattle.smil_nodes.specs.Schedule.{AreCurrent};
-ghost use Rattle.smil_nodes.specs.Marked.{GoesBack};
+ghost use Rattle.smil_cells.specs.Plain.{interval_in};
+ghost use Rattle.smil_nodes.specs.Endings.{AreKnown, IsEnded, KnowsEnds, nobody, put_ending};
+ghost use Rattle.smil_nodes.specs.Marked.{GoesBack, IsWhole};
+ghost use Rattle.smil_nodes.specs.Undo.{ending_back, row_back};
 ghost use Rattle.smil_nodes.specs.Work.{HasSame};
 
 use super::agenda::Agenda;
+use super::endings::Endings;
 use super::readers::put_readers;
 use super::schedule::Schedule;
+use super::sources::Sources;
 use super::touched::note_touched;
-use super::undo::Undo;
+use super::undo::{Noted, Undo};
 use smil_cells::plain::known::Row;
 use smil_cells::{Cells, Table};
-use smil_element::{Coming, Intervals, Room, comings_of, evaluation_of};
+use smil_element::{Coming, Ending, Intervals, Room, comings_of, ending_of, evaluation_of};
 use smil_model::{Duplicate, Interval, Serials, Steps};
 use smil_past::Past;
 use std::alloc::{AllocError, Global};
@@ -32,9 +38,11 @@ pub type LiveCells = Cells<LiveTable>;
 /// pressed key, and those that read an element whose interval changed; each at most once.
 pub struct LiveTable {
     schedule: Schedule,
+    /// The ends of the time children of each element, by the intervals of the schedule.
+    endings: Endings,
     /// The ranks, in the order of the document's graph, of the elements still to be evaluated.
     agenda: Agenda,
-    /// Where a mark stands, the rows that changed since.
+    /// Where a mark stands, the elements that changed since, as they were there.
     undo: Undo,
     has_mark: bool,
     room: Room,
@@ -46,6 +54,7 @@ impl Drop for LiveTable {
     fn drop(self) {
         let LiveTable {
             schedule: _schedule,
+            endings: _endings,
             agenda: _agenda,
             undo: _undo,
             has_mark: _has_mark,
@@ -57,12 +66,11 @@ impl Drop for LiveTable {
 
 impl Table for LiveTable {
     ghost use Rattle.std.specs.Prelude.{true};
-    ghost use Rattle.smil_nodes.specs.Schedule.{AreCurrent, stay_current};
-    ghost use Rattle.smil_nodes.specs.Marked.{IsMarked};
+    ghost use Rattle.smil_nodes.specs.Marked.{IsMarked, IsWhole, stay_whole};
 
-    ghost is_current = { λ t h now. AreCurrent t.schedule h now };
+    ghost is_current = { λ t h now. IsWhole t.schedule t.endings h now };
 
-    ghost is_marked = { λ t h now. IsMarked t.has_mark t.undo t.schedule h now };
+    ghost is_marked = { λ t h now. IsMarked t.has_mark t.undo t.schedule t.endings h now };
 
     ghost has_mark = { λ t. t.has_mark };
 
@@ -74,8 +82,10 @@ impl Table for LiveTable {
         moment: i64,
         steps: &mut Steps<L>,
     ) -> Result<Self, AllocError> {
+        let schedule = Schedule::of(alloc, past.tree())?;
         let mut table = LiveTable {
-            schedule: Schedule::of(alloc, past.tree())?,
+            endings: Endings::of(alloc, past.tree(), &schedule)?,
+            schedule,
             agenda: Agenda::new(alloc),
             undo: Undo::new(alloc),
             has_mark: false,
@@ -120,6 +130,7 @@ impl Table for LiveTable {
     fn copy(&self) -> Result<Self, AllocError> {
         Ok(LiveTable {
             schedule: self.schedule.copy()?,
+            endings: self.endings.copy()?,
             agenda: Agenda::new(self.alloc),
             undo: Undo::new(self.alloc),
             has_mark: false,
@@ -134,8 +145,8 @@ impl Table for LiveTable {
     }
 
     fn back(&mut self) {
-        while let Some(row) = self.undo.take_last() {
-            self.schedule.put_back(row);
+        while let Some(noted) = self.undo.take_last() {
+            put_back(&mut self.schedule, &mut self.endings, noted);
         }
         self.has_mark = false;
     }
@@ -145,7 +156,7 @@ impl Table for LiveTable {
         self.has_mark = false;
     }
 
-    ghost stays = { λ t h k m n same are. stay_current t.schedule h k m n same are };
+    ghost stays = { λ t h k m n same is. stay_whole t.schedule t.endings h k m n same is };
 }
 
 impl LiveTable {
@@ -158,7 +169,10 @@ impl LiveTable {
     ) -> Result<(), AllocError>
         requires moment { IsPresent past.now moment }
         requires of_elements { AreOfElements past.now.document.nodes self.old.schedule }
-        ensures current { OnOk result (AreCurrent self.new.schedule (history_of past.now) moment) }
+        requires known { AreKnown (history_of past.now) (interval_in self.old.schedule) nobody
+            self.old.endings }
+        ensures current { OnOk result (IsWhole self.new.schedule self.new.endings
+            (history_of past.now) moment) }
         ensures has_mark { self.new.has_mark ≡ self.old.has_mark }
         ensures counted { steps.old ≤ steps.new }
         ensures steps { OnOk result (steps.new ≡ steps.old
@@ -172,7 +186,8 @@ impl LiveTable {
         Ok(())
     }
 
-    // Evaluates an element; whether its interval changes.
+    // Evaluates an element, where the ends of its time children are right if its duration is
+    // implicit; whether its interval changes.
     fn evaluate<L: Ledger>(
         &mut self,
         past: &Past,
@@ -183,8 +198,13 @@ impl LiveTable {
         requires element { has_element past.now.document.nodes who ≡ true }
         requires moment { IsPresent past.now moment }
         requires of_elements { AreOfElements past.now.document.nodes self.old.schedule }
+        requires known { (e : AnyNode) → node_at (elements past.now.document.nodes) who ≡ Some e
+            → has_implicit_duration e ≡ true
+            → KnowsEnds self.old.schedule self.old.endings (history_of past.now) who }
         ensures taken { OnOk result (IsTaken (history_of past.now) moment who self.old.schedule
             self.new.schedule) }
+        ensures ended { OnOk result (IsEnded (history_of past.now) who self.new.schedule
+            self.old.endings self.new.endings) }
         ensures same { IfOk result (λ changes. changes ≡ false
             → HasSame who self.old.schedule self.new.schedule) }
         ensures agenda { self.new.agenda ≡ self.old.agenda }
@@ -196,7 +216,11 @@ impl LiveTable {
     {
         past.possible();
         let place = self.schedule.place(who).unwrap();
-        let made = evaluation_of(past, &self.schedule, who, moment, &mut self.room, steps)?;
+        let sources = Sources {
+            schedule: &self.schedule,
+            endings: &self.endings,
+        };
+        let made = evaluation_of(past, &sources, who, moment, &mut self.room, steps)?;
         let comings = comings_of(past, who, place as u32, moment, &made);
         let before = self.schedule.interval(who);
         self.replace(
@@ -206,26 +230,46 @@ impl LiveTable {
                 interval: made.interval,
                 comings,
             },
+            ending_of(past, who, made.interval),
         )?;
         Ok(differ(before, made.interval))
     }
 
-    // Puts a row in the place of the one that its element has, which is noted where a mark stands.
-    fn replace(&mut self, place: usize, row: Row) -> Result<(), AllocError>
+    // Puts a row in the place of the one that its element has, and the ending of that; what was is
+    // noted where a mark stands.
+    fn replace(&mut self, place: usize, row: Row, ending: Ending) -> Result<(), AllocError>
         requires place { position (λ (r : AnyRow). r.serial == row.serial) self.old.schedule
             ≡ Some place }
         requires near { IfSome row.interval IsIntervalNear }
         ensures put { OnOk result (self.new.schedule ≡ slice_set self.old.schedule place row) }
+        ensures ended { OnOk result (self.new.endings
+            ≡ put_ending self.old.endings place ending) }
         ensures back { GoesBack self.old self.new }
         ensures agenda { self.new.agenda ≡ self.old.agenda }
         ensures has_mark { self.new.has_mark ≡ self.old.has_mark }
     {
         if self.has_mark {
-            self.undo.note(self.schedule.row(place))?;
+            self.undo.note(Noted {
+                row: self.schedule.row(place),
+                ending: self.endings.ending(place),
+            })?;
         }
         self.schedule.put(place, row);
+        self.endings.put(place, ending);
         Ok(())
     }
+}
+
+// Puts back the row and the ending of an element; where it has no row nothing changes.
+fn put_back(schedule: &mut Schedule, endings: &mut Endings, noted: Noted)
+    requires { IfSome noted.row.interval IsIntervalNear }
+    ensures rows { schedule.new ≡ row_back schedule.old noted.row }
+    ensures ends { endings.new ≡ ending_back schedule.old endings.old noted }
+{
+    if let Some(place) = schedule.place(noted.row.serial) {
+        endings.put(place, noted.ending);
+    }
+    schedule.put_back(noted.row);
 }
 
 // Whether two intervals, which may be absent, differ.

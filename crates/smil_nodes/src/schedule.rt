@@ -79,6 +79,13 @@ impl Schedule {
         Ok(Schedule { known, due })
     }
 
+    /// How many rows there are. It takes no memory.
+    pub fn len(&self) -> usize
+        ensures { result ≡ length self.now }
+    {
+        self.known.rows().len()
+    }
+
     /// The place of the row of an element; None exactly where it has none. It takes no memory.
     pub fn place(&self, who: u32) -> Option<usize>
         ensures { result ≡ position (λ (r : AnyRow). r.serial == who) self.now }

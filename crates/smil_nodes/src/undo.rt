@@ -1,75 +1,83 @@
-//! Rows as they were before they changed.
+//! What was before elements changed.
 
 ghost use Rattle.std.specs.Prelude.{◌≡◌, [], ◌∷◌, ◌++◌, true, OnOk, IfSome, MatchOption};
 ghost use Rattle.smil_laws.specs.Near.{IsIntervalNear};
 ghost use Rattle.smil_nodes.specs.Undo.{MayGrow, has_row};
 
 use smil_cells::plain::known::Row;
+use smil_element::Ending;
 use std::alloc::{AllocError, Global};
 use std::collections::BTreeSet;
 use std::marker::Model;
 
-/// Rows as they were before they changed, that of the last change last; seen as the list of them.
+/// The row of an element, and its ending, as they were before they changed.
+#[derive(Clone, Copy, Debug)]
+pub struct Noted {
+    pub row: Row,
+    pub ending: Ending,
+}
+
+/// Elements as they were before they changed, that of the last change last; seen as the list of
+/// them.
 #[derive(Drop)]
 pub struct Undo {
-    rows: Vec<Row>,
-    /// Elements that have a row here, whose later rows are not needed.
+    notes: Vec<Noted>,
+    /// Elements that have a note here, whose later ones are not needed.
     noted: BTreeSet<u32>,
 }
 
 impl Model for Undo {
     ghost use Rattle.std.specs.Prelude.{List};
-    ghost use Rattle.smil_cells.specs.declared.plain.known.Row.{Row as AnyRow};
-    ghost use Rattle.smil_cells.specs.Rows.{AreNear};
-    ghost use Rattle.smil_nodes.specs.Undo.{HaveRows};
+    ghost use Rattle.smil_nodes.specs.declared.undo.Noted.{Noted as AnyNoted};
+    ghost use Rattle.smil_nodes.specs.Undo.{AreNearNotes, HaveRows};
 
-    ghost Value = { List AnyRow };
+    ghost Value = { List AnyNoted };
 
-    ghost view = { λ a. a.rows.items };
+    ghost view = { λ a. a.notes.items };
 
-    ghost invariant = { λ a. AreNear a.rows.items × HaveRows a.noted.keys a.rows.items };
+    ghost invariant = { λ a. AreNearNotes a.notes.items × HaveRows a.noted.keys a.notes.items };
 }
 
 impl Undo {
-    /// No rows yet, which takes no memory.
+    /// Nothing noted yet, which takes no memory.
     pub fn new(alloc: Global) -> Undo
         ensures { result ≡ [] }
     {
         Undo {
-            rows: Vec::new(alloc),
+            notes: Vec::new(alloc),
             noted: BTreeSet::new(alloc),
         }
     }
 
-    /// Notes a row before it changes, unless one of its element is noted already. It takes memory
-    /// for each element once, and log n steps for n of them; where memory runs out the row may be
-    /// noted.
-    pub fn note(&mut self, row: Row) -> Result<(), AllocError>
-        requires { IfSome row.interval IsIntervalNear }
-        ensures grown { MayGrow self.old row self.new }
-        ensures noted { OnOk result (has_row self.new row.serial ≡ true) }
+    /// Notes an element before it changes, unless it is noted already. It takes memory for each
+    /// element once, and log n steps for n of them; where memory runs out it may be noted.
+    pub fn note(&mut self, noted: Noted) -> Result<(), AllocError>
+        requires { IfSome noted.row.interval IsIntervalNear }
+        ensures grown { MayGrow self.old noted self.new }
+        ensures noted { OnOk result (has_row self.new noted.row.serial ≡ true) }
     {
-        if !self.noted.contains(&row.serial) {
-            self.rows.push(row)?;
-            self.noted.insert(row.serial)?;
+        if !self.noted.contains(&noted.row.serial) {
+            self.notes.push(noted)?;
+            self.noted.insert(noted.row.serial)?;
         }
         Ok(())
     }
 
-    /// Takes the row of the last change; None exactly where there is none. It takes no memory.
-    pub fn take_last(&mut self) -> Option<Row>
-        ensures last { MatchOption result (self.old ≡ []) (λ row. self.old ≡ self.new ++ row ∷ []) }
-        ensures near { IfSome result (λ row. IfSome row.interval IsIntervalNear) }
+    /// Takes the element of the last change; None exactly where there is none. It takes no memory.
+    pub fn take_last(&mut self) -> Option<Noted>
+        ensures last { MatchOption result (self.old ≡ []) (λ noted. self.old
+            ≡ self.new ++ noted ∷ []) }
+        ensures near { IfSome result (λ noted. IfSome noted.row.interval IsIntervalNear) }
     {
         self.noted.clear();
-        self.rows.pop()
+        self.notes.pop()
     }
 
-    /// Forgets all rows. It takes no memory.
+    /// Forgets all of them. It takes no memory.
     pub fn clear(&mut self)
         ensures { self.new ≡ [] }
     {
         self.noted.clear();
-        self.rows.clear();
+        self.notes.clear();
     }
 }

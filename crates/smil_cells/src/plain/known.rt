@@ -9,8 +9,9 @@ ghost use Rattle.smil_laws.specs.Near.{IsIntervalNear};
 ghost use Rattle.smil_cells.specs.declared.plain.known.Row.{Row as AnyRow};
 ghost use Rattle.smil_cells.specs.Rows.{ArePlaces, IsChosen, empty_row, row_without};
 
-use smil_element::{Coming, Comings, Intervals};
-use smil_model::{Duplicate, Interval, Key, Kind};
+use smil_element::{Coming, Comings, Containers, Intervals, walked_duration};
+use smil_model::{ChildEnd, Duplicate, Interval, Key, Kind, Time};
+use smil_past::Past;
 use smil_tree::Tree;
 use std::alloc::{AllocError, Global};
 use std::collections::HashMap;
@@ -53,6 +54,20 @@ impl Intervals for Known {
     fn interval(&self, who: u32) -> Option<Interval> {
         let place = self.places.get(&who)?;
         self.rows.get(*place)?.interval
+    }
+}
+
+impl Containers for Known {
+    ghost knows_ends = { λ known h who. Unit {0} };
+
+    fn implicit(
+        &self,
+        past: &Past,
+        who: u32,
+        start: i64,
+        children: &mut Vec<ChildEnd>,
+    ) -> Result<Time, AllocError> {
+        walked_duration(past, self, who, start, children)
     }
 }
 

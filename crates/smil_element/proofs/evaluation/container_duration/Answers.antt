@@ -1,13 +1,17 @@
-use Rattle.std.proofs.Common.{◌≡◌, ◌∙◌, sym, ap, ℕ, List, rules, w64, FitsSigned}
+use Rattle.std.proofs.Common.{◌≡◌, ◌∙◌, sym, ap, subst, ℕ, ℤ, List, rules, FitsSigned}
 use Rattle.std.specs.Prelude.{Option, map}
+use Rattle.std.specs.Result.{IfOk}
 use Rattle.std.proofs.lemmas.Int.{to_z-of_z}
+use mir.Syntax.{w64}
+use mir.Val.{to_z, of_z}
 use Rattle.smil_model.specs.declared.diary.Entry.{Entry}
+use Rattle.smil_model.specs.declared.times.Time.{Time}
 use Rattle.smil_model.specs.declared.interval.Interval.{Interval}
 use Rattle.smil_model.specs.document.Document.{elements, time_children}
 use Rattle.smil_model.specs.document.Defaults.{endsync_of}
 use Rattle.smil_model.specs.diary.Diary.{History, is_active}
 use Rattle.smil_model.specs.diary.Clocks.{iteration_start}
-use Rattle.smil_model.specs.interval.Current.{child_end}
+use Rattle.smil_model.specs.interval.Current.{child_end, container_implicit}
 use Rattle.smil_model.specs.interval.Durations.{container_duration}
 use Rattle.smil_past.specs.declared.plays.played.Played.{Played}
 use Rattle.smil_past.proofs.References.{stands}
@@ -31,16 +35,13 @@ returns g c = λ e here.
     let start = c.played_of-start.result.start in
     let fits : FitsSigned w64 start = search rules in
     let serial : e.serial ≡ c.args.who = (stands (elements h.nodes) c.args.who e here).serial in
-    c.end_by.ensures
-    ∙ active_container h given e _ _ _ _ c.deref.result.now
+    let begun : to_z w64 (of_z w64 start) ≡ iteration_start h e.serial =
+    to_z-of_z w64 start fits ∙ ap (λ (p : Played). p.start) c.played_of-start.ensures ∙ ap (iteration_start h) (sym serial) in
+    let whole : container_duration e.kind (endsync_of e.attrs) (to_z w64 (of_z w64 start)) (map (child_end h given e) (time_children h.nodes c.args.who)) ≡ container_implicit h given e =
+    (λ i. container_duration e.kind (endsync_of e.attrs) (begun i) (map (child_end h given e) (time_children h.nodes (sym serial i))))
+    ∙ active_container h given e
     (ap (is_active h.diary) serial
     ∙ ap (λ (d : List Entry). is_active d c.args.who) (sym c.book.ensures)
     ∙ sym c.active.ensures
-    ∙ c.if-not-active.false)
-    (c.kind_of.ensures e here)
-    (ap endsync_of (c.attrs_of.ensures e here))
-    (to_z-of_z w64 start fits ∙ ap (λ (p : Played). p.start) c.played_of-start.ensures ∙ ap (iteration_start h) (sym serial))
-    c.deref.ensures.value
-    (λ sync from.
-    c.in_ok-deciding_ends.ensures e sync from here
-    ∙ ap (λ s. container_duration e.kind sync from (map (child_end h given e) (time_children h.nodes s))) (sym serial))
+    ∙ c.if-not-active.false) in
+    subst (λ (t : Time). IfOk c.implicit.result (λ made. made ≡ t)) whole (c.implicit.ensures e here)

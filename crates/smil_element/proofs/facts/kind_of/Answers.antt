@@ -2,7 +2,7 @@ use Rattle.std.proofs.Common.{◌≡◌, ◌∙◌, ap}
 use Rattle.std.specs.Prelude.{Some, is_some}
 use Rattle.smil_model.specs.document.Document.{Document, node_at}
 use Rattle.smil_element.proofs.Known.{kind_is, known_element, known_node}
-use Rattle.smil_element.proofs.evaluation.kind_of.Goals as goal
+use Rattle.smil_element.proofs.facts.kind_of.Goals as goal
 
 pub kind-requires : goal.kind-requires
 kind-requires c =

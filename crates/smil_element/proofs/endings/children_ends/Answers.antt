@@ -10,7 +10,7 @@ use Rattle.smil_model.specs.interval.Current.{child_end}
 use Rattle.smil_instances.proofs.Lists.{map_next}
 use Rattle.smil_past.specs.Past.{history_of}
 use Rattle.smil_element.proofs.Known.{child_at}
-use Rattle.smil_element.proofs.evaluation.children_ends.Goals as goal
+use Rattle.smil_element.proofs.endings.children_ends.Goals as goal
 
 pub end_of_child-requires-clause-child : goal.end_of_child-requires-clause-child
 end_of_child-requires-clause-child g c =

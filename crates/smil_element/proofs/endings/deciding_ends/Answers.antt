@@ -10,7 +10,7 @@ use Rattle.smil_model.specs.interval.Current.{child_end}
 use Rattle.smil_model.specs.interval.Durations.{container_duration}
 use Rattle.smil_past.specs.Past.{history_of}
 use Rattle.smil_element.proofs.ChildEnds.{last_decides, then_on_ok}
-use Rattle.smil_element.proofs.evaluation.deciding_ends.Goals as goal
+use Rattle.smil_element.proofs.endings.deciding_ends.Goals as goal
 
 pub returns-in-Seq : goal.returns-in-Seq
 returns-in-Seq g c = λ e endsync start here.

@@ -4,7 +4,7 @@ use Rattle.smil_model.specs.declared.document.Node.{Node}
 use Rattle.smil_model.specs.document.Document.{elements, node_at, time_children}
 use Rattle.smil_model.specs.interval.Current.{child_end}
 use Rattle.smil_past.specs.Past.{history_of}
-use Rattle.smil_element.proofs.evaluation.children_ends.Given as goal
+use Rattle.smil_element.proofs.endings.children_ends.Given as goal
 
 -- the ends of the first children
 abbrev pub invariant-loop-child : goal.invariant-loop-child

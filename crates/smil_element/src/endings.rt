@@ -1,0 +1,199 @@
+//! When elements end for their containers, and when a container's time children end.
+
+ghost use Rattle.std.specs.Prelude.{◌≡◌, ℤ, Some, true, map, option_map, IfOk, OnOk, if◌then◌else◌};
+ghost use Rattle.smil_model.specs.declared.document.Endsync.{Endsync as AnyEndsync};
+ghost use Rattle.smil_model.specs.declared.document.Node.{Node as AnyNode};
+ghost use Rattle.smil_model.specs.declared.interval.Interval.{Interval as AnyInterval};
+ghost use Rattle.smil_model.specs.declared.times.Time.TheVariants as time;
+ghost use Rattle.smil_model.specs.document.Document.{elements, node_at, serial_of, time_children, time_parent};
+ghost use Rattle.smil_model.specs.document.Defaults.{endsync_of};
+ghost use Rattle.smil_model.specs.diary.Lawful.{has_element};
+ghost use Rattle.smil_model.specs.interval.Current.{child_end, is_named_child};
+ghost use Rattle.smil_model.specs.interval.Durations.{container_duration};
+ghost use Rattle.smil_past.specs.declared.plays.played.PastInterval.{PastInterval as AnyPast};
+ghost use Rattle.smil_past.specs.Past.{history_of};
+ghost use Rattle.smil_element.specs.Element.{last_alone};
+ghost use Rattle.smil_element.specs.Endings.{ending_by};
+
+use super::facts::{attrs_of, kind_of, parent_of, played_of};
+use super::intervals::Intervals;
+use smil_endsync::implicit;
+use smil_model::{Attrs, ChildEnd, Endsync, Interval, Kind, Time};
+use smil_past::{Past, PastInterval};
+use std::alloc::AllocError;
+
+/// The first and the latest end of an element since its container's iteration began, as the
+/// container takes them.
+#[derive(Clone, Copy, Debug, PartialEq, Eq)]
+pub struct Ending {
+    pub first: Option<Time>,
+    pub latest: Option<Time>,
+}
+
+/// The first and the latest end of an element that has this interval. It takes no memory.
+pub fn ending_of(past: &Past, who: u32, interval: Option<Interval>) -> Ending
+    requires { has_element past.now.document.nodes who ≡ true }
+    ensures { result ≡ ending_by (history_of past.now) interval who }
+{
+    let played = played_of(past, who);
+    let coming = coming_end(interval);
+    let deferred = past.book().deferred(who, parent_of(past, who));
+    Ending {
+        first: finish_of(played.first_finished).or(coming),
+        latest: coming.or(latest_of(deferred, finish_of(played.last_finished))),
+    }
+}
+
+/// The implicit duration of an active container, in milliseconds, by a walk over its time children;
+/// `start` is the start of its present iteration. It takes a step for each time child (a seq: for
+/// its last one alone), and memory for a list of their ends.
+pub fn walked_duration<J: Intervals>(
+    past: &Past,
+    intervals: &J,
+    who: u32,
+    start: i64,
+    children: &mut Vec<ChildEnd>,
+) -> Result<Time, AllocError>
+    requires { has_element past.now.document.nodes who ≡ true }
+    ensures { (e : AnyNode) → node_at (elements past.now.document.nodes) who ≡ Some e
+        → IfOk result (λ implicit. implicit ≡ container_duration e.kind (endsync_of e.attrs) start
+        (map (child_end (history_of past.now) (J.given intervals.now) e)
+        (time_children past.now.document.nodes who))) }
+{
+    deciding_ends(past, intervals, who, children)?;
+    Ok(end_by(kind_of(past, who), attrs_of(past, who), start, children))
+}
+
+// The implicit duration of an active container, by the ends of its time children; `last` where it
+// has no `endsync`.
+fn end_by(kind: Kind, attrs: &Attrs, start: i64, children: &[ChildEnd]) -> Time
+    ensures { result ≡ container_duration kind (endsync_of attrs.now) start children.now }
+{
+    match &attrs.endsync {
+        Some(endsync) => implicit(kind, endsync, start, children),
+        None => implicit(kind, &Endsync::Last, start, children),
+    }
+}
+
+// The ends of the time children of a container from which its implicit duration follows: of a seq
+// that of the last one alone.
+fn deciding_ends<J: Intervals>(
+    past: &Past,
+    intervals: &J,
+    who: u32,
+    children: &mut Vec<ChildEnd>,
+) -> Result<(), AllocError>
+    requires { has_element past.now.document.nodes who ≡ true }
+    ensures { (e : AnyNode) (endsync : AnyEndsync) (start : ℤ)
+        → node_at (elements past.now.document.nodes) who ≡ Some e
+        → OnOk result (container_duration e.kind endsync start children.new.items
+        ≡ container_duration e.kind endsync start
+        (map (child_end (history_of past.now) (J.given intervals.now) e)
+        (time_children past.now.document.nodes who))) }
+{
+    match kind_of(past, who) {
+        Kind::Seq => last_end(past, intervals, who, children),
+        _ => children_ends(past, intervals, who, children),
+    }
+}
+
+// The end of the last time child of a container, if it has one.
+fn last_end<J: Intervals>(
+    past: &Past,
+    intervals: &J,
+    who: u32,
+    children: &mut Vec<ChildEnd>,
+) -> Result<(), AllocError>
+    requires { has_element past.now.document.nodes who ≡ true }
+    ensures { (e : AnyNode) → node_at (elements past.now.document.nodes) who ≡ Some e
+        → OnOk result (children.new.items
+        ≡ map (child_end (history_of past.now) (J.given intervals.now) e)
+        (last_alone (time_children past.now.document.nodes who))) }
+{
+    past.possible();
+    children.clear();
+    if let Some(child) = past.tree().time_children(who).last() {
+        children.push(end_of_child(past, intervals, who, *child))?;
+    }
+    Ok(())
+}
+
+// The ends of the time children of a container, in document order.
+fn children_ends<J: Intervals>(
+    past: &Past,
+    intervals: &J,
+    who: u32,
+    children: &mut Vec<ChildEnd>,
+) -> Result<(), AllocError>
+    requires { has_element past.now.document.nodes who ≡ true }
+    ensures { (e : AnyNode) → node_at (elements past.now.document.nodes) who ≡ Some e
+        → OnOk result (children.new.items
+        ≡ map (child_end (history_of past.now) (J.given intervals.now) e)
+        (time_children past.now.document.nodes who)) }
+{
+    past.possible();
+    children.clear();
+    for child in past.tree().time_children(who) {
+        children.push(end_of_child(past, intervals, who, *child))?;
+    }
+    Ok(())
+}
+
+// The first and the latest end of a time child of a container. It takes no memory.
+fn end_of_child<J: Intervals>(past: &Past, intervals: &J, who: u32, child: u32) -> ChildEnd
+    requires container { has_element past.now.document.nodes who ≡ true }
+    requires child { has_element past.now.document.nodes child ≡ true }
+    ensures { (e c : AnyNode) → node_at (elements past.now.document.nodes) who ≡ Some e
+        → node_at (elements past.now.document.nodes) child ≡ Some c
+        → serial_of (time_parent past.now.document.nodes child) ≡ Some who → result
+        ≡ child_end (history_of past.now) (J.given intervals.now) e c }
+{
+    let ending = ending_of(past, child, intervals.interval(child));
+    ChildEnd {
+        named: is_named(attrs_of(past, who), attrs_of(past, child)),
+        first: ending.first,
+        latest: ending.latest,
+    }
+}
+
+// The end of an interval.
+fn coming_end(interval: Option<Interval>) -> Option<Time>
+    ensures { result ≡ option_map (λ (i : AnyInterval). i.«end») interval }
+{
+    match interval {
+        Some(interval) => Some(interval.end),
+        None => None,
+    }
+}
+
+// The finish of a past interval.
+fn finish_of(past: Option<PastInterval>) -> Option<Time>
+    ensures { result ≡ option_map (λ (f : AnyPast). time.At f.finish) past }
+{
+    match past {
+        Some(past) => Some(Time::At(past.finish)),
+        None => None,
+    }
+}
+
+// The latest end that has happened, and unresolved while the element is deferred.
+fn latest_of(deferred: bool, last: Option<Time>) -> Option<Time>
+    ensures { result ≡ (if deferred then Some time.Unresolved else last) }
+{
+    if deferred {
+        Some(Time::Unresolved)
+    } else {
+        last
+    }
+}
+
+/// Whether the endsync of a container names a child. It takes no memory.
+pub fn is_named(container: &Attrs, child: &Attrs) -> bool
+    ensures { (c : AnyNode) → c.attrs ≡ child.now
+        → result ≡ is_named_child container.now.endsync c }
+{
+    match (&container.endsync, &child.id) {
+        (Some(Endsync::Child(named)), Some(id)) => id.slice() == named.slice(),
+        _ => false,
+    }
+}

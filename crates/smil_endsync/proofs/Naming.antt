@@ -1,0 +1,69 @@
+-- Which child is named, and the ends that are put to one.
+use Rattle.std.proofs.Common.{◌≡◌, refl, ◌∙◌, ap, sym, ℕ, ℤ, zero, suc, ◌<◌, List, [], ◌∷◌, length, get_or, set, Option, Some, None, Bool, true, false, arith}
+use Rattle.std.specs.Prelude.{◌+◌, cond, not, nat_lt, map, find, unwrap_or}
+use Rattle.std.specs.List.{position, position_or_len}
+use Rattle.std.proofs.lemmas.Bool.{ltb-false, lt-ltb}
+use Rattle.std.proofs.lemmas.List.Folds.{find_at}
+use Rattle.std.proofs.lemmas.Option.{slice_get_past}
+use Rattle.smil_model.specs.declared.times.Time.{Time}
+use Rattle.smil_model.specs.declared.times.Time.TheVariants.{Unresolved}
+use Rattle.smil_model.specs.declared.interval.ChildEnd.{ChildEnd}
+use Rattle.smil_model.specs.interval.Durations.{named_end}
+use Rattle.smil_endsync.specs.declared.ends.Summary.{Summary}
+use Rattle.smil_endsync.specs.Ends.{one_end, set_ends}
+
+abbrev is_named : ChildEnd → Bool
+is_named c = c.named
+
+pub set_length : (cs : List ChildEnd) (k : ℕ) (first latest : Option Time) → length (set_ends cs k first latest) ≡ length cs
+set_length [] k first latest = refl
+set_length (c ∷ cs) zero first latest = refl
+set_length (c ∷ cs) (suc k) first latest = ap suc (set_length cs k first latest)
+
+same_first : (cs : List ChildEnd) (k : ℕ) (first latest : Option Time) → position_or_len is_named (set_ends cs k first latest) ≡ position_or_len is_named cs
+same_first [] k first latest = refl
+same_first (c ∷ cs) zero first latest = refl
+same_first (c ∷ cs) (suc k) first latest = ap (λ n. cond (not c.named) (1 + n) 0) (same_first cs k first latest)
+
+-- which child is named stays
+pub named_stays : (cs : List ChildEnd) (k : ℕ) (first latest : Option Time) → position (λ (c : ChildEnd). c.named) cs ≡ position (λ (c : ChildEnd). c.named) (set_ends cs k first latest)
+named_stays cs k first latest =
+    sym (λ i. cond (nat_lt (same_first cs k first latest i) (set_length cs k first latest i)) (Some (same_first cs k first latest i)) None)
+
+-- the ends of a child with its name are put in its place
+pub set_is : (cs : List ChildEnd) (k : ℕ) (first latest : Option Time) (d : ChildEnd) → k < length cs → set cs k (record { named = (get_or cs k d).named; first = first; latest = latest }) ≡ set_ends cs k first latest
+set_is [] k first latest d lt = absurd (omega (arith, lt))
+set_is (c ∷ cs) zero first latest d lt = refl
+set_is (c ∷ cs) (suc k) first latest d lt = ap (λ rest. c ∷ rest) (set_is cs k first latest d (omega (arith, lt)))
+
+pub sums_set : (cs : List ChildEnd) (k : ℕ) (end' : ChildEnd) → set (map one_end cs) k (one_end end') ≡ map one_end (set cs k end')
+sums_set [] k end' = refl
+sums_set (c ∷ cs) zero end' = refl
+sums_set (c ∷ cs) (suc k) end' = ap (λ rest. one_end c ∷ rest) (sums_set cs k end')
+
+-- ---- the named child is found at its place
+
+found_at : (cs : List ChildEnd) (k : ℕ) (d : ChildEnd) → position (λ (c : ChildEnd). c.named) cs ≡ Some k → k < length cs → find is_named cs ≡ Some (get_or cs k d)
+found_at cs k d q lt = by_test (nat_lt (position_or_len is_named cs) (length cs)) refl q
+  where
+    at_place : (xs : List ChildEnd) (j : ℕ) → j < length xs → cond (nat_lt j (length xs)) (Some (get_or xs j d)) None ≡ Some (get_or xs j d)
+    at_place xs j less = ap (λ t. cond t (Some (get_or xs j d)) None) (lt-ltb j (length xs) less)
+
+    by_test : (t : Bool) → nat_lt (position_or_len is_named cs) (length cs) ≡ t → cond t (Some (position_or_len is_named cs)) None ≡ Some k → find is_named cs ≡ Some (get_or cs k d)
+    by_test false e r = cc
+    by_test true e r =
+        let same : position_or_len is_named cs ≡ k = cc in
+        find_at is_named cs ∙ ap (λ j. cond (nat_lt j (length cs)) (Some (get_or cs j d)) None) same ∙ at_place cs k lt
+
+pub named_found : (start : ℤ) (cs : List ChildEnd) (k : ℕ) (d : ChildEnd) → Some k ≡ position (λ (c : ChildEnd). c.named) cs → k < length cs → unwrap_or (get_or cs k d).first Unresolved ≡ named_end start cs (find (λ (c : ChildEnd). c.named) cs)
+named_found start cs k d q lt = sym (ap (named_end start cs) (found_at cs k d (sym q) lt))
+
+none_named : (cs : List ChildEnd) → position (λ (c : ChildEnd). c.named) cs ≡ None → find is_named cs ≡ None
+none_named cs q = by_test (nat_lt (position_or_len is_named cs) (length cs)) refl q
+  where
+    by_test : (t : Bool) → nat_lt (position_or_len is_named cs) (length cs) ≡ t → cond t (Some (position_or_len is_named cs)) None ≡ None → find is_named cs ≡ None
+    by_test true e r = cc
+    by_test false e r = find_at is_named cs ∙ slice_get_past cs _ (ltb-false (position_or_len is_named cs) (length cs) e)
+
+pub nobody_named : (start : ℤ) (cs : List ChildEnd) → None ≡ position (λ (c : ChildEnd). c.named) cs → named_end start cs (find (λ (c : ChildEnd). c.named) cs) ≡ named_end start cs None
+nobody_named start cs q = ap (named_end start cs) (none_named cs (sym q))

@@ -1,0 +1,25 @@
+use Rattle.std.proofs.Common.{◌∙◌, ◌-◌, ◌+◌, ◌<◌, ◌≤◌, refl, arith, rules}
+use Rattle.smil_endsync.proofs.Climb.{decided_down, slots_stay}
+use Rattle.smil_endsync.proofs.ends.decide_all.Goals as goal
+
+pub loop-decided-init : goal.loop-decided-init
+loop-decided-init c = record {
+  within = omega arith;
+  later = λ i from above below. absurd (omega (arith, from, below));
+  kept = refl;
+}
+
+pub loop-decided-preserved : goal.loop-decided-preserved
+loop-decided-preserved c =
+    let above : 0 < c.loop-decided.decided - 1 = omega arith in
+    let below : c.loop-decided.decided - 1 < c.args.half = omega (arith, c.loop-decided.invariant.within) in
+    record {
+      within = omega (arith, c.loop-decided.invariant.within);
+      later =
+          decided_down c.loop-decided.places c.args.half (c.loop-decided.decided - 1) c.both.result above below (omega arith) (search rules)
+          (λ i from. c.loop-decided.invariant.later i (omega (arith, from)));
+      kept = slots_stay c.loop-decided.places c.args.half (c.loop-decided.decided - 1) c.both.result below ∙ c.loop-decided.invariant.kept;
+    }
+
+pub returns-clause-decided : goal.returns-clause-decided
+returns-clause-decided c = λ i above below. c.loop-decided.invariant.later i (omega (arith, above)) above below

@@ -1,0 +1,269 @@
+//! The ends of the time children of one container, kept under a change of one child.
+
+ghost use Rattle.std.specs.Prelude.{◌≡◌, ℕ, ◌+◌, ◌*◌, ◌/◌, ◌<◌, ◌≤◌, ◌^◌, ◌++◌, IfOk, length, drop, find, map, replicate};
+ghost use Rattle.std.specs.List.{position};
+ghost use Rattle.smil_model.specs.declared.interval.ChildEnd.{ChildEnd as AnyEnd};
+ghost use Rattle.smil_model.specs.interval.Durations;
+ghost use Rattle.smil_model.specs.interval.Durations.{container_duration};
+ghost use Rattle.smil_endsync.specs.Ends.{at_place, both_ends, no_ends, one_end, set_ends, IsDecided, IsOff};
+
+use super::{greatest_known, seq_end, since};
+use smil_model::{ChildEnd, Duplicate, Endsync, Kind, Time, greatest, least};
+use std::alloc::{AllocError, Global};
+use std::marker::Model;
+
+/// What the ends of children side by side come to.
+#[derive(Clone, Copy, Debug, PartialEq, Eq)]
+pub struct Summary {
+    /// The least of the first ends, none counting as unresolved.
+    pub first: Time,
+    /// The greatest of the latest ends, where a child has one.
+    pub latest: Option<Time>,
+    /// The greatest of the latest ends, none counting as unresolved, where there is a child.
+    pub all: Option<Time>,
+}
+
+/// The ends of the time children of a container, in document order, under a tournament of what
+/// neighbours come to; seen as the list of the ends.
+#[derive(Debug, Drop)]
+pub struct Ends {
+    children: Vec<ChildEnd>,
+    /// Which child the container's `endsync` names.
+    named: Option<usize>,
+    /// What neighbours come to, that of all children at place 1, and behind it that of each child.
+    places: Vec<Summary>,
+    /// The place of the first child, a power of 2.
+    half: usize,
+}
+
+impl Model for Ends {
+    ghost use Rattle.std.specs.Prelude.{List};
+    ghost use Rattle.smil_model.specs.declared.interval.ChildEnd.{ChildEnd as AnyEnd};
+    ghost use Rattle.smil_endsync.specs.Ends.{AreSummed};
+
+    ghost Value = { List AnyEnd };
+
+    ghost view = { λ a. a.children.items };
+
+    ghost invariant = { λ a. AreSummed a.children.items a.named a.places.items a.half };
+}
+
+impl Duplicate for Ends {
+    fn copy(&self) -> Result<Self, AllocError> {
+        Ok(Ends {
+            half: self.half,
+            named: self.named,
+            places: self.places.clone()?,
+            children: self.children.clone()?,
+        })
+    }
+}
+
+impl Ends {
+    /// These ends, of at most 2^32 children. It takes a step for each child, and memory for a
+    /// summary of each and of neighbours; refused where memory runs out.
+    pub fn of(alloc: Global, children: Vec<ChildEnd>) -> Result<Ends, AllocError>
+        requires { length children.items ≤ 2 ^ 32 }
+        ensures { IfOk result (λ ends. ends ≡ children.items) }
+    {
+        let half = children.len().next_power_of_two();
+        let mut places = summaries(alloc, half, &children)?;
+        decide_all(&mut places, half);
+        Ok(Ends {
+            named: named_place(&children),
+            places,
+            half,
+            children,
+        })
+    }
+
+    /// Puts the first and the latest end of a child. Whether it is named stays. It takes log n
+    /// steps for n children, and no memory.
+    pub fn set(&mut self, child: usize, first: Option<Time>, latest: Option<Time>)
+        requires { child < length self.old }
+        ensures { self.new ≡ set_ends self.old child first latest }
+    {
+        let end = ChildEnd {
+            named: self.children[child].named,
+            first,
+            latest,
+        };
+        let place = self.half + child;
+        self.children[child] = end;
+        self.places[place] = one(end);
+        decide_above(&mut self.places, self.half, place);
+    }
+
+    /// The implicit duration of an active container with these time children, in milliseconds, as
+    /// the function `implicit` gives it. It takes a fixed number of steps, and no memory.
+    pub fn implicit(&self, kind: Kind, endsync: &Endsync, start: i64) -> Time
+        ensures { result ≡ container_duration kind endsync.now start self.now }
+    {
+        if self.children.is_empty() {
+            return Time::At(0);
+        }
+        greatest(
+            Time::At(0),
+            since(start, self.children_end(kind, endsync, start)),
+        )
+    }
+
+    // Where the children of the container end.
+    fn children_end(&self, kind: Kind, endsync: &Endsync, start: i64) -> Time
+        ensures { result ≡ Durations.children_end kind endsync.now start self.now }
+    {
+        match kind {
+            Kind::Seq => seq_end(&self.children),
+            _ => self.endsync_end(endsync, start),
+        }
+    }
+
+    // Where the children of a par or excl end.
+    fn endsync_end(&self, endsync: &Endsync, start: i64) -> Time
+        ensures { result ≡ Durations.endsync_end endsync.now start self.now }
+    {
+        match endsync {
+            Endsync::Last => self.last_end(start),
+            Endsync::First => self.first_end(),
+            Endsync::All => self.all_end(),
+            Endsync::Child(_) => self.named_end(start),
+        }
+    }
+
+    // The greatest of the latest ends. Children without one do not count, and `start` is it where
+    // none counts.
+    fn last_end(&self, start: i64) -> Time
+        ensures { result ≡ Durations.last_end start self.now }
+    {
+        let _half = self.half;
+        at(&self.places, 1).latest.unwrap_or(Time::At(start))
+    }
+
+    // The least of the first ends, none counting as unresolved.
+    fn first_end(&self) -> Time
+        ensures { result ≡ Durations.first_end self.now }
+    {
+        let _half = self.half;
+        at(&self.places, 1).first
+    }
+
+    // The greatest of the latest ends, none counting as unresolved.
+    fn all_end(&self) -> Time
+        ensures { result ≡ Durations.all_end self.now }
+    {
+        let _half = self.half;
+        at(&self.places, 1).all.unwrap_or(Time::Unresolved)
+    }
+
+    // The first end of the named child, none counting as unresolved. Where no child is named, the
+    // last end.
+    fn named_end(&self, start: i64) -> Time
+        ensures { result ≡ Durations.named_end start self.now (find (λ c. c.named) self.now) }
+    {
+        match self.named {
+            Some(child) => self.children[child].first.unwrap_or(Time::Unresolved),
+            None => self.last_end(start),
+        }
+    }
+}
+
+// The place of the named child.
+fn named_place(children: &[ChildEnd]) -> Option<usize>
+    ensures { result ≡ position (λ (c : AnyEnd). c.named) children.now }
+{
+    children.iter().position(|child| child.named)
+}
+
+// What one child comes to.
+fn one(end: ChildEnd) -> Summary
+    ensures { result ≡ one_end end }
+{
+    Summary {
+        first: end.first.unwrap_or(Time::Unresolved),
+        latest: end.latest,
+        all: Some(end.latest.unwrap_or(Time::Unresolved)),
+    }
+}
+
+// What two groups of children come to, one behind the other.
+fn both(first: Summary, second: Summary) -> Summary
+    ensures { result ≡ both_ends first second }
+{
+    Summary {
+        first: least(first.first, second.first),
+        latest: greatest_known(first.latest, second.latest),
+        all: greatest_known(first.all, second.all),
+    }
+}
+
+// What no children come to.
+fn none() -> Summary
+    ensures { result ≡ no_ends }
+{
+    Summary {
+        first: Time::Unresolved,
+        latest: None,
+        all: None,
+    }
+}
+
+// So many places without children, and behind them what each child comes to.
+fn summaries(
+    alloc: Global,
+    half: usize,
+    children: &[ChildEnd],
+) -> Result<Vec<Summary>, AllocError>
+    ensures { IfOk result (λ places. places.items
+        ≡ replicate half no_ends ++ map one_end children.now) }
+{
+    let mut places = Vec::from_elem(alloc, none(), half)?;
+    for child in children {
+        places.push(one(*child))?;
+    }
+    Ok(places)
+}
+
+// Decides all places below the first child, from the last one up.
+fn decide_all(places: &mut [Summary], half: usize)
+    requires half { half ≤ 2 ^ 32 }
+    requires from { half ≤ length places.old }
+    ensures decided { (i : ℕ) → 0 < i → i < half → IsDecided places.new i }
+    ensures kept { drop half places.new ≡ drop half places.old }
+{
+    let mut decided = half;
+    while 1 < decided {
+        decided -= 1;
+        let first = at(places, 2 * decided);
+        let second = at(places, 2 * decided + 1);
+        places[decided] = both(first, second);
+    }
+}
+
+// Decides anew what is above a place, upwards.
+fn decide_above(places: &mut [Summary], half: usize, place: usize)
+    requires within { place < half + half }
+    requires above { 0 < place }
+    requires half { half ≤ 2 ^ 32 }
+    requires from { half ≤ length places.old }
+    requires off { (i : ℕ) → 0 < i → i < half → IsOff i (place / 2) → IsDecided places.old i }
+    ensures decided { (i : ℕ) → 0 < i → i < half → IsDecided places.new i }
+    ensures kept { drop half places.new ≡ drop half places.old }
+{
+    let mut decided = place;
+    while 1 < decided {
+        decided /= 2;
+        let first = at(places, 2 * decided);
+        let second = at(places, 2 * decided + 1);
+        places[decided] = both(first, second);
+    }
+}
+
+// What a place comes to; a place past the last one has no children.
+fn at(places: &[Summary], place: usize) -> Summary
+    ensures { result ≡ at_place places.now place }
+{
+    match places.get(place) {
+        Some(summary) => *summary,
+        None => none(),
+    }
+}

@@ -1,0 +1,224 @@
+//! The ends of the time children of each element, kept under a change of one of them.
+
+ghost use Rattle.std.specs.Prelude.{◌≡◌, ◌<◌, [], Some, true, length, map, slice_get, slice_index_or, IfOk};
+ghost use Rattle.smil_model.specs.declared.document.Node.{Node as AnyNode};
+ghost use Rattle.smil_model.specs.document.Document.{elements, node_at};
+ghost use Rattle.smil_model.specs.document.Closure.{has};
+ghost use Rattle.smil_model.specs.document.Defaults.{endsync_of};
+ghost use Rattle.smil_model.specs.diary.Lawful.{has_element};
+ghost use Rattle.smil_model.specs.interval.Durations.{container_duration};
+ghost use Rattle.smil_cells.specs.Round.{AreOfElements};
+ghost use Rattle.smil_nodes.specs.Endings.{AreHomes, HasHome, ending_in, home_at, named_ends, put_ending};
+
+use super::schedule::Schedule;
+use smil_element::{Ending, is_named};
+use smil_endsync::Ends;
+use smil_instance_rows::copy_each;
+use smil_model::{Attrs, ChildEnd, Duplicate, Endsync, Kind, Time};
+use smil_tree::Tree;
+use std::alloc::{AllocError, Global};
+use std::marker::Model;
+
+/// Where the ending of an element stands: the place of its container among the elements, and its
+/// own among the container's time children.
+#[derive(Clone, Copy, Debug, PartialEq, Eq)]
+pub struct Home {
+    pub container: usize,
+    pub child: usize,
+}
+
+/// Of the elements of a document, in document order, the ends of the time children of each, and
+/// where its own ending stands among those of its container; seen as both lists.
+pub struct Endings {
+    homes: Vec<Option<Home>>,
+    ends: Vec<Ends>,
+}
+
+impl Drop for Endings {
+    // One call for each holder: its fields are dropped here alone.
+    fn drop(self) {
+        let Endings {
+            homes: _homes,
+            ends: _ends,
+        } = self;
+    }
+}
+
+impl Model for Endings {
+    ghost use Rattle.smil_nodes.specs.Endings.{KeptEnds, AreHoused};
+
+    ghost Value = { KeptEnds };
+
+    ghost view = { λ a. record { homes = a.homes.items; ends = a.ends.items } };
+
+    ghost invariant = { λ a. AreHoused a.homes.items a.ends.items };
+}
+
+impl Duplicate for Endings {
+    fn copy(&self) -> Result<Self, AllocError> {
+        Ok(Endings {
+            homes: self.homes.clone()?,
+            ends: copy_each(*self.ends.allocator(), &self.ends)?,
+        })
+    }
+}
+
+impl Endings {
+    /// No ends yet, of the time children of the elements that have these rows. It takes a step for
+    /// each element, and memory for each; refused where memory runs out.
+    pub fn of(alloc: Global, tree: &Tree, schedule: &Schedule) -> Result<Endings, AllocError>
+        requires { AreOfElements tree.now.nodes schedule.now }
+        ensures homes { IfOk result (λ made. AreHomes tree.now.nodes made.homes) }
+        ensures ends { IfOk result (λ made. made.ends
+            ≡ map (named_ends tree.now.nodes) (elements tree.now.nodes)) }
+    {
+        Ok(Endings {
+            homes: homes_of(alloc, tree, schedule)?,
+            ends: ends_of(alloc, tree, schedule)?,
+        })
+    }
+
+    /// The ending of the element at a place; none of an element without a container. It takes no
+    /// memory.
+    pub fn ending(&self, place: usize) -> Ending
+        ensures { result ≡ ending_in self.now place }
+    {
+        match home(&self.homes, place) {
+            Some(home) => {
+                let end = self.ends[home.container].end(home.child);
+                Ending {
+                    first: end.first,
+                    latest: end.latest,
+                }
+            }
+            None => Ending {
+                first: None,
+                latest: None,
+            },
+        }
+    }
+
+    /// Puts the ending of the element at a place; where it has no container nothing changes. It
+    /// takes log n steps for n time children of the container, and no memory.
+    pub fn put(&mut self, place: usize, ending: Ending)
+        ensures { self.new ≡ put_ending self.old place ending }
+    {
+        if let Some(home) = home(&self.homes, place) {
+            self.ends[home.container].set(home.child, ending.first, ending.latest);
+        }
+    }
+
+    /// The implicit duration of an active container of this kind and with these attributes that
+    /// stands at a place, in milliseconds; `start` is the start of its present iteration. It takes a
+    /// fixed number of steps, and no memory.
+    pub fn implicit(&self, place: usize, kind: Kind, attrs: &Attrs, start: i64) -> Time
+        requires { place < length self.now.ends }
+        ensures { result ≡ container_duration kind (endsync_of attrs.now) start
+            (slice_index_or self.now.ends place []) }
+    {
+        match &attrs.endsync {
+            Some(endsync) => self.ends[place].implicit(kind, endsync, start),
+            None => self.ends[place].implicit(kind, &Endsync::Last, start),
+        }
+    }
+}
+
+// Where the ending of the element at a place stands.
+fn home(homes: &[Option<Home>], place: usize) -> Option<Home>
+    ensures { result ≡ home_at homes.now place }
+{
+    match homes.get(place) {
+        Some(home) => *home,
+        None => None,
+    }
+}
+
+// Where the endings of the elements stand.
+fn homes_of(
+    alloc: Global,
+    tree: &Tree,
+    schedule: &Schedule,
+) -> Result<Vec<Option<Home>>, AllocError>
+    requires { AreOfElements tree.now.nodes schedule.now }
+    ensures { IfOk result (λ homes. AreHomes tree.now.nodes homes.items) }
+{
+    tree.valid();
+    let count = schedule.len();
+    let mut nexts = Vec::from_elem(alloc, 0, count)?;
+    let mut homes = Vec::new(alloc);
+    for place in 0..count {
+        let who = schedule.row(place).serial;
+        homes.push(home_of(tree, schedule, who, &mut nexts))?;
+    }
+    Ok(homes)
+}
+
+// Where the ending of an element stands. For each place of a container there is the number of its
+// time child that comes next.
+fn home_of(tree: &Tree, schedule: &Schedule, who: u32, nexts: &mut [usize]) -> Option<Home>
+    requires of_elements { AreOfElements tree.now.nodes schedule.now }
+    requires element { has_element tree.now.nodes who ≡ true }
+    requires nexts { length nexts.old ≡ length schedule.now }
+    ensures { HasHome tree.now.nodes who result }
+{
+    tree.valid();
+    let parent = tree.time_parent(who)?;
+    let container = schedule.place(parent).unwrap();
+    let child = place_among(tree.time_children(parent), who, nexts[container]);
+    nexts[container] = child + 1;
+    Some(Home { container, child })
+}
+
+// The place of a serial among others, where it is looked for at an expected place first.
+fn place_among(serials: &[u32], who: u32, expected: usize) -> usize
+    requires { has serials.now who ≡ true }
+    ensures { slice_get serials.now result ≡ Some who }
+{
+    if is_at(serials, expected, who) {
+        return expected;
+    }
+    serials.iter().position(|serial| *serial == who).unwrap()
+}
+
+// Whether a serial stands at a place.
+fn is_at(serials: &[u32], place: usize, who: u32) -> bool
+    ensures { result ≡ true → slice_get serials.now place ≡ Some who }
+{
+    match serials.get(place) {
+        Some(serial) => *serial == who,
+        None => false,
+    }
+}
+
+// The ends of the time children of the elements, none known.
+fn ends_of(alloc: Global, tree: &Tree, schedule: &Schedule) -> Result<Vec<Ends>, AllocError>
+    requires { AreOfElements tree.now.nodes schedule.now }
+    ensures { IfOk result (λ ends. ends.items
+        ≡ map (named_ends tree.now.nodes) (elements tree.now.nodes)) }
+{
+    tree.valid();
+    let mut ends = Vec::new(alloc);
+    for place in 0..schedule.len() {
+        let who = schedule.row(place).serial;
+        ends.push(Ends::of(alloc, children_of(alloc, tree, who)?)?)?;
+    }
+    Ok(ends)
+}
+
+// The ends of the time children of an element, none known.
+fn children_of(alloc: Global, tree: &Tree, who: u32) -> Result<Vec<ChildEnd>, AllocError>
+    requires { has_element tree.now.nodes who ≡ true }
+    ensures items { (e : AnyNode) → node_at (elements tree.now.nodes) who ≡ Some e
+        → IfOk result (λ ends. ends.items ≡ named_ends tree.now.nodes e) }
+{
+    tree.valid();
+    let mut ends = Vec::new(alloc);
+    for child in tree.time_children(who) {
+        ends.push(ChildEnd {
+            named: is_named(tree.attrs(who), tree.attrs(*child)),
+            first: None,
+            latest: None,
+        })?;
+    }
+    Ok(ends)
+}

@@ -1,0 +1,46 @@
+//! What an evaluation reads of the other elements.
+
+ghost use Rattle.smil_cells.specs.Plain.{interval_in};
+
+use super::endings::Endings;
+use super::schedule::Schedule;
+use smil_element::{Containers, Intervals};
+use smil_model::{ChildEnd, Interval, Time};
+use smil_past::Past;
+use std::alloc::AllocError;
+
+/// The intervals of the elements, and the ends of the time children of each.
+#[derive(Drop)]
+pub struct Sources<'a> {
+    pub schedule: &'a Schedule,
+    pub endings: &'a Endings,
+}
+
+impl<'a> Intervals for Sources<'a> {
+    ghost given = { λ sources. interval_in sources.schedule.now };
+
+    fn interval(&self, who: u32) -> Option<Interval> {
+        self.schedule.interval(who)
+    }
+}
+
+impl<'a> Containers for Sources<'a> {
+    ghost use Rattle.smil_nodes.specs.Endings.{KnowsEnds};
+
+    ghost knows_ends = { λ sources h who. KnowsEnds sources.schedule.now sources.endings.now h who };
+
+    fn implicit(
+        &self,
+        past: &Past,
+        who: u32,
+        start: i64,
+        _children: &mut Vec<ChildEnd>,
+    ) -> Result<Time, AllocError> {
+        past.possible();
+        let place = self.schedule.place(who).unwrap();
+        let tree = past.tree();
+        Ok(self
+            .endings
+            .implicit(place, tree.kind(who), tree.attrs(who), start))
+    }
+}
