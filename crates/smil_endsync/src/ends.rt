@@ -1,6 +1,6 @@
 //! The ends of the time children of one container, kept under a change of one child.
 
-ghost use Rattle.std.specs.Prelude.{◌≡◌, ℕ, ◌+◌, ◌*◌, ◌/◌, ◌<◌, ◌≤◌, ◌^◌, ◌++◌, IfOk, length, drop, find, map, replicate};
+ghost use Rattle.std.specs.Prelude.{◌≡◌, ℕ, ◌+◌, ◌*◌, ◌/◌, ◌<◌, ◌≤◌, ◌^◌, ◌++◌, Some, IfOk, length, drop, find, map, replicate, slice_get};
 ghost use Rattle.std.specs.List.{position};
 ghost use Rattle.smil_model.specs.declared.interval.ChildEnd.{ChildEnd as AnyEnd};
 ghost use Rattle.smil_model.specs.interval.Durations;
@@ -75,6 +75,14 @@ impl Ends {
             half,
             children,
         })
+    }
+
+    /// The ends of a child. It takes no memory.
+    pub fn end(&self, child: usize) -> ChildEnd
+        requires { child < length self.now }
+        ensures { slice_get self.now child ≡ Some result }
+    {
+        self.children[child]
     }
 
     /// Puts the first and the latest end of a child. Whether it is named stays. It takes log n

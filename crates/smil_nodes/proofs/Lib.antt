@@ -15,3 +15,7 @@ pub mod Finishing
 pub mod Slotted
 pub mod Undone
 pub mod Refreshing
+pub mod Among
+pub mod Family
+pub mod Staying
+pub mod Knowing

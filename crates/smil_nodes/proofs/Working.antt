@@ -20,7 +20,7 @@ use Rattle.smil_cells.proofs.Taking.{elements_differ}
 use Rattle.smil_nodes.specs.Work.{AreSettled, is_later_reader}
 use Rattle.smil_nodes.proofs.Apart.{agree_apart, agree_all, not_following}
 
-left_out : (old : ℕ → Bool) (rank r : ℕ) → (not (r == rank) && old r) ≡ false → (r ≡ rank) ⊎ (old r ≡ false)
+pub left_out : (old : ℕ → Bool) (rank r : ℕ) → (not (r == rank) && old r) ≡ false → (r ≡ rank) ⊎ (old r ≡ false)
 left_out old rank r q = by_test (r == rank) refl q
   where
     by_test : (t : Bool) → r == rank ≡ t → (not t && old r) ≡ false → (r ≡ rank) ⊎ (old r ≡ false)
