@@ -1,8 +1,8 @@
 -- Which child is named, and the ends that are put to one.
 use Rattle.std.proofs.Common.{◌≡◌, refl, ◌∙◌, ap, sym, ℕ, ℤ, zero, suc, ◌<◌, List, [], ◌∷◌, length, get_or, set, Option, Some, None, Bool, true, false, arith}
-use Rattle.std.specs.Prelude.{◌+◌, cond, not, nat_lt, map, find, unwrap_or}
+use Rattle.std.specs.Prelude.{◌+◌, slice_get, cond, not, nat_lt, map, find, unwrap_or}
 use Rattle.std.specs.List.{position, position_or_len}
-use Rattle.std.proofs.lemmas.Bool.{ltb-false, lt-ltb}
+use Rattle.std.proofs.lemmas.Bool.{ltb-false}
 use Rattle.std.proofs.lemmas.List.Folds.{find_at}
 use Rattle.std.proofs.lemmas.Option.{slice_get_past}
 use Rattle.smil_model.specs.declared.times.Time.{Time}
@@ -43,17 +43,19 @@ sums_set (c ∷ cs) (suc k) end' = ap (λ rest. one_end c ∷ rest) (sums_set cs
 
 -- ---- the named child is found at its place
 
+there_at : (xs : List ChildEnd) (j : ℕ) (d : ChildEnd) → j < length xs → slice_get xs j ≡ Some (get_or xs j d)
+there_at [] j d less = absurd (omega (arith, less))
+there_at (x ∷ xs) zero d less = refl
+there_at (x ∷ xs) (suc j) d less = there_at xs j d (omega (arith, less))
+
 found_at : (cs : List ChildEnd) (k : ℕ) (d : ChildEnd) → position (λ (c : ChildEnd). c.named) cs ≡ Some k → k < length cs → find is_named cs ≡ Some (get_or cs k d)
 found_at cs k d q lt = by_test (nat_lt (position_or_len is_named cs) (length cs)) refl q
   where
-    at_place : (xs : List ChildEnd) (j : ℕ) → j < length xs → cond (nat_lt j (length xs)) (Some (get_or xs j d)) None ≡ Some (get_or xs j d)
-    at_place xs j less = ap (λ t. cond t (Some (get_or xs j d)) None) (lt-ltb j (length xs) less)
-
     by_test : (t : Bool) → nat_lt (position_or_len is_named cs) (length cs) ≡ t → cond t (Some (position_or_len is_named cs)) None ≡ Some k → find is_named cs ≡ Some (get_or cs k d)
     by_test false e r = cc
     by_test true e r =
         let same : position_or_len is_named cs ≡ k = cc in
-        find_at is_named cs ∙ ap (λ j. cond (nat_lt j (length cs)) (Some (get_or cs j d)) None) same ∙ at_place cs k lt
+        find_at is_named cs ∙ ap (slice_get cs) same ∙ there_at cs k d lt
 
 pub named_found : (start : ℤ) (cs : List ChildEnd) (k : ℕ) (d : ChildEnd) → Some k ≡ position (λ (c : ChildEnd). c.named) cs → k < length cs → unwrap_or (get_or cs k d).first Unresolved ≡ named_end start cs (find (λ (c : ChildEnd). c.named) cs)
 named_found start cs k d q lt = sym (ap (named_end start cs) (found_at cs k d (sym q) lt))

@@ -32,6 +32,7 @@ use Rattle.smil_nodes.specs.Noted.{is_noted_by}
 use Rattle.smil_nodes.specs.Work.{IsBelow, IsUnlisted}
 use Rattle.smil_nodes.proofs.Among.{among_names, among_own, among_stays, ended, names_in, set_own}
 use Rattle.smil_nodes.proofs.Family.{child_below, family, one_child, rank_of}
+use Rattle.smil_nodes.proofs.Housing.{home_each}
 use Rattle.smil_nodes.proofs.Noted.{untouched}
 use Rattle.smil_nodes.proofs.Ranked.{found_place}
 use Rattle.smil_nodes.proofs.Staying.{all_done, end_by_interval, same_end}
@@ -167,9 +168,9 @@ module _ (h : History) (who : ℕ) (before after : ℕ → Option Interval) (kep
     where
       by_test : (p k : ℕ) (e c : Node) → slice_get (elements h.nodes) p ≡ Some e → slice_get (time_children h.nodes e.serial) k ≡ Some c → test c.serial → (t : Bool) → who == c.serial ≡ t → slice_get (slice_index_or (put_home kept.ends ending (home_at kept.homes place)) p []) k ≡ Some (child_end h after e c)
       by_test p k e c at_e at_c passes true q =
-          own_right are.names p k e c at_e at_c (home_at kept.homes place) (are.homes place element here) (eqb-true who c.serial q)
+          own_right are.names p k e c at_e at_c (home_at kept.homes place) (home_each h.nodes (elements h.nodes) kept.homes place element are.homes here) (eqb-true who c.serial q)
       by_test p k e c at_e at_c passes false q =
-          other_right are.names p k e c at_e at_c (home_at kept.homes place) (are.homes place element here) q
+          other_right are.names p k e c at_e at_c (home_at kept.homes place) (home_each h.nodes (elements h.nodes) kept.homes place element are.homes here) q
           (are.right p k e c at_e at_c (was c.serial q passes))
 
 -- an element was evaluated, and its ending put

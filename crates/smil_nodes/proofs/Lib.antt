@@ -18,4 +18,5 @@ pub mod Refreshing
 pub mod Among
 pub mod Family
 pub mod Staying
+pub mod Housing
 pub mod Knowing

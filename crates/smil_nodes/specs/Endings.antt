@@ -45,10 +45,15 @@ abbrev pub HasHome : List Node → ℕ → Option Home → Type 0
 HasHome nodes who None = serial_of (time_parent nodes who) ≡ None
 HasHome nodes who (Some home) = IsHome nodes who home
 
+-- of these elements of a document, one after another
+abbrev pub HaveHomes : List Node → List Node → List (Option Home) → Type 0
+HaveHomes nodes [] [] = Unit {0}
+HaveHomes nodes [] (home ∷ homes) = ⊥
+HaveHomes nodes (e ∷ es) [] = ⊥
+HaveHomes nodes (e ∷ es) (home ∷ homes) = HasHome nodes e.serial home × HaveHomes nodes es homes
+
 abbrev pub AreHomes : List Node → List (Option Home) → Type 0
-AreHomes nodes homes =
-    (place : ℕ) (e : Node) → slice_get (elements nodes) place ≡ Some e
-    → HasHome nodes e.serial (home_at homes place)
+AreHomes nodes homes = HaveHomes nodes (elements nodes) homes
 
 -- ---- endings that are put and read
 

@@ -155,11 +155,12 @@ fn homes_of(
 
 // Where the ending of an element stands. For each place of a container there is the number of its
 // time child that comes next.
-fn home_of(tree: &Tree, schedule: &Schedule, who: u32, nexts: &mut [usize]) -> Option<Home>
+fn home_of(tree: &Tree, schedule: &Schedule, who: u32, nexts: &mut Vec<usize>) -> Option<Home>
     requires of_elements { AreOfElements tree.now.nodes schedule.now }
     requires element { has_element tree.now.nodes who ≡ true }
-    requires nexts { length nexts.old ≡ length schedule.now }
-    ensures { HasHome tree.now.nodes who result }
+    requires nexts { length nexts.old.items ≡ length schedule.now }
+    ensures home { HasHome tree.now.nodes who result }
+    ensures nexts { length nexts.new.items ≡ length nexts.old.items }
 {
     tree.valid();
     let parent = tree.time_parent(who)?;

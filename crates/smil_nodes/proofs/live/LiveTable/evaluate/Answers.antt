@@ -1,5 +1,6 @@
 use Rattle.std.proofs.Common.{◌≡◌, ◌∙◌, ap, sym, subst, ◌<◌, ◌≤◌, length, arith, ℤ, w64}
-use Rattle.std.specs.Prelude.{is_some}
+use Rattle.std.specs.Prelude.{Option, is_some, slice_get}
+use Rattle.smil_model.specs.declared.interval.Interval.{Interval}
 use Rattle.std.proofs.lemmas.Option.{same_Some}
 use Rattle.std.proofs.lemmas.Int.{to_z-of_z}
 use Rattle.smil_model.specs.document.Document.{elements}
@@ -11,6 +12,8 @@ use Rattle.smil_cells.specs.declared.plain.known.Row.{Row}
 use Rattle.smil_cells.specs.Plain.{interval_in}
 use Rattle.smil_cells.proofs.Rows.{IsFirst, set_own}
 use Rattle.smil_cells.proofs.Taking.{found, elements_few, near_where, taken_of}
+use Rattle.smil_element.specs.Endings.{ending_by}
+use Rattle.smil_nodes.specs.Endings.{put_ending}
 use Rattle.smil_nodes.proofs.live.LiveTable.evaluate.Goals as goal
 
 pub unwrap-place-requires : goal.unwrap-place-requires
@@ -33,6 +36,9 @@ comings_of-comings-requires-clause-near g c =
     near_where IsIntervalNear c.in_ok-made.made.interval (λ i q.
     let at = found c.args.past.now.document.nodes c.args.self.now.schedule c.args.who c.possible.ensures.valid.numbered.distinct c.requires.of_elements c.requires.element in
     interval_near (history_of c.args.past.now) (interval_in c.args.self.now.schedule) _ at.element i c.possible.ensures.near (sym (c.in_ok-made.ensures.made at.element at.node).interval ∙ q))
+
+pub evaluation_of-made-requires-clause-known : goal.evaluation_of-made-requires-clause-known
+evaluation_of-made-requires-clause-known g c = λ e here implicit. c.requires.known e here implicit
 
 pub replace-requires-clause-near : goal.replace-requires-clause-near
 replace-requires-clause-near g c =
@@ -63,3 +69,24 @@ returns-clause-same g c = λ same.
     ap (λ after. interval_in after c.args.who) c.in_ok-replace.ensures.put
     ∙ set_own row rows c.unwrap-place.result first
     ∙ sym (sym c.interval-before.ensures.value ∙ c.differ.ensures same)
+
+pub returns-clause-ended : goal.returns-clause-ended
+returns-clause-ended g c =
+    let nodes = c.args.past.now.document.nodes in
+    let h = history_of c.args.past.now in
+    let rows = c.args.self.now.schedule in
+    let at = found nodes rows c.args.who c.possible.ensures.valid.numbered.distinct c.requires.of_elements c.requires.element in
+    let is : c.unwrap-place.result ≡ at.place = same_Some _ _ (sym c.unwrap-place.ensures ∙ c.place.ensures ∙ at.position_is) in
+    let first : IsFirst c.args.who rows c.unwrap-place.result = subst (IsFirst c.args.who rows) (sym is) at.first in
+    let row : Row = record { serial = c.args.who; interval = c.in_ok-made.made.interval; comings = c.comings_of-comings.result } in
+    let own : interval_in c.replace.new.self.schedule c.args.who ≡ c.in_ok-made.made.interval =
+    ap (λ after. interval_in after c.args.who) c.in_ok-replace.ensures.put ∙ set_own row rows c.unwrap-place.result first in
+    record {
+      place = c.unwrap-place.result;
+      element = at.element;
+      here = ap (slice_get (elements nodes)) is ∙ at.here;
+      is_who = at.is_who;
+      after_is =
+          c.in_ok-replace.ensures.ended
+          ∙ ap (put_ending c.args.self.now.endings c.unwrap-place.result) (c.ending_of.ensures ∙ ap (λ (o : Option Interval). ending_by h o c.args.who) (sym own));
+    }

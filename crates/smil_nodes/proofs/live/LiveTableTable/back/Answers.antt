@@ -1,13 +1,32 @@
-use Rattle.std.proofs.Common.{◌∙◌, ap, sym, List}
+use Rattle.std.proofs.Common.{◌≡◌, ◌∙◌, ap, sym, subst, List, Bool}
 use Rattle.smil_cells.specs.declared.plain.known.Row.{Row}
-use Rattle.smil_nodes.specs.Undo.{rows_back}
-use Rattle.smil_nodes.proofs.Undone.{back_push}
+use Rattle.smil_nodes.specs.Endings.{KeptEnds}
+use Rattle.smil_nodes.specs.Marked.{IsMarked, IsWhole}
+use Rattle.smil_nodes.specs.Undo.{ends_back, rows_back}
+use Rattle.smil_nodes.proofs.Undone.{back_push, ends_next}
 use Rattle.smil_nodes.proofs.live.LiveTableTable.back.Goals as goal
 
-pub loop-row-preserved : goal.loop-row-preserved
-loop-row-preserved c =
-    let rows = c.loop-row.self.schedule in
-    ap (λ (xs : List Row). rows_back xs c.take_last.new.self) c.put_back.ensures
-    ∙ sym (back_push rows c.take_last.new.self c.in-Some.row)
-    ∙ sym (ap (rows_back rows) c.in-Some.ensures.last)
-    ∙ c.loop-row.invariant
+pub loop-noted-preserved : goal.loop-noted-preserved
+loop-noted-preserved c =
+    let rows = c.loop-noted.self.schedule in
+    let kept = c.loop-noted.self.endings in
+    let notes = c.take_last.new.self in (
+      ap (λ (xs : List Row). rows_back xs notes) c.put_back.ensures.rows
+          ∙ sym (back_push rows notes c.in-Some.noted)
+          ∙ sym (ap (rows_back rows) c.in-Some.ensures.last)
+          ∙ c.loop-noted.invariant.0,
+      (λ i. ends_back (c.put_back.ensures.rows i) (c.put_back.ensures.ends i) notes)
+          ∙ ends_next rows kept notes c.in-Some.noted
+          ∙ sym (ap (ends_back rows kept) c.in-Some.ensures.last)
+          ∙ c.loop-noted.invariant.1,
+    )
+
+pub returns-clause-current : goal.returns-clause-current
+returns-clause-current c = λ h now marked.
+    let old = c.args.self.now in
+    let rows = c.loop-noted.self.schedule in
+    let kept = c.loop-noted.self.endings in
+    let stands = subst (λ (b : Bool). IsMarked b old.undo old.schedule old.endings h now) c.requires marked in
+    let rows_are : rows_back old.schedule old.undo ≡ rows = sym c.loop-noted.invariant.0 ∙ ap (rows_back rows) c.in_default.ensures in
+    let ends_are : ends_back old.schedule old.endings old.undo ≡ kept = sym c.loop-noted.invariant.1 ∙ ap (ends_back rows kept) c.in_default.ensures in
+    subst (λ (x : List Row × KeptEnds). IsWhole x.0 x.1 h now) (λ i. (rows_are i, ends_are i)) stands

@@ -3,4 +3,4 @@ use Rattle.smil_nodes.proofs.Fixed.{current_intervals}
 use Rattle.smil_nodes.proofs.live.LiveTableTable.interval.Goals as goal
 
 pub returns : goal.returns
-returns c = λ h now are. c.interval.ensures.value ∙ current_intervals c.args.self.now.schedule h now are c.args.who
+returns c = λ h now are. c.interval.ensures.value ∙ current_intervals c.args.self.now.schedule h now are.rows_are c.args.who

@@ -5,11 +5,16 @@ use Rattle.smil_past.specs.Past.{history_of}
 use Rattle.smil_cells.proofs.Empty.{empty_serials}
 use Rattle.smil_cells.proofs.Paired.{serials_in}
 use Rattle.smil_nodes.proofs.Finishing.{any_least}
+use Rattle.std.proofs.Common.{◌≡◌, List, map, subst}
+use Rattle.smil_model.specs.declared.document.Node.{Node}
+use Rattle.smil_cells.specs.Plain.{interval_in}
+use Rattle.smil_nodes.specs.Endings.{AreHomes, named_ends}
+use Rattle.smil_nodes.proofs.Knowing.{none_known}
 use Rattle.smil_nodes.proofs.live.LiveTableTable.of.Goals as goal
 
 pub evaluate_all-requires-clause-of_elements : goal.evaluate_all-requires-clause-of_elements
 evaluate_all-requires-clause-of_elements g c =
-    ap serials_in c.in_ok-of.ensures ∙ empty_serials (elements c.tree.result.now.nodes)
+    ap serials_in c.in_ok-schedule.ensures ∙ empty_serials (elements c.tree.result.now.nodes)
     ∙ ap (λ (d : Document). serials (elements d.nodes)) c.tree.ensures
 
 pub returns-in_err-evaluate_all-clause-most : goal.returns-in_err-evaluate_all-clause-most
@@ -20,3 +25,13 @@ returns-in_err-evaluate_all-clause-most g c =
 pub returns-clause-least : goal.returns-clause-least
 returns-clause-least g c =
     any_least c.args.past.now.document.nodes (current_interval (history_of c.args.past.now) c.args.moment) c.args.steps.now c.evaluate_all.new.steps c.in_ok-evaluate_all.ensures.steps
+
+pub of-requires : goal.of-requires
+of-requires g c = ap serials_in c.in_ok-schedule.ensures ∙ empty_serials (elements c.tree.result.now.nodes)
+
+pub evaluate_all-requires-clause-known : goal.evaluate_all-requires-clause-known
+evaluate_all-requires-clause-known g c =
+    let nodes_are : c.tree-2.result.now.nodes ≡ c.args.past.now.document.nodes = ap (λ (d : Document). d.nodes) c.tree-2.ensures in
+    none_known (history_of c.args.past.now) (interval_in c.in_ok-schedule.schedule) c.in_ok-of.field-0
+    (subst (λ (nodes : List Node). AreHomes nodes c.in_ok-of.field-0.homes) nodes_are c.in_ok-of.ensures.homes)
+    (c.in_ok-of.ensures.ends ∙ ap (λ (nodes : List Node). map (named_ends nodes) (elements nodes)) nodes_are)

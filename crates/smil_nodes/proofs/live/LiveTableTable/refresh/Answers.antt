@@ -1,4 +1,4 @@
-use Rattle.std.proofs.Common.{◌∙◌, ap, sym, subst, refl, List, ℕ, ◌<◌, length, drop, get_or, ℤ, w64, arith}
+use Rattle.std.proofs.Common.{◌≡◌, ◌∙◌, ap, sym, subst, refl, List, ℕ, ◌<◌, length, drop, get_or, ℤ, w64, arith}
 use Rattle.std.proofs.lemmas.Int.{to_z-of_z}
 use Rattle.smil_model.specs.document.Closure.{has}
 use Rattle.smil_model.specs.interval.Current.{current_interval}
@@ -14,6 +14,13 @@ use Rattle.smil_nodes.proofs.Working.{others_stay, settled_same, settled_changed
 use Rattle.smil_nodes.proofs.Tally.{none_counted, one_counted, rank_passed}
 use Rattle.smil_nodes.proofs.Finishing.{counted_least, counted_most, settled_current, told_pushed, told_same, untold_stay}
 use Rattle.smil_nodes.proofs.Refreshing.{differ_in, from_later, from_taken, is_order, later_told, noted_told, noted_within, rest_of}
+use Rattle.std.proofs.lemmas.Bool.{or_parts}
+use Rattle.smil_model.specs.document.Document.{elements, node_at}
+use Rattle.smil_laws.proofs.Rounds.{find-serial}
+use Rattle.smil_cells.specs.Plain.{interval_in}
+use Rattle.smil_nodes.specs.Work.{IsUnlisted}
+use Rattle.smil_nodes.proofs.Knowing.{all_unlisted, children_unlisted, known_ended, known_first, knows, unlisted_next}
+use Rattle.smil_nodes.proofs.Working.{left_out}
 use Rattle.smil_nodes.proofs.live.LiveTableTable.refresh.Goals as goal
 
 pub loop-rank-init : goal.loop-rank-init
@@ -30,13 +37,14 @@ loop-rank-init g c =
     let told = noted_told graph past c.args.from c.clear.new.self c.note_touched.new.agenda order c.order-order.ensures.kept c.graph-graph.ensures c.clear.ensures c.in_ok-note_touched.ensures in
     let within = noted_within graph past c.args.from c.clear.new.self c.note_touched.new.agenda order c.order-order.ensures.kept c.graph-graph.ensures c.clear.ensures c.in_ok-note_touched.ensures in (
       subst (λ (m : ℤ). AreSettled (history_of past) m order listed rows) (sym (to_z-of_z w64 c.args.moment c.ranges.moment))
-          (settled_first past c.args.from c.args.moment order rows listed in_order is apart told c.requires.before),
+          (settled_first past c.args.from c.args.moment order rows listed in_order is apart told c.requires.before.rows_are),
       none_counted nodes past.log (drop c.args.from past.diary) order rows c.args.steps.now listed within
           (first_reached past c.args.from c.args.moment order rows listed in_order is apart told within),
       unchanged_none c.args.changed.now rows,
-      λ m. refl,
+      λ m. (refl, refl),
       refl,
       omega arith,
+      known_first past c.args.from order listed in_order apart told (interval_in rows) c.args.self.now.endings c.requires.before.ends_are,
     )
 
 pub evaluate-requires-clause-element : goal.evaluate-requires-clause-element
@@ -46,6 +54,21 @@ evaluate-requires-clause-element g c =
     ordered_element nodes order c.in-Some.rank
     (is_order c.graph-graph.result.now nodes order c.graph-graph.ensures c.order-order.ensures.order)
     ((c.loop-rank.invariant.1).above c.in-Some.rank c.in-Some.ensures.member).1
+
+pub evaluate-requires-clause-known : goal.evaluate-requires-clause-known
+evaluate-requires-clause-known g c = λ e here implicit.
+    let past = c.args.past.now in
+    let nodes = past.document.nodes in
+    let order = c.order-order.result.now in
+    let rank = c.in-Some.rank in
+    let who = get_or order rank 0 in
+    let old = c.loop-rank.self.agenda in
+    let within : rank < length order = ((c.loop-rank.invariant.1).above rank c.in-Some.ensures.member).1 in
+    let is = is_order c.graph-graph.result.now nodes order c.graph-graph.ensures c.order-order.ensures.order in
+    let distinct = c.possible.ensures.valid.numbered.distinct in
+    let own : e.serial ≡ who = find-serial who (elements nodes) e here in
+    knows (history_of past) c.loop-rank.self.schedule c.loop-rank.self.endings (IsUnlisted order (has old)) who e distinct (c.loop-rank.invariant.0).of_elements c.loop-rank.invariant.6 here
+    (λ k child at. children_unlisted nodes order old c.take_first.new.self rank e distinct is within (sym own) (ap (node_at (elements nodes)) own ∙ here) implicit c.in-Some.ensures k child at)
 
 pub loop-rank-smaller-in-Continue-branch-4 : goal.loop-rank-smaller-in-Continue-branch-4
 loop-rank-smaller-in-Continue-branch-4 g c =
@@ -95,9 +118,16 @@ loop-rank-preserved-in-Continue-branch-4 g c =
           (has c.put_readers.new.agenda) from c.evaluate.new.steps kept.steps,
       unchanged_both c.args.changed.now c.loop-rank.changed c.push.new.self c.args.self.now.schedule c.loop-rank.self.schedule c.evaluate.new.self.schedule c.loop-rank.invariant.2
           (told_pushed c.loop-rank.changed c.push.new.self who c.loop-rank.self.schedule c.evaluate.new.self.schedule others c.in_ok-push.ensures.ok),
-      λ marked. kept.back (c.loop-rank.invariant.4 ∙ marked) ∙ c.loop-rank.invariant.3 marked,
+      λ marked.
+          let later = kept.back (c.loop-rank.invariant.4 ∙ marked) in
+          let before = c.loop-rank.invariant.3 marked in
+          (later.0 ∙ before.0, later.1 ∙ before.1),
       kept.has_mark ∙ c.loop-rank.invariant.4,
       omega (arith, kept.counted, c.loop-rank.invariant.5),
+      known_ended (history_of past) who c.loop-rank.self.schedule c.evaluate.new.self.schedule c.loop-rank.self.endings c.evaluate.new.self.endings (IsUnlisted order (has old)) (IsUnlisted order (has c.put_readers.new.agenda)) distinct others kept.ended
+          (λ s other. unlisted_next order rank who s (has old) (has c.put_readers.new.agenda) refl
+          (λ r off. left_out (has old) rank r (sym (c.in-Some.ensures.rest r) ∙ (or_parts _ _ (sym (told r) ∙ off)).0)) other)
+          c.loop-rank.invariant.6,
     )
 
 pub loop-rank-smaller : goal.loop-rank-smaller
@@ -147,9 +177,16 @@ loop-rank-preserved g c =
           (has c.evaluate.new.self.agenda) from c.evaluate.new.steps kept.steps,
       unchanged_both c.args.changed.now c.loop-rank.changed c.loop-rank.changed c.args.self.now.schedule c.loop-rank.self.schedule c.evaluate.new.self.schedule c.loop-rank.invariant.2
           (told_same c.loop-rank.changed c.loop-rank.changed who c.loop-rank.self.schedule c.evaluate.new.self.schedule others refl stays),
-      λ marked. kept.back (c.loop-rank.invariant.4 ∙ marked) ∙ c.loop-rank.invariant.3 marked,
+      λ marked.
+          let later = kept.back (c.loop-rank.invariant.4 ∙ marked) in
+          let before = c.loop-rank.invariant.3 marked in
+          (later.0 ∙ before.0, later.1 ∙ before.1),
       kept.has_mark ∙ c.loop-rank.invariant.4,
       omega (arith, kept.counted, c.loop-rank.invariant.5),
+      known_ended (history_of past) who c.loop-rank.self.schedule c.evaluate.new.self.schedule c.loop-rank.self.endings c.evaluate.new.self.endings (IsUnlisted order (has old)) (IsUnlisted order (has c.evaluate.new.self.agenda)) distinct others kept.ended
+          (λ s other. unlisted_next order rank who s (has old) (has c.evaluate.new.self.agenda) refl
+          (λ r off. left_out (has old) rank r (sym (rest_of old mid c.evaluate.new.self.agenda rank kept.agenda c.in-Some.ensures r) ∙ off)) other)
+          c.loop-rank.invariant.6,
     )
 
 -- the rows at the end
@@ -159,14 +196,20 @@ returns-clause-current g c =
     let order = c.order-order.result.now in
     let settled : AreSettled (history_of past) c.args.moment order (has c.loop-rank.self.agenda) c.loop-rank.self.schedule =
     subst (λ (m : ℤ). AreSettled (history_of past) m order (has c.loop-rank.self.agenda) c.loop-rank.self.schedule) (to_z-of_z w64 c.args.moment c.ranges.moment) c.loop-rank.invariant.0 in
-    settled_current (history_of past) c.args.moment order (has c.loop-rank.self.agenda) c.loop-rank.self.schedule (ordered past.document c.possible.ensures.valid.numbered)
-    (is_order c.graph-graph.result.now past.document.nodes order c.graph-graph.ensures c.order-order.ensures.order) settled
-    (λ r. ap (λ (l : List ℕ). has l r) c.in_default.ensures)
+    let is = is_order c.graph-graph.result.now past.document.nodes order c.graph-graph.ensures c.order-order.ensures.order in
+    record {
+      rows_are =
+          settled_current (history_of past) c.args.moment order (has c.loop-rank.self.agenda) c.loop-rank.self.schedule (ordered past.document c.possible.ensures.valid.numbered) is settled
+          (λ r. ap (λ (l : List ℕ). has l r) c.in_default.ensures);
+      ends_are =
+          all_unlisted (history_of past) (interval_in c.loop-rank.self.schedule) order c.loop-rank.self.endings c.possible.ensures.valid.numbered.distinct is (has c.loop-rank.self.agenda)
+          (λ r. ap (λ (l : List ℕ). has l r) c.in_default.ensures) c.loop-rank.invariant.6;
+    }
 
 pub returns-clause-changed : goal.returns-clause-changed
 returns-clause-changed g c =
     untold_stay (front c.args.past.now c.args.from) (history_of c.args.past.now) c.args.moment c.args.self.now.schedule c.loop-rank.self.schedule c.args.changed.now c.loop-rank.changed
-    c.requires.before (returns-clause-current g c) c.loop-rank.invariant.2
+    c.requires.before.rows_are (returns-clause-current g c).rows_are c.loop-rank.invariant.2
 
 pub returns-clause-most : goal.returns-clause-most
 returns-clause-most g c =
@@ -178,5 +221,5 @@ returns-clause-least g c =
     counted_least c.args.past.now.document.nodes c.args.past.now.log (drop c.args.from c.args.past.now.diary) c.order-order.result.now (has c.loop-rank.self.agenda)
     c.args.self.now.schedule c.loop-rank.self.schedule c.args.steps.now c.loop-rank.steps c.loop-rank.invariant.1
     (current_interval (front c.args.past.now c.args.from) c.args.moment) (current_interval (history_of c.args.past.now) c.args.moment) c.possible.ensures.valid.numbered.distinct
-    (current_intervals c.args.self.now.schedule (front c.args.past.now c.args.from) c.args.moment c.requires.before)
-    (current_intervals c.loop-rank.self.schedule (history_of c.args.past.now) c.args.moment (returns-clause-current g c))
+    (current_intervals c.args.self.now.schedule (front c.args.past.now c.args.from) c.args.moment c.requires.before.rows_are)
+    (current_intervals c.loop-rank.self.schedule (history_of c.args.past.now) c.args.moment (returns-clause-current g c).rows_are)

@@ -1,12 +1,14 @@
 use Rattle.std.proofs.Common.{◌≡◌, ◌≤◌, drop, length}
 use Rattle.smil_model.specs.document.Closure.{has}
 use Rattle.smil_past.specs.Past.{history_of}
+use Rattle.smil_cells.specs.Plain.{interval_in}
 use Rattle.smil_cells.specs.Round.{StayUnchanged}
+use Rattle.smil_nodes.specs.Endings.{AreKnown}
 use Rattle.smil_nodes.specs.Marked.{GoesBack}
-use Rattle.smil_nodes.specs.Work.{AreSettled, IsCounted, gap_from}
+use Rattle.smil_nodes.specs.Work.{AreSettled, IsCounted, IsUnlisted, gap_from}
 use Rattle.smil_nodes.proofs.live.LiveTableTable.refresh.Given as goal
 
--- the elements that are not listed are settled, and those that were evaluated are counted; the mark stays
+-- the elements that are not listed are settled, with their endings, and those that were evaluated are counted; the mark stays
 abbrev pub invariant-loop-rank : goal.invariant-loop-rank
 invariant-loop-rank g l =
     AreSettled (history_of l.past) l.moment l.order (has l.self.agenda) l.self.schedule
@@ -15,6 +17,7 @@ invariant-loop-rank g l =
     × GoesBack l.fn.self l.self
     × (l.self.has_mark ≡ l.fn.self.has_mark)
     × (l.fn.steps ≤ l.steps)
+    × AreKnown (history_of l.past) (interval_in l.self.schedule) (IsUnlisted l.order (has l.self.agenda)) l.self.endings
 
 -- the least listed rank rises
 abbrev pub decreases-loop-rank : goal.decreases-loop-rank
