@@ -1,16 +1,16 @@
 -- The way up from a child, and the way through all places.
-use Rattle.std.proofs.Common.{◌≡◌, ◌≢◌, ◌∙◌, ap, sym, subst, refl, ℕ, max, ◌-◌, ◌^◌, zero, suc, ◌+◌, ◌*◌, ◌/◌, ◌<◌, ◌≤◌, List, [], ◌∷◌, ◌++◌, length, take, drop, replicate, get_or-set_other, get_or-set_same, set, arith, ◌⊎◌, inl, inr}
+use Rattle.std.proofs.Common.{◌≡◌, ◌≢◌, ◌∙◌, ap, sym, subst, refl, ℕ, max, ◌^◌, zero, suc, ◌+◌, ◌*◌, ◌/◌, ◌<◌, ◌≤◌, List, ◌++◌, length, take, drop, replicate, get_or-set_other, get_or-set_same, set, arith, length-append, ◌⊎◌, inl, inr}
 use Rattle.std.proofs.Math.Seq.{take-append_seam, drop-append_seam}
 use Rattle.std.proofs.lemmas.Bool.{cases_lt}
 use Rattle.std.proofs.Math.Nat.{pow-le-pow_right}
-use Rattle.std.proofs.lemmas.List.{drop-set-lt, drop-set-add, length-replicate}
+use Rattle.std.proofs.lemmas.List.{drop-set-lt, drop-set-add, length-map, length-replicate}
 use Rattle.smil_endsync.specs.declared.ends.Summary.{Summary}
 use Rattle.std.specs.Prelude.{Option, get_or, map}
 use Rattle.std.specs.List.{position}
 use Rattle.smil_model.specs.declared.times.Time.{Time}
 use Rattle.smil_model.specs.declared.interval.ChildEnd.{ChildEnd}
 use Rattle.smil_endsync.specs.Ends.{no_ends, one_end, both_ends, at_place, place_up, IsOff, IsDecided, AreSummed}
-use Rattle.smil_endsync.proofs.Naming.{named_stays, set_is, sums_set}
+use Rattle.smil_endsync.proofs.Naming.{named_stays, set_kept, sums_set}
 
 from_zero : (steps : ℕ) → place_up steps 0 ≡ 0
 from_zero zero = refl
@@ -159,11 +159,15 @@ behind half own =
     ap (λ (n : ℕ). drop n (replicate half no_ends ++ own)) (sym (length-replicate half no_ends))
     ∙ drop-append_seam (replicate half no_ends) own
 
+pub behind_length : (half : ℕ) (cs : List ChildEnd) → length (replicate half no_ends ++ map one_end cs) ≡ half + length cs
+behind_length half cs =
+    length-append (replicate half no_ends) (map one_end cs) ∙ (λ i. length-replicate half no_ends i + length-map cs one_end i)
+
 -- ---- the whole
 
 -- after the ends of a child are put, and what is above it is decided anew
-pub summed_next : (children : List ChildEnd) (named : Option ℕ) (old new : List Summary) (half child : ℕ) (first latest : Option Time) (d : ChildEnd) → AreSummed children named old half → child < length children → drop half new ≡ drop half (set old (half + child) (one_end (record { named = (get_or children child d).named; first = first; latest = latest }))) → length new ≡ length old → ((i : ℕ) → 0 < i → i < half → IsDecided new i) → AreSummed (set children child (record { named = (get_or children child d).named; first = first; latest = latest })) named new half
-summed_next children named old new half child first latest d was within kept count decided = record {
+pub summed_next : (children : List ChildEnd) (named : Option ℕ) (old new : List Summary) (half child : ℕ) (first latest : Option Time) (own : ChildEnd) → AreSummed children named old half → own ≡ get_or children child own → child < length children → drop half new ≡ drop half (set old (half + child) (one_end (record { named = own.named; first = first; latest = latest }))) → length new ≡ length old → ((i : ℕ) → 0 < i → i < half → IsDecided new i) → AreSummed (set children child (record { named = own.named; first = first; latest = latest })) named new half
+summed_next children named old new half child first latest own was is within kept count decided = record {
   height = was.height;
   half_is = was.half_is;
   few = was.few;
@@ -171,18 +175,15 @@ summed_next children named old new half child first latest d was within kept cou
   enough = omega (arith, count, was.enough);
   own =
       kept
-      ∙ slots_changed old half child (one_end end')
-      ∙ ap (λ xs. set xs child (one_end end')) was.own
-      ∙ sums_set children child end';
+      ∙ slots_changed old half child (one_end (record { named = own.named; first = first; latest = latest }))
+      ∙ ap (λ xs. set xs child (one_end (record { named = own.named; first = first; latest = latest }))) was.own
+      ∙ sums_set children child (record { named = own.named; first = first; latest = latest });
   decided = decided;
   named_is =
       was.named_is
       ∙ named_stays children child first latest
-      ∙ ap (position (λ (c : ChildEnd). c.named)) (sym (set_is children child first latest d within));
+      ∙ ap (position (λ (c : ChildEnd). c.named)) (sym (set_kept children child first latest own is within));
 }
-  where
-    abbrev end' : ChildEnd
-    end' = record { named = (get_or children child d).named; first = first; latest = latest }
 
 pub summed_first : (children : List ChildEnd) (places : List Summary) (half count : ℕ) → count ≡ length children → (k : ℕ) × (half ≡ 2 ^ k) → count ≤ half → half / 2 < max 1 count → count ≤ 2 ^ 32 → drop half places ≡ map one_end children → length places ≡ half + count → ((i : ℕ) → 0 < i → i < half → IsDecided places i) → AreSummed children (position (λ (c : ChildEnd). c.named) children) places half
 summed_first children places half count count_is power lower upper few own length_is decided = record {

@@ -9,7 +9,6 @@ use Rattle.smil_model.specs.declared.times.Time.{Time}
 use Rattle.smil_model.specs.declared.times.Time.TheVariants.{Unresolved}
 use Rattle.smil_model.specs.declared.interval.ChildEnd.{ChildEnd}
 use Rattle.smil_model.specs.interval.Durations.{named_end}
-use Rattle.smil_endsync.specs.declared.ends.Summary.{Summary}
 use Rattle.smil_endsync.specs.Ends.{one_end, set_ends}
 
 abbrev is_named : ChildEnd → Bool
@@ -31,10 +30,14 @@ named_stays cs k first latest =
     sym (λ i. cond (nat_lt (same_first cs k first latest i) (set_length cs k first latest i)) (Some (same_first cs k first latest i)) None)
 
 -- the ends of a child with its name are put in its place
-pub set_is : (cs : List ChildEnd) (k : ℕ) (first latest : Option Time) (d : ChildEnd) → k < length cs → set cs k (record { named = (get_or cs k d).named; first = first; latest = latest }) ≡ set_ends cs k first latest
+set_is : (cs : List ChildEnd) (k : ℕ) (first latest : Option Time) (d : ChildEnd) → k < length cs → set cs k (record { named = (get_or cs k d).named; first = first; latest = latest }) ≡ set_ends cs k first latest
 set_is [] k first latest d lt = absurd (omega (arith, lt))
 set_is (c ∷ cs) zero first latest d lt = refl
 set_is (c ∷ cs) (suc k) first latest d lt = ap (λ rest. c ∷ rest) (set_is cs k first latest d (omega (arith, lt)))
+
+pub set_kept : (cs : List ChildEnd) (k : ℕ) (first latest : Option Time) (own : ChildEnd) → own ≡ get_or cs k own → k < length cs → set cs k (record { named = own.named; first = first; latest = latest }) ≡ set_ends cs k first latest
+set_kept cs k first latest own is lt =
+    ap (λ (x : ChildEnd). set cs k (record { named = x.named; first = first; latest = latest })) is ∙ set_is cs k first latest own lt
 
 pub sums_set : (cs : List ChildEnd) (k : ℕ) (end' : ChildEnd) → set (map one_end cs) k (one_end end') ≡ map one_end (set cs k end')
 sums_set [] k end' = refl

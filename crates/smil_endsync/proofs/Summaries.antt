@@ -1,6 +1,6 @@
 -- What children come to, all together.
 use Rattle.std.proofs.Common.{◌≡◌, refl, ◌∙◌, ap, sym, List, [], ◌∷◌, ◌++◌}
-use Rattle.std.specs.Prelude.{Option, Some, None, fold, map, unwrap_or}
+use Rattle.std.specs.Prelude.{Some, None, fold, map, unwrap_or}
 use Rattle.std.specs.List.{reduce}
 use Rattle.smil_model.specs.declared.times.Time.{Time}
 use Rattle.smil_model.specs.declared.times.Time.TheVariants.{Unresolved}

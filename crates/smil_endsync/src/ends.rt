@@ -216,11 +216,7 @@ fn none() -> Summary
 }
 
 // So many places without children, and behind them what each child comes to.
-fn summaries(
-    alloc: Global,
-    half: usize,
-    children: &[ChildEnd],
-) -> Result<Vec<Summary>, AllocError>
+fn summaries(alloc: Global, half: usize, children: &[ChildEnd]) -> Result<Vec<Summary>, AllocError>
     ensures { IfOk result (λ places. places.items
         ≡ replicate half no_ends ++ map one_end children.now) }
 {

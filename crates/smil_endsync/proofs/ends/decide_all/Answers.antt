@@ -1,4 +1,4 @@
-use Rattle.std.proofs.Common.{◌∙◌, ◌-◌, ◌+◌, ◌<◌, ◌≤◌, refl, arith, rules}
+use Rattle.std.proofs.Common.{◌∙◌, ◌-◌, ◌<◌, refl, arith, rules}
 use Rattle.smil_endsync.proofs.Climb.{decided_down, slots_stay}
 use Rattle.smil_endsync.proofs.ends.decide_all.Goals as goal
 

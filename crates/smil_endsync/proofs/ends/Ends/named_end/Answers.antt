@@ -1,5 +1,6 @@
-use Rattle.std.proofs.Common.{◌≡◌, ◌∙◌, ap, sym, ℤ, List, w64}
-use Rattle.std.specs.Prelude.{find}
+use Rattle.std.proofs.Common.{◌∙◌, ap, sym, ℤ, List, w64}
+use Rattle.std.specs.Prelude.{find, unwrap_or}
+use Rattle.smil_model.specs.declared.times.Time.TheVariants.{Unresolved}
 use Rattle.std.specs.List.{position}
 use Rattle.std.proofs.lemmas.Int.{to_z-of_z}
 use Rattle.std.proofs.lemmas.List.Quantifiers.{position-Some}
@@ -11,9 +12,10 @@ use Rattle.smil_endsync.proofs.ends.Ends.named_end.Goals as goal
 pub returns-in-Some : goal.returns-in-Some
 returns-in-Some c =
     let cs = c.self.inside.children.items in
-    let at = position-Some (λ (x : ChildEnd). x.named) cs c.in-Some.child _ (sym c.self.invariant.named_is ∙ c.in-Some.is) in
+    let at = position-Some (λ (x : ChildEnd). x.named) cs c.in-Some.child c.index.result.now (sym c.self.invariant.named_is ∙ c.in-Some.is) in
     c.unwrap_or.ensures
-    ∙ named_found c.args.start cs c.in-Some.child _ (sym c.in-Some.is ∙ c.self.invariant.named_is) at.0
+    ∙ ap (λ (x : ChildEnd). unwrap_or x.first Unresolved) c.index.ensures
+    ∙ named_found c.args.start cs c.in-Some.child c.index.result.now (sym c.in-Some.is ∙ c.self.invariant.named_is) at.0
     ∙ ap (λ (xs : List ChildEnd). named_end c.args.start xs (find (λ (x : ChildEnd). x.named) xs)) c.self.view_is
 
 pub returns-in-None : goal.returns-in-None

@@ -1,9 +1,9 @@
-use Rattle.std.proofs.Common.{◌≡◌, ◌∙◌, ap, sym, subst, ℕ, ◌+◌, ◌/◌, ◌<◌, List, length, drop, set, map, arith}
+use Rattle.std.proofs.Common.{◌≡◌, ◌∙◌, ap, sym, subst, ℕ, ◌+◌, ◌/◌, ◌<◌, List, length, drop, set, arith}
 use Rattle.smil_model.specs.declared.interval.ChildEnd.{ChildEnd}
 use Rattle.smil_endsync.specs.declared.ends.Summary.{Summary}
 use Rattle.smil_endsync.specs.Ends.{set_ends, AreSummed, IsDecided, IsOff}
 use Rattle.smil_endsync.proofs.Climb.{changed_slot, refilled, summed_next}
-use Rattle.smil_endsync.proofs.Naming.{set_is}
+use Rattle.smil_endsync.proofs.Naming.{set_kept}
 use Rattle.smil_endsync.proofs.ends.Ends.set.Goals as goal
 
 pub decide_above-requires-clause-off : goal.decide_above-requires-clause-off
@@ -15,10 +15,11 @@ decide_above-requires-clause-off c =
 pub invariant_of-self : goal.invariant_of-self
 invariant_of-self c =
     let i = c.self.inside in
+    let own = c.index.result.now in
     let count : length c.decide_above.new.places ≡ i.places.len = omega (arith, c.deref_mut.ensures.len, i.places.ok.0) in
     let same = refilled c.decide_above.new.places _ i.places.len count in
-    subst (λ (places : List Summary). AreSummed (set i.children.items c.args.child _) i.named places i.half) (sym same)
-    (summed_next i.children.items i.named i.places.items c.decide_above.new.places i.half c.args.child c.args.first c.args.latest _ c.self.invariant
+    subst (λ (places : List Summary). AreSummed (set i.children.items c.args.child (record { named = own.named; first = c.args.first; latest = c.args.latest })) i.named places i.half) (sym same)
+    (summed_next i.children.items i.named i.places.items c.decide_above.new.places i.half c.args.child c.args.first c.args.latest own c.self.invariant c.index.ensures
     (omega (arith, c.requires, ap (λ (xs : List ChildEnd). length xs) c.self.view_is))
     (c.decide_above.ensures.kept ∙ ap (drop i.half) c.deref_mut.ensures.value ∙ ap (λ (s : Summary). drop i.half (set i.places.items (i.half + c.args.child) s)) c.one.ensures)
     (omega (arith, count, i.places.ok.0))
@@ -26,5 +27,5 @@ invariant_of-self c =
 
 pub returns : goal.returns
 returns c =
-    set_is c.self.inside.children.items c.args.child c.args.first c.args.latest _ (omega (arith, c.requires, ap (λ (xs : List ChildEnd). length xs) c.self.view_is))
+    set_kept c.self.inside.children.items c.args.child c.args.first c.args.latest c.index.result.now c.index.ensures (omega (arith, c.requires, ap (λ (xs : List ChildEnd). length xs) c.self.view_is))
     ∙ ap (λ (cs : List ChildEnd). set_ends cs c.args.child c.args.first c.args.latest) c.self.view_is
