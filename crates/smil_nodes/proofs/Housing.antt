@@ -1,7 +1,7 @@
 -- Where the endings of elements stand, and the ends of their time children at first.
 use Rattle.std.proofs.Common.{◌≡◌, refl, sym, ◌∙◌, ap, subst, ℕ, zero, suc, ◌+◌, ◌<◌, ◌≤◌, List, [], ◌∷◌, ◌++◌, length, get_or, take, map, arith, Option, Some, None, Bool, true, false}
-use Rattle.std.specs.Prelude.{◌&&◌, ◌==◌, cond, filter, is_some, slice_get, slice_index_or}
-use Rattle.std.specs.List.{position}
+use Rattle.std.proofs.Math.ListN.{length-set}
+use Rattle.std.specs.Prelude.{◌&&◌, ◌==◌, cond, filter, set, slice_get, slice_index_or}
 use Rattle.std.proofs.lemmas.Bool.{and_from, eq-eqb, or_left, or_right}
 use Rattle.std.proofs.lemmas.List.{length-map, map-append, take_more}
 use Rattle.std.proofs.lemmas.Option.{get_or_from_slice_get, slice_get_within}
@@ -18,7 +18,9 @@ use Rattle.smil_cells.specs.Round.{AreOfElements}
 use Rattle.smil_cells.proofs.Paired.{element_at, first_at, serials_in, there_at}
 use Rattle.smil_cells.proofs.Taking.{IsFound, elements_differ}
 use Rattle.smil_nodes.specs.declared.endings.Home.{Home}
-use Rattle.smil_nodes.specs.Endings.{AreHomes, AreHoused, HasHome, HaveHomes, IsHome, home_at, named_end, named_ends}
+use Rattle.smil_endsync.specs.Ends.{set_ends}
+use Rattle.smil_element.specs.declared.endings.Ending.{Ending}
+use Rattle.smil_nodes.specs.Endings.{AreHomes, AreHoused, HasHome, HaveHomes, IsHome, home_at, named_end, named_ends, put_among}
 use Rattle.smil_nodes.proofs.Fixed.{first_serial}
 
 -- ---- homes one after another
@@ -159,3 +161,44 @@ is_home document numbered rows who parent container child e whos known above pla
       above = ap (slice_get (elements nodes)) place ∙ above.here;
       child = ap (λ s. slice_get (time_children nodes s) child) above.is_who ∙ there.at ∙ ap Some one;
     }
+
+-- ---- the ends at a place
+
+pub row_free : (ends : List (List ChildEnd)) (p : ℕ) (own : List ChildEnd) → own ≡ get_or ends p own → p < length ends → own ≡ slice_index_or ends p []
+row_free [] p own is lt = absurd (omega (arith, lt))
+row_free (e ∷ es) zero own is lt = is
+row_free (e ∷ es) (suc p) own is lt = row_free es p own is (omega (arith, lt))
+
+-- those that are put in the place of others are as many
+count_at : (ends : List (List ChildEnd)) (p q : ℕ) (own new : List ChildEnd) → own ≡ get_or ends p own → p < length ends → length new ≡ length own → length (slice_index_or (set ends p new) q []) ≡ length (slice_index_or ends q [])
+count_at [] p q own new is lt same = absurd (omega (arith, lt))
+count_at (e ∷ es) zero zero own new is lt same = same ∙ ap (λ (cs : List ChildEnd). length cs) is
+count_at (e ∷ es) zero (suc q) own new is lt same = refl
+count_at (e ∷ es) (suc p) zero own new is lt same = refl
+count_at (e ∷ es) (suc p) (suc q) own new is lt same = count_at es p q own new is (omega (arith, lt)) same
+
+pub housed_set : (homes : List (Option Home)) (ends : List (List ChildEnd)) (p : ℕ) (own new : List ChildEnd) → AreHoused homes ends → own ≡ get_or ends p own → p < length ends → length new ≡ length own → AreHoused homes (set ends p new)
+housed_set homes ends p own new are is lt same place home at =
+    let was = are place home at in
+    let many : length (set ends p new) ≡ length ends = simp length-set in
+    let count = count_at ends p home.container own new is lt same in
+    let container : home.container < length ends = was.0 in
+    let child : home.child < length (slice_index_or ends home.container []) = was.1 in
+    (omega (arith, container, many), omega (arith, child, count))
+
+pub among_set : (ends : List (List ChildEnd)) (p k : ℕ) (x : Ending) (own new : List ChildEnd) → own ≡ get_or ends p own → p < length ends → new ≡ set_ends own k x.first x.latest → set ends p new ≡ put_among ends p k x
+among_set [] p k x own new is lt made = absurd (omega (arith, lt))
+among_set (e ∷ es) zero k x own new is lt made = ap (λ row. row ∷ es) (made ∙ ap (λ row. set_ends row k x.first x.latest) is)
+among_set (e ∷ es) (suc p) k x own new is lt made = ap (λ rest. e ∷ rest) (among_set es p k x own new is (omega (arith, lt)) made)
+
+few_kept : (t : Node → Bool) (ns : List Node) → length (filter t ns) ≤ length ns
+few_kept t [] = omega arith
+few_kept t (n ∷ ns) = by_test (t n) (few_kept t ns)
+  where
+    by_test : (b : Bool) → length (filter t ns) ≤ length ns → length (cond b (n ∷ filter t ns) (filter t ns)) ≤ length (n ∷ ns)
+    by_test true l = omega (arith, l)
+    by_test false l = omega (arith, l)
+
+-- at most as many as there are nodes
+pub few_children : (nodes : List Node) (parent : ℕ) → length (time_children nodes parent) ≤ length nodes
+few_children nodes parent = few_kept (is_time_child nodes parent) nodes

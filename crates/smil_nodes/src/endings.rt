@@ -103,9 +103,10 @@ impl Endings {
     pub fn put(&mut self, place: usize, ending: Ending)
         ensures { self.new ≡ put_ending self.old place ending }
     {
-        if let Some(home) = home(&self.homes, place) {
-            self.ends[home.container].set(home.child, ending.first, ending.latest);
-        }
+        let Some(home) = home(&self.homes, place) else {
+            return;
+        };
+        self.ends[home.container].set(home.child, ending.first, ending.latest);
     }
 
     /// The implicit duration of an active container of this kind and with these attributes that
@@ -116,10 +117,18 @@ impl Endings {
         ensures { result ≡ container_duration kind (endsync_of attrs.now) start
             (slice_index_or self.now.ends place []) }
     {
-        match &attrs.endsync {
-            Some(endsync) => self.ends[place].implicit(kind, endsync, start),
-            None => self.ends[place].implicit(kind, &Endsync::Last, start),
-        }
+        end_by(&self.ends[place], kind, attrs, start)
+    }
+}
+
+// The implicit duration of an active container of this kind and with these attributes, by the ends
+// of its time children; `last` where it has no `endsync`.
+fn end_by(ends: &Ends, kind: Kind, attrs: &Attrs, start: i64) -> Time
+    ensures { result ≡ container_duration kind (endsync_of attrs.now) start ends.now }
+{
+    match &attrs.endsync {
+        Some(endsync) => ends.implicit(kind, endsync, start),
+        None => ends.implicit(kind, &Endsync::Last, start),
     }
 }
 
@@ -209,7 +218,7 @@ fn ends_of(alloc: Global, tree: &Tree, schedule: &Schedule) -> Result<Vec<Ends>,
 // The ends of the time children of an element, none known.
 fn children_of(alloc: Global, tree: &Tree, who: u32) -> Result<Vec<ChildEnd>, AllocError>
     requires { has_element tree.now.nodes who ≡ true }
-    ensures items { (e : AnyNode) → node_at (elements tree.now.nodes) who ≡ Some e
+    ensures { (e : AnyNode) → node_at (elements tree.now.nodes) who ≡ Some e
         → IfOk result (λ ends. ends.items ≡ named_ends tree.now.nodes e) }
 {
     tree.valid();

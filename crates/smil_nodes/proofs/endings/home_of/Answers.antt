@@ -1,14 +1,42 @@
-use Rattle.std.proofs.Common.{◌≡◌, ◌∙◌, ap, sym, subst, ◌<◌, ◌≤◌, length, arith}
-use Rattle.std.specs.Prelude.{is_some}
+use Rattle.std.proofs.Common.{◌≡◌, ◌∙◌, ap, sym, subst, ◌<◌, ◌≤◌, ℕ, List, length, arith, refl}
+use Rattle.std.specs.Prelude.{Option, Some, IfSome, is_some, slice_get, true}
 use Rattle.std.proofs.lemmas.Option.{same_Some, slice_get_within}
-use Rattle.smil_model.specs.document.Document.{elements}
+use Rattle.std.proofs.lemmas.List.{length-map}
+use Rattle.smil_model.specs.declared.document.Node.{Node}
+use Rattle.smil_model.specs.document.Document.{elements, serial_of, time_children, time_parent}
+use Rattle.smil_model.specs.diary.Lawful.{has_element}
 use Rattle.smil_element.proofs.Known.{known_element, known_node}
-use Rattle.smil_element.proofs.Told.{parent_known}
+use Rattle.smil_element.proofs.Told.{parent_known, tree_node}
 use Rattle.smil_cells.proofs.Taking.{found}
-use Rattle.smil_nodes.proofs.Housing.{among_children, is_home, rows_count}
+use Rattle.smil_nodes.specs.Endings.{HasHome}
+use Rattle.smil_nodes.proofs.Housing.{among_children, few_children, is_home, rows_count}
 use Rattle.smil_nodes.proofs.endings.home_of.Goals as goal
 
 pub time_parent-requires : goal.time_parent-requires
-time_parent-requires c =
+time_parent-requires c = tree_node c.args.tree.now c.args.tree.now c.args.who refl c.requires.element
+
+pub returns-in_err-parent-clause-home : goal.returns-in_err-parent-clause-home
+returns-in_err-parent-clause-home c =
+    subst (HasHome c.args.tree.now.nodes c.args.who) (sym c.from_residual.ensures) (sym c.time_parent.ensures ∙ c.in_err-parent.was)
+
+pub unwrap-container-requires : goal.unwrap-container-requires
+unwrap-container-requires c =
+    let nodes = c.args.tree.now.nodes in
+    let distinct = c.valid.ensures.numbered.distinct in
+    let known = subst (λ (o : Option ℕ). IfSome o (λ p. has_element nodes p ≡ true)) c.in_ok-parent.was (parent_known nodes c.args.who c.time_parent.result distinct c.requires.element c.time_parent.ensures) in
+    ap is_some (c.place.ensures ∙ (found nodes c.args.schedule.now c.in_ok-parent.parent distinct c.requires.of_elements known).position_is)
+
+pub place_among-child-requires : goal.place_among-child-requires
+place_among-child-requires c =
     let e = known_element c.args.tree.now.nodes c.args.who c.requires.element in
-    ap is_some (known_node c.args.tree.now c.valid.ensures.numbered c.args.who e.0 e.1)
+    among_children c.args.tree.now c.valid.ensures.numbered c.args.who c.in_ok-parent.parent e.0 c.time_children.result.now e.1 (sym c.time_parent.ensures ∙ c.in_ok-parent.was) c.time_children.ensures
+
+pub returns-clause-home : goal.returns-clause-home
+returns-clause-home c =
+    let nodes = c.args.tree.now.nodes in
+    let distinct = c.valid.ensures.numbered.distinct in
+    let known = subst (λ (o : Option ℕ). IfSome o (λ p. has_element nodes p ≡ true)) c.in_ok-parent.was (parent_known nodes c.args.who c.time_parent.result distinct c.requires.element c.time_parent.ensures) in
+    let above = found nodes c.args.schedule.now c.in_ok-parent.parent distinct c.requires.of_elements known in
+    let e = known_element nodes c.args.who c.requires.element in
+    let place : c.unwrap-container.result ≡ above.place = same_Some _ _ (sym c.unwrap-container.ensures ∙ c.place.ensures ∙ above.position_is) in
+    is_home c.args.tree.now c.valid.ensures.numbered c.args.schedule.now c.args.who c.in_ok-parent.parent c.unwrap-container.result c.place_among-child.result e.0 c.time_children.result.now e.1 above place c.time_children.ensures c.place_among-child.ensures

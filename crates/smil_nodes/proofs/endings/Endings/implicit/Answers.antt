@@ -1,0 +1,16 @@
+use Rattle.std.proofs.Common.{◌≡◌, ◌∙◌, ap, sym, subst, ◌<◌, List, length, w64}
+use Rattle.std.specs.Prelude.{slice_index_or, []}
+use Rattle.std.proofs.lemmas.Int.{to_z-of_z}
+use Rattle.smil_model.specs.declared.interval.ChildEnd.{ChildEnd}
+use Rattle.smil_model.specs.document.Defaults.{endsync_of}
+use Rattle.smil_model.specs.interval.Durations.{container_duration}
+use Rattle.smil_nodes.specs.Endings.{KeptEnds}
+use Rattle.smil_nodes.proofs.Housing.{row_free}
+use Rattle.smil_nodes.proofs.endings.Endings.implicit.Goals as goal
+
+pub returns : goal.returns
+returns c =
+    let i = c.self.inside in
+    let within = subst (λ (kept : KeptEnds). c.args.place < length kept.ends) (sym c.self.view_is) c.requires in
+    let row = row_free i.ends.items c.args.place c.index.result.now c.index.ensures within ∙ ap (λ (kept : KeptEnds). slice_index_or kept.ends c.args.place []) c.self.view_is in
+    c.end_by.ensures ∙ (λ j. container_duration c.args.kind (endsync_of c.args.attrs.now) (to_z-of_z w64 c.args.start c.ranges.start j) (row j))
