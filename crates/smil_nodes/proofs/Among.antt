@@ -113,7 +113,6 @@ among_stays es p k q j x differ = by_test (nat_eq q p) refl
 
 -- ---- for the element at a place
 
-
 home_twice : (ends : List (List ChildEnd)) (o : Option Home) (x y : Ending) → put_home (put_home ends x o) y o ≡ put_home ends y o
 home_twice ends None x y = refl
 home_twice ends (Some h) x y = among_twice ends h.container h.child x y

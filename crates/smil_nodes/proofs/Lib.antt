@@ -20,3 +20,4 @@ pub mod Family
 pub mod Staying
 pub mod Housing
 pub mod Knowing
+pub mod Marking

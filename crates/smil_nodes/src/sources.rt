@@ -39,8 +39,9 @@ impl<'a> Containers for Sources<'a> {
         past.possible();
         let place = self.schedule.place(who).unwrap();
         let tree = past.tree();
-        Ok(self
-            .endings
-            .implicit(place, tree.kind(who), tree.attrs(who), start))
+        Ok(
+            self.endings
+                .implicit(place, tree.kind(who), tree.attrs(who), start),
+        )
     }
 }

@@ -32,6 +32,9 @@ overflow_cast-place g c =
     let all : length nodes ≤ 8000 = c.possible.ensures.valid.nodes in
     omega (arith, is, within, few, all)
 
+pub evaluation_of-made-requires-clause-known : goal.evaluation_of-made-requires-clause-known
+evaluation_of-made-requires-clause-known g c = λ e here implicit. tt
+
 pub comings_of-comings-requires-clause-near : goal.comings_of-comings-requires-clause-near
 comings_of-comings-requires-clause-near g c =
     near_where IsIntervalNear c.in_ok-made.made.interval (λ i q.

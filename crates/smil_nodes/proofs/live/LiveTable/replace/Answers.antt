@@ -21,8 +21,7 @@ returns-clause-back c = λ marked.
     elim c.if-self.branch [
       | then-self+in_ok-note w ↦
           (let put : c.put.new.self ≡ set rows c.args.place c.args.row = c.put.ensures ∙ ap (λ (t : LiveTable). set t.schedule c.args.place c.args.row) w.self-is in
-          let ended : c.put-2.new.self ≡ put_ending kept c.args.place c.args.ending = c.put-2.ensures ∙ ap (λ (t : LiveTable). put_ending t.endings c.args.place c.args.ending) w.self-is in
-          (
+          let ended : c.put-2.new.self ≡ put_ending kept c.args.place c.args.ending = c.put-2.ensures ∙ ap (λ (t : LiveTable). put_ending t.endings c.args.place c.args.ending) w.self-is in (
             ap (λ (xs : List Row). rows_back xs c.if-self.self.undo) put
                 ∙ ap (λ (t : LiveTable). rows_back (set rows c.args.place c.args.row) t.undo) w.self-is
                 ∙ back_noted rows notes w.note.new.self c.args.place c.args.row (record { row = w.row.result; ending = w.ending.result }) c.requires.place w.row.ensures.row w.note.ensures.grown w.in_ok-note.ensures.noted,
