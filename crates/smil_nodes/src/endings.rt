@@ -83,7 +83,7 @@ impl Endings {
     pub fn ending(&self, place: usize) -> Ending
         ensures { result ≡ ending_in self.now place }
     {
-        match home(&self.homes, place) {
+        match home_in(&self.homes, place) {
             Some(home) => {
                 let end = self.ends[home.container].end(home.child);
                 Ending {
@@ -103,7 +103,7 @@ impl Endings {
     pub fn put(&mut self, place: usize, ending: Ending)
         ensures { self.new ≡ put_ending self.old place ending }
     {
-        let Some(home) = home(&self.homes, place) else {
+        let Some(home) = home_in(&self.homes, place) else {
             return;
         };
         self.ends[home.container].set(home.child, ending.first, ending.latest);
@@ -133,7 +133,7 @@ fn end_by(ends: &Ends, kind: Kind, attrs: &Attrs, start: i64) -> Time
 }
 
 // Where the ending of the element at a place stands.
-fn home(homes: &[Option<Home>], place: usize) -> Option<Home>
+fn home_in(homes: &[Option<Home>], place: usize) -> Option<Home>
     ensures { result ≡ home_at homes.now place }
 {
     match homes.get(place) {
