@@ -80,7 +80,8 @@ ending_from (Some c) = record { first = c.first; latest = c.latest }
 
 abbrev pub ending_home : List (List ChildEnd) → Option Home → Ending
 ending_home ends None = ending_from None
-ending_home ends (Some home) = ending_from (slice_get (slice_index_or ends home.container []) home.child)
+ending_home ends (Some home) =
+    ending_from (slice_get (slice_index_or ends home.container []) home.child)
 
 -- the ending of the element at a place
 abbrev pub ending_in : KeptEnds → ℕ → Ending
@@ -120,7 +121,9 @@ anyone serial = Unit {0}
 pub stay_known : (h k : History) (given : ℕ → Option Interval) (test : ℕ → Type 0) (kept : KeptEnds)
     → k.nodes ≡ h.nodes → k.diary ≡ h.diary → AreKnown h given test kept → AreKnown k given test kept
 stay_known h k given test kept nodes diary are =
-    subst (λ (x : List Node × List Entry). AreKnown (record { nodes = x.0; log = k.log; diary = x.1 }) given test kept)
+    subst
+    (λ (x : List Node × List Entry).
+    AreKnown (record { nodes = x.0; log = k.log; diary = x.1 }) given test kept)
     (λ i. (sym nodes i, sym diary i))
     (record { homes = are.homes; names = are.names; right = are.right })
 
@@ -130,10 +133,12 @@ pub record KnowsEnds (rows : List Row) (kept : KeptEnds) (h : History) (who : �
   pub as_many : length kept.ends ≡ length (elements h.nodes)
   pub ends_are :
       (place : ℕ) (e : Node) → slice_get (elements h.nodes) place ≡ Some e → e.serial ≡ who
-      → slice_index_or kept.ends place [] ≡ map (child_end h (interval_in rows) e) (time_children h.nodes who)
+      → slice_index_or kept.ends place []
+      ≡ map (child_end h (interval_in rows) e) (time_children h.nodes who)
 
 -- the ending of one element was put, by its present interval
-pub record IsEnded (h : History) (who : ℕ) (rows : List Row) (before after : KeptEnds) : Type 0 where
+pub record IsEnded (h : History) (who : ℕ) (rows : List Row)
+    (before after : KeptEnds) : Type 0 where
   pub place : ℕ
   pub element : Node
   pub here : slice_get (elements h.nodes) place ≡ Some element

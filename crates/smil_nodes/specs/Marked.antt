@@ -26,7 +26,8 @@ stay_whole rows kept h k m n same is = record {
 -- what `back` gives where a mark stands
 abbrev pub IsMarked : Bool → List Noted → List Row → KeptEnds → History → ℤ → Type 0
 IsMarked false notes rows kept h now = Unit {0}
-IsMarked true notes rows kept h now = IsWhole (rows_back rows notes) (ends_back rows kept notes) h now
+IsMarked true notes rows kept h now =
+    IsWhole (rows_back rows notes) (ends_back rows kept notes) h now
 
 -- where a mark stands, `back` gives the same as before
 abbrev pub GoesBack : LiveTable → LiveTable → Type 0

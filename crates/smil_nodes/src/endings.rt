@@ -110,8 +110,8 @@ impl Endings {
     }
 
     /// The implicit duration of an active container of this kind and with these attributes that
-    /// stands at a place, in milliseconds; `start` is the start of its present iteration. It takes a
-    /// fixed number of steps, and no memory.
+    /// stands at a place, in milliseconds; `start` is the start of its present iteration. It takes
+    /// a fixed number of steps, and no memory.
     pub fn implicit(&self, place: usize, kind: Kind, attrs: &Attrs, start: i64) -> Time
         requires { place < length self.now.ends }
         ensures { result ≡ container_duration kind (endsync_of attrs.now) start

@@ -17,7 +17,7 @@ pub struct Sources<'a> {
 }
 
 impl<'a> Intervals for Sources<'a> {
-    ghost given = { λ sources. interval_in sources.schedule.now };
+    ghost given = { λ read. interval_in read.schedule.now };
 
     fn interval(&self, who: u32) -> Option<Interval> {
         self.schedule.interval(who)
@@ -27,7 +27,7 @@ impl<'a> Intervals for Sources<'a> {
 impl<'a> Containers for Sources<'a> {
     ghost use Rattle.smil_nodes.specs.Endings.{KnowsEnds};
 
-    ghost knows_ends = { λ sources h who. KnowsEnds sources.schedule.now sources.endings.now h who };
+    ghost knows_ends = { λ read h who. KnowsEnds read.schedule.now read.endings.now h who };
 
     fn implicit(
         &self,
