@@ -1,8 +1,9 @@
 -- Where the endings of elements stand, and the ends of their time children at first.
 use Rattle.std.proofs.Common.{◌≡◌, refl, sym, ◌∙◌, ap, subst, ℕ, zero, suc, ◌+◌, ◌<◌, ◌≤◌, List, [], ◌∷◌, ◌++◌, length, get_or, take, map, arith, Option, Some, None, Bool, true, false}
 use Rattle.std.proofs.Math.ListN.{length-set}
-use Rattle.std.specs.Prelude.{◌&&◌, ◌==◌, cond, filter, set, slice_get, slice_index_or}
-use Rattle.std.proofs.lemmas.Bool.{and_from, eq-eqb, or_left, or_right}
+use Rattle.std.specs.Prelude.{◌&&◌, ◌||◌, ◌==◌, cond, filter, nat_lt, not, set, slice_get, slice_index_or}
+use Rattle.std.specs.List.{position, position_or_len}
+use Rattle.std.proofs.lemmas.Bool.{and_from, eq-eqb, eqb-true, lt-ltb, or_left, or_right}
 use Rattle.std.proofs.lemmas.List.{length-map, map-append, take_more}
 use Rattle.std.proofs.lemmas.Option.{get_or_from_slice_get, slice_get_within}
 use Rattle.smil_model.specs.declared.document.Node.{Node}
@@ -202,3 +203,32 @@ few_kept t (n ∷ ns) = by_test (t n) (few_kept t ns)
 -- at most as many as there are nodes
 pub few_children : (nodes : List Node) (parent : ℕ) → length (time_children nodes parent) ≤ length nodes
 few_children nodes parent = few_kept (is_time_child nodes parent) nodes
+
+-- ---- a serial among others
+
+member_place : (s : ℕ) (xs : List ℕ) → has xs s ≡ true → (k : ℕ) × (position_or_len (λ x. x == s) xs ≡ k) × (k < length xs) × (slice_get xs k ≡ Some s)
+member_place s [] q = cc
+member_place s (x ∷ xs) q = by_test (x == s) refl (member_place s xs)
+  where
+    by_test : (t : Bool) → x == s ≡ t → (has xs s ≡ true → (k : ℕ) × (position_or_len (λ y. y == s) xs ≡ k) × (k < length xs) × (slice_get xs k ≡ Some s)) → (k : ℕ) × (position_or_len (λ y. y == s) (x ∷ xs) ≡ k) × (k < length (x ∷ xs)) × (slice_get (x ∷ xs) k ≡ Some s)
+    by_test true e later = (
+      0,
+      ap (λ t. cond (not t) (1 + position_or_len (λ y. y == s) xs) 0) e,
+      omega arith,
+      ap Some (eqb-true x s e),
+    )
+    by_test false e later =
+        let found = later (sym (ap (λ t. t || has xs s) e) ∙ q) in (
+          suc found.0,
+          ap (λ t. cond (not t) (1 + position_or_len (λ y. y == s) xs) 0) e ∙ omega (arith, found.1),
+          omega (arith, found.2),
+          found.3,
+        )
+
+pub position_found : (s : ℕ) (xs : List ℕ) → has xs s ≡ true → (k : ℕ) × (position (λ x. x == s) xs ≡ Some k) × (slice_get xs k ≡ Some s)
+position_found s xs q =
+    let at = member_place s xs q in (
+      at.0,
+      ap (λ n. cond (nat_lt n (length xs)) (Some n) None) at.1 ∙ ap (λ t. cond t (Some at.0) None) (lt-ltb at.0 (length xs) at.2),
+      at.3,
+    )

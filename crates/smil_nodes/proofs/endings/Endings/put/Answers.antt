@@ -1,5 +1,5 @@
 use Rattle.std.proofs.Common.{◌≡◌, ◌∙◌, ap, sym, subst, ◌<◌, List, length, set, arith}
-use Rattle.std.specs.Prelude.{Option, Some}
+use Rattle.std.specs.Prelude.{Option, None, Some}
 use Rattle.smil_model.specs.declared.interval.ChildEnd.{ChildEnd}
 use Rattle.smil_nodes.specs.declared.endings.Home.{Home}
 use Rattle.smil_nodes.specs.Endings.{KeptEnds, home_at, put_ending, put_home}
@@ -8,7 +8,12 @@ use Rattle.smil_nodes.proofs.Housing.{among_set, housed_set, row_free}
 use Rattle.smil_nodes.proofs.endings.Endings.put.Goals as goal
 
 pub returns-in_default : goal.returns-in_default
-returns-in_default c = ?
+returns-in_default c =
+    let i = c.self.inside in
+    let none : home_at i.homes.items c.args.place ≡ None = ap (λ (hs : List (Option Home)). home_at hs c.args.place) (sym c.deref.ensures.value) ∙ sym c.home_in.ensures ∙ c.in_default.is in
+    sym c.self.view_is
+    ∙ (λ j. record { homes = i.homes.items; ends = put_home i.ends.items c.args.ending (sym none j) })
+    ∙ ap (λ (kept : KeptEnds). put_ending kept c.args.place c.args.ending) c.self.view_is
 
 pub set-requires : goal.set-requires
 set-requires c =
