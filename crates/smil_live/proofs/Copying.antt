@@ -108,6 +108,14 @@ module _ (d : Document) (s : ℕ) (some : IsSome (node_at d.nodes s)) (kind : Ki
       ∙ set_is d n.node given
       ∙ ap (λ t. of_outcome (set_outcome d t given)) (find-serial s d.nodes n.node n.at)
 
+  pub value_unread : (name value : List ℕ) (name_column column : ℕ) (e : Refusal) → GivesReading {A = Attr} (Err e) (attr_in_line kind parent name value name_column column) → IsRefusedBy (at_node d.nodes s (λ m. attr_set_by limits formats d m name value name_column column)) e
+  value_unread name value nc c e given = by_cause (refusal_is e (attr_in_line kind parent name value nc c) given)
+    where
+      by_cause : (e ≡ refusal.Memory) ⊎ (attr_in_line kind parent name value nc c ≡ Err e) → IsRefusedBy (at_node d.nodes s (λ m. attr_set_by limits formats d m name value nc c)) e
+      by_cause (inl memory) = inl memory
+      by_cause (inr read) =
+          inr (at_there d.nodes s (λ m. attr_set_by limits formats d m name value nc c) n.node n.at ∙ ap (λ r. and_then r (set_checked limits d n.node)) (sym (read_there name value nc c) ∙ read))
+
   pub unset_read : (name : List ℕ) (column : ℕ) (given : AttrName) (edited : Document) → Ok given ≡ name_in_line kind name column → edited ≡ attr_unset d s given → at_node d.nodes s (λ m. attr_unset_by formats d m name column) ≡ Ok edited
   unset_read name column given edited read is =
       at_there d.nodes s (λ m. attr_unset_by formats d m name column) n.node n.at

@@ -11,7 +11,9 @@ ghost use Rattle.smil_grammar.specs.Formats.{formats};
 ghost use Rattle.smil_live.specs.Editing.{IsRefusedBy, at_node};
 
 use super::faults::refused_edit;
-use super::values::{Named, Placed, read_line_attrs, read_line_kind, read_name, read_value};
+use super::values::{
+    Child, Named, Placed, Setting, read_line_attrs, read_line_kind, read_name, read_value,
+};
 use smil_model::{Duplicate, Refusal};
 use smil_tree::Tree;
 use std::alloc::Global;
@@ -22,22 +24,23 @@ pub fn with_value(
     alloc: Global,
     tree: &Tree,
     serial: u32,
-    attr: Placed<'_>,
-    value: Placed<'_>,
+    setting: Setting<'_>,
 ) -> Result<Tree, Refusal>
     requires known { IsSome (node_at tree.now.nodes serial) }
-    requires name { IsText attr.text.now }
-    requires value { IsText value.text.now }
-    requires column { IsColumn attr.column }
-    requires value_column { IsColumn value.column }
+    requires name { IsText setting.attr.text.now }
+    requires value { IsText setting.value.text.now }
+    requires column { IsColumn setting.attr.column }
+    requires value_column { IsColumn setting.value.column }
     ensures ok { IfOk result (λ edited. at_node tree.now.nodes serial
-        (λ n. attr_set_by limits formats tree.now n attr.entry.text.now value.entry.text.now
-        attr.entry.column value.entry.column) ≡ Ok edited) }
+        (λ n. attr_set_by limits formats tree.now n setting.entry.attr.text.now
+        setting.entry.value.text.now setting.entry.attr.column setting.entry.value.column)
+        ≡ Ok edited) }
     ensures err { IfErr result (IsRefusedBy
         (at_node tree.now.nodes serial (λ n. attr_set_by limits formats tree.now n
-        attr.entry.text.now value.entry.text.now attr.entry.column value.entry.column))) }
+        setting.entry.attr.text.now setting.entry.value.text.now setting.entry.attr.column
+        setting.entry.value.column))) }
 {
-    let given = match read_value(alloc, named(tree, serial, attr), value) {
+    let given = match read_value(alloc, named(tree, serial, setting.attr), setting.value) {
         Ok(given) => given,
         Err(refusal) => return Err(refusal),
     };
@@ -69,33 +72,33 @@ pub fn without_name(tree: &Tree, serial: u32, attr: Placed<'_>) -> Result<Tree, 
     Ok(edited)
 }
 
-/// A copy in which a node has one more child, at a place counted from 1. The refusals are those of
-/// the line's kind, of the place, of the line's attributes, and of the edit.
+/// A copy in which a node has one more child. The refusals are those of the line's kind, of the
+/// place, of the line's attributes, and of the edit.
 pub fn with_child(
     alloc: Global,
     tree: &Tree,
     parent: u32,
-    place: usize,
-    line: Placed<'_>,
+    child: Child<'_>,
 ) -> Result<Tree, Refusal>
     requires known { IsSome (node_at tree.now.nodes parent) }
-    requires line { IsText line.text.now }
-    requires column { IsColumn line.column }
+    requires line { IsText child.line.text.now }
+    requires column { IsColumn child.line.column }
     ensures ok { IfOk result (λ edited. at_node tree.now.nodes parent
-        (λ p. node_inserted_by limits formats tree.now p place line.entry.text.now
-        line.entry.column) ≡ Ok edited) }
+        (λ p. node_inserted_by limits formats tree.now p child.entry.place
+        child.entry.line.text.now child.entry.line.column) ≡ Ok edited) }
     ensures err { IfErr result (IsRefusedBy
-        (at_node tree.now.nodes parent (λ p. node_inserted_by limits formats tree.now p place
-        line.entry.text.now line.entry.column))) }
+        (at_node tree.now.nodes parent (λ p. node_inserted_by limits formats tree.now p
+        child.entry.place child.entry.line.text.now child.entry.line.column))) }
 {
-    let kind = match read_line_kind(line) {
+    let place = child.place as usize;
+    let kind = match read_line_kind(child.line) {
         Ok(kind) => kind,
         Err(refusal) => return Err(refusal),
     };
     if let Err(fault) = tree.may_insert(parent, place, kind) {
         return Err(refused_edit(fault));
     }
-    let attrs = match read_line_attrs(alloc, tree.kind(parent), line) {
+    let attrs = match read_line_attrs(alloc, tree.kind(parent), child.line) {
         Ok(attrs) => attrs,
         Err(refusal) => return Err(refusal),
     };

@@ -18,12 +18,12 @@ ghost use Rattle.smil_live.specs.References.{keeps_references};
 ghost use Rattle.smil_live.specs.Sites.{IsMade, most_resolving, site_nodes, site_serial, staying};
 
 use super::copies::{with_child, with_value, without_name, without_node};
-use super::lines::{put_all_gone, put_differences};
+use super::lines::{Scene, put_all_gone, put_differences};
 use super::playing::Playing;
-use super::references::{Linked, keeps_references};
+use super::references::{Linked, Revision, keeps_references};
 use super::replay::{cells_with, diary_through};
 use super::seen::Seen;
-use super::values::Placed;
+use super::values::{Child, Placed, Setting};
 use smil_cells::{Cells, Table};
 use smil_diary::Book;
 use smil_graph::Graph;
@@ -46,33 +46,34 @@ impl<T: Table> Playing<T> {
     pub fn set<L: Ledger>(
         &mut self,
         who: &Who,
-        attr: Placed<'_>,
-        value: Placed<'_>,
+        setting: Setting<'_>,
         out: &mut Bytes,
         steps: &mut Steps<L>,
     ) -> Result<(), Refusal>
-        requires { IsGiven (order.Set who.now attr.text.now value.text.now attr.column value.column) }
+        requires { IsGiven (order.Set who.now setting.attr.text.now setting.value.text.now
+            setting.attr.column setting.value.column) }
         ensures ok { OnOk result (Accepts formats self.old self.new
-            (order.Set who.now attr.entry.text.now value.entry.text.now attr.entry.column
-            value.entry.column) (drop (length out.old) out.new)) }
+            (order.Set who.now setting.entry.attr.text.now setting.entry.value.text.now
+            setting.entry.attr.column setting.entry.value.column) (drop (length out.old) out.new)) }
         ensures appended { OnOk result (out.new ≡ out.old ++ drop (length out.old) out.new) }
         ensures refused { IfErr result (Refuses formats self.old
-            (order.Set who.now attr.entry.text.now value.entry.text.now attr.entry.column
-            value.entry.column)) }
+            (order.Set who.now setting.entry.attr.text.now setting.entry.value.text.now
+            setting.entry.attr.column setting.entry.value.column)) }
         ensures kept { OnErr result (self.new ≡ self.old) }
         ensures text { OnErr result (out.new ≡ out.old) }
         ensures counted { steps.old ≤ steps.new }
         ensures most { OnOk result (IsAtMost T.counts self.old
-            (order.Set who.now attr.entry.text.now value.entry.text.now attr.entry.column
-            value.entry.column) (steps.new - steps.old)) }
+            (order.Set who.now setting.entry.attr.text.now setting.entry.value.text.now
+            setting.entry.attr.column setting.entry.value.column) (steps.new - steps.old)) }
         ensures least { OnOk result (IsAtLeast T.counts self.old
-            (order.Set who.now attr.entry.text.now value.entry.text.now attr.entry.column
-            value.entry.column) (steps.new - steps.old)) }
+            (order.Set who.now setting.entry.attr.text.now setting.entry.value.text.now
+            setting.entry.attr.column setting.entry.value.column) (steps.new - steps.old)) }
         ensures free { IfErr result (λ refusal. IsFree T.counts self.old
-            (order.Set who.now attr.entry.text.now value.entry.text.now attr.entry.column
-            value.entry.column) refusal (steps.new - steps.old)) }
+            (order.Set who.now setting.entry.attr.text.now setting.entry.value.text.now
+            setting.entry.attr.column setting.entry.value.column) refusal
+            (steps.new - steps.old)) }
     {
-        match self.set_copy(who, attr, value) {
+        match self.set_copy(who, setting) {
             Ok(edited) => {
                 let site = self.site(who);
                 self.take_edited(&edited, site, out, steps)
@@ -122,32 +123,32 @@ impl<T: Table> Playing<T> {
     pub fn insert<L: Ledger>(
         &mut self,
         who: &Who,
-        place: u32,
-        line: Placed<'_>,
+        child: Child<'_>,
         out: &mut Bytes,
         steps: &mut Steps<L>,
     ) -> Result<(), Refusal>
-        requires { IsGiven (order.Insert who.now place line.text.now line.column) }
+        requires { IsGiven (order.Insert who.now child.place child.line.text.now child.line.column) }
         ensures ok { OnOk result (Accepts formats self.old self.new
-            (order.Insert who.now place line.entry.text.now line.entry.column)
-            (drop (length out.old) out.new)) }
+            (order.Insert who.now child.entry.place child.entry.line.text.now
+            child.entry.line.column) (drop (length out.old) out.new)) }
         ensures appended { OnOk result (out.new ≡ out.old ++ drop (length out.old) out.new) }
         ensures refused { IfErr result (Refuses formats self.old
-            (order.Insert who.now place line.entry.text.now line.entry.column)) }
+            (order.Insert who.now child.entry.place child.entry.line.text.now
+            child.entry.line.column)) }
         ensures kept { OnErr result (self.new ≡ self.old) }
         ensures text { OnErr result (out.new ≡ out.old) }
         ensures counted { steps.old ≤ steps.new }
         ensures most { OnOk result (IsAtMost T.counts self.old
-            (order.Insert who.now place line.entry.text.now line.entry.column)
-            (steps.new - steps.old)) }
+            (order.Insert who.now child.entry.place child.entry.line.text.now
+            child.entry.line.column) (steps.new - steps.old)) }
         ensures least { OnOk result (IsAtLeast T.counts self.old
-            (order.Insert who.now place line.entry.text.now line.entry.column)
-            (steps.new - steps.old)) }
+            (order.Insert who.now child.entry.place child.entry.line.text.now
+            child.entry.line.column) (steps.new - steps.old)) }
         ensures free { IfErr result (λ refusal. IsFree T.counts self.old
-            (order.Insert who.now place line.entry.text.now line.entry.column) refusal
-            (steps.new - steps.old)) }
+            (order.Insert who.now child.entry.place child.entry.line.text.now
+            child.entry.line.column) refusal (steps.new - steps.old)) }
     {
-        match self.insert_copy(who, place, line) {
+        match self.insert_copy(who, child) {
             Ok(edited) => self.take_edited(&edited, Site::New, out, steps),
             Err(refusal) => Err(refusal),
         }
@@ -186,19 +187,20 @@ impl<T: Table> Playing<T> {
     }
 
     // The document with an attribute of a node set.
-    fn set_copy(&self, who: &Who, attr: Placed<'_>, value: Placed<'_>) -> Result<Tree, Refusal>
-        requires { IsGiven (order.Set who.now attr.text.now value.text.now attr.column value.column) }
+    fn set_copy(&self, who: &Who, setting: Setting<'_>) -> Result<Tree, Refusal>
+        requires { IsGiven (order.Set who.now setting.attr.text.now setting.value.text.now
+            setting.attr.column setting.value.column) }
         ensures ok { IfOk result (λ edited. edit_of self.now
-            (order.Set who.now attr.entry.text.now value.entry.text.now attr.entry.column
-            value.entry.column) ≡ Ok edited) }
-        ensures err { IfErr result (IsRefusedBy
-            (edit_of self.now (order.Set who.now attr.entry.text.now value.entry.text.now
-            attr.entry.column value.entry.column))) }
+            (order.Set who.now setting.entry.attr.text.now setting.entry.value.text.now
+            setting.entry.attr.column setting.entry.value.column) ≡ Ok edited) }
+        ensures err { IfErr result (IsRefusedBy (edit_of self.now
+            (order.Set who.now setting.entry.attr.text.now setting.entry.value.text.now
+            setting.entry.attr.column setting.entry.value.column))) }
     {
-        let tree = self.cells.tree();
+        let tree = self.watched.cells.tree();
         tree.valid();
         match self.node(who) {
-            Ok(serial) => with_value(self.alloc, tree, serial, attr, value),
+            Ok(serial) => with_value(self.alloc, tree, serial, setting),
             Err(refusal) => Err(refusal),
         }
     }
@@ -211,7 +213,7 @@ impl<T: Table> Playing<T> {
         ensures err { IfErr result (IsRefusedBy
             (edit_of self.now (order.Unset who.now attr.entry.text.now attr.entry.column))) }
     {
-        let tree = self.cells.tree();
+        let tree = self.watched.cells.tree();
         tree.valid();
         match self.node(who) {
             Ok(serial) => without_name(tree, serial, attr),
@@ -220,17 +222,19 @@ impl<T: Table> Playing<T> {
     }
 
     // The document with one more node.
-    fn insert_copy(&self, who: &Who, place: u32, line: Placed<'_>) -> Result<Tree, Refusal>
-        requires { IsGiven (order.Insert who.now place line.text.now line.column) }
+    fn insert_copy(&self, who: &Who, child: Child<'_>) -> Result<Tree, Refusal>
+        requires { IsGiven (order.Insert who.now child.place child.line.text.now child.line.column) }
         ensures ok { IfOk result (λ edited. edit_of self.now
-            (order.Insert who.now place line.entry.text.now line.entry.column) ≡ Ok edited) }
-        ensures err { IfErr result (IsRefusedBy
-            (edit_of self.now (order.Insert who.now place line.entry.text.now line.entry.column))) }
+            (order.Insert who.now child.entry.place child.entry.line.text.now
+            child.entry.line.column) ≡ Ok edited) }
+        ensures err { IfErr result (IsRefusedBy (edit_of self.now
+            (order.Insert who.now child.entry.place child.entry.line.text.now
+            child.entry.line.column))) }
     {
-        let tree = self.cells.tree();
+        let tree = self.watched.cells.tree();
         tree.valid();
         match self.node(who) {
-            Ok(parent) => with_child(self.alloc, tree, parent, place as usize, line),
+            Ok(parent) => with_child(self.alloc, tree, parent, child),
             Err(refusal) => Err(refusal),
         }
     }
@@ -240,7 +244,7 @@ impl<T: Table> Playing<T> {
         ensures ok { IfOk result (λ edited. edit_of self.now (order.Remove who.now) ≡ Ok edited) }
         ensures err { IfErr result (IsRefusedBy (edit_of self.now (order.Remove who.now))) }
     {
-        let tree = self.cells.tree();
+        let tree = self.watched.cells.tree();
         tree.valid();
         match self.node(who) {
             Ok(serial) => without_node(tree, serial),
@@ -253,7 +257,7 @@ impl<T: Table> Playing<T> {
     fn site(&self, who: &Who) -> Site
         ensures { result ≡ Site.Old (serial_or_0 (node_of self.now.document.nodes who.now)) }
     {
-        match self.cells.tree().find(who) {
+        match self.watched.cells.tree().find(who) {
             Some(serial) => Site::Old(serial),
             None => Site::Old(0),
         }
@@ -304,8 +308,8 @@ impl<T: Table> Playing<T> {
             out.cut_back(len);
             return Err(Refusal::Memory);
         }
-        swap(&mut self.cells, cells);
-        self.seen = seen;
+        swap(&mut self.watched.cells, cells);
+        self.watched.seen = seen;
         Ok(())
     }
 
@@ -328,7 +332,7 @@ impl<T: Table> Playing<T> {
         edited.valid();
         let doc = edited.doc_copy()?;
         let len = self.staying(edited, &doc, site)?;
-        cells_with(&self.cells, &doc, len, steps)
+        cells_with(&self.watched.cells, &doc, len, steps)
     }
 
     // How many entries of the diary stay by an edit, unless memory runs out: those through the
@@ -339,9 +343,9 @@ impl<T: Table> Playing<T> {
         requires doc { doc.now ≡ edited.now }
         ensures { IfOk result (λ len. len ≡ staying self.now edited.now site) }
     {
-        let (serial, parent) = edited_node(self.cells.tree(), edited, doc, site);
+        let (serial, parent) = edited_node(self.watched.cells.tree(), edited, doc, site);
         let keeps = self.keeps_references(serial, edited, doc)?;
-        Ok(entries_staying(self.cells.book(), keeps, parent))
+        Ok(entries_staying(self.watched.cells.book(), keeps, parent))
     }
 
     // Whether an edit of a node leaves the references as they were, unless memory runs out.
@@ -350,20 +354,25 @@ impl<T: Table> Playing<T> {
         ensures { IfOk result (λ keeps. keeps
             ≡ keeps_references serial self.now.document.nodes edited.now.nodes) }
     {
-        let tree = self.cells.tree();
+        let tree = self.watched.cells.tree();
         let before = tree.doc_copy()?;
         let graph = Graph::of(self.alloc, edited)?;
         let old = Linked {
             tree,
             nodes: before.nodes(),
-            graph: self.cells.past().graph(),
+            graph: self.watched.cells.past().graph(),
         };
         let new = Linked {
             tree: edited,
             nodes: doc.nodes(),
             graph: &graph,
         };
-        keeps_references(self.alloc, serial, old, new)
+        let revision = Revision {
+            edited: serial,
+            old,
+            new,
+        };
+        keeps_references(self.alloc, revision)
     }
 
     // Appends the lines of the elements that are gone, and those of the views that differ.
@@ -374,10 +383,18 @@ impl<T: Table> Playing<T> {
         ensures err { OnErr result (Begins out.old out.new) }
     {
         let now = cells.moment();
-        if let Err(fault) = put_all_gone(self.cells.tree(), cells.tree(), now, out) {
+        let before = Scene {
+            tree: self.watched.cells.tree(),
+            moment: now,
+        };
+        if let Err(fault) = put_all_gone(before, cells.tree(), out) {
             return Err(fault);
         }
-        put_differences(cells.tree(), now, &self.seen, seen, out)
+        let after = Scene {
+            tree: cells.tree(),
+            moment: now,
+        };
+        put_differences(after, &self.watched.seen, seen, out)
     }
 }
 

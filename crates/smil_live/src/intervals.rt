@@ -17,54 +17,59 @@ use smil_model::{Bytes, How, Shown, Time, Who};
 use smil_report::put_history;
 use std::alloc::{AllocError, Global};
 
+/// An element whose intervals are told, with the name that its lines have.
+#[derive(Clone, Copy)]
+pub struct Subject<'a> {
+    pub serial: u32,
+    pub name: &'a Who,
+}
+
 /// Appends the lines of the intervals of an element, in order. The clocks are gone through from the
 /// start, since each time is carried to document time at its own moment.
 pub fn put_intervals<T: Table>(
     alloc: Global,
     cells: &Cells<T>,
-    who: u32,
-    name: &Who,
+    subject: Subject<'_>,
     out: &mut Bytes,
 ) -> Result<(), AllocError>
     requires sound { cells.now.fault ≡ None }
     requires state { IsState cells.now.presentation }
     requires settled { IsSettled cells.now }
-    requires element { (e : AnyNode)
-        × (node_at (elements cells.now.presentation.document.nodes) who ≡ Some e) }
-    ensures told { (e : AnyNode) → node_at (elements cells.now.presentation.document.nodes) who
-        ≡ Some e → OnOk result (out.new ≡ out.old
-        ++ flat_map (told_line name.now) (intervals_of (history_of cells.now)
+    requires element { (e : AnyNode) × (node_at
+        (elements cells.now.presentation.document.nodes) subject.serial ≡ Some e) }
+    ensures told { (e : AnyNode) → node_at (elements cells.now.presentation.document.nodes)
+        subject.entry.serial ≡ Some e → OnOk result (out.new ≡ out.old
+        ++ flat_map (told_line subject.entry.name.now) (intervals_of (history_of cells.now)
         (pos cells.now.presentation.now) e)) }
     ensures begins { Begins out.old out.new }
 {
     cells.past().possible();
-    let mut told = Told::new(alloc, cells.tree(), who)?;
-    told.follow_all(cells.book(), name, out)?;
-    put_present(cells, who, told.present, name, out)
+    let mut told = Told::new(alloc, cells.tree(), subject.serial)?;
+    told.follow_all(cells.book(), subject.name, out)?;
+    put_present(cells, subject, told.present, out)
 }
 
 // Appends the line of the present play, by its begin, where there is one.
 fn put_present<T: Table>(
     cells: &Cells<T>,
-    who: u32,
+    subject: Subject<'_>,
     begin: Option<i64>,
-    name: &Who,
     out: &mut Bytes,
 ) -> Result<(), AllocError>
     requires sound { cells.now.fault ≡ None }
     requires state { IsState cells.now.presentation }
     requires settled { IsSettled cells.now }
-    ensures ok { (e : AnyNode) → e.serial ≡ who
-        → OnOk result (out.new ≡ out.old ++ present_line name.now begin
+    ensures ok { (e : AnyNode) → e.serial ≡ subject.entry.serial
+        → OnOk result (out.new ≡ out.old ++ present_line subject.entry.name.now begin
         (end_at (history_of cells.now) (pos cells.now.presentation.now) e)) }
     ensures err { OnErr result (out.new ≡ out.old) }
 {
     match begin {
         Some(begin) => put_history(
             out,
-            name,
+            subject.name,
             Shown::At(begin),
-            present_end(cells, who),
+            present_end(cells, subject.serial),
             How::Playing,
         ),
         None => Ok(()),

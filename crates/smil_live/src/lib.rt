@@ -18,6 +18,7 @@ mod sets;
 mod tells;
 mod told;
 mod values;
+mod watched;
 mod worked;
 
 pub use playing::{Playing, Presentation};

@@ -16,6 +16,13 @@ use smil_report::{put_change, put_gone};
 use smil_tree::Tree;
 use std::alloc::AllocError;
 
+/// The document by which lines name nodes, and the moment that they tell.
+#[derive(Clone, Copy)]
+pub struct Scene<'a> {
+    pub tree: &'a Tree,
+    pub moment: i64,
+}
+
 /// A node by its id, or by its serial where it has none; unless memory runs out.
 pub fn name_of(tree: &Tree, serial: u32) -> Result<Who, AllocError>
     requires { IsSome (node_at tree.now.nodes serial) }
@@ -27,87 +34,80 @@ pub fn name_of(tree: &Tree, serial: u32) -> Result<Who, AllocError>
     }
 }
 
-/// Appends the line of a view at a moment. Where memory is refused, `out` is as before.
-pub fn put_view(tree: &Tree, moment: i64, view: &View, out: &mut Bytes) -> Result<(), AllocError>
-    requires { IsSome (node_at tree.now.nodes view.now.serial) }
-    ensures ok { OnOk result (out.new ≡ out.old
-        ++ change_line moment (name_in tree.now.nodes view.now.serial) view.now) }
+/// Appends the line of a view. Where memory is refused, `out` is as before.
+pub fn put_view(scene: Scene<'_>, view: &View, out: &mut Bytes) -> Result<(), AllocError>
+    requires { IsSome (node_at scene.tree.now.nodes view.now.serial) }
+    ensures ok { OnOk result (out.new ≡ out.old ++ change_line scene.entry.moment
+        (name_in scene.entry.tree.now.nodes view.now.serial) view.now) }
     ensures err { OnErr result (out.new ≡ out.old) }
 {
-    let name = name_of(tree, view.serial)?;
-    put_change(out, moment, &name, view)
+    let name = name_of(scene.tree, view.serial)?;
+    put_change(out, scene.moment, &name, view)
 }
 
-/// Appends the lines of the views at a moment that differ from those before.
+/// Appends the lines of the views that differ from those before.
 pub fn put_differences(
-    tree: &Tree,
-    moment: i64,
+    scene: Scene<'_>,
     before: &Seen,
     after: &Seen,
     out: &mut Bytes,
 ) -> Result<(), AllocError>
-    requires { AreOf tree.now.nodes after.now.views }
-    ensures ok { (m : ℕ) → moment ≡ pos m
-        → OnOk result (out.new ≡ out.old ++ lines_between tree.now.nodes m before.now.views
-        after.now.views) }
+    requires { AreOf scene.tree.now.nodes after.now.views }
+    ensures ok { (m : ℕ) → scene.entry.moment ≡ pos m
+        → OnOk result (out.new ≡ out.old ++ lines_between scene.entry.tree.now.nodes m
+        before.now.views after.now.views) }
     ensures err { OnErr result (Begins out.old out.new) }
 {
     for view in after.views() {
-        put_difference(tree, moment, before, view, out)?;
+        put_difference(scene, before, view, out)?;
     }
     Ok(())
 }
 
-// Appends the line of a view at a moment, where it differs from that before.
+// Appends the line of a view, where it differs from that before.
 fn put_difference(
-    tree: &Tree,
-    moment: i64,
+    scene: Scene<'_>,
     before: &Seen,
     view: &View,
     out: &mut Bytes,
 ) -> Result<(), AllocError>
-    requires { IsSome (node_at tree.now.nodes view.now.serial) }
-    ensures ok { (m : ℕ) → moment ≡ pos m
-        → OnOk result (out.new ≡ out.old ++ lines_between tree.now.nodes m before.now.views
-        (view.now ∷ [])) }
+    requires { IsSome (node_at scene.tree.now.nodes view.now.serial) }
+    ensures ok { (m : ℕ) → scene.entry.moment ≡ pos m
+        → OnOk result (out.new ≡ out.old ++ lines_between scene.entry.tree.now.nodes m
+        before.now.views (view.now ∷ [])) }
     ensures begins { OnOk result (Begins out.old out.new) }
     ensures err { OnErr result (out.new ≡ out.old) }
 {
     if is_same(view, &before.view(view.serial)) {
         Ok(())
     } else {
-        put_view(tree, moment, view, out)
+        put_view(scene, view, out)
     }
 }
 
-/// Appends the lines of all views at a moment.
-pub fn put_views(tree: &Tree, moment: i64, seen: &Seen, out: &mut Bytes) -> Result<(), AllocError>
-    requires { AreOf tree.now.nodes seen.now.views }
-    ensures ok { (m : ℕ) → moment ≡ pos m
-        → OnOk result (out.new ≡ out.old ++ lines_of tree.now.nodes m seen.now.views) }
+/// Appends the lines of all views.
+pub fn put_views(scene: Scene<'_>, seen: &Seen, out: &mut Bytes) -> Result<(), AllocError>
+    requires { AreOf scene.tree.now.nodes seen.now.views }
+    ensures ok { (m : ℕ) → scene.entry.moment ≡ pos m → OnOk result (out.new ≡ out.old
+        ++ lines_of scene.entry.tree.now.nodes m seen.now.views) }
     ensures err { OnErr result (Begins out.old out.new) }
 {
     for view in seen.views() {
-        put_view(tree, moment, view, out)?;
+        put_view(scene, view, out)?;
     }
     Ok(())
 }
 
-/// Appends the lines of the elements of a document that another doesn't have, in document order.
-pub fn put_all_gone(
-    before: &Tree,
-    after: &Tree,
-    moment: i64,
-    out: &mut Bytes,
-) -> Result<(), AllocError>
+/// Appends the lines of the elements of the document that another doesn't have, in document order.
+pub fn put_all_gone(scene: Scene<'_>, after: &Tree, out: &mut Bytes) -> Result<(), AllocError>
     ensures ok { OnOk result (out.new ≡ out.old
-        ++ lines_gone after.now.nodes moment before.now.nodes) }
+        ++ lines_gone after.now.nodes scene.entry.moment scene.entry.tree.now.nodes) }
     ensures err { OnErr result (Begins out.old out.new) }
 {
-    before.valid();
+    scene.tree.valid();
     let mut place = 0;
-    while let Some(serial) = before.serial_at(place) {
-        put_where_gone(before, after, serial, moment, out)?;
+    while let Some(serial) = scene.tree.serial_at(place) {
+        put_where_gone(scene, after, serial, out)?;
         place += 1;
     }
     Ok(())
@@ -115,21 +115,21 @@ pub fn put_all_gone(
 
 // Appends the line of a node, where it is an element that another document doesn't have.
 fn put_where_gone(
-    before: &Tree,
+    scene: Scene<'_>,
     after: &Tree,
     serial: u32,
-    moment: i64,
     out: &mut Bytes,
 ) -> Result<(), AllocError>
-    requires { IsSome (node_at before.now.nodes serial) }
-    ensures ok { (n : AnyNode) → node_at before.now.nodes serial ≡ Some n
-        → OnOk result (out.new ≡ out.old ++ lines_gone after.now.nodes moment (n ∷ [])) }
+    requires { IsSome (node_at scene.tree.now.nodes serial) }
+    ensures ok { (n : AnyNode) → node_at scene.entry.tree.now.nodes serial ≡ Some n
+        → OnOk result (out.new ≡ out.old
+        ++ lines_gone after.now.nodes scene.entry.moment (n ∷ [])) }
     ensures begins { OnOk result (Begins out.old out.new) }
     ensures err { OnErr result (out.new ≡ out.old) }
 {
-    if before.kind(serial).is_element() && after.position(serial).is_none() {
-        let name = name_of(before, serial)?;
-        put_gone(out, moment, &name)
+    if scene.tree.kind(serial).is_element() && after.position(serial).is_none() {
+        let name = name_of(scene.tree, serial)?;
+        put_gone(out, scene.moment, &name)
     } else {
         Ok(())
     }

@@ -1,33 +1,24 @@
 //! Orders that go on from the present state, or back to an earlier one.
 
-ghost use Rattle.std.specs.Prelude.{◌≡◌, ◌≤◌, ◌-◌, ◌++◌, ℕ, Option, drop, length as length_of, true, None, OnOk, OnErr, IfOk, IfErr, IfSome, IfNone, ◌≤ℤ◌, ◌<ℤ◌, ◌+ℤ◌, pos, [], ◌∷◌, Some};
+ghost use Rattle.std.specs.Prelude.{◌≡◌, ◌≤◌, ◌-◌, ◌++◌, ℕ, Option, drop, length as length_of, true, OnOk, OnErr, IfOk, IfErr, ◌<ℤ◌, pos};
 ghost use Rattle.smil_model.specs.declared.order.Order.TheVariants as order;
-ghost use Rattle.smil_model.specs.document.Document.{is_continuous, elements, node_at};
+ghost use Rattle.smil_model.specs.document.Document.{is_continuous, elements};
 ghost use Rattle.smil_model.specs.document.Values.{is_clock};
 ghost use Rattle.smil_model.specs.diary.Logs.{may_happen};
 ghost use Rattle.smil_model.specs.shown.Answers.{Accepts, IsGiven, MayEvaluate, Refuses};
 ghost use Rattle.smil_model.specs.shown.Orders.{IsState};
 ghost use Rattle.smil_grammar.specs.Formats.{formats};
-ghost use Rattle.smil_report.specs.Words.{Begins};
-ghost use Rattle.smil_cells.specs.Standing.{GoesOn, NothingBefore, Standing, IsSettled, WhereTold, fresh_since, reached_since};
+ghost use Rattle.smil_cells.specs.Standing.{WhereTold};
 ghost use Rattle.smil_live.specs.Counted.{IsAtLeast, IsAtMost, IsFree};
 ghost use Rattle.smil_live.specs.Counts.{least_onward, most_onward};
-ghost use Rattle.smil_live.specs.Kept.{IsShown, views_at};
-ghost use Rattle.smil_live.specs.Moves.{IsHeardBy, IsNotHeard, IsReplayed, IsShownAt, IsTooFull, MayMove, changes_by, made, sought_of, text_of, IsFirstDue};
-ghost use Rattle.smil_model.specs.declared.document.Node.{Node as AnyNode};
-ghost use Rattle.smil_live.specs.Seen.{has_view, view_now, with_view};
-ghost use Rattle.smil_live.specs.Told.{lines_between};
+ghost use Rattle.smil_live.specs.Moves.{IsHeardBy, IsNotHeard, IsReplayed, IsTooFull, MayMove, changes_by, made, sought_of, text_of};
 
-use super::faults::refused_book;
-use super::lines::put_view;
 use super::playing::Playing;
 use super::replay::cells_at;
-use super::seen::{Seen, view_in};
 use smil_cells::{Cells, Table};
 use smil_model::{
     Bytes, Duplicate, HORIZON, Happening, Kind, LOG_ENTRIES, LogEntry, Refusal, Steps, Who,
 };
-use std::alloc::AllocError;
 use std::sync::ledger::Ledger;
 
 /// How a presentation goes on from its present state. Moments are in milliseconds of document time.
@@ -65,7 +56,7 @@ impl<T: Table> Playing<T> {
         ensures free { IfErr result (λ refusal. IsFree T.counts self.old (order.Advance by) refusal
             (steps.new - steps.old)) }
     {
-        let to = self.cells.moment() + by;
+        let to = self.watched.cells.moment() + by;
         if to > HORIZON {
             return Err(Refusal::BeyondHorizon);
         }
@@ -99,7 +90,7 @@ impl<T: Table> Playing<T> {
         ensures free { IfErr result (λ refusal. IsFree T.counts self.old (order.Seek to) refusal
             (steps.new - steps.old)) }
     {
-        if to < self.cells.moment() {
+        if to < self.watched.cells.moment() {
             return self.seek_back(to, out, steps);
         }
         if let Err(refusal) = self.go(Move::Settle(to), out, steps) {
@@ -151,7 +142,7 @@ impl<T: Table> Playing<T> {
         ensures most { OnOk result (WhereTold T.counts
             (steps.new - steps.old ≤ length_of (elements self.now.document.nodes))) }
     {
-        cells_at(&self.cells, to, steps)
+        cells_at(&self.watched.cells, to, steps)
     }
 
     /// An event on an element. `NoElement` where there is no such node, `BadPlace` where it is a
@@ -209,7 +200,7 @@ impl<T: Table> Playing<T> {
             (order.Media who.now length) refusal (steps.new - steps.old)) }
     {
         let serial = self.node(who)?;
-        if !is_continuous(self.cells.tree().kind(serial)) {
+        if !is_continuous(self.watched.cells.tree().kind(serial)) {
             return Err(Refusal::NotContinuous);
         }
         let what = Happening::Media {
@@ -242,10 +233,10 @@ impl<T: Table> Playing<T> {
         ensures free { (most : Option ℕ)
             → IfErr result (λ refusal. MayEvaluate most refusal (steps.new - steps.old)) }
     {
-        if self.cells.log().len() >= LOG_ENTRIES {
+        if self.watched.cells.log().len() >= LOG_ENTRIES {
             return Err(Refusal::LogFull);
         }
-        let moment = self.cells.moment();
+        let moment = self.watched.cells.moment();
         let entry = LogEntry { moment, what };
         if let Err(refusal) = self.go(Move::Hear(entry), out, steps) {
             return Err(refusal);
@@ -275,210 +266,21 @@ impl<T: Table> Playing<T> {
             (least_onward self.old (made self.old step) ≤ steps.new - steps.old)) }
     {
         let len = out.len();
-        let cells = &mut self.cells;
-        let seen = &mut self.seen;
-        cells.mark();
-        let gone = go_on(cells, seen, step, out, steps);
+        let watched = &mut self.watched;
+        watched.cells.mark();
+        let gone = watched.go_on(step, out, steps);
         match gone {
             Ok(()) => {
-                cells.forget();
-                seen.forget();
+                watched.cells.forget();
+                watched.seen.forget();
             }
             Err(_) => {
-                cells.back();
-                seen.back();
+                watched.cells.back();
+                watched.seen.back();
                 out.cut_back(len);
             }
         }
         gone
-    }
-}
-
-// Goes on by a move, and tells what it changes.
-fn go_on<T: Table, L: Ledger>(
-    cells: &mut Cells<T>,
-    seen: &mut Seen,
-    step: Move,
-    out: &mut Bytes,
-    steps: &mut Steps<L>,
-) -> Result<(), Refusal>
-    requires may { MayMove cells.old.presentation step }
-    requires shown { IsShown cells.old seen.old }
-    ensures ok { OnOk result (IsShownAt (made cells.old.presentation step) cells.new seen.new) }
-    ensures told { OnOk result (out.new ≡ out.old
-        ++ text_of cells.old.presentation (changes_by cells.old.presentation step)) }
-    ensures refused { IfErr result (IsTooFull (made cells.old.presentation step)) }
-    ensures marked { cells.new.marked ≡ cells.old.marked }
-    ensures before { seen.new.before ≡ seen.old.before }
-    ensures begins { Begins out.old out.new }
-    ensures counted { steps.old ≤ steps.new }
-    ensures most { OnOk result (WhereTold T.counts
-        (steps.new - steps.old ≤ reached_since cells.old cells.new)) }
-    ensures least { OnOk result (WhereTold T.counts
-        (fresh_since cells.old cells.new ≤ steps.new - steps.old)) }
-{
-    match step {
-        Move::Pass(to) => pass_through(cells, seen, to, out, steps),
-        Move::Settle(to) => settle_once(cells, seen, to, out, steps),
-        Move::Hear(entry) => hear_once(cells, seen, entry, out, steps),
-    }
-}
-
-// Goes on up to a moment, and tells the changes of each moment on the way.
-fn pass_through<T: Table, L: Ledger>(
-    cells: &mut Cells<T>,
-    seen: &mut Seen,
-    to: i64,
-    out: &mut Bytes,
-    steps: &mut Steps<L>,
-) -> Result<(), Refusal>
-    requires may { MayMove cells.old.presentation (Move.Pass to) }
-    requires shown { IsShown cells.old seen.old }
-    ensures ok { OnOk result (IsShownAt (made cells.old.presentation (Move.Pass to)) cells.new
-        seen.new) }
-    ensures told { OnOk result (out.new ≡ out.old
-        ++ text_of cells.old.presentation (changes_by cells.old.presentation (Move.Pass to))) }
-    ensures refused { IfErr result (IsTooFull (made cells.old.presentation (Move.Pass to))) }
-    ensures marked { cells.new.marked ≡ cells.old.marked }
-    ensures before { seen.new.before ≡ seen.old.before }
-    ensures begins { Begins out.old out.new }
-    ensures counted { steps.old ≤ steps.new }
-    ensures most { OnOk result (WhereTold T.counts
-        (steps.new - steps.old ≤ reached_since cells.old cells.new)) }
-    ensures least { OnOk result (WhereTold T.counts
-        (fresh_since cells.old cells.new ≤ steps.new - steps.old)) }
-{
-    while let Some(due) = due_by(cells, to) {
-        if let Err(refusal) = settle_once(cells, seen, due, out, steps) {
-            return Err(refusal);
-        }
-    }
-    settle_once(cells, seen, to, out, steps)
-}
-
-// The moment of what comes first, where it is due by a moment.
-fn due_by<T: Table>(cells: &Cells<T>, to: i64) -> Option<i64>
-    requires { cells.now.fault ≡ None }
-    ensures within { IfSome result (λ due. due ≤ℤ to) }
-    ensures first { IfSome result (IsFirstDue cells.now) }
-    ensures none { IfNone result (NothingBefore cells.now (to +ℤ pos 1)) }
-{
-    let due = cells.next_due()?;
-    if due <= to { Some(due) } else { None }
-}
-
-// Goes on up to a moment, and tells what is different there.
-fn settle_once<T: Table, L: Ledger>(
-    cells: &mut Cells<T>,
-    seen: &mut Seen,
-    to: i64,
-    out: &mut Bytes,
-    steps: &mut Steps<L>,
-) -> Result<(), Refusal>
-    requires may { MayMove cells.old.presentation (Move.Settle to) }
-    requires shown { IsShown cells.old seen.old }
-    ensures ok { OnOk result (IsShownAt (made cells.old.presentation (Move.Settle to)) cells.new
-        seen.new) }
-    ensures told { OnOk result (out.new ≡ out.old
-        ++ text_of cells.old.presentation (changes_by cells.old.presentation (Move.Settle to))) }
-    ensures refused { IfErr result (IsTooFull (made cells.old.presentation (Move.Settle to))) }
-    ensures marked { cells.new.marked ≡ cells.old.marked }
-    ensures before { seen.new.before ≡ seen.old.before }
-    ensures begins { Begins out.old out.new }
-    ensures counted { steps.old ≤ steps.new }
-    ensures goes_on { OnOk result (GoesOn cells.old cells.new) }
-    ensures most { OnOk result (WhereTold T.counts
-        (steps.new - steps.old ≤ reached_since cells.old cells.new)) }
-    ensures least { OnOk result (WhereTold T.counts
-        (fresh_since cells.old cells.new ≤ steps.new - steps.old)) }
-{
-    match cells.settle(to, steps) {
-        Ok(()) => put_touched(cells, seen, out),
-        Err(fault) => Err(refused_book(fault)),
-    }
-}
-
-// Takes in a log entry, and tells what is different behind it.
-fn hear_once<T: Table, L: Ledger>(
-    cells: &mut Cells<T>,
-    seen: &mut Seen,
-    entry: LogEntry,
-    out: &mut Bytes,
-    steps: &mut Steps<L>,
-) -> Result<(), Refusal>
-    requires may { MayMove cells.old.presentation (Move.Hear entry) }
-    requires shown { IsShown cells.old seen.old }
-    ensures ok { OnOk result (IsShownAt (made cells.old.presentation (Move.Hear entry)) cells.new
-        seen.new) }
-    ensures told { OnOk result (out.new ≡ out.old
-        ++ text_of cells.old.presentation (changes_by cells.old.presentation (Move.Hear entry))) }
-    ensures refused { IfErr result (IsTooFull (made cells.old.presentation (Move.Hear entry))) }
-    ensures marked { cells.new.marked ≡ cells.old.marked }
-    ensures before { seen.new.before ≡ seen.old.before }
-    ensures begins { Begins out.old out.new }
-    ensures counted { steps.old ≤ steps.new }
-    ensures most { OnOk result (WhereTold T.counts
-        (steps.new - steps.old ≤ reached_since cells.old cells.new)) }
-    ensures least { OnOk result (WhereTold T.counts
-        (fresh_since cells.old cells.new ≤ steps.new - steps.old)) }
-{
-    match cells.hear(entry, steps) {
-        Ok(()) => put_touched(cells, seen, out),
-        Err(fault) => Err(refused_book(fault)),
-    }
-}
-
-// Puts the views of the touched elements in place, and appends the lines of those that differ from
-// the views of an earlier state, of which the last call may have changed these alone.
-fn put_touched<T: Table>(cells: &Cells<T>, seen: &mut Seen, out: &mut Bytes) -> Result<(), Refusal>
-    requires sound { cells.now.fault ≡ None }
-    requires state { IsState cells.now.presentation }
-    requires settled { IsSettled cells.now }
-    requires from { (old : Standing) × GoesOn old cells.now × (seen.old.views ≡ views_at old)
-        × (cells.now.presentation.document ≡ old.presentation.document) }
-    ensures views { OnOk result (seen.new.views ≡ views_at cells.now) }
-    ensures told { OnOk result (out.new ≡ out.old
-        ++ lines_between cells.now.presentation.document.nodes cells.now.presentation.now
-        seen.old.views (views_at cells.now)) }
-    ensures refused { IfErr result (λ refusal. refusal ≡ Refusal.Memory) }
-    ensures before { seen.new.before ≡ seen.old.before }
-    ensures begins { Begins out.old out.new }
-{
-    for serial in cells.touched().slice() {
-        if put_one(cells, seen, *serial, out).is_err() {
-            return Err(Refusal::Memory);
-        }
-    }
-    Ok(())
-}
-
-// Puts the view of an element in its place, and appends its line where it differs from that before.
-fn put_one<T: Table>(
-    cells: &Cells<T>,
-    seen: &mut Seen,
-    serial: u32,
-    out: &mut Bytes,
-) -> Result<(), AllocError>
-    requires sound { cells.now.fault ≡ None }
-    requires state { IsState cells.now.presentation }
-    requires settled { IsSettled cells.now }
-    requires element { (e : AnyNode)
-        × (node_at (elements cells.now.presentation.document.nodes) serial ≡ Some e) }
-    requires known { has_view seen.old.views serial ≡ true }
-    ensures view { (e : AnyNode) → node_at (elements cells.now.presentation.document.nodes) serial
-        ≡ Some e → OnOk result (seen.new ≡ with_view seen.old (view_now cells.now e)) }
-    ensures told { (e : AnyNode) → node_at (elements cells.now.presentation.document.nodes) serial
-        ≡ Some e → OnOk result (out.new ≡ out.old
-        ++ lines_between cells.now.presentation.document.nodes cells.now.presentation.now
-        seen.old.views (view_now cells.now e ∷ [])) }
-    ensures before { seen.new.before ≡ seen.old.before }
-    ensures begins { Begins out.old out.new }
-{
-    let view = view_in(cells, serial);
-    if seen.put(view)? {
-        put_view(cells.tree(), cells.moment(), &view, out)
-    } else {
-        Ok(())
     }
 }
 

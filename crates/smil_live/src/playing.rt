@@ -17,10 +17,11 @@ ghost use Rattle.smil_live.specs.Kept.{IsPlaying};
 ghost use Rattle.smil_live.specs.Moves.{IsReplayed};
 ghost use Rattle.smil_live.specs.Telling.{element_named, is_edit};
 
-use super::lines::put_differences;
-use super::replay::{Extent, replayed};
+use super::lines::{Scene, put_differences};
+use super::replay::{Replay, replayed};
 use super::seen::Seen;
-use super::values::Placed;
+use super::values::{Child, Placed, Setting};
+use super::watched::Watched;
 use smil_cells::{Cells, Table};
 use smil_model::{Bytes, Doc, Happening, Log, Order, Player, Refusal, Steps, Who};
 use smil_nodes::LiveTable;
@@ -35,8 +36,7 @@ pub type Presentation = Playing<LiveTable>;
 /// It answers every order, and tells bounds of its interval evaluations where its table counts
 /// them.
 pub struct Playing<T: Table> {
-    pub cells: Cells<T>,
-    pub seen: Seen,
+    pub watched: Watched<T>,
     pub alloc: Global,
 }
 
@@ -44,8 +44,7 @@ impl<T: Table> Drop for Playing<T> {
     // One call for each holder: its fields are dropped here alone.
     fn drop(self) {
         let Playing {
-            cells: _cells,
-            seen: _seen,
+            watched: _watched,
             alloc: _alloc,
         } = self;
     }
@@ -57,9 +56,9 @@ impl<T: Table> Model for Playing<T> {
 
     ghost Value = { State };
 
-    ghost view = { λ p. p.cells.presentation };
+    ghost view = { λ p. p.watched.cells.presentation };
 
-    ghost invariant = { λ p. IsPlaying p.cells p.seen };
+    ghost invariant = { λ p. IsPlaying p.watched.cells p.watched.seen };
 }
 
 impl<T: Table> Playing<T> {
@@ -84,8 +83,13 @@ impl<T: Table> Playing<T> {
         ensures least { IfOk result (λ playing. WhereTold T.counts
             (least_loading playing ≤ steps.new - steps.old)) }
     {
-        let extent = Extent { len: 0, to: 0 };
-        match replayed(alloc, &doc, &Log::new(alloc), extent, steps) {
+        let log = Log::new(alloc);
+        let replay = Replay {
+            log: &log,
+            len: 0,
+            to: 0,
+        };
+        match replayed(alloc, &doc, replay, steps) {
             Ok(cells) => Playing::over(alloc, cells, out),
             Err(refusal) => Err(refusal),
         }
@@ -103,7 +107,10 @@ impl<T: Table> Playing<T> {
         ensures text { OnErr result (out.new ≡ out.old) }
     {
         match put_first(alloc, &cells, out) {
-            Ok(seen) => Ok(Playing { cells, seen, alloc }),
+            Ok(seen) => Ok(Playing {
+                watched: Watched { cells, seen },
+                alloc,
+            }),
             Err(refusal) => Err(refusal),
         }
     }
@@ -117,7 +124,7 @@ impl<T: Table> Playing<T> {
         ensures err { IfErr result (λ refusal. found (node_of self.now.document.nodes who.now)
             ≡ Err refusal) }
     {
-        match self.cells.tree().find(who) {
+        match self.watched.cells.tree().find(who) {
             Some(serial) => Ok(serial),
             None => Err(Refusal::NoElement),
         }
@@ -132,7 +139,7 @@ impl<T: Table> Playing<T> {
         ensures err { IfErr result (λ refusal. element_named self.now who.now ≡ Err refusal) }
     {
         let serial = self.node(who)?;
-        if self.cells.tree().kind(serial).is_element() {
+        if self.watched.cells.tree().kind(serial).is_element() {
             Ok(serial)
         } else {
             Err(Refusal::BadPlace)
@@ -144,7 +151,7 @@ impl<T: Table> Playing<T> {
         ensures state { IsState self.now }
         ensures diary { IsSome (diary_of (course_of self.now)) }
     {
-        let _kept = &self.seen;
+        let _kept = &self.watched;
     }
 
     // Hears a key, and tells what changes.
@@ -201,13 +208,13 @@ impl<T: Table> Playing<T> {
                 value,
                 attr_column,
                 column,
-            } => self.set(
-                who,
-                placed(attr, *attr_column),
-                placed(value, *column),
-                out,
-                steps,
-            ),
+            } => {
+                let setting = Setting {
+                    attr: placed(attr, *attr_column),
+                    value: placed(value, *column),
+                };
+                self.set(who, setting, out, steps)
+            }
             Order::Unset {
                 who,
                 attr,
@@ -218,7 +225,13 @@ impl<T: Table> Playing<T> {
                 place,
                 node,
                 column,
-            } => self.insert(who, *place, placed(node, *column), out, steps),
+            } => {
+                let child = Child {
+                    place: *place,
+                    line: placed(node, *column),
+                };
+                self.insert(who, child, out, steps)
+            }
             Order::Remove { who } => self.remove(who, out, steps),
             _ => unreachable!(),
         }
@@ -241,7 +254,7 @@ impl<T: Table> Player for Playing<T> {
     ghost most_steps = { λ p order. told_where T.counts (most_number p order) };
 
     fn now(&self) -> i64 {
-        self.cells.moment()
+        self.watched.cells.moment()
     }
 
     fn answer<L: Ledger>(
@@ -295,7 +308,11 @@ fn put_first<T: Table>(alloc: Global, cells: &Cells<T>, out: &mut Bytes) -> Resu
         Err(_) => return Err(Refusal::Memory),
     };
     let len = out.len();
-    if let Err(_) = put_differences(cells.tree(), 0, &Seen::none(alloc), &seen, out) {
+    let scene = Scene {
+        tree: cells.tree(),
+        moment: 0,
+    };
+    if let Err(_) = put_differences(scene, &Seen::none(alloc), &seen, out) {
         out.cut_back(len);
         return Err(Refusal::Memory);
     }

@@ -24,26 +24,40 @@ pub struct Linked<'a> {
     pub graph: &'a Graph,
 }
 
+/// A document before and after an edit of a node, with the serial of that node.
+#[derive(Clone, Copy)]
+pub struct Revision<'a> {
+    pub edited: u32,
+    pub old: Linked<'a>,
+    pub new: Linked<'a>,
+}
+
+/// The begin or the end list of an element in a graph, with the number of its items.
+#[derive(Clone, Copy)]
+struct Side<'a> {
+    graph: &'a Graph,
+    serial: u32,
+    edge: Edge,
+    count: usize,
+}
+
 /// Whether an edit of a node leaves the references as they were, unless memory runs out: each id of
 /// a node names the same element in both documents or none, and the items of each other element
 /// that both have are looped in both or in none.
-pub fn keeps_references(
-    alloc: Global,
-    edited: u32,
-    old: Linked<'_>,
-    new: Linked<'_>,
-) -> Result<bool, AllocError>
-    requires old_nodes { old.nodes.now ≡ old.tree.now.nodes }
-    requires new_nodes { new.nodes.now ≡ new.tree.now.nodes }
-    requires old_graph { old.graph.now.nodes ≡ old.tree.now.nodes }
-    requires new_graph { new.graph.now.nodes ≡ new.tree.now.nodes }
-    ensures { IfOk result (λ keeps. keeps
-        ≡ keeps_references edited old.entry.tree.now.nodes new.entry.tree.now.nodes) }
+pub fn keeps_references(alloc: Global, revision: Revision<'_>) -> Result<bool, AllocError>
+    requires old_nodes { revision.old.nodes.now ≡ revision.old.tree.now.nodes }
+    requires new_nodes { revision.new.nodes.now ≡ revision.new.tree.now.nodes }
+    requires old_graph { revision.old.graph.now.nodes ≡ revision.old.tree.now.nodes }
+    requires new_graph { revision.new.graph.now.nodes ≡ revision.new.tree.now.nodes }
+    ensures { IfOk result (λ keeps. keeps ≡ keeps_references revision.entry.edited
+        revision.entry.old.tree.now.nodes revision.entry.new.tree.now.nodes) }
 {
+    let old = revision.old;
+    let new = revision.new;
     if !keeps_ids(old.nodes, old.tree, new.tree)? || !keeps_ids(new.nodes, old.tree, new.tree)? {
         return Ok(false);
     }
-    keeps_loops(alloc, edited, old, new)
+    keeps_loops(alloc, revision)
 }
 
 // Whether the id of each of these nodes names the same element in both documents, or none.
@@ -83,20 +97,15 @@ fn is_same_serial(one: Option<u32>, other: Option<u32>) -> bool
 }
 
 // Whether the items of each other element that both documents have are looped in both or in none.
-fn keeps_loops(
-    alloc: Global,
-    edited: u32,
-    old: Linked<'_>,
-    new: Linked<'_>,
-) -> Result<bool, AllocError>
-    requires old_nodes { old.nodes.now ≡ old.tree.now.nodes }
-    requires old_graph { old.graph.now.nodes ≡ old.tree.now.nodes }
-    requires new_graph { new.graph.now.nodes ≡ new.tree.now.nodes }
-    ensures { IfOk result (λ keeps. keeps
-        ≡ keeps_loops edited old.entry.tree.now.nodes new.entry.tree.now.nodes) }
+fn keeps_loops(alloc: Global, revision: Revision<'_>) -> Result<bool, AllocError>
+    requires old_nodes { revision.old.nodes.now ≡ revision.old.tree.now.nodes }
+    requires old_graph { revision.old.graph.now.nodes ≡ revision.old.tree.now.nodes }
+    requires new_graph { revision.new.graph.now.nodes ≡ revision.new.tree.now.nodes }
+    ensures { IfOk result (λ keeps. keeps ≡ keeps_loops revision.entry.edited
+        revision.entry.old.tree.now.nodes revision.entry.new.tree.now.nodes) }
 {
-    for node in old.nodes {
-        if node.kind.is_element() && !keeps_loops_of(alloc, edited, old, new, node.serial)? {
+    for node in revision.old.nodes {
+        if node.kind.is_element() && !keeps_loops_of(alloc, revision, node.serial)? {
             return Ok(false);
         }
     }
@@ -105,23 +114,17 @@ fn keeps_loops(
 
 // Whether the items of an element, unless it is edited or the new document does not have it, are
 // looped in both documents or in none.
-fn keeps_loops_of(
-    alloc: Global,
-    edited: u32,
-    old: Linked<'_>,
-    new: Linked<'_>,
-    serial: u32,
-) -> Result<bool, AllocError>
-    requires old_graph { old.graph.now.nodes ≡ old.tree.now.nodes }
-    requires new_graph { new.graph.now.nodes ≡ new.tree.now.nodes }
-    ensures { IfOk result (λ keeps. keeps
-        ≡ keeps_loops_of edited old.entry.tree.now.nodes new.entry.tree.now.nodes serial) }
+fn keeps_loops_of(alloc: Global, revision: Revision<'_>, serial: u32) -> Result<bool, AllocError>
+    requires old_graph { revision.old.graph.now.nodes ≡ revision.old.tree.now.nodes }
+    requires new_graph { revision.new.graph.now.nodes ≡ revision.new.tree.now.nodes }
+    ensures { IfOk result (λ keeps. keeps ≡ keeps_loops_of revision.entry.edited
+        revision.entry.old.tree.now.nodes revision.entry.new.tree.now.nodes serial) }
 {
-    if serial == edited || item_counts(new.tree, serial).is_none() {
+    if serial == revision.edited || item_counts(revision.new.tree, serial).is_none() {
         return Ok(true);
     }
-    let before = loops(alloc, old, serial)?;
-    let after = loops(alloc, new, serial)?;
+    let before = loops(alloc, revision.old, serial)?;
+    let after = loops(alloc, revision.new, serial)?;
     Ok(are_same_marks(before.as_slice(), after.as_slice()))
 }
 
@@ -136,27 +139,35 @@ fn loops(alloc: Global, document: Linked<'_>, serial: u32) -> Result<Vec<bool>, 
     let Some((begins, ends)) = item_counts(document.tree, serial) else {
         return Ok(marks);
     };
-    push_marks(document.graph, serial, Edge::Begin, begins, &mut marks)?;
-    push_marks(document.graph, serial, Edge::End, ends, &mut marks)?;
+    let begin = Side {
+        graph: document.graph,
+        serial,
+        edge: Edge::Begin,
+        count: begins,
+    };
+    push_marks(begin, &mut marks)?;
+    let end = Side {
+        graph: document.graph,
+        serial,
+        edge: Edge::End,
+        count: ends,
+    };
+    push_marks(end, &mut marks)?;
     Ok(marks)
 }
 
 // Appends which items of one side of an element are looped references.
-fn push_marks(
-    graph: &Graph,
-    serial: u32,
-    side: Edge,
-    count: usize,
-    marks: &mut Vec<bool>,
-) -> Result<(), AllocError>
-    requires counted { (e : AnyNode) × (node_at (elements graph.now.nodes) serial ≡ Some e)
-        × (count ≡ length (items_of graph.now.nodes side e)) }
-    ensures { (e : AnyNode) → node_at (elements graph.now.nodes) serial ≡ Some e
-        → OnOk result (marks.new.items ≡ marks.old.items
-        ++ map (is_looped graph.now.nodes e.serial) (items_of graph.now.nodes side e)) }
+fn push_marks(side: Side<'_>, marks: &mut Vec<bool>) -> Result<(), AllocError>
+    requires counted { (e : AnyNode)
+        × (node_at (elements side.graph.now.nodes) side.serial ≡ Some e)
+        × (side.count ≡ length (items_of side.graph.now.nodes side.edge e)) }
+    ensures { (e : AnyNode) → node_at (elements side.entry.graph.now.nodes) side.entry.serial
+        ≡ Some e → OnOk result (marks.new.items ≡ marks.old.items
+        ++ map (is_looped side.entry.graph.now.nodes e.serial)
+        (items_of side.entry.graph.now.nodes side.entry.edge e)) }
 {
-    for item in 0..count {
-        marks.push(graph.looped(serial, side, item))?;
+    for item in 0..side.count {
+        marks.push(side.graph.looped(side.serial, side.edge, item))?;
     }
     Ok(())
 }

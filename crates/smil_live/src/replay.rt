@@ -21,9 +21,11 @@ use smil_model::{Doc, Duplicate, LOG_ENTRIES, Log, LogEntry, Refusal, StepKind, 
 use std::alloc::Global;
 use std::sync::ledger::Ledger;
 
-/// How much of a log is heard, and the moment up to which a presentation is resolved.
+/// What is heard again: the first entries of a log; and the moment up to which a presentation with
+/// them is resolved.
 #[derive(Clone, Copy)]
-pub struct Extent {
+pub struct Replay<'a> {
+    pub log: &'a Log,
     pub len: usize,
     pub to: i64,
 }
@@ -34,23 +36,26 @@ pub struct Extent {
 pub fn replayed<T: Table, L: Ledger>(
     alloc: Global,
     doc: &Doc,
-    log: &Log,
-    extent: Extent,
+    replay: Replay<'_>,
     steps: &mut Steps<L>,
 ) -> Result<Cells<T>, Refusal>
-    requires state { IsState (replay_of doc.now log.now extent.len extent.to) }
-    requires from { pos 0 ≤ℤ extent.to }
-    requires within { extent.len ≤ length log.now }
-    ensures ok { IfOk result (IsReplayed (replay_of doc.now log.now extent.len extent.to)) }
-    ensures refused { IfErr result (IsTooFull (replay_of doc.now log.now extent.len extent.to)) }
+    requires state { IsState (replay_of doc.now replay.log.now replay.len replay.to) }
+    requires from { pos 0 ≤ℤ replay.to }
+    requires within { replay.len ≤ length replay.log.now }
+    ensures ok { IfOk result (IsReplayed
+        (replay_of doc.now replay.entry.log.now replay.entry.len replay.entry.to)) }
+    ensures refused { IfErr result (IsTooFull
+        (replay_of doc.now replay.entry.log.now replay.entry.len replay.entry.to)) }
     ensures counted { steps.old ≤ steps.new }
     ensures most { IfOk result (λ cells. WhereTold T.counts
-        (steps.new - steps.old ≤ most_loading (replay_of doc.now log.now extent.len extent.to))) }
+        (steps.new - steps.old ≤ most_loading
+        (replay_of doc.now replay.entry.log.now replay.entry.len replay.entry.to))) }
     ensures least { IfOk result (λ cells. WhereTold T.counts
-        (least_loading (replay_of doc.now log.now extent.len extent.to) ≤ steps.new - steps.old)) }
+        (least_loading (replay_of doc.now replay.entry.log.now replay.entry.len replay.entry.to)
+        ≤ steps.new - steps.old)) }
 {
     let mut cells = Cells::<T>::new(alloc, doc, steps)?;
-    match replay_on(&mut cells, log, extent, steps) {
+    match replay_on(&mut cells, replay, steps) {
         Ok(()) => Ok(cells),
         Err(refusal) => Err(refusal),
     }
@@ -106,12 +111,13 @@ pub fn cells_with<T: Table, L: Ledger>(
         (edited_to cells.now.presentation doc.now))) }
 {
     let log = cells.log();
-    let extent = Extent {
+    let replay = Replay {
+        log,
         len: log.len(),
         to: cells.moment(),
     };
     let mut rebuilt = cells.rebuilt(doc, len, steps)?;
-    match replay_on(&mut rebuilt, log, extent, steps) {
+    match replay_on(&mut rebuilt, replay, steps) {
         Ok(()) => Ok(rebuilt),
         Err(refusal) => Err(refusal),
     }
@@ -121,33 +127,32 @@ pub fn cells_with<T: Table, L: Ledger>(
 /// moment. `DiaryFull` where the diary would have too many entries, `Memory` where memory runs out.
 pub fn replay_on<T: Table, L: Ledger>(
     cells: &mut Cells<T>,
-    log: &Log,
-    extent: Extent,
+    replay: Replay<'_>,
     steps: &mut Steps<L>,
 ) -> Result<(), Refusal>
-    requires way { IsUnderWay (replay_of cells.old.presentation.document log.now extent.len
-        extent.to) (length cells.old.presentation.log) cells.old }
-    requires state { IsState (replay_of cells.old.presentation.document log.now extent.len
-        extent.to) }
-    requires from { pos 0 ≤ℤ extent.to }
-    requires within { extent.len ≤ length log.now }
-    ensures ok { OnOk result (IsReplayed
-        (replay_of cells.old.presentation.document log.now extent.len extent.to) cells.new) }
-    ensures refused { IfErr result (IsTooFull
-        (replay_of cells.old.presentation.document log.now extent.len extent.to)) }
+    requires way { IsUnderWay (replay_of cells.old.presentation.document replay.log.now replay.len
+        replay.to) (length cells.old.presentation.log) cells.old }
+    requires state { IsState (replay_of cells.old.presentation.document replay.log.now replay.len
+        replay.to) }
+    requires from { pos 0 ≤ℤ replay.to }
+    requires within { replay.len ≤ length replay.log.now }
+    ensures ok { OnOk result (IsReplayed (replay_of cells.old.presentation.document
+        replay.entry.log.now replay.entry.len replay.entry.to) cells.new) }
+    ensures refused { IfErr result (IsTooFull (replay_of cells.old.presentation.document
+        replay.entry.log.now replay.entry.len replay.entry.to)) }
     ensures counted { steps.old ≤ steps.new }
     ensures most { OnOk result (WhereTold T.counts
         (steps.new - steps.old ≤ reached_since cells.old cells.new)) }
     ensures least { OnOk result (WhereTold T.counts
         (fresh_since cells.old cells.new ≤ steps.new - steps.old)) }
 {
-    for place in cells.log().len()..extent.len {
-        let entry = log.get(place).unwrap();
+    for place in cells.log().len()..replay.len {
+        let entry = replay.log.get(place).unwrap();
         if let Err(refusal) = hear_again(cells, entry, steps) {
             return Err(refusal);
         }
     }
-    match cells.settle(extent.to, steps) {
+    match cells.settle(replay.to, steps) {
         Ok(()) => Ok(()),
         Err(fault) => Err(refused_book(fault)),
     }

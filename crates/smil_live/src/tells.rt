@@ -15,8 +15,8 @@ ghost use Rattle.smil_report.specs.Words.{Begins};
 ghost use Rattle.smil_live.specs.Sets.{AreSetsAmong, AreSetsOf};
 ghost use Rattle.smil_live.specs.Telling.{element_named, is_plain_telling, is_telling, layers_text, setter_text};
 
-use super::intervals::put_intervals;
-use super::lines::{name_of, put_views};
+use super::intervals::{Subject, put_intervals};
+use super::lines::{Scene, name_of, put_views};
 use super::playing::Playing;
 use super::sets::Sets;
 use smil_cells::Table;
@@ -26,6 +26,13 @@ use smil_outline::{write_doc, write_doc_2};
 use smil_report::{SetValue, put_entry, put_layer, put_now, put_outline_end, put_value};
 use smil_tree::Tree;
 use std::alloc::AllocError;
+
+/// A document with what all its sets set.
+#[derive(Clone, Copy)]
+struct Layered<'a> {
+    tree: &'a Tree,
+    sets: &'a Sets,
+}
 
 impl<T: Table> Playing<T> {
     /// Tells what an order asks for. After a refusal `out` is as before.
@@ -88,7 +95,11 @@ impl<T: Table> Playing<T> {
             ++ answer_text formats self.now self.now order.Show) }
         ensures begins { Begins out.old out.new }
     {
-        put_views(self.cells.tree(), self.cells.moment(), &self.seen, out)
+        let scene = Scene {
+            tree: self.watched.cells.tree(),
+            moment: self.watched.cells.moment(),
+        };
+        put_views(scene, &self.watched.seen, out)
     }
 
     // Appends the outline of the document.
@@ -97,7 +108,7 @@ impl<T: Table> Playing<T> {
             ++ answer_text formats self.now self.now order.Text) }
         ensures begins { Begins out.old out.new }
     {
-        write_doc(&self.cells.tree().doc_copy()?, out)
+        write_doc(&self.watched.cells.tree().doc_copy()?, out)
     }
 
     // Appends the outline of the document with its serials.
@@ -106,7 +117,7 @@ impl<T: Table> Playing<T> {
             ++ answer_text formats self.now self.now order.Save) }
         ensures begins { Begins out.old out.new }
     {
-        write_doc_2(&self.cells.tree().doc_copy()?, out)
+        write_doc_2(&self.watched.cells.tree().doc_copy()?, out)
     }
 
     // Appends the intervals of an element. `NoElement` where there is no such node, `BadPlace`
@@ -135,8 +146,12 @@ impl<T: Table> Playing<T> {
             ≡ n.serial → OnOk result (out.new ≡ out.old ++ history_text self.now (Some n)) }
         ensures begins { Begins out.old out.new }
     {
-        let name = name_of(self.cells.tree(), serial)?;
-        put_intervals(self.alloc, &self.cells, serial, &name, out)
+        let name = name_of(self.watched.cells.tree(), serial)?;
+        let subject = Subject {
+            serial,
+            name: &name,
+        };
+        put_intervals(self.alloc, &self.watched.cells, subject, out)
     }
 
     // Appends each attribute that is set, targets in document order.
@@ -145,9 +160,9 @@ impl<T: Table> Playing<T> {
             ++ answer_text formats self.now self.now order.Values) }
         ensures begins { Begins out.old out.new }
     {
-        let tree = self.cells.tree();
-        let sets = Sets::of(self.alloc, tree, self.seen.views())?;
-        put_all_values(tree, &sets, out)
+        let tree = self.watched.cells.tree();
+        let sets = Sets::of(self.alloc, tree, self.watched.seen.views())?;
+        put_all_values(Layered { tree, sets: &sets }, out)
     }
 
     // Appends the sets of an attribute of a node, from the top of their stack down. `NoElement`
@@ -175,9 +190,9 @@ impl<T: Table> Playing<T> {
             → OnOk result (out.new ≡ out.old ++ stack_text self.now attr.now (Some n)) }
         ensures begins { Begins out.old out.new }
     {
-        let tree = self.cells.tree();
-        let sets = Sets::of(self.alloc, tree, self.seen.views())?;
-        put_layers(tree, &sets, target, attr, out)
+        let tree = self.watched.cells.tree();
+        let sets = Sets::of(self.alloc, tree, self.watched.seen.views())?;
+        put_layers(Layered { tree, sets: &sets }, target, attr, out)
     }
 
     // Appends the document with its serials, the diary entry by entry, and the moment.
@@ -188,8 +203,8 @@ impl<T: Table> Playing<T> {
     {
         self.put_saved(out)?;
         put_outline_end(out)?;
-        put_entries(self.cells.log(), self.cells.book(), out)?;
-        put_now(out, self.cells.moment())
+        put_entries(self.watched.cells.log(), self.watched.cells.book(), out)?;
+        put_now(out, self.watched.cells.moment())
     }
 }
 
@@ -205,16 +220,18 @@ fn put_entries(log: &Log, book: &Book, out: &mut Bytes) -> Result<(), AllocError
 }
 
 // Appends each attribute that is set, targets in document order.
-fn put_all_values(tree: &Tree, sets: &Sets, out: &mut Bytes) -> Result<(), AllocError>
-    requires setters { (all : List (ℕ × AnyLayer)) × AreSetsAmong tree.now.nodes sets.now all }
-    ensures told { (all : List (ℕ × AnyLayer)) → AreSetsOf sets.now all
-        → OnOk result (out.new ≡ out.old ++ flat_map (values_on tree.now.nodes all) tree.now.nodes) }
+fn put_all_values(document: Layered<'_>, out: &mut Bytes) -> Result<(), AllocError>
+    requires setters { (all : List (ℕ × AnyLayer))
+        × AreSetsAmong document.tree.now.nodes document.sets.now all }
+    ensures told { (all : List (ℕ × AnyLayer)) → AreSetsOf document.entry.sets.now all
+        → OnOk result (out.new ≡ out.old ++ flat_map (values_on document.entry.tree.now.nodes all)
+        document.entry.tree.now.nodes) }
     ensures begins { Begins out.old out.new }
 {
-    tree.valid();
+    document.tree.valid();
     let mut place = 0;
-    while let Some(target) = tree.serial_at(place) {
-        put_values_on(tree, sets, target, out)?;
+    while let Some(target) = document.tree.serial_at(place) {
+        put_values_on(document, target, out)?;
         place += 1;
     }
     Ok(())
@@ -222,37 +239,40 @@ fn put_all_values(tree: &Tree, sets: &Sets, out: &mut Bytes) -> Result<(), Alloc
 
 // Appends each attribute of a target that is set, by the top of its stack, in the order of the
 // names' bytes.
-fn put_values_on(tree: &Tree, sets: &Sets, target: u32, out: &mut Bytes) -> Result<(), AllocError>
-    requires target { IsSome (node_at tree.now.nodes target) }
-    requires setters { (all : List (ℕ × AnyLayer)) × AreSetsAmong tree.now.nodes sets.now all }
+fn put_values_on(document: Layered<'_>, target: u32, out: &mut Bytes) -> Result<(), AllocError>
+    requires target { IsSome (node_at document.tree.now.nodes target) }
+    requires setters { (all : List (ℕ × AnyLayer))
+        × AreSetsAmong document.tree.now.nodes document.sets.now all }
     ensures told { (n : AnyNode) (all : List (ℕ × AnyLayer)) → n.serial ≡ target
-        → AreSetsOf sets.now all → OnOk result (out.new ≡ out.old ++ values_on tree.now.nodes all n) }
+        → AreSetsOf document.entry.sets.now all
+        → OnOk result (out.new ≡ out.old ++ values_on document.entry.tree.now.nodes all n) }
     ensures begins { Begins out.old out.new }
 {
-    for name in sets.names(target) {
-        put_top(tree, sets, target, name, out)?;
+    for name in document.sets.names(target) {
+        put_top(document, target, name, out)?;
     }
     Ok(())
 }
 
 // Appends an attribute of a target, with the value of the set on top of its stack.
 fn put_top(
-    tree: &Tree,
-    sets: &Sets,
+    document: Layered<'_>,
     target: u32,
     name: &Bytes,
     out: &mut Bytes,
 ) -> Result<(), AllocError>
-    requires target { IsSome (node_at tree.now.nodes target) }
-    requires setters { (all : List (ℕ × AnyLayer)) × AreSetsAmong tree.now.nodes sets.now all }
-    ensures told { (all : List (ℕ × AnyLayer)) → AreSetsOf sets.now all
-        → OnOk result (out.new ≡ out.old ++ top_text tree.now.nodes target name.now
+    requires target { IsSome (node_at document.tree.now.nodes target) }
+    requires setters { (all : List (ℕ × AnyLayer))
+        × AreSetsAmong document.tree.now.nodes document.sets.now all }
+    ensures told { (all : List (ℕ × AnyLayer)) → AreSetsOf document.entry.sets.now all
+        → OnOk result (out.new ≡ out.old ++ top_text document.entry.tree.now.nodes target name.now
         (stack_of all target name.now)) }
     ensures err { OnErr result (out.new ≡ out.old) }
 {
-    let Some(setter) = sets.at(target, name.slice(), 0) else {
+    let Some(setter) = document.sets.at(target, name.slice(), 0) else {
         return Ok(());
     };
+    let tree = document.tree;
     let value = value_of(tree, setter);
     put_value(
         out,
@@ -267,22 +287,22 @@ fn put_top(
 
 // Appends the sets of an attribute of a target, from the top of their stack down.
 fn put_layers(
-    tree: &Tree,
-    sets: &Sets,
+    document: Layered<'_>,
     target: u32,
     attr: &Bytes,
     out: &mut Bytes,
 ) -> Result<(), AllocError>
-    requires setters { (all : List (ℕ × AnyLayer)) × AreSetsAmong tree.now.nodes sets.now all }
-    ensures told { (all : List (ℕ × AnyLayer)) → AreSetsOf sets.now all
-        → OnOk result (out.new ≡ out.old ++ layers_text tree.now.nodes
+    requires setters { (all : List (ℕ × AnyLayer))
+        × AreSetsAmong document.tree.now.nodes document.sets.now all }
+    ensures told { (all : List (ℕ × AnyLayer)) → AreSetsOf document.entry.sets.now all
+        → OnOk result (out.new ≡ out.old ++ layers_text document.entry.tree.now.nodes
         (stack_of all target attr.now)) }
     ensures begins { Begins out.old out.new }
 {
-    tree.valid();
+    document.tree.valid();
     let mut k = 0;
-    while let Some(setter) = sets.at(target, attr.slice(), k) {
-        put_setter(tree, setter, out)?;
+    while let Some(setter) = document.sets.at(target, attr.slice(), k) {
+        put_setter(document.tree, setter, out)?;
         k += 1;
     }
     Ok(())

@@ -28,6 +28,20 @@ pub struct Placed<'a> {
     pub column: u32,
 }
 
+/// An attribute with the value that an order gives it, as both stand in its line.
+#[derive(Clone, Copy)]
+pub struct Setting<'a> {
+    pub attr: Placed<'a>,
+    pub value: Placed<'a>,
+}
+
+/// The line of a node that an order inserts, with its place among the children, counted from 1.
+#[derive(Clone, Copy)]
+pub struct Child<'a> {
+    pub place: u32,
+    pub line: Placed<'a>,
+}
+
 /// The attribute that an order sets, read; or the refusal of its name or its value.
 pub fn read_value(alloc: Global, named: Named<'_>, value: Placed<'_>) -> Result<Attr, Refusal>
     requires name { IsText named.name.now }

@@ -16,18 +16,18 @@ follow_all-requires-clause-may g c = record {
   start = c.args.out.now;
   same_diary = sym c.book.ensures;
   lawful = subst IsLawful c.past.ensures c.possible.ensures.lawful;
-  nothing_told = c.in_ok-told.ensures.nothing (history_of c.args.cells.now) c.args.name.now c.args.out.now (ap (λ (d : Document). d.nodes) (sym c.tree.ensures));
+  nothing_told = c.in_ok-told.ensures.nothing (history_of c.args.cells.now) c.args.subject.name.now c.args.out.now (ap (λ (d : Document). d.nodes) (sym c.tree.ensures));
 }
 
 pub returns-clause-told : goal.returns-clause-told
 returns-clause-told g c = λ e here.
     let s = c.args.cells.now in
     let h = history_of s in
-    let own = found_serial (elements s.presentation.document.nodes) c.args.who e here in
-    let nothing = c.in_ok-told.ensures.nothing h c.args.name.now c.args.out.now (ap (λ (d : Document). d.nodes) (sym c.tree.ensures)) in
+    let own = found_serial (elements s.presentation.document.nodes) c.args.subject.serial e here in
+    let nothing = c.in_ok-told.ensures.nothing h c.args.subject.name.now c.args.out.now (ap (λ (d : Document). d.nodes) (sym c.tree.ensures)) in
     let told = c.in_ok-follow_all.ensures.told h c.args.out.now (sym c.book.ensures) (subst IsLawful c.past.ensures c.possible.ensures.lawful) nothing in
     on_ok_weaker c.put_present.result
-    (told_all h (pos s.presentation.now) e c.args.name.now c.args.out.now c.follow_all.new.self c.follow_all.new.out c.put_present.new.out told
+    (told_all h (pos s.presentation.now) e c.args.subject.name.now c.args.out.now c.follow_all.new.self c.follow_all.new.out c.put_present.new.out told
     (c.follow_all.ensures.who ∙ c.in_ok-told.ensures.who ∙ sym own))
     (c.put_present.ensures.ok e own)
 
@@ -35,8 +35,8 @@ pub returns-clause-begins : goal.returns-clause-begins
 returns-clause-begins g c =
     let s = c.args.cells.now in
     let e = c.requires.element in
-    let own = found_serial (elements s.presentation.document.nodes) c.args.who e.0 e.1 in
+    let own = found_serial (elements s.presentation.document.nodes) c.args.subject.serial e.0 e.1 in
     begins_through c.args.out.now c.follow_all.new.out c.put_present.new.out c.follow_all.ensures.begins
     (begins_either c.put_present.result c.follow_all.new.out c.put_present.new.out
-    (present_line c.args.name.now c.follow_all.new.self.present (end_at (history_of s) (pos s.presentation.now) e.0))
+    (present_line c.args.subject.name.now c.follow_all.new.self.present (end_at (history_of s) (pos s.presentation.now) e.0))
     (c.put_present.ensures.ok e.0 own) c.put_present.ensures.err)

@@ -1,5 +1,4 @@
-use Rattle.std.proofs.Common.{sym, ◌∙◌, ap, ◌≤◌, length, w64, arith}
-use Rattle.std.proofs.lemmas.Int.{to_z-of_z}
+use Rattle.std.proofs.Common.{refl, sym, ◌∙◌, ap, ◌≤◌, length, arith}
 use Rattle.smil_model.specs.document.Document.{node_at}
 use Rattle.smil_stretch.proofs.Above.{node_of}
 use Rattle.smil_stretch.proofs.Idle.{node_found, node_known, node_inside, none_left}
@@ -7,19 +6,18 @@ use Rattle.smil_live.proofs.LinesTold.{all_gone, begins_on_more, gone_on}
 use Rattle.smil_live.proofs.lines.put_all_gone.Goals as goal
 
 pub put_where_gone-requires : goal.put_where_gone-requires
-put_where_gone-requires c = node_known c.args.before.now.nodes c.in-Some.serial c.loop-serial.place c.valid.ensures.numbered.distinct c.in-Some.ensures
+put_where_gone-requires c = node_known c.args.scene.tree.now.nodes c.in-Some.serial c.loop-serial.place c.valid.ensures.numbered.distinct c.in-Some.ensures
 
 pub overflow_add-place : goal.overflow_add-place
-overflow_add-place c = omega (arith, node_inside c.args.before.now.nodes c.in-Some.serial c.loop-serial.place c.in-Some.ensures, c.valid.ensures.nodes)
+overflow_add-place c = omega (arith, node_inside c.args.scene.tree.now.nodes c.in-Some.serial c.loop-serial.place c.in-Some.ensures, c.valid.ensures.nodes)
 
 pub loop-serial-smaller : goal.loop-serial-smaller
-loop-serial-smaller c = omega (arith, node_inside c.args.before.now.nodes c.in-Some.serial c.loop-serial.place c.in-Some.ensures)
+loop-serial-smaller c = omega (arith, node_inside c.args.scene.tree.now.nodes c.in-Some.serial c.loop-serial.place c.in-Some.ensures)
 
 pub loop-serial-preserved : goal.loop-serial-preserved
 loop-serial-preserved c =
-    let nodes = c.args.before.now.nodes in
+    let nodes = c.args.scene.tree.now.nodes in
     let k = c.loop-serial.place in
-    let same = to_z-of_z w64 c.args.moment c.ranges.moment in
     let found = node_found nodes c.in-Some.serial k c.in-Some.ensures in
     let there = ap (node_at nodes) (sym found.serial) ∙ node_of nodes k found.node c.valid.ensures.numbered.distinct found.at in
     record {
@@ -31,6 +29,6 @@ loop-serial-preserved c =
 
 pub returns-clause-ok : goal.returns-clause-ok
 returns-clause-ok c =
-    let nodes = c.args.before.now.nodes in
+    let nodes = c.args.scene.tree.now.nodes in
     let left : length nodes ≤ c.loop-serial.place = none_left nodes c.loop-serial.place c.in_default.ensures in
-    all_gone c.args.after.now.nodes c.args.moment _ nodes c.loop-serial.place c.args.out.now c.loop-serial.out (to_z-of_z w64 c.args.moment c.ranges.moment) left c.loop-serial.invariant.told
+    all_gone c.args.after.now.nodes c.args.scene.moment _ nodes c.loop-serial.place c.args.out.now c.loop-serial.out refl left c.loop-serial.invariant.told

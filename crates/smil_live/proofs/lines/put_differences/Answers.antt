@@ -7,7 +7,7 @@ use Rattle.smil_live.proofs.lines.put_differences.Goals as goal
 
 pub loop-view-preserved : goal.loop-view-preserved
 loop-view-preserved c =
-    let nodes = c.args.tree.now.nodes in
+    let nodes = c.args.scene.tree.now.nodes in
     let views = c.args.after.now.views in
     let before = c.args.before.now.views in
     let i = c.loop-view.view-index in

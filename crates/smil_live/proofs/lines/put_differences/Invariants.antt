@@ -5,7 +5,7 @@ use Rattle.smil_live.proofs.lines.put_differences.Given as goal
 
 abbrev pub invariant-loop-view : goal.invariant-loop-view
 invariant-loop-view l = record {
-  told : (m : ℕ) → l.moment ≡ pos m
-      → l.out ++ lines_between l.tree.nodes m l.before.views (drop l.view-index l.after.views) ≡ l.fn.out ++ lines_between l.tree.nodes m l.before.views l.after.views;
+  told : (m : ℕ) → l.scene.moment ≡ pos m
+      → l.out ++ lines_between l.scene.tree.now.nodes m l.before.views (drop l.view-index l.after.views) ≡ l.fn.out ++ lines_between l.scene.tree.now.nodes m l.before.views l.after.views;
   begins : Begins l.fn.out l.out;
 }

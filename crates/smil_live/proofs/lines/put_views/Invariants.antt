@@ -5,7 +5,7 @@ use Rattle.smil_live.proofs.lines.put_views.Given as goal
 
 abbrev pub invariant-loop-view : goal.invariant-loop-view
 invariant-loop-view l = record {
-  told : (m : ℕ) → l.moment ≡ pos m
-      → l.out ++ lines_of l.tree.nodes m (drop l.view-index l.seen.views) ≡ l.fn.out ++ lines_of l.tree.nodes m l.seen.views;
+  told : (m : ℕ) → l.scene.moment ≡ pos m
+      → l.out ++ lines_of l.scene.tree.now.nodes m (drop l.view-index l.seen.views) ≡ l.fn.out ++ lines_of l.scene.tree.now.nodes m l.seen.views;
   begins : Begins l.fn.out l.out;
 }

@@ -6,4 +6,4 @@ use Rattle.smil_live.specs.References.{keeps_loops_of}
 use Rattle.smil_live.proofs.references.keeps_loops.Given as goal
 
 abbrev pub invariant-loop-node : goal.invariant-loop-node
-invariant-loop-node l = list_all (λ (e : Node). keeps_loops_of l.edited l.old.tree.now.nodes l.new.tree.now.nodes e.serial) (elements (take l.node-index l.old.nodes.now)) ≡ true
+invariant-loop-node l = list_all (λ (e : Node). keeps_loops_of l.revision.edited l.revision.old.tree.now.nodes l.revision.new.tree.now.nodes e.serial) (elements (take l.node-index l.revision.old.nodes.now)) ≡ true

@@ -8,4 +8,4 @@ use Rattle.smil_live.proofs.references.push_marks.Given as goal
 
 abbrev pub invariant-loop-item : goal.invariant-loop-item
 invariant-loop-item l =
-    (e : Node) → node_at (elements l.graph.nodes) l.serial ≡ Some e → l.marks.items ≡ l.initial.marks.items ++ map (is_looped l.graph.nodes e.serial) (take l.item (items_of l.graph.nodes l.side e))
+    (e : Node) → node_at (elements l.side.graph.now.nodes) l.side.serial ≡ Some e → l.marks.items ≡ l.initial.marks.items ++ map (is_looped l.side.graph.now.nodes e.serial) (take l.item (items_of l.side.graph.now.nodes l.side.edge e))

@@ -6,6 +6,6 @@ use Rattle.smil_live.proofs.replay.replay_on.Given as goal
 
 abbrev pub invariant-loop-place : goal.invariant-loop-place
 invariant-loop-place g l =
-    IsUnderWay (replay_of l.fn.cells.presentation.document l.log l.extent.len l.extent.to) l.place l.cells
+    IsUnderWay (replay_of l.fn.cells.presentation.document l.replay.log.now l.replay.len l.replay.to) l.place l.cells
     × IsCounted g.T.Table.counts l.initial.cells l.cells l.initial.steps l.steps
     × NamesBelow (length l.cells.presentation.log) (drop (length l.initial.cells.diary) l.cells.diary)

@@ -12,7 +12,7 @@ pub put_setter-requires : goal.put_setter-requires
 put_setter-requires c =
     let s = c.requires.setters in
     let P : List ℕ → Type 0 = λ name. slice_get (stack_of s.0 c.args.target name) c.loop-setter.k ≡ Some c.in-Some.setter in
-    stack_known c.args.tree.now.nodes s.0 c.args.target c.args.attr.now c.loop-setter.k c.in-Some.setter s.1.known (subst P c.slice.ensures (sym (c.in-Some.ensures s.0 s.1.are)))
+    stack_known c.args.document.tree.now.nodes s.0 c.args.target c.args.attr.now c.loop-setter.k c.in-Some.setter s.1.known (subst P c.slice.ensures (sym (c.in-Some.ensures s.0 s.1.are)))
 
 pub overflow_add-k : goal.overflow_add-k
 overflow_add-k c =
@@ -36,7 +36,7 @@ pub loop-setter-preserved : goal.loop-setter-preserved
 loop-setter-preserved c = record {
   text = λ all are.
       let P : List ℕ → Type 0 = λ name. slice_get (stack_of all c.args.target name) c.loop-setter.k ≡ Some c.in-Some.setter in
-      lines_next (setter_text c.args.tree.now.nodes) (stack_of all c.args.target c.args.attr.now) c.args.out.now c.loop-setter.k c.in-Some.setter c.loop-setter.out c.put_setter.new.out
+      lines_next (setter_text c.args.document.tree.now.nodes) (stack_of all c.args.target c.args.attr.now) c.args.out.now c.loop-setter.k c.in-Some.setter c.loop-setter.out c.put_setter.new.out
       (subst P c.slice.ensures (sym (c.in-Some.ensures all are))) (c.loop-setter.invariant.text all are) c.in_ok-put_setter.ensures.ok;
   begins = begins_through c.args.out.now c.loop-setter.out c.put_setter.new.out c.loop-setter.invariant.begins (begins_more c.loop-setter.out c.put_setter.new.out _ c.in_ok-put_setter.ensures.ok);
 }
@@ -44,6 +44,6 @@ loop-setter-preserved c = record {
 pub returns-clause-told : goal.returns-clause-told
 returns-clause-told c = λ all are.
     let P : List ℕ → Type 0 = λ name. None ≡ slice_get (stack_of all c.args.target name) c.loop-setter.k in
-    lines_all (setter_text c.args.tree.now.nodes) (stack_of all c.args.target c.args.attr.now) c.args.out.now c.loop-setter.k c.loop-setter.out
+    lines_all (setter_text c.args.document.tree.now.nodes) (stack_of all c.args.target c.args.attr.now) c.args.out.now c.loop-setter.k c.loop-setter.out
     (past_end (stack_of all c.args.target c.args.attr.now) c.loop-setter.k (subst P c.slice.ensures (c.in_default.ensures all are)))
     (c.loop-setter.invariant.text all are)

@@ -10,7 +10,7 @@ use Rattle.smil_live.proofs.tells.put_layers.Given as goal
 
 abbrev pub invariant-loop-setter : goal.invariant-loop-setter
 invariant-loop-setter l = record {
-  text : (all : List (ℕ × AnyLayer)) → AreSetsOf l.sets all → l.out ≡ l.fn.out ++ flat_map (setter_text l.tree.nodes) (take l.k (stack_of all l.target l.attr));
+  text : (all : List (ℕ × AnyLayer)) → AreSetsOf l.document.sets.now all → l.out ≡ l.fn.out ++ flat_map (setter_text l.document.tree.now.nodes) (take l.k (stack_of all l.target l.attr));
   begins : Begins l.fn.out l.out;
 }
 

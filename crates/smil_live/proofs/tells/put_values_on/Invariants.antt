@@ -9,6 +9,6 @@ use Rattle.smil_live.proofs.tells.put_values_on.Given as goal
 
 abbrev pub invariant-loop-name : goal.invariant-loop-name
 invariant-loop-name l = record {
-  text : (all : List (ℕ × AnyLayer)) → AreSetsOf l.sets all → l.out ≡ l.fn.out ++ flat_map (λ name. top_text l.tree.nodes l.target name (stack_of all l.target name)) (take l.name-index (names_on all l.target));
+  text : (all : List (ℕ × AnyLayer)) → AreSetsOf l.document.sets.now all → l.out ≡ l.fn.out ++ flat_map (λ name. top_text l.document.tree.now.nodes l.target name (stack_of all l.target name)) (take l.name-index (names_on all l.target));
   begins : Begins l.fn.out l.out;
 }

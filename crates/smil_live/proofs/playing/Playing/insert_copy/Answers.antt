@@ -23,15 +23,15 @@ pub returns-in-Ok-clause-ok : goal.returns-in-Ok-clause-ok
 returns-in-Ok-clause-ok g c =
     let same = c.tree-tree.ensures ∙ ap (λ (p : Presentation). p.document) c.self.view_is in
     edit_ok c.with_child.result _ _
-    (edit_there c.args.self.now c.tree-tree.result.now c.args.who.now c.in-Ok.parent (λ (d : Document) (n : Node). node_inserted_by limits formats d n c.args.place c.args.line.text.now c.args.line.column) c.valid.ensures same c.in-Ok.ensures.ok)
+    (edit_there c.args.self.now c.tree-tree.result.now c.args.who.now c.in-Ok.parent (λ (d : Document) (n : Node). node_inserted_by limits formats d n c.args.child.place c.args.child.line.text.now c.args.child.line.column) c.valid.ensures same c.in-Ok.ensures.ok)
     c.with_child.ensures.ok
 
 pub returns-in-Ok-clause-err : goal.returns-in-Ok-clause-err
 returns-in-Ok-clause-err g c =
     let same = c.tree-tree.ensures ∙ ap (λ (p : Presentation). p.document) c.self.view_is in
     edit_err c.with_child.result _ _
-    (edit_there c.args.self.now c.tree-tree.result.now c.args.who.now c.in-Ok.parent (λ (d : Document) (n : Node). node_inserted_by limits formats d n c.args.place c.args.line.text.now c.args.line.column) c.valid.ensures same c.in-Ok.ensures.ok)
+    (edit_there c.args.self.now c.tree-tree.result.now c.args.who.now c.in-Ok.parent (λ (d : Document) (n : Node). node_inserted_by limits formats d n c.args.child.place c.args.child.line.text.now c.args.child.line.column) c.valid.ensures same c.in-Ok.ensures.ok)
     c.with_child.ensures.err
 
 pub returns-in-Err-clause-err : goal.returns-in-Err-clause-err
-returns-in-Err-clause-err g c = inr (not_found c.args.self.now c.args.who.now (λ (n : Node). node_inserted_by limits formats c.args.self.now.document n c.args.place c.args.line.text.now c.args.line.column) c.in-Err.refusal c.in-Err.ensures.err)
+returns-in-Err-clause-err g c = inr (not_found c.args.self.now c.args.who.now (λ (n : Node). node_inserted_by limits formats c.args.self.now.document n c.args.child.place c.args.child.line.text.now c.args.child.line.column) c.in-Err.refusal c.in-Err.ensures.err)

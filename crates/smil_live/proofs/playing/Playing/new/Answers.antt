@@ -18,13 +18,13 @@ returns-clause-refused g c = not_opened c.args.doc c.in-Err.refusal c.in-Err.ens
 
 pub returns-in-Ok-clause-most : goal.returns-in-Ok-clause-most
 returns-in-Ok-clause-most g c =
-    let rise = c.replayed-2.new.steps - c.args.steps.now in
+    let rise = c.replayed.new.steps - c.args.steps.now in
     let told : (q : Presentation) → Type 0 = λ (q : Presentation). WhereTold g.T.Table.counts (rise ≤ most_loading q) in
     IfOk-weaker c.over.result (λ q. q ≡ c.in-Ok.cells.presentation) told (λ q same. subst told (sym (same ∙ c.in-Ok.ensures.ok.presentation_is)) c.in-Ok.ensures.most) c.over.ensures.state
 
 pub returns-in-Ok-clause-least : goal.returns-in-Ok-clause-least
 returns-in-Ok-clause-least g c =
-    let rise = c.replayed-2.new.steps - c.args.steps.now in
+    let rise = c.replayed.new.steps - c.args.steps.now in
     let told : (q : Presentation) → Type 0 = λ (q : Presentation). WhereTold g.T.Table.counts (least_loading q ≤ rise) in
     IfOk-weaker c.over.result (λ q. q ≡ c.in-Ok.cells.presentation) told (λ q same. subst told (sym (same ∙ c.in-Ok.ensures.ok.presentation_is)) c.in-Ok.ensures.least) c.over.ensures.state
 

@@ -18,7 +18,7 @@ use Rattle.smil_live.proofs.playing.Playing.set.Goals as goal
 pub returns-in-Ok-clause-ok : goal.returns-in-Ok-clause-ok
 returns-in-Ok-clause-ok g c =
     on_ok_weaker c.take_edited.result
-    (edited_accepted c.args.self.now c.take_edited.new.self (order.Set c.args.who.now c.args.attr.text.now c.args.value.text.now c.args.attr.column c.args.value.column) c.in-Ok.edited c.args.out.now c.take_edited.new.out refl c.in-Ok.ensures.ok)
+    (edited_accepted c.args.self.now c.take_edited.new.self (order.Set c.args.who.now c.args.setting.attr.text.now c.args.setting.value.text.now c.args.setting.attr.column c.args.setting.value.column) c.in-Ok.edited c.args.out.now c.take_edited.new.out refl c.in-Ok.ensures.ok)
     c.take_edited.ensures.ok
 
 pub returns-in-Ok-clause-appended : goal.returns-in-Ok-clause-appended
@@ -29,31 +29,31 @@ returns-in-Ok-clause-appended g c =
 
 pub returns-in-Ok-clause-refused : goal.returns-in-Ok-clause-refused
 returns-in-Ok-clause-refused g c =
-    IfErr-weaker c.take_edited.result (IsTooFull (edited_to c.args.self.now c.in-Ok.edited)) (Refuses formats c.args.self.now (order.Set c.args.who.now c.args.attr.text.now c.args.value.text.now c.args.attr.column c.args.value.column))
-    (λ e h. not_edited c.args.self.now (order.Set c.args.who.now c.args.attr.text.now c.args.value.text.now c.args.attr.column c.args.value.column) c.in-Ok.edited e refl c.in-Ok.ensures.ok h)
+    IfErr-weaker c.take_edited.result (IsTooFull (edited_to c.args.self.now c.in-Ok.edited)) (Refuses formats c.args.self.now (order.Set c.args.who.now c.args.setting.attr.text.now c.args.setting.value.text.now c.args.setting.attr.column c.args.setting.value.column))
+    (λ e h. not_edited c.args.self.now (order.Set c.args.who.now c.args.setting.attr.text.now c.args.setting.value.text.now c.args.setting.attr.column c.args.setting.value.column) c.in-Ok.edited e refl c.in-Ok.ensures.ok h)
     c.take_edited.ensures.refused
 
 pub returns-in-Err-clause-refused : goal.returns-in-Err-clause-refused
-returns-in-Err-clause-refused g c = edit_refused c.args.self.now (order.Set c.args.who.now c.args.attr.text.now c.args.value.text.now c.args.attr.column c.args.value.column) c.in-Err.refusal refl c.in-Err.ensures.err
+returns-in-Err-clause-refused g c = edit_refused c.args.self.now (order.Set c.args.who.now c.args.setting.attr.text.now c.args.setting.value.text.now c.args.setting.attr.column c.args.setting.value.column) c.in-Err.refusal refl c.in-Err.ensures.err
 
 pub take_edited-requires : goal.take_edited-requires
-take_edited-requires g c = subst (λ (x : Site). IsMade c.args.self.now.document x c.in-Ok.edited) (sym c.site-site.ensures) (edit_made c.args.self.now (order.Set c.args.who.now c.args.attr.text.now c.args.value.text.now c.args.attr.column c.args.value.column) c.in-Ok.edited refl c.in-Ok.ensures.ok)
+take_edited-requires g c = subst (λ (x : Site). IsMade c.args.self.now.document x c.in-Ok.edited) (sym c.site-site.ensures) (edit_made c.args.self.now (order.Set c.args.who.now c.args.setting.attr.text.now c.args.setting.value.text.now c.args.setting.attr.column c.args.setting.value.column) c.in-Ok.edited refl c.in-Ok.ensures.ok)
 
 pub returns-in-Ok-clause-most : goal.returns-in-Ok-clause-most
 returns-in-Ok-clause-most g c =
-    edited_most c.take_edited.result g.T.Table.counts c.args.self.now c.take_edited.new.self (order.Set c.args.who.now c.args.attr.text.now c.args.value.text.now c.args.attr.column c.args.value.column) c.in-Ok.edited c.site-site.result c.args.out.now c.take_edited.new.out (c.take_edited.new.steps - c.args.steps.now) refl c.in-Ok.ensures.ok c.site-site.ensures
+    edited_most c.take_edited.result g.T.Table.counts c.args.self.now c.take_edited.new.self (order.Set c.args.who.now c.args.setting.attr.text.now c.args.setting.value.text.now c.args.setting.attr.column c.args.setting.value.column) c.in-Ok.edited c.site-site.result c.args.out.now c.take_edited.new.out (c.take_edited.new.steps - c.args.steps.now) refl c.in-Ok.ensures.ok c.site-site.ensures
     c.take_edited.ensures.ok c.take_edited.ensures.most
 
 pub returns-in-Ok-clause-least : goal.returns-in-Ok-clause-least
 returns-in-Ok-clause-least g c =
-    edited_least c.take_edited.result g.T.Table.counts c.args.self.now c.take_edited.new.self (order.Set c.args.who.now c.args.attr.text.now c.args.value.text.now c.args.attr.column c.args.value.column) c.in-Ok.edited c.args.out.now c.take_edited.new.out (c.take_edited.new.steps - c.args.steps.now) refl c.in-Ok.ensures.ok c.take_edited.ensures.ok
+    edited_least c.take_edited.result g.T.Table.counts c.args.self.now c.take_edited.new.self (order.Set c.args.who.now c.args.setting.attr.text.now c.args.setting.value.text.now c.args.setting.attr.column c.args.setting.value.column) c.in-Ok.edited c.args.out.now c.take_edited.new.out (c.take_edited.new.steps - c.args.steps.now) refl c.in-Ok.ensures.ok c.take_edited.ensures.ok
 
 pub returns-in-Ok-clause-free : goal.returns-in-Ok-clause-free
 returns-in-Ok-clause-free g c =
-    let o = (order.Set c.args.who.now c.args.attr.text.now c.args.value.text.now c.args.attr.column c.args.value.column) in
+    let o = (order.Set c.args.who.now c.args.setting.attr.text.now c.args.setting.value.text.now c.args.setting.attr.column c.args.setting.value.column) in
     IfErr-weaker c.take_edited.result (IsTooFull (edited_to c.args.self.now c.in-Ok.edited)) (λ e. IsFree g.T.Table.counts c.args.self.now o e (c.take_edited.new.steps - c.args.steps.now))
     (λ e h. free_too_full (told_where g.T.Table.counts (most_number c.args.self.now o)) (edited_to c.args.self.now c.in-Ok.edited) e (c.take_edited.new.steps - c.args.steps.now) h)
     c.take_edited.ensures.refused
 
 pub returns-in-Err-clause-free : goal.returns-in-Err-clause-free
-returns-in-Err-clause-free g c = free_at_once (told_where g.T.Table.counts (most_number c.args.self.now (order.Set c.args.who.now c.args.attr.text.now c.args.value.text.now c.args.attr.column c.args.value.column))) c.in-Err.refusal c.args.steps.now
+returns-in-Err-clause-free g c = free_at_once (told_where g.T.Table.counts (most_number c.args.self.now (order.Set c.args.who.now c.args.setting.attr.text.now c.args.setting.value.text.now c.args.setting.attr.column c.args.setting.value.column))) c.in-Err.refusal c.args.steps.now

@@ -29,15 +29,15 @@ pub returns-in-Ok-clause-ok : goal.returns-in-Ok-clause-ok
 returns-in-Ok-clause-ok g c =
     let same = c.tree-tree.ensures ∙ ap (λ (p : Presentation). p.document) c.self.view_is in
     edit_ok c.with_value.result _ _
-    (edit_there c.args.self.now c.tree-tree.result.now c.args.who.now c.in-Ok.serial (λ (d : Document) (n : Node). attr_set_by limits formats d n c.args.attr.text.now c.args.value.text.now c.args.attr.column c.args.value.column) c.valid.ensures same c.in-Ok.ensures.ok)
+    (edit_there c.args.self.now c.tree-tree.result.now c.args.who.now c.in-Ok.serial (λ (d : Document) (n : Node). attr_set_by limits formats d n c.args.setting.attr.text.now c.args.setting.value.text.now c.args.setting.attr.column c.args.setting.value.column) c.valid.ensures same c.in-Ok.ensures.ok)
     c.with_value.ensures.ok
 
 pub returns-in-Ok-clause-err : goal.returns-in-Ok-clause-err
 returns-in-Ok-clause-err g c =
     let same = c.tree-tree.ensures ∙ ap (λ (p : Presentation). p.document) c.self.view_is in
     edit_err c.with_value.result _ _
-    (edit_there c.args.self.now c.tree-tree.result.now c.args.who.now c.in-Ok.serial (λ (d : Document) (n : Node). attr_set_by limits formats d n c.args.attr.text.now c.args.value.text.now c.args.attr.column c.args.value.column) c.valid.ensures same c.in-Ok.ensures.ok)
+    (edit_there c.args.self.now c.tree-tree.result.now c.args.who.now c.in-Ok.serial (λ (d : Document) (n : Node). attr_set_by limits formats d n c.args.setting.attr.text.now c.args.setting.value.text.now c.args.setting.attr.column c.args.setting.value.column) c.valid.ensures same c.in-Ok.ensures.ok)
     c.with_value.ensures.err
 
 pub returns-in-Err-clause-err : goal.returns-in-Err-clause-err
-returns-in-Err-clause-err g c = inr (not_found c.args.self.now c.args.who.now (λ (n : Node). attr_set_by limits formats c.args.self.now.document n c.args.attr.text.now c.args.value.text.now c.args.attr.column c.args.value.column) c.in-Err.refusal c.in-Err.ensures.err)
+returns-in-Err-clause-err g c = inr (not_found c.args.self.now c.args.who.now (λ (n : Node). attr_set_by limits formats c.args.self.now.document n c.args.setting.attr.text.now c.args.setting.value.text.now c.args.setting.attr.column c.args.setting.value.column) c.in-Err.refusal c.in-Err.ensures.err)

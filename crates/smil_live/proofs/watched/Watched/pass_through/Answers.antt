@@ -8,8 +8,8 @@ use Rattle.smil_cells.specs.Standing.{moved_to}
 use Rattle.smil_live.specs.Moves.{IsShownAt, IsTooFull, text_of}
 use Rattle.smil_live.proofs.Counted.{IsCounted, counted_first, counted_last, counted_then}
 use Rattle.smil_live.proofs.Onward.{arrives, begins_itself, begins_then, comes_nearer, due_from, passes_on, sets_out, too_full_then}
-use Rattle.smil_live.proofs.moves.pass_through.Given.{Over}
-use Rattle.smil_live.proofs.moves.pass_through.Goals as goal
+use Rattle.smil_live.proofs.watched.Watched.pass_through.Given.{Over}
+use Rattle.smil_live.proofs.watched.Watched.pass_through.Goals as goal
 
 fits : (a : ℕ) (z : ℤ) → pos a ≤ℤ z → z ≤ℤ HORIZON → FitsSigned w64 z
 fits a (pos k) from within = record { sfits = omega (arith, ints, from, within) }
@@ -20,9 +20,9 @@ not_above x y z p q = omega (arith, ints, p, q)
 
 pub loop-due-init : goal.loop-due-init
 loop-due-init g c =
-    let s = c.args.cells.now in
+    let s = c.args.self.now.cells in
     let whole = to_z-of_z w64 c.args.to c.ranges.to in (
-      sets_out s c.args.seen.now c.args.out.now (to_z w64 (of_z w64 c.args.to)) c.requires.shown (subst (λ (v : ℤ). pos s.presentation.now ≤ℤ v) (sym whole) c.requires.may.0),
+      sets_out s c.args.self.now.seen c.args.out.now (to_z w64 (of_z w64 c.args.to)) c.requires.shown (subst (λ (v : ℤ). pos s.presentation.now ≤ℤ v) (sym whole) c.requires.may.0),
       refl,
       subst (λ (v : ℤ). v ≤ℤ HORIZON) (sym whole) c.requires.may.1,
       refl,
@@ -34,83 +34,83 @@ loop-due-init g c =
 pub settle_once-requires-clause-may : goal.settle_once-requires-clause-may
 settle_once-requires-clause-may g c =
     let v = c.loop-due.invariant in
-    let s = c.loop-due.cells in
+    let s = c.loop-due.self.cells in
     let due = c.in-Some.due in
-    let from = due_from c.args.cells.now.presentation c.args.out.now (to_z w64 (of_z w64 c.args.to)) s c.loop-due.seen c.loop-due.out v.0 due c.in-Some.ensures.first in
+    let from = due_from c.args.self.now.cells.presentation c.args.out.now (to_z w64 (of_z w64 c.args.to)) s c.loop-due.self.seen c.loop-due.out v.0 due c.in-Some.ensures.first in
     let within = not_above due (to_z w64 (of_z w64 c.args.to)) HORIZON c.in-Some.ensures.within v.2 in
     subst (λ (x : ℤ). (pos s.presentation.now ≤ℤ x) × (x ≤ℤ HORIZON)) (sym (to_z-of_z w64 due (fits s.presentation.now due from within))) (from, within)
 
 pub returns-in-Err-clause-refused : goal.returns-in-Err-clause-refused
 returns-in-Err-clause-refused g c =
     let v = c.loop-due.invariant in
-    let p = c.args.cells.now.presentation in
-    let s = c.loop-due.cells in
+    let p = c.args.self.now.cells.presentation in
+    let s = c.loop-due.self.cells in
     let due = c.in-Some.due in
     let to = to_z w64 (of_z w64 c.args.to) in
-    let from = due_from p c.args.out.now to s c.loop-due.seen c.loop-due.out v.0 due c.in-Some.ensures.first in
+    let from = due_from p c.args.out.now to s c.loop-due.self.seen c.loop-due.out v.0 due c.in-Some.ensures.first in
     let whole = to_z-of_z w64 due (fits s.presentation.now due from (not_above due to HORIZON c.in-Some.ensures.within v.2)) in
     subst (λ (x : ℤ). IsTooFull (moved_to p (nat_abs x)) c.in-Err.refusal) (to_z-of_z w64 c.args.to c.ranges.to)
-    (too_full_then p c.args.out.now to s c.loop-due.seen c.loop-due.out v.0 due c.in-Some.ensures.first c.in-Some.ensures.within c.in-Err.refusal
+    (too_full_then p c.args.out.now to s c.loop-due.self.seen c.loop-due.out v.0 due c.in-Some.ensures.first c.in-Some.ensures.within c.in-Err.refusal
     (subst (λ (x : ℤ). IsTooFull (moved_to s.presentation (nat_abs x)) c.in-Err.refusal) whole c.in-Err.ensures.refused))
 
 pub loop-due-smaller : goal.loop-due-smaller
 loop-due-smaller g c =
     let v = c.loop-due.invariant in
-    let p = c.args.cells.now.presentation in
-    let s = c.loop-due.cells in
+    let p = c.args.self.now.cells.presentation in
+    let s = c.loop-due.self.cells in
     let due = c.in-Some.due in
     let to = to_z w64 (of_z w64 c.args.to) in
-    let from = due_from p c.args.out.now to s c.loop-due.seen c.loop-due.out v.0 due c.in-Some.ensures.first in
+    let from = due_from p c.args.out.now to s c.loop-due.self.seen c.loop-due.out v.0 due c.in-Some.ensures.first in
     let whole = to_z-of_z w64 due (fits s.presentation.now due from (not_above due to HORIZON c.in-Some.ensures.within v.2)) in
     let e = c.in_default-settle_once.ensures in
-    comes_nearer p c.args.out.now to s c.loop-due.seen c.loop-due.out v.0 due c.in-Some.ensures.first c.in-Some.ensures.within c.settle_once.new.cells c.settle_once.new.seen c.settle_once.new.out
-    (subst (λ (x : ℤ). IsShownAt (moved_to s.presentation (nat_abs x)) c.settle_once.new.cells c.settle_once.new.seen) whole e.ok)
+    comes_nearer p c.args.out.now to s c.loop-due.self.seen c.loop-due.out v.0 due c.in-Some.ensures.first c.in-Some.ensures.within c.settle_once.new.self.cells c.settle_once.new.self.seen c.settle_once.new.out
+    (subst (λ (x : ℤ). IsShownAt (moved_to s.presentation (nat_abs x)) c.settle_once.new.self.cells c.settle_once.new.self.seen) whole e.ok)
     (subst (λ (x : ℤ). c.settle_once.new.out ≡ c.loop-due.out ++ text_of s.presentation (changes_between s.presentation (moved_to s.presentation (nat_abs x)))) whole e.told)
 
 pub loop-due-preserved : goal.loop-due-preserved
 loop-due-preserved g c =
     let v = c.loop-due.invariant in
-    let p = c.args.cells.now.presentation in
-    let s = c.loop-due.cells in
+    let p = c.args.self.now.cells.presentation in
+    let s = c.loop-due.self.cells in
     let due = c.in-Some.due in
     let to = to_z w64 (of_z w64 c.args.to) in
-    let from = due_from p c.args.out.now to s c.loop-due.seen c.loop-due.out v.0 due c.in-Some.ensures.first in
+    let from = due_from p c.args.out.now to s c.loop-due.self.seen c.loop-due.out v.0 due c.in-Some.ensures.first in
     let whole = to_z-of_z w64 due (fits s.presentation.now due from (not_above due to HORIZON c.in-Some.ensures.within v.2)) in
     let e = c.in_default-settle_once.ensures in (
-      passes_on p c.args.out.now to s c.loop-due.seen c.loop-due.out v.0 due c.in-Some.ensures.first c.in-Some.ensures.within c.settle_once.new.cells c.settle_once.new.seen c.settle_once.new.out
-          (subst (λ (x : ℤ). IsShownAt (moved_to s.presentation (nat_abs x)) c.settle_once.new.cells c.settle_once.new.seen) whole e.ok)
+      passes_on p c.args.out.now to s c.loop-due.self.seen c.loop-due.out v.0 due c.in-Some.ensures.first c.in-Some.ensures.within c.settle_once.new.self.cells c.settle_once.new.self.seen c.settle_once.new.out
+          (subst (λ (x : ℤ). IsShownAt (moved_to s.presentation (nat_abs x)) c.settle_once.new.self.cells c.settle_once.new.self.seen) whole e.ok)
           (subst (λ (x : ℤ). c.settle_once.new.out ≡ c.loop-due.out ++ text_of s.presentation (changes_between s.presentation (moved_to s.presentation (nat_abs x)))) whole e.told),
       refl,
       v.2,
       e.marked ∙ v.3,
       e.before ∙ v.4,
       begins_then c.args.out.now c.loop-due.out c.settle_once.new.out v.5 e.begins,
-      counted_then g.T.Table.counts c.args.cells.now s c.settle_once.new.cells _ c.settle_once.new.seen c.args.steps.now c.loop-due.steps c.settle_once.new.steps v.0.presentation_is v.6 e.counted e.ok
+      counted_then g.T.Table.counts c.args.self.now.cells s c.settle_once.new.self.cells _ c.settle_once.new.self.seen c.args.steps.now c.loop-due.steps c.settle_once.new.steps v.0.presentation_is v.6 e.counted e.ok
           e.goes_on e.most e.least,
     )
 
 pub returns-clause-told : goal.returns-clause-told
 returns-clause-told g c =
     let v = c.loop-due.invariant in
-    let p = c.args.cells.now.presentation in
+    let p = c.args.self.now.cells.presentation in
     let to = to_z w64 (of_z w64 c.args.to) in
     on_ok_weaker c.settle_once-2.result
-    (λ (q : c.settle_once-2.new.out ≡ c.loop-due.out ++ text_of c.loop-due.cells.presentation (changes_between c.loop-due.cells.presentation (moved_to c.loop-due.cells.presentation (nat_abs to)))).
+    (λ (q : c.settle_once-2.new.out ≡ c.loop-due.out ++ text_of c.loop-due.self.cells.presentation (changes_between c.loop-due.self.cells.presentation (moved_to c.loop-due.self.cells.presentation (nat_abs to)))).
     subst (λ (x : ℤ). c.settle_once-2.new.out ≡ c.args.out.now ++ text_of p (changes_through p (nat_abs x - p.now))) (to_z-of_z w64 c.args.to c.ranges.to)
-    (arrives p c.args.out.now to c.loop-due.cells c.loop-due.seen c.loop-due.out v.0 c.in_default.ensures.none c.settle_once-2.new.cells c.settle_once-2.new.seen c.settle_once-2.new.out q))
+    (arrives p c.args.out.now to c.loop-due.self.cells c.loop-due.self.seen c.loop-due.out v.0 c.in_default.ensures.none c.settle_once-2.new.self.cells c.settle_once-2.new.self.seen c.settle_once-2.new.out q))
     c.settle_once-2.ensures.told
 
-counted : (g : Over) (c : goal.After-settle_once-2 g) → OnOk c.settle_once-2.result (IsCounted g.T.Table.counts c.args.cells.now c.settle_once-2.new.cells c.args.steps.now c.settle_once-2.new.steps)
+counted : (g : Over) (c : goal.After-settle_once-2 g) → OnOk c.settle_once-2.result (IsCounted g.T.Table.counts c.args.self.now.cells c.settle_once-2.new.self.cells c.args.steps.now c.settle_once-2.new.steps)
 counted g c =
     let v = c.loop-due.invariant in
     let e = c.settle_once-2.ensures in
-    counted_last c.settle_once-2.result g.T.Table.counts c.args.cells.now c.loop-due.cells c.settle_once-2.new.cells _ c.settle_once-2.new.seen c.args.steps.now c.loop-due.steps c.settle_once-2.new.steps
+    counted_last c.settle_once-2.result g.T.Table.counts c.args.self.now.cells c.loop-due.self.cells c.settle_once-2.new.self.cells _ c.settle_once-2.new.self.seen c.args.steps.now c.loop-due.steps c.settle_once-2.new.steps
     v.0.presentation_is v.6 e.counted e.ok e.goes_on e.most e.least
 
 pub returns-clause-most : goal.returns-clause-most
 returns-clause-most g c =
-    on_ok_weaker c.settle_once-2.result (λ (is : IsCounted g.T.Table.counts c.args.cells.now c.settle_once-2.new.cells c.args.steps.now c.settle_once-2.new.steps). is.most) (counted g c)
+    on_ok_weaker c.settle_once-2.result (λ (is : IsCounted g.T.Table.counts c.args.self.now.cells c.settle_once-2.new.self.cells c.args.steps.now c.settle_once-2.new.steps). is.most) (counted g c)
 
 pub returns-clause-least : goal.returns-clause-least
 returns-clause-least g c =
-    on_ok_weaker c.settle_once-2.result (λ (is : IsCounted g.T.Table.counts c.args.cells.now c.settle_once-2.new.cells c.args.steps.now c.settle_once-2.new.steps). is.least) (counted g c)
+    on_ok_weaker c.settle_once-2.result (λ (is : IsCounted g.T.Table.counts c.args.self.now.cells c.settle_once-2.new.self.cells c.args.steps.now c.settle_once-2.new.steps). is.least) (counted g c)

@@ -4,17 +4,17 @@ use Rattle.smil_model.specs.declared.times.TheConstants.{HORIZON}
 use Rattle.smil_report.specs.Words.{Begins}
 use Rattle.smil_live.proofs.Counted.{IsCounted}
 use Rattle.smil_live.proofs.Onward.{IsPassing}
-use Rattle.smil_live.proofs.moves.pass_through.Given as goal
+use Rattle.smil_live.proofs.watched.Watched.pass_through.Given as goal
 
 abbrev pub invariant-loop-due : goal.invariant-loop-due
 invariant-loop-due g l =
-    IsPassing l.initial.cells.presentation l.initial.out l.to l.cells l.seen l.out
+    IsPassing l.initial.self.cells.presentation l.initial.out l.to l.self.cells l.self.seen l.out
     × (l.to ≡ l.initial.to)
     × (l.to ≤ℤ HORIZON)
-    × (l.cells.marked ≡ l.initial.cells.marked)
-    × (l.seen.before ≡ l.initial.seen.before)
+    × (l.self.cells.marked ≡ l.initial.self.cells.marked)
+    × (l.self.seen.before ≡ l.initial.self.seen.before)
     × Begins l.initial.out l.out
-    × IsCounted g.T.Table.counts l.initial.cells l.cells l.initial.steps l.steps
+    × IsCounted g.T.Table.counts l.initial.self.cells l.self.cells l.initial.steps l.steps
 
 abbrev pub decreases-loop-due : goal.decreases-loop-due
-decreases-loop-due g l = nat_abs l.to - l.cells.presentation.now
+decreases-loop-due g l = nat_abs l.to - l.self.cells.presentation.now

@@ -7,7 +7,7 @@ use Rattle.smil_live.specs.Seen.{has_view, view_now}
 use Rattle.smil_live.proofs.Presenting.{own_serial}
 use Rattle.smil_live.proofs.Touching.{is_node}
 use Rattle.smil_live.proofs.TouchedViews.{no_line, on_line}
-use Rattle.smil_live.proofs.moves.put_one.Goals as goal
+use Rattle.smil_live.proofs.watched.put_one.Goals as goal
 
 pub put-requires : goal.put-requires
 put-requires g c =

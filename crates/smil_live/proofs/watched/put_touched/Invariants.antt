@@ -1,5 +1,5 @@
 use Rattle.smil_live.proofs.TouchedViews.{IsUnderWay, touched_views}
-use Rattle.smil_live.proofs.moves.put_touched.Given as goal
+use Rattle.smil_live.proofs.watched.put_touched.Given as goal
 
 abbrev pub invariant-loop-serial : goal.invariant-loop-serial
 invariant-loop-serial g l =

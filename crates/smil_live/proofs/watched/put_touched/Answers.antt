@@ -5,7 +5,7 @@ use Rattle.smil_model.specs.shown.Views.{blank}
 use Rattle.smil_live.specs.Seen.{has_view, view_now}
 use Rattle.smil_live.proofs.Presenting.{own_serial}
 use Rattle.smil_live.proofs.TouchedViews.{is_from, known_next, left_first, told_end, told_last, touched_length, touched_views, turn, views_end, views_last, way_begins, way_on, where_not_err}
-use Rattle.smil_live.proofs.moves.put_touched.Goals as goal
+use Rattle.smil_live.proofs.watched.put_touched.Goals as goal
 
 pub loop-serial-init : goal.loop-serial-init
 loop-serial-init g c =
