@@ -14,15 +14,100 @@ use smil_model::{Bytes, Kind, Order, Who};
 use smil_tree::{Tree, TreeFault};
 use std::alloc::Global;
 
-/// Edits a tree by an order, and tells `ok` or why the edit is refused.
-pub fn edit(alloc: Global, tree: &mut Tree, order: &Order, out: &mut Bytes) -> Result<(), Fault> {
-    let Some(serial) = tree.find(named(order)?) else {
-        return Ok(put_word(out, "no-element")?);
-    };
-    if is_known(tree, serial) {
-        edit_node(alloc, tree, serial, order, out)
-    } else {
-        Err(Fault::Refused)
+/// A tree that is edited, and where it takes its memory.
+#[derive(Drop)]
+pub struct Editor {
+    pub alloc: Global,
+    pub tree: Tree,
+}
+
+impl Editor {
+    /// Edits the tree by an order, and tells `ok` or why the edit is refused.
+    pub fn edit(&mut self, order: &Order, out: &mut Bytes) -> Result<(), Fault> {
+        let Some(serial) = self.tree.find(named(order)?) else {
+            return Ok(put_word(out, "no-element")?);
+        };
+        if is_known(&self.tree, serial) {
+            self.edit_node(serial, order, out)
+        } else {
+            Err(Fault::Refused)
+        }
+    }
+
+    /// Edits a node.
+    fn edit_node(&mut self, serial: u32, order: &Order, out: &mut Bytes) -> Result<(), Fault>
+        requires { IsSome (node_at self.old.tree.nodes serial) }
+    {
+        match order {
+            Order::Set { attr, value, .. } => self.set(serial, attr, value, out),
+            Order::Unset { attr, .. } => self.unset(serial, attr, out),
+            Order::Insert { place, node, .. } => self.insert(serial, *place as usize, node, out),
+            _ => told(out, self.tree.remove(serial)),
+        }
+    }
+
+    /// Gives a node an attribute.
+    fn set(
+        &mut self,
+        serial: u32,
+        attr: &Bytes,
+        value: &Bytes,
+        out: &mut Bytes,
+    ) -> Result<(), Fault>
+        requires { IsSome (node_at self.old.tree.nodes serial) }
+    {
+        self.tree.valid();
+        let parent = parent_kind(&self.tree, serial)?;
+        match read_attr(
+            self.alloc,
+            self.tree.kind(serial),
+            parent,
+            attr.slice(),
+            value.slice(),
+        ) {
+            Ok(attr) => told(out, self.tree.set(serial, attr)),
+            Err(fault) => attr_fault(out, fault),
+        }
+    }
+
+    /// Takes an attribute of a node away.
+    fn unset(&mut self, serial: u32, attr: &Bytes, out: &mut Bytes) -> Result<(), Fault>
+        requires { IsSome (node_at self.old.tree.nodes serial) }
+    {
+        match attr_name(self.tree.kind(serial), attr.slice()) {
+            Ok(name) => {
+                self.tree.unset(serial, name);
+                Ok(put_word(out, "ok")?)
+            }
+            Err(fault) => attr_fault(out, fault),
+        }
+    }
+
+    /// Inserts the node of a line into a node, at a place from 1.
+    fn insert(
+        &mut self,
+        parent: u32,
+        place: usize,
+        line: &Bytes,
+        out: &mut Bytes,
+    ) -> Result<(), Fault>
+        requires { IsSome (node_at self.old.tree.nodes parent) }
+    {
+        let line = line.slice();
+        let kind = match read_kind(line) {
+            Ok(kind) => kind,
+            Err(fault) => return node_fault(out, fault),
+        };
+        if let Err(fault) = self.tree.may_insert(parent, place, kind) {
+            return told(out, Err(fault));
+        }
+        match read_node(self.alloc, Some(self.tree.kind(parent)), line) {
+            Ok((kind, attrs)) => match self.tree.insert(parent, place, kind, attrs) {
+                Ok(serial) => Ok(put_number(out, serial)?),
+                Err(fault) => told(out, Err(fault)),
+            },
+            Err(fault) => node_fault(out, fault),
+        }
     }
 }
 
@@ -37,51 +122,6 @@ fn named(order: &Order) -> Result<&Who, Fault> {
     }
 }
 
-/// Edits a node.
-fn edit_node(
-    alloc: Global,
-    tree: &mut Tree,
-    serial: u32,
-    order: &Order,
-    out: &mut Bytes,
-) -> Result<(), Fault>
-    requires { IsSome (node_at tree.old.nodes serial) }
-{
-    match order {
-        Order::Set { attr, value, .. } => set(alloc, tree, serial, attr, value, out),
-        Order::Unset { attr, .. } => unset(tree, serial, attr, out),
-        Order::Insert { place, node, .. } => {
-            insert(alloc, tree, serial, *place as usize, node, out)
-        }
-        _ => told(out, tree.remove(serial)),
-    }
-}
-
-/// Gives a node an attribute.
-fn set(
-    alloc: Global,
-    tree: &mut Tree,
-    serial: u32,
-    attr: &Bytes,
-    value: &Bytes,
-    out: &mut Bytes,
-) -> Result<(), Fault>
-    requires { IsSome (node_at tree.old.nodes serial) }
-{
-    tree.valid();
-    let parent = parent_kind(tree, serial)?;
-    match read_attr(
-        alloc,
-        tree.kind(serial),
-        parent,
-        attr.slice(),
-        value.slice(),
-    ) {
-        Ok(attr) => told(out, tree.set(serial, attr)),
-        Err(fault) => attr_fault(out, fault),
-    }
-}
-
 /// The kind of a node's parent, and none for the root.
 fn parent_kind(tree: &Tree, serial: u32) -> Result<Option<Kind>, Fault>
     requires { IsSome (node_at tree.now.nodes serial) }
@@ -92,47 +132,6 @@ fn parent_kind(tree: &Tree, serial: u32) -> Result<Option<Kind>, Fault>
         Some(parent) if is_known(tree, parent) => Ok(Some(tree.kind(parent))),
         Some(_) => Err(Fault::Refused),
         None => Ok(None),
-    }
-}
-
-/// Takes an attribute of a node away.
-fn unset(tree: &mut Tree, serial: u32, attr: &Bytes, out: &mut Bytes) -> Result<(), Fault>
-    requires { IsSome (node_at tree.old.nodes serial) }
-{
-    match attr_name(tree.kind(serial), attr.slice()) {
-        Ok(name) => {
-            tree.unset(serial, name);
-            Ok(put_word(out, "ok")?)
-        }
-        Err(fault) => attr_fault(out, fault),
-    }
-}
-
-/// Inserts the node of a line into a node, at a place from 1.
-fn insert(
-    alloc: Global,
-    tree: &mut Tree,
-    parent: u32,
-    place: usize,
-    line: &Bytes,
-    out: &mut Bytes,
-) -> Result<(), Fault>
-    requires { IsSome (node_at tree.old.nodes parent) }
-{
-    let line = line.slice();
-    let kind = match read_kind(line) {
-        Ok(kind) => kind,
-        Err(fault) => return node_fault(out, fault),
-    };
-    if let Err(fault) = tree.may_insert(parent, place, kind) {
-        return told(out, Err(fault));
-    }
-    match read_node(alloc, Some(tree.kind(parent)), line) {
-        Ok((kind, attrs)) => match tree.insert(parent, place, kind, attrs) {
-            Ok(serial) => Ok(put_number(out, serial)?),
-            Err(fault) => told(out, Err(fault)),
-        },
-        Err(fault) => node_fault(out, fault),
     }
 }
 

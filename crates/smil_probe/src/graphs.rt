@@ -47,23 +47,17 @@ fn put_node(alloc: Global, out: &mut Bytes, graph: &Graph, node: &Node) -> Resul
 /// Which items of an element's begin and end lists are looped.
 fn put_loops(out: &mut Bytes, graph: &Graph, node: &Node) -> Result<(), AllocError> {
     put_word(out, ":")?;
-    put_looped(out, graph, node.serial, Edge::Begin, &node.attrs.begin)?;
-    put_looped(out, graph, node.serial, Edge::End, &node.attrs.end)
+    put_looped(out, graph, node, Edge::Begin)?;
+    put_looped(out, graph, node, Edge::End)
 }
 
-/// `1` for each item of a list that is looped, and `0` for each other.
-fn put_looped(
-    out: &mut Bytes,
-    graph: &Graph,
-    serial: u32,
-    side: Edge,
-    items: &Option<Items>,
-) -> Result<(), AllocError> {
-    if let Some(items) = items {
+/// `1` for each item of one of the lists of an element that is looped, and `0` for each other.
+fn put_looped(out: &mut Bytes, graph: &Graph, node: &Node, side: Edge) -> Result<(), AllocError> {
+    if let Some(items) = list_of(node, side) {
         for item in 0..items.len() {
             put(
                 out,
-                if graph.looped(serial, side, item) {
+                if graph.looped(node.serial, side, item) {
                     "1"
                 } else {
                     "0"
@@ -72,4 +66,12 @@ fn put_looped(
         }
     }
     Ok(())
+}
+
+/// The list of one side of an element, where it has the attribute.
+fn list_of(node: &Node, side: Edge) -> &Option<Items> {
+    match side {
+        Edge::Begin => &node.attrs.begin,
+        Edge::End => &node.attrs.end,
+    }
 }

@@ -8,18 +8,20 @@ use smil_model::{Bytes, Edge, Time};
 use smil_stretch::Clocks;
 use std::alloc::AllocError;
 
+/// A moment, and the clocks of the elements that stand or run at it.
+#[derive(Clone, Copy)]
+pub struct Present<'a> {
+    pub clocks: &'a Clocks,
+    pub moment: i64,
+}
+
 /// The clocks of elements.
-pub fn put_clocks(
-    out: &mut Bytes,
-    clocks: &Clocks,
-    whos: &[u32],
-    moment: i64,
-) -> Result<(), AllocError>
-    requires { IsMoment moment }
+pub fn put_clocks(out: &mut Bytes, present: &Present<'_>, whos: &[u32]) -> Result<(), AllocError>
+    requires { IsMoment present.now.moment }
 {
     let mut before = whos.first().copied().unwrap_or(0);
     for who in whos {
-        put_clock(out, clocks, *who, before, moment)?;
+        put_clock(out, present, *who, before)?;
         before = *who;
     }
     Ok(())
@@ -29,13 +31,13 @@ pub fn put_clocks(
 /// latter in document time, and what that clock shows where that of the element before shows 7.
 fn put_clock(
     out: &mut Bytes,
-    clocks: &Clocks,
+    present: &Present<'_>,
     who: u32,
     before: u32,
-    moment: i64,
 ) -> Result<(), AllocError>
-    requires { IsMoment moment }
+    requires { IsMoment present.now.moment }
 {
+    let Present { clocks, moment } = *present;
     put_number(out, who)?;
     put_number(out, clocks.run(who, moment))?;
     put_number(out, clocks.outer(who, moment))?;
@@ -50,14 +52,14 @@ fn put_clock(
 pub fn put_instances(
     out: &mut Bytes,
     instances: &Instances,
-    clocks: &Clocks,
+    present: &Present<'_>,
     whos: &[u32],
-    moment: i64,
 ) -> Result<(), AllocError>
-    requires { IsMoment moment }
+    requires { IsMoment present.now.moment }
 {
     for who in whos {
-        put_instance(out, instances, *who, clocks.outer(*who, moment))?;
+        let now = present.clocks.outer(*who, present.moment);
+        put_instance(out, instances, *who, now)?;
     }
     Ok(())
 }

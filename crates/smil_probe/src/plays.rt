@@ -7,7 +7,7 @@ ghost use Rattle.smil_model.specs.document.Valid.{IsValid};
 ghost use Rattle.smil_model.specs.shown.Answers.{IsGiven};
 
 use super::case::{Fault, Words};
-use super::moments::{put_clocks, put_instances};
+use super::moments::{Present, put_clocks, put_instances};
 use super::orders::{lines_of, order_of, parted};
 use super::outlines::document;
 use super::printed::{put_flag, put_gap, put_number};
@@ -25,33 +25,41 @@ use std::alloc::{AllocError, Global};
 use std::marker::Brand;
 use std::sync::ledger::{Blank, Ledger};
 
+/// A document, and the script lines by which it is played.
+#[derive(Drop)]
+struct Script {
+    doc: Doc,
+    lines: WordList,
+}
+
 /// `play LINE|LINE|..|%%|ORDER|ORDER|..`: the document of an outline plays from moment 0 on by
 /// script lines whose orders are `advance`, `seek` to a later moment, `event`, `media` and `key`.
 /// In the end its clocks and its instance times are told.
 pub fn play(alloc: Global, words: &mut Words<'_>, out: &mut Bytes) -> Result<(), Fault> {
     let (outline, orders) = parted(words.rest())?;
-    let doc = document(alloc, outline)?;
-    let lines = lines_of(alloc, orders)?;
-    played::<Brand>(alloc, Blank::new(1), &doc, &lines, out)
+    let script = Script {
+        doc: document(alloc, outline)?,
+        lines: lines_of(alloc, orders)?,
+    };
+    played::<Brand>(alloc, Blank::new(1), &script, out)
 }
 
-/// Plays a document by orders, whose evaluations are counted.
+/// Plays a document by script lines, whose evaluations are counted.
 fn played<L: Ledger>(
     alloc: Global,
     blank: Blank,
-    doc: &Doc,
-    lines: &WordList,
+    script: &Script,
     out: &mut Bytes,
 ) -> Result<(), Fault>
     requires name { blank.name ≡ L.name }
     requires parts { blank.parts ≡ L.parts }
     requires backed { 0 < blank.parts }
-    requires valid { IsValid doc.now }
+    requires valid { IsValid script.now.doc }
 {
     let mut steps = Steps::<L>::new(blank);
-    let mut cells = PlainCells::new(alloc, doc, &mut steps)?;
+    let mut cells = PlainCells::new(alloc, &script.doc, &mut steps)?;
     settle(&mut cells, 0, &mut steps)?;
-    for line in lines.slice() {
+    for line in script.lines.slice() {
         if let Some(order) = order_of(alloc, line.slice())? {
             take(&mut cells, order, &mut steps)?;
         }
@@ -160,14 +168,18 @@ fn tell_clocks(alloc: Global, out: &mut Bytes, cells: &PlainCells) -> Result<(),
     }
     let whos = elements(alloc, cells.tree())?;
     let mut shown = Bytes::new(alloc);
-    put_clocks(&mut shown, cells.clocks(), &whos, moment)?;
-    let mut again = Bytes::new(alloc);
-    put_clocks(
-        &mut again,
-        &clocks_anew(alloc, cells.past())?,
-        &whos,
+    let kept = Present {
+        clocks: cells.clocks(),
         moment,
-    )?;
+    };
+    put_clocks(&mut shown, &kept, &whos)?;
+    let mut again = Bytes::new(alloc);
+    let clocks = clocks_anew(alloc, cells.past())?;
+    let anew = Present {
+        clocks: &clocks,
+        moment,
+    };
+    put_clocks(&mut again, &anew, &whos)?;
     put_number(out, moment)?;
     put_text(out, &shown)?;
     put_flag(out, shown == again)?;
@@ -189,16 +201,14 @@ fn tell_times(alloc: Global, out: &mut Bytes, cells: &PlainCells) -> Result<(), 
     }
     let whos = elements(alloc, cells.tree())?;
     let past = cells.past();
-    let mut anew = Bytes::new(alloc);
-    put_instances(
-        &mut anew,
-        &instances_anew(alloc, past)?,
-        past.clocks(),
-        &whos,
+    let present = Present {
+        clocks: past.clocks(),
         moment,
-    )?;
+    };
+    let mut anew = Bytes::new(alloc);
+    put_instances(&mut anew, &instances_anew(alloc, past)?, &present, &whos)?;
     let mut kept = Bytes::new(alloc);
-    put_instances(&mut kept, past.instances(), past.clocks(), &whos, moment)?;
+    put_instances(&mut kept, past.instances(), &present, &whos)?;
     put_text(out, &anew)?;
     put_flag(out, anew == kept)?;
     Ok(())

@@ -4,7 +4,7 @@ ghost use Rattle.std.specs.Prelude.{IsSome};
 ghost use Rattle.smil_model.specs.document.Document.{node_at};
 
 use super::case::{Fault, Words};
-use super::edits::edit;
+use super::edits::Editor;
 use super::orders::{is_known, lines_of, order_of, parted};
 use super::outlines::{document, put_saved};
 use super::printed::{put_maybe, put_number, put_serials, put_word};
@@ -18,13 +18,16 @@ use std::alloc::{AllocError, Global};
 pub fn tree(alloc: Global, words: &mut Words<'_>, out: &mut Bytes) -> Result<(), Fault> {
     let (outline, orders) = parted(words.rest())?;
     let doc = document(alloc, outline)?;
-    let mut tree = Tree::of_doc(alloc, &doc)?;
+    let mut editor = Editor {
+        alloc,
+        tree: Tree::of_doc(alloc, &doc)?,
+    };
     for line in lines_of(alloc, orders)?.slice() {
         if let Some(order) = order_of(alloc, line.slice())? {
-            edit(alloc, &mut tree, &order, out)?;
+            editor.edit(&order, out)?;
         }
     }
-    put_tree(alloc, out, &tree.copy()?)
+    put_tree(alloc, out, &editor.tree.copy()?)
 }
 
 /// The document of a tree, and its nodes.

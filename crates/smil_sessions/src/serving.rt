@@ -15,6 +15,13 @@ use std::cell::Cell;
 use std::marker::Brand;
 use std::sync::ledger::{Blank, Ledger};
 
+/// A call of the program: where it takes memory, and its words.
+#[derive(Drop)]
+struct Call<'a> {
+    alloc: Global,
+    words: &'a WordList,
+}
+
 /// Serves a session, appends its transcript, and gives its status.
 pub fn serve_session(
     alloc: Global,
@@ -36,7 +43,7 @@ fn serve_pieces(
     let text = pieces.text.slice();
     let mut source = MemSource::new(alloc, text, pieces.chunk, pieces.reads.slice())?;
     let mut sink = MemSink::new(alloc, pieces.room, pieces.writes.slice())?;
-    let status = status_of(alloc, words, &mut source, &mut sink);
+    let status = status_of(&Call { alloc, words }, &mut source, &mut sink);
     told.append(sink.bytes())?;
     Ok(status)
 }
@@ -53,26 +60,20 @@ fn serve_turns(
         sink: MemSink::new(alloc, ROOM, &[])?,
         taken: &taken,
     };
-    let status = status_of(alloc, words, &mut source, &mut sink);
+    let status = status_of(&Call { alloc, words }, &mut source, &mut sink);
     told.append(sink.sink.bytes())?;
     Ok(status)
 }
 
 // How a session ends.
-fn status_of<S: Source, K: Sink>(
-    alloc: Global,
-    words: &WordList,
-    source: &mut S,
-    sink: &mut K,
-) -> Status {
-    counted::<_, _, Brand>(alloc, Blank::new(1), words, source, sink)
+fn status_of<S: Source, K: Sink>(call: &Call<'_>, source: &mut S, sink: &mut K) -> Status {
+    counted::<_, _, Brand>(call, Blank::new(1), source, sink)
 }
 
 // How a session ends whose evaluations are counted from 0.
 fn counted<S: Source, K: Sink, L: Ledger>(
-    alloc: Global,
+    call: &Call<'_>,
     blank: Blank,
-    words: &WordList,
     source: &mut S,
     sink: &mut K,
 ) -> Status
@@ -81,5 +82,5 @@ fn counted<S: Source, K: Sink, L: Ledger>(
     requires backed { 0 < blank.parts }
 {
     let mut steps = Steps::<L>::new(blank);
-    serve(alloc, words, source, sink, &mut steps)
+    serve(call.alloc, call.words, source, sink, &mut steps)
 }

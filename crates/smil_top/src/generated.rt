@@ -9,7 +9,7 @@ ghost use Rattle.smil_top.specs.Kept.{IsSummary, Tells};
 
 use super::counts::Counts;
 use super::nowhere::Nowhere;
-use super::reading::{answer_all, begin};
+use super::reading::begin;
 use super::run::Run;
 use super::status::Status;
 use itoa::Buffer;
@@ -44,14 +44,10 @@ pub(crate) fn summary_of<L: Ledger>(
     let bytes = session_bytes(alloc, number)?;
     let mut source = MemSource::new(alloc, bytes.slice(), CHUNK, &[])?;
     let mut begun = begin(alloc, false)?;
-    let status = answer_all(
-        alloc,
-        begun.reader,
-        &mut begun.run,
-        &mut source,
-        &mut Nowhere,
-        steps,
-    );
+    let reader = begun.reader;
+    let status = begun
+        .run
+        .answer_all(reader, &mut source, &mut Nowhere, steps);
     if !status.is_told() {
         return Err(AllocError);
     }

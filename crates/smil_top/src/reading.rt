@@ -8,7 +8,7 @@ ghost use Rattle.smil_top.specs.Transcript.{Told, untold};
 ghost use Rattle.smil_top.specs.Evaluations.{AreEvaluated};
 ghost use Rattle.smil_top.specs.Kept.{Ends, HasEvaluated, IsRunning, Ran, RanCounted};
 
-use super::run::Run;
+use super::run::{NumberedLine, Run};
 use super::status::Status;
 use smil_model::Steps;
 use smil_outside::{Line, LineReader, Sink, Source};
@@ -34,41 +34,44 @@ pub(crate) fn begin(alloc: Global, checks: bool) -> Result<Begun, AllocError>
     })
 }
 
-/// Reads and answers to the end of the input, or up to a fault.
-pub(crate) fn answer_all<S: Source, K: Sink, L: Ledger>(
-    alloc: Global,
-    mut reader: LineReader,
-    run: &mut Run,
-    source: &mut S,
-    sink: &mut K,
-    steps: &mut Steps<L>,
-) -> Status
-    requires fresh { reader ≡ fresh_reading }
-    ensures ran { (checks : Bool) → IsRunning checks run.old (cut_of []) untold
-        → Ran checks result run.new (S.rest source.old) (S.rest source.new)
-        (K.taken sink.old) (K.taken sink.new) (K.sure_room sink.old) }
-    ensures read_cause { result ≡ Status.ReadFault
-        → HasRisen (S.faults source.old) (S.faults source.new) }
-    ensures write_cause { result ≡ Status.WriteFault
-        → HasRisen (K.faults sink.old) (K.faults sink.new) }
-    ensures read_count { S.faults source.old ≤ S.faults source.new }
-    ensures write_count { K.faults sink.old ≤ K.faults sink.new }
-    ensures sure { S.never_fails source.old → result ≢ Status.ReadFault }
-    ensures counted { steps.old ≤ steps.new }
-    ensures evaluated { (checks : Bool) → IsRunning checks run.old (cut_of []) untold
-        → RanCounted checks result run.new (S.rest source.old) (S.rest source.new)
-        (K.taken sink.old) (K.taken sink.new) (K.sure_room sink.old) (steps.new - steps.old) }
-{
-    'lines: loop {
-        let text = match reader.next(source) {
-            Line::Bytes => Some(reader.bytes()),
-            Line::LongLine => None,
-            Line::End => return end(run, sink),
-            Line::InputTooLong => return Status::InputTooLong,
-            Line::ReadFault => return Status::ReadFault,
-        };
-        if run.line(alloc, reader.number(), text, sink, steps).is_err() {
-            return Status::WriteFault;
+impl Run {
+    /// Reads and answers to the end of the input, or up to a fault.
+    pub fn answer_all<S: Source, K: Sink, L: Ledger>(
+        &mut self,
+        mut reader: LineReader,
+        source: &mut S,
+        sink: &mut K,
+        steps: &mut Steps<L>,
+    ) -> Status
+        requires fresh { reader ≡ fresh_reading }
+        ensures ran { (checks : Bool) → IsRunning checks self.old (cut_of []) untold
+            → Ran checks result self.new (S.rest source.old) (S.rest source.new)
+            (K.taken sink.old) (K.taken sink.new) (K.sure_room sink.old) }
+        ensures read_cause { result ≡ Status.ReadFault
+            → HasRisen (S.faults source.old) (S.faults source.new) }
+        ensures write_cause { result ≡ Status.WriteFault
+            → HasRisen (K.faults sink.old) (K.faults sink.new) }
+        ensures read_count { S.faults source.old ≤ S.faults source.new }
+        ensures write_count { K.faults sink.old ≤ K.faults sink.new }
+        ensures sure { S.never_fails source.old → result ≢ Status.ReadFault }
+        ensures counted { steps.old ≤ steps.new }
+        ensures evaluated { (checks : Bool) → IsRunning checks self.old (cut_of []) untold
+            → RanCounted checks result self.new (S.rest source.old) (S.rest source.new)
+            (K.taken sink.old) (K.taken sink.new) (K.sure_room sink.old) (steps.new - steps.old) }
+    {
+        'lines: loop {
+            let text = match reader.next(source) {
+                Line::Bytes => Some(reader.bytes()),
+                Line::LongLine => None,
+                Line::End => return end(self, sink),
+                Line::InputTooLong => return Status::InputTooLong,
+                Line::ReadFault => return Status::ReadFault,
+            };
+            let number = reader.number();
+            let line = NumberedLine { number, text };
+            if self.line(&line, sink, steps).is_err() {
+                return Status::WriteFault;
+            }
         }
     }
 }

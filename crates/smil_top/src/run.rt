@@ -21,6 +21,13 @@ use smil_script::{ends_load, is_blank, opens_load};
 use std::alloc::{AllocError, Global};
 use std::sync::ledger::Ledger;
 
+/// A line as it was read: its number, and its text, or none where it is too long.
+#[derive(Clone, Copy)]
+pub(crate) struct NumberedLine<'a> {
+    pub number: u32,
+    pub text: Option<&'a [u8]>,
+}
+
 /// A session between two lines: the load that hasn't ended, the last answer, and what is counted so
 /// far.
 #[derive(Drop)]
@@ -45,20 +52,17 @@ impl Run {
         })
     }
 
-    /// Takes in the line with this number, or one that is too long, and writes the answer of the
-    /// order that is whole with it.
+    /// Takes in the next line, and writes the answer of the order that is whole with it.
     pub fn line<K: Sink, L: Ledger>(
         &mut self,
-        alloc: Global,
-        number: u32,
-        text: Option<&[u8]>,
+        next: &NumberedLine<'_>,
         sink: &mut K,
         steps: &mut Steps<L>,
     ) -> Result<(), Failed>
-        requires short { IfSome text (λ t. length t.now ≤ LINE_BYTES) }
+        requires short { IfSome next.now.text (λ t. length t.now ≤ LINE_BYTES) }
         ensures answers { (checks : Bool) (cut : Cut) (told : Told) (line : List ℕ)
             → IsRunning checks self.old cut told
-            → number ≡ suc cut.count → IsText (option_map (λ t. t.now) text.entry) line
+            → next.now.number ≡ suc cut.count → IsText (option_map (λ t. t.now) next.now.text) line
             → Answers checks result self.new (with_line cut line) told (K.taken sink.old)
             (K.taken sink.new) (K.sure_room sink.old) (K.sure_room sink.new) }
         ensures cause { OnErr result (HasRisen (K.faults sink.old) (K.faults sink.new)) }
@@ -66,32 +70,30 @@ impl Run {
         ensures counted { steps.old ≤ steps.new }
         ensures evaluated { (cut : Cut) (told : Told) (line : List ℕ)
             → IsRunning false self.old cut told
-            → number ≡ suc cut.count → IsText (option_map (λ t. t.now) text.entry) line
+            → next.now.number ≡ suc cut.count → IsText (option_map (λ t. t.now) next.now.text) line
             → EvaluatesOn self.old.counts self.new.counts cut.whole (with_line cut line).whole
             steps.old steps.new }
     {
         match self.load.take() {
-            Some(load) => self.line_inside(alloc, load, number, text, sink, steps),
-            None => self.line_outside(alloc, number, text, sink, steps),
+            Some(load) => self.line_inside(load, next, sink, steps),
+            None => self.line_outside(next, sink, steps),
         }
     }
 
     // A line inside a load.
     fn line_inside<K: Sink, L: Ledger>(
         &mut self,
-        alloc: Global,
         load: Load,
-        number: u32,
-        text: Option<&[u8]>,
+        next: &NumberedLine<'_>,
         sink: &mut K,
         steps: &mut Steps<L>,
     ) -> Result<(), Failed>
-        requires short { IfSome text (λ t. length t.now ≤ LINE_BYTES) }
+        requires short { IfSome next.now.text (λ t. length t.now ≤ LINE_BYTES) }
         requires outside { self.old.load ≡ None }
         ensures answers { (checks : Bool) (cut : Cut) (lines : LoadLines) (told : Told)
             (line : List ℕ) → cut.«open» ≡ Some lines → IsRead load lines
-            → Tells checks self.old cut.whole told → number ≡ suc cut.count
-            → IsText (option_map (λ t. t.now) text.entry) line
+            → Tells checks self.old cut.whole told → next.now.number ≡ suc cut.count
+            → IsText (option_map (λ t. t.now) next.now.text) line
             → Answers checks result self.new (with_line cut line) told (K.taken sink.old)
             (K.taken sink.new) (K.sure_room sink.old) (K.sure_room sink.new) }
         ensures cause { OnErr result (HasRisen (K.faults sink.old) (K.faults sink.new)) }
@@ -100,18 +102,18 @@ impl Run {
         ensures evaluated { (cut : Cut) (lines : LoadLines) (told : Told) (line : List ℕ)
             → cut.«open» ≡ Some lines
             → IsRead load lines → Tells false self.old cut.whole told
-            → number ≡ suc cut.count → IsText (option_map (λ t. t.now) text.entry) line
+            → next.now.number ≡ suc cut.count → IsText (option_map (λ t. t.now) next.now.text) line
             → EvaluatesOn self.old.counts self.new.counts cut.whole (with_line cut line).whole
             steps.old steps.new }
     {
-        match text {
-            Some(text) if ends_load(text) => self.end_load(alloc, load, number, sink, steps),
+        match next.text {
+            Some(text) if ends_load(text) => self.end_load(load, next.number, sink, steps),
             Some(text) if is_blank(text) => {
                 self.load = Some(load);
                 Ok(())
             }
             _ => {
-                self.load = Some(load.push(number, text));
+                self.load = Some(load.push(next.number, next.text));
                 Ok(())
             }
         }
@@ -120,18 +122,16 @@ impl Run {
     // A line outside loads.
     fn line_outside<K: Sink, L: Ledger>(
         &mut self,
-        alloc: Global,
-        number: u32,
-        text: Option<&[u8]>,
+        next: &NumberedLine<'_>,
         sink: &mut K,
         steps: &mut Steps<L>,
     ) -> Result<(), Failed>
-        requires short { IfSome text (λ t. length t.now ≤ LINE_BYTES) }
+        requires short { IfSome next.now.text (λ t. length t.now ≤ LINE_BYTES) }
         requires outside { self.old.load ≡ None }
         ensures answers { (checks : Bool) (cut : Cut) (told : Told) (line : List ℕ)
             → cut.«open» ≡ None
-            → Tells checks self.old cut.whole told → number ≡ suc cut.count
-            → IsText (option_map (λ t. t.now) text.entry) line
+            → Tells checks self.old cut.whole told → next.now.number ≡ suc cut.count
+            → IsText (option_map (λ t. t.now) next.now.text) line
             → Answers checks result self.new (with_line cut line) told (K.taken sink.old)
             (K.taken sink.new) (K.sure_room sink.old) (K.sure_room sink.new) }
         ensures cause { OnErr result (HasRisen (K.faults sink.old) (K.faults sink.new)) }
@@ -139,31 +139,30 @@ impl Run {
         ensures counted { steps.old ≤ steps.new }
         ensures evaluated { (cut : Cut) (told : Told) (line : List ℕ) → cut.«open» ≡ None
             → Tells false self.old cut.whole told
-            → number ≡ suc cut.count → IsText (option_map (λ t. t.now) text.entry) line
+            → next.now.number ≡ suc cut.count → IsText (option_map (λ t. t.now) next.now.text) line
             → EvaluatesOn self.old.counts self.new.counts cut.whole (with_line cut line).whole
             steps.old steps.new }
     {
-        match text {
+        match next.text {
             None => self.tell(
                 Err(Fault {
-                    line: number,
+                    line: next.number,
                     refusal: Refusal::LongLine,
                 }),
                 sink,
             ),
             Some(text) if opens_load(text) => {
-                self.load = Some(Load::open(alloc, number, text));
+                self.load = Some(Load::open(self.session.alloc, next.number, text));
                 Ok(())
             }
             Some(text) if is_blank(text) => Ok(()),
-            Some(text) => self.answer_single(alloc, number, text, sink, steps),
+            Some(text) => self.answer_single(next.number, text, sink, steps),
         }
     }
 
     // A single line.
     fn answer_single<K: Sink, L: Ledger>(
         &mut self,
-        alloc: Global,
         number: u32,
         text: &[u8],
         sink: &mut K,
@@ -188,14 +187,13 @@ impl Run {
         self.answer.clear();
         let answered = self
             .session
-            .answer_line(alloc, number, text, &mut self.answer, steps);
+            .answer_line(number, text, &mut self.answer, steps);
         self.tell(Fault::at(number, answered), sink)
     }
 
     // The line that ends a load.
     fn end_load<K: Sink, L: Ledger>(
         &mut self,
-        alloc: Global,
         load: Load,
         number: u32,
         sink: &mut K,
@@ -216,14 +214,13 @@ impl Run {
             → EvaluatesOn self.old.counts self.new.counts
             whole (whole ++ load_order lines (Some number) ∷ []) steps.old steps.new }
     {
-        let answered = self.answer_load(alloc, load, number, steps);
+        let answered = self.answer_load(load, number, steps);
         self.tell(answered, sink)
     }
 
     // Answers a load whose last line has this number.
     fn answer_load<L: Ledger>(
         &mut self,
-        alloc: Global,
         load: Load,
         number: u32,
         steps: &mut Steps<L>,
@@ -249,7 +246,7 @@ impl Run {
             Ok(given) => {
                 let answered = self
                     .session
-                    .answer_load(alloc, line, given, &mut self.answer, steps);
+                    .answer_load(line, given, &mut self.answer, steps);
                 Fault::at(line, answered)
             }
             Err(fault) => Err(fault),

@@ -25,21 +25,31 @@ use smil_script::read_line;
 use std::alloc::{AllocError, Global};
 use std::sync::ledger::Ledger;
 
-/// The presentations that are held, and whether loads are only read.
+/// The presentations that are held, whether loads are only read, and where memory is taken.
 #[derive(Drop)]
 pub(crate) struct Session {
     pub house: House<Presentation>,
     pub checks: bool,
+    pub alloc: Global,
+}
+
+// An order, with the name of the presentation that it is for.
+#[derive(Clone, Copy)]
+struct Addressed<'a> {
+    name: &'a Bytes,
+    order: &'a Order,
 }
 
 impl Session {
     /// No presentation, with room for all that may be held; unless memory runs out.
     pub fn new(alloc: Global, checks: bool) -> Result<Session, AllocError>
-        ensures { IfOk result (λ session. session ≡ record { house = []; checks = checks }) }
+        ensures { IfOk result
+            (λ session. session ≡ record { house = []; checks = checks; alloc = alloc }) }
     {
         Ok(Session {
             house: House::new(alloc)?,
             checks,
+            alloc,
         })
     }
 
@@ -47,7 +57,6 @@ impl Session {
     /// before.
     pub fn answer_line<L: Ledger>(
         &mut self,
-        alloc: Global,
         number: u32,
         line: &[u8],
         answer: &mut Answer,
@@ -65,7 +74,7 @@ impl Session {
             → IsCounted result (λ (bound : Bound). line_number bound session line.now)
             (steps.new - steps.old) }
     {
-        match read_line(alloc, line) {
+        match read_line(self.alloc, line) {
             Ok(read) => self.answer_read(number, &read, answer, steps),
             Err(refusal) => Err(refusal),
         }
@@ -99,7 +108,10 @@ impl Session {
             Read::Blank => Ok(()),
             Read::Load { .. } => Err(Refusal::NotACommand),
             Read::Close { name } => self.close(number, name, answer),
-            Read::To { name, order } => self.answer_to(number, name, order, answer, steps),
+            Read::To { name, order } => {
+                let addressed = Addressed { name, order };
+                self.answer_to(number, &addressed, answer, steps)
+            }
         }
     }
 
@@ -107,29 +119,30 @@ impl Session {
     fn answer_to<L: Ledger>(
         &mut self,
         number: u32,
-        name: &Bytes,
-        order: &Order,
+        addressed: &Addressed<'_>,
         answer: &mut Answer,
         steps: &mut Steps<L>,
     ) -> Result<(), Refusal>
-        requires given { IsGiven order.now }
-        requires title { length name.now ≤ NAME_BYTES }
+        requires given { IsGiven addressed.now.order.now }
+        requires title { length addressed.now.name.now ≤ NAME_BYTES }
         requires empty { answer.old ≡ no_text }
         ensures answer { (session : Presentations) → Holds self.old.house session
             → Makes result answer.new self.new.house session
-            (ordered_within limits session number name.now order.now) }
+            (ordered_within limits session number addressed.now.name.now addressed.now.order.now) }
         ensures checks { self.new.checks ≡ self.old.checks }
         ensures counted { steps.old ≤ steps.new }
         ensures evaluated { (session : Presentations) → Holds self.old.house session
-            → IsCounted result (λ (bound : Bound). ordered_number bound session name.now order.now)
+            → IsCounted result (λ (bound : Bound). ordered_number bound session
+            addressed.now.name.now addressed.now.order.now)
             (steps.new - steps.old) }
     {
+        let name = addressed.name.slice();
         match self
             .house
-            .answer(name.slice(), order, &mut answer.told, steps)
+            .answer(name, addressed.order, &mut answer.told, steps)
         {
             Ok(now) => {
-                answer.last = LastLine::ok(number, name.slice(), now);
+                answer.last = LastLine::ok(number, name, now);
                 Ok(())
             }
             Err(refusal) => Err(refusal),
@@ -157,7 +170,6 @@ impl Session {
     /// written where loads are only read. After a refusal the session is as before.
     pub fn answer_load<L: Ledger>(
         &mut self,
-        alloc: Global,
         number: u32,
         given: Given,
         answer: &mut Answer,
@@ -178,14 +190,13 @@ impl Session {
         if self.checks {
             check(number, &given, answer)
         } else {
-            self.open(alloc, number, given, answer, steps)
+            self.open(number, given, answer, steps)
         }
     }
 
     // Opens what a load gives.
     fn open<L: Ledger>(
         &mut self,
-        alloc: Global,
         number: u32,
         given: Given,
         answer: &mut Answer,
@@ -206,7 +217,7 @@ impl Session {
         if let Err(refusal) = self.house.may_load(name.slice()) {
             return Err(refusal);
         }
-        match Presentation::new(alloc, doc, &mut answer.told, steps) {
+        match Presentation::new(self.alloc, doc, &mut answer.told, steps) {
             Ok(player) => {
                 answer.last = LastLine::ok(number, name.slice(), 0);
                 self.house.load(name, player);

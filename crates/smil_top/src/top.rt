@@ -10,7 +10,7 @@ ghost use Rattle.smil_top.specs.Kept.{asked_by};
 ghost use Rattle.smil_top.specs.Serving.{Explains, Generates, Serves, reads};
 
 use super::generated::summary_of;
-use super::reading::{answer_all, begin};
+use super::reading::begin;
 use super::status::Status;
 use smil_model::{Steps, WordList};
 use smil_outside::{Sink, Source, write_all};
@@ -20,6 +20,13 @@ use std::sync::ledger::Ledger;
 
 /// What faulty words are answered.
 const USAGE: &[u8] = b"usage: smilplay run | smilplay check | smilplay gen N\n";
+
+// What a session begins with: where it takes memory, and whether its loads are only read.
+#[derive(Drop)]
+struct Setup {
+    alloc: Global,
+    checks: bool,
+}
 
 /// Does what the words ask for.
 ///
@@ -70,8 +77,14 @@ pub fn serve<S: Source, K: Sink, L: Ledger>(
         (K.taken sink.old) (K.taken sink.new) (K.sure_room sink.old) (steps.new - steps.old) }
 {
     match read_words(words) {
-        Ok(Mode::Run) => session(alloc, false, source, sink, steps),
-        Ok(Mode::Check) => session(alloc, true, source, sink, steps),
+        Ok(Mode::Run) => {
+            let checks = false;
+            session(Setup { alloc, checks }, source, sink, steps)
+        }
+        Ok(Mode::Check) => {
+            let checks = true;
+            session(Setup { alloc, checks }, source, sink, steps)
+        }
         Ok(Mode::Gen(number)) => generated(alloc, number, sink, steps),
         Err(_) => explain(sink),
     }
@@ -93,13 +106,13 @@ fn explain<K: Sink>(sink: &mut K) -> Status
 
 // Reads a session, whose loads are only read or are opened too, and answers it.
 fn session<S: Source, K: Sink, L: Ledger>(
-    alloc: Global,
-    checks: bool,
+    setup: Setup,
     source: &mut S,
     sink: &mut K,
     steps: &mut Steps<L>,
 ) -> Status
-    ensures serves { Serves (Some (asked_by checks)) result (S.rest source.old) (S.rest source.new)
+    ensures serves { Serves (Some (asked_by setup.checks)) result (S.rest source.old)
+        (S.rest source.new)
         (K.taken sink.old) (K.taken sink.new) (K.sure_room sink.old) }
     ensures read_cause { result ≡ Status.ReadFault
         → HasRisen (S.faults source.old) (S.faults source.new) }
@@ -109,12 +122,15 @@ fn session<S: Source, K: Sink, L: Ledger>(
     ensures write_count { K.faults sink.old ≤ K.faults sink.new }
     ensures sure { S.never_fails source.old → result ≢ Status.ReadFault }
     ensures counted { steps.old ≤ steps.new }
-    ensures evaluated { Evaluates (Some (asked_by checks)) result (S.rest source.old)
+    ensures evaluated { Evaluates (Some (asked_by setup.checks)) result (S.rest source.old)
         (S.rest source.new)
         (K.taken sink.old) (K.taken sink.new) (K.sure_room sink.old) (steps.new - steps.old) }
 {
-    match begin(alloc, checks) {
-        Ok(mut begun) => answer_all(alloc, begun.reader, &mut begun.run, source, sink, steps),
+    match begin(setup.alloc, setup.checks) {
+        Ok(mut begun) => {
+            let reader = begun.reader;
+            begun.run.answer_all(reader, source, sink, steps)
+        }
         Err(_) => Status::Memory,
     }
 }

@@ -14,7 +14,7 @@ returns-clause-summary g c =
     c.in_ok-summary_text.field-0
     ran.text
     c.answer_all-status.result
-    c.answer_all-status.new.run
+    c.answer_all-status.new.self
     _
     _
     _

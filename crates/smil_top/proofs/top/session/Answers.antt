@@ -5,24 +5,24 @@ use Rattle.smil_top.proofs.top.session.Goals as goal
 pub returns-in-Ok-clause-evaluated : goal.returns-in-Ok-clause-evaluated
 returns-in-Ok-clause-evaluated g c =
     Evaluates-ran
-    c.args.checks
+    c.args.setup.checks
     c.answer_all.result
-    c.answer_all.new.run
+    c.answer_all.new.self
     (g.S.Source.rest c.args.source.now)
     (g.S.Source.rest c.answer_all.new.source)
     (g.K.Sink.taken c.args.sink.now)
     (g.K.Sink.taken c.answer_all.new.sink)
     (g.K.Sink.sure_room c.args.sink.now)
     (c.answer_all.new.steps - c.args.steps.now)
-    (c.answer_all.ensures.evaluated c.args.checks c.in-Ok.ensures.run)
+    (c.answer_all.ensures.evaluated c.args.setup.checks c.in-Ok.ensures.run)
 
 pub returns-in-Ok-clause-serves : goal.returns-in-Ok-clause-serves
 returns-in-Ok-clause-serves g c = (returns-in-Ok-clause-evaluated g c).serves
 
 pub returns-in-Err-clause-serves : goal.returns-in-Err-clause-serves
 returns-in-Err-clause-serves g c =
-    Serves-nothing c.args.checks (g.S.Source.rest c.args.source.now) (g.K.Sink.taken c.args.sink.now) (g.K.Sink.sure_room c.args.sink.now)
+    Serves-nothing c.args.setup.checks (g.S.Source.rest c.args.source.now) (g.K.Sink.taken c.args.sink.now) (g.K.Sink.sure_room c.args.sink.now)
 
 pub returns-in-Err-clause-evaluated : goal.returns-in-Err-clause-evaluated
 returns-in-Err-clause-evaluated g c =
-    Evaluates-nothing c.args.checks (g.S.Source.rest c.args.source.now) (g.K.Sink.taken c.args.sink.now) (g.K.Sink.sure_room c.args.sink.now) (c.args.steps.now - c.args.steps.now)
+    Evaluates-nothing c.args.setup.checks (g.S.Source.rest c.args.source.now) (g.K.Sink.taken c.args.sink.now) (g.K.Sink.sure_room c.args.sink.now) (c.args.steps.now - c.args.steps.now)

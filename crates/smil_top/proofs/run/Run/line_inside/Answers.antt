@@ -13,7 +13,7 @@ use Rattle.smil_top.proofs.run.Run.line_inside.Goals.{in_default-via-in-Some-2+e
 
 pub returns-in-Some-clause-answers : goal.returns-in-Some-clause-answers
 returns-in-Some-clause-answers g c checks cut lines told line within read tells number shows =
-    let count : ℕ = c.args.number in
+    let count : ℕ = c.args.next.now.number in
     let is : IsText (Some c.in-Some.text.now) line = subst (λ o. Shows o line) c.in-Some.is shows in
     let same : line ≡ c.in-Some.text.now = is.0 in
     let short : length line ≤ LINE_BYTES = subst (λ zs. length zs ≤ LINE_BYTES) (sym same) is.1 in
@@ -37,7 +37,7 @@ returns-in-Some-clause-answers g c checks cut lines told line within read tells 
 pub returns-in_default-clause-answers : goal.returns-in_default-clause-answers
 returns-in_default-clause-answers g c checks cut lines told line within read tells number shows =
     let run : Run = c.args.self.now in
-    let count : ℕ = c.args.number in
+    let count : ℕ = c.args.next.now.number in
     let this : Numbered = record { number = count; text = line } in
     let more : LoadLines = record lines { nodes = lines.nodes ++ this ∷ [] } in
     let new : Run = record run { load = Some c.push.result } in

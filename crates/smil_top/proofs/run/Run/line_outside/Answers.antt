@@ -17,7 +17,7 @@ use Rattle.smil_top.proofs.run.Run.line_outside.Goals as goal
 pub returns-in-None-clause-answers : goal.returns-in-None-clause-answers
 returns-in-None-clause-answers g c checks cut told line out tells number shows =
     let run : Run = c.args.self.now in
-    let count : ℕ = c.args.number in
+    let count : ℕ = c.args.next.now.number in
     let before = g.K.Sink.taken c.args.sink.now in
     let after = g.K.Sink.taken c.tell.new.sink in
     let room = g.K.Sink.sure_room c.args.sink.now in
@@ -69,7 +69,7 @@ returns-in-None-clause-answers g c checks cut told line out tells number shows =
 pub returns-in-Some-clause-answers : goal.returns-in-Some-clause-answers
 returns-in-Some-clause-answers g c checks cut told line out tells number shows =
     let run : Run = c.args.self.now in
-    let count : ℕ = c.args.number in
+    let count : ℕ = c.args.next.now.number in
     let is : IsText (Some c.in-Some.text.now) line = subst (λ o. Shows o line) c.in-Some.is shows in
     let same : line ≡ c.in-Some.text.now = is.0 in
     let short : length line ≤ LINE_BYTES = subst (λ zs. length zs ≤ LINE_BYTES) (sym same) is.1 in
@@ -101,7 +101,7 @@ pub returns-in-None-clause-evaluated : goal.returns-in-None-clause-evaluated
 returns-in-None-clause-evaluated g c cut told line out tells number shows =
     let run : Run = c.args.self.now in
     let new = c.tell.new.self.counts in
-    let count : ℕ = c.args.number in
+    let count : ℕ = c.args.next.now.number in
     let steps : ℕ = c.args.steps.now in
     let long : LINE_BYTES < length line = subst (λ o. Shows o line) c.in-None.is shows in
     let fault : Fault = record { line = count; refusal = LongLine } in

@@ -6,8 +6,8 @@ use Rattle.smil_top.specs.Kept.{IsRunning}
 use Rattle.smil_top.proofs.Evaluated.{evaluated-fresh, evaluated-next}
 use Rattle.smil_top.proofs.Serving.{Nexts, Nexts-of, Hands, next-line, fault-open, HasRead, HasRead-fresh, IsServing-of, Wrote-fresh, Wrote-next, RanCounted-end, RanCounted-untold, Ran-too_long, Ran-fault, Ran-unwritten}
 use Rattle.smil_top.proofs.Writing.{on-err, risen-from}
-use Rattle.smil_top.proofs.reading.answer_all.Goals as goal
-use Rattle.smil_top.proofs.reading.answer_all.Goals.{in-Bytes, in-LongLine}
+use Rattle.smil_top.proofs.run.Run.answer_all.Goals as goal
+use Rattle.smil_top.proofs.run.Run.answer_all.Goals.{in-Bytes, in-LongLine}
 
 -- the line that the reader shows
 abbrev shown : Option (Bor (List ℕ)) → Option (List ℕ)
@@ -20,12 +20,12 @@ lines-init g c =
     let room = g.K.Sink.sure_room c.args.sink.now in
     record {
       read = record { came = []; answered = []; has = subst (λ r. HasRead r rest rest [] []) (sym c.requires.fresh) (HasRead-fresh rest) };
-      wrote = λ checks begun. Wrote-fresh checks c.args.run.now taken room begun;
+      wrote = λ checks begun. Wrote-fresh checks c.args.self.now taken room begun;
       reads = omega arith;
       writes = omega arith;
       sure = λ never. never;
       steps = omega arith;
-      evaluated = λ begun. evaluated-fresh c.args.run.now.counts c.args.steps.now;
+      evaluated = λ begun. evaluated-fresh c.args.self.now.counts c.args.steps.now;
     }
 
 pub returns-in-End-clause-evaluated : goal.returns-in-End-clause-evaluated
@@ -37,7 +37,7 @@ returns-in-End-clause-evaluated g c checks begun =
     let serving = IsServing-of
     checks
     c.lines.reader
-    c.lines.run
+    c.lines.self
     (rest c.args.source.now)
     (rest c.lines.source)
     (g.K.Sink.taken c.args.sink.now)
@@ -50,7 +50,7 @@ returns-in-End-clause-evaluated g c checks begun =
     checks
     c.lines.reader
     c.next.new.self
-    c.lines.run
+    c.lines.self
     c.end.new.run
     (rest c.args.source.now)
     (rest c.lines.source)
@@ -67,8 +67,8 @@ returns-in-End-clause-evaluated g c checks begun =
     c.end.ensures.ends
     (c.lines.steps - c.args.steps.now)
     (λ runs. c.end.ensures.evaluated (cut_of read.answered) serving.told c.args.steps.now c.lines.steps
-    (subst (λ k. IsRunning k c.lines.run (cut_of read.answered) serving.told) runs serving.writing.running)
-    (c.lines.invariant.evaluated (subst (λ k. IsRunning k c.args.run.now (cut_of []) untold) runs begun)))
+    (subst (λ k. IsRunning k c.lines.self (cut_of read.answered) serving.told) runs serving.writing.running)
+    (c.lines.invariant.evaluated (subst (λ k. IsRunning k c.args.self.now (cut_of []) untold) runs begun)))
 
 pub returns-in-End-clause-ran : goal.returns-in-End-clause-ran
 returns-in-End-clause-ran g c checks begun = (returns-in-End-clause-evaluated g c checks begun).ran
@@ -84,7 +84,7 @@ returns-in-InputTooLong-clause-ran g c checks begun =
     let serving = IsServing-of
     checks
     c.lines.reader
-    c.lines.run
+    c.lines.self
     (rest c.args.source.now)
     (rest c.lines.source)
     (g.K.Sink.taken c.args.sink.now)
@@ -97,8 +97,8 @@ returns-in-InputTooLong-clause-ran g c checks begun =
     checks
     c.lines.reader
     c.next.new.self
-    c.lines.run
-    c.lines.run
+    c.lines.self
+    c.lines.self
     (rest c.args.source.now)
     (rest c.lines.source)
     (rest c.next.new.source)
@@ -125,7 +125,7 @@ returns-in-ReadFault-clause-ran g c checks begun =
     let serving = IsServing-of
     checks
     c.lines.reader
-    c.lines.run
+    c.lines.self
     (rest c.args.source.now)
     (rest c.lines.source)
     (g.K.Sink.taken c.args.sink.now)
@@ -138,8 +138,8 @@ returns-in-ReadFault-clause-ran g c checks begun =
     checks
     c.lines.reader
     c.next.new.self
-    c.lines.run
-    c.lines.run
+    c.lines.self
+    c.lines.self
     (rest c.args.source.now)
     (rest c.lines.source)
     (rest c.next.new.source)
@@ -187,7 +187,7 @@ returns-then-is_err-clause-ran g c checks begun =
     ] in
     let n = next-line old new (rest c.args.source.now) (rest c.lines.source) (rest c.next.new.source) read.came read.answered read.has c.next.result text nexts hands in
     let w = c.lines.invariant.wrote checks begun in
-    let a = c.line.ensures.answers checks (cut_of read.answered) w.0 n.1 w.1.running (c.number.ensures.value ∙ n.4) n.3 in
+    let a = c.line.ensures.answers checks (cut_of read.answered) w.0 n.1 w.1.running (c.number-number.ensures.value ∙ n.4) n.3 in
     Ran-unwritten
     checks
     new
@@ -231,7 +231,7 @@ lines-preserved g c =
       read = record { came = n.0; answered = read.answered ++ n.1 ∷ []; has = n.2 };
       wrote = λ checks begun.
           let w = c.lines.invariant.wrote checks begun in
-          let a = c.line.ensures.answers checks (cut_of read.answered) w.0 n.1 w.1.running (c.number.ensures.value ∙ n.4) n.3 in
+          let a = c.line.ensures.answers checks (cut_of read.answered) w.0 n.1 w.1.running (c.number-number.ensures.value ∙ n.4) n.3 in
           Wrote-next
           checks
           new
@@ -265,7 +265,7 @@ lines-preserved g c =
           n.1
           c.args.steps.now
           c.line.new.steps
-          (c.line.ensures.evaluated (cut_of read.answered) w.0 n.1 w.1.running (c.number.ensures.value ∙ n.4) n.3 c.args.steps.now (c.lines.invariant.evaluated begun));
+          (c.line.ensures.evaluated (cut_of read.answered) w.0 n.1 w.1.running (c.number-number.ensures.value ∙ n.4) n.3 c.args.steps.now (c.lines.invariant.evaluated begun));
     }
 
 pub returns-then-is_err-clause-write_cause : goal.returns-then-is_err-clause-write_cause

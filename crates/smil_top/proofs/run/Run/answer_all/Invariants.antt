@@ -4,18 +4,18 @@ use Rattle.smil_top.specs.Cut.{cut_of}
 use Rattle.smil_top.specs.Transcript.{untold}
 use Rattle.smil_top.specs.Kept.{HasEvaluated, IsRunning}
 use Rattle.smil_top.proofs.Serving.{IsReading, Wrote}
-use Rattle.smil_top.proofs.reading.answer_all.Given as goal
+use Rattle.smil_top.proofs.run.Run.answer_all.Given as goal
 
 -- the lines so far are read and answered; counts of faults and of evaluations only rise
 abbrev pub invariant-lines : goal.invariant-lines
 invariant-lines g l = record {
   read : IsReading l.reader (g.S.Source.rest l.fn.source) (g.S.Source.rest l.source);
-  wrote : (checks : Bool) → IsRunning checks l.fn.run (cut_of []) untold → Wrote checks l.run (g.K.Sink.taken l.fn.sink) (g.K.Sink.taken l.sink) (g.K.Sink.sure_room l.fn.sink) (g.K.Sink.sure_room l.sink) read.answered;
+  wrote : (checks : Bool) → IsRunning checks l.fn.self (cut_of []) untold → Wrote checks l.self (g.K.Sink.taken l.fn.sink) (g.K.Sink.taken l.sink) (g.K.Sink.sure_room l.fn.sink) (g.K.Sink.sure_room l.sink) read.answered;
   reads : g.S.Source.faults l.fn.source ≤ g.S.Source.faults l.source;
   writes : g.K.Sink.faults l.fn.sink ≤ g.K.Sink.faults l.sink;
   sure : g.S.Source.never_fails l.fn.source → g.S.Source.never_fails l.source;
   steps : l.fn.steps ≤ l.steps;
-  evaluated : IsRunning false l.fn.run (cut_of []) untold → HasEvaluated l.run.counts (cut_of read.answered).whole l.fn.steps l.steps;
+  evaluated : IsRunning false l.fn.self (cut_of []) untold → HasEvaluated l.self.counts (cut_of read.answered).whole l.fn.steps l.steps;
 }
 
 -- each line has a number of its own, up to the limit
