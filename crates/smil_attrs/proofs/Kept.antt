@@ -131,7 +131,7 @@ without_stays in_seq kind attrs gone h = λ n. without_kept in_seq kind attrs go
 any_list : (in_seq : Bool) (items : List Item) → IsList in_seq items → IsList false items
 any_list in_seq items h = record { each = h.each; some = h.some; few = h.few; plain = λ f. absurd (false≢true f) }
 
-lists : (in_seq : Bool) (text : List ℕ) (r : Result (List Item) ListFault) → list_of in_seq text ≡ r → IfOk r (IsList in_seq)
+pub lists : (in_seq : Bool) (text : List ℕ) (r : Result (List Item) ListFault) → list_of in_seq text ≡ r → IfOk r (IsList in_seq)
 lists in_seq text (Ok items) e = list_is in_seq text items e
 lists in_seq text (Err fault) e = tt
 

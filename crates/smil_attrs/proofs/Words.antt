@@ -14,10 +14,10 @@ use Rattle.smil_lexis.proofs.Fronts.{Passes, passes_weaker}
 use Rattle.smil_lexis.proofs.Words.{passes_taken, initial_of_id}
 use Rattle.smil_lexis.proofs.Trims.{is_inked, untrimmed}
 
-id_inked : (b : ℕ) → is_of_id b ≡ true → is_inked b ≡ true
+pub id_inked : (b : ℕ) → is_of_id b ≡ true → is_inked b ≡ true
 id_inked b h = grind (arith, nat_tests)
 
-all_passes : (p : ℕ → Bool) (text : List ℕ) → prefix_len p text ≡ length text → Passes p text
+pub all_passes : (p : ℕ → Bool) (text : List ℕ) → prefix_len p text ≡ length text → Passes p text
 all_passes p text e = let all : take (prefix_len p text) text ≡ text = take_all (prefix_len p text) text (omega arith) in subst (Passes p) all (passes_taken p text)
 
 -- all of a text is an id

@@ -162,7 +162,7 @@ in_from h now J place (e ∷ es) c is = by_case (in_append c (coming_of h J now 
     by_case (inl i) later = (0, place, e, omega arith, refl, i)
     by_case (inr i) later = let at = later i in let same : at.1 ≡ suc place + at.0 = at.3 in (suc at.0, at.1, at.2, omega (arith, same), at.4, at.5)
 
-comings_at : (h : History) (now : ℤ) (place : ℕ) (es : List Node) (rows : List Row) (k n : ℕ) (e : Node) (r : Row) → HaveComings h now place es (map (λ (r : Row). r.comings) rows) → n ≡ place + k → slice_get es k ≡ Some e → slice_get rows k ≡ Some r → both r.comings.moved r.comings.repeat ≡ coming_of h (current_interval h now) now n e
+pub comings_at : (h : History) (now : ℤ) (place : ℕ) (es : List Node) (rows : List Row) (k n : ℕ) (e : Node) (r : Row) → HaveComings h now place es (map (λ (r : Row). r.comings) rows) → n ≡ place + k → slice_get es k ≡ Some e → slice_get rows k ≡ Some r → both r.comings.moved r.comings.repeat ≡ coming_of h (current_interval h now) now n e
 comings_at h now place [] rows k n e r is eq p q = absurd (cc)
 comings_at h now place (d ∷ ds) [] k n e r is eq p q = absurd is
 comings_at h now place (d ∷ ds) (x ∷ xs) zero n e r is eq p q =

@@ -50,7 +50,7 @@ no_more x y q = grind (arith, ints)
 not_due : (x y : ℤ) → (x +ℤ pos 1) ≤ℤ y → int_le y x ≡ false
 not_due x y q = grind (arith, ints)
 
-from_first : (n : ℕ) → int_le (pos 0) (pos n) ≡ true
+pub from_first : (n : ℕ) → int_le (pos 0) (pos n) ≡ true
 from_first n = grind (arith, ints)
 
 -- ---- what the mark goes back to, and what is kept

@@ -112,7 +112,7 @@ rises (suc n) from (x ∷ xs) q =
     both (int_le from x.moment) (moments_rise x.moment (take n xs)) (left (int_le from x.moment) (moments_rise x.moment xs) q)
     (rises n x.moment xs (right (int_le from x.moment) (moments_rise x.moment xs) q))
 
-all_first : (test : LogEntry → Bool) (n : ℕ) (log : List LogEntry) → list_all test log ≡ true → list_all test (take n log) ≡ true
+pub all_first : (test : LogEntry → Bool) (n : ℕ) (log : List LogEntry) → list_all test log ≡ true → list_all test (take n log) ≡ true
 all_first test zero log q = refl
 all_first test (suc n) [] q = q
 all_first test (suc n) (x ∷ xs) q = both (test x) (list_all test (take n xs)) (left (test x) (list_all test xs) q) (all_first test n xs (right (test x) (list_all test xs) q))
@@ -130,7 +130,7 @@ rises_one from (x ∷ xs) entry q l b =
     (rises_one x.moment xs entry (right (int_le from x.moment) (moments_rise x.moment xs) q)
     (left (int_le x.moment entry.moment) (is_logged_by entry.moment xs) b) (right (int_le x.moment entry.moment) (is_logged_by entry.moment xs) b))
 
-all_one : (test : LogEntry → Bool) (log : List LogEntry) (entry : LogEntry) → list_all test log ≡ true → test entry ≡ true → list_all test (log ++ entry ∷ []) ≡ true
+pub all_one : (test : LogEntry → Bool) (log : List LogEntry) (entry : LogEntry) → list_all test log ≡ true → test entry ≡ true → list_all test (log ++ entry ∷ []) ≡ true
 all_one test [] entry q t = both (test entry) true t refl
 all_one test (x ∷ xs) entry q t = both (test x) (list_all test (xs ++ entry ∷ [])) (left (test x) (list_all test xs) q) (all_one test xs entry (right (test x) (list_all test xs) q) t)
 

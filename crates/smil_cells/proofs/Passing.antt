@@ -31,7 +31,7 @@ later a n x q = grind (arith, ints)
 no_less : (x y : ℤ) → x ≤ℤ y → int_le x y ≡ true
 no_less x y l = grind (arith, ints)
 
-over : (a : ℕ) (v : ℤ) → pos a ≤ℤ v → (n : ℕ) × (v ≡ pos (a + n))
+pub over : (a : ℕ) (v : ℤ) → pos a ≤ℤ v → (n : ℕ) × (v ≡ pos (a + n))
 over a (pos k) l = (k - a, ap pos (omega (arith, ints, l)))
 over a (negsuc k) l = absurd (omega (arith, ints, l))
 

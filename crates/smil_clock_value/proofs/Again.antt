@@ -14,7 +14,7 @@ use Rattle.smil_lexis.proofs.Decimals.{decimal_passes, number_of_decimal}
 no_colon : (b : ℕ) → is_ascii_digit b ≡ true → not (eqb b colon) ≡ true
 no_colon b h = grind (arith, nat_tests)
 
-no_point : (b : ℕ) → is_ascii_digit b ≡ true → not (eqb b point) ≡ true
+pub no_point : (b : ℕ) → is_ascii_digit b ≡ true → not (eqb b point) ≡ true
 no_point b h = grind (arith, nat_tests)
 
 of_number : (b : ℕ) → is_ascii_digit b ≡ true → is_of_number b ≡ true

@@ -75,7 +75,7 @@ key_cmp_antisymmetric a b e =
 
 -- ---- the laws
 
-less_from : (o : Ordering) → is_lt o ≡ true → o ≡ Less
+pub less_from : (o : Ordering) → is_lt o ≡ true → o ≡ Less
 less_from Less e = refl
 less_from Equal e = absurd (cc)
 less_from Greater e = absurd (cc)

@@ -18,11 +18,11 @@ use Rattle.smil_due.proofs.Before.{key_cmp_antisymmetric, irreflexive, asymmetri
 abbrev pub is_key : Key → Key → Bool
 is_key = eq_by_cmp key_cmp
 
-or_cond : (b c : Bool) → cond b true c ≡ (b || c)
+pub or_cond : (b c : Bool) → cond b true c ≡ (b || c)
 or_cond true c = refl
 or_cond false c = refl
 
-and_cond : (b c : Bool) → cond b false c ≡ (not b && c)
+pub and_cond : (b c : Bool) → cond b false c ≡ (not b && c)
 and_cond true c = refl
 and_cond false c = refl
 

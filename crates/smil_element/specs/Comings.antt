@@ -35,7 +35,7 @@ module _ (h k : History) (m n : ℤ) (same : IsSame h m k n) where
       → HaveComings k n 0 (elements k.nodes) cs
   comings_stay cs is = of_nodes k.nodes cs same.nodes (from_stays 0 (elements h.nodes) cs is)
 
-  all_stays : (place : ℕ) (es : List Node) → coming_from k (current_interval k n) n place es
+  pub all_stays : (place : ℕ) (es : List Node) → coming_from k (current_interval k n) n place es
       ≡ coming_from h (current_interval h m) m place es
   all_stays place [] = refl
   all_stays place (e ∷ es) =

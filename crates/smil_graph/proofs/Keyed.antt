@@ -24,11 +24,11 @@ use Rattle.smil_graph.proofs.Lists.{lists_push}
 use Rattle.smil_graph.proofs.Nodes.{there_below}
 use Rattle.smil_graph.proofs.Rows.{take_item}
 
-right : (t : Bool) → t ≡ (t || false)
+pub right : (t : Bool) → t ≡ (t || false)
 right true = refl
 right false = refl
 
-none_right : (t : Bool) → (t && false) ≡ false
+pub none_right : (t : Bool) → (t && false) ≡ false
 none_right true = refl
 none_right false = refl
 

@@ -6,7 +6,7 @@ use Rattle.std.proofs.lemmas.Grind.{common_steps}
 use Rattle.smil_graph.specs.Kept.{AreRanks}
 use Rattle.smil_graph.proofs.Nodes.{drop_there}
 
-position_step : (t : ℕ → Bool) (x : ℕ) (xs : List ℕ) → position t (x ∷ xs) ≡ cond (t x) (Some 0) (option_map suc (position t xs))
+pub position_step : (t : ℕ → Bool) (x : ℕ) (xs : List ℕ) → position t (x ∷ xs) ≡ cond (t x) (Some 0) (option_map suc (position t xs))
 position_step t x xs = grind (arith, common_steps)
 
 -- the places of what the list has from a place on

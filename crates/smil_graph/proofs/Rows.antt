@@ -43,7 +43,7 @@ take_item [] k item q = cc
 take_item (x ∷ xs) zero item q = let same : x ≡ item = cc in ap (λ y. y ∷ []) same
 take_item (x ∷ xs) (suc k) item q = ap (λ ys. x ∷ ys) (take_item xs k item q)
 
-assoc : (a b c : Bool) → ((a || b) || c) ≡ (a || (b || c))
+pub assoc : (a b c : Bool) → ((a || b) || c) ≡ (a || (b || c))
 assoc true b c = refl
 assoc false b c = refl
 

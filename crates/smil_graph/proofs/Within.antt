@@ -31,7 +31,7 @@ same_truth true b f g = sym (f refl)
 same_truth false true f g = g refl
 same_truth false false f g = refl
 
-filter_members : (p q : ℕ → Bool) (xs : List ℕ) → ((z : ℕ) → has xs z ≡ true → p z ≡ q z) → filter p xs ≡ filter q xs
+pub filter_members : (p q : ℕ → Bool) (xs : List ℕ) → ((z : ℕ) → has xs z ≡ true → p z ≡ q z) → filter p xs ≡ filter q xs
 filter_members p q [] same = refl
 filter_members p q (x ∷ xs) same =
     ap (λ t. cond t (x ∷ filter p xs) (filter p xs)) (same x (or_left _ _ (eq-eqb x x refl)))

@@ -10,7 +10,7 @@ default_free [] j d e inside = absurd (omega (arith, inside))
 default_free (x ∷ xs) zero d e inside = refl
 default_free (x ∷ xs) (suc j) d e inside = default_free xs j d e (omega (arith, inside))
 
-clash : {G : Type 0} (b : Bool) → b ≡ true → b ≡ false → G
+pub clash : {G : Type 0} (b : Bool) → b ≡ true → b ≡ false → G
 clash true p q = cc
 clash false p q = cc
 

@@ -25,7 +25,7 @@ le_transitive (negsuc a) b (pos c) q r = refl
 le_transitive (negsuc a) (pos b) (negsuc c) q r = never (sym r)
 le_transitive (negsuc a) (negsuc b) (negsuc c) q r = le-leb c a (le_trans (leb-true c b r) (leb-true b a q))
 
-le_exact : (a b : ℤ) → int_le a b ≡ true → int_le b a ≡ true → a ≡ b
+pub le_exact : (a b : ℤ) → int_le a b ≡ true → int_le b a ≡ true → a ≡ b
 le_exact (pos a) (pos b) q r = ap pos (le_antisymm (leb-true a b q) (leb-true b a r))
 le_exact (pos a) (negsuc b) q r = never (sym q)
 le_exact (negsuc a) (pos b) q r = never (sym r)
@@ -60,7 +60,7 @@ time_transitive Unresolved (At y) u q r = never (sym q)
 time_transitive Unresolved Indefinite u q r = never (sym q)
 time_transitive Unresolved Unresolved u q r = r
 
-time_exact : (s t : Time) → time_le s t ≡ true → time_le t s ≡ true → s ≡ t
+pub time_exact : (s t : Time) → time_le s t ≡ true → time_le t s ≡ true → s ≡ t
 time_exact (At x) (At y) q r = ap At (le_exact x y q r)
 time_exact (At x) Indefinite q r = never (sym r)
 time_exact (At x) Unresolved q r = never (sym r)

@@ -36,7 +36,7 @@ element_in (n ∷ ns) s e d q = step (is_element n) (n.serial == s) refl q (elem
         cc
     step false false k r later = later r
 
-some_of : (o : Option Node) → is_some o ≡ true → (n : Node) × (o ≡ Some n)
+pub some_of : (o : Option Node) → is_some o ≡ true → (n : Node) × (o ≡ Some n)
 some_of None q = cc
 some_of (Some n) q = (n, refl)
 

@@ -33,7 +33,7 @@ use Rattle.std.specs.List.{AllByRecursion}
 
 -- ---- the places that a diary names
 
-step_weaker : (n j : ℕ) (step : Step) → n ≤ j → IsNamedBelow n step → IsNamedBelow j step
+pub step_weaker : (n j : ℕ) (step : Step) → n ≤ j → IsNamedBelow n step → IsNamedBelow j step
 step_weaker n j (Logged place) l p = omega (arith, l, p)
 step_weaker n j (Began who begin) l p = tt
 step_weaker n j (Repeated who start) l p = tt
@@ -44,7 +44,7 @@ step_weaker n j (Resumed who) l p = tt
 step_weaker n j (Deferred who begin) l p = tt
 step_weaker n j (Passed who begin) l p = tt
 
-names_weaker : (n j : ℕ) (ds : List Entry) → n ≤ j → NamesBelow n ds → NamesBelow j ds
+pub names_weaker : (n j : ℕ) (ds : List Entry) → n ≤ j → NamesBelow n ds → NamesBelow j ds
 names_weaker n j [] l named = tt
 names_weaker n j (x ∷ xs) l named = (step_weaker n j x.step l named.0, names_weaker n j xs l named.1)
 
@@ -116,7 +116,7 @@ none_logged (x ∷ xs) named = ap (λ t. cond t (x ∷ filter (λ (x : Entry). i
     by_step (Deferred who begin) p = refl
     by_step (Passed who begin) p = refl
 
-logged_append : (xs ys : List Entry) → logged (xs ++ ys) ≡ logged xs + logged ys
+pub logged_append : (xs ys : List Entry) → logged (xs ++ ys) ≡ logged xs + logged ys
 logged_append xs ys = ap length (filter-append (λ (x : Entry). is_logged x.step) xs ys) ∙ length-append (filter (λ (x : Entry). is_logged x.step) xs) (filter (λ (x : Entry). is_logged x.step) ys)
 
 -- ---- a step does not go back
@@ -401,7 +401,7 @@ module _ (c : Course) (q : Progress) where
   next_adds : (r : Progress) → next_step c q ≡ Some r → Adds q r
   next_adds r e = key_adds (first_coming (coming (history_at c q) (pos q.moment))) r e
 
-one_more : (c : Course) (i : ℕ) (x q r : Progress) → after_steps c i x ≡ q → next_step c q ≡ Some r → after_steps c (suc i) x ≡ r
+pub one_more : (c : Course) (i : ℕ) (x q r : Progress) → after_steps c i x ≡ q → next_step c q ≡ Some r → after_steps c (suc i) x ≡ r
 one_more c zero x q r e n = ap (λ o. option_map_or (λ s. s) o x) (ap (next_step c) e ∙ n)
 one_more c (suc i) x q r e n = by_next (next_step c x) refl e (λ y. one_more c i y q r)
   where

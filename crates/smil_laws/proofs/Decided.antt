@@ -85,7 +85,7 @@ comes c (suc k) q = by_next (next_step c q) refl (comes c k)
         by_far (inr far) more = inr (omega (arith, far, more))
 
 -- where it has ended it stays
-stays : (c : Course) (k : ℕ) (q : Progress) → next_step c q ≡ None → after_steps c k q ≡ q
+pub stays : (c : Course) (k : ℕ) (q : Progress) → next_step c q ≡ None → after_steps c k q ≡ q
 stays c zero q e = refl
 stays c (suc k) q e = ap (λ o. option_map_or (λ r. after_steps c k r) o q) e
 

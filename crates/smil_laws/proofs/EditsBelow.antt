@@ -64,17 +64,17 @@ drop_map f [] = refl
 drop_map f (n ∷ ns) = refl
 
 module _ (change : Attrs → Attrs) (x : ℕ) where
-  abbrev edit : Node → Node
+  abbrev pub edit : Node → Node
   edit = λ (n : Node). cond (n.serial == x) (record n { attrs = change n.attrs }) n
 
-  serial_stays : (n : Node) → (edit n).serial ≡ n.serial
+  pub serial_stays : (n : Node) → (edit n).serial ≡ n.serial
   serial_stays n = by_test (n.serial == x)
     where
       by_test : (t : Bool) → (cond t (record n { attrs = change n.attrs }) n).serial ≡ n.serial
       by_test true = refl
       by_test false = refl
 
-  parent_stays : (n : Node) → (edit n).parent ≡ n.parent
+  pub parent_stays : (n : Node) → (edit n).parent ≡ n.parent
   parent_stays n = by_test (n.serial == x)
     where
       by_test : (t : Bool) → (cond t (record n { attrs = change n.attrs }) n).parent ≡ n.parent
@@ -88,7 +88,7 @@ module _ (change : Attrs → Attrs) (x : ℕ) where
       by_test true = refl
       by_test false = refl
 
-  upwards_edit : (rs : List Node) (s : ℕ) → upwards (map edit rs) s ≡ map edit (upwards rs s)
+  pub upwards_edit : (rs : List Node) (s : ℕ) → upwards (map edit rs) s ≡ map edit (upwards rs s)
   upwards_edit [] s = refl
   upwards_edit (n ∷ before) s = step (n.serial == s) refl (upwards_edit before n.parent) (upwards_edit before s)
     where
@@ -173,7 +173,7 @@ within t u (n ∷ ns) f = step (t n) (u n) refl (f n) (within t u ns f)
     step false true e g q = q ∙ sym (ap (λ b. cond b (n ∷ filter t (filter u ns)) (filter t (filter u ns))) e)
     step false false e g q = q
 
-keeps_list : (kept : ℕ → Bool) (ms : List Node) → AllByRecursion (λ (n : Node). kept n.serial ≡ true → kept n.parent ≡ true) ms → KeepsParents kept ms
+pub keeps_list : (kept : ℕ → Bool) (ms : List Node) → AllByRecursion (λ (n : Node). kept n.serial ≡ true → kept n.parent ≡ true) ms → KeepsParents kept ms
 keeps_list kept [] each = tt
 keeps_list kept (m ∷ ms) each = (each.0, keeps_list kept ms each.1)
 
@@ -301,7 +301,7 @@ none_above s x (n ∷ before) d each = step (n.serial == s) refl (none_above n.p
     step true e above here = or_from _ _ (ap (λ r. r == x) (eqb-true n.serial s e) ∙ d) above
     step false e above here = here
 
-own_parents : (rs : List Node) → ParentsBefore rs → AllByRecursion (λ (m : Node). m.parent == m.serial ≡ false) rs
+pub own_parents : (rs : List Node) → ParentsBefore rs → AllByRecursion (λ (m : Node). m.parent == m.serial ≡ false) rs
 own_parents [] first = tt
 own_parents (m ∷ ms) first = (first.0, own_parents ms first.2)
 
@@ -309,7 +309,7 @@ middle : (P : Node → Type 0) (xs : List Node) (n : Node) (ys : List Node) → 
 middle P [] n ys each = each.0
 middle P (x ∷ xs) n ys each = middle P xs n ys each.1
 
-along_each : (P : Node → Type 0) (xs ys : List Node) → xs ≡ ys → AllByRecursion P xs → AllByRecursion P ys
+pub along_each : (P : Node → Type 0) (xs ys : List Node) → xs ≡ ys → AllByRecursion P xs → AllByRecursion P ys
 along_each P xs ys e each = rw (← e) each
 
 module _ (ns : List Node) (i : ℕ) (fresh : Node) (parent : Node) (unused : AllByRecursion (λ (n : Node). (n.serial == fresh.serial ≡ false) × (n.parent == fresh.serial ≡ false)) ns) (o : IsOrdered (insert ns i fresh)) (under : time_parent (insert ns i fresh) fresh.serial ≡ Some parent) where

@@ -73,10 +73,10 @@ module _ (h : History) (J K : ℕ → Option Interval) (now : ℤ) (e : Node) wh
 
   -- ---- the implicit duration
 
-  same_child : (c : Node) → J c.serial ≡ K c.serial → child_end h J e c ≡ child_end h K e c
+  pub same_child : (c : Node) → J c.serial ≡ K c.serial → child_end h J e c ≡ child_end h K e c
   same_child c p = rw p
 
-  same_children_in : (test : Node → Bool) (ns : List Node) → ((s : ℕ) → list_any (λ (c : Node). (c.serial == s) && test c) ns ≡ true → J s ≡ K s) → map (child_end h J e) (filter test ns) ≡ map (child_end h K e) (filter test ns)
+  pub same_children_in : (test : Node → Bool) (ns : List Node) → ((s : ℕ) → list_any (λ (c : Node). (c.serial == s) && test c) ns ≡ true → J s ≡ K s) → map (child_end h J e) (filter test ns) ≡ map (child_end h K e) (filter test ns)
   same_children_in test [] f = refl
   same_children_in test (n ∷ ns) f = step (test n) (λ t. f n.serial (or_left _ _ (and_from _ _ (eq-eqb n.serial n.serial refl) t))) (same_children_in test ns (λ s t. f s (or_right _ _ t)))
     where
@@ -84,16 +84,16 @@ module _ (h : History) (J K : ℕ → Option Interval) (now : ℤ) (e : Node) wh
       step true p q = ap (λ x. x ∷ map (child_end h J e) (filter test ns)) (same_child n (p refl)) ∙ ap (λ xs. child_end h K e n ∷ xs) q
       step false p q = q
 
-  same_container : ((s : ℕ) → list_any (λ (c : Node). (c.serial == s) && is_time_child h.nodes e.serial c) h.nodes ≡ true → J s ≡ K s) → container_implicit h J e ≡ container_implicit h K e
+  pub same_container : ((s : ℕ) → list_any (λ (c : Node). (c.serial == s) && is_time_child h.nodes e.serial c) h.nodes ≡ true → J s ≡ K s) → container_implicit h J e ≡ container_implicit h K e
   same_container f = rw (same_children_in (is_time_child h.nodes e.serial) h.nodes f)
 
-  same_implicit : (k : Kind) → ((s : ℕ) → list_any (λ (c : Node). (c.serial == s) && is_time_child h.nodes e.serial c) h.nodes ≡ true → J s ≡ K s) → implicit_of h J e k ≡ implicit_of h K e k
+  pub same_implicit : (k : Kind) → ((s : ℕ) → list_any (λ (c : Node). (c.serial == s) && is_time_child h.nodes e.serial c) h.nodes ≡ true → J s ≡ K s) → implicit_of h J e k ≡ implicit_of h K e k
   same_implicit kind.Par f = same_container f
   same_implicit kind.Seq f = same_container f
   same_implicit kind.Excl f = same_container f
   same_implicit _ f = refl
 
-  same_stated : (t : Bool) → (t ≡ true → implicit_duration h J e ≡ implicit_duration h K e) → cond t (implicit_duration h J e) (stated_duration e.attrs.dur) ≡ cond t (implicit_duration h K e) (stated_duration e.attrs.dur)
+  pub same_stated : (t : Bool) → (t ≡ true → implicit_duration h J e ≡ implicit_duration h K e) → cond t (implicit_duration h J e) (stated_duration e.attrs.dur) ≡ cond t (implicit_duration h K e) (stated_duration e.attrs.dur)
   same_stated true f = f refl
   same_stated false f = refl
 

@@ -33,7 +33,7 @@ use Rattle.smil_laws.specs.Same.{IsSame, LogMayBeLonger}
 
 -- ---- the places that the diary names
 
-get_longer : (log more : List LogEntry) (place : ℕ) → place < length log → slice_get (log ++ more) place ≡ slice_get log place
+pub get_longer : (log more : List LogEntry) (place : ℕ) → place < length log → slice_get (log ++ more) place ≡ slice_get log place
 get_longer [] more place l = absurd (omega (arith, l))
 get_longer (x ∷ xs) more zero l = refl
 get_longer (x ∷ xs) more (suc place) l = get_longer xs more place (omega (arith, l))

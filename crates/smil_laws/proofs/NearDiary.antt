@@ -31,7 +31,7 @@ use Rattle.smil_laws.proofs.NearComing.{coming_is_near}
 near_pos : (n m : ℕ) → n ≤ m → pos m ≤ℤ HORIZON → IsNear (pos n)
 near_pos n m l near = record { low = grind (arith, ints); high = grind (arith, ints) }
 
-elapsed_within : (h : History) (s m : ℕ) → elapsed h s m ≤ m
+pub elapsed_within : (h : History) (s m : ℕ) → elapsed h s m ≤ m
 elapsed_within h s zero = omega arith
 elapsed_within h s (suc m) = step (stands_by h.nodes (until (pos m) h.diary) s) (elapsed_within h s m)
   where

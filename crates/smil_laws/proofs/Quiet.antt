@@ -28,7 +28,7 @@ same_later h m first settled = record {
 
 -- ---- entries up to a moment are entries up to the next
 
-filter_shorter : (p : Entry → Bool) (xs : List Entry) → length (filter p xs) ≤ length xs
+pub filter_shorter : (p : Entry → Bool) (xs : List Entry) → length (filter p xs) ≤ length xs
 filter_shorter p [] = omega arith
 filter_shorter p (x ∷ xs) = step (p x) (filter_shorter p xs)
   where

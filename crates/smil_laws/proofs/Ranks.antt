@@ -16,7 +16,7 @@ use Rattle.smil_laws.proofs.Reached.{found_any, child_is_all, before_is_all, syn
 
 -- ---- lists
 
-filter_has : (p : ℕ → Bool) (xs : List ℕ) (y : ℕ) → has (filter p xs) y ≡ true → (has xs y ≡ true) × (p y ≡ true)
+pub filter_has : (p : ℕ → Bool) (xs : List ℕ) (y : ℕ) → has (filter p xs) y ≡ true → (has xs y ≡ true) × (p y ≡ true)
 filter_has p [] y q = cc
 filter_has p (x ∷ xs) y q = keep (p x) refl q (filter_has p xs y)
   where
@@ -28,7 +28,7 @@ filter_has p (x ∷ xs) y q = keep (p x) refl q (filter_has p xs y)
         by_case (inr d) = (or_right _ _ (later d).0, (later d).1)
     keep false e r later = (or_right _ _ (later r).0, (later r).1)
 
-any_elem : (f : ℕ → Bool) (xs : List ℕ) → list_any f xs ≡ true → (w : ℕ) × (has xs w ≡ true) × (f w ≡ true)
+pub any_elem : (f : ℕ → Bool) (xs : List ℕ) → list_any f xs ≡ true → (w : ℕ) × (has xs w ≡ true) × (f w ≡ true)
 any_elem f [] q = cc
 any_elem f (x ∷ xs) q = by_case (or_cases (f x) (list_any f xs) q) (any_elem f xs)
   where
@@ -155,7 +155,7 @@ upwards_le (n ∷ before) s = step (n.serial == s) (upwards_le before n.parent) 
     step true l r = omega (arith, l)
     step false l r = omega (arith, r)
 
-nodes_le : (p : Node → Bool) (ns : List Node) → length (filter p ns) ≤ length ns
+pub nodes_le : (p : Node → Bool) (ns : List Node) → length (filter p ns) ≤ length ns
 nodes_le p [] = omega arith
 nodes_le p (n ∷ ns) = step (p n) (nodes_le p ns)
   where

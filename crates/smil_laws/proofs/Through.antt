@@ -116,7 +116,7 @@ begun_at : (p : ℕ) (m : ℤ) (steps : List Step) → has_begun (at_moment m st
 begun_at p m [] = refl
 begun_at p m (step ∷ steps) = ap (λ t. is_begin_of p step || t) (begun_at p m steps)
 
-at_append : (m : ℤ) (xs ys : List Step) → at_moment m (xs ++ ys) ≡ at_moment m xs ++ at_moment m ys
+pub at_append : (m : ℤ) (xs ys : List Step) → at_moment m (xs ++ ys) ≡ at_moment m xs ++ at_moment m ys
 at_append m [] ys = refl
 at_append m (x ∷ xs) ys = ap (λ zs. record { moment = m; step = x } ∷ zs) (at_append m xs ys)
 
@@ -140,7 +140,7 @@ closes p m steps e =
 -- ---- steps from behind
 
 -- the diary after more steps is the one before with entries appended
-more_added : (c : Course) (k : ℕ) (q : Progress) → (added : List Entry) × ((after_steps c k q).diary ≡ q.diary ++ added)
+pub more_added : (c : Course) (k : ℕ) (q : Progress) → (added : List Entry) × ((after_steps c k q).diary ≡ q.diary ++ added)
 more_added c zero q = ([], sym (append_none q.diary))
 more_added c (suc k) q = by_next (next_step c q) refl (more_added c k)
   where

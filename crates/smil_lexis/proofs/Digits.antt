@@ -39,7 +39,7 @@ weighs sum scale i digits total lt so_far =
     let one : weight scale (drop i digits) ≡ (get_or digits i 0 - 48) * scale + weight (scale / 10) (drop (i + 1) digits) = rw (drop-cons digits i 0, add-one) refl in
     omega arith
 
-digit_below : (b : ℕ) → is_ascii_digit b ≡ true → b - 48 ≤ 9
+pub digit_below : (b : ℕ) → is_ascii_digit b ≡ true → b - 48 ≤ 9
 digit_below b e = grind (arith, nat_tests)
 
 below-either : (t : Bool) (x : Option ℕ) (limit : ℕ) → (t ≡ true → IfSome x (λ m. m < limit)) → IfSome (cond t x None) (λ m. m < limit)

@@ -34,15 +34,15 @@ use Rattle.smil_grammar.specs.Nodes.{is_space, is_of_kind, is_named, Written, at
 use Rattle.smil_outline.specs.Steps.{StandsWithin, AllWithin, IsInLine, IsNear}
 
 -- how long a text is that was cut into these pieces, and one more
-abbrev joined_len : List (List ℕ) → ℕ
+abbrev pub joined_len : List (List ℕ) → ℕ
 joined_len [] = 0
 joined_len (piece ∷ pieces) = length piece + 1 + joined_len pieces
 
-onto_len : (x : ℕ) (pieces : List (List ℕ)) → 0 < joined_len pieces → joined_len (onto_first x pieces) ≡ 1 + joined_len pieces
+pub onto_len : (x : ℕ) (pieces : List (List ℕ)) → 0 < joined_len pieces → joined_len (onto_first x pieces) ≡ 1 + joined_len pieces
 onto_len x [] some = absurd (omega arith)
 onto_len x (piece ∷ pieces) some = omega arith
 
-split_len : (k : ℕ) (text : List ℕ) → joined_len (slice_split (λ b. eqb b k) text) ≡ length text + 1
+pub split_len : (k : ℕ) (text : List ℕ) → joined_len (slice_split (λ b. eqb b k) text) ≡ length text + 1
 split_len k [] = refl
 split_len k (b ∷ text) =
     let rest : joined_len (slice_split (λ b. eqb b k) text) ≡ length text + 1 = split_len k text in
@@ -52,20 +52,20 @@ split_len k (b ∷ text) =
 
 -- ---- lists
 
-abbrev ListPlace : ℕ → ListFault → Type 0
+abbrev pub ListPlace : ℕ → ListFault → Type 0
 ListPlace m (list_fault.Bad place) = place ≤ m
 ListPlace m (list_fault.Unsupported place) = place ≤ m
 ListPlace m _ = Unit {0}
 
-after : {A B E : Type 0} (P : E → Type 0) (r : Result A E) (f : A → Result B E) → IfErr r P → ((x : A) → IfErr (f x) P) → IfErr (r >>= f) P
+pub after : {A B E : Type 0} (P : E → Type 0) (r : Result A E) (f : A → Result B E) → IfErr r P → ((x : A) → IfErr (f x) P) → IfErr (r >>= f) P
 after P (Ok x) f h k = k x
 after P (Err e) f h k = h
 
-first_near : (m place : ℕ) (first : Option ℕ) → place ≤ m → IfSome first (λ p. p ≤ m) → unwrap_or first place ≤ m
+pub first_near : (m place : ℕ) (first : Option ℕ) → place ≤ m → IfSome first (λ p. p ≤ m) → unwrap_or first place ≤ m
 first_near m place None le h = le
 first_near m place (Some p) le h = h
 
-item_near : (m : ℕ) (first : Option ℕ) (place : ℕ) (r : Result Item ItemFault) → place ≤ m → IfSome first (λ p. p ≤ m) → IfErr (item_at first place r) (ListPlace m)
+pub item_near : (m : ℕ) (first : Option ℕ) (place : ℕ) (r : Result Item ItemFault) → place ≤ m → IfSome first (λ p. p ≤ m) → IfErr (item_at first place r) (ListPlace m)
 item_near m first place (Ok x) le h = tt
 item_near m first place (Err item_fault.Bad) le h = first_near m place first le h
 item_near m first place (Err item_fault.Unsupported) le h = le
@@ -95,19 +95,19 @@ list_near true text =
 
 -- ---- values
 
-abbrev AttrPlace : ℕ → AttrFault → Type 0
+abbrev pub AttrPlace : ℕ → AttrFault → Type 0
 AttrPlace m (attr_fault.UnsupportedValue place) = place ≤ m
 AttrPlace m (attr_fault.BadValue place) = place ≤ m
 AttrPlace m _ = Unit {0}
 
-of_list_near : (m : ℕ) (made : List Item → Attr) (r : Result (List Item) ListFault) → IfErr r (ListPlace m) → IfErr (of_list made r) (AttrPlace m)
+pub of_list_near : (m : ℕ) (made : List Item → Attr) (r : Result (List Item) ListFault) → IfErr r (ListPlace m) → IfErr (of_list made r) (AttrPlace m)
 of_list_near m made (Ok items) h = tt
 of_list_near m made (Err (list_fault.Bad place)) h = h
 of_list_near m made (Err (list_fault.Unsupported place)) h = h
 of_list_near m made (Err list_fault.TooManyItems) h = tt
 of_list_near m made (Err list_fault.Memory) h = tt
 
-of_value_near : {A : Type 0} (m : ℕ) (made : A → Attr) (value : Option A) → IfErr (of_value made value) (AttrPlace m)
+pub of_value_near : {A : Type 0} (m : ℕ) (made : A → Attr) (value : Option A) → IfErr (of_value made value) (AttrPlace m)
 of_value_near m made None = omega arith
 of_value_near m made (Some x) = tt
 
@@ -139,10 +139,10 @@ plain_near in_seq name.To text = of_value_near _ attr.To (kept_of text)
 value_near : (in_seq : Bool) (n : AttrName) (text : List ℕ) → IfErr (value_of in_seq n text) (AttrPlace (length text + 1))
 value_near in_seq n text = cond_both (is_other_value n (trim text)) (Err (attr_fault.UnsupportedValue 0)) (plain_value_of in_seq n text) (λ r. IfErr r (AttrPlace (length text + 1))) (λ e. omega arith) (λ e. plain_near in_seq n text)
 
-unnamed_near : (m : ℕ) (word : List ℕ) → AttrPlace m (unnamed word)
+pub unnamed_near : (m : ℕ) (word : List ℕ) → AttrPlace m (unnamed word)
 unnamed_near m word = cond_both (is_other_name word) attr_fault.UnsupportedName attr_fault.UnknownAttribute (AttrPlace m) (λ e. tt) (λ e. tt)
 
-name_near : (m : ℕ) (k : Kind) (word : List ℕ) (called : Option AttrName) → IfErr (name_or k word called) (AttrPlace m)
+pub name_near : (m : ℕ) (k : Kind) (word : List ℕ) (called : Option AttrName) → IfErr (name_or k word called) (AttrPlace m)
 name_near m k word None = unnamed_near m word
 name_near m k word (Some n) = cond_both (has k n) (Ok n) (Err attr_fault.UnknownAttribute) (λ r. IfErr r (AttrPlace m)) (λ e. tt) (λ e. tt)
 
@@ -151,7 +151,7 @@ attribute_near in_seq k word value = after (AttrPlace (length value + 1)) (attr_
 
 -- ---- attributes of a line
 
-abbrev FaultWithin : ℕ → NodeFault → Type 0
+abbrev pub FaultWithin : ℕ → NodeFault → Type 0
 FaultWithin n (fault.Unsupported column) = column ≤ n
 FaultWithin n (fault.UnknownAttribute column) = column ≤ n
 FaultWithin n (fault.BadValue column) = column ≤ n
@@ -249,11 +249,11 @@ saved_in_line line le =
     fits None h = tt
     fits (Some text) h = omega (arith, h, le, length-drop (prefix_len is_of_kind line) line, length-take (prefix_len is_of_kind line) line)
 
-kind_or_near : (n : ℕ) (word : List ℕ) (called : Option Kind) → 1 ≤ n → IfErr (kind_or word called) (FaultWithin n)
+pub kind_or_near : (n : ℕ) (word : List ℕ) (called : Option Kind) → 1 ≤ n → IfErr (kind_or word called) (FaultWithin n)
 kind_or_near n word (Some k) le = tt
 kind_or_near n word None le = cond_both (is_other_kind word) (Err (fault.Unsupported 1)) (Err fault.BadOutline) (λ r. IfErr r (FaultWithin n)) (λ e. le) (λ e. tt)
 
-kind_shape_near : (n : ℕ) (shape : Option Shape) → 1 ≤ n → IfErr (kind_of_shape shape) (FaultWithin n)
+pub kind_shape_near : (n : ℕ) (shape : Option Shape) → 1 ≤ n → IfErr (kind_of_shape shape) (FaultWithin n)
 kind_shape_near n None le = tt
 kind_shape_near n (Some shape) le = cond_both (repeats shape.attributes) (Err fault.BadOutline) (kind_or shape.kind (kind_called shape.kind)) (λ r. IfErr r (FaultWithin n)) (λ e. tt) (λ e. kind_or_near n shape.kind (kind_called shape.kind) le)
 

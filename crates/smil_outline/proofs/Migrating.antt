@@ -18,7 +18,7 @@ use Rattle.smil_outline.specs.Steps.{text_of}
 use Rattle.smil_outline.proofs.Reading.{made as node_made}
 
 -- what goes on the same way has the same outcome
-then_same : {A B : Type 0} (r q : Result A Refusal) (f g : A → Result B Refusal) → meets_no_limit (r >>= f) ≡ true → (meets_no_limit r ≡ true → q ≡ r) → ((x : A) → meets_no_limit (f x) ≡ true → g x ≡ f x) → (q >>= g) ≡ (r >>= f)
+pub then_same : {A B : Type 0} (r q : Result A Refusal) (f g : A → Result B Refusal) → meets_no_limit (r >>= f) ≡ true → (meets_no_limit r ≡ true → q ≡ r) → ((x : A) → meets_no_limit (f x) ≡ true → g x ≡ f x) → (q >>= g) ≡ (r >>= f)
 then_same (Ok x) q f g m first later = ap (λ z. z >>= g) (first refl) ∙ later x m
 then_same (Err e) q f g m first later = ap (λ z. z >>= g) (first m)
 

@@ -90,7 +90,7 @@ none_at : (p : Node → Bool) (front : List Node) (n : Node) (rest : List Node) 
 none_at p [] n rest e = (or_parts (p n) (list_any p rest) e).0
 none_at p (m ∷ front) n rest e = none_at p front n rest (or_parts (p m) (list_any p (front ++ n ∷ rest)) e).1
 
-all_front : (p : Node → Bool) (front back : List Node) → list_all p (front ++ back) ≡ true → list_all p front ≡ true
+pub all_front : (p : Node → Bool) (front back : List Node) → list_all p (front ++ back) ≡ true → list_all p front ≡ true
 all_front p [] back e = refl
 all_front p (m ∷ front) back e = let parts = and_parts (p m) (list_all p (front ++ back)) e in rw (parts.0, all_front p front back parts.1) refl
 

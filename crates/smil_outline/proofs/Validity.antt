@@ -279,7 +279,7 @@ same_turned true false h = absurd cc
 same_turned false true h = absurd cc
 same_turned false false h = refl
 
-bytes_turned : (xs ys : List ℕ) → bytes_eq xs ys ≡ false → bytes_eq ys xs ≡ false
+pub bytes_turned : (xs ys : List ℕ) → bytes_eq xs ys ≡ false → bytes_eq ys xs ≡ false
 bytes_turned xs ys e = by (bytes_eq ys xs) refl
   where
     by : (t : Bool) → bytes_eq ys xs ≡ t → t ≡ false

@@ -14,7 +14,7 @@ parts_at : (part rest : List ℕ) → HasNoLineFeed part → parts (part ++ line
 parts_at part rest none = slice_split_at (λ byte. byte == line_feed) part line_feed rest (passes_none part none) refl
 
 -- a part before another is a line
-lines_of_parts-cons : (part : List ℕ) (more : List (List ℕ)) → 0 < length more → lines_of_parts (part ∷ more) ≡ strip_carriage_return part ∷ lines_of_parts more
+pub lines_of_parts-cons : (part : List ℕ) (more : List (List ℕ)) → 0 < length more → lines_of_parts (part ∷ more) ≡ strip_carriage_return part ∷ lines_of_parts more
 lines_of_parts-cons part [] some = absurd (omega arith)
 lines_of_parts-cons part (next ∷ more) some = refl
 
@@ -22,7 +22,7 @@ whole_lines_of_parts-cons : (part : List ℕ) (more : List (List ℕ)) → 0 < l
 whole_lines_of_parts-cons part [] some = absurd (omega arith)
 whole_lines_of_parts-cons part (next ∷ more) some = refl
 
-some_part : (text : List ℕ) → 0 < length (parts text)
+pub some_part : (text : List ℕ) → 0 < length (parts text)
 some_part text = omega (arith, length-slice_split (λ byte. byte == line_feed) text)
 
 module _ (text line rest : List ℕ) (starts : StartsWithLine text line rest) (more : List ℕ) where

@@ -140,7 +140,7 @@ serial_there ns who e s =
 is_own : (n : ℕ) (o : Option ℕ) → o ≡ Some n → is_option n o ≡ true
 is_own n o e = ap (is_option n) e ∙ eq-eqb n n refl
 
-only_own : (n : ℕ) (o : Option ℕ) → is_option n o ≡ true → o ≡ Some n
+pub only_own : (n : ℕ) (o : Option ℕ) → is_option n o ≡ true → o ≡ Some n
 only_own n None e = absurd (cc)
 only_own n (Some m) e = ap Some (sym (eqb-true n m e))
 

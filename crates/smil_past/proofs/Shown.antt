@@ -29,7 +29,7 @@ no_plays = record { present = None; finished = [] }
 -- ---- one entry more
 
 module _ (h : History) (y : Entry) (s : ℕ) (lawful : IsLawful (with_entry h y)) where
-  after_same : (m : ℤ) → int_le m y.moment ≡ true → (b : Plays) (step : Step) → play_after (with_entry h y) s m b step ≡ play_after h s m b step
+  pub after_same : (m : ℤ) → int_le m y.moment ≡ true → (b : Plays) (step : Step) → play_after (with_entry h y) s m b step ≡ play_after h s m b step
   after_same m le b (Cut who) = ap (λ o. cond (who == s) (record { present = None; finished = finish_with b.present (record { value = o; moment = m }) true b.finished }) b) (outer_with h y s m le)
   after_same m le b (Began who begin) = refl
   after_same m le b (Repeated who start) = refl

@@ -26,7 +26,7 @@ all_of : {P Q : Row → Type 0} → ((l : Row) → P l → Q l) → (ls : List R
 all_of f [] h = tt
 all_of f (l ∷ ls) h = (f l h.0, all_of f ls h.1)
 
-all_put : (P : Row → Type 0) (l : Row) (ls : List Row) → P l → AllByRecursion P ls → AllByRecursion P (put_layer ls l)
+pub all_put : (P : Row → Type 0) (l : Row) (ls : List Row) → P l → AllByRecursion P ls → AllByRecursion P (put_layer ls l)
 all_put P l [] p h = (p, tt)
 all_put P l (o ∷ ls) p h = step (is_above l.1 o.1) (all_put P l ls p h.1)
   where

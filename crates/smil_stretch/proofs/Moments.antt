@@ -154,7 +154,7 @@ clock_fits h s lawful = by_number (number (last_moment h.diary) times.low)
 -- ---- one entry more
 
 module _ (h : History) (y : Entry) (s : ℕ) where
-  until_before : (m : ℤ) → int_le y.moment m ≡ false → until m (h.diary ++ y ∷ []) ≡ until m h.diary
+  pub until_before : (m : ℤ) → int_le y.moment m ≡ false → until m (h.diary ++ y ∷ []) ≡ until m h.diary
   until_before m late =
       filter-append (λ (x : Entry). int_le x.moment m) h.diary (y ∷ [])
       ∙ ap (λ t. until m h.diary ++ cond t (y ∷ []) []) late ∙ append-nil (until m h.diary)

@@ -27,7 +27,7 @@ use Rattle.smil_stretch.proofs.Told.{standing}
 
 -- ---- lists by places
 
-each_place : (P : Node → Type 0) (ns : List Node) → ((j : ℕ) (m : Node) → slice_get ns j ≡ Some m → P m) → AllByRecursion P ns
+pub each_place : (P : Node → Type 0) (ns : List Node) → ((j : ℕ) (m : Node) → slice_get ns j ≡ Some m → P m) → AllByRecursion P ns
 each_place P [] each = tt
 each_place P (n ∷ ns) each = (each 0 n refl, each_place P ns (λ j m at. each (suc j) m at))
 

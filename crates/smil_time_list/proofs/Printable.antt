@@ -43,11 +43,11 @@ Printable Indefinite = Unit {0}
 
 -- numbers
 
-small : (o : Option ℕ) → IfSome (o >>= within) (λ n. n ≤ 1_000_000_000_000)
+pub small : (o : Option ℕ) → IfSome (o >>= within) (λ n. n ≤ 1_000_000_000_000)
 small None = tt
 small (Some n) = cond_both (ltb 1_000_000_000_000 n) None (Some n) (λ o. IfSome o (λ n. n ≤ 1_000_000_000_000)) (λ e. tt) (λ e. ltb-false _ _ e)
 
-clock_small : (text : List ℕ) → IfSome (clock_within text) (λ n. n ≤ 1_000_000_000_000)
+pub clock_small : (text : List ℕ) → IfSome (clock_within text) (λ n. n ≤ 1_000_000_000_000)
 clock_small text = small (clock_of text)
 
 signed : (sign : ℕ) (o : Option ℕ) → IfSome o (λ n. n ≤ 1_000_000_000_000) → IfSome (option_map (with_sign sign) o) IsWithin

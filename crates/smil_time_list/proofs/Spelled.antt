@@ -40,7 +40,7 @@ untrimmed (b ∷ digits) tail some h = rw (digit_no_white b h.0) refl
 clock_untrimmed : (n : ℕ) → n ≤ 1_000_000_000_000 → trim_front (clock_text n) ≡ clock_text n
 clock_untrimmed n le = untrimmed (decimal n) (codes "ms") (decimal_nonempty n (omega arith)) (decimal_passes n (omega arith))
 
-clock_read : (n : ℕ) → n ≤ 1_000_000_000_000 → clock_within (clock_text n) ≡ Some n
+pub clock_read : (n : ℕ) → n ≤ 1_000_000_000_000 → clock_within (clock_text n) ≡ Some n
 clock_read n le = let t : ltb 1_000_000_000_000 n ≡ false = le-ltb _ _ le in rw (written n le, t) refl
 
 plus_read : (n : ℕ) → n ≤ 1_000_000_000_000 → signed_of (43 ∷ clock_text n) ≡ Some (pos n)

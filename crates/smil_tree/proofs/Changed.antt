@@ -315,7 +315,7 @@ pub some_node : (o : Option Node) → IsSome o → (n : Node) × (o ≡ Some n)
 some_node None h = cc
 some_node (Some n) h = (n, refl)
 
-serial_of : (nodes : List Node) (s : ℕ) (old : Node) → node_at nodes s ≡ Some old → old.serial ≡ s
+pub serial_of : (nodes : List Node) (s : ℕ) (old : Node) → node_at nodes s ≡ Some old → old.serial ≡ s
 serial_of nodes s old at = eqb-true old.serial s (find_true (λ (n : Node). n.serial == s) nodes old at)
 
 pub renamed : (nodes : List Node) (s : ℕ) (old : Node) (given : Attr) (id : List ℕ) (table after : List (List ℕ × ℕ)) → IsDistinct nodes → node_at nodes s ≡ Some old → ((q : List ℕ) → count_by (bears q) nodes ≤ 1) → ((q : List ℕ) → count_by (bears q) (changed_at (λ attrs. with_attr attrs given) s nodes) ≤ 1) → given ≡ attr.Id id → IsTableOf table nodes → ((q : List ℕ) → lookup (bytes_eq q) after ≡ cond (bytes_eq id q) (Some s) (cond (has_id q old.attrs.id) None (lookup (bytes_eq q) table))) → IsTableOf after (changed_at (λ attrs. with_attr attrs given) s nodes)

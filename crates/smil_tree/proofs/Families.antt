@@ -27,7 +27,7 @@ none_up s (n ∷ before) none =
     let parts = or_parts (n.serial == s) (holds s before) none in
     skip n before s parts.0 ∙ none_up s before parts.1
 
-none_held : (s : ℕ) (ns : List Node) → node_at ns s ≡ None → holds s ns ≡ false
+pub none_held : (s : ℕ) (ns : List Node) → node_at ns s ≡ None → holds s ns ≡ false
 none_held s [] q = refl
 none_held s (n ∷ ns) q = step (n.serial == s) q (none_held s ns)
   where
@@ -67,7 +67,7 @@ node_of_place (m ∷ ns) (suc i) n d at =
 
 -- ---- what passes, by its place
 
-drop-suc_at : {A : Type 0} (xs : List A) (i : ℕ) (x : A) → slice_get xs i ≡ Some x → drop i xs ≡ x ∷ drop (suc i) xs
+pub drop-suc_at : {A : Type 0} (xs : List A) (i : ℕ) (x : A) → slice_get xs i ≡ Some x → drop i xs ≡ x ∷ drop (suc i) xs
 drop-suc_at [] i x at = cc
 drop-suc_at (y ∷ ys) zero x at = let one : y ≡ x = cc in ap (λ z. z ∷ ys) one
 drop-suc_at (y ∷ ys) (suc i) x at = drop-suc_at ys i x at

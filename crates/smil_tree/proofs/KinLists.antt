@@ -27,7 +27,7 @@ pub each_right : {A : Type 0} (P : A → Type 0) (xs ys : List A) → AllByRecur
 each_right P [] ys each = each
 each_right P (x ∷ xs) ys each = each_right P xs ys each.1
 
-each_at : {A : Type 0} (P : A → Type 0) (xs : List A) (i : ℕ) (d : A) → AllByRecursion P xs → i < length xs → P (get_or xs i d)
+pub each_at : {A : Type 0} (P : A → Type 0) (xs : List A) (i : ℕ) (d : A) → AllByRecursion P xs → i < length xs → P (get_or xs i d)
 each_at P [] i d each le = absurd (omega (arith, le))
 each_at P (x ∷ xs) zero d each le = each.0
 each_at P (x ∷ xs) (suc i) d each le = each_at P xs i d each.1 (omega (arith, le))
@@ -36,7 +36,7 @@ each_any : {A : Type 0} (P : A → Type 0) (xs : List A) → ((x : A) → P x) �
 each_any P [] f = tt
 each_any P (x ∷ xs) f = (f x, each_any P xs f)
 
-each_serial : (P : ℕ → Type 0) (ns : List Node) → AllByRecursion (λ (n : Node). P n.serial) ns → AllByRecursion P (serials ns)
+pub each_serial : (P : ℕ → Type 0) (ns : List Node) → AllByRecursion (λ (n : Node). P n.serial) ns → AllByRecursion P (serials ns)
 each_serial P [] each = tt
 each_serial P (n ∷ ns) each = (each.0, each_serial P ns each.1)
 
@@ -153,10 +153,10 @@ passing-rest t first past xs le none =
 
 -- ---- the search by places
 
-lt-more : (a b : ℕ) → nat_lt (1 + a) (suc b) ≡ nat_lt a b
+pub lt-more : (a b : ℕ) → nat_lt (1 + a) (suc b) ≡ nat_lt a b
 lt-more a b = grind arith
 
-lt-first : (b : ℕ) → nat_lt 0 (suc b) ≡ true
+pub lt-first : (b : ℕ) → nat_lt 0 (suc b) ≡ true
 lt-first b = grind arith
 
 first_or_later : (n : Node) (ns : List Node) (at s : ℕ) → is_before (n ∷ ns) (suc at) s ≡ cond (n.serial == s) true (is_before ns at s)

@@ -13,7 +13,7 @@ use Rattle.smil_laws.proofs.Lineages.{swap_eqb}
 use Rattle.smil_tree.specs.Kept.{bears, owner}
 use Rattle.smil_tree.proofs.Owners.{owner-between, count-cons}
 
-take-suc_at : {A : Type 0} (xs : List A) (i : ℕ) (x : A) → slice_get xs i ≡ Some x → take (suc i) xs ≡ take i xs ++ x ∷ []
+pub take-suc_at : {A : Type 0} (xs : List A) (i : ℕ) (x : A) → slice_get xs i ≡ Some x → take (suc i) xs ≡ take i xs ++ x ∷ []
 take-suc_at [] i x at = cc
 take-suc_at (y ∷ ys) zero x at = let one : y ≡ x = cc in ap (λ z. z ∷ []) one
 take-suc_at (y ∷ ys) (suc i) x at = ap (λ zs. y ∷ zs) (take-suc_at ys i x at)

@@ -39,7 +39,7 @@ module _ (nodes : List Node) (o : IsOrdered nodes) (parent : ℕ) (n : Node) (at
 
 -- ---- told by the kin
 
-both_ways : (a b : Bool) → (a ≡ true → b ≡ true) → (b ≡ true → a ≡ true) → a ≡ b
+pub both_ways : (a b : Bool) → (a ≡ true → b ≡ true) → (b ≡ true → a ≡ true) → a ≡ b
 both_ways true b f g = sym (f refl)
 both_ways false true f g = g refl
 both_ways false false f g = refl

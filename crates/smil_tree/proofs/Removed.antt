@@ -35,7 +35,7 @@ held_fewer t s (n ∷ ns) none = let parts = or_parts (n.serial == s) (holds s n
     step true here rest = or_from _ _ here rest
     step false here rest = rest
 
-distinct_fewer : (t : Node → Bool) (ns : List Node) → IsDistinct ns → IsDistinct (filter t ns)
+pub distinct_fewer : (t : Node → Bool) (ns : List Node) → IsDistinct ns → IsDistinct (filter t ns)
 distinct_fewer t [] d = tt
 distinct_fewer t (n ∷ ns) d = step (t n) (distinct_fewer t ns d.1)
   where
