@@ -1,4 +1,4 @@
-// The fault of a read or a write.
+//! The fault of a read or a write.
 
 /// A read or a write failed. The count of faults of the source or the sink says so too.
 #[derive(Clone, Copy, Debug, PartialEq, Eq)]

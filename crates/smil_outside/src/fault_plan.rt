@@ -1,11 +1,12 @@
-// Which calls of a source or a sink in memory fail.
+//! Which calls of a source or a sink in memory fail.
+
 ghost use Rattle.std.specs.Prelude.{◌≡◌, ◌↔◌, ◌+◌, ◌≤◌, IfOk, IsTrue, Contains};
 ghost use Rattle.smil_outside.specs.Faults.{HasRisen};
 
 use std::alloc::{AllocError, Global};
 use std::marker::Model;
 
-// The numbers of the calls that fail, from 1, and how many calls and faults there were.
+/// The numbers of the calls that fail, from 1, and how many calls and faults there were.
 #[derive(Drop)]
 pub(crate) struct FaultPlan {
     fail_at: Vec<u32>,
@@ -24,6 +25,7 @@ impl Model for FaultPlan {
 impl FaultPlan {
     ghost use Rattle.smil_outside.specs.Memory.{called, faulted};
 
+    /// Before the first call.
     pub(crate) fn new(alloc: Global, fail_at: &[u32]) -> Result<FaultPlan, AllocError>
         ensures { IfOk result (λ plan. plan
             ≡ record { fail_at = fail_at.now; calls = 0; faults = 0 }) }
@@ -35,7 +37,7 @@ impl FaultPlan {
         })
     }
 
-    // Counts a call, and says whether it is one of those that fail.
+    /// Counts a call, and says whether it is one of those that fail.
     pub(crate) fn next_fails(&mut self) -> bool
         ensures told { IsTrue result ↔ Contains self.old.fail_at (self.old.calls + 1) }
         ensures called { self.new ≡ called self.old }
@@ -47,7 +49,7 @@ impl FaultPlan {
             .any(|fails| u128::from(*fails) == number)
     }
 
-    // Counts a fault.
+    /// Counts a fault.
     pub(crate) fn count_fault(&mut self)
         ensures value { self.new ≡ faulted self.old }
         ensures risen { HasRisen self.old.faults self.new.faults }

@@ -1,4 +1,4 @@
-// Bytes that come in and go out: sources and sinks that may fail, and a reader of lines over them.
+//! Bytes that come in and go out: sources and sinks that may fail, and a reader of lines over them.
 #![tactic(auto)]
 
 mod failed;

@@ -1,4 +1,5 @@
-// The answers of a line reader, and the limit of its input.
+//! The answers of a line reader, and the limit of its input.
+
 ghost use Rattle.std.specs.Prelude.{◌≡◌};
 
 /// The most bytes that an input may have.
@@ -20,7 +21,7 @@ pub enum Line {
     ReadFault,
 }
 
-// How the input ended.
+/// How the input ended.
 #[derive(Clone, Copy)]
 pub(crate) enum Ending {
     End,
@@ -31,6 +32,7 @@ pub(crate) enum Ending {
 impl Ending {
     ghost use Rattle.smil_outside.specs.Reading.{answer_of};
 
+    /// The answer once the input has ended so.
     pub(crate) fn answer(self) -> Line
         ensures { result ≡ answer_of self }
     {

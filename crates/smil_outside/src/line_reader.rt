@@ -1,4 +1,5 @@
-// The lines of what a source gives.
+//! The lines of what a source gives.
+
 ghost use Rattle.std.specs.Prelude.{◌≡◌, ◌≢◌, ◌⊎◌, ◌+◌, ◌<◌, ◌≤◌, [], false, length, take, drop, IfOk, IfSome, IsNone, IsTrue};
 ghost use Rattle.std.specs.Str.Lines.{strip_carriage_return};
 ghost use Rattle.smil_outside.specs.Faults.{HasRisen};

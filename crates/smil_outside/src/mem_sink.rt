@@ -1,4 +1,5 @@
-// A sink into memory of a fixed size, whose writes fail when they are told to.
+//! A sink into memory of a fixed size, whose writes fail when they are told to.
+
 ghost use Rattle.std.specs.Prelude.{◌≡◌, ◌↔◌, ◌⊎◌, ◌+◌, ◌-◌, ◌<◌, ◌≤◌, [], ◌++◌, length, Some, IsErr, IsOk, IfOk, OnOk, OnErr, Contains};
 ghost use Rattle.std.specs.Io.KnownBytes.{WriteAppends};
 ghost use Rattle.smil_outside.specs.Faults.{HasRisen};

@@ -1,4 +1,5 @@
-// A source over bytes in memory, whose reads fail when they are told to.
+//! A source over bytes in memory, whose reads fail when they are told to.
+
 ghost use Rattle.std.specs.Prelude.{◌≡◌, ◌↔◌, ◌+◌, ◌<◌, ◌≤◌, length, drop, min, Some, IsErr, IsOk, IfOk, OnErr, Contains};
 ghost use Rattle.std.specs.Io.KnownBytes.{ReadConsumes};
 ghost use Rattle.smil_outside.specs.Faults.{HasRisen};

@@ -1,4 +1,5 @@
-// The search for the end of a line.
+//! The search for the end of a line.
+
 ghost use Rattle.std.specs.Prelude.{◌≡◌, ◌≢◌, ◌+◌, ◌-◌, ◌<◌, ◌≤◌, [], length, drop, MatchBool};
 ghost use Rattle.smil_outside.specs.Faults.{HasRisen};
 ghost use Rattle.smil_outside.specs.Scan.{Scans};
@@ -9,27 +10,28 @@ use crate::source::Source;
 use crate::window::{WINDOW_BYTES, Window};
 use smil_model::LINE_BYTES;
 
-// Where a scan stopped.
+/// Where a scan stopped.
 #[derive(Clone, Copy)]
 pub(crate) enum Stop {
-    // At the first line feed, at this place of the window.
+    /// At the first line feed, at this place of the window.
     LineFeed(usize),
-    // At the end of the input.
+    /// At the end of the input.
     InputEnd,
-    // Behind the most bytes that an input may have.
+    /// Behind the most bytes that an input may have.
     InputTooLong,
-    // At a fault of the source.
+    /// At a fault of the source.
     Fault,
 }
 
+/// How a scan ended.
 #[derive(Clone, Copy)]
 pub(crate) struct Scan {
     pub(crate) stop: Stop,
-    // Whether the front of a line that is too long was let go.
+    /// Whether the front of a line that is too long was dropped.
     pub(crate) is_long: bool,
 }
 
-// Reads on until a line feed stands in the window, or nothing more comes.
+/// Reads on until a line feed stands in the window, or nothing more comes.
 pub(crate) fn seek_line_end<S: Source>(
     window: &mut Window,
     taken: &mut usize,

@@ -1,4 +1,5 @@
-// What bytes are written to.
+//! What bytes are written to.
+
 ghost use Rattle.std.specs.Prelude.{◌≡◌, ℕ, ◌+◌, ◌<◌, ◌≤◌, List, Option, length, take, IsOk, IfOk, OnOk, OnErr};
 ghost use Rattle.std.specs.Io.KnownBytes.{Appends, WriteAppends};
 ghost use Rattle.smil_outside.specs.Faults.{HasRisen};

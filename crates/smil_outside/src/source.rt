@@ -1,4 +1,5 @@
-// What bytes are read from.
+//! What bytes are read from.
+
 ghost use Rattle.std.specs.Prelude.{◌≡◌, ℕ, ◌≤◌, List, Option, length, IsOk, IfOk, OnErr};
 ghost use Rattle.std.specs.Io.KnownBytes.{ReadConsumes};
 ghost use Rattle.smil_outside.specs.Faults.{HasRisen};

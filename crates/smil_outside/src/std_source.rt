@@ -1,4 +1,5 @@
-// A source over a reader of std.
+//! A source over a reader of std.
+
 ghost use Rattle.std.specs.Prelude.{◌≡◌, ◌≤◌, length, IfOk, OnOk, OnErr};
 ghost use Rattle.std.specs.Io.KnownBytes.{ReadConsumes};
 ghost use Rattle.smil_outside.specs.Faults.{HasRisen};

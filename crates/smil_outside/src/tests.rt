@@ -1,4 +1,5 @@
-// What no contract says: that the calls succeed with ample memory, and lines of the outside world.
+//! What no contract says: that the calls succeed with ample memory, and lines of the outside world.
+
 use crate::{
     Failed, INPUT_BYTES, Line, LineReader, MemSink, MemSource, Sink, Source, StdSink, StdSource,
     write_all,

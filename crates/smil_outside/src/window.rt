@@ -1,4 +1,5 @@
-// A buffer of fixed size between a source and the lines.
+//! A buffer of fixed size between a source and the lines.
+
 ghost use Rattle.std.specs.Prelude.{◌≡◌, ◌≢◌, ℕ, ◌+◌, ◌-◌, ◌<◌, ◌≤◌, List, [], ◌++◌, length, take, drop, slice_index, slice_range, EachIndex, MatchOption, IsOk, IfOk, OnErr};
 ghost use Rattle.std.specs.Io.KnownBytes.{Consumes, IsAtEnd, Keeps};
 ghost use Rattle.smil_outside.specs.Faults.{HasRisen};
@@ -10,14 +11,14 @@ use memchr::memchr;
 use std::alloc::{AllocError, Global};
 use std::marker::Model;
 
-// How many bytes the buffer has.
+/// How many bytes the buffer has.
 pub(crate) const WINDOW_BYTES: usize = 65_536;
 
 // The least room that a read offers.
 const READ_ROOM: usize = 4_096;
 
-// `buffer[line..line_end]` is the line that was cut last, and `buffer[start..end]` are the bytes
-// behind it.
+/// `buffer[line..line_end]` is the line that was cut last, and `buffer[start..end]` are the bytes
+/// behind it.
 #[derive(Drop)]
 pub(crate) struct Window {
     buffer: Vec<u8>,
@@ -40,6 +41,7 @@ impl Model for Window {
 }
 
 impl Window {
+    /// Neither a line nor bytes. It takes the memory for its buffer.
     pub(crate) fn new(alloc: Global) -> Result<Window, AllocError>
         ensures { IfOk result (λ window. window ≡ record { line = []; bytes = [] }) }
     {
@@ -52,12 +54,14 @@ impl Window {
         })
     }
 
+    /// The line that was cut last.
     pub(crate) fn line(&self) -> &[u8]
         ensures { result.now ≡ self.now.line }
     {
         &self.buffer[self.line..self.line_end]
     }
 
+    /// The bytes behind it.
     pub(crate) fn bytes(&self) -> &[u8]
         ensures value { result.now ≡ self.now.bytes }
         ensures bound { length result.now ≤ WINDOW_BYTES }
@@ -65,7 +69,7 @@ impl Window {
         &self.buffer[self.start..self.end]
     }
 
-    // Cuts off a line of `len` bytes, and goes on behind the first `covers` bytes.
+    /// Cuts off a line of `len` bytes, and goes on behind the first `covers` bytes.
     pub(crate) fn cut(&mut self, len: usize, covers: usize)
         requires line { len ≤ covers }
         requires within { covers ≤ length self.old.bytes }
@@ -77,7 +81,7 @@ impl Window {
         self.start += covers;
     }
 
-    // The place of the first line feed. None stands before the place `from`.
+    /// The place of the first line feed. None stands before the place `from`.
     pub(crate) fn line_feed(&self, from: usize) -> Option<usize>
         requires within { from ≤ length self.now.bytes }
         requires before { (k : ℕ) → k < from → slice_index self.now.bytes k ≢ line_feed }
@@ -90,7 +94,7 @@ impl Window {
         Some(from + at)
     }
 
-    // One read. Of the bytes that came, the first `most` are held.
+    /// One read. Of the bytes that came, the first `most` are held.
     pub(crate) fn fill<S: Source>(&mut self, source: &mut S, most: usize) -> Result<usize, Failed>
         requires { length self.old.bytes + READ_ROOM ≤ WINDOW_BYTES }
         ensures bound { IfOk result (λ n. n ≤ WINDOW_BYTES) }
