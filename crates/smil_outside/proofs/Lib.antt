@@ -1,6 +1,5 @@
 mod Ranges
 mod Bytes
-pub mod KnownLemmas
 mod ScanLemmas
 mod ReadLemmas
 pub mod LineLemmas

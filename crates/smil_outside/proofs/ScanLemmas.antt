@@ -11,7 +11,7 @@ use Rattle.smil_outside.specs.Reading.{within_limit}
 use Rattle.smil_outside.specs.Scan.{Scans, Stops, IsCutFront}
 use Rattle.smil_outside.specs.Window.{Held}
 use Rattle.smil_outside.specs.declared.scan.Stop.{Stop}
-use Rattle.smil_outside.proofs.KnownLemmas.{Consumes-nil, Consumes-append, Consumes-keeps}
+use Rattle.std.proofs.KnownBytes.{Consumes-nil, Consumes-trans, Consumes-kept}
 
 pub HasNoLineFeed-append : (xs ys : List ℕ) → HasNoLineFeed xs → HasNoLineFeed ys → HasNoLineFeed (xs ++ ys)
 HasNoLineFeed-append xs ys h k = λ i inside is.
@@ -80,7 +80,7 @@ Scanning-read old bytes before taken is_long scanned rest now after new more tak
     record {
       came = s.came ++ more;
       dropped = s.dropped;
-      took = Consumes-append rest now after s.came more s.took took;
+      took = Consumes-trans rest now after s.came more s.took took;
       counted = omega (arith, s.counted, counted, length-append s.came more);
       text =
           ap (λ zs. old ++ zs) (within_limit-append before s.came more (omega arith))
@@ -101,7 +101,7 @@ pub Scanning-keeps : (old bytes : List ℕ) (before taken : ℕ) (is_long : Bool
 Scanning-keeps old bytes before taken is_long scanned rest now after s keeps = record {
   came = s.came;
   dropped = s.dropped;
-  took = Consumes-keeps rest now after s.came s.took keeps;
+  took = Consumes-kept rest now after s.came s.took keeps;
   counted = s.counted;
   text = s.text;
   uncut = s.uncut;

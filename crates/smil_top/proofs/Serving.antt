@@ -13,7 +13,7 @@ use Rattle.smil_outside.specs.Lines.{lines, whole_lines}
 use Rattle.smil_outside.specs.Reading.{Reading, Reads, fresh_reading, within_limit, answer_of, IsNextLine}
 use Rattle.smil_outside.specs.History.{AreLines, HasAnswered}
 use Rattle.smil_outside.proofs.HistoryLemmas.{HasAnswered-fresh, HasAnswered-next}
-use Rattle.smil_outside.proofs.KnownLemmas.{Appends-nil, Appends-append, Consumes-nil, Consumes-append}
+use Rattle.std.proofs.KnownBytes.{Appends-nil, Appends-trans, Consumes-nil, Consumes-trans}
 use Rattle.smil_top.specs.declared.run.Run.{Run}
 use Rattle.smil_top.specs.declared.status.Status.{Status}
 use Rattle.smil_top.specs.declared.status.Status.TheVariants as status
@@ -109,7 +109,7 @@ module _ (old new : Reading) (before rest after : Option (List ℕ)) (came : Lis
         came ++ reads.came,
         record {
           has = subst (λ zs. HasAnswered new (came ++ reads.came) (answered ++ zs)) these next.2;
-          read = Consumes-append before rest after came reads.came has.read reads.took;
+          read = Consumes-trans before rest after came reads.came has.read reads.took;
           unbroken = unbroken_by (old.pending ++ within_limit old.taken reads.came) new.line new after (reads.answered).0;
         },
         (refl, (reads.answered).1),
@@ -127,7 +127,7 @@ module _ (old new : Reading) (before rest after : Option (List ℕ)) (came : Lis
         line,
         record {
           has = subst (λ zs. HasAnswered new (came ++ reads.came) (answered ++ zs)) (next.1).1 next.2;
-          read = Consumes-append before rest after came reads.came has.read reads.took;
+          read = Consumes-trans before rest after came reads.came has.read reads.took;
           unbroken = unbroken_by (old.pending ++ within_limit old.taken reads.came) ((reads.answered).0).0 new after ((reads.answered).0).1;
         },
         (next.1).2,
@@ -158,7 +158,7 @@ module _ (old new : Reading) (before rest after : Option (List ℕ)) (came : Lis
       let ended = reads.answered in
       let lines_are : (lines (came ++ reads.came) ≡ answered ++ next.0) × (length (came ++ reads.came) ≤ INPUT_BYTES) = subst (λ e. AreLines e (came ++ reads.came) new.pending (answered ++ next.0)) (ended.2).closed (next.2).lines in (
         came ++ reads.came,
-        Consumes-append before rest after came reads.came has.read reads.took,
+        Consumes-trans before rest after came reads.came has.read reads.took,
         (ended.1).0,
         lines_are.0 ∙ ap (λ zs. answered ++ zs) next.1 ∙ append-nil answered,
         lines_are.1,
@@ -171,7 +171,7 @@ module _ (old new : Reading) (before rest after : Option (List ℕ)) (came : Lis
       let next = HasAnswered-next old new InputTooLong rest after came answered has.has is_open reads in
       let lines_are : (whole_lines (within_limit 0 (came ++ reads.came)) ≡ answered ++ next.0) × (INPUT_BYTES < length (came ++ reads.came)) = subst (λ e. AreLines e (came ++ reads.came) new.pending (answered ++ next.0)) ((reads.answered).2).closed (next.2).lines in (
         came ++ reads.came,
-        Consumes-append before rest after came reads.came has.read reads.took,
+        Consumes-trans before rest after came reads.came has.read reads.took,
         lines_are.0 ∙ ap (λ zs. answered ++ zs) next.1 ∙ append-nil answered,
         lines_are.1,
       )
@@ -182,7 +182,7 @@ module _ (old new : Reading) (before rest after : Option (List ℕ)) (came : Lis
       let next = HasAnswered-next old new ReadFault rest after came answered has.has is_open reads in
       let lines_are : (whole_lines (within_limit 0 (came ++ reads.came)) ≡ answered ++ next.0) × (length (came ++ reads.came) ≤ INPUT_BYTES) = subst (λ e. AreLines e (came ++ reads.came) new.pending (answered ++ next.0)) ((reads.answered).2).closed (next.2).lines in (
         came ++ reads.came,
-        Consumes-append before rest after came reads.came has.read reads.took,
+        Consumes-trans before rest after came reads.came has.read reads.took,
         lines_are.0 ∙ ap (λ zs. answered ++ zs) next.1 ∙ append-nil answered,
         lines_are.1,
       )
@@ -212,14 +212,14 @@ part-of told text before taken after room left all part =
     let some : 0 < length (drop part.0 text) = omega (arith, part.1, length-drop part.0 text) in
     let more : room < length (told ++ text) = omega (arith, all.1, part.3, length-append told text) in (
       told ++ take part.0 text,
-      Appends-append before taken after told (take part.0 text) all.0 part.2,
+      Appends-trans before taken after told (take part.0 text) all.0 part.2,
       record { rest = drop part.0 text; split = split; some = some; more_than_room = more },
     )
 
 pub all-of : (told text : List ℕ) (before taken after : Option (List ℕ)) (room left left' : ℕ) →
     WritesAll before taken room left told → WritesAll taken after left left' text → WritesAll before after room left' (told ++ text)
 all-of told text before taken after room left left' one two =
-    (Appends-append before taken after told text one.0 two.0, omega (arith, one.1, two.1, length-append told text))
+    (Appends-trans before taken after told text one.0 two.0, omega (arith, one.1, two.1, length-append told text))
 
 -- more was told
 all-told : (told more : Told) (before taken after : Option (List ℕ)) (room left left' : ℕ) (goes : Goes (Ok tt) told more taken after left left') →

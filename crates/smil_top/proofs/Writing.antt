@@ -7,7 +7,7 @@ use Rattle.std.proofs.lemmas.List.{length-append}
 use Rattle.std.specs.Io.KnownBytes.{Appends}
 use Rattle.smil_outside.specs.declared.failed.Failed.{Failed}
 use Rattle.smil_outside.specs.Faults.{HasRisen}
-use Rattle.smil_outside.proofs.KnownLemmas.{Appends-append}
+use Rattle.std.proofs.KnownBytes.{Appends-trans}
 use Rattle.smil_top.specs.Kept.{WritesAll, Writes}
 
 -- what `write_all` ensures
@@ -22,11 +22,11 @@ Writes-of (Err e) before after room left text ok err sure more =
 pub Writes-two : (r : Result (Unit {0}) Failed) (before middle after : Option (List ℕ)) (room between left : ℕ) (first second : List ℕ) →
     WritesAll before middle room between first → Writes r middle after between left second → Writes r before after room left (first ++ second)
 Writes-two (Ok done) before middle after room between left first second one two =
-    (Appends-append before middle after first second one.0 two.0, omega (arith, one.1, two.1, length-append first second))
+    (Appends-trans before middle after first second one.0 two.0, omega (arith, one.1, two.1, length-append first second))
 Writes-two (Err e) before middle after room between left first second one two = (
   length first + two.0,
   omega (arith, two.1, length-append first second),
-  subst (λ zs. Appends before after zs) (sym (take-append-add first second two.0)) (Appends-append before middle after first (take two.0 second) one.0 two.2),
+  subst (λ zs. Appends before after zs) (sym (take-append-add first second two.0)) (Appends-trans before middle after first (take two.0 second) one.0 two.2),
   omega (arith, one.1, two.3, length-append first second),
 )
 

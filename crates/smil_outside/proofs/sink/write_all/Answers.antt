@@ -3,7 +3,7 @@ use Rattle.std.proofs.lemmas.Grind.{common_steps}
 use Rattle.std.proofs.lemmas.List.{length-append, length-take, take_at, take_rest, take-append-drop}
 use Rattle.std.proofs.lemmas.Result.{err_from_is_err_and}
 use Rattle.std.specs.Io.KnownBytes.{Appends}
-use Rattle.smil_outside.proofs.KnownLemmas.{Appends-append, Appends-keeps}
+use Rattle.std.proofs.KnownBytes.{Appends-trans, Appends-kept}
 use Rattle.smil_outside.proofs.sink.write_all.Goals as goal
 
 pub returns-in_err-n-clause-err : goal.returns-in_err-n-clause-err
@@ -16,7 +16,7 @@ returns-in_err-n-clause-err g c =
     rw p.1 (
       length i.0,
       omega (arith, ap length i.1, length-append i.0 rest),
-      subst (λ zs. Appends (g.K.Sink.taken c.args.sink.now) (g.K.Sink.taken c.write.new.self) zs) (sym front) (Appends-keeps _ _ _ i.0 i.2 c.in_err-n.ensures.bytes),
+      subst (λ zs. Appends (g.K.Sink.taken c.args.sink.now) (g.K.Sink.taken c.write.new.self) zs) (sym front) (Appends-kept _ _ _ i.0 i.2 c.in_err-n.ensures.bytes),
     )
 
 -- a list, cut at two places
@@ -35,7 +35,7 @@ loop-rest-preserved g c =
     let e = c.in_ok-n.ensures in (
       i.0 ++ take n rest,
       cut_twice c.args.bytes.now i.0 rest n i.1,
-      Appends-append _ _ _ i.0 (take n rest) i.2 e.bytes,
+      Appends-trans _ _ _ i.0 (take n rest) i.2 e.bytes,
       omega (arith, e.count),
       omega (arith, e.room, e.bound, length-append i.0 (take n rest), length-take n rest),
     )

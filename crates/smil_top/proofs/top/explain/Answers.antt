@@ -1,5 +1,5 @@
 use Rattle.std.proofs.Common.{[], subst, arith}
-use Rattle.smil_outside.proofs.KnownLemmas.{Appends-nil}
+use Rattle.std.proofs.KnownBytes.{Appends-nil}
 use Rattle.smil_top.specs.Words.{usage_line}
 use Rattle.smil_top.specs.Kept.{Writes}
 use Rattle.smil_top.proofs.Writing.{Writes-of}

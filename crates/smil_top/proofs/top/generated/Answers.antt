@@ -1,5 +1,5 @@
 use Rattle.std.proofs.Common.{◌≡◌, ℕ, List, [], subst, ◌∙◌, arith}
-use Rattle.smil_outside.proofs.KnownLemmas.{Appends-nil}
+use Rattle.std.proofs.KnownBytes.{Appends-nil}
 use Rattle.smil_top.specs.Summary.{summary}
 use Rattle.smil_top.specs.Serving.{IsPart}
 use Rattle.smil_top.specs.Kept.{Writes}

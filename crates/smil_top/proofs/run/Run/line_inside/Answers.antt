@@ -1,6 +1,6 @@
 use Rattle.std.proofs.Common.{◌≡◌, ◌≤◌, ℕ, [], ◌∷◌, ◌++◌, length, Some, true, false, refl, ap, sym, subst, ◌∙◌, arith}
 use Rattle.smil_model.specs.declared.limits.TheConstants.{LINE_BYTES}
-use Rattle.smil_outside.proofs.KnownLemmas.{Appends-nil}
+use Rattle.std.proofs.KnownBytes.{Appends-nil}
 use Rattle.smil_grammar.specs.Scripts.{is_blank}
 use Rattle.smil_script.specs.Loads.{ends_load}
 use Rattle.smil_top.specs.declared.run.Run.{Run}

@@ -1,5 +1,5 @@
 use Rattle.std.proofs.Common.{◌≡◌, ◌<◌, ◌≤◌, ℕ, [], ◌∷◌, ◌++◌, length, Some, None, Err, false, true, refl, ap, sym, subst, ◌∙◌, arith}
-use Rattle.smil_outside.proofs.KnownLemmas.{Appends-nil}
+use Rattle.std.proofs.KnownBytes.{Appends-nil}
 use Rattle.smil_model.specs.declared.limits.TheConstants.{LINE_BYTES}
 use Rattle.smil_model.specs.declared.order.Refusal.TheVariants.{LongLine}
 use Rattle.smil_grammar.specs.Scripts.{opens_load}
