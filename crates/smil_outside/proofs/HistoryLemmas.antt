@@ -4,10 +4,11 @@ use Rattle.std.proofs.Math.Seq.{take-append-add}
 use Rattle.std.proofs.lemmas.Bool.{cases_lt}
 use Rattle.std.proofs.lemmas.List.{append-nil, length-append, take_all, take-append-le}
 use Rattle.std.specs.Io.KnownBytes.{IsAtEnd}
+use Rattle.std.specs.Str.Lines.{lines}
 use Rattle.smil_outside.specs.declared.line.TheConstants.{INPUT_BYTES}
 use Rattle.smil_outside.specs.declared.line.Line.{Line}
 use Rattle.smil_outside.specs.declared.line.Line.TheVariants.{Bytes, LongLine, End, InputTooLong, ReadFault}
-use Rattle.smil_outside.specs.Lines.{lines, whole_lines, HasNoLineFeed}
+use Rattle.smil_outside.specs.Lines.{whole_lines, HasNoLineFeed}
 use Rattle.smil_outside.specs.Reading.{Reading, Reads, fresh_reading, within_limit, IsNextLine, Answers, line_count}
 use Rattle.smil_outside.specs.History.{AreLines, HasAnswered, IsAnswerFor}
 use Rattle.smil_outside.proofs.LineLemmas.{lines-starts, whole_lines-starts, whole_lines-uncut, lines-unended}

@@ -1,10 +1,10 @@
 -- The lines of a text that begins with a line, or is one.
 use Rattle.std.proofs.Common.{◌≡◌, ◌==◌, if◌then◌else◌, ℕ, ◌<◌, false, List, [], ◌∷◌, ◌++◌, length, All, refl, ap, sym, ◌∙◌, arith, append_assoc}
-use Rattle.std.specs.Str.Lines.{strip_carriage_return}
+use Rattle.std.specs.Str.Lines.{strip_carriage_return, lines, lines_of_parts}
 use Rattle.std.proofs.lemmas.Bool.{ne_eqb}
 use Rattle.std.proofs.lemmas.List.{get_or_default}
 use Rattle.std.proofs.lemmas.List.Splits.{slice_split_at, slice_split_none, length-slice_split}
-use Rattle.smil_outside.specs.Lines.{line_feed, parts, lines, whole_lines, lines_of_parts, whole_lines_of_parts, HasNoLineFeed, StartsWithLine, IsUnendedLine}
+use Rattle.smil_outside.specs.Lines.{line_feed, parts, whole_lines, whole_lines_of_parts, HasNoLineFeed, StartsWithLine, IsUnendedLine}
 
 -- the test of each byte of a text without a line feed
 passes_none : (text : List ℕ) → HasNoLineFeed text → All (λ byte. (byte == line_feed) ≡ false) text

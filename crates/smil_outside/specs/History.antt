@@ -1,12 +1,13 @@
 -- What the answers of a reader say together: they are the lines of the bytes that were taken.
 use Rattle.std.specs.Prelude.{◌≡◌, ℕ, ◌<◌, ◌≤◌, List, [], ◌∷◌, ◌++◌, length, Option, None, Some}
+use Rattle.std.specs.Str.Lines.{lines}
 use Rattle.smil_outside.specs.declared.line.TheConstants.{INPUT_BYTES}
 use Rattle.smil_model.specs.declared.limits.TheConstants.{LINE_BYTES}
 use Rattle.smil_outside.specs.declared.line.Line.{Line}
 use Rattle.smil_outside.specs.declared.line.Line.TheVariants.{Bytes, LongLine, End, InputTooLong, ReadFault}
 use Rattle.smil_outside.specs.declared.line.Ending.{Ending}
 use Rattle.smil_outside.specs.declared.line.Ending.TheVariants as ending
-use Rattle.smil_outside.specs.Lines.{lines, whole_lines}
+use Rattle.smil_outside.specs.Lines.{whole_lines}
 use Rattle.smil_outside.specs.Reading.{Reading, within_limit}
 
 -- `answered` are the lines of the bytes that came, by how the input ended; before its end, they are

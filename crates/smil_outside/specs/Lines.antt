@@ -1,5 +1,6 @@
--- The lines of a text: it is cut at each line feed, and one carriage return before a line feed is dropped.
-use Rattle.std.specs.Prelude.{◌≡◌, ◌≢◌, ℕ, ◌<◌, ◌==◌, List, [], ◌∷◌, ◌++◌, length, slice_index, EachIndex, if◌then◌else◌}
+-- The lines of a text that a line feed ends, each without one carriage return before it. All lines, also one behind the last
+-- line feed, are std's `lines`.
+use Rattle.std.specs.Prelude.{◌≡◌, ◌≢◌, ℕ, ◌<◌, ◌==◌, List, [], ◌∷◌, ◌++◌, length, slice_index, EachIndex}
 use Rattle.std.specs.List.{slice_split}
 use Rattle.std.specs.Str.Lines.{strip_carriage_return}
 
@@ -18,15 +19,6 @@ whole_lines_of_parts (part ∷ next ∷ more) = strip_carriage_return part ∷ w
 
 abbrev pub whole_lines : List ℕ → List (List ℕ)
 whole_lines text = whole_lines_of_parts (parts text)
-
--- all lines: those, and the last part, if it isn't empty
-abbrev pub lines_of_parts : List (List ℕ) → List (List ℕ)
-lines_of_parts [] = []
-lines_of_parts (last ∷ []) = if length last == 0 then [] else last ∷ []
-lines_of_parts (part ∷ next ∷ more) = strip_carriage_return part ∷ lines_of_parts (next ∷ more)
-
-abbrev pub lines : List ℕ → List (List ℕ)
-lines text = lines_of_parts (parts text)
 
 -- no byte of the text is a line feed
 abbrev pub HasNoLineFeed : List ℕ → Type 0

@@ -2,11 +2,11 @@
 use Rattle.std.proofs.Common.{◌≡◌, ◌⊎◌, ◌==◌, ◌<◌, suc, Bool, true, false, List, [], ◌∷◌, ◌++◌, length, Option, Some, None, inl, inr, refl, ap, sym, subst, ◌∙◌, append_assoc, arith}
 use Rattle.std.specs.Prelude.{ℕ, map, fold, if◌then◌else◌}
 use Rattle.std.specs.List.{onto_first}
-use Rattle.std.specs.Str.Lines.{strip_carriage_return}
+use Rattle.std.specs.Str.Lines.{strip_carriage_return, lines, lines_of_parts}
 use Rattle.std.proofs.lemmas.List.{append-nil}
 use Rattle.std.proofs.lemmas.List.Sums.{fold-append}
 use Rattle.std.proofs.lemmas.List.Splits.{length-slice_split, slice_split-cons_yes, slice_split-cons_no}
-use Rattle.smil_outside.specs.Lines.{line_feed, parts, lines, whole_lines, lines_of_parts, whole_lines_of_parts}
+use Rattle.smil_outside.specs.Lines.{line_feed, parts, whole_lines, whole_lines_of_parts}
 use Rattle.smil_top.specs.Cut.{Numbered, LoadLines, OrderLines, single, load, Cut, opens, ends, is_silent, cut_by, cut_of, unended, orders, whole_orders}
 use Rattle.smil_top.specs.Answers.{Answer}
 use Rattle.smil_top.specs.Transcript.{Answering, Told, untold, with_answer, IsTranscriptBy, and_then, transcript_by}

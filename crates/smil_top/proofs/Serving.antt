@@ -9,11 +9,12 @@ use Rattle.smil_outside.specs.declared.line.Line.TheVariants.{Bytes, LongLine, E
 use Rattle.smil_outside.specs.declared.line.Ending.{Ending}
 use Rattle.smil_outside.specs.declared.line.Ending.TheVariants as ending
 use Rattle.smil_outside.specs.declared.failed.Failed.{Failed}
-use Rattle.smil_outside.specs.Lines.{lines, whole_lines}
+use Rattle.smil_outside.specs.Lines.{whole_lines}
 use Rattle.smil_outside.specs.Reading.{Reading, Reads, fresh_reading, within_limit, answer_of, IsNextLine}
 use Rattle.smil_outside.specs.History.{AreLines, HasAnswered}
 use Rattle.smil_outside.proofs.HistoryLemmas.{HasAnswered-fresh, HasAnswered-next}
 use Rattle.std.proofs.KnownBytes.{Appends-nil, Appends-trans, Consumes-nil, Consumes-trans}
+use Rattle.std.specs.Str.Lines.{lines}
 use Rattle.smil_top.specs.declared.run.Run.{Run}
 use Rattle.smil_top.specs.declared.status.Status.{Status}
 use Rattle.smil_top.specs.declared.status.Status.TheVariants as status

@@ -1,12 +1,12 @@
 -- How often the answers to the orders of an input have intervals evaluated: at most, and at least.
 use Rattle.std.specs.Prelude.{◌≡◌, ℕ, ◌+◌, ◌≤◌, Bool, true, false, List, [], ◌∷◌, map, Option, Some, None, Result, Ok}
 use Rattle.std.specs.Result.{result_unwrap_or}
+use Rattle.std.specs.Str.Lines.{lines}
 use Rattle.smil_model.specs.declared.order.Order.{Order}
 use Rattle.smil_model.specs.declared.order.Refusal.{Refusal}
 use Rattle.smil_model.specs.declared.order.Refusal.TheVariants.{DiaryFull}
 use Rattle.smil_model.specs.document.Limits.{limits}
 use Rattle.smil_model.specs.shown.Orders.{Presentation, opened}
-use Rattle.smil_outside.specs.Lines.{lines}
 use Rattle.smil_grammar.specs.declared.read.Read.{Read}
 use Rattle.smil_grammar.specs.declared.read.Read.TheVariants.{To}
 use Rattle.smil_grammar.specs.Results.{◌>>=◌}

@@ -2,8 +2,8 @@
 use Rattle.std.specs.Prelude.{Bool, true, false, ◌||◌, ◌≡◌, ◌⊎◌, ℕ, List, [], min, ◌<◌, ◌≤◌, ◌+◌, ◌-◌, length, take, nat_lt, ◌++◌, Option, Some, None, Result, Ok, Err, if◌then◌else◌}
 use Rattle.std.specs.Result.{result_unwrap_or}
 use Rattle.std.specs.Io.KnownBytes.{Appends, Consumes, IsAtEnd}
+use Rattle.std.specs.Str.Lines.{lines}
 use Rattle.smil_outside.specs.declared.line.TheConstants.{INPUT_BYTES}
-use Rattle.smil_outside.specs.Lines.{lines}
 use Rattle.smil_model.specs.declared.limits.TheConstants.{LINE_BYTES, NAME_BYTES}
 use Rattle.smil_model.specs.declared.order.Refusal.{Refusal}
 use Rattle.smil_model.specs.declared.order.Refusal.TheVariants.{Memory}

@@ -1,11 +1,12 @@
 -- Laws over transcripts, each the contract of a function of its own.
 use Rattle.std.specs.Prelude.{◌≡◌, ◌⊎◌, ℕ, Bool, true, false, ◌||◌, List, [], ◌∷◌, ◌++◌, map, filter, fold, flat_map, bytes_eq, codes, decimal, Option, Some, None, option_map, Result, Ok, Err, if◌then◌else◌}
 use Rattle.std.specs.List.{list_any, AllZip}
+use Rattle.std.specs.Str.Lines.{lines}
 use Rattle.smil_model.specs.declared.order.Refusal.{Refusal}
 use Rattle.smil_model.specs.declared.order.Refusal.TheVariants.{Memory, TooManyPresentations}
 use Rattle.smil_model.specs.document.Limits.{Limits}
 use Rattle.smil_model.specs.shown.Lines.{refusal_line, line_of as text_line}
-use Rattle.smil_outside.specs.Lines.{lines, whole_lines}
+use Rattle.smil_outside.specs.Lines.{whole_lines}
 use Rattle.smil_grammar.specs.declared.read.Read.{Read}
 use Rattle.smil_grammar.specs.declared.read.Read.TheVariants.{Load, Close}
 use Rattle.smil_grammar.specs.Scripts.{first_of, is_title, line_of}

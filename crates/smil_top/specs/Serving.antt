@@ -1,8 +1,9 @@
 -- What a call of `serve` has read and written, by its status.
 use Rattle.std.specs.Prelude.{◌≡◌, ◌⊎◌, ℕ, ◌<◌, ◌≤◌, Bool, true, false, nat_lt, List, [], ◌++◌, length, take, Option, Some, None}
 use Rattle.std.specs.Io.KnownBytes.{Appends, Consumes, IsAtEnd}
+use Rattle.std.specs.Str.Lines.{lines}
 use Rattle.smil_outside.specs.declared.line.TheConstants.{INPUT_BYTES}
-use Rattle.smil_outside.specs.Lines.{lines, whole_lines}
+use Rattle.smil_outside.specs.Lines.{whole_lines}
 use Rattle.smil_words.specs.declared.mode.Mode.{Mode}
 use Rattle.smil_words.specs.declared.mode.Mode.TheVariants as mode
 use Rattle.smil_top.specs.declared.status.Status.{Status}

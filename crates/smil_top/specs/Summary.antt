@@ -2,9 +2,10 @@
 use Rattle.std.specs.Prelude.{ℕ, List, [], ◌∷◌, ◌++◌, length, codes, decimal, ◌==◌}
 use Rattle.std.specs.List.{count_by}
 use Rattle.std.specs.Option.{option_map_or}
+use Rattle.std.specs.Str.Lines.{lines}
 use Rattle.smil_model.specs.shown.Orders.{Presentation}
 use Rattle.smil_model.specs.shown.Lines.{line_of}
-use Rattle.smil_outside.specs.Lines.{line_feed, lines}
+use Rattle.smil_outside.specs.Lines.{line_feed}
 use Rattle.smil_gen.specs.Session.{session_text}
 use Rattle.smil_top.specs.Cut.{OrderLines, orders}
 use Rattle.smil_top.specs.Session.{Session, presentation_of}
