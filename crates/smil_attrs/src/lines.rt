@@ -9,7 +9,7 @@ ghost use Rattle.smil_grammar.specs.Allowed.{IsAttrs};
 use super::kinds;
 use super::spellings::put_attr;
 use itoa::Buffer;
-use smil_lexis::texts::{append, past};
+use smil_lexis::texts::past;
 use smil_model::{AttrName, Attrs, Bytes, Kind, Node};
 use smil_time_list::offsets::count;
 use std::alloc::AllocError;
@@ -47,7 +47,7 @@ fn put_indent(depth: u32, out: &mut Bytes) -> Result<(), AllocError>
     ensures err { OnErr result (Begins out.old out.new) }
 {
     for _level in 0..depth {
-        append(out, b"  ")?;
+        out.append(b"  ")?;
     }
     Ok(())
 }
@@ -72,7 +72,7 @@ fn put_node(depth: u32, kind: Kind, attrs: &Attrs, out: &mut Bytes) -> Result<()
     ensures err { OnErr result (Begins out.old out.new) }
 {
     put_indent(depth, out)?;
-    append(out, kinds::text(kind))?;
+    out.append(kinds::text(kind))?;
     put_attrs(kind, attrs, out)
 }
 
@@ -102,8 +102,8 @@ fn put_number(text: &[u8], number: u32, out: &mut Bytes) -> Result<(), AllocErro
     ensures err { OnErr result (Begins out.old out.new) }
 {
     let mut buffer = Buffer::new();
-    append(out, text)?;
-    append(out, buffer.format(number).as_bytes())
+    out.append(text)?;
+    out.append(buffer.format(number).as_bytes())
 }
 
 #[tactic(auto, using(smil_lexis::proofs::Growing::begins_on))]
@@ -114,7 +114,7 @@ fn put_node_2(depth: u32, node: &Node, out: &mut Bytes) -> Result<(), AllocError
     ensures err { OnErr result (Begins out.old out.new) }
 {
     put_indent(depth, out)?;
-    append(out, kinds::text(node.kind))?;
+    out.append(kinds::text(node.kind))?;
     put_number(b" #", node.serial, out)?;
     put_attrs(node.kind, &node.attrs, out)
 }

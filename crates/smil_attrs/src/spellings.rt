@@ -9,7 +9,6 @@ ghost use Rattle.smil_attrs.specs.Fits.{FitsClock, FitsDur, FitsTime, FitsAttr};
 use super::names;
 use itoa::Buffer;
 use smil_clock_value::write_clock;
-use smil_lexis::texts::append;
 use smil_model::{
     Act, AttrName, Attrs, Bytes, Count, Dur, Endsync, Fill, FillDefault, Items, Restart,
     RestartDefault, Time,
@@ -92,8 +91,8 @@ fn put_dur(dur: Dur, out: &mut Bytes) -> Result<(), AllocError>
 {
     match dur {
         Dur::Clock(value) => write_clock(value, out),
-        Dur::Media => append(out, b"media"),
-        Dur::Indefinite => append(out, b"indefinite"),
+        Dur::Media => out.append(b"media"),
+        Dur::Indefinite => out.append(b"indefinite"),
     }
 }
 
@@ -104,7 +103,7 @@ fn put_time(time: Time, out: &mut Bytes) -> Result<(), AllocError>
 {
     match time {
         Time::At(value) => write_clock(value, out),
-        Time::Indefinite => append(out, b"indefinite"),
+        Time::Indefinite => out.append(b"indefinite"),
         Time::Unresolved => Ok(()),
     }
 }
@@ -121,11 +120,11 @@ fn put_decimals(thousandths: u64, out: &mut Bytes) -> Result<(), AllocError>
     if thousandths == 0 {
         Ok(())
     } else if thousandths % 100 == 0 {
-        append(out, &[b'.', first])
+        out.append(&[b'.', first])
     } else if thousandths % 10 == 0 {
-        append(out, &[b'.', first, second])
+        out.append(&[b'.', first, second])
     } else {
-        append(out, &[b'.', first, second, third])
+        out.append(&[b'.', first, second, third])
     }
 }
 
@@ -136,10 +135,10 @@ fn put_count(count: Count, out: &mut Bytes) -> Result<(), AllocError>
     match count {
         Count::Thousandths(number) => {
             let mut buffer = Buffer::new();
-            append(out, buffer.format(number / 1000).as_bytes())?;
+            out.append(buffer.format(number / 1000).as_bytes())?;
             put_decimals(number % 1000, out)
         }
-        Count::Indefinite => append(out, b"indefinite"),
+        Count::Indefinite => out.append(b"indefinite"),
     }
 }
 
@@ -149,9 +148,9 @@ fn put_name(name: AttrName, out: &mut Bytes) -> Result<(), AllocError>
     ensures ok { OnOk result (out.new ≡ out.old ++ 32 ∷ (name_text name ++ codes "=\"")) }
     ensures err { OnErr result (Begins out.old out.new) }
 {
-    append(out, b" ")?;
-    append(out, names::text(name))?;
-    append(out, b"=\"")
+    out.append(b" ")?;
+    out.append(names::text(name))?;
+    out.append(b"=\"")
 }
 
 // An attribute whose value is this text.
@@ -161,8 +160,8 @@ fn put_word(name: AttrName, word: &[u8], out: &mut Bytes) -> Result<(), AllocErr
     ensures err { OnErr result (Begins out.old out.new) }
 {
     put_name(name, out)?;
-    append(out, word)?;
-    append(out, b"\"")
+    out.append(word)?;
+    out.append(b"\"")
 }
 
 fn put_text(name: AttrName, value: &Option<Bytes>, out: &mut Bytes) -> Result<(), AllocError>
@@ -258,7 +257,7 @@ fn put_list(name: AttrName, value: &Option<Items>, out: &mut Bytes) -> Result<()
         Some(items) => {
             put_name(name, out)?;
             write_list(items, out)?;
-            append(out, b"\"")
+            out.append(b"\"")
         }
         None => Ok(()),
     }
@@ -275,7 +274,7 @@ fn put_min(name: AttrName, value: Option<i64>, out: &mut Bytes) -> Result<(), Al
         Some(value) => {
             put_name(name, out)?;
             write_clock(value, out)?;
-            append(out, b"\"")
+            out.append(b"\"")
         }
         None => Ok(()),
     }
@@ -291,7 +290,7 @@ fn put_duration(name: AttrName, value: Option<Dur>, out: &mut Bytes) -> Result<(
         Some(value) => {
             put_name(name, out)?;
             put_dur(value, out)?;
-            append(out, b"\"")
+            out.append(b"\"")
         }
         None => Ok(()),
     }
@@ -307,7 +306,7 @@ fn put_limit(name: AttrName, value: Option<Time>, out: &mut Bytes) -> Result<(),
         Some(value) => {
             put_name(name, out)?;
             put_time(value, out)?;
-            append(out, b"\"")
+            out.append(b"\"")
         }
         None => Ok(()),
     }
@@ -323,7 +322,7 @@ fn put_repeat_count(name: AttrName, value: Option<Count>, out: &mut Bytes) -> Re
         Some(value) => {
             put_name(name, out)?;
             put_count(value, out)?;
-            append(out, b"\"")
+            out.append(b"\"")
         }
         None => Ok(()),
     }

@@ -11,7 +11,7 @@ use smil_clock_value::clock_within;
 use smil_grammar::{AttrFault, ListFault};
 use smil_lexis::numbers::{fraction, short};
 use smil_lexis::runs;
-use smil_lexis::texts::{copied, cut, is};
+use smil_lexis::texts::{cut, is};
 use smil_lexis::utf8::is_utf8;
 use smil_model::{
     Act, AttrName, Bytes, Count, Dur, Edge, Endsync, Fill, FillDefault, Items, Restart,
@@ -226,7 +226,7 @@ pub fn id(alloc: Global, text: &[u8]) -> Result<Bytes, AttrFault>
     if !is_id(text) {
         return Err(BAD);
     }
-    Ok(copied(alloc, text)?)
+    Ok(Bytes::of(alloc, text)?)
 }
 
 /// A value of `endsync`. Keywords go before ids.
@@ -263,7 +263,7 @@ pub fn kept(alloc: Global, text: &[u8]) -> Result<Bytes, AttrFault>
     if !is_utf8(text) || !all_kept(text) {
         return Err(BAD);
     }
-    Ok(copied(alloc, text)?)
+    Ok(Bytes::of(alloc, text)?)
 }
 
 /// A value of `attributeName`.
@@ -273,7 +273,7 @@ pub fn attribute_name(alloc: Global, text: &[u8]) -> Result<Bytes, AttrFault>
     if !runs::is_attribute_name(text) {
         return Err(BAD);
     }
-    Ok(copied(alloc, text)?)
+    Ok(Bytes::of(alloc, text)?)
 }
 
 /// The list of `begin` or `end`.

@@ -10,7 +10,7 @@ ghost use Rattle.smil_lexis.specs.Capped.{capped};
 use itoa::Buffer;
 pub use smil_grammar::ClockFault;
 use smil_lexis::numbers::{CAP, decimal, seconds, sixty, whole};
-use smil_lexis::texts::{append, cut};
+use smil_lexis::texts::cut;
 use smil_model::Bytes;
 use std::alloc::AllocError;
 
@@ -119,8 +119,8 @@ pub fn write_clock(value: i64, out: &mut Bytes) -> Result<(), AllocError>
 {
     let before = out.len();
     let mut buffer = Buffer::new();
-    append(out, buffer.format(value as u64).as_bytes())?;
-    if let Err(fault) = append(out, b"ms") {
+    out.append(buffer.format(value as u64).as_bytes())?;
+    if let Err(fault) = out.append(b"ms") {
         out.cut_back(before);
         return Err(fault);
     }

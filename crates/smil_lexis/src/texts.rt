@@ -1,7 +1,7 @@
-//! Cutting texts, and writing them.
+//! Cutting and comparing texts.
 
 ghost use Rattle.smil_model.specs.document.Words.{is_key as is_key_byte};
-ghost use Rattle.std.specs.Prelude.{◌≡◌, ◌<◌, drop, ◌==◌, ◌++◌, length, position, option_map, IfSome, IfOk, bytes_eq, ◌≤◌, OnOk, OnErr};
+ghost use Rattle.std.specs.Prelude.{◌≡◌, ◌<◌, drop, ◌==◌, length, position, option_map, IfSome, IfOk, bytes_eq, ◌≤◌};
 ghost use Rattle.std.specs.List.{suffix_len};
 ghost use Rattle.smil_grammar.specs.Texts.{cut_at, is_white as is_white_byte, trim_front as front_trimmed, trim as trimmed, behind as behind_byte};
 ghost use Rattle.smil_grammar.specs.Words.{unescaped as unescaped_bytes};
@@ -32,30 +32,6 @@ pub fn is_key(byte: u8) -> bool
     ensures { result ≡ is_key_byte byte }
 {
     (33..=126).contains(&byte) && byte != b'"' && byte != b';' && byte != b'\\'
-}
-
-/// Appends a text. After a refusal `out` is as before.
-pub fn append(out: &mut Bytes, text: &[u8]) -> Result<(), AllocError>
-    ensures ok { OnOk result (out.new ≡ out.old ++ text.now) }
-    ensures err { OnErr result (out.new ≡ out.old) }
-{
-    let before = out.len();
-    for byte in text {
-        if let Err(fault) = out.push(*byte) {
-            out.cut_back(before);
-            return Err(fault);
-        }
-    }
-    Ok(())
-}
-
-/// A list of the bytes of a text.
-pub fn copied(alloc: Global, text: &[u8]) -> Result<Bytes, AllocError>
-    ensures { IfOk result (λ bytes. bytes ≡ text.now) }
-{
-    let mut bytes = Bytes::new(alloc);
-    append(&mut bytes, text)?;
-    Ok(bytes)
 }
 
 /// A list of the bytes of a text but its backslashes.

@@ -11,7 +11,6 @@ ghost use Rattle.smil_outline.specs.Written.{line_text, nodes_text};
 
 use super::branch::Branch;
 use smil_attrs::{write_header, write_node, write_node_2};
-use smil_lexis::texts::append;
 use smil_model::{Bytes, Doc, Kind, Node};
 use std::alloc::AllocError;
 
@@ -68,7 +67,7 @@ fn put_next(
 {
     let depth = depth_below(branch, node.parent);
     put_line(node, depth, saved, out)?;
-    append(out, b"\n")?;
+    out.append(b"\n")?;
     branch.put(depth, node.serial, node.kind);
     Ok(())
 }
@@ -114,7 +113,7 @@ fn put_saved(doc: &Doc, out: &mut Bytes) -> Result<(), AllocError>
     ensures err { OnErr result (Begins out.old out.new) }
 {
     write_header(doc.next(), out)?;
-    append(out, b"\n")?;
+    out.append(b"\n")?;
     put_nodes(doc, true, out)
 }
 

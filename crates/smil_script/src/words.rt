@@ -13,7 +13,7 @@ ghost use Rattle.smil_script.specs.Gives.{GivesName, GivesRead, other_names};
 
 use smil_lexis::numbers::short;
 use smil_lexis::runs;
-use smil_lexis::texts::{behind, copied, is};
+use smil_lexis::texts::{behind, is};
 use smil_lexis::utf8::is_utf8;
 use smil_model::{Bytes, NAME_BYTES, Refusal, Who};
 use smil_time_list::offsets::count;
@@ -54,7 +54,7 @@ pub fn own(alloc: Global, text: &[u8]) -> Result<Bytes, Refusal>
     ensures same { IfOk result (λ bytes. bytes ≡ text.now) }
     ensures memory { IfErr result (λ refusal. refusal ≡ Memory) }
 {
-    Ok(copied(alloc, text)?)
+    Ok(Bytes::of(alloc, text)?)
 }
 
 // An id that is all of a word.

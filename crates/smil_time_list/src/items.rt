@@ -10,7 +10,7 @@ ghost use Rattle.smil_grammar.specs.Items.{item_of, GivesItem, sync_of, repeat_o
 use super::offsets::{count, is_sign, offset, tail};
 use smil_grammar::ItemFault;
 use smil_lexis::runs;
-use smil_lexis::texts::{behind, copied, cut, is, is_key, past, unescaped};
+use smil_lexis::texts::{behind, cut, is, is_key, past, unescaped};
 use smil_model::{Bytes, Edge, Item};
 use std::alloc::Global;
 
@@ -35,7 +35,7 @@ fn event(alloc: Global, who: Option<Bytes>, word: &[u8], rest: &[u8]) -> Result<
     ensures { GivesItem result (ok_or (with_tail (Event who word.now) rest.now) Bad) }
 {
     let offset = tail(rest).ok_or(ItemFault::Bad)?;
-    let name = copied(alloc, word)?;
+    let name = Bytes::of(alloc, word)?;
     Ok(Item::Event { who, name, offset })
 }
 

@@ -9,7 +9,6 @@ ghost use Rattle.smil_time_list.specs.Joined.{next_text};
 
 use itoa::Buffer;
 use smil_clock_value::write_clock;
-use smil_lexis::texts::append;
 use smil_model::{Bytes, Edge, Item, Items};
 use std::alloc::AllocError;
 
@@ -19,7 +18,7 @@ fn put_escaped(id: &[u8], out: &mut Bytes) -> Result<(), AllocError>
 {
     for byte in id {
         if *byte == b'-' || *byte == b'.' {
-            append(out, b"\\")?;
+            out.append(b"\\")?;
         }
         out.push(*byte)?;
     }
@@ -32,7 +31,7 @@ fn put_signed(sign: &[u8], offset: i64, out: &mut Bytes) -> Result<(), AllocErro
     ensures ok { OnOk result (out.new ≡ out.old ++ (sign.now ++ clock_text (nat_abs offset))) }
     ensures err { OnErr result (Begins out.old out.new) }
 {
-    append(out, sign)?;
+    out.append(sign)?;
     write_clock(offset, out)
 }
 
@@ -69,7 +68,7 @@ fn put_who(who: &Option<Bytes>, out: &mut Bytes) -> Result<(), AllocError>
     match who {
         Some(id) => {
             put_escaped(id.slice(), out)?;
-            append(out, b".")
+            out.append(b".")
         }
         None => Ok(()),
     }
@@ -80,8 +79,8 @@ fn put_edge(edge: Edge, out: &mut Bytes) -> Result<(), AllocError>
     ensures err { OnErr result (Begins out.old out.new) }
 {
     match edge {
-        Edge::Begin => append(out, b"begin"),
-        Edge::End => append(out, b"end"),
+        Edge::Begin => out.append(b"begin"),
+        Edge::End => out.append(b"end"),
     }
 }
 
@@ -92,7 +91,7 @@ fn put_sync(who: &Bytes, edge: Edge, offset: i64, out: &mut Bytes) -> Result<(),
     ensures err { OnErr result (Begins out.old out.new) }
 {
     put_escaped(who.slice(), out)?;
-    append(out, b".")?;
+    out.append(b".")?;
     put_edge(edge, out)?;
     put_tail(offset, out)
 }
@@ -109,7 +108,7 @@ fn put_event(
     ensures err { OnErr result (Begins out.old out.new) }
 {
     put_who(who, out)?;
-    append(out, name.slice())?;
+    out.append(name.slice())?;
     put_tail(offset, out)
 }
 
@@ -120,10 +119,10 @@ fn put_repeat(who: &Option<Bytes>, n: u32, offset: i64, out: &mut Bytes) -> Resu
     ensures err { OnErr result (Begins out.old out.new) }
 {
     put_who(who, out)?;
-    append(out, b"repeat(")?;
+    out.append(b"repeat(")?;
     let mut buffer = Buffer::new();
-    append(out, buffer.format(n).as_bytes())?;
-    append(out, b")")?;
+    out.append(buffer.format(n).as_bytes())?;
+    out.append(b")")?;
     put_tail(offset, out)
 }
 
@@ -132,9 +131,9 @@ fn put_call(key: u8, out: &mut Bytes) -> Result<(), AllocError>
     ensures ok { OnOk result (out.new ≡ out.old ++ (codes "accesskey(" ++ (key ∷ []) ++ codes ")")) }
     ensures err { OnErr result (Begins out.old out.new) }
 {
-    append(out, b"accesskey(")?;
-    append(out, &[key])?;
-    append(out, b")")
+    out.append(b"accesskey(")?;
+    out.append(&[key])?;
+    out.append(b")")
 }
 
 #[tactic(auto, using(smil_lexis::proofs::Growing::begins_on))]
@@ -158,7 +157,7 @@ fn put_item(item: &Item, out: &mut Bytes) -> Result<(), AllocError>
         Item::Event { who, name, offset } => put_event(who, name, *offset, out),
         Item::Repeat { who, n, offset } => put_repeat(who, *n, *offset, out),
         Item::Key { key, offset } => put_key(*key, *offset, out),
-        Item::Indefinite => append(out, b"indefinite"),
+        Item::Indefinite => out.append(b"indefinite"),
     }
 }
 
@@ -169,7 +168,7 @@ fn put_next(place: usize, item: &Item, out: &mut Bytes) -> Result<(), AllocError
     ensures err { OnErr result (Begins out.old out.new) }
 {
     if place > 0 {
-        append(out, b";")?;
+        out.append(b";")?;
     }
     put_item(item, out)
 }

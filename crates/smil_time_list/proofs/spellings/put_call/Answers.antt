@@ -7,5 +7,5 @@ use Rattle.smil_time_list.proofs.spellings.put_call.Goals as goal
 pub returns-clause-ok : goal.returns-clause-ok
 returns-clause-ok c =
     on_ok_weaker c.append-3.result
-    (λ last. in_a_row c.args.out.now c.append.new.out c.append-2.new.out c.append-3.new.out (codes "accesskey(") (c.args.key ∷ []) (codes ")") c.in_ok-append.ensures.ok c.in_ok-append-2.ensures.ok last)
+    (λ last. in_a_row c.args.out.now c.append.new.self c.append-2.new.self c.append-3.new.self (codes "accesskey(") (c.args.key ∷ []) (codes ")") c.in_ok-append.ensures.ok c.in_ok-append-2.ensures.ok last)
     c.append-3.ensures.ok
