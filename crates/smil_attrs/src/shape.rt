@@ -1,11 +1,11 @@
 //! The shape of node lines.
 
 ghost use Rattle.std.specs.Prelude.{◌≡◌, ◌<◌, ◌≤◌, ◌+◌, ◌-◌, ◌^◌, ℕ, Option, List, take, length, option_map, Some, None, IsSome, is_some, bytes_eq, if◌then◌else◌};
-ghost use Rattle.std.specs.Char.{is_ascii_digit};
 ghost use Rattle.std.specs.List.{prefix_len, list_all, list_any};
-ghost use Rattle.smil_grammar.specs.Nodes.{Written as WrittenText, is_space, is_no_space, is_of_kind, shaped, shape_of, saved_shape_of, attributes_at, pieces_of, is_named, attribute_at, repeats as repeats_name};
+ghost use Rattle.smil_grammar.specs.Nodes.{Written as WrittenText, is_no_space, is_of_kind, shaped, shape_of, saved_shape_of, attributes_at, pieces_of, is_named, attribute_at, repeats as repeats_name};
 ghost use Rattle.smil_attrs.specs.Left.{Passes, attributes_in, written_in};
 
+use smil_lexis::runs;
 use smil_lexis::texts::{behind, cut, is};
 use smil_lexis::utf8::is_utf8;
 use smil_time_list::offsets::count;
@@ -46,23 +46,10 @@ impl<'a> Model for Attributes<'a> {
     ghost invariant = { λ a. a.place + length a.text.now < 2 ^ 64 };
 }
 
-fn spaces(text: &[u8]) -> usize
-    ensures len { result ≡ prefix_len is_space text.now }
-    ensures within { result ≤ length text.now }
-{
-    text.iter().take_while(|byte| **byte == b' ').count()
-}
-
 fn no_space(text: &[u8]) -> bool
     ensures { result ≡ list_all is_no_space text.now }
 {
     text.iter().all(|byte| *byte != b' ')
-}
-
-fn only_spaces(text: &[u8]) -> bool
-    ensures { result ≡ list_all is_space text.now }
-{
-    text.iter().all(|byte| *byte == b' ')
 }
 
 // The name before a `=`.
@@ -81,7 +68,7 @@ fn attribute<'a>(lead: &'a [u8], value: &'a [u8], place: usize) -> Option<Writte
     requires { place + length lead.now + 1 < 2 ^ 64 }
     ensures { result ≡ attribute_at place lead.now value.now }
 {
-    let (front, run) = lead.split_at(spaces(lead));
+    let (front, run) = lead.split_at(runs::spaces(lead));
     match name(run) {
         Some(name) if !front.is_empty() => Some(Written {
             name,
@@ -128,7 +115,7 @@ impl<'a> Attributes<'a> {
     {
         let mut left = self.again();
         while left.next().is_some() {}
-        only_spaces(left.text)
+        runs::is_spaces(left.text)
     }
 
     // Whether an attribute of this name is left.
@@ -189,13 +176,6 @@ fn kind_len(line: &[u8]) -> usize
         .count()
 }
 
-fn digits(text: &[u8]) -> usize
-    ensures len { result ≡ prefix_len is_ascii_digit text.now }
-    ensures within { result ≤ length text.now }
-{
-    text.iter().take_while(|byte| byte.is_ascii_digit()).count()
-}
-
 impl<'a> Shape<'a> {
     // A kind, and what stands behind it from this place of the line on.
     fn with(kind: &'a [u8], text: &'a [u8], place: usize) -> Option<Shape<'a>>
@@ -223,7 +203,7 @@ impl<'a> Shape<'a> {
     {
         let (kind, rest) = line.split_at(kind_len(line));
         let text = behind(behind(rest, b' ')?, b'#')?;
-        let len = digits(text);
+        let len = runs::digits(text);
         let (digits, rest) = text.split_at(len);
         let serial = count(digits)?;
         let shape = Shape::with(kind, rest, kind.len() + 2 + len)?;

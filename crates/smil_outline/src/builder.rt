@@ -2,8 +2,7 @@
 
 ghost use Rattle.std.specs.Prelude.{◌≡◌, ◌≤◌, ◌<◌, ◌+◌, ◌/◌, ◌==◌, [], take, length, Option, Some, None, Ok, true, false, nat_lt, IfOk, IfErr, IfSome, OnOk, OnErr};
 ghost use Rattle.smil_model.specs.declared.limits.TheConstants.{NODES, REFERENCES};
-ghost use Rattle.std.specs.List.{prefix_len};
-ghost use Rattle.smil_grammar.specs.Nodes.{is_space, is_no_space, kind_of_shape};
+ghost use Rattle.smil_grammar.specs.Nodes.{kind_of_shape};
 ghost use Rattle.smil_model.specs.document.Limits.{limits};
 ghost use Rattle.smil_model.specs.document.Valid.{IsValid};
 ghost use Rattle.smil_grammar.specs.Attributes.{is_class as is_class_kind};
@@ -16,6 +15,7 @@ use super::branch::Branch;
 use super::nodes::Nodes;
 use super::refusals::refused;
 use smil_attrs::{Shape, fits, read_header, shape_attrs, shape_kind};
+use smil_lexis::runs;
 use smil_lexis::texts::is;
 use smil_model::{Attrs, DEPTH, Doc, Duplicate, Kind, LINE_BYTES, NODES, Node, Refusal};
 use std::alloc::{AllocError, Global};
@@ -51,21 +51,6 @@ impl Model for Builder {
     ghost view = { λ a. record { nodes = a.nodes; branch = a.branch; next = a.next } };
 
     ghost invariant = { λ a. IsKept (record { nodes = a.nodes; branch = a.branch; next = a.next }) };
-}
-
-fn spaces(line: &[u8]) -> usize
-    ensures len { result ≡ prefix_len is_space line.now }
-    ensures within { result ≤ length line.now }
-{
-    line.iter().take_while(|byte| **byte == b' ').count()
-}
-
-// How many bytes at the front belong to a word.
-fn word(text: &[u8]) -> usize
-    ensures len { result ≡ prefix_len is_no_space text.now }
-    ensures within { result ≤ length text.now }
-{
-    text.iter().take_while(|byte| **byte != b' ').count()
 }
 
 // The kind of a node line of this shape behind so many spaces.
@@ -113,8 +98,8 @@ impl Builder {
     fn opens(&self, line: &[u8]) -> bool
         ensures { result ≡ opens_saved self.now line.now }
     {
-        let (_, text) = line.split_at(spaces(line));
-        let (word, _) = text.split_at(word(text));
+        let (_, text) = line.split_at(runs::spaces(line));
+        let (word, _) = text.split_at(runs::word(text));
         self.next.is_none() && self.nodes.len() == 0 && is(word, b"outline")
     }
 
@@ -316,7 +301,7 @@ impl Builder {
         ensures refusal { IfErr result (GivesRefusal (with_line self.old line.now)) }
         ensures unchanged { OnErr result (self.new ≡ self.old) }
     {
-        let spaces = spaces(line);
+        let spaces = runs::spaces(line);
         let (_, text) = line.split_at(spaces);
         let Some((serial, shape)) = self.shape(text) else {
             return Err(Refusal::BadOutline);

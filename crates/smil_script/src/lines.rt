@@ -9,10 +9,10 @@ ghost use Rattle.smil_script.specs.Gives.{GivesRead, HoldsGiven, with_name};
 ghost use Rattle.smil_script.specs.Loads.{ends_load as ends_load_line};
 
 use super::orders::order;
-use super::word::{Word, spaces, word_len};
+use super::word::Word;
 use super::words::{is_title, own};
 use smil_grammar::Read;
-use smil_lexis::runs::is_white;
+use smil_lexis::runs;
 use smil_lexis::texts::is;
 use smil_model::{Bytes, Refusal};
 use std::alloc::Global;
@@ -28,7 +28,7 @@ pub fn is_blank(line: &[u8]) -> bool
 fn is_all_white(line: &[u8]) -> bool
     ensures { result ≡ list_all is_white_byte line.now }
 {
-    line.iter().all(|byte| is_white(*byte))
+    line.iter().all(|byte| runs::is_white(*byte))
 }
 
 // The presentation's name that is the rest of a line.
@@ -100,8 +100,8 @@ pub fn read_line(alloc: Global, line: &[u8]) -> Result<Read, Refusal>
 pub fn opens_load(line: &[u8]) -> bool
     ensures { result ≡ opens_load_line line.now }
 {
-    let (_, text) = line.split_at(spaces(line));
-    let (word, _) = text.split_at(word_len(text));
+    let (_, text) = line.split_at(runs::spaces(line));
+    let (word, _) = text.split_at(runs::word(text));
     is(word, b"load")
 }
 

@@ -8,9 +8,10 @@ ghost use Rattle.smil_model.specs.document.Values.{is_clock};
 ghost use Rattle.smil_model.specs.shown.Answers.{IsGiven, IsName};
 ghost use Rattle.smil_script.specs.Gives.{GivesRead, GivesWho, with_value};
 
-use super::word::{Word, is_spaces};
+use super::word::Word;
 use super::words;
 use smil_clock_value::clock_within;
+use smil_lexis::runs;
 use smil_lexis::texts::{behind, cut, is_key};
 use smil_model::{Order, Refusal, Who};
 use std::alloc::Global;
@@ -121,7 +122,7 @@ fn quoted<'a>(line: &Word<'a>) -> Option<Word<'a>>
     let from = line.skipped();
     let inner = behind(from.text, b'"')?;
     let (value, rest) = cut(inner, b'"')?;
-    if line.place == from.place || !is_spaces(rest) {
+    if line.place == from.place || !runs::is_spaces(rest) {
         return None;
     }
     Some(Word {

@@ -1,10 +1,9 @@
 //! What is left of a line.
 
-ghost use Rattle.std.specs.Prelude.{◌≡◌, ◌<◌, ◌≤◌, ◌+◌, ◌^◌, length};
-ghost use Rattle.std.specs.List.{prefix_len, list_all};
-ghost use Rattle.smil_grammar.specs.Nodes.{is_space, is_no_space};
+ghost use Rattle.std.specs.Prelude.{◌≡◌};
 ghost use Rattle.smil_grammar.specs.Scripts.{skipped as skipped_of, first_of, is_ended as is_ended_word};
 
+use smil_lexis::runs;
 use std::marker::Model;
 
 /// A word of a line, or what is left of the line, and its place in it.
@@ -25,35 +24,12 @@ impl<'a> Model for Word<'a> {
     ghost invariant = { λ word. word.place + length word.text.now < 2_147_483_648 };
 }
 
-/// How many spaces stand at the front.
-pub fn spaces(text: &[u8]) -> usize
-    ensures len { result ≡ prefix_len is_space text.now }
-    ensures within { result ≤ length text.now }
-{
-    text.iter().take_while(|byte| **byte == b' ').count()
-}
-
-/// How many bytes the word at the front has.
-pub fn word_len(text: &[u8]) -> usize
-    ensures len { result ≡ prefix_len is_no_space text.now }
-    ensures within { result ≤ length text.now }
-{
-    text.iter().take_while(|byte| **byte != b' ').count()
-}
-
-/// Whether a text is nothing but spaces.
-pub fn is_spaces(text: &[u8]) -> bool
-    ensures { result ≡ list_all is_space text.now }
-{
-    text.iter().all(|byte| *byte == b' ')
-}
-
 impl<'a> Word<'a> {
     /// The line from its next word on.
     pub fn skipped(&self) -> Word<'a>
         ensures { result ≡ skipped_of self.now }
     {
-        let len = spaces(self.text);
+        let len = runs::spaces(self.text);
         let (_, text) = self.text.split_at(len);
         Word {
             text,
@@ -66,7 +42,7 @@ impl<'a> Word<'a> {
         ensures { result ≡ first_of self.now }
     {
         let from = self.skipped();
-        let len = word_len(from.text);
+        let len = runs::word(from.text);
         let (text, rest) = from.text.split_at(len);
         let word = Word {
             text,
@@ -83,6 +59,6 @@ impl<'a> Word<'a> {
     pub fn is_ended(&self) -> bool
         ensures { result ≡ is_ended_word self.now }
     {
-        is_spaces(self.text)
+        runs::is_spaces(self.text)
     }
 }
