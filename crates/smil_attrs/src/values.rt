@@ -1,6 +1,6 @@
 //! Values of attributes.
 
-ghost use Rattle.std.specs.Prelude.{◌≡◌, ◌<◌, ◌&&◌, ℕ, Option, List, option_map, is_some, Some, IfSome};
+ghost use Rattle.std.specs.Prelude.{◌≡◌, ◌&&◌, ℕ, Option, List, option_map, is_some, Some};
 ghost use Rattle.std.specs.List.{list_all};
 ghost use Rattle.smil_grammar.specs.Numbers.{with_fraction};
 ghost use Rattle.smil_grammar.specs.Lists.{list_of, is_begin};
@@ -9,7 +9,7 @@ ghost use Rattle.smil_attrs.specs.Reads.{GivesValue, GivesItems};
 
 use smil_clock_value::clock_within;
 use smil_grammar::{AttrFault, ListFault};
-use smil_lexis::numbers::{fraction, short};
+use smil_lexis::numbers::{fraction, short_number};
 use smil_lexis::runs;
 use smil_lexis::texts::{cut, is};
 use smil_lexis::utf8::is_utf8;
@@ -174,17 +174,6 @@ pub fn repeat_dur(text: &[u8]) -> Option<Time>
             _ => None,
         }
     }
-}
-
-// The number of 1 to 9 digits.
-fn short_number(digits: &[u8]) -> Option<u32>
-    ensures number { result ≡ short_number_of digits.now }
-    ensures bound { IfSome result (λ n. n < 1_000_000_000) }
-{
-    if digits.len() > 9 {
-        return None;
-    }
-    short(digits)
 }
 
 // A number in thousandths.

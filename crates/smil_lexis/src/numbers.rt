@@ -2,6 +2,7 @@
 
 ghost use Rattle.std.specs.Prelude.{◌≡◌, ℕ, length, ◌<◌, ◌≤◌, ◌*◌, IfSome, option_map, min};
 ghost use Rattle.smil_grammar.specs.Numbers.{number_of, sixty_of, weight, fraction_of, with_fraction};
+ghost use Rattle.smil_grammar.specs.Values.{short_number_of};
 ghost use Rattle.smil_lexis.specs.Capped.{capped};
 
 use super::texts::cut;
@@ -37,6 +38,17 @@ pub fn short(digits: &[u8]) -> Option<u32>
 {
     let number = whole(digits)?;
     Some(number as u32)
+}
+
+/// The number that digits write, of which there are at most 9.
+pub fn short_number(digits: &[u8]) -> Option<u32>
+    ensures number { result ≡ short_number_of digits.now }
+    ensures bound { IfSome result (λ n. n < 1_000_000_000) }
+{
+    if digits.len() > 9 {
+        return None;
+    }
+    short(digits)
 }
 
 /// The number of two digits, where it is below 60.

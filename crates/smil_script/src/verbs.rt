@@ -11,6 +11,7 @@ ghost use Rattle.smil_script.specs.Gives.{GivesRead, GivesWho, with_value};
 use super::word::Word;
 use super::words;
 use smil_clock_value::clock_within;
+use smil_lexis::numbers::short_number;
 use smil_lexis::runs;
 use smil_lexis::texts::{behind, cut, is_key};
 use smil_model::{Order, Refusal, Who};
@@ -174,7 +175,7 @@ pub fn insert(alloc: Global, line: &Word<'_>) -> Result<Order, Refusal>
 {
     let (who, line) = named(alloc, line)?;
     let (word, rest) = line.first();
-    let place = words::number(word.text).ok_or(Refusal::NotACommand)?;
+    let place = short_number(word.text).ok_or(Refusal::NotACommand)?;
     let node = rest.skipped();
     if node.text.is_empty() {
         return Err(Refusal::NotACommand);

@@ -4,14 +4,13 @@ ghost use Rattle.std.specs.Prelude.{◌≡◌, ◌≤◌, ◌<◌, ◌==◌, len
 ghost use Rattle.std.specs.List.{prefix_len, list_any};
 ghost use Rattle.std.specs.Option.{ok_or};
 ghost use Rattle.smil_grammar.specs.Texts.{quote};
-ghost use Rattle.smil_grammar.specs.Values.{id_of, short_number_of};
+ghost use Rattle.smil_grammar.specs.Values.{id_of};
 ghost use Rattle.smil_grammar.specs.Scripts.{is_of_title as is_of_title_byte, is_title as is_title_text, who_of, event_of, attribute_of};
 ghost use Rattle.smil_model.specs.declared.order.Refusal.TheVariants.{NotACommand, Memory};
 ghost use Rattle.smil_model.specs.document.Words.{is_event_name as is_event_word, is_raised_name};
 ghost use Rattle.smil_model.specs.shown.Answers.{IsName};
 ghost use Rattle.smil_script.specs.Gives.{GivesName, GivesRead, other_names};
 
-use smil_lexis::numbers::short;
 use smil_lexis::runs;
 use smil_lexis::texts::{behind, is};
 use smil_lexis::utf8::is_utf8;
@@ -130,14 +129,4 @@ pub fn attribute(alloc: Global, text: &[u8]) -> Result<Bytes, Refusal>
         return Err(Refusal::NotACommand);
     }
     own(alloc, text)
-}
-
-/// The number of 1 to 9 digits.
-pub fn number(digits: &[u8]) -> Option<u32>
-    ensures { result ≡ short_number_of digits.now }
-{
-    if digits.len() > 9 {
-        return None;
-    }
-    short(digits)
 }
