@@ -7,8 +7,7 @@ use Rattle.smil_model.specs.declared.document.AttrName.{AttrName}
 use Rattle.smil_model.specs.declared.document.AttrName.TheVariants as name
 use Rattle.smil_grammar.specs.declared.fault.AttrFault.{AttrFault}
 use Rattle.smil_grammar.specs.declared.fault.AttrFault.TheVariants.{UnknownAttribute, UnsupportedName}
-pub use Rattle.smil_model.specs.document.Document.{is_class_kind as is_class}
-use Rattle.smil_model.specs.document.Document.{is_set_kind}
+use Rattle.smil_model.specs.document.Document.{is_class_kind, is_set_kind}
 pub use Rattle.smil_model.specs.document.Values.{has_endsync}
 
 -- the word of a kind
@@ -78,16 +77,16 @@ name_called text = find (λ n. bytes_eq text (name_text n)) names
 abbrev pub has : Kind → AttrName → Bool
 has k name.Id = true
 has k name.Endsync = has_endsync k
-has k name.Peers = is_class k
-has k name.Higher = is_class k
-has k name.Lower = is_class k
+has k name.Peers = is_class_kind k
+has k name.Higher = is_class_kind k
+has k name.Lower = is_class_kind k
 has k name.TargetElement = is_set_kind k
 has k name.AttributeName = is_set_kind k
 has k name.To = is_set_kind k
-has k name.Src = not (is_class k) && not (is_set_kind k)
-has k name.Region = not (is_class k) && not (is_set_kind k)
-has k name.Alt = not (is_class k) && not (is_set_kind k)
-has k _ = not (is_class k)
+has k name.Src = not (is_class_kind k) && not (is_set_kind k)
+has k name.Region = not (is_class_kind k) && not (is_set_kind k)
+has k name.Alt = not (is_class_kind k) && not (is_set_kind k)
+has k _ = not (is_class_kind k)
 
 -- attributes of SMIL that are left out
 abbrev pub is_other_name : List ℕ → Bool

@@ -9,6 +9,7 @@ use Rattle.smil_model.specs.declared.document.Kind.TheVariants as kind
 use Rattle.smil_model.specs.declared.document.Attr.{Attr}
 use Rattle.smil_model.specs.declared.document.Attrs.{Attrs}
 use Rattle.smil_model.specs.document.Edits.{with_attr, no_attrs}
+use Rattle.smil_model.specs.document.Document.{is_class_kind, is_container_kind}
 use Rattle.smil_grammar.specs.declared.fault.AttrFault.{AttrFault}
 use Rattle.smil_grammar.specs.declared.fault.AttrFault.TheVariants as attr
 use Rattle.smil_grammar.specs.declared.fault.NodeFault.{NodeFault}
@@ -17,7 +18,7 @@ use Rattle.smil_grammar.specs.Texts.{space, quote, behind}
 use Rattle.smil_grammar.specs.Items.{count_of}
 use Rattle.std.specs.Char.{is_ascii_digit}
 use Rattle.smil_grammar.specs.Results.{◌>>=◌}
-use Rattle.smil_grammar.specs.Attributes.{kind_called, is_other_kind, attr_name_of, is_class}
+use Rattle.smil_grammar.specs.Attributes.{kind_called, is_other_kind, attr_name_of}
 use Rattle.smil_grammar.specs.Values.{value_of}
 
 abbrev pub is_space : ℕ → Bool
@@ -112,18 +113,12 @@ abbrev pub kind_of : List ℕ → Result Kind NodeFault
 kind_of line = kind_of_shape (shape_of line)
 
 -- which children a parent can have, as far as the kinds of the two say; a root has no parent
-abbrev pub is_container : Kind → Bool
-is_container kind.Par = true
-is_container kind.Seq = true
-is_container kind.Excl = true
-is_container _ = false
-
 abbrev pub fits_in : Option Kind → Kind → Bool
-fits_in None child = is_container child
-fits_in (Some kind.Par) child = not (is_class child)
-fits_in (Some kind.Seq) child = not (is_class child)
+fits_in None child = is_container_kind child
+fits_in (Some kind.Par) child = not (is_class_kind child)
+fits_in (Some kind.Seq) child = not (is_class_kind child)
 fits_in (Some kind.Excl) child = true
-fits_in (Some kind.PriorityClass) child = not (is_class child)
+fits_in (Some kind.PriorityClass) child = not (is_class_kind child)
 fits_in (Some _) child = false
 
 abbrev pub is_seq : Option Kind → Bool

@@ -11,11 +11,10 @@ use Rattle.smil_model.specs.declared.document.Item.{Item}
 use Rattle.smil_model.specs.declared.document.Item.TheVariants.{Offset, Indefinite}
 use Rattle.smil_model.specs.declared.order.Refusal.{Refusal}
 use Rattle.smil_model.specs.declared.order.Refusal.TheVariants as refusal
-use Rattle.smil_model.specs.document.Document.{Document}
+use Rattle.smil_model.specs.document.Document.{Document, is_class_kind}
 use Rattle.smil_grammar.specs.declared.fault.NodeFault.{NodeFault}
 use Rattle.smil_grammar.specs.declared.fault.NodeFault.TheVariants as fault
 use Rattle.smil_grammar.specs.Results.{◌>>=◌}
-use Rattle.smil_grammar.specs.Attributes.{is_class}
 use Rattle.smil_grammar.specs.Nodes.{Shape, is_space, is_no_space, shape_of, saved_shape_of, kind_of_shape, attrs_from, fits_in, is_seq}
 use Rattle.smil_grammar.specs.Items.{count_of}
 use Rattle.smil_model.specs.document.Edits.{no_attrs}
@@ -60,7 +59,7 @@ differ false b = b
 -- an excl doesn't mix classes with other children
 abbrev pub mixes : List Node → Option (ℕ × Kind) → Kind → Bool
 mixes nodes None kind = false
-mixes nodes (Some parent) kind = list_any (λ (n : Node). (n.parent == parent.0) && differ (is_class n.kind) (is_class kind)) nodes
+mixes nodes (Some parent) kind = list_any (λ (n : Node). (n.parent == parent.0) && differ (is_class_kind n.kind) (is_class_kind kind)) nodes
 
 -- a node that has this id already
 abbrev pub has_id : List Node → Option (List ℕ) → Bool

@@ -1,7 +1,7 @@
 -- Bytes, and how a text is cut.
 use Rattle.std.specs.Prelude.{ℕ, ◌+◌, ◌-◌, Bool, ◌||◌, List, [], ◌∷◌, length, take, drop, Option, Some, None, option_map, position, ◌==◌, if◌then◌else◌}
 use Rattle.std.specs.List.{prefix_len, suffix_len}
-pub use Rattle.smil_model.specs.document.Words.{quote, minus, point}
+pub use Rattle.smil_model.specs.document.Words.{quote, minus, point, semicolon, backslash}
 
 -- a step of a reading goes on with what the step before it read, and stops where that read nothing
 infixl 10 ◌>>=◌
@@ -30,12 +30,6 @@ zero_digit = 48
 
 abbrev pub colon : ℕ
 colon = 58
-
-abbrev pub semicolon : ℕ
-semicolon = 59
-
-abbrev pub backslash : ℕ
-backslash = 92
 
 -- white space is space and tab
 abbrev pub is_white : ℕ → Bool

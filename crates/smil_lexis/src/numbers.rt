@@ -40,7 +40,7 @@ pub fn short(digits: &[u8]) -> Option<u32>
     Some(number as u32)
 }
 
-/// The number that digits write, of which there are at most 9.
+/// The number that 1 to 9 digits write; none for all other texts.
 pub fn short_number(digits: &[u8]) -> Option<u32>
     ensures number { result ≡ short_number_of digits.now }
     ensures bound { IfSome result (λ n. n < 1_000_000_000) }

@@ -8,12 +8,12 @@ use Rattle.std.proofs.lemmas.Bool.{or_parts, ne_eqb}
 use Rattle.std.proofs.lemmas.List.Folds.{list_any-append}
 use Rattle.smil_model.specs.declared.document.Kind.{Kind}
 use Rattle.smil_model.specs.declared.document.Node.{Node}
-use Rattle.smil_grammar.specs.Attributes.{is_class}
 use Rattle.smil_grammar.specs.Results.{◌>>=◌}
 use Rattle.smil_grammar.specs.Outlines.{Outline, no_lines, differ, last_of, mixes, with_line, with_lines, with_node}
 use Rattle.smil_model.specs.declared.limits.TheConstants.{NODES}
 use Rattle.smil_outline.specs.Kept.{differs, serial_of, is_known, AreAlike, AreKnown, IsKept, IsPlaced}
 use Rattle.smil_model.specs.declared.order.Refusal.{Refusal}
+use Rattle.smil_model.specs.document.Document.{is_class_kind}
 
 -- the deepest node of a branch
 abbrev pub deepest : ℕ × Kind → List (ℕ × Kind) → ℕ × Kind
@@ -28,7 +28,7 @@ deepest_is node (child ∷ below) =
 
 -- one more node, as a child and as none
 abbrev mixes_one : Node → ℕ → Kind → Bool
-mixes_one n serial kind = eqb n.parent serial && differ (is_class n.kind) (is_class kind)
+mixes_one n serial kind = eqb n.parent serial && differ (is_class_kind n.kind) (is_class_kind kind)
 
 more : (nodes : List Node) (n : Node) (node : ℕ × Kind) (kind : Kind) → mixes (nodes ++ n ∷ []) (Some node) kind ≡ (mixes nodes (Some node) kind || mixes_one n node.0 kind)
 more nodes n node kind = list_any-append _ nodes (n ∷ []) ∙ ap (λ b. mixes nodes (Some node) kind || b) (or_false (mixes_one n node.0 kind))
@@ -39,7 +39,7 @@ more nodes n node kind = list_any-append _ nodes (n ∷ []) ∙ ap (λ b. mixes 
 
 no_child : (nodes : List Node) (n : Node) (node : ℕ × Kind) (kind : Kind) (among : Bool) → eqb n.parent node.0 ≡ false → mixes nodes (Some node) kind ≡ among → mixes (nodes ++ n ∷ []) (Some node) kind ≡ among
 no_child nodes n node kind among other h =
-    more nodes n node kind ∙ ap (λ b. mixes nodes (Some node) kind || (b && differ (is_class n.kind) (is_class kind))) other ∙ or_none (mixes nodes (Some node) kind) ∙ h
+    more nodes n node kind ∙ ap (λ b. mixes nodes (Some node) kind || (b && differ (is_class_kind n.kind) (is_class_kind kind))) other ∙ or_none (mixes nodes (Some node) kind) ∙ h
   where
     or_none : (b : Bool) → (b || false) ≡ b
     or_none true = refl
@@ -53,19 +53,19 @@ same_class false true c h = absurd cc
 same_class false false true h = refl
 same_class false false false h = refl
 
-like_last : (last : Option (ℕ × Kind)) (kind other : Kind) → differs last kind ≡ false → (differs last other || differ (is_class kind) (is_class other)) ≡ differ (is_class kind) (is_class other)
+like_last : (last : Option (ℕ × Kind)) (kind other : Kind) → differs last kind ≡ false → (differs last other || differ (is_class_kind kind) (is_class_kind other)) ≡ differ (is_class_kind kind) (is_class_kind other)
 like_last None kind other h = refl
-like_last (Some last) kind other h = same_class (is_class last.1) (is_class kind) (is_class other) h
+like_last (Some last) kind other h = same_class (is_class_kind last.1) (is_class_kind kind) (is_class_kind other) h
 
 equal : (a b : ℕ) → a ≡ b → eqb a b ≡ true
 equal a b h = grind arith
 
 one_child : (nodes : List Node) (n : Node) (node : ℕ × Kind) (last : Option (ℕ × Kind)) (kind : Kind) → n.parent ≡ node.0 → ((k : Kind) → mixes nodes (Some node) k ≡ differs last k) → mixes nodes (Some node) n.kind ≡ false
-    → mixes (nodes ++ n ∷ []) (Some node) kind ≡ differ (is_class n.kind) (is_class kind)
+    → mixes (nodes ++ n ∷ []) (Some node) kind ≡ differ (is_class_kind n.kind) (is_class_kind kind)
 one_child nodes n node last kind parent alike unmixed =
     more nodes n node kind
-    ∙ ap (λ b. mixes nodes (Some node) kind || (b && differ (is_class n.kind) (is_class kind))) (equal n.parent node.0 parent)
-    ∙ ap (λ b. b || differ (is_class n.kind) (is_class kind)) (alike kind)
+    ∙ ap (λ b. mixes nodes (Some node) kind || (b && differ (is_class_kind n.kind) (is_class_kind kind))) (equal n.parent node.0 parent)
+    ∙ ap (λ b. b || differ (is_class_kind n.kind) (is_class_kind kind)) (alike kind)
     ∙ like_last last n.kind kind (sym (alike n.kind) ∙ unmixed)
 
 -- ---- serials that are known

@@ -4,7 +4,7 @@ use Rattle.std.specs.List.{list_any}
 use Rattle.smil_model.specs.declared.limits.TheConstants.{NODES}
 use Rattle.smil_model.specs.declared.document.Kind.{Kind}
 use Rattle.smil_model.specs.declared.document.Node.{Node}
-use Rattle.smil_grammar.specs.Attributes.{is_class}
+use Rattle.smil_model.specs.document.Document.{is_class_kind}
 use Rattle.smil_grammar.specs.Outlines.{Outline, no_lines, differ, last_of, mixes, references, with_lines}
 
 -- the references of all nodes
@@ -22,7 +22,7 @@ is_taken nodes id = list_any (λ (n : Node). bytes_eq (unwrap_or n.attrs.id []) 
 -- a kind that is a class beside one that is none, or the other way round
 abbrev pub differs : Option (ℕ × Kind) → Kind → Bool
 differs None kind = false
-differs (Some node) kind = differ (is_class node.1) (is_class kind)
+differs (Some node) kind = differ (is_class_kind node.1) (is_class_kind kind)
 
 -- the serial of a node, 0 where there is none
 abbrev pub serial_of : Option (ℕ × Kind) → ℕ
