@@ -107,7 +107,7 @@ fn has(kind: Kind, name: AttrName) -> bool
         AttrName::Src | AttrName::Region | AttrName::Alt => {
             !matches!(kind, Kind::PriorityClass | Kind::Set)
         }
-        _ => !matches!(kind, Kind::PriorityClass),
+        _ => kind.is_element(),
     }
 }
 

@@ -197,7 +197,7 @@ mixed_in inside now d kind child same h some near at =
     subst (λ (o : Outline). d ≤ length o.branch → differs child kind ≡ mixes o.nodes (last_of (take d o.branch)) kind) same
     (λ short. ap (λ (last : Option (ℕ × Kind)). differs last kind) at ∙ sym (mixed_at inside.nodes inside.branch d kind h some short)) near
 
-pub differ_is : (a b : Bool) → not (beq a b) ≡ differ a b
+pub differ_is : (a b : Bool) → not (beq (not a) (not b)) ≡ differ a b
 differ_is true true = refl
 differ_is true false = refl
 differ_is false true = refl

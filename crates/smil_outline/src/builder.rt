@@ -5,7 +5,6 @@ ghost use Rattle.smil_model.specs.declared.limits.TheConstants.{NODES, REFERENCE
 ghost use Rattle.smil_grammar.specs.Nodes.{kind_of_shape};
 ghost use Rattle.smil_model.specs.document.Limits.{limits};
 ghost use Rattle.smil_model.specs.document.Valid.{IsValid};
-ghost use Rattle.smil_model.specs.document.Document.{is_class_kind};
 ghost use Rattle.smil_grammar.specs.Outlines.{no_lines, with_line, with_header, header_of, opens_saved, shape_in, shape_within, version_of, is_bad_serial as is_bad_serial_in, is_misplaced as is_misplaced_in, ended, last_of, in_line, attrs_in, mixes as mixes_among, references as references_of};
 ghost use Rattle.smil_outline.specs.Gives.{GivesReading, GivesRefusal, GivesDocument};
 ghost use Rattle.smil_outline.specs.Kept.{all_references, serial_of, is_known, IsPlaced};
@@ -63,12 +62,6 @@ fn kind(spaces: usize, shape: &Shape<'_>) -> Result<Kind, Refusal>
         Ok(kind) => Ok(kind),
         Err(fault) => Err(refused(spaces, fault)),
     }
-}
-
-fn is_class(kind: Kind) -> bool
-    ensures { result ≡ is_class_kind kind }
-{
-    matches!(kind, Kind::PriorityClass)
 }
 
 impl Builder {
@@ -164,7 +157,7 @@ impl Builder {
             return false;
         }
         match self.branch.at(depth) {
-            Some(last) => is_class(last.1) != is_class(kind),
+            Some(last) => last.1.is_element() != kind.is_element(),
             None => false,
         }
     }

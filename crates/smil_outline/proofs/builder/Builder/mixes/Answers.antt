@@ -6,7 +6,7 @@ use Rattle.smil_outline.proofs.builder.Builder.mixes.Goals as goal
 
 pub returns-in-Some : goal.returns-in-Some
 returns-in-Some c =
-    ap (λ b. not (beq b c.is_class-in-Some.result)) c.is_class.ensures ∙ ap (λ b. not (beq (is_class_kind c.in-Some.last.1) b)) c.is_class-in-Some.ensures
+    ap (λ b. not (beq b c.is_element-in-Some.result)) c.is_element.ensures ∙ ap (λ b. not (beq (not (is_class_kind c.in-Some.last.1)) b)) c.is_element-in-Some.ensures
     ∙ differ_is (is_class_kind c.in-Some.last.1) (is_class_kind c.args.kind)
     ∙ mixed_in _ c.args.self.now c.args.depth c.args.kind _ c.self.view_is c.self.invariant.alike (omega arith) c.requires c.in-Some.ensures
 
