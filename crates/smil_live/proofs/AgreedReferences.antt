@@ -40,7 +40,7 @@ found_of p t (x ∷ xs) n all e =
 
 -- ---- ids
 
-bytes_same : (xs ys : List ℕ) → bytes_eq xs ys ≡ true → xs ≡ ys
+pub bytes_same : (xs ys : List ℕ) → bytes_eq xs ys ≡ true → xs ≡ ys
 bytes_same xs ys q = (bytes_eq-Decides xs ys).0 q
 
 same_serials : (a b : Option ℕ) → is_same_serial a b ≡ true → a ≡ b

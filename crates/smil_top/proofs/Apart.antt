@@ -15,11 +15,12 @@ use Rattle.smil_grammar.specs.Results.{◌>>=◌}
 use Rattle.smil_grammar.specs.Scripts.{is_title, line_of}
 use Rattle.smil_grammar.specs.Formats.{formats}
 use Rattle.smil_grammar.specs.Outlines.{Outline, no_lines, ended, version_of}
+use Rattle.smil_live.proofs.AgreedReferences.{bytes_same}
 use Rattle.smil_top.specs.Cut.{Numbered, LoadLines, OrderLines, single, load, is_short}
 use Rattle.smil_top.specs.Session.{Session, presentation_of, with_state, without, may_load}
 use Rattle.smil_top.specs.Answers.{Refused, Answer, Given, at_line, held, said_within, name_of, outline_from, given_within, loaded_within, answer_within}
 use Rattle.smil_top.specs.Laws.{heard, session_after, refuses_as, loads, is_of, part_of, is_too_many, IsOwn as HasOwn}
-use Rattle.smil_top.proofs.Sifted.{equal, part-with, part-without, part-own, presentation-part, may-part, with-other, without-other, loaded-other}
+use Rattle.smil_top.proofs.Sifted.{part-with, part-without, part-own, presentation-part, may-part, with-other, without-other, loaded-other}
 use Rattle.smil_top.proofs.Isolated.{IsOwn, IsOther, own_line, other_line}
 
 -- ---- what a load gives has the name of its first line
@@ -204,7 +205,7 @@ module _ (allowed : Limits) (name : List ℕ) (session : Session) where
       (sym own) (load_alike line given.document)
 
   loads_is : (r : Result Read Refusal) (given : Given) → r ≡ Ok (Load given.name) → loads name r ≡ true → given.name ≡ name
-  loads_is r given e h = equal given.name name (ap (loads name) (sym e) ∙ h)
+  loads_is r given e h = bytes_same given.name name (ap (loads name) (sym e) ∙ h)
 
   given_alike : (lines : LoadLines) (end_line : ℕ) (g : Result Given Refused) → given_within allowed lines end_line ≡ g → loads name (line_of lines.head.text) ≡ true
       → refuses_as is_too_many (heard (g >>= given_in session lines.head.number)) ≡ false

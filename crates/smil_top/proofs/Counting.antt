@@ -2,6 +2,7 @@
 use Rattle.std.proofs.Common.{◌≡◌, ℕ, ◌<◌, min, Bool, true, false, List, ap, ◌∙◌, arith}
 use Rattle.std.specs.Prelude.{nat_lt}
 use Rattle.std.specs.Bool.{one_answer}
+use Rattle.std.proofs.lemmas.Bool.{lt-ltb, ltb-true}
 use Rattle.smil_outside.specs.Faults.{last_count}
 use Rattle.smil_top.specs.declared.counts.Counts.{Counts}
 use Rattle.smil_top.specs.declared.status.Status.TheVariants as status
@@ -9,12 +10,6 @@ use Rattle.smil_top.specs.Cut.{OrderLines}
 use Rattle.smil_top.specs.Transcript.{Told}
 use Rattle.smil_top.specs.Serving.{status_by, status_of}
 use Rattle.smil_top.specs.Kept.{AreCounted}
-
-lt-true : (n m : ℕ) → nat_lt n m ≡ true → n < m
-lt-true n m h = grind arith
-
-true-lt : (n m : ℕ) → n < m → nat_lt n m ≡ true
-true-lt n m h = grind arith
 
 min-some : (n : ℕ) → 0 < min n last_count → 0 < n
 min-some n h = omega arith
@@ -26,8 +21,8 @@ some-min n h = omega arith
 pub lt-min : (n : ℕ) → nat_lt 0 (min n last_count) ≡ nat_lt 0 n
 lt-min n =
     one_answer {P = 0 < n} (nat_lt 0 (min n last_count)) (nat_lt 0 n)
-    (λ h. min-some n (lt-true 0 (min n last_count) h), λ h. true-lt 0 (min n last_count) (some-min n h))
-    (λ h. lt-true 0 n h, λ h. true-lt 0 n h)
+    (λ h. min-some n (ltb-true 0 (min n last_count) h), λ h. lt-ltb 0 (min n last_count) (some-min n h))
+    (λ h. ltb-true 0 n h, λ h. lt-ltb 0 n h)
 
 pub ended-status : (counts : Counts) (orders : List OrderLines) (told : Told) → AreCounted counts orders told →
     status_by (nat_lt 0 counts.refused) counts.memory ≡ status_of told

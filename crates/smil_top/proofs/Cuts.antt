@@ -13,7 +13,7 @@ pub cut_of-one_more : (lines : List (List ℕ)) (line : List ℕ) → cut_of (li
 cut_of-one_more lines line = cut_further-append _ lines (line ∷ [])
 
 -- what a line does to a cut
-if_either : (b : Bool) (x y : Cut) (P : Cut → Type 0) → P x → P y → P (if b then x else y)
+pub if_either : (b : Bool) (x y : Cut) (P : Cut → Type 0) → P x → P y → P (if b then x else y)
 if_either true x y P h k = h
 if_either false x y P h k = k
 

@@ -15,6 +15,7 @@ use Rattle.smil_model.specs.shown.Orders.{Presentation, course_of, kept_where, o
 use Rattle.smil_grammar.specs.declared.read.Read.{Read}
 use Rattle.smil_grammar.specs.Results.{◌>>=◌}
 use Rattle.smil_grammar.specs.Scripts.{line_of}
+use Rattle.smil_instance_rows.proofs.Rising.{clash}
 use Rattle.smil_house.specs.House.{load_refusal, IsAnsweredBy, IsRefused}
 use Rattle.smil_live.specs.Counts.{least_loading, most_loading}
 use Rattle.smil_top.specs.declared.answer.Answer.{Answer as AnswerText}
@@ -156,10 +157,6 @@ was_enough : (answered : Result (Unit {0}) Fault) (text : AnswerText) (counts : 
 was_enough (Ok done) text counts enough = enough
 was_enough (Err fault) text counts enough = (or_parts counts.memory (is_memory fault.refusal) enough).0
 
-never : {A : Type 0} (b : Bool) → b ≡ true → b ≡ false → A
-never true is not = absurd cc
-never false is not = absurd cc
-
 -- the order is within its bounds where its diary isn't full and memory suffices
 within-bounds : (answered : Result (Unit {0}) Fault) (text : AnswerText) (counts : Counts) (house : Presentations) (session : Session) (order : OrderLines) (rise : ℕ) →
     MakesAnswer answered text house session answer_of order → IsOrderCounted answered (λ bound. number_of bound session order) rise →
@@ -173,10 +170,10 @@ within-bounds (Err fault) text counts house session order rise made counted enou
 
     go : MayAnswer answer_of session order (Err (refused_by fault)) → (fault.refusal ≡ DiaryFull) ⊎ ((fault.refusal ≡ Memory) ⊎ (rise ≡ 0)) →
         (number_of least session order ≤ rise) × (rise ≤ number_of most session order)
-    go (inr memory) c = never (is_memory fault.refusal) (ap (λ (a : Answer). refuses_as is_memory (heard a)) memory) sufficed
+    go (inr memory) c = clash (is_memory fault.refusal) (ap (λ (a : Answer). refuses_as is_memory (heard a)) memory) sufficed
     go (inl is) (inl full) =
-        never (is_diary_full fault.refusal) (ap is_diary_full full) (ap (λ (a : Answer). refuses_as is_diary_full (heard a)) is ∙ not_full)
-    go (inl is) (inr (inl memory)) = never (is_memory fault.refusal) (ap is_memory memory) sufficed
+        clash (is_diary_full fault.refusal) (ap is_diary_full full) (ap (λ (a : Answer). refuses_as is_diary_full (heard a)) is ∙ not_full)
+    go (inl is) (inr (inl memory)) = clash (is_memory fault.refusal) (ap is_memory memory) sufficed
     go (inl is) (inr (inr none)) =
         let least_is : number_of least session order ≡ 0 = refused-0 least least_spares session order (refused_by fault) (sym is) in
         (omega arith, omega arith)

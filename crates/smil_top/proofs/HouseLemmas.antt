@@ -2,10 +2,12 @@
 use Rattle.std.proofs.Common.{◌≡◌, ◌⊎◌, ℕ, zero, suc, ◌+◌, Bool, true, false, List, [], ◌∷◌, ◌++◌, length, take, drop, Option, Some, None, Ok, Err, refl, ap, sym, subst, ◌∙◌, arith, inl, inr}
 use Rattle.std.specs.Prelude.{cond, map, find, not, nat_lt, bytes_eq, is_some, option_map, option_and_then, slice_get, slice_set, if◌then◌else◌}
 use Rattle.std.proofs.lemmas.List.{length-map}
-use Rattle.std.proofs.lemmas.Slice.Eq.{bytes_eq-Decides}
 use Rattle.smil_model.specs.declared.limits.TheConstants.{PRESENTATIONS}
 use Rattle.smil_model.specs.declared.order.Refusal.TheVariants.{NameTaken, TooManyPresentations}
 use Rattle.smil_model.specs.shown.Orders.{Presentation}
+use Rattle.smil_tree.proofs.KinLists.{lt-first, lt-more}
+use Rattle.smil_outline.proofs.Validity.{bytes_turned}
+use Rattle.smil_live.proofs.AgreedReferences.{bytes_same}
 use Rattle.smil_house.specs.declared.house.Held.{Held}
 use Rattle.smil_house.specs.House.{place_of, load_refusal, without as house_without}
 use Rattle.smil_top.specs.Session.{Named, is_named, presentation_of, with_state, without, may_load}
@@ -20,20 +22,14 @@ either false = inr refl
 
 -- ---- the first place
 
-below-suc : (m : ℕ) → nat_lt 0 (suc m) ≡ true
-below-suc m = grind arith
-
-lt-suc : (n m : ℕ) → nat_lt (1 + n) (suc m) ≡ nat_lt n m
-lt-suc n m = grind arith
-
 suc-cond : (b : Bool) (n : ℕ) → cond b (Some (1 + n)) None ≡ option_map suc (cond b (Some n) None)
 suc-cond true n = ap Some (omega arith)
 suc-cond false n = refl
 
 first-by : (b : Bool) (n m : ℕ) → cond (nat_lt (cond (not b) (1 + n) 0) (suc m)) (Some (cond (not b) (1 + n) 0)) None
     ≡ cond b (Some 0) (option_map suc (cond (nat_lt n m) (Some n) None))
-first-by true n m = ap (λ b. cond b (Some 0) None) (below-suc m)
-first-by false n m = ap (λ b. cond b (Some (1 + n)) None) (lt-suc n m) ∙ suc-cond (nat_lt n m) n
+first-by true n m = ap (λ b. cond b (Some 0) None) (lt-first m)
+first-by false n m = ap (λ b. cond b (Some (1 + n)) None) (lt-more n m) ∙ suc-cond (nat_lt n m) n
 
 first-cons : (name : List ℕ) (h : Place) (hs : Presentations) →
     place_of name (h ∷ hs) ≡ cond (bytes_eq h.name name) (Some 0) (option_map suc (place_of name hs))
@@ -115,9 +111,6 @@ untouched name p (h ∷ hs) none =
     ap (λ zs. (if is_named name (shown h) then record { name = h.name; presentation = p } else shown h) ∷ zs) rest
     ∙ ap (λ z. z ∷ map shown hs) (if-false (bytes_eq h.name name) (record { name = h.name; presentation = p }) (shown h) u.0)
 
-same-name : (x y : List ℕ) → bytes_eq x y ≡ true → x ≡ y
-same-name x y h = (bytes_eq-Decides x y).0 h
-
 pub turned-session : (name : List ℕ) (hs : Presentations) (place : ℕ) (before after : Place) → AreApart hs → place_of name hs ≡ Some place →
     slice_get hs place ≡ Some before → after.name ≡ before.name →
     map shown (slice_set hs place after) ≡ with_state name after.player (map shown hs)
@@ -129,7 +122,7 @@ turned-session name (h ∷ hs) place before after apart found here same =
         (place : ℕ) → (bytes_eq h.name name ≡ true) ⊎ (bytes_eq h.name name ≡ false) → place_of name (h ∷ hs) ≡ Some place →
         slice_get (h ∷ hs) place ≡ Some before → map shown (slice_set (h ∷ hs) place after) ≡ with_state name after.player (map shown (h ∷ hs))
     go rest zero (inl is) found here =
-        let named : h.name ≡ name = same-name h.name name is in
+        let named : h.name ≡ name = bytes_same h.name name is in
         let head : h ≡ before = cc here in
         let others : with_state name after.player (map shown hs) ≡ map shown hs = untouched name after.player hs (subst (λ n. place_of n hs ≡ None) named apart.0) in
         ap (λ n. record { name = n; presentation = after.player } ∷ map shown hs) (same ∙ ap (λ (x : Place). x.name) (sym head))
@@ -185,7 +178,7 @@ closed-session name (h ∷ hs) place apart found = go (λ k at. closed-session n
     go : ((k : ℕ) → place_of name hs ≡ Some k → map shown (house_without k hs) ≡ without name (map shown hs)) → (place : ℕ) → (bytes_eq h.name name ≡ true) ⊎ (bytes_eq h.name name ≡ false) → place_of name (h ∷ hs) ≡ Some place →
         map shown (house_without place (h ∷ hs)) ≡ without name (map shown (h ∷ hs))
     go rest zero (inl is) found =
-        sym (kept-all name hs (subst (λ n. place_of n hs ≡ None) (same-name h.name name is) apart.0))
+        sym (kept-all name hs (subst (λ n. place_of n hs ≡ None) (bytes_same h.name name is) apart.0))
         ∙ ap (λ b. cond (not b) (shown h ∷ without name (map shown hs)) (without name (map shown hs))) (sym is)
     go rest (suc k) (inl is) found = absurd (let e : Some 0 ≡ Some (suc k) = sym (place-here name h hs is) ∙ found in cc)
     go rest zero (inr other) found = absurd (let e = some-later (place_of name hs) zero (sym (place-later name h hs other) ∙ found) in cc e.2)
@@ -221,17 +214,11 @@ added-place name (x ∷ hs) h none other =
     let u = unnamed name x hs none in
     place-later name x (hs ++ h ∷ []) u.0 ∙ ap (option_map suc) (added-place name hs h u.1 other)
 
-other-name : (x y : List ℕ) → bytes_eq x y ≡ false → bytes_eq y x ≡ false
-other-name x y h = elim (either (bytes_eq y x)) [
-  | inl is ↦ absurd (let e : bytes_eq x y ≡ true = (bytes_eq-Decides x y).1 (sym (same-name y x is)) in cc)
-  | inr other ↦ other
-]
-
 pub added-apart : (hs : Presentations) (h : Place) → AreApart hs → place_of h.name hs ≡ None → AreApart (hs ++ h ∷ [])
 added-apart [] h apart none = (refl, tt)
 added-apart (x ∷ hs) h apart none =
     let u = unnamed h.name x hs none in
-    (added-place x.name hs h apart.0 (other-name x.name h.name u.0), added-apart hs h apart.1 u.1)
+    (added-place x.name hs h apart.0 (bytes_turned x.name h.name u.0), added-apart hs h apart.1 u.1)
 
 pub added-session : (hs : Presentations) (h : Place) → map shown (hs ++ h ∷ []) ≡ map shown hs ++ shown h ∷ []
 added-session [] h = refl

@@ -8,9 +8,9 @@ use Rattle.smil_model.specs.declared.order.Refusal.TheVariants.{NotACommand}
 use Rattle.smil_grammar.specs.declared.read.Read.{Read}
 use Rattle.smil_grammar.specs.declared.read.Read.TheVariants.{Blank, Load, Close, To}
 use Rattle.smil_grammar.specs.Scripts.{Word, first_of, is_ended, is_title, is_blank, to, named, or_refused, order_line, finish, command, line_of}
+use Rattle.smil_live.proofs.AgreedReferences.{bytes_same}
 use Rattle.smil_top.specs.Cut.{OrderLines, single, load}
 use Rattle.smil_top.specs.Laws.{first_word, closes, loads, is_of}
-use Rattle.smil_top.proofs.Sifted.{equal}
 
 -- ---- what a line says, by its first word
 
@@ -36,7 +36,7 @@ said_by : (cut : Word × Word) (a b c : Bool) (read : Read) → bytes_eq cut.0.t
     else (if c then (let verb : Word × Word = first_of cut.1 in to cut.0.text (finish (order_line verb.0.text verb.1))) else Err NotACommand))) ≡ Ok read
     → Said cut.0.text read
 said_by cut true b c read t e = subst (Said cut.0.text) (named_made Load cut.1 read e) tt
-said_by cut false true c read t e = subst (Said cut.0.text) (named_made Close cut.1 read e) (equal cut.0.text (codes "close") t)
+said_by cut false true c read t e = subst (Said cut.0.text) (named_made Close cut.1 read e) (bytes_same cut.0.text (codes "close") t)
 said_by cut false false true read t e = said_to cut.0.text (finish (order_line (first_of cut.1).0.text (first_of cut.1).1)) read e
 said_by cut false false false read t e = absurd cc
 
@@ -72,12 +72,12 @@ module _ (name : List ℕ) where
   own_by word (Ok Blank) h t e = tt
   own_by word (Ok (Load other)) h t e = tt
   own_by word (Ok (To other order)) h t e = elim (or_cases (bytes_eq word name) false e) as (λ _. other ≡ name) [
-    | inl d ↦ sym (h (To other order) refl) ∙ equal word name d
+    | inl d ↦ sym (h (To other order) refl) ∙ bytes_same word name d
     | inr d ↦ absurd cc
   ]
   own_by word (Ok (Close other)) h t e = elim (or_cases (bytes_eq word name) (bytes_eq other name) e) as (λ _. other ≡ name) [
-    | inl d ↦ absurd (no_title name (sym (equal word name d) ∙ h (Close other) refl) t)
-    | inr d ↦ equal other name d
+    | inl d ↦ absurd (no_title name (sym (bytes_same word name d) ∙ h (Close other) refl) t)
+    | inr d ↦ bytes_same other name d
   ]
 
   other_by : (word : List ℕ) (r : Result Read Refusal) → ((read : Read) → r ≡ Ok read → Said word read) → (bytes_eq word name || closes name r) ≡ false → IsOther r
@@ -96,14 +96,14 @@ module _ (name : List ℕ) where
 -- ---- of one name at most
 
 closes_is : (name : List ℕ) (r : Result Read Refusal) → closes name r ≡ true → r ≡ Ok (Close name)
-closes_is name (Ok (Close other)) e = ap (λ (w : List ℕ). Ok (Close w)) (equal other name e)
+closes_is name (Ok (Close other)) e = ap (λ (w : List ℕ). Ok (Close w)) (bytes_same other name e)
 closes_is name (Ok (To other order)) e = absurd cc
 closes_is name (Ok (Load other)) e = absurd cc
 closes_is name (Ok Blank) e = absurd cc
 closes_is name (Err refusal) e = absurd cc
 
 loads_one : (name other : List ℕ) (r : Result Read Refusal) → loads name r ≡ true → loads other r ≡ true → name ≡ other
-loads_one name other (Ok (Load loaded)) e d = sym (equal loaded name e) ∙ equal loaded other d
+loads_one name other (Ok (Load loaded)) e d = sym (bytes_same loaded name e) ∙ bytes_same loaded other d
 loads_one name other (Ok (Close loaded)) e d = absurd cc
 loads_one name other (Ok (To loaded order)) e d = absurd cc
 loads_one name other (Ok Blank) e d = absurd cc
@@ -111,13 +111,13 @@ loads_one name other (Err refusal) e d = absurd cc
 
 -- a line that closes something has no name as its first word
 not_first : (text name other : List ℕ) → is_title name ≡ true → bytes_eq (first_word text) name ≡ true → closes other (line_of text) ≡ true → ⊥
-not_first text name other t e d = no_title name (sym (equal (first_word text) name e) ∙ said text (Close other) (closes_is other (line_of text) d)) t
+not_first text name other t e d = no_title name (sym (bytes_same (first_word text) name e) ∙ said text (Close other) (closes_is other (line_of text) d)) t
 
 pub of_one : (name other : List ℕ) (order : OrderLines) → is_title name ≡ true → is_title other ≡ true → is_of name order ≡ true → is_of other order ≡ true → name ≡ other
 of_one name other (single line) t u e d = by (or_cases _ _ e) (or_cases _ _ d)
   where
     by : (bytes_eq (first_word line.text) name ≡ true) ⊎ (closes name (line_of line.text) ≡ true) → (bytes_eq (first_word line.text) other ≡ true) ⊎ (closes other (line_of line.text) ≡ true) → name ≡ other
-    by (inl e) (inl d) = sym (equal (first_word line.text) name e) ∙ equal (first_word line.text) other d
+    by (inl e) (inl d) = sym (bytes_same (first_word line.text) name e) ∙ bytes_same (first_word line.text) other d
     by (inl e) (inr d) = absurd (not_first line.text name other t e d)
     by (inr e) (inl d) = absurd (not_first line.text other name u d e)
     by (inr e) (inr d) = let both : Ok (Close name) ≡ Ok (Close other) = sym (closes_is name (line_of line.text) e) ∙ closes_is other (line_of line.text) d in cc

@@ -16,7 +16,7 @@ use Rattle.smil_grammar.specs.Formats.{formats}
 use Rattle.smil_grammar.specs.Outlines.{Outline, no_lines, line_within, ended, version_of}
 use Rattle.smil_laws.specs.Migration.{AreBelow, is_for_limit, meets_no_limit}
 use Rattle.smil_laws.proofs.Migrating.{outcome_same, opening_same}
-use Rattle.smil_outline.proofs.Migrating.{line_same}
+use Rattle.smil_outline.proofs.Migrating.{line_same, then_same as plain_same}
 use Rattle.smil_top.specs.Cut.{Numbered, LoadLines, OrderLines, single, load}
 use Rattle.smil_top.specs.Session.{Session, presentation_of, with_state, may_load}
 use Rattle.smil_top.specs.Answers.{Accepted, Refused, Answer, Given, at_line, read_of, held, ordered_within, said_within, name_of, outline_from, given_within, loaded_within, checked, answer_within, check_within}
@@ -39,10 +39,6 @@ then_same : {A B : Type 0} (r q : Result A Refused) (f g : A → Result B Refuse
 unfolding spares
 then_same (Ok x) q f g m first later = ap (λ z. z >>= g) (first refl) ∙ later x m
 then_same (Err e) q f g m first later = ap (λ z. z >>= g) (first m)
-
-plain_same : {A B : Type 0} (r q : Result A Refusal) (f g : A → Result B Refusal) → meets_no_limit (r >>= f) ≡ true → (meets_no_limit r ≡ true → q ≡ r) → ((x : A) → meets_no_limit (f x) ≡ true → g x ≡ f x) → (q >>= g) ≡ (r >>= f)
-plain_same (Ok x) q f g m first later = ap (λ z. z >>= g) (first refl) ∙ later x m
-plain_same (Err e) q f g m first later = ap (λ z. z >>= g) (first m)
 
 -- a refusal at a line
 at_same : {A : Type 0} (line : ℕ) (r q : Result A Refusal) → spares (at_line line r) ≡ true → (meets_no_limit r ≡ true → q ≡ r) → at_line line q ≡ at_line line r

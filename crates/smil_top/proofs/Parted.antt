@@ -5,13 +5,14 @@ use Rattle.std.specs.List.{onto_first}
 use Rattle.std.specs.Str.Lines.{strip_carriage_return, lines, lines_of_parts}
 use Rattle.std.proofs.lemmas.List.{append-nil}
 use Rattle.std.proofs.lemmas.List.Sums.{fold-append}
-use Rattle.std.proofs.lemmas.List.Splits.{length-slice_split, slice_split-cons_yes, slice_split-cons_no}
+use Rattle.std.proofs.lemmas.List.Splits.{slice_split-cons_yes, slice_split-cons_no}
 use Rattle.smil_outside.specs.Lines.{line_feed, parts, whole_lines, whole_lines_of_parts}
+use Rattle.smil_outside.proofs.LineLemmas.{lines_of_parts-cons, some_part}
 use Rattle.smil_top.specs.Cut.{Numbered, LoadLines, OrderLines, single, load, Cut, opens, ends, is_silent, cut_by, cut_of, unended, orders, whole_orders}
 use Rattle.smil_top.specs.Answers.{Answer}
 use Rattle.smil_top.specs.Transcript.{Answering, Told, untold, with_answer, IsTranscriptBy, and_then, transcript_by}
 use Rattle.smil_top.specs.Laws.{Tried, answer_to, told_by, heard, answer_lines, AtMostOne, IsCutShort, HasFront, IsFrontAndOne}
-use Rattle.smil_top.proofs.Cuts.{cut_of-one_more, orders-first}
+use Rattle.smil_top.proofs.Cuts.{cut_of-one_more, if_either, orders-first}
 use Rattle.smil_top.proofs.Retold.{text_with, is_told, each_is_told, is_some}
 
 -- ---- the lines of a text, and of its front
@@ -32,9 +33,6 @@ joined-onto c [] qs some = absurd (omega (arith, some))
 joined-onto c (p ∷ []) [] some = refl
 joined-onto c (p ∷ []) (q ∷ qs) some = refl
 joined-onto c (p ∷ next ∷ ps) qs some = refl
-
-some_part : (text : List ℕ) → 0 < length (parts text)
-some_part text = omega (arith, length-slice_split (λ byte. byte == line_feed) text)
 
 nothing-joined : (qs : List (List ℕ)) → 0 < length qs → qs ≡ joined ([] ∷ []) qs
 nothing-joined [] some = absurd (omega (arith, some))
@@ -65,10 +63,6 @@ some_joined p [] [] = omega arith
 some_joined p [] (q ∷ qs) = omega arith
 some_joined p (next ∷ ps) qs = omega arith
 
-lines_of_parts-cons : (part : List ℕ) (more : List (List ℕ)) → 0 < length more → lines_of_parts (part ∷ more) ≡ strip_carriage_return part ∷ lines_of_parts more
-lines_of_parts-cons part [] some = absurd (omega (arith, some))
-lines_of_parts-cons part (next ∷ more) some = refl
-
 -- the lines are the whole lines of the front, and those of its last part and what follows
 lines-joined : (ps qs : List (List ℕ)) → 0 < length ps → lines_of_parts (joined ps qs) ≡ whole_lines_of_parts ps ++ lines_of_parts (joined (last_part ps ∷ []) qs)
 lines-joined [] qs some = absurd (omega (arith, some))
@@ -95,10 +89,6 @@ lines-few : (came : List ℕ) → lines came ≡ whole_lines came ++ behind came
 lines-few came = ap lines (sym (append-nil came)) ∙ lines-append came []
 
 -- ---- orders
-
-if_either : (b : Bool) (x y : Cut) (P : Cut → Type 0) → P x → P y → P (if b then x else y)
-if_either true x y P h k = h
-if_either false x y P h k = k
 
 -- the orders of a cut are these and at most one more
 abbrev IsFew : List OrderLines → Cut → Type 0

@@ -4,19 +4,15 @@ use Rattle.std.specs.Prelude.{ℕ, not, map, filter, find, bytes_eq, nat_lt, is_
 use Rattle.std.proofs.lemmas.Bool.{lt-ltb, ltb-true}
 use Rattle.std.proofs.lemmas.List.{append-nil}
 use Rattle.std.proofs.lemmas.List.Elements.{filter-append}
-use Rattle.std.proofs.lemmas.List.Filters.{length-filter_both}
 use Rattle.std.proofs.lemmas.Slice.Eq.{bytes_eq-Decides}
 use Rattle.smil_model.specs.declared.limits.TheConstants.{PRESENTATIONS}
 use Rattle.smil_model.specs.declared.order.Refusal.{Refusal}
 use Rattle.smil_model.specs.declared.order.Refusal.TheVariants.{NameTaken, TooManyPresentations}
 use Rattle.smil_model.specs.shown.Orders.{Presentation}
+use Rattle.smil_tree.proofs.Making.{filter-at_most}
+use Rattle.smil_live.proofs.AgreedReferences.{bytes_same}
 use Rattle.smil_top.specs.Session.{Named, Session, is_named, presentation_of, with_state, without, may_load}
 use Rattle.smil_top.specs.Laws.{part_of, is_too_many}
-
--- ---- names
-
-pub equal : (name other : List ℕ) → bytes_eq name other ≡ true → name ≡ other
-equal name other e = (bytes_eq-Decides name other).0 e
 
 -- ---- filters
 
@@ -72,9 +68,6 @@ module _ {A : Type 0} (p : A → Bool) where
   find-filter [] = refl
   find-filter (x ∷ xs) = find-step (p x) x (filter p xs) (find p xs) refl (find-filter xs)
 
-  filter-few : (xs : List A) → length (filter p xs) ≤ length xs
-  filter-few xs = omega (arith, length-filter_both p (λ x. not (p x)) (λ x. refl) xs)
-
 -- ---- sessions
 
 -- whether a load goes on, by whether its name is held, and whether there is room
@@ -110,12 +103,12 @@ module _ (name : List ℕ) where
   pub may-part : (session : Session) → ((e : Refusal) → may_load name session ≡ Err e → is_too_many e ≡ false) → may_load name (part_of name session) ≡ may_load name session
   may-part session h =
       ap (λ (p : Option Presentation). may_by (is_some p) (nat_lt (length (part_of name session)) PRESENTATIONS)) (presentation-part session)
-      ∙ may-by (is_some (presentation_of name session)) (length (part_of name session)) (length session) (filter-few (is_named name) session) (nat_lt (length session) PRESENTATIONS) refl h
+      ∙ may-by (is_some (presentation_of name session)) (length (part_of name session)) (length session) (filter-at_most (is_named name) session) (nat_lt (length session) PRESENTATIONS) refl h
 
 -- what is done to another name
 module _ (name other : List ℕ) (apart : bytes_eq other name ≡ false) where
   not_both : (held : Named) → is_named other held ≡ true → is_named name held ≡ false
-  not_both held e = ap (λ (word : List ℕ). bytes_eq word name) (equal held.name other e) ∙ apart
+  not_both held e = ap (λ (word : List ℕ). bytes_eq word name) (bytes_same held.name other e) ∙ apart
 
   with-by : (after : Presentation) (held : Named) (b : Bool) → is_named other held ≡ b
       → ((if b then record { name = held.name; presentation = after } else held) ≡ held)

@@ -2,6 +2,7 @@
 use Rattle.std.proofs.Common.{◌≡◌, ℕ, ◌<◌, ◌≤◌, min, length, Bool, true, false, List, [], ◌∷◌, ◌++◌, Option, Some, None, Ok, Err, refl, ap, sym, ◌∙◌, arith, append_assoc, inl, inr}
 use Rattle.std.specs.Prelude.{pos, fold, nat_abs, nat_le, unwrap_or, ◌||◌, ◌&&◌, ◌==◌, codes, bytes_eq, option_map, option_and_then, slice_get, if◌then◌else◌}
 use Rattle.std.specs.Option.{option_map_or}
+use Rattle.std.proofs.lemmas.Bool.{and_parts, leb-true, or_parts}
 use Rattle.smil_model.specs.declared.order.Refusal.TheVariants.{Memory}
 use Rattle.smil_model.specs.shown.Orders.{Presentation}
 use Rattle.smil_grammar.specs.Texts.{◌>>=◌, zero_digit}
@@ -20,6 +21,7 @@ use Rattle.smil_top.specs.Transcript.{Answering, Told, untold, with_answer, is_m
 use Rattle.smil_top.specs.Summary.{moment_in}
 use Rattle.smil_top.specs.Houses.{Presentations, Holds}
 use Rattle.smil_top.proofs.HouseLemmas.{presentation-held}
+use Rattle.smil_top.proofs.Makings.{itself}
 
 -- ---- the one transcript
 
@@ -27,16 +29,12 @@ fold-snoc : {A B : Type 0} (f : B → A → B) (z : B) (xs : List A) (x : A) →
 fold-snoc f z [] x = refl
 fold-snoc f z (y ∷ ys) x = fold-snoc f (f z y) ys x
 
-or-false : (a b : Bool) → (a || b) ≡ false → (a ≡ false) × (b ≡ false)
-or-false true b h = absurd cc
-or-false false b h = (refl, h)
-
 before-memory : (told : Told) (answer : Answer) → (with_answer told answer).memory ≡ false → told.memory ≡ false
 before-memory told (Ok accepted) h = h
-before-memory told (Err fault) h = (or-false told.memory (is_memory fault.refusal) h).0
+before-memory told (Err fault) h = (or_parts told.memory (is_memory fault.refusal) h).0
 
 memory-told : (told : Told) (line : ℕ) → (with_answer told (at_line line (Err Memory))).memory ≡ false → ⊥
-memory-told told line h = let e = (or-false told.memory true h).1 in cc
+memory-told told line h = let e = (or_parts told.memory true h).1 in cc
 
 -- where no order was refused since memory ran out there is one transcript
 pub one-transcript : (answering : Answering) (orders : List OrderLines) (told : Told) → IsTranscriptBy answering orders told → told.memory ≡ false →
@@ -53,9 +51,6 @@ one-transcript answering _ _ (and_then {orders = orders} {told = told} so_far or
     ∙ sym (fold-snoc (λ t o. with_answer t (answering t.session o)) untold orders order)
 
 -- ---- the moment
-
-abbrev itself : Presentation → Presentation
-itself p = p
 
 moment-by : (o : Option (Held Presentation)) →
     nat_abs (unwrap_or (option_map (λ (h : Held Presentation). pos h.player.now) o) (pos 0))
@@ -81,13 +76,6 @@ abbrev pub Bounded : Option Mode → Type 0
 Bounded (Some (Gen n)) = n ≤ SESSIONS
 Bounded _ = Unit {0}
 
-le-true : (n m : ℕ) → nat_le n m ≡ true → n ≤ m
-le-true n m h = grind arith
-
-and-second : (a b : Bool) → (a && b) ≡ true → b ≡ true
-and-second true b h = h
-and-second false b h = absurd cc
-
 abbrev Small : Option ℕ → Type 0
 Small (Some n) = n ≤ SESSIONS
 Small None = Unit {0}
@@ -97,7 +85,7 @@ small-by true n h = h refl
 small-by false n h = tt
 
 in_range-small : (n : ℕ) → Small (in_range n)
-in_range-small n = small-by (nat_le 1 n && nat_le n SESSIONS) n (λ h. le-true n SESSIONS (and-second (nat_le 1 n) (nat_le n SESSIONS) h))
+in_range-small n = small-by (nat_le 1 n && nat_le n SESSIONS) n (λ h. leb-true n SESSIONS (and_parts (nat_le 1 n) (nat_le n SESSIONS) h).1)
 
 read-small : (o : Option ℕ) → Small (o >>= in_range)
 read-small None = tt

@@ -2,6 +2,7 @@
 use Rattle.std.proofs.Common.{◌≡◌, ℕ, ◌<◌, ◌≤◌, Bool, true, false, List, [], ◌∷◌, length, Option, Some, None, Result, Ok, Err, refl, subst, arith}
 use Rattle.std.specs.Prelude.{not, ◌&&◌, ◌==◌, nat_lt, codes, bytes_eq, if◌then◌else◌}
 use Rattle.std.specs.List.{list_any}
+use Rattle.std.proofs.lemmas.Bool.{ltb-true}
 use Rattle.smil_model.specs.declared.limits.TheConstants.{NAME_BYTES}
 use Rattle.smil_model.specs.declared.order.Order.{Order}
 use Rattle.smil_model.specs.declared.order.Refusal.{Refusal}
@@ -24,9 +25,6 @@ by-if : {A : Type 0} (P : A → Type 0) (b : Bool) (x y : A) → (b ≡ true →
 by-if P true x y h k = h refl
 by-if P false x y h k = k
 
-lt-true : (n m : ℕ) → nat_lt n m ≡ true → n < m
-lt-true n m h = grind arith
-
 all-of-four : (a b c d : Bool) → (a && b && c && d) ≡ true → c ≡ true
 all-of-four true true c d h = go c h
   where
@@ -39,7 +37,7 @@ all-of-four false b c d h = absurd cc
 pub title-short : (name : List ℕ) → is_title name ≡ true → length name ≤ NAME_BYTES
 title-short [] h = absurd cc
 title-short (b ∷ bytes) h =
-    let lt = lt-true (length bytes) NAME_BYTES (all-of-four (not (b == 95)) (word_len is_of_title (b ∷ bytes) == length (b ∷ bytes)) (nat_lt (length bytes) NAME_BYTES) (not (list_any (bytes_eq (b ∷ bytes)) (codes "load" ∷ codes "close" ∷ []))) h) in
+    let lt = ltb-true (length bytes) NAME_BYTES (all-of-four (not (b == 95)) (word_len is_of_title (b ∷ bytes) == length (b ∷ bytes)) (nat_lt (length bytes) NAME_BYTES) (not (list_any (bytes_eq (b ∷ bytes)) (codes "load" ∷ codes "close" ∷ []))) h) in
     omega (arith, lt)
 
 named-short : (read : List ℕ → Read) (line : Word) → ((name : List ℕ) → length name ≤ NAME_BYTES → HoldsTitle (read name)) → SomeTitle (named read line)
