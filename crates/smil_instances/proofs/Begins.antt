@@ -1,6 +1,7 @@
 -- The instance times are those that are kept, with the expected ones put in their places.
 use Rattle.std.proofs.Common.{◌≡◌, refl, sym, ◌∙◌, ap, ℕ, List, [], ◌∷◌, ◌++◌, ℤ, Bool, false, Option, Some, None}
 use Rattle.std.specs.Prelude.{map, flat_map, cond, int_le}
+use Rattle.std.proofs.lemmas.List.{append-nil}
 use Rattle.smil_model.specs.declared.interval.Interval.{Interval}
 use Rattle.smil_model.specs.declared.times.Time.{Time}
 use Rattle.smil_model.specs.declared.document.Node.{Node}
@@ -18,7 +19,6 @@ use Rattle.smil_instances.specs.SettledTimes.{instances_of, edge_instances, offs
 use Rattle.smil_instance_rows.specs.Values.{times_of, begins_of, ends_of}
 use Rattle.smil_instance_rows.specs.Rising.{poured}
 use Rattle.smil_instances.specs.ExpectedTimes.{expected_before, expected_named, expected_of, AreMerged}
-use Rattle.smil_instances.proofs.Places.{append_nil}
 use Rattle.smil_instances.proofs.Times.{heard-times, happened-times, event-times, repeat-times}
 use Rattle.smil_instance_rows.specs.Orders.{numbers_order, times_order}
 use Rattle.smil_instance_rows.proofs.Rising.{parts_apart}
@@ -44,11 +44,11 @@ module _ (h : History) (J : ℕ → Option Interval) (now : ℤ) where
   item_parts e side (Offset offset) = offset_parts e.serial offset (previous_in_seq h.nodes e.serial)
   item_parts e side (Sync who edge offset) = named_parts e.serial offset edge (element_named h.nodes who)
   item_parts e side (Event who name offset) =
-      event-times h e side (Event who name offset) offset name (target h.nodes e.serial who) ∙ sym (append_nil (times_of (instances_of h e side (Event who name offset))))
+      event-times h e side (Event who name offset) offset name (target h.nodes e.serial who) ∙ sym (append-nil (times_of (instances_of h e side (Event who name offset))))
   item_parts e side (Repeat who n offset) =
-      repeat-times h e side (Repeat who n offset) offset n (target h.nodes e.serial who) ∙ sym (append_nil (times_of (instances_of h e side (Repeat who n offset))))
+      repeat-times h e side (Repeat who n offset) offset n (target h.nodes e.serial who) ∙ sym (append-nil (times_of (instances_of h e side (Repeat who n offset))))
   item_parts e side (Key key offset) =
-      heard-times h e side (Key key offset) offset (occurs_key key) ∙ sym (append_nil (times_of (instances_of h e side (Key key offset))))
+      heard-times h e side (Key key offset) offset (occurs_key key) ∙ sym (append-nil (times_of (instances_of h e side (Key key offset))))
   item_parts e Begin Indefinite = refl
   item_parts e End Indefinite = refl
 

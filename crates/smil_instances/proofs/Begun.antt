@@ -1,8 +1,7 @@
 -- The rows of elements before any cell is noted.
-use Rattle.std.proofs.Common.{◌≡◌, refl, sym, ◌∙◌, ap, subst, ℕ, zero, suc, List, [], ◌∷◌, Option, Some, None, Bool, true, false, cond, map, length, get_or, take, ◌++◌, ◌+◌, ◌<◌, ◌≤◌, arith}
-use Rattle.std.specs.Prelude.{◌==◌, not, slice_get, option_map, pos}
+use Rattle.std.proofs.Common.{◌≡◌, refl, sym, ◌∙◌, ap, subst, ℕ, zero, suc, List, [], ◌∷◌, Option, Some, None, Bool, true, false, cond, map, length, get_or, take, ◌++◌, ◌+◌, ◌<◌, arith}
+use Rattle.std.specs.Prelude.{not, slice_get, option_map, pos}
 use Rattle.std.specs.List.{AllByRecursion}
-use Rattle.std.proofs.lemmas.Bool.{eqb-true}
 use Rattle.std.proofs.lemmas.List.{map-append}
 use Rattle.std.proofs.lemmas.List.Elements.{filter-append}
 use Rattle.std.proofs.lemmas.Option.{slice_get-map, get_or_from_slice_get}
@@ -14,10 +13,10 @@ use Rattle.smil_model.specs.declared.document.Item.TheVariants.{Offset, Indefini
 use Rattle.smil_model.specs.document.Document.{Document, elements, is_class_kind, is_element, is_in_excl, node_at, previous_in_seq, serials}
 use Rattle.smil_model.specs.document.Defaults.{begin_list, end_list, items_or}
 use Rattle.smil_model.specs.document.Valid.{IsDistinct, IsNumberedTree, kind_of}
-use Rattle.smil_laws.proofs.Aside.{find_true}
 use Rattle.smil_laws.proofs.Members.{each_kept}
 use Rattle.smil_tree.proofs.Families.{node_of_place}
 use Rattle.smil_tree.proofs.Spans.{all_known}
+use Rattle.smil_tree.proofs.Changed.{serial_of}
 use Rattle.smil_instances.specs.declared.source.Source.{Source}
 use Rattle.smil_instances.specs.declared.source.Source.TheVariants as source
 use Rattle.smil_instances.specs.Sources.{source_of, syncbase_or}
@@ -55,9 +54,6 @@ mapped_at f ns xs i n d is at = get_or_from_slice_get xs i (f n) d (ap (λ ys. s
 pub element_at : (document : Document) → IsNumberedTree document → (i who : ℕ) → (is : IsAt (elements document.nodes) i who) → node_at document.nodes who ≡ Some is.node
 element_at document numbered i who is = ap (node_at document.nodes) is.serial ∙ element_known document numbered i is.node is.at
 
-own_serial : (nodes : List Node) (who : ℕ) (n : Node) → node_at nodes who ≡ Some n → n.serial ≡ who
-own_serial nodes who n at = eqb-true n.serial who (find_true (λ (m : Node). m.serial == who) nodes n at)
-
 module _ (nodes : List Node) (who : ℕ) where
   by_default : (d : Source) → d ≡ syncbase_or source.Start End (previous_in_seq nodes who) → (t : Bool) → cond t source.Nothing d ∷ [] ≡ map (source_of nodes who) (cond t (Indefinite ∷ []) (Offset (pos 0) ∷ []))
   by_default d is true = refl
@@ -74,7 +70,7 @@ module _ (nodes : List Node) (who : ℕ) where
           let absent : e.attrs.begin ≡ None = ap (λ (a : Attrs). a.begin) (sym same) ∙ none in
           ap Some
           (by_default d is (is_in_excl nodes who)
-          ∙ ap (λ s. map (source_of nodes who) (cond (is_in_excl nodes s) (Indefinite ∷ []) (Offset (pos 0) ∷ []))) (sym (own_serial nodes who e at))
+          ∙ ap (λ s. map (source_of nodes who) (cond (is_in_excl nodes s) (Indefinite ∷ []) (Offset (pos 0) ∷ []))) (sym (serial_of nodes who e at))
           ∙ ap (λ o. map (source_of nodes who) (items_or (cond (is_in_excl nodes e.serial) (Indefinite ∷ []) (Offset (pos 0) ∷ [])) o)) (sym absent))
 
   pub row_is : (begins ends : List Source) → Some begins ≡ option_map (λ (e : Node). map (source_of nodes who) (begin_list nodes e)) (node_at nodes who) → Some ends ≡ option_map (λ (e : Node). map (source_of nodes who) (end_list e)) (node_at nodes who) → Some (without_cells begins ends) ≡ option_map (fresh_row nodes) (node_at nodes who)
@@ -86,8 +82,8 @@ module _ (nodes : List Node) (who : ℕ) where
           let x : begins ≡ map (source_of nodes who) (begin_list nodes e) = cc in
           let y : ends ≡ map (source_of nodes who) (end_list e) = cc in
           ap Some
-          (ap (λ bs. without_cells bs ends) (x ∙ ap (λ s. map (source_of nodes s) (begin_list nodes e)) (sym (own_serial nodes who e at)))
-          ∙ ap (without_cells (map (source_of nodes e.serial) (begin_list nodes e))) (y ∙ ap (λ s. map (source_of nodes s) (end_list e)) (sym (own_serial nodes who e at))))
+          (ap (λ bs. without_cells bs ends) (x ∙ ap (λ s. map (source_of nodes s) (begin_list nodes e)) (sym (serial_of nodes who e at)))
+          ∙ ap (without_cells (map (source_of nodes e.serial) (begin_list nodes e))) (y ∙ ap (λ s. map (source_of nodes s) (end_list e)) (sym (serial_of nodes who e at))))
 
 pub same_some : {A : Type 0} (x y : A) → Some x ≡ Some y → x ≡ y
 same_some x y q = cc
@@ -120,8 +116,3 @@ elements_more nodes i who kind t old new d is k e so q =
     ∙ ap (λ s. serials (elements (take i nodes)) ++ cond t (s ∷ []) []) is.serial
     ∙ ap (λ u. serials (elements (take i nodes)) ++ cond u (is.node.serial ∷ []) []) (e ∙ ap (λ x. not (is_class_kind x)) (same_some kind is.node.kind (k ∙ ap kind_of (found_known nodes i who d is))))
     ∙ sym (elements_next nodes i is.node is.at)
-
-pub none_left : (ns : List Node) (k : ℕ) → None ≡ option_map (λ (n : Node). n.serial) (slice_get ns k) → length ns ≤ k
-none_left [] k q = omega arith
-none_left (n ∷ ns) zero q = cc
-none_left (n ∷ ns) (suc k) q = let rest = none_left ns k q in omega (arith, rest)

@@ -1,7 +1,6 @@
 -- What an entry gives to an item, by the item's source.
 use Rattle.std.proofs.Common.{◌≡◌, refl, sym, ◌∙◌, ap, ℕ, ℤ, List, Option, Some, None, true, false}
-use Rattle.std.specs.Prelude.{cond, length, ◌+ℤ◌, ◌&&◌, ◌==◌}
-use Rattle.std.proofs.lemmas.Bool.{eqb-true}
+use Rattle.std.specs.Prelude.{cond, length, ◌+ℤ◌, ◌&&◌}
 use Rattle.smil_model.specs.declared.times.Time.{Time}
 use Rattle.smil_model.specs.declared.diary.Entry.{Entry}
 use Rattle.smil_model.specs.declared.document.Node.{Node}
@@ -10,20 +9,15 @@ use Rattle.smil_model.specs.declared.document.Edge.TheVariants.{End}
 use Rattle.smil_model.specs.declared.document.Item.{Item}
 use Rattle.smil_model.specs.declared.document.Item.TheVariants.{Offset, Sync, Event, Repeat, Key, Indefinite}
 use Rattle.smil_model.specs.Times.{within_horizon}
-use Rattle.smil_model.specs.document.Document.{elements, element_named, node_at, previous_in_seq, target, time_parent}
+use Rattle.smil_model.specs.document.Document.{element_named, previous_in_seq, target, time_parent}
 use Rattle.smil_model.specs.diary.Diary.{History}
 use Rattle.smil_model.specs.diary.Clocks.{outer}
 use Rattle.smil_model.specs.interval.Instances.{edge_time, hears}
-use Rattle.smil_laws.proofs.Aside.{find_true}
 use Rattle.smil_instances.specs.declared.source.Source.TheVariants as source
 use Rattle.smil_instances.specs.Contribution.{given_edge, given_event, given_repeat, given_at, offset_given, started, given_heard, offset_of}
 use Rattle.smil_instance_rows.specs.Rows.{at_place, instance_at}
 use Rattle.smil_instances.specs.Sources.{eventbase, source_of, syncbase_or}
 use Rattle.smil_instances.specs.Occurrence.{occurs_in, target_of}
-
--- an element has the serial by which it is found
-pub serial_is : (nodes : List Node) (s : ℕ) (e : Node) → node_at (elements nodes) s ≡ Some e → e.serial ≡ s
-serial_is nodes s e q = eqb-true e.serial s (find_true (λ (n : Node). n.serial == s) (elements nodes) e q)
 
 -- ---- what a source tells
 

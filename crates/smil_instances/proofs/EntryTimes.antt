@@ -1,6 +1,7 @@
 -- What is kept for an item after an entry, by what was kept and what the entry gives.
 use Rattle.std.proofs.Common.{◌≡◌, refl, sym, ◌∙◌, ap, ℕ, List, ◌∷◌, [], ◌++◌, length, Option, Some, None, ℤ, Bool, true, false}
 use Rattle.std.specs.Prelude.{cond, min, option_to_list}
+use Rattle.std.proofs.lemmas.List.{append-nil}
 use Rattle.smil_model.specs.declared.times.Time.{Time}
 use Rattle.smil_model.specs.declared.diary.Entry.{Entry}
 use Rattle.smil_model.specs.declared.document.Node.{Node}
@@ -21,16 +22,15 @@ use Rattle.smil_instances.specs.SettledTimes.{at_start, heard_time, occurs_key, 
 use Rattle.smil_instances.specs.Sources.{eventbase, source_of, syncbase_or}
 use Rattle.smil_instances.specs.Updates.{remaining}
 use Rattle.smil_instances.proofs.Note.{kept-next}
-use Rattle.smil_instances.proofs.Places.{append_nil}
 
 time_last : (place : ℕ) (o : Option Time) (kept : List InstanceTime) → with_time place o kept ≡ kept ++ option_to_list (at_place place o)
-time_last place None kept = sym (append_nil kept)
+time_last place None kept = sym (append-nil kept)
 time_last place (Some t) kept = refl
 
 module _ (h : History) (y : Entry) (e : Node) (side : Edge) where
   -- no time is given, and nothing is cut
   abbrev same : (kept : List InstanceTime) → kept ≡ kept ++ []
-  same kept = sym (append_nil kept)
+  same kept = sym (append-nil kept)
 
   -- the time is put last, and then what is of earlier places is cut
   abbrev from_birth : (birth' : ℕ) (o : Option Time) (kept : List InstanceTime) → from_place birth' (with_time (length h.diary) o kept) ≡ from_place birth' (kept ++ option_to_list (at_place (length h.diary) o))

@@ -4,6 +4,7 @@ use Rattle.std.specs.Prelude.{map, get_or, set, slice_get, ◌==◌, ◌&&◌, u
 use Rattle.std.specs.Option.{option_map}
 use Rattle.std.proofs.lemmas.Bool.{eqb-true, eq-eqb, and_parts}
 use Rattle.std.proofs.lemmas.Option.{slice_get-map, unwrap_or-slice_get, slice_get_within}
+use Rattle.std.proofs.lemmas.List.{length-set}
 use Rattle.smil_model.specs.declared.document.Edge.{Edge}
 use Rattle.smil_model.specs.declared.document.Edge.TheVariants.{Begin, End}
 use Rattle.smil_model.specs.declared.document.Item.{Item}
@@ -20,16 +21,11 @@ use Rattle.smil_model.specs.document.Defaults.{items_of}
 use Rattle.smil_instance_rows.specs.Changes.{row_at, no_row, HasCell, cell_of, with_cell}
 use Rattle.smil_instances.specs.Intake.{Shape, shape_of, shape_in, AreRowsOf}
 
-set_length : {A : Type 0} (xs : List A) (i : ℕ) (x : A) → length (set xs i x) ≡ length xs
-set_length [] i x = refl
-set_length (y ∷ ys) zero x = refl
-set_length (y ∷ ys) (suc i) x = ap suc (set_length ys i x)
-
 -- ---- the shape stays
 
 listed_shape : (row : Row) (side : Edge) (item : ℕ) (kept : List InstanceTime) → shape_of (with_list row side item kept) ≡ shape_of row
-listed_shape row Begin item kept = ap (λ n. record { serial = row.serial; begins = n; ends = length row.ends }) (set_length row.begins item kept)
-listed_shape row End item kept = ap (λ n. record { serial = row.serial; begins = length row.begins; ends = n }) (set_length row.ends item kept)
+listed_shape row Begin item kept = ap (λ n. record { serial = row.serial; begins = n; ends = length row.ends }) (length-set row.begins item kept)
+listed_shape row End item kept = ap (λ n. record { serial = row.serial; begins = length row.begins; ends = n }) (length-set row.ends item kept)
 
 set_shape : (rows : List Row) (i : ℕ) (row : Row) → shape_of row ≡ shape_of (row_at rows i) → map shape_of (set rows i row) ≡ map shape_of rows
 set_shape [] i row q = refl

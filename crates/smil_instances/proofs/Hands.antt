@@ -1,8 +1,9 @@
 -- The history before the last entry, and its moments.
-use Rattle.std.proofs.Common.{◌≡◌, refl, sym, ◌∙◌, ap, subst, List, [], ◌∷◌, ◌++◌, ℤ, true, arith}
+use Rattle.std.proofs.Common.{◌≡◌, sym, ◌∙◌, ap, subst, List, [], ◌∷◌, ◌++◌, ℤ, true, arith}
 use Rattle.std.specs.Prelude.{pos, int_le, ◌&&◌}
 use Rattle.std.proofs.lemmas.Bool.{and_parts}
 use Rattle.std.proofs.lemmas.List.Elements.{All-cons}
+use Rattle.std.proofs.lemmas.List.{same_from_push}
 use Rattle.smil_model.specs.declared.times.TheConstants.{HORIZON}
 use Rattle.smil_model.specs.declared.diary.Entry.{Entry}
 use Rattle.smil_model.specs.declared.diary.LogEntry.{LogEntry}
@@ -15,22 +16,10 @@ use Rattle.smil_stretch.proofs.Moments.{le_both}
 use Rattle.smil_instances.specs.Entry.{IsAtHand, IsEntryOf}
 use Rattle.smil_instances.specs.Intake.{history_of}
 
-last_same : {A : Type 0} (xs ys : List A) (x y : A) → xs ++ x ∷ [] ≡ ys ++ y ∷ [] → (xs ≡ ys) × (x ≡ y)
-last_same [] [] x y q = (refl, cc)
-last_same [] (w ∷ []) x y q = let rest : [] ≡ y ∷ [] = cc in cc
-last_same [] (w ∷ v ∷ ys) x y q = let rest : [] ≡ v ∷ (ys ++ y ∷ []) = cc in cc
-last_same (z ∷ []) [] x y q = let rest : x ∷ [] ≡ [] = cc in cc
-last_same (z ∷ v ∷ xs) [] x y q = let rest : v ∷ (xs ++ x ∷ []) ≡ [] = cc in cc
-last_same (z ∷ xs) (w ∷ ys) x y q =
-    let first : z ≡ w = cc in
-    let rest : xs ++ x ∷ [] ≡ ys ++ y ∷ [] = cc in
-    let same = last_same xs ys x y rest in
-    (ap (λ v. v ∷ xs) first ∙ ap (λ vs. w ∷ vs) same.0, same.1)
-
 -- any split of the diary before its last entry is that of the history at hand
 pub at_hand : (document : Document) (clocks : List NodeClock) (log : List LogEntry) (diary before : List Entry) (y : Entry) → IsAtHand document clocks log diary → diary ≡ before ++ y ∷ [] → IsEntryOf (history_of document log before) y document clocks log diary
 at_hand document clocks log diary before y hand q =
-    let same = last_same hand.past.diary before hand.entry y (sym hand.is_entry.same_diary ∙ q) in
+    let same = same_from_push hand.past.diary before hand.entry y (sym hand.is_entry.same_diary ∙ q) in
     let past : hand.past ≡ history_of document log before =
     ap (λ ns. record { nodes = ns; log = hand.past.log; diary = hand.past.diary }) hand.is_entry.same_nodes
     ∙ ap (λ l. record { nodes = document.nodes; log = l; diary = hand.past.diary }) hand.is_entry.same_log

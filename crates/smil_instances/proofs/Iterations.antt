@@ -1,5 +1,5 @@
 -- The iteration before a repeat, by what the diary with the repeat says.
-use Rattle.std.proofs.Common.{◌≡◌, refl, sym, ◌∙◌, ap, ℕ, suc, ◌≤◌, List, [], ◌∷◌, ◌++◌, ℤ, Option, Some, None, Bool, true, false, length, drop, arith}
+use Rattle.std.proofs.Common.{◌≡◌, refl, sym, ◌∙◌, ap, ℕ, suc, ◌≤◌, List, [], ◌∷◌, ◌++◌, ℤ, Option, Some, None, false, length, drop, arith}
 use Rattle.std.specs.Prelude.{cond, ◌==◌, max, option_map, unwrap_or}
 use Rattle.std.specs.Option.{option_map_or}
 use Rattle.std.proofs.lemmas.Bool.{eq-eqb}
@@ -10,23 +10,11 @@ use Rattle.smil_model.specs.declared.diary.Step.TheVariants.{Repeated}
 use Rattle.smil_model.specs.declared.document.Node.{Node}
 use Rattle.smil_model.specs.document.Document.{Document, time_parent}
 use Rattle.smil_model.specs.document.Valid.{IsNumberedTree}
-use Rattle.smil_model.specs.diary.Diary.{History, last_place, later_place, gives_birth, birth_under, since_birth, iteration_after, iteration_from, iteration, with_entry}
+use Rattle.smil_model.specs.diary.Diary.{History, last_place, gives_birth, birth_under, since_birth, iteration_after, iteration_from, iteration, with_entry}
 use Rattle.smil_laws.proofs.Lineages.{swap_eqb}
 use Rattle.smil_laws.proofs.Ancestry.{below_none, parent_apart}
 use Rattle.smil_laws.proofs.Numbered.{ordered}
-
-last_place-push : (test : Entry → Bool) (xs : List Entry) (y : Entry) → test y ≡ false → last_place test (xs ++ y ∷ []) ≡ last_place test xs
-last_place-push test [] y q = ap (λ t. later_place t None) q
-last_place-push test (x ∷ xs) y q = ap (λ o. later_place (test x) o) (last_place-push test xs y q)
-
-last_place-below : (test : Entry → Bool) (xs : List Entry) (k : ℕ) → last_place test xs ≡ Some k → suc k ≤ length xs
-last_place-below test [] k q = cc
-last_place-below test (x ∷ xs) k q = step (test x) (last_place test xs) refl q (last_place-below test xs)
-  where
-    step : (t : Bool) (o : Option ℕ) → last_place test xs ≡ o → later_place t o ≡ Some k → ((j : ℕ) → last_place test xs ≡ Some j → suc j ≤ length xs) → suc k ≤ suc (length xs)
-    step t (Some j) e q below = let one : suc j ≡ k = cc in omega (arith, below j e, one)
-    step true None e q below = let one : 0 ≡ k = cc in omega (arith, one)
-    step false None e q below = cc
+use Rattle.smil_laws.proofs.Foreign.{last_place-push, last_place-below}
 
 module _ (x : ℕ) (moment start : ℤ) (ds : List Entry) where
   abbrev y : Entry

@@ -4,6 +4,7 @@ use Rattle.std.specs.Prelude.{cond, ◌==◌, ◌&&◌, nat_lt, slice_get, slice
 use Rattle.std.proofs.lemmas.Bool.{eqb-true, ltb-false}
 use Rattle.std.proofs.lemmas.Option.{slice_get_past, slice_get-get_or}
 use Rattle.smil_model.specs.declared.document.Edge.{Edge}
+use Rattle.smil_graph.proofs.Keyed.{none_right}
 use Rattle.smil_instances.specs.declared.source.Source.{Source}
 use Rattle.smil_instances.specs.declared.source.Source.TheVariants as source
 use Rattle.smil_instance_rows.specs.declared.cell.Cell.{Cell}
@@ -12,7 +13,8 @@ use Rattle.smil_instances.specs.Dependents.{ElementDependents, keyed_in, keyed_u
 use Rattle.smil_instances.specs.Keys.{TakesKeys, first_keys, first_row_keys, goes_to_key, is_for_key, side_keys}
 use Rattle.smil_instances.specs.Spread.{one_if}
 use Rattle.smil_instances.proofs.Growth.{one_more, set_get}
-use Rattle.smil_instances.proofs.Spreading.{no_source, same_cell, side_all}
+use Rattle.smil_instances.proofs.Spreading.{no_source, side_all}
+use Rattle.smil_instances.proofs.Extents.{same_cell}
 
 -- ---- in general
 
@@ -38,10 +40,6 @@ room_more [] zero = refl
 room_more [] (suc key) = refl
 room_more (cells ∷ keys) zero = refl
 room_more (cells ∷ keys) (suc key) = room_more keys key
-
-and_last : (t : Bool) → (t && false) ≡ false
-and_last true = refl
-and_last false = refl
 
 -- a cell pushed to the list of a key, in lists that have the same cells as the old ones
 pub key_pushed : (old keys : List (List Cell)) (key : ℕ) (cells : List Cell) (cell : Cell) → ((k : ℕ) → keyed_in keys k ≡ keyed_in old k) → key < length keys → cells ≡ get_or keys key cells → TakesKeys (goes_to_key (source.Key key) cell) old (slice_set keys key (cells ++ cell ∷ []))
@@ -70,7 +68,7 @@ key_pushed old keys key cells cell same below is = record {
         and_true true = refl
         and_true false = refl
     by_key k d false q =
-        let none : one_if (is_cell d cell && (key == k)) ≡ 0 = ap (λ t. one_if (is_cell d cell && t)) (sym (turned k) ∙ q) ∙ ap one_if (and_last (is_cell d cell)) in
+        let none : one_if (is_cell d cell && (key == k)) ≡ 0 = ap (λ t. one_if (is_cell d cell && t)) (sym (turned k) ∙ q) ∙ ap one_if (none_right (is_cell d cell)) in
         ap (count_by (is_cell d)) (same k) ∙ omega (arith, none)
 
 -- ---- one cell, and all
@@ -81,7 +79,7 @@ by_rows rows s cell is key d = by_cell (is_cell d cell) refl
   where
     by_cell : (t : Bool) → is_cell d cell ≡ t → (t && is_keyed (Some key) s) ≡ (t && is_for_key rows key d)
     by_cell false q = refl
-    by_cell true q = ap (is_keyed (Some key)) (is ∙ ap (source_in rows) (sym (same_cell d cell q)))
+    by_cell true q = ap (is_keyed (Some key)) (is ∙ ap (source_in rows) (sym (same_cell cell d q)))
 
 -- past its items a side has none for a key
 pub all_of_side : (rows : List ElementDependents) (row : ℕ) (side : Edge) (r : ElementDependents) (n : ℕ) → r ≡ get_or rows row r → row < length rows → length (sources_of r side) ≤ n → (key : ℕ) (d : Cell) → first_keys rows row side n key d ≡ side_keys rows row side key d

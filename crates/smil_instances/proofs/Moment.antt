@@ -3,6 +3,7 @@ use Rattle.std.proofs.Common.{◌≡◌, refl, ◌∙◌, ap, ℕ, suc, zero, �
 use Rattle.std.specs.Prelude.{pos, negsuc, cond, int_le}
 use Rattle.std.proofs.lemmas.Int.{ints}
 use Rattle.std.proofs.lemmas.List.Elements.{filter-append}
+use Rattle.std.proofs.lemmas.List.{append-nil}
 use Rattle.smil_model.specs.declared.diary.Entry.{Entry}
 use Rattle.smil_model.specs.declared.diary.Step.{Step}
 use Rattle.smil_model.specs.declared.diary.Step.TheVariants.{Began, Ended, Cut}
@@ -13,7 +14,6 @@ use Rattle.smil_model.specs.document.Document.{time_parent}
 use Rattle.smil_model.specs.diary.Diary.{History, with_entry}
 use Rattle.smil_model.specs.diary.Clocks.{until, elapsed, stands_by, run, outer_under, outer}
 use Rattle.smil_model.specs.interval.Instances.{edge_time}
-use Rattle.smil_instances.proofs.Places.{append_nil}
 
 before_it : (y : ℤ) (m : ℕ) → int_le (pos (suc m)) y ≡ true → int_le y (pos m) ≡ false
 before_it y m q = grind (arith, ints)
@@ -30,7 +30,7 @@ module _ (h : History) (y : Entry) where
       ap (λ ds. stands_by h.nodes ds s)
       (filter-append (λ (z : Entry). int_le z.moment (pos m)) h.diary (y ∷ [])
       ∙ ap (λ t. until (pos m) h.diary ++ cond t (y ∷ []) []) (before_it y.moment m q)
-      ∙ append_nil (until (pos m) h.diary))
+      ∙ append-nil (until (pos m) h.diary))
 
   elapsed-at : (s m : ℕ) → int_le (pos m) y.moment ≡ true → elapsed next s m ≡ elapsed h s m
   elapsed-at s zero q = refl

@@ -4,6 +4,7 @@ use Rattle.std.specs.Prelude.{pos, cond, int_le, min, ◌+ℤ◌, ◌-ℤ◌, �
 use Rattle.std.specs.List.{cons_option}
 use Rattle.std.proofs.lemmas.Int.{ints}
 use Rattle.std.proofs.lemmas.List.Sums.{fold_push}
+use Rattle.std.proofs.lemmas.List.{append-nil}
 use Rattle.smil_instance_rows.specs.declared.item_times.InstanceTime.{InstanceTime}
 use Rattle.smil_model.specs.declared.times.Time.{Time}
 use Rattle.smil_model.specs.declared.diary.Entry.{Entry}
@@ -19,22 +20,19 @@ use Rattle.smil_model.specs.document.Document.{time_parent, previous_in_seq, ele
 use Rattle.smil_model.specs.diary.Diary.{History, with_entry, birth, gives_birth, with_past, up_to}
 use Rattle.smil_model.specs.diary.Clocks.{outer, run, iteration_start_after, iteration_start, start_under}
 use Rattle.smil_model.specs.interval.Instances.{edge_time, hears}
+use Rattle.smil_diary.proofs.PlaceLists.{past-length}
 use Rattle.smil_instances.specs.Laws.{IsUpTo}
 use Rattle.smil_instance_rows.specs.Rows.{at_place, from_place}
 use Rattle.smil_instances.specs.SettledTimes.{with_time, all_edges, edge_instances, next_edges, heard_time, all_heard, heard_instances, next_heard, offset_instances, next_offset, named_instances, next_named, event_instances, next_event, repeat_instances, next_repeat, instances_of, next_of, next_start, at_start, occurs_event, occurs_repeat, occurs_key}
-use Rattle.smil_instances.proofs.Places.{placed, placed-same, placed-push, from-with_time, append_nil}
+use Rattle.smil_instances.proofs.Places.{placed, placed-same, placed-push, from-with_time}
 use Rattle.smil_instances.proofs.Resets.{birth-rises}
 use Rattle.smil_instances.proofs.Moment.{edge-at, parent-at, own-at}
 
 pub with_past-push : (y : Entry) (before ds : List Entry) → with_past before (ds ++ y ∷ []) ≡ with_past before ds ++ (before ++ ds, y) ∷ []
-with_past-push y before [] = ap (λ b. (b, y) ∷ []) (sym (append_nil before))
+with_past-push y before [] = ap (λ b. (b, y) ∷ []) (sym (append-nil before))
 with_past-push y before (z ∷ zs) =
     ap (λ ws. (before, z) ∷ ws) (with_past-push y (before ++ z ∷ []) zs)
     ∙ ap (λ b. (before, z) ∷ (with_past (before ++ z ∷ []) zs ++ (b, y) ∷ [])) (append_assoc before (z ∷ []) zs)
-
-pub with_past-length : (before ds : List Entry) → length (with_past before ds) ≡ length ds
-with_past-length before [] = refl
-with_past-length before (z ∷ zs) = ap suc (with_past-length (before ++ z ∷ []) zs)
 
 fold_same : {A B : Type 0} (f g : B → A → B) (b : B) (xs : List A) → ((j : ℕ) (d : A) (z : B) → suc j ≤ length xs → f z (get_or xs j d) ≡ g z (get_or xs j d)) → fold f b xs ≡ fold g b xs
 fold_same f g b [] same = refl
@@ -86,7 +84,7 @@ module _ (h : History) (y : Entry) (timely : IsUpTo y.moment h.diary) where
     all_heard-push =
         ap (placed (by (with_entry h y)) 0) (with_past-push y [] h.diary)
         ∙ placed-push (by (with_entry h y)) (with_past [] h.diary) (h.diary, y)
-        ∙ ap (λ n. with_time n (by (with_entry h y) (h.diary, y)) (placed (by (with_entry h y)) 0 (with_past [] h.diary))) (with_past-length [] h.diary)
+        ∙ ap (λ n. with_time n (by (with_entry h y) (h.diary, y)) (placed (by (with_entry h y)) 0 (with_past [] h.diary))) (past-length [] h.diary)
         ∙ ap (λ o. with_time (length h.diary) o (placed (by (with_entry h y)) 0 (with_past [] h.diary))) (heard-at (h.diary, y) (grind (arith, ints)))
         ∙ ap (with_time (length h.diary) (by h (h.diary, y))) (heard-same 0 [] h.diary timely)
 

@@ -7,24 +7,12 @@ use Rattle.smil_model.specs.declared.document.Node.{Node}
 use Rattle.smil_model.specs.document.Document.{time_parent}
 use Rattle.smil_model.specs.diary.Diary.{History, last_place, later_place, with_entry, gives_birth, birth_under, birth}
 use Rattle.smil_model.specs.diary.Plays.{is_birth_under}
-
-pub last_place-below : {A : Type 0} (test : A → Bool) (xs : List A) (k : ℕ) → last_place test xs ≡ Some k → suc k ≤ length xs
-last_place-below test [] k q = cc
-last_place-below test (x ∷ xs) k q = step (test x) (last_place test xs) refl q (last_place-below test xs)
-  where
-    step : (t : Bool) (o : Option ℕ) → last_place test xs ≡ o → later_place t o ≡ Some k → ((j : ℕ) → last_place test xs ≡ Some j → suc j ≤ length xs) → suc k ≤ suc (length xs)
-    step t (Some j) e q below = let one : suc j ≡ k = cc in omega (arith, below j e, one)
-    step true None e q below = let one : 0 ≡ k = cc in omega (arith, one)
-    step false None e q below = cc
+use Rattle.smil_laws.proofs.Foreign.{last_place-push, last_place-below}
 
 -- one that passes at the end is the last
 pub last_place-hit : {A : Type 0} (test : A → Bool) (xs : List A) (y : A) → test y ≡ true → last_place test (xs ++ y ∷ []) ≡ Some (length xs)
 last_place-hit test [] y q = ap (λ t. later_place t None) q
 last_place-hit test (x ∷ xs) y q = ap (λ o. later_place (test x) o) (last_place-hit test xs y q)
-
-pub last_place-miss : {A : Type 0} (test : A → Bool) (xs : List A) (y : A) → test y ≡ false → last_place test (xs ++ y ∷ []) ≡ last_place test xs
-last_place-miss test [] y q = ap (λ t. later_place t None) q
-last_place-miss test (x ∷ xs) y q = ap (λ o. later_place (test x) o) (last_place-miss test xs y q)
 
 birth_under-rises : (o : Option Node) (ds : List Entry) (y : Entry) → birth_under o ds ≤ birth_under o (ds ++ y ∷ [])
 birth_under-rises None ds y = omega arith
@@ -45,7 +33,7 @@ birth_under-rises (Some p) ds y = by_test (gives_birth p.serial y.step) refl
     by_test true q =
         rw (last_place-hit test ds y q)
         (let most : option_map_or suc (last_place test ds) (length ds) ≤ length ds = as_some (last_place test ds) (last_place-below test ds) in omega (arith, most))
-    by_test false q = rw (last_place-miss test ds y q) (on (last_place test ds))
+    by_test false q = rw (last_place-push test ds y q) (on (last_place test ds))
 
 pub birth-rises : (h : History) (y : Entry) (s : ℕ) → birth h s ≤ birth (with_entry h y) s
 birth-rises h y s = birth_under-rises (time_parent h.nodes s) h.diary y
@@ -64,7 +52,7 @@ birth-stays h y s other = under (time_parent h.nodes s) other
     under : (o : Option Node) → is_birth_under o y.step ≡ false → Stays (length h.diary) (birth_under o (h.diary ++ y ∷ [])) (birth_under o h.diary)
     under None q = inl (refl, omega arith)
     under (Some p) q =
-        rw (last_place-miss (λ (z : Entry). gives_birth p.serial z.step) h.diary y q)
+        rw (last_place-push (λ (z : Entry). gives_birth p.serial z.step) h.diary y q)
         (by_place (last_place (λ (z : Entry). gives_birth p.serial z.step) h.diary) (last_place-below (λ (z : Entry). gives_birth p.serial z.step) h.diary))
 
 pub min-stays : (n a' a b' b : ℕ) → Stays n a' a → Stays n b' b → Stays n (min a' b') (min a b)

@@ -11,6 +11,8 @@ use Rattle.smil_model.specs.document.Document.{elements, is_element, is_time_chi
 use Rattle.smil_model.specs.document.Valid.{IsDistinct}
 use Rattle.smil_model.specs.reach.Reach.{is_option}
 use Rattle.smil_tree.proofs.Families.{drop_at}
+use Rattle.smil_tree.proofs.Holding.{same_test}
+use Rattle.smil_tree.proofs.Removed.{distinct_fewer}
 use Rattle.smil_instances.proofs.Begun.{each_at}
 use Rattle.smil_instances.proofs.Lists.{take_next}
 
@@ -44,16 +46,8 @@ any_filter t p (n ∷ ns) none =
     step true here rest = ap (λ v. v || list_any p (filter t ns)) here ∙ rest
     step false here rest = rest
 
-distinct_filter : (t : Node → Bool) (ns : List Node) → IsDistinct ns → IsDistinct (filter t ns)
-distinct_filter t [] d = tt
-distinct_filter t (n ∷ ns) d = step (t n) (distinct_filter t ns d.1)
-  where
-    step : (u : Bool) → IsDistinct (filter t ns) → IsDistinct (cond u (n ∷ filter t ns) (filter t ns))
-    step true rest = (any_filter t (λ (m : Node). m.serial == n.serial) ns d.0, rest)
-    step false rest = rest
-
 pub distinct_elements : (nodes : List Node) → IsDistinct nodes → IsDistinct (elements nodes)
-distinct_elements nodes d = distinct_filter is_element nodes d
+distinct_elements nodes d = distinct_fewer is_element nodes d
 
 among : (ns : List Node) (i : ℕ) (n : Node) (s : ℕ) → slice_get ns i ≡ Some n → list_any (λ (m : Node). m.serial == s) ns ≡ false → n.serial == s ≡ false
 among [] i n s at none = cc
@@ -61,15 +55,12 @@ among (m ∷ ms) zero n s at none =
     let one : m ≡ n = cc in ap (λ (x : Node). x.serial == s) (sym one) ∙ (or_parts (m.serial == s) (list_any (λ (k : Node). k.serial == s) ms) none).0
 among (m ∷ ms) (suc i) n s at none = among ms i n s at (or_parts (m.serial == s) (list_any (λ (k : Node). k.serial == s) ms) none).1
 
-turned : (a b : ℕ) → a == b ≡ b == a
-turned a b = grind arith
-
 -- none of those before it has its serial
 none_before : (ns : List Node) (i : ℕ) (n : Node) → IsDistinct ns → slice_get ns i ≡ Some n → list_any (λ (m : Node). m.serial == n.serial) (take i ns) ≡ false
 none_before [] i n d at = cc
 none_before (m ∷ ms) zero n d at = refl
 none_before (m ∷ ms) (suc i) n d at =
-    ap (λ t. t || list_any (λ (k : Node). k.serial == n.serial) (take i ms)) (turned m.serial n.serial ∙ among ms i n m.serial at d.0)
+    ap (λ t. t || list_any (λ (k : Node). k.serial == n.serial) (take i ms)) (same_test m.serial n.serial ∙ among ms i n m.serial at d.0)
     ∙ none_before ms i n d.1 at
 
 pub one_place : (ns : List Node) (i j : ℕ) (n m : Node) → IsDistinct ns → slice_get ns i ≡ Some n → slice_get ns j ≡ Some m → m.serial == n.serial ≡ true → j ≡ i
@@ -80,7 +71,7 @@ one_place (x ∷ xs) zero (suc j) n m d a b q =
     let never : true ≡ false = sym q ∙ ap (λ (y : Node). m.serial == y.serial) (sym one) ∙ among xs j m x.serial b d.0 in cc
 one_place (x ∷ xs) (suc i) zero n m d a b q =
     let one : x ≡ m = cc in
-    let never : true ≡ false = sym q ∙ turned m.serial n.serial ∙ ap (λ (y : Node). n.serial == y.serial) (sym one) ∙ among xs i n x.serial a d.0 in cc
+    let never : true ≡ false = sym q ∙ same_test m.serial n.serial ∙ ap (λ (y : Node). n.serial == y.serial) (sym one) ∙ among xs i n x.serial a d.0 in cc
 one_place (x ∷ xs) (suc i) (suc j) n m d a b q = ap suc (one_place xs i j n m d.1 a b q)
 
 -- ---- the time children among the elements
@@ -139,14 +130,14 @@ module _ (nodes : List Node) where
         ∙ ap (λ xs. serial_of (last_of xs)) (sym (filter-append (is_time_child nodes p) (take i (elements nodes)) (n ∷ [])))
         ∙ ap (λ xs. serial_of (last_of (filter (is_time_child nodes p) xs))) (sym (take_next (elements nodes) i n at))
       where
-        same_test : (o : Option Node) → is_option p (serial_of o) ≡ has_serial p o
-        same_test None = refl
-        same_test (Some q) = turned p q.serial
+        same_parent : (o : Option Node) → is_option p (serial_of o) ≡ has_serial p o
+        same_parent None = refl
+        same_parent (Some q) = same_test p q.serial
 
         by_test : (t : Bool) → has_serial p (time_parent nodes n.serial) ≡ t → cond (is_option p (serial_of (time_parent nodes n.serial))) (Some n.serial) (old p) ≡ serial_of (last_of (filter (is_time_child nodes p) (take i (elements nodes)) ++ cond t (n ∷ []) []))
-        by_test true e = ap (λ t. cond t (Some n.serial) (old p)) (same_test (time_parent nodes n.serial) ∙ e) ∙ ap serial_of (sym (last_push None (filter (is_time_child nodes p) (take i (elements nodes))) n))
+        by_test true e = ap (λ t. cond t (Some n.serial) (old p)) (same_parent (time_parent nodes n.serial) ∙ e) ∙ ap serial_of (sym (last_push None (filter (is_time_child nodes p) (take i (elements nodes))) n))
         by_test false e =
-            ap (λ t. cond t (Some n.serial) (old p)) (same_test (time_parent nodes n.serial) ∙ e) ∙ all p
+            ap (λ t. cond t (Some n.serial) (old p)) (same_parent (time_parent nodes n.serial) ∙ e) ∙ all p
             ∙ ap (λ xs. serial_of (last_of xs)) (sym (append-nil (filter (is_time_child nodes p) (take i (elements nodes)))))
 
 -- ---- places
@@ -170,7 +161,7 @@ module _ (nodes : List Node) (distinct : IsDistinct nodes) (i : ℕ) (n : Node) 
         where
           by_same : (t : Bool) → who == m.serial ≡ t → false ≡ (nat_lt row (i + 1) && (who == m.serial))
           by_same true f =
-              let j : row ≡ i = one_place (elements nodes) i row n m (distinct_elements nodes distinct) at q (turned m.serial n.serial ∙ ap (λ s. s == m.serial) same ∙ f) in
+              let j : row ≡ i = one_place (elements nodes) i row n m (distinct_elements nodes distinct) at q (same_test m.serial n.serial ∙ ap (λ s. s == m.serial) same ∙ f) in
               let never : false ≡ true = sym e ∙ eq-eqb row i j in cc
           by_same false f = sym (ap (λ t. nat_lt row (i + 1) && t) f ∙ nothing (nat_lt row (i + 1)))
 
@@ -178,7 +169,7 @@ module _ (nodes : List Node) (distinct : IsDistinct nodes) (i : ℕ) (n : Node) 
       later true e apart o q =
           let r : row ≡ i = eqb-true row i e in
           let it : o ≡ Some n = sym q ∙ ap (slice_get (elements nodes)) r ∙ at in
-          let no : is_option who (serial_of o) ≡ false = ap (λ x. is_option who (serial_of x)) it ∙ turned who n.serial ∙ apart in
+          let no : is_option who (serial_of o) ≡ false = ap (λ x. is_option who (serial_of x)) it ∙ same_test who n.serial ∙ apart in
           ap (λ t. nat_lt row i && t) no ∙ nothing (nat_lt row i) ∙ sym (ap (λ t. nat_lt row (i + 1) && t) no ∙ nothing (nat_lt row (i + 1)))
       later false e apart o q = ap (λ t. t && is_option who (serial_of o)) (same_less e)
         where

@@ -21,6 +21,7 @@ use Rattle.smil_instances.specs.Keys.{is_for_key}
 use Rattle.smil_instances.specs.Spread.{AreSourcesOf, Takes, first_items, first_of_side, first_rows, fresh_row, fresh_rows, goes_to, goes_to_all, is_of_side, of_first_rows, of_row, of_side, one_if, side_items}
 use Rattle.smil_model.specs.document.Valid.{same_test}
 use Rattle.smil_instances.proofs.Growth.{sources_stay}
+use Rattle.smil_instances.proofs.Extents.{same_cell}
 
 -- ---- one cell
 
@@ -35,24 +36,6 @@ sums true false false true = refl
 sums true false false false = refl
 sums false true A S = refl
 sums false false A S = refl
-
-same_edge : (a b : Edge) → is_same_edge a b ≡ true → a ≡ b
-same_edge Begin Begin q = refl
-same_edge End End q = refl
-same_edge Begin End q = cc
-same_edge End Begin q = cc
-
-pub same_cell : (d cell : Cell) → is_cell d cell ≡ true → d ≡ cell
-same_cell d cell q =
-    let one = and_parts (d.row == cell.row) (is_same_edge d.side cell.side && (d.item == cell.item)) q in
-    let two = and_parts (is_same_edge d.side cell.side) (d.item == cell.item) one.1 in
-    let row : d.row ≡ cell.row = eqb-true d.row cell.row one.0 in
-    let side : d.side ≡ cell.side = same_edge d.side cell.side two.0 in
-    let item : d.item ≡ cell.item = eqb-true d.item cell.item two.1 in
-    ap (λ r. made r d.side d.item) row ∙ ap (λ s. made cell.row s d.item) side ∙ ap (made cell.row cell.side) item
-  where
-    made : ℕ → Edge → ℕ → Cell
-    made row side item = record { row = row; side = side; item = item }
 
 module _ (nodes : List Node) (who : ℕ) (cell : Cell) (here : has_serial who (slice_get (elements nodes) cell.row) ≡ true) where
   concerns_is : (b : Bool) (x : ℕ) → concerns_cell nodes b x cell ≡ is_concerned nodes b x who (source_at nodes cell)
@@ -80,7 +63,7 @@ module _ (nodes : List Node) (who : ℕ) (cell : Cell) (here : has_serial who (s
             ∙ ap (λ t. is_option x (base_of s) || (b && t)) (resets x)
             ∙ ap (is_concerned nodes b x who) is
             ∙ sym (concerns_is b x)
-            ∙ ap (concerns_cell nodes b x) (sym (same_cell d cell q))
+            ∙ ap (concerns_cell nodes b x) (sym (same_cell cell d q))
 
         by_cell : (k : Bool) → is_cell d cell ≡ k → one_if (same_test b false && is_option x base && is_cell d cell) + one_if (same_test b true && is_option x base && is_cell d cell) + one_if (same_test b true && is_option x third && is_cell d cell) + one_if (same_test b true && is_option x fourth && is_cell d cell) ≡ one_if (is_cell d cell && concerns_cell nodes b x d)
         by_cell true q =

@@ -26,6 +26,7 @@ use Rattle.smil_instance_rows.specs.Rows.{Row, at_place, from_place, instance_at
 use Rattle.smil_instances.specs.SettledTimes.{all_edges, all_heard, heard_time, at_start, instances_of, offset_instances, named_instances, event_instances, repeat_instances, settled_rows, occurs_event, occurs_key, occurs_repeat}
 use Rattle.smil_instances.specs.Sources.{is_birth, is_concerned, is_keyed, item_under, source_at, source_by, source_of, AreThose, is_cell}
 use Rattle.smil_model.specs.document.Defaults.{items_of}
+use Rattle.smil_diary.proofs.PlaceLists.{past-length}
 use Rattle.smil_instance_rows.specs.Changes.{HasCell, cell_of, with_adds, Fits}
 use Rattle.smil_instances.specs.Updates.{EntriesAreTakenIn, OnlyConcernedChange, concerned_by, remaining}
 use Rattle.smil_instances.proofs.Places.{placed}
@@ -93,10 +94,6 @@ from_below p j (k ∷ ks) all = step (nat_le p k.place) (from_below p j ks (λ i
     step true rest = All-cons (λ (q : InstanceTime). q.place ≤ j) k (from_place p ks) (all 0 k (omega arith)) rest
     step false rest = rest
 
-past_length : (before ds : List Entry) → length (with_past before ds) ≡ length ds
-past_length before [] = refl
-past_length before (x ∷ xs) = ap suc (past_length (before ++ x ∷ []) xs)
-
 empty_below : (j : ℕ) → IsNotAfter j []
 empty_below j = λ i d below. absurd (omega (arith, below))
 
@@ -113,7 +110,7 @@ module _ (h : History) (y : Entry) (e : Node) (side : Edge) where
   heard_below : (m : ℕ) (item : Item) (offset : ℤ) (occurs : History → Step → Bool) (n : ℕ) → length h.diary ≡ n → IsNotAfter n (from_place m (all_heard h e side item offset occurs))
   heard_below m item offset occurs n q =
       from_below m n (all_heard h e side item offset occurs)
-      (placed_below (λ (w : List Entry × Entry). heard_time h e side item offset occurs w.0 w.1) n 0 (with_past [] h.diary) (omega (arith, q, past_length [] h.diary)))
+      (placed_below (λ (w : List Entry × Entry). heard_time h e side item offset occurs w.0 w.1) n 0 (with_past [] h.diary) (omega (arith, q, past-length [] h.diary)))
 
   -- what is kept is of no later place than what is given
   pub not_after : (item : Item) (kept : InstanceTime) → given_at h y e side item ≡ Some kept → IsNotAfter kept.place (instances_of h e side item)

@@ -1,6 +1,7 @@
 -- What is kept has the times that the definition gives where no current interval is known.
 use Rattle.std.proofs.Common.{◌≡◌, refl, sym, ◌∙◌, ap, ℕ, List, [], ◌++◌, Option, Some, None, ℤ, Bool, true, false, arith}
 use Rattle.std.specs.Prelude.{cond, map, filter_map, min, ◌+ℤ◌, ◌||◌, drop, option_to_list}
+use Rattle.std.proofs.lemmas.List.{append-nil}
 use Rattle.smil_model.specs.declared.times.Time.{Time}
 use Rattle.smil_model.specs.declared.diary.Entry.{Entry}
 use Rattle.smil_model.specs.declared.diary.Step.{Step}
@@ -18,7 +19,7 @@ use Rattle.smil_model.specs.interval.Instances.{edge_time, happened_times, expec
 use Rattle.smil_instance_rows.specs.Rows.{from_place}
 use Rattle.smil_instances.specs.SettledTimes.{edge_instances, heard_time, heard_instances, offset_instances, named_instances, event_instances, repeat_instances, instances_of, occurs_event, occurs_repeat, occurs_key}
 use Rattle.smil_instance_rows.specs.Values.{times_of}
-use Rattle.smil_instances.proofs.Places.{placed, times_from, append_nil}
+use Rattle.smil_instances.proofs.Places.{placed, times_from}
 
 from_start : {A : Type 0} (f : A → Option Time) (n : ℕ) (xs : List A) → filter_map f (drop n xs) ≡ times_of (from_place n (placed f 0 xs))
 from_start f n xs = sym (times_from f n 0 xs) ∙ ap (λ j. times_of (from_place j (placed f 0 xs))) (omega arith)
@@ -46,10 +47,10 @@ module _ (h : History) where
       by_held false = ap (λ o. map (λ value. within_horizon (between h x e value now +ℤ offset)) (option_to_list o)) (no_edge edge (is_active h.diary x))
 
   sync-times : (now : ℤ) (e x : ℕ) (offset : ℤ) (edge : Edge) (cyclic : Bool) → sync_times h (λ _. None) now e x offset edge cyclic ≡ times_of (edge_instances h e x offset edge)
-  sync-times now e x offset edge true = append_nil (happened_times h e x offset edge) ∙ happened-times e x offset edge
+  sync-times now e x offset edge true = append-nil (happened_times h e x offset edge) ∙ happened-times e x offset edge
   sync-times now e x offset edge false =
       ap (λ ts. happened_times h e x offset edge ++ ts) (none_expected now e x offset edge)
-      ∙ append_nil (happened_times h e x offset edge) ∙ happened-times e x offset edge
+      ∙ append-nil (happened_times h e x offset edge) ∙ happened-times e x offset edge
 
   offset-times : (now : ℤ) (e : ℕ) (offset : ℤ) (o : Option Node) → offset_times h (λ _. None) now e offset o ≡ times_of (offset_instances h e offset o)
   offset-times now e offset None = refl

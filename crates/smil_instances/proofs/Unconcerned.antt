@@ -26,6 +26,7 @@ use Rattle.smil_instances.specs.Sources.{eventbase, is_birth, is_concerned, is_k
 use Rattle.smil_instances.specs.Updates.{concerned_by}
 use Rattle.smil_instances.proofs.Untouched.{kept_stays}
 use Rattle.smil_model.specs.interval.Instances.{is_press, is_pressed, is_log_key}
+use Rattle.smil_laws.proofs.Lineages.{swap_eqb}
 
 -- whether a step can change what is kept for an item of e with this source
 abbrev reaches : List Node → List LogEntry → Step → ℕ → Source → Bool
@@ -54,9 +55,6 @@ by_source nodes log step e (Event who name offset) = by_target nodes log step e 
 by_source nodes log step e (Repeat who n offset) = by_target nodes log step e (target nodes e who)
 by_source nodes log step e (Key key offset) = refl
 by_source nodes log step e Indefinite = refl
-
-swapped : (a b : ℕ) → a == b ≡ false → b == a ≡ false
-swapped a b q = grind (arith, q)
 
 -- ---- a step that is on no element: a log entry that there is not
 
@@ -122,7 +120,7 @@ module _ (log : List LogEntry) (step : Step) (x : ℕ) (on : subject_of log step
       (or_from (is_reset_by nodes e step) (is_reset_by nodes t step) (no_birth (time_parent nodes e) b.0) (no_birth (time_parent nodes t) b.1))
   spared nodes e (source.Eventbase t) q =
       let a = or_parts (x == t) (is_birth step && is_under nodes x e) q in
-      or_from (is_option t (subject_of log step)) (is_reset_by nodes e step) (ap (is_option t) on ∙ swapped x t a.0) (no_birth (time_parent nodes e) a.1)
+      or_from (is_option t (subject_of log step)) (is_reset_by nodes e step) (ap (is_option t) on ∙ swap_eqb x t a.0) (no_birth (time_parent nodes e) a.1)
   spared nodes e (source.Key key) q =
       or_from (is_press log key step) (is_reset_by nodes e step) (no_press log step x key on) (no_birth (time_parent nodes e) q)
   spared nodes e source.Nothing q = refl
@@ -134,7 +132,7 @@ lone_press log (Logged place) key q = by_entry (slice_get log place) q
     by_what : (w : Happening) → is_keyed (pressed w) (source.Key key) ≡ false → is_pressed key w ≡ false
     by_what (happening.Event who name) r = refl
     by_what (happening.Media who len) r = refl
-    by_what (happening.Key own) r = swapped key own r
+    by_what (happening.Key own) r = swap_eqb key own r
 
     by_entry : (o : Option LogEntry) → is_keyed (logged_key o) (source.Key key) ≡ false → is_log_key key o ≡ false
     by_entry None r = refl

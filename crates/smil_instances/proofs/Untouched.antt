@@ -23,13 +23,14 @@ use Rattle.smil_model.specs.diary.Clocks.{outer}
 use Rattle.smil_model.specs.diary.Plays.{is_birth_under}
 use Rattle.smil_model.specs.interval.Instances.{edge_time, hears, is_event, is_named, is_log_event, is_press, is_repeat}
 use Rattle.smil_model.specs.reach.Reach.{subject, subject_of, logged_subject, is_option}
+use Rattle.smil_diary.proofs.PlaceLists.{past-length}
 use Rattle.smil_instances.specs.Laws.{IsUpTo}
 use Rattle.smil_instances.proofs.Changes.{is_edge, is_reset_by, concerns_edges, concerns_offset, concerns_named, concerns_heard, may_change}
 use Rattle.smil_instance_rows.specs.Rows.{from_place}
 use Rattle.smil_instances.specs.SettledTimes.{with_time, edge_instances, next_edges, heard_time, heard_instances, next_heard, offset_instances, next_offset, next_start, named_instances, event_instances, repeat_instances, next_of, instances_of, next_named, next_event, next_repeat, occurs_event, occurs_repeat, occurs_key}
 use Rattle.smil_instances.proofs.Places.{placed, beyond, from_twice}
 use Rattle.smil_instances.proofs.Resets.{Stays, birth-stays, min-stays}
-use Rattle.smil_instances.proofs.Note.{kept-next, with_past-length}
+use Rattle.smil_instances.proofs.Note.{kept-next}
 
 pub other_edge : (h : History) (e x : ℕ) (offset m : ℤ) (edge : Edge) (step : Step) → is_edge edge x step ≡ false → edge_time h e x offset m edge step ≡ None
 other_edge h e x offset m Begin (Began who begin) q = rw q
@@ -84,7 +85,7 @@ module _ (h : History) (y : Entry) where
       ap (λ b. from_place (birth (with_entry h y) e.serial) (with_time (length h.diary) (cond (b && hears (up_to h h.diary) e side item) (Some (within_horizon (outer h e.serial y.moment +ℤ offset))) None) (heard_instances h e side item offset occurs)))
       not_now
       ∙ same_cut (λ (p : List Entry × Entry). heard_time h e side item offset occurs p.0 p.1) (with_past [] h.diary) (birth (with_entry h y) e.serial) (birth h e.serial)
-      (moved (with_past-length [] h.diary) (birth-stays h y e.serial q))
+      (moved (past-length [] h.diary) (birth-stays h y e.serial q))
     where
       moved : {n m k' k : ℕ} → m ≡ n → Stays n k' k → Stays m k' k
       moved same (inl p) = inl (p.0, omega (arith, p.1, same))

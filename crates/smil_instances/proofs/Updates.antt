@@ -3,6 +3,7 @@ use Rattle.std.proofs.Common.{◌≡◌, refl, sym, ◌∙◌, ap, inl, inr, sub
 use Rattle.std.specs.Prelude.{cond, map, fold, filter_map, count_by, option_to_list, ◌⊎◌}
 use Rattle.std.specs.List.{cons_option}
 use Rattle.std.proofs.lemmas.List.Sums.{sum_by-cons}
+use Rattle.std.proofs.lemmas.List.{append-nil}
 use Rattle.smil_model.specs.diary.Diary.{History}
 use Rattle.smil_instance_rows.specs.declared.item_times.InstanceTime.{InstanceTime}
 use Rattle.smil_instance_rows.specs.declared.cell.Add.{Add}
@@ -11,7 +12,6 @@ use Rattle.smil_instance_rows.specs.Places.{IsNotAfter}
 use Rattle.smil_instance_rows.specs.Rows.{Row}
 use Rattle.smil_instances.specs.Sources.{is_cell}
 use Rattle.smil_instance_rows.specs.Changes.{HasCell, cell_of, with_cell, with_add, with_adds, Fits}
-use Rattle.smil_instances.proofs.Places.{append_nil}
 use Rattle.smil_instance_rows.proofs.Tables.{cell_with}
 use Rattle.smil_instances.specs.Intake.{shape_of, add_to, remaining_at, with_remainder}
 use Rattle.smil_instances.proofs.Extents.{cell_shape, other_cell, same_cell, cell_itself, has_too}
@@ -106,7 +106,7 @@ module _ (give : Cell → Option InstanceTime) where
       other rows c d q (Some kept) = other_cell rows c d (cell_of rows c ++ kept ∷ []) q
 
       own : (rows : List Row) (c : Cell) → HasCell rows c → (o : Option InstanceTime) → cell_of (with_some rows c o) c ≡ cell_of rows c ++ option_to_list o
-      own rows c has None = sym (append_nil (cell_of rows c))
+      own rows c has None = sym (append-nil (cell_of rows c))
       own rows c has (Some kept) = cell_with rows c (cell_of rows c ++ kept ∷ []) has
 
   -- a cell of these rows, with nothing of a later place than what it is given

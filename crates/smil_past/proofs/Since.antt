@@ -11,7 +11,8 @@ use Rattle.smil_model.specs.declared.document.Node.{Node}
 use Rattle.smil_model.specs.document.Document.{time_parent}
 use Rattle.smil_model.specs.diary.Diary.{History, last_place, later_place, gives_birth, birth_under, since_birth, active_after, lives_under, with_entry}
 use Rattle.smil_model.specs.diary.Plays.{is_birth_under}
-use Rattle.smil_instances.proofs.Resets.{last_place-below, last_place-hit, last_place-miss}
+use Rattle.smil_laws.proofs.Foreign.{last_place-push, last_place-below}
+use Rattle.smil_instances.proofs.Resets.{last_place-hit}
 
 -- an active element began
 began_once : (p : ℕ) (b : Bool) (ds : List Entry) → last_place (λ (x : Entry). gives_birth p x.step) ds ≡ None → b ≡ false → fold (λ before (x : Entry). active_after p before x.step) b ds ≡ false
@@ -70,6 +71,6 @@ module _ (h : History) (y : Entry) (s : ℕ) where
       under : (o : Option Node) → is_birth_under o y.step ≡ false → (lives_under o h.diary ≡ false → f b y ≡ b) → fold f b (drop (birth_under o (h.diary ++ y ∷ [])) (h.diary ++ y ∷ [])) ≡ f (fold f b (drop (birth_under o h.diary) h.diary)) y
       under None r none = fold_push f b h.diary y
       under (Some p) r none =
-          ap (λ k. fold f b (drop (option_map_or suc k (length (h.diary ++ y ∷ []))) (h.diary ++ y ∷ []))) (last_place-miss (λ (z : Entry). gives_birth p.serial z.step) h.diary y r)
+          ap (λ k. fold f b (drop (option_map_or suc k (length (h.diary ++ y ∷ []))) (h.diary ++ y ∷ []))) (last_place-push (λ (z : Entry). gives_birth p.serial z.step) h.diary y r)
           ∙ at (last_place (λ (z : Entry). gives_birth p.serial z.step) h.diary) (last_place-below (λ (z : Entry). gives_birth p.serial z.step) h.diary)
           (λ e. none (began_once p.serial false h.diary e refl))

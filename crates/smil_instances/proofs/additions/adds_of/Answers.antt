@@ -1,6 +1,5 @@
 use Rattle.std.proofs.Common.{sym, ◌∙◌, ap, get_or, take, [], ◌∷◌, ◌++◌, Some, None, Vec, Global}
-use Rattle.std.proofs.lemmas.List.{take_all}
-use Rattle.smil_instances.proofs.Places.{append_nil}
+use Rattle.std.proofs.lemmas.List.{take_all, append-nil}
 use Rattle.smil_instance_rows.specs.declared.cell.Add.{Add}
 use Rattle.smil_instance_rows.specs.declared.cell.Cell.{Cell}
 use Rattle.smil_model.specs.declared.document.Edge.TheVariants.{Begin}
@@ -28,7 +27,7 @@ loop-cell-preserved c = λ before y q.
       | in_default w ↦
           ap (λ (v : Vec Add Global). v.items) w.adds-is
           ∙ rest
-          ∙ sym (append_nil (adds_to past y (take i cells)))
+          ∙ sym (append-nil (adds_to past y (take i cells)))
           ∙ sym (more_adds past y cells i no_cell None c.loop-cell-test.true (w.in_default.ensures before y q))
     ]
 

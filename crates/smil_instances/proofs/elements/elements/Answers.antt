@@ -3,7 +3,8 @@ use Rattle.std.specs.Prelude.{is_some}
 use Rattle.std.proofs.lemmas.List.{append-nil, take_all}
 use Rattle.std.proofs.lemmas.Option.{slice_get_within}
 use Rattle.smil_model.specs.document.Document.{elements, serials}
-use Rattle.smil_instances.proofs.Begun.{elements_more, found_at, found_known, none_left}
+use Rattle.smil_stretch.proofs.Idle.{none_left}
+use Rattle.smil_instances.proofs.Begun.{elements_more, found_at, found_known}
 use Rattle.smil_instances.proofs.elements.elements.Goals as goal
 use Rattle.smil_instances.proofs.elements.elements.Goals.{then-is_element+in_ok-push, else-is_element}
 
