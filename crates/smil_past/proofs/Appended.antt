@@ -1,5 +1,5 @@
 -- A diary with one entry more.
-use Rattle.std.proofs.Common.{◌≡◌, refl, sym, ◌∙◌, ap, subst, ℕ, ◌+◌, ◌-◌, ◌≤◌, List, [], ◌∷◌, ◌++◌, take, length, Option, Some, Bool, true, arith}
+use Rattle.std.proofs.Common.{◌≡◌, sym, ◌∙◌, ap, subst, ℕ, ◌+◌, ◌-◌, ◌≤◌, List, [], ◌∷◌, ◌++◌, take, length, Option, Some, Bool, true, arith}
 use Rattle.std.specs.Prelude.{is_some}
 use Rattle.std.proofs.Math.Seq.{take-length}
 use Rattle.std.specs.List.{AllByRecursion}
@@ -25,17 +25,6 @@ use Rattle.smil_past.specs.Kept.{Holds, IsKeptOf, IsLast, history_by}
 pub each_push : {A : Type 0} (P : A → Type 0) (xs : List A) (y : A) → AllByRecursion P xs → P y → AllByRecursion P (xs ++ y ∷ [])
 each_push P [] y each last = (last, tt)
 each_push P (x ∷ xs) y each last = (each.0, each_push P xs y each.1 last)
-
-pub front_same : {A : Type 0} (xs ys : List A) (x y : A) → xs ++ x ∷ [] ≡ ys ++ y ∷ [] → xs ≡ ys
-front_same [] [] x y q = refl
-front_same [] (w ∷ []) x y q = let rest : [] ≡ y ∷ [] = cc in cc
-front_same [] (w ∷ v ∷ ys) x y q = let rest : [] ≡ v ∷ (ys ++ y ∷ []) = cc in cc
-front_same (z ∷ []) [] x y q = let rest : x ∷ [] ≡ [] = cc in cc
-front_same (z ∷ v ∷ xs) [] x y q = let rest : v ∷ (xs ++ x ∷ []) ≡ [] = cc in cc
-front_same (z ∷ xs) (w ∷ ys) x y q =
-    let rest : xs ++ x ∷ [] ≡ ys ++ y ∷ [] = cc in
-    let head : z ≡ w = cc in
-    ap (λ u. u ∷ xs) head ∙ ap (λ us. w ∷ us) (front_same xs ys x y rest)
 
 pub cut_last : {A : Type 0} (xs ys : List A) (y : A) (n : ℕ) → ys ≡ xs ++ y ∷ [] → n ≡ length ys → take (n - 1) ys ≡ xs
 cut_last xs ys y n is len =

@@ -2,7 +2,7 @@
 use Rattle.std.proofs.Common.{◌≡◌, refl, sym, ◌∙◌, ap, ℕ, ◌+◌, List, [], ◌∷◌, Option, Some, None, Bool, true, false, length}
 use Rattle.std.specs.Prelude.{cond, not, ◌==◌, ◌&&◌, nat_lt, option_map, is_some, unwrap_or, get_or, slice_get}
 use Rattle.std.specs.List.{list_all, position, position_or_len}
-use Rattle.std.proofs.lemmas.Bool.{and_parts, eqb-true}
+use Rattle.std.proofs.lemmas.Bool.{and_parts}
 use Rattle.std.proofs.lemmas.List.{length-map}
 use Rattle.std.proofs.lemmas.Option.{slice_get-map, get_or_from_slice_get, same_Some}
 use Rattle.smil_model.specs.declared.limits.TheConstants.{DEPTH}
@@ -14,7 +14,7 @@ use Rattle.smil_model.specs.document.Document.{has_kind, is_class_kind, is_conta
 use Rattle.smil_model.specs.document.Edits.{children}
 use Rattle.smil_model.specs.document.Valid.{agree_with, depth_of, is_well_placed, kind_of, may_stand}
 use Rattle.smil_model.specs.happening.Queue.{class_facts, class_if, class_of, parent_of, place_of}
-use Rattle.smil_laws.proofs.Aside.{find_true}
+use Rattle.smil_tree.proofs.Changed.{serial_of as held_serial}
 use Rattle.smil_past.specs.Queues.{classes_in}
 use Rattle.smil_past.proofs.Placing.{node_there}
 
@@ -24,9 +24,6 @@ class_there nodes kept k s d is q =
     get_or_from_slice_get kept k (class_facts nodes s) d
     (ap (λ cs. slice_get cs k) is ∙ slice_get-map (λ (n : Node). class_facts nodes n.serial) nodes k ∙ ap (option_map (λ (n : Node). class_facts nodes n.serial)) found.at
     ∙ ap (λ x. Some (class_facts nodes x)) found.serial)
-
-found_serial : (nodes : List Node) (s : ℕ) (n : Node) → node_at nodes s ≡ Some n → n.serial ≡ s
-found_serial nodes s n q = eqb-true n.serial s (find_true (λ (m : Node). m.serial == s) nodes n q)
 
 -- the class that a node stands in is a node
 pub record IsClassOf (nodes : List Node) (s class : ℕ) : Type 0 where
@@ -43,7 +40,7 @@ class_known nodes s class q = by (node_at nodes s) refl q
     found (Some n) p e r w = step (is_class_kind n.kind) refl r w
       where
         step : (t : Bool) → is_class_kind n.kind ≡ t → Some class ≡ option_map (λ (m : Node). m.serial) (cond t (Some n) None) → class_of nodes s ≡ cond t (Some n) None → IsClassOf nodes s class
-        step true k u v = record { node = n; is = v; known = ap (node_at nodes) (same_Some class n.serial u ∙ found_serial nodes p n e) ∙ e; kind = k }
+        step true k u v = record { node = n; is = v; known = ap (node_at nodes) (same_Some class n.serial u ∙ held_serial nodes p n e) ∙ e; kind = k }
         step false k u v = cc
 
     by : (o : Option Node) → node_at nodes s ≡ o → Some class ≡ option_map (λ (n : Node). n.serial) (class_if nodes (parent_of nodes o)) → IsClassOf nodes s class
@@ -56,7 +53,7 @@ place_is nodes class parent q = by (node_at nodes class) refl q
     by : (o : Option Node) → node_at nodes class ≡ o → Some parent ≡ option_map (λ (n : Node). n.parent) o → place_of nodes o ≡ unwrap_or (position (λ (m : Node). m.serial == class) (children nodes parent)) 0
     by None e r = cc
     by (Some n) e r =
-        ap (λ s. unwrap_or (position (λ (m : Node). m.serial == s) (children nodes n.parent)) 0) (found_serial nodes class n e)
+        ap (λ s. unwrap_or (position (λ (m : Node). m.serial == s) (children nodes n.parent)) 0) (held_serial nodes class n e)
         ∙ ap (λ p. unwrap_or (position (λ (m : Node). m.serial == class) (children nodes p)) 0) (sym (same_Some parent n.parent r))
 
 -- the parent of a node, by its serial
@@ -65,7 +62,7 @@ parent_is nodes class excl q = by (node_at nodes class) q
   where
     found : (n : Node) (o : Option Node) → node_at nodes n.parent ≡ o → Some excl ≡ serial_of o → Some excl ≡ Some n.parent
     found n None e r = cc
-    found n (Some p) e r = ap Some (same_Some excl p.serial r ∙ found_serial nodes n.parent p e)
+    found n (Some p) e r = ap Some (same_Some excl p.serial r ∙ held_serial nodes n.parent p e)
 
     by : (o : Option Node) → Some excl ≡ serial_of (parent_of nodes o) → Some excl ≡ option_map (λ (n : Node). n.parent) o
     by None r = cc

@@ -1,9 +1,7 @@
 -- What clocks show up to the moment of an entry, with the entry and without it.
-use Rattle.std.proofs.Common.{◌≡◌, refl, ◌∙◌, ap, subst, ℕ, suc, zero, ◌+◌, List, [], ◌∷◌, ◌++◌, ℤ, true, false, Option, Some, None, arith}
+use Rattle.std.proofs.Common.{◌≡◌, refl, ◌∙◌, ap, subst, ℕ, suc, zero, ◌+◌, List, [], ◌∷◌, ◌++◌, ℤ, true, Option, Some, None, arith}
 use Rattle.std.specs.Prelude.{cond, pos, negsuc, int_le, ◌+ℤ◌, ◌-ℤ◌, fold, drop}
 use Rattle.std.proofs.lemmas.Int.{ints}
-use Rattle.std.proofs.lemmas.List.{append-nil}
-use Rattle.std.proofs.lemmas.List.Elements.{filter-append}
 use Rattle.std.proofs.lemmas.List.Sums.{fold_push}
 use Rattle.smil_model.specs.declared.diary.Entry.{Entry}
 use Rattle.smil_model.specs.declared.document.Node.{Node}
@@ -11,18 +9,13 @@ use Rattle.smil_model.specs.document.Document.{time_parent}
 use Rattle.smil_model.specs.diary.Diary.{History, last_moment, with_entry}
 use Rattle.smil_model.specs.diary.Lawful.{IsLawful}
 use Rattle.smil_model.specs.diary.Clocks.{until, stands_by, elapsed, run, outer_under, outer, to_document, start_of}
-use Rattle.smil_stretch.proofs.Moments.{EachUntil, timed_of, IsTimed, le_self}
+use Rattle.smil_stretch.proofs.Moments.{EachUntil, timed_of, IsTimed, le_self, until_before}
 
 module _ (h : History) (y : Entry) (s : ℕ) where
-  until_before : (m : ℤ) → int_le y.moment m ≡ false → until m (h.diary ++ y ∷ []) ≡ until m h.diary
-  until_before m late =
-      filter-append (λ (x : Entry). int_le x.moment m) h.diary (y ∷ [])
-      ∙ ap (λ t. until m h.diary ++ cond t (y ∷ []) []) late ∙ append-nil (until m h.diary)
-
   elapsed_with : (m : ℕ) → int_le (pos m) y.moment ≡ true → elapsed (with_entry h y) s m ≡ elapsed h s m
   elapsed_with zero le = refl
   elapsed_with (suc m) le =
-      ap (λ ds. elapsed (with_entry h y) s m + cond (stands_by h.nodes ds s) 0 1) (until_before (pos m) (grind (arith, ints, le)))
+      ap (λ ds. elapsed (with_entry h y) s m + cond (stands_by h.nodes ds s) 0 1) (until_before h y s (pos m) (grind (arith, ints, le)))
       ∙ ap (λ n. n + cond (stands_by h.nodes (until (pos m) h.diary) s) 0 1) (elapsed_with m (grind (arith, ints, le)))
 
   pub run_with : (m : ℤ) → int_le m y.moment ≡ true → run (with_entry h y) s m ≡ run h s m

@@ -10,13 +10,10 @@ use Rattle.smil_model.specs.document.Document.{Document}
 use Rattle.smil_model.specs.diary.Lawful.{IsLawful}
 use Rattle.smil_laws.specs.Near.{HasNear}
 use Rattle.smil_laws.specs.Cut.{IsNamedBelow}
+use Rattle.smil_tree.proofs.KinLists.{each_left}
 use Rattle.smil_stretch.proofs.Diaries.{lawful_first}
 use Rattle.smil_past.specs.Past.{IsPossible, MayFollow, unmarked}
 use Rattle.smil_past.specs.Kept.{history_by}
-
-pub each_front : {A : Type 0} (P : A → Type 0) (xs ys : List A) → AllByRecursion P (xs ++ ys) → AllByRecursion P xs
-each_front P [] ys each = tt
-each_front P (x ∷ xs) ys each = (each.0, each_front P xs ys each.1)
 
 each_last : {A : Type 0} (P : A → Type 0) (xs : List A) (y : A) → AllByRecursion P (xs ++ y ∷ []) → P y
 each_last P [] y each = each.0
@@ -41,11 +38,11 @@ follows_at document log book len place y possible below within at =
       near =
           each_last (λ (x : Entry). HasNear x.step) (take place book) y
           (subst (AllByRecursion (λ (x : Entry). HasNear x.step)) front
-          (each_front (λ (x : Entry). HasNear x.step) (take (place + 1) (take len book)) (drop (place + 1) (take len book)) (subst (AllByRecursion (λ (x : Entry). HasNear x.step)) (sym whole) possible.near)));
+          (each_left (λ (x : Entry). HasNear x.step) (take (place + 1) (take len book)) (drop (place + 1) (take len book)) (subst (AllByRecursion (λ (x : Entry). HasNear x.step)) (sym whole) possible.near)));
       named =
           each_last (λ (x : Entry). IsNamedBelow (length log) x.step) (take place book) y
           (subst (AllByRecursion (λ (x : Entry). IsNamedBelow (length log) x.step)) front
-          (each_front (λ (x : Entry). IsNamedBelow (length log) x.step) (take (place + 1) (take len book)) (drop (place + 1) (take len book)) (subst (AllByRecursion (λ (x : Entry). IsNamedBelow (length log) x.step)) (sym whole) possible.named)));
+          (each_left (λ (x : Entry). IsNamedBelow (length log) x.step) (take (place + 1) (take len book)) (drop (place + 1) (take len book)) (subst (AllByRecursion (λ (x : Entry). IsNamedBelow (length log) x.step)) (sym whole) possible.named)));
     }
 
 -- with one entry more

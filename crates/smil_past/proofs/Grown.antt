@@ -1,6 +1,6 @@
 -- A log of which the diary does not name the last entries.
-use Rattle.std.proofs.Common.{◌≡◌, refl, sym, ◌∙◌, ap, subst, ℕ, suc, zero, ◌<◌, ◌≤◌, ◌+◌, List, [], ◌∷◌, ◌++◌, take, length, length-append, Option, Some, None, arith}
-use Rattle.std.specs.Prelude.{All, fold, map, unwrap_or, slice_get}
+use Rattle.std.proofs.Common.{◌≡◌, refl, sym, ◌∙◌, ap, subst, ℕ, suc, zero, ◌+◌, List, [], ◌∷◌, ◌++◌, take, length, length-append, Option, Some, None, arith}
+use Rattle.std.specs.Prelude.{All, fold, map, unwrap_or}
 use Rattle.std.proofs.Math.Seq.{take-length}
 use Rattle.std.proofs.lemmas.List.{take-append-le}
 use Rattle.smil_model.specs.declared.times.Time.{Time}
@@ -17,6 +17,8 @@ use Rattle.smil_model.specs.document.Document.{Document, elements}
 use Rattle.smil_model.specs.document.Defaults.{begin_list, end_list}
 use Rattle.smil_model.specs.interval.Current.{length_of, length_after, media_length}
 use Rattle.smil_laws.specs.Cut.{IsNamedBelow, NamesBelow}
+use Rattle.smil_laws.proofs.Longer.{get_longer}
+use Rattle.smil_laws.proofs.Cutting.{names_weaker}
 use Rattle.smil_past.specs.declared.plays.played.Played.{Played}
 use Rattle.smil_past.specs.Played.{played, all_played}
 use Rattle.smil_instance_rows.specs.Rows.{Row}
@@ -28,11 +30,6 @@ use Rattle.smil_past.specs.Past.{IsPossible}
 use Rattle.smil_past.specs.Kept.{Holds, IsKeptOf, history_by}
 
 -- ---- what is named
-
-get_longer : (log more : List LogEntry) (place : ℕ) → place < length log → slice_get (log ++ more) place ≡ slice_get log place
-get_longer [] more place below = absurd (omega (arith, below))
-get_longer (x ∷ xs) more zero below = refl
-get_longer (x ∷ xs) more (suc place) below = get_longer xs more place (omega (arith, below))
 
 heard_alike : (log more : List LogEntry) (step : Step) → IsNamedBelow (length log) step → IsSameHeard log (log ++ more) step
 heard_alike log more (Logged place) named = get_longer log more place named
@@ -49,22 +46,6 @@ all_alike : (log more : List LogEntry) (diary : List Entry) → NamesBelow (leng
 all_alike log more [] named k d below = absurd (omega (arith, below))
 all_alike log more (x ∷ xs) named zero d below = heard_alike log more x.step named.0
 all_alike log more (x ∷ xs) named (suc k) d below = all_alike log more xs named.1 k d (omega (arith, below))
-
--- a step that names no place from this one on names none from a greater one on
-named_further : (place more : ℕ) (step : Step) → place ≤ more → IsNamedBelow place step → IsNamedBelow more step
-named_further place more (Logged named) further below = omega (arith, further, below)
-named_further place more (Began who begin) further below = tt
-named_further place more (Repeated who start) further below = tt
-named_further place more (Ended who end') further below = tt
-named_further place more (Cut who) further below = tt
-named_further place more (Paused who) further below = tt
-named_further place more (Resumed who) further below = tt
-named_further place more (Deferred who begin) further below = tt
-named_further place more (Passed who begin) further below = tt
-
-pub names_further : (place more : ℕ) (diary : List Entry) → place ≤ more → NamesBelow place diary → NamesBelow more diary
-names_further place more [] further named = tt
-names_further place more (x ∷ xs) further named = (named_further place more x.step further named.0, names_further place more xs further named.1)
 
 -- ---- what is kept
 
@@ -164,7 +145,7 @@ module _ (document : Document) (log more : List LogEntry) (diary : List Entry) (
     valid = possible.valid;
     lawful = record { moments = possible.lawful.moments; steps = possible.lawful.steps };
     near = possible.near;
-    named = names_further (length log) (length (log ++ more)) diary (omega (arith, length-append log more)) possible.named;
+    named = names_weaker (length log) (length (log ++ more)) diary (omega (arith, length-append log more)) possible.named;
     few = possible.few;
   }
 

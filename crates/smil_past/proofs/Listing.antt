@@ -34,14 +34,6 @@ no_more [] k q = omega arith
 no_more (x ∷ xs) zero q = cc
 no_more (x ∷ xs) (suc k) q = let rest = no_more xs k q in omega (arith, rest)
 
-pub filter_short : (t : Node → Bool) (xs : List Node) → length (filter t xs) ≤ length xs
-filter_short t [] = omega arith
-filter_short t (x ∷ xs) = step (t x) (filter_short t xs)
-  where
-    step : (b : Bool) → length (filter t xs) ≤ length xs → length (cond b (x ∷ filter t xs) (filter t xs)) ≤ suc (length xs)
-    step true r = omega (arith, r)
-    step false r = omega (arith, r)
-
 -- ---- first places
 
 pub differs : (a b : ℕ) → (a ≡ b → ⊥) → a == b ≡ false

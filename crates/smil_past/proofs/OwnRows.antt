@@ -1,13 +1,9 @@
 -- What an entry makes of rows: nothing of those of other elements.
-use Rattle.std.proofs.Common.{◌≡◌, refl, sym, ◌∙◌, ap, subst, ℕ, ℤ, List, Option, Some, None, Bool, true, false, arith}
+use Rattle.std.proofs.Common.{◌≡◌, refl, sym, ◌∙◌, ap, subst, ℕ, ℤ, List, Option, Some, None, Bool, true, false}
 use Rattle.std.specs.Prelude.{cond, ◌==◌, option_map, slice_get, unwrap_or}
 use Rattle.std.specs.Option.{option_or}
-use mir.Syntax.{w64}
-use mir.Val.{SFits}
 use Rattle.std.proofs.lemmas.Bool.{eqb-true, eq-eqb}
-use Rattle.std.proofs.lemmas.Int.{ints}
 use Rattle.smil_stretch.specs.declared.clock.NodeClock.{NodeClock}
-use Rattle.smil_model.specs.Times.{IsMoment}
 use Rattle.smil_model.specs.declared.diary.Entry.{Entry}
 use Rattle.smil_model.specs.declared.diary.LogEntry.{LogEntry}
 use Rattle.smil_model.specs.declared.diary.Happening.{Happening}
@@ -131,9 +127,6 @@ module _ (h : History) (y : Entry) (who : ℕ) (on : subject_of h.log y.step ≡
       by_test s false e = quiet_map h y s (row_of old s) (away s e)
 
 -- ---- by numbers as they are passed
-
-pub moment_fits : (m : ℤ) → IsMoment m → SFits w64 m
-moment_fits m is = omega (arith, ints)
 
 pub read_began : (h : History) (clocks : List NodeClock) (e : Entry) (who w : ℕ) (b m' b' : ℤ) (r result : Played) → m' ≡ e.moment → b' ≡ b → ((k : History) → AreClocksAt k clocks m' → result ≡ began_row k who m' b' r) → AreClocksAt h clocks e.moment → e.step ≡ Began w b → subject_of h.log e.step ≡ Some who → result ≡ own_after h e who r
 read_began h clocks e who w b m' b' r result at_m at_b got are is on =

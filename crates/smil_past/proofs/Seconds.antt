@@ -7,17 +7,18 @@ use Rattle.smil_model.specs.declared.diary.Entry.{Entry}
 use Rattle.smil_model.specs.declared.diary.LogEntry.{LogEntry}
 use Rattle.smil_model.specs.document.Document.{Document}
 use Rattle.smil_laws.specs.Cut.{IsNamedBelow, NamesBelow}
+use Rattle.smil_tree.proofs.KinLists.{each_left}
 use Rattle.smil_past.specs.declared.chronicle.Chronicle.{Chronicle}
 use Rattle.smil_past.specs.declared.kept.Kept.{Kept}
 use Rattle.smil_past.specs.Past.{Happened, IsPossible, MayFollow, at_mark, unmarked}
 use Rattle.smil_past.specs.Kept.{Holds}
 use Rattle.smil_past.specs.Chronicle.{BacksUp, EndsAtMark, HoldsAt, Lags, LagsIfAny, Tells, TellsNothing, reach}
-use Rattle.smil_past.proofs.Fronts.{each_front, follows_at, front_is, possible_before}
+use Rattle.smil_past.proofs.Fronts.{follows_at, front_is, possible_before}
 use Rattle.smil_past.proofs.Grown.{holds_longer, holds_shorter}
 
 names_front : (place len : ℕ) (diary : List Entry) → NamesBelow place diary → NamesBelow place (take len diary)
 names_front place len diary named =
-    each_front (λ (x : Entry). IsNamedBelow place x.step) (take len diary) (drop len diary)
+    each_left (λ (x : Entry). IsNamedBelow place x.step) (take len diary) (drop len diary)
     (subst (NamesBelow place) (sym (take-append-drop len diary)) named)
 
 -- ---- catching up

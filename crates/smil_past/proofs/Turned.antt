@@ -1,34 +1,19 @@
 -- Rows as time children are turned one after another.
-use Rattle.std.proofs.Common.{◌≡◌, refl, sym, ◌∙◌, ap, ℕ, suc, ◌+◌, ◌<◌, ◌≤◌, List, [], ◌∷◌, length, take, Option, Some, None, Bool, true, false, arith}
-use Rattle.std.specs.Prelude.{cond, not, ◌==◌, ◌||◌, filter, option_map, is_some, slice_get}
+use Rattle.std.proofs.Common.{◌≡◌, refl, sym, ◌∙◌, ap, ℕ, ◌+◌, ◌<◌, List, length, take, Option, Some, None, Bool, true, false}
+use Rattle.std.specs.Prelude.{cond, not, ◌==◌, ◌||◌, option_map, slice_get}
 use Rattle.std.specs.List.{list_any}
 use Rattle.std.proofs.lemmas.List.Folds.{list_any_more}
 use Rattle.std.proofs.lemmas.Option.{get_or_from_slice_get}
 use Rattle.smil_model.specs.declared.document.Node.{Node}
-use Rattle.smil_model.specs.document.Document.{is_element, node_at}
-use Rattle.smil_model.specs.diary.Lawful.{has_element}
-use Rattle.smil_laws.proofs.Members.{found_held}
 use Rattle.smil_past.specs.declared.plays.played.Played.{Played}
 use Rattle.smil_past.specs.Rows.{row_of, IsTurned, AreTurned}
 use Rattle.smil_past.specs.Followed.{child_after}
-use Rattle.smil_past.proofs.Rows.{found_any}
-
-pub known_node : (nodes : List Node) (s : ℕ) → has_element nodes s ≡ true → is_some (node_at nodes s) ≡ true
-known_node nodes s q = found_any s nodes ∙ found_held is_element s nodes q
 
 twice : (b : Bool) (o : Option Played) → option_map (child_after b (not b)) (option_map (child_after b (not b)) o) ≡ option_map (child_after b (not b)) o
 twice true None = refl
 twice false None = refl
 twice true (Some r) = refl
 twice false (Some r) = refl
-
-pub filter_most : (t : Node → Bool) (ns : List Node) → length (filter t ns) ≤ length ns
-filter_most t [] = omega arith
-filter_most t (n ∷ ns) = by_test (t n) (filter_most t ns)
-  where
-    by_test : (u : Bool) → length (filter t ns) ≤ length ns → length (cond u (n ∷ filter t ns) (filter t ns)) ≤ suc (length ns)
-    by_test true le = omega (arith, le)
-    by_test false le = omega (arith, le)
 
 pub turned_more : (kids : List Node) (k serial : ℕ) (b : Bool) (old cur new : List (ℕ × Played)) (n : Node) → slice_get kids k ≡ Some n → n.serial ≡ serial → k < length kids → AreTurned (take k kids) b old cur → IsTurned serial b cur new → AreTurned (take (k + 1) kids) b old new
 turned_more kids k serial b old cur new n at is less are turn = record {

@@ -6,7 +6,7 @@ use Rattle.std.proofs.lemmas.Result.{on_ok_weaker}
 use Rattle.smil_model.specs.declared.view.How.TheVariants as how
 use Rattle.smil_model.specs.Times.{IsMoment}
 use Rattle.smil_stretch.proofs.Turning.{entry_moment}
-use Rattle.smil_past.proofs.OwnRows.{moment_fits}
+use Rattle.smil_instances.proofs.Sums.{moment_fits}
 use Rattle.smil_live.specs.Histories.{finish_line}
 use Rattle.smil_live.proofs.Followed.{began_shown, ended_text, read_shown}
 use Rattle.smil_live.proofs.told.Told.tell.Goals as goal

@@ -6,7 +6,8 @@ use Rattle.std.proofs.lemmas.Int.{to_z-of_z}
 use Rattle.smil_model.specs.diary.Clocks.{outer}
 use Rattle.smil_model.specs.diary.Diary.{last_moment}
 use Rattle.smil_model.specs.reach.Reach.{subject_of}
-use Rattle.smil_past.proofs.OwnRows.{moment_fits, read_began, read_ended, read_cut, read_deferred}
+use Rattle.smil_instances.proofs.Sums.{moment_fits}
+use Rattle.smil_past.proofs.OwnRows.{read_began, read_ended, read_cut, read_deferred}
 use Rattle.smil_past.proofs.plays.row.own_row.Goals as goal
 
 pub returns-in-Began : goal.returns-in-Began
