@@ -25,10 +25,10 @@ use Rattle.smil_grammar.specs.Nodes.{Shape, Written, at_column, attribute_of, at
 use Rattle.smil_grammar.specs.Nodes.{kind_of as kind_of_line}
 use Rattle.smil_grammar.specs.Outlines.{in_line}
 use Rattle.smil_grammar.specs.Results.{◌>>=◌}
+use Rattle.smil_grammar.specs.Gives.{GivesReading}
 use Rattle.smil_attrs.proofs.Kept.{with_stays}
 use Rattle.smil_attrs.proofs.Noded.{attribute_is, node_is}
 use Rattle.smil_laws.proofs.Rounds.{find-serial}
-use Rattle.smil_outline.specs.Gives.{GivesReading}
 use Rattle.smil_outline.proofs.Fitting.{fits}
 use Rattle.smil_outline.proofs.Ranging.{ranges}
 use Rattle.smil_tree.specs.declared.fault.TreeFault.{TreeFault}

@@ -12,11 +12,10 @@ use Rattle.smil_grammar.specs.declared.fault.NodeFault.{NodeFault}
 use Rattle.smil_grammar.specs.declared.fault.NodeFault.TheVariants as node_fault
 use Rattle.smil_grammar.specs.Attributes.{attr_name_of}
 use Rattle.smil_grammar.specs.Formats.{written_at, attr_in_line, name_in_line, kind_in_line, attrs_in_line}
-use Rattle.smil_grammar.specs.Gives.{GivesAttr, GivesNode}
+use Rattle.smil_grammar.specs.Gives.{GivesAttr, GivesNode, GivesReading}
 use Rattle.smil_grammar.specs.Nodes.{at_column, attribute_of, is_seq, kind_of, node_of}
 use Rattle.smil_grammar.specs.Outlines.{in_line, refused}
 use Rattle.smil_grammar.specs.Results.{◌>>=◌}
-use Rattle.smil_outline.specs.Gives.{GivesReading}
 use Rattle.smil_live.specs.Refusing.{of_value, IsPlaced, IsInText}
 use Rattle.smil_live.proofs.Placing.{AttrPlace, ColumnWithin, attribute_in, name_in, kind_in, node_in}
 

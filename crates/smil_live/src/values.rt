@@ -3,9 +3,9 @@
 ghost use Rattle.std.specs.Prelude.{◌≡◌, ◌≤◌, ◌<◌, ◌+◌, ◌-◌, length, Option, IfOk, IfErr, IfSome};
 ghost use Rattle.smil_grammar.specs.Formats.{attr_in_line, attrs_in_line, kind_in_line, name_in_line};
 ghost use Rattle.smil_grammar.specs.Outlines.{refused};
+ghost use Rattle.smil_grammar.specs.Gives.{GivesReading};
 ghost use Rattle.smil_live.specs.Refusing.{IsInText, IsPlaced, of_value};
 ghost use Rattle.smil_model.specs.shown.Answers.{IsColumn, IsText};
-ghost use Rattle.smil_outline.specs.Gives.{GivesReading};
 
 use smil_attrs::{AttrFault, NodeFault, attr_name, read_attr, read_kind, read_node};
 use smil_model::{Attr, AttrName, Attrs, Kind, Refusal};

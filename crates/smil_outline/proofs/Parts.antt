@@ -13,7 +13,7 @@ use Rattle.smil_model.specs.document.Limits.{limits}
 use Rattle.smil_grammar.specs.Results.{◌>>=◌}
 use Rattle.smil_grammar.specs.Nodes.{Shape, is_space, kind_of_shape}
 use Rattle.smil_grammar.specs.Outlines.{Outline, unless, in_line, is_misplaced, is_bad_serial, attrs_in, mixes, last_of, with_node, with_header, header_of, opens_saved, shape_in, node_within, shape_within, with_line}
-use Rattle.smil_outline.specs.Gives.{GivesReading}
+use Rattle.smil_grammar.specs.Gives.{GivesReading}
 use Rattle.smil_outline.specs.Steps.{text_of, kind_at, attrs_at, node_with, node_kept}
 
 -- steps in a row, up to the kind and behind it

@@ -6,10 +6,9 @@ use Rattle.smil_model.specs.declared.document.Attrs.{Attrs}
 use Rattle.smil_model.specs.document.Edits.{no_attrs}
 use Rattle.smil_grammar.specs.declared.fault.NodeFault.{NodeFault}
 use Rattle.smil_grammar.specs.declared.fault.NodeFault.TheVariants as fault
-use Rattle.smil_grammar.specs.Gives.{GivesNode}
+use Rattle.smil_grammar.specs.Gives.{GivesNode, GivesReading}
 use Rattle.smil_grammar.specs.Nodes.{Shape, attrs_from}
 use Rattle.smil_grammar.specs.Outlines.{in_line, refused}
-use Rattle.smil_outline.specs.Gives.{GivesReading}
 use Rattle.smil_outline.specs.Steps.{IsInLine, IsNear}
 use Rattle.smil_outline.proofs.Columns.{attrs_are_near}
 

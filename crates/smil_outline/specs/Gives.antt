@@ -4,11 +4,6 @@ use Rattle.smil_model.specs.declared.order.Refusal.{Refusal}
 use Rattle.smil_model.specs.declared.order.Refusal.TheVariants as refusal
 use Rattle.smil_model.specs.document.Document.{Document}
 
--- what a call gave is the reading, unless memory ran out
-abbrev pub GivesReading : {A : Type 0} → Result A Refusal → Result A Refusal → Type 0
-GivesReading (Err refusal.Memory) reading = Unit {0}
-GivesReading given reading = reading ≡ given
-
 -- a refusal is the reading's, unless memory ran out
 abbrev pub GivesRefusal : {A : Type 0} → Result A Refusal → Refusal → Type 0
 GivesRefusal reading refusal.Memory = Unit {0}

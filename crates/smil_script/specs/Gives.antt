@@ -9,11 +9,6 @@ use Rattle.smil_grammar.specs.Scripts.{Word, first_of, who_of}
 use Rattle.smil_grammar.specs.declared.read.Read.{Read}
 use Rattle.smil_grammar.specs.declared.read.Read.TheVariants.{Blank, Load, Close, To}
 
--- what a call gave is the reading, unless memory ran out
-abbrev pub GivesRead : {A : Type 0} → Result A Refusal → Result A Refusal → Type 0
-GivesRead (Err refusal.Memory) reading = Unit {0}
-GivesRead given reading = reading ≡ given
-
 -- the order of a line, where it has one, is one that a presentation may be given
 abbrev pub HoldsGiven : Read → Type 0
 HoldsGiven (To name order) = IsGiven order

@@ -5,7 +5,8 @@ ghost use Rattle.std.specs.List.{list_all};
 ghost use Rattle.smil_grammar.specs.Texts.{is_white as is_white_byte};
 ghost use Rattle.smil_grammar.specs.Scripts.{Word as WordText, line_of, is_blank as is_blank_line, to as to_name, finish, order_line, command as command_line, first_of, named, or_refused, opens_load as opens_load_line};
 ghost use Rattle.smil_grammar.specs.declared.read.Read.TheVariants.{Blank, Load, Close};
-ghost use Rattle.smil_script.specs.Gives.{GivesRead, HoldsGiven, with_name};
+ghost use Rattle.smil_grammar.specs.Gives.{GivesReading};
+ghost use Rattle.smil_script.specs.Gives.{HoldsGiven, with_name};
 ghost use Rattle.smil_script.specs.Loads.{ends_load as ends_load_line};
 
 use super::orders::order;
@@ -33,8 +34,8 @@ fn is_all_white(line: &[u8]) -> bool
 
 // The presentation's name that is the rest of a line.
 fn title(alloc: Global, line: &Word<'_>) -> Result<Bytes, Refusal>
-    ensures load { GivesRead (with_name Load result) (or_refused (named Load line.now)) }
-    ensures close { GivesRead (with_name Close result) (or_refused (named Close line.now)) }
+    ensures load { GivesReading (with_name Load result) (or_refused (named Load line.now)) }
+    ensures close { GivesReading (with_name Close result) (or_refused (named Close line.now)) }
 {
     let (word, rest) = line.first();
     if !is_title(word.text) || !rest.is_ended() {
@@ -45,7 +46,7 @@ fn title(alloc: Global, line: &Word<'_>) -> Result<Bytes, Refusal>
 
 // The order to a presentation, behind its name.
 fn to(alloc: Global, name: &[u8], line: &Word<'_>) -> Result<Read, Refusal>
-    ensures reading { GivesRead result
+    ensures reading { GivesReading result
         (let verb : WordText × WordText = first_of line.now in to_name name.now
         (finish (order_line verb.0.text verb.1))) }
     ensures given { IfOk result HoldsGiven }
@@ -58,7 +59,7 @@ fn to(alloc: Global, name: &[u8], line: &Word<'_>) -> Result<Read, Refusal>
 
 // A line that isn't blank, by its first word.
 fn command(alloc: Global, line: &Word<'_>) -> Result<Read, Refusal>
-    ensures reading { GivesRead result (command_line (first_of line.now)) }
+    ensures reading { GivesReading result (command_line (first_of line.now)) }
     ensures given { IfOk result HoldsGiven }
 {
     let (word, rest) = line.first();
@@ -82,7 +83,7 @@ fn command(alloc: Global, line: &Word<'_>) -> Result<Read, Refusal>
 /// order that is read is one that a presentation may be given.
 pub fn read_line(alloc: Global, line: &[u8]) -> Result<Read, Refusal>
     requires { length line.now < 2 ^ 31 }
-    ensures reading { GivesRead result (line_of line.now) }
+    ensures reading { GivesReading result (line_of line.now) }
     ensures blank { IsTrue (is_blank_line line.now) → result ≡ Ok Blank }
     ensures given { IfOk result HoldsGiven }
 {

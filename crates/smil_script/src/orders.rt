@@ -2,8 +2,8 @@
 
 ghost use Rattle.std.specs.Prelude.{◌≡◌, IfOk};
 ghost use Rattle.smil_grammar.specs.Scripts.{order_line, finish};
+ghost use Rattle.smil_grammar.specs.Gives.{GivesReading};
 ghost use Rattle.smil_model.specs.shown.Answers.{IsGiven};
-ghost use Rattle.smil_script.specs.Gives.{GivesRead};
 
 use super::verbs;
 use super::word::Word;
@@ -13,7 +13,7 @@ use std::alloc::Global;
 
 /// The order of a verb and what stands behind it.
 pub fn order(alloc: Global, verb: &[u8], line: &Word<'_>) -> Result<Order, Refusal>
-    ensures reading { GivesRead result (finish (order_line verb.now line.now)) }
+    ensures reading { GivesReading result (finish (order_line verb.now line.now)) }
     ensures given { IfOk result IsGiven }
 {
     if is(verb, b"advance") {

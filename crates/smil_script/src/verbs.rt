@@ -2,11 +2,12 @@
 
 ghost use Rattle.std.specs.Prelude.{◌≡◌, ◌<◌, ◌+◌, ℤ, true, IfOk, IfSome, option_map, length};
 ghost use Rattle.smil_grammar.specs.Scripts.{with_clock, with_who, event_line, key_line, stack_line, unset_line, set_line, insert_line, finish, given as given_reading, at_end, quoted as quoted_of};
+ghost use Rattle.smil_grammar.specs.Gives.{GivesReading};
 ghost use Rattle.smil_model.specs.declared.order.Order.{Order as OrderValue};
 ghost use Rattle.smil_model.specs.declared.order.Order.TheVariants as order_value;
 ghost use Rattle.smil_model.specs.document.Values.{is_clock};
 ghost use Rattle.smil_model.specs.shown.Answers.{IsGiven, IsName};
-ghost use Rattle.smil_script.specs.Gives.{GivesRead, GivesWho, with_value};
+ghost use Rattle.smil_script.specs.Gives.{GivesWho, with_value};
 
 use super::word::Word;
 use super::words;
@@ -68,7 +69,7 @@ fn named<'a>(alloc: Global, line: &Word<'a>) -> Result<(Who, Word<'a>), Refusal>
 
 /// `advance`: a length.
 pub fn advance(line: &Word<'_>) -> Result<Order, Refusal>
-    ensures reading { GivesRead result (finish (with_clock order_value.Advance line.now)) }
+    ensures reading { GivesReading result (finish (with_clock order_value.Advance line.now)) }
     ensures given { IfOk result IsGiven }
 {
     let by = clock(line)?;
@@ -77,7 +78,7 @@ pub fn advance(line: &Word<'_>) -> Result<Order, Refusal>
 
 /// `seek`: a moment.
 pub fn seek(line: &Word<'_>) -> Result<Order, Refusal>
-    ensures reading { GivesRead result (finish (with_clock order_value.Seek line.now)) }
+    ensures reading { GivesReading result (finish (with_clock order_value.Seek line.now)) }
     ensures given { IfOk result IsGiven }
 {
     let to = clock(line)?;
@@ -87,7 +88,7 @@ pub fn seek(line: &Word<'_>) -> Result<Order, Refusal>
 // The event's name, behind its element.
 fn event_of(alloc: Global, who: Who, line: &Word<'_>) -> Result<Order, Refusal>
     requires { IsName who }
-    ensures reading { GivesRead result (finish (event_line who line.now)) }
+    ensures reading { GivesReading result (finish (event_line who line.now)) }
     ensures given { IfOk result IsGiven }
 {
     let (word, rest) = line.first();
@@ -97,7 +98,7 @@ fn event_of(alloc: Global, who: Who, line: &Word<'_>) -> Result<Order, Refusal>
 
 /// `event`: an element and the event's name.
 pub fn event(alloc: Global, line: &Word<'_>) -> Result<Order, Refusal>
-    ensures reading { GivesRead result (finish (with_who event_line line.now)) }
+    ensures reading { GivesReading result (finish (with_who event_line line.now)) }
     ensures given { IfOk result IsGiven }
 {
     let (who, rest) = named(alloc, line)?;
@@ -106,7 +107,7 @@ pub fn event(alloc: Global, line: &Word<'_>) -> Result<Order, Refusal>
 
 /// `media`: an element and a length.
 pub fn media(alloc: Global, line: &Word<'_>) -> Result<Order, Refusal>
-    ensures reading { GivesRead result
+    ensures reading { GivesReading result
         (finish (with_who (λ who. with_clock (order_value.Media who)) line.now)) }
     ensures given { IfOk result IsGiven }
 {
@@ -134,7 +135,7 @@ fn quoted<'a>(line: &Word<'a>) -> Option<Word<'a>>
 
 /// `set`: an element, an attribute's name and its value between quotes.
 pub fn set(alloc: Global, line: &Word<'_>) -> Result<Order, Refusal>
-    ensures reading { GivesRead result (finish (with_who set_line line.now)) }
+    ensures reading { GivesReading result (finish (with_who set_line line.now)) }
     ensures given { IfOk result IsGiven }
 {
     let (who, line) = named(alloc, line)?;
@@ -152,7 +153,7 @@ pub fn set(alloc: Global, line: &Word<'_>) -> Result<Order, Refusal>
 
 /// `unset`: an element and an attribute's name.
 pub fn unset(alloc: Global, line: &Word<'_>) -> Result<Order, Refusal>
-    ensures reading { GivesRead result (finish (with_who unset_line line.now)) }
+    ensures reading { GivesReading result (finish (with_who unset_line line.now)) }
     ensures given { IfOk result IsGiven }
 {
     let (who, line) = named(alloc, line)?;
@@ -170,7 +171,7 @@ pub fn unset(alloc: Global, line: &Word<'_>) -> Result<Order, Refusal>
 
 /// `insert`: an element, a place and a node line to the end of the line.
 pub fn insert(alloc: Global, line: &Word<'_>) -> Result<Order, Refusal>
-    ensures reading { GivesRead result (finish (with_who insert_line line.now)) }
+    ensures reading { GivesReading result (finish (with_who insert_line line.now)) }
     ensures given { IfOk result IsGiven }
 {
     let (who, line) = named(alloc, line)?;
@@ -202,7 +203,7 @@ pub fn key(line: &Word<'_>) -> Result<Order, Refusal>
 
 /// `stack`: an element and an attribute's name.
 pub fn stack(alloc: Global, line: &Word<'_>) -> Result<Order, Refusal>
-    ensures reading { GivesRead result (finish (with_who stack_line line.now)) }
+    ensures reading { GivesReading result (finish (with_who stack_line line.now)) }
     ensures given { IfOk result IsGiven }
 {
     let (who, line) = named(alloc, line)?;
@@ -213,7 +214,7 @@ pub fn stack(alloc: Global, line: &Word<'_>) -> Result<Order, Refusal>
 
 /// `remove`: an element.
 pub fn remove(alloc: Global, line: &Word<'_>) -> Result<Order, Refusal>
-    ensures reading { GivesRead result
+    ensures reading { GivesReading result
         (finish (with_who (λ who rest. at_end rest (given_reading (order_value.Remove who)))
         line.now)) }
     ensures given { IfOk result IsGiven }
@@ -224,7 +225,7 @@ pub fn remove(alloc: Global, line: &Word<'_>) -> Result<Order, Refusal>
 
 /// `history`: an element.
 pub fn history(alloc: Global, line: &Word<'_>) -> Result<Order, Refusal>
-    ensures reading { GivesRead result
+    ensures reading { GivesReading result
         (finish (with_who (λ who rest. at_end rest (given_reading (order_value.History who)))
         line.now)) }
     ensures given { IfOk result IsGiven }

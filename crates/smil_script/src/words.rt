@@ -6,10 +6,11 @@ ghost use Rattle.std.specs.Option.{ok_or};
 ghost use Rattle.smil_grammar.specs.Texts.{quote};
 ghost use Rattle.smil_grammar.specs.Values.{id_of};
 ghost use Rattle.smil_grammar.specs.Scripts.{is_of_title as is_of_title_byte, is_title as is_title_text, who_of, event_of, attribute_of};
+ghost use Rattle.smil_grammar.specs.Gives.{GivesReading};
 ghost use Rattle.smil_model.specs.declared.order.Refusal.TheVariants.{NotACommand, Memory};
 ghost use Rattle.smil_model.specs.document.Words.{is_event_name as is_event_word, is_raised_name};
 ghost use Rattle.smil_model.specs.shown.Answers.{IsName};
-ghost use Rattle.smil_script.specs.Gives.{GivesName, GivesRead, other_names};
+ghost use Rattle.smil_script.specs.Gives.{GivesName, other_names};
 
 use smil_lexis::runs;
 use smil_lexis::texts::{behind, is};
@@ -58,7 +59,7 @@ pub fn own(alloc: Global, text: &[u8]) -> Result<Bytes, Refusal>
 
 // An id that is all of a word.
 fn id(alloc: Global, text: &[u8]) -> Result<Bytes, Refusal>
-    ensures reading { GivesRead result (ok_or (id_of text.now) NotACommand) }
+    ensures reading { GivesReading result (ok_or (id_of text.now) NotACommand) }
     ensures same { IfOk result (λ id. id ≡ text.now) }
 {
     if text.is_empty() || runs::id(text, false) != text.len() {
@@ -70,7 +71,7 @@ fn id(alloc: Global, text: &[u8]) -> Result<Bytes, Refusal>
 /// The element that a word names, by its id, or by its serial behind `#`.
 pub fn who(alloc: Global, text: &[u8]) -> Result<Who, Refusal>
     requires { length text.now ≤ 2_147_483_647 }
-    ensures reading { GivesRead result (ok_or (who_of text.now) NotACommand) }
+    ensures reading { GivesReading result (ok_or (who_of text.now) NotACommand) }
     ensures name { IfOk result IsName }
 {
     match behind(text, b'#') {
@@ -121,7 +122,7 @@ fn has_quote(text: &[u8]) -> bool
 
 /// An attribute's name: any word of UTF-8 without a quote.
 pub fn attribute(alloc: Global, text: &[u8]) -> Result<Bytes, Refusal>
-    ensures reading { GivesRead result (ok_or (attribute_of text.now) NotACommand) }
+    ensures reading { GivesReading result (ok_or (attribute_of text.now) NotACommand) }
     ensures same { IfOk result (λ name. name ≡ text.now) }
     ensures some { IfOk result (λ name. 0 < length text.now) }
 {

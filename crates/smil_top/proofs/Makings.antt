@@ -13,7 +13,7 @@ use Rattle.smil_model.specs.shown.Answers.{answer_text, load_text}
 use Rattle.smil_model.specs.shown.Lines.{ok_line, closed_line}
 use Rattle.smil_grammar.specs.Results.{◌>>=◌}
 use Rattle.smil_grammar.specs.Formats.{formats}
-use Rattle.smil_script.specs.Gives.{GivesRead}
+use Rattle.smil_grammar.specs.Gives.{GivesReading}
 use Rattle.smil_live.specs.Counts.{least_number, most_number}
 use Rattle.smil_house.specs.declared.house.Held.{Held}
 use Rattle.smil_house.specs.House.{place_of, load_refusal, without as house_without, IsAt, IsAnsweredBy, AreKept, IsRefused}
@@ -25,7 +25,7 @@ use Rattle.smil_top.specs.Kept.{Makes, Checks}
 use Rattle.smil_top.proofs.HouseLemmas.{presentation-held, some-held, may_load-held, may_load-free, turned-session, turned-apart, closed-session, closed-apart, added-session, added-apart}
 
 -- a refusal of a call that reads is the reading's, unless memory ran out
-pub gives-err : {A : Type 0} (refusal : Refusal) (reading : Result A Refusal) → GivesRead (Err refusal) reading → (refusal ≡ Memory) ⊎ (reading ≡ Err refusal)
+pub gives-err : {A : Type 0} (refusal : Refusal) (reading : Result A Refusal) → GivesReading (Err refusal) reading → (refusal ≡ Memory) ⊎ (reading ≡ Err refusal)
 gives-err Memory reading gives = inl refl
 gives-err refusal reading gives = inr gives
 

@@ -4,7 +4,7 @@ use Rattle.smil_model.specs.document.Document.{Document}
 use Rattle.smil_model.specs.document.Limits.{limits}
 use Rattle.smil_model.specs.shown.Orders.{attr_set_by}
 use Rattle.smil_grammar.specs.Formats.{attr_in_line, formats}
-use Rattle.smil_outline.specs.Gives.{GivesReading}
+use Rattle.smil_grammar.specs.Gives.{GivesReading}
 use Rattle.smil_tree.specs.Outcomes.{IsFaultOf, set_outcome}
 use Rattle.smil_live.specs.Editing.{at_node}
 use Rattle.smil_live.specs.Refusing.{of_outcome}

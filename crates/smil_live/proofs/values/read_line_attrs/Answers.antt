@@ -2,7 +2,7 @@ use Rattle.std.proofs.Common.{Err, Some, sym, subst}
 use Rattle.smil_model.specs.declared.document.Attrs.{Attrs}
 use Rattle.smil_model.specs.declared.order.Refusal.{Refusal}
 use Rattle.smil_grammar.specs.Formats.{attrs_in_line}
-use Rattle.smil_outline.specs.Gives.{GivesReading}
+use Rattle.smil_grammar.specs.Gives.{GivesReading}
 use Rattle.smil_live.proofs.Reading.{attrs_refused, node_in_text}
 use Rattle.smil_live.proofs.values.read_line_attrs.Goals as goal
 

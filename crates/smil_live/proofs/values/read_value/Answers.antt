@@ -4,7 +4,7 @@ use Rattle.smil_model.specs.declared.order.Refusal.{Refusal}
 use Rattle.smil_grammar.specs.Formats.{attr_in_line, written_at}
 use Rattle.smil_grammar.specs.Nodes.{at_column, is_seq}
 use Rattle.smil_grammar.specs.Outlines.{in_line}
-use Rattle.smil_outline.specs.Gives.{GivesReading}
+use Rattle.smil_grammar.specs.Gives.{GivesReading}
 use Rattle.smil_live.proofs.Reading.{value_placed, value_refused}
 use Rattle.smil_live.proofs.values.read_value.Goals as goal
 

@@ -3,10 +3,9 @@ use Rattle.smil_model.specs.declared.document.Kind.{Kind}
 use Rattle.smil_model.specs.declared.document.Attrs.{Attrs}
 use Rattle.smil_model.specs.declared.order.Refusal.{Refusal}
 use Rattle.smil_model.specs.document.Edits.{no_attrs}
-use Rattle.smil_grammar.specs.Gives.{GivesNode}
+use Rattle.smil_grammar.specs.Gives.{GivesNode, GivesReading}
 use Rattle.smil_grammar.specs.Nodes.{attrs_from, is_seq}
 use Rattle.smil_grammar.specs.Outlines.{in_line, attrs_in}
-use Rattle.smil_outline.specs.Gives.{GivesReading}
 use Rattle.smil_outline.proofs.Placed.{attrs_refused, fault_is_near}
 use Rattle.smil_outline.proofs.builder.Builder.attrs_below.Goals as goal
 
