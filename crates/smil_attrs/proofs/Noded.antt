@@ -10,6 +10,8 @@ use Rattle.smil_model.specs.declared.document.AttrName.{AttrName}
 use Rattle.smil_model.specs.declared.document.AttrName.TheVariants as name
 use Rattle.smil_model.specs.declared.document.Item.{Item}
 use Rattle.smil_model.specs.document.Edits.{with_attr, no_attrs}
+use Rattle.smil_model.specs.document.Values.{is_seq_parent}
+use Rattle.smil_model.specs.document.Valid.{may_stand}
 use Rattle.smil_grammar.specs.declared.fault.AttrFault.{AttrFault}
 use Rattle.smil_grammar.specs.declared.fault.AttrFault.TheVariants as fault
 use Rattle.smil_grammar.specs.declared.fault.NodeFault.{NodeFault}
@@ -18,7 +20,7 @@ use Rattle.smil_grammar.specs.Texts.{trim}
 use Rattle.smil_grammar.specs.Results.{◌>>=◌}
 use Rattle.smil_grammar.specs.Attributes.{kind_text, name_text, name_called, name_or, attr_name_of, has, names}
 use Rattle.smil_grammar.specs.Values.{is_other_value, plain_value_of, value_of}
-use Rattle.smil_grammar.specs.Nodes.{Written, Shape, shape_of, saved_shape_of, kind_of, kind_of_shape, fits_in, is_seq, at_column, attribute_of, attr_of, attrs_from, attrs_of, node_of}
+use Rattle.smil_grammar.specs.Nodes.{Written, Shape, shape_of, saved_shape_of, kind_of, kind_of_shape, at_column, attribute_of, attr_of, attrs_from, attrs_of, node_of}
 use Rattle.smil_grammar.specs.Spellings.{attr_at, attr_text, value_text, node_text, saved_node_text}
 use Rattle.smil_grammar.specs.Allowed.{name_of, IsAttr, IsAttrs}
 use Rattle.smil_attrs.proofs.Readings.{any_value, listed}
@@ -100,12 +102,12 @@ pub saved_shape : (in_seq : Bool) (k : Kind) (serial : ℕ) (attrs : Attrs) → 
     → saved_shape_of (saved_node_text 0 k serial attrs) ≡ Some (serial, shape_from (length (kind_text k) + 2 + length (decimal serial)) k attrs)
 saved_shape in_seq k serial attrs h some few = ap saved_shape_of (saved_parts k serial (value_text attrs)) ∙ saved_read k serial (value_text attrs) (λ n. unquoted in_seq k n (attr_at attrs n) (h n)) some few
 
-pub node_read : (parent : Option Kind) (k : Kind) (attrs : Attrs) → fits_in parent k ≡ true → IsAttrs (is_seq parent) k attrs → node_of parent (node_text 0 k attrs) ≡ Ok (k, attrs)
+pub node_read : (parent : Option Kind) (k : Kind) (attrs : Attrs) → may_stand parent k ≡ true → IsAttrs (is_seq_parent parent) k attrs → node_of parent (node_text 0 k attrs) ≡ Ok (k, attrs)
 node_read parent k attrs fits h =
     let shape : Shape = shape_from (length (kind_text k)) k attrs in
-    let is = shape_is (is_seq parent) k attrs (length (kind_text k)) h in
+    let is = shape_is (is_seq_parent parent) k attrs (length (kind_text k)) h in
     let all : attrs_of parent k (Some shape) ≡ Ok (k, attrs) = rw (fits, is.read) refl in
-    ap (λ (s : Option Shape). kind_of_shape s >>= λ k. attrs_of parent k s) (plain_shape (is_seq parent) k attrs h) ∙ rw (is.kind) all
+    ap (λ (s : Option Shape). kind_of_shape s >>= λ k. attrs_of parent k s) (plain_shape (is_seq_parent parent) k attrs h) ∙ rw (is.kind) all
 
 -- what is read
 
@@ -187,13 +189,13 @@ none in_seq k _ = tt
 
 -- a kind that the parent can have, with attributes of the kind
 abbrev IsChild : Option Kind → Kind × Attrs → Type 0
-IsChild parent node = (fits_in parent node.0 ≡ true) × IsAttrs (is_seq parent) node.0 node.1
+IsChild parent node = (may_stand parent node.0 ≡ true) × IsAttrs (is_seq_parent parent) node.0 node.1
 
 attrs_are : (parent : Option Kind) (k : Kind) (s : Option Shape) → IfOk (attrs_of parent k s) (IsChild parent)
 attrs_are parent k None = tt
-attrs_are parent k (Some shape) = cond_both (fits_in parent k) _ _ (λ r. IfOk r (IsChild parent)) (λ fits. pair parent k fits (attrs_from (is_seq parent) k no_attrs shape.attributes) (attrs_had (is_seq parent) k no_attrs shape.attributes (none (is_seq parent) k))) (λ e. tt)
+attrs_are parent k (Some shape) = cond_both (may_stand parent k) _ _ (λ r. IfOk r (IsChild parent)) (λ fits. pair parent k fits (attrs_from (is_seq_parent parent) k no_attrs shape.attributes) (attrs_had (is_seq_parent parent) k no_attrs shape.attributes (none (is_seq_parent parent) k))) (λ e. tt)
   where
-    pair : (parent : Option Kind) (k : Kind) → fits_in parent k ≡ true → (r : Result Attrs NodeFault) → IfOk r (IsAttrs (is_seq parent) k) → IfOk (r >>= λ attrs. Ok (k, attrs)) (IsChild parent)
+    pair : (parent : Option Kind) (k : Kind) → may_stand parent k ≡ true → (r : Result Attrs NodeFault) → IfOk r (IsAttrs (is_seq_parent parent) k) → IfOk (r >>= λ attrs. Ok (k, attrs)) (IsChild parent)
     pair parent k fits (Ok attrs) h = (fits, h)
     pair parent k fits (Err e) h = tt
 

@@ -6,8 +6,10 @@ ghost use Rattle.smil_model.specs.declared.document.Attr.{Attr};
 ghost use Rattle.smil_model.specs.declared.document.AttrName.{AttrName};
 ghost use Rattle.smil_model.specs.declared.document.Attrs.{Attrs};
 ghost use Rattle.smil_model.specs.document.Edits.{with_attr, without_attr};
+ghost use Rattle.smil_model.specs.document.Values.{is_seq_parent};
+ghost use Rattle.smil_model.specs.document.Valid.{may_stand};
 ghost use Rattle.smil_grammar.specs.Attributes.{has, name_text};
-ghost use Rattle.smil_grammar.specs.Nodes.{attribute_of, fits_in, is_seq, node_of};
+ghost use Rattle.smil_grammar.specs.Nodes.{attribute_of, node_of};
 ghost use Rattle.smil_grammar.specs.Spellings.{attr_text, node_text};
 ghost use Rattle.smil_grammar.specs.Allowed.{name_of, IsAttr, IsAttrs};
 
@@ -26,10 +28,10 @@ pub fn attr_again()
 /// The canonical line of each such child is read as the same kind and attributes.
 pub fn node_again()
     ensures is_child { (parent : Option Kind) (line : List ℕ) (kind : Kind) (attrs : Attrs)
-        → node_of parent line ≡ Ok (kind, attrs) → IsTrue (fits_in parent kind)
-        × IsAttrs (is_seq parent) kind attrs }
+        → node_of parent line ≡ Ok (kind, attrs) → IsTrue (may_stand parent kind)
+        × IsAttrs (is_seq_parent parent) kind attrs }
     ensures again { (parent : Option Kind) (kind : Kind) (attrs : Attrs)
-        → IsTrue (fits_in parent kind) → IsAttrs (is_seq parent) kind attrs
+        → IsTrue (may_stand parent kind) → IsAttrs (is_seq_parent parent) kind attrs
         → node_of parent (node_text 0 kind attrs) ≡ Ok (kind, attrs) }
 {}
 

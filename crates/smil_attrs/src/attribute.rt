@@ -1,8 +1,9 @@
 //! Attributes with their values.
 
 ghost use Rattle.std.specs.Prelude.{◌≡◌};
+ghost use Rattle.smil_model.specs.document.Values.{is_seq_parent};
 ghost use Rattle.smil_grammar.specs.Values.{plain_value_of, value_of};
-ghost use Rattle.smil_grammar.specs.Nodes.{attribute_of, is_seq as is_seq_kind};
+ghost use Rattle.smil_grammar.specs.Nodes.{attribute_of};
 ghost use Rattle.smil_grammar.specs.Gives.{GivesAttr};
 
 use super::names::attr_name;
@@ -50,7 +51,7 @@ fn plain_value(alloc: Global, name: AttrName, value: &[u8], in_seq: bool) -> Res
 
 /// Whether the parent is a seq.
 fn is_seq(parent: Option<Kind>) -> bool
-    ensures { result ≡ is_seq_kind parent }
+    ensures { result ≡ is_seq_parent parent }
 {
     matches!(parent, Some(Kind::Seq))
 }
@@ -65,7 +66,7 @@ pub fn read_attr(
     name: &[u8],
     value: &[u8],
 ) -> Result<Attr, AttrFault>
-    ensures { GivesAttr result (attribute_of (is_seq_kind parent) kind name.now value.now) }
+    ensures { GivesAttr result (attribute_of (is_seq_parent parent) kind name.now value.now) }
 {
     let name = attr_name(kind, name)?;
     if values::is_left_out(name, trim(value)) {

@@ -2,9 +2,11 @@
 
 ghost use Rattle.std.specs.Prelude.{◌≡◌, ℕ, Some, IfOk, false};
 ghost use Rattle.smil_grammar.specs.Allowed.{IsAttrs};
-ghost use Rattle.smil_grammar.specs.Nodes.{Written as WrittenText, Shape as ShapeText, column_at, attr_of, attrs_from, attrs_of, fits_in, is_seq, kind_of, kind_of_shape, node_of};
+ghost use Rattle.smil_grammar.specs.Nodes.{Written as WrittenText, Shape as ShapeText, column_at, attr_of, attrs_from, attrs_of, kind_of, kind_of_shape, node_of};
 ghost use Rattle.smil_grammar.specs.Gives.{GivesNode};
 ghost use Rattle.smil_model.specs.document.Edits.{no_attrs};
+ghost use Rattle.smil_model.specs.document.Values.{is_seq_parent};
+ghost use Rattle.smil_model.specs.document.Valid.{may_stand};
 
 use super::attribute::read_attr;
 use super::kinds;
@@ -31,7 +33,7 @@ fn attr(
     kind: Kind,
     written: &Written<'_>,
 ) -> Result<Attr, NodeFault>
-    ensures { GivesNode result (attr_of (is_seq parent) kind written.now) }
+    ensures { GivesNode result (attr_of (is_seq_parent parent) kind written.now) }
 {
     match read_attr(alloc, kind, parent, written.name, written.value) {
         Ok(attr) => Ok(attr),
@@ -63,7 +65,7 @@ pub fn shape_attrs(
     kind: Kind,
     shape: &Shape<'_>,
 ) -> Result<Attrs, NodeFault>
-    ensures { GivesNode result (attrs_from (is_seq parent) kind no_attrs shape.now.attributes) }
+    ensures { GivesNode result (attrs_from (is_seq_parent parent) kind no_attrs shape.now.attributes) }
 {
     let mut attrs = Attrs::none();
     let mut left = shape.attributes.again();
@@ -90,7 +92,7 @@ pub fn shape_kind(shape: &Shape<'_>) -> Result<Kind, NodeFault>
 
 /// Whether a parent can have a child of this kind, None being for the root's.
 pub fn fits(parent: Option<Kind>, kind: Kind) -> bool
-    ensures { result ≡ fits_in parent kind }
+    ensures { result ≡ may_stand parent kind }
 {
     match parent {
         None => matches!(kind, Kind::Par | Kind::Seq | Kind::Excl),

@@ -7,9 +7,10 @@ use Rattle.smil_model.specs.declared.document.AttrName.{AttrName}
 use Rattle.smil_model.specs.declared.document.Attrs.{Attrs}
 use Rattle.smil_model.specs.declared.order.Refusal.{Refusal}
 use Rattle.smil_model.specs.shown.Orders.{Formats}
+use Rattle.smil_model.specs.document.Values.{is_seq_parent}
 use Rattle.smil_grammar.specs.Results.{◌>>=◌}
 use Rattle.smil_grammar.specs.Attributes.{attr_name_of}
-use Rattle.smil_grammar.specs.Nodes.{Written, is_seq, at_column, attr_of, kind_of, node_of}
+use Rattle.smil_grammar.specs.Nodes.{Written, at_column, attr_of, kind_of, node_of}
 use Rattle.smil_grammar.specs.Outlines.{in_line, outline_text, saved_text}
 
 -- an attribute whose name and value begin at these columns
@@ -24,7 +25,7 @@ written_at name value name_column column = record {
 -- the attribute of a node of this kind under this parent
 abbrev pub attr_in_line : Kind → Option Kind → List ℕ → List ℕ → ℕ → ℕ → Result Attr Refusal
 attr_in_line kind parent name value name_column column =
-    in_line 0 (attr_of (is_seq parent) kind (written_at name value name_column column))
+    in_line 0 (attr_of (is_seq_parent parent) kind (written_at name value name_column column))
 
 -- the name of an attribute of a node of this kind
 abbrev pub name_in_line : Kind → List ℕ → ℕ → Result AttrName Refusal

@@ -1,15 +1,15 @@
 -- Node lines: a kind, and attributes as ` name="value"`. Behind the kind the line is cut at each quote: what
 -- stands before an opening quote is spaces, a name and `=`, what stands before a closing one is a value, and
 -- behind the last quote are spaces.
-use Rattle.std.specs.Prelude.{ℕ, ◌+◌, ◌-◌, Bool, true, false, not, ◌&&◌, ◌||◌, List, [], ◌∷◌, length, take, drop, Option, Some, None, option_and_then, Result, Ok, Err, nat_lt, min, ◌==◌, if◌then◌else◌, codes, bytes_eq}
+use Rattle.std.specs.Prelude.{ℕ, ◌+◌, ◌-◌, Bool, false, not, ◌&&◌, ◌||◌, List, [], ◌∷◌, length, take, drop, Option, Some, None, option_and_then, Result, Ok, Err, nat_lt, min, ◌==◌, if◌then◌else◌, codes, bytes_eq}
 use Rattle.std.specs.List.{prefix_len, slice_split, list_all, list_any}
 use Rattle.std.specs.Str.{is_utf8}
 use Rattle.smil_model.specs.declared.document.Kind.{Kind}
-use Rattle.smil_model.specs.declared.document.Kind.TheVariants as kind
 use Rattle.smil_model.specs.declared.document.Attr.{Attr}
 use Rattle.smil_model.specs.declared.document.Attrs.{Attrs}
 use Rattle.smil_model.specs.document.Edits.{with_attr, no_attrs}
-use Rattle.smil_model.specs.document.Document.{is_class_kind, is_container_kind}
+use Rattle.smil_model.specs.document.Values.{is_seq_parent}
+use Rattle.smil_model.specs.document.Valid.{may_stand}
 use Rattle.smil_grammar.specs.declared.fault.AttrFault.{AttrFault}
 use Rattle.smil_grammar.specs.declared.fault.AttrFault.TheVariants as attr
 use Rattle.smil_grammar.specs.declared.fault.NodeFault.{NodeFault}
@@ -112,19 +112,6 @@ kind_of_shape (Some shape) = if repeats shape.attributes then Err BadOutline els
 abbrev pub kind_of : List ℕ → Result Kind NodeFault
 kind_of line = kind_of_shape (shape_of line)
 
--- which children a parent can have, as far as the kinds of the two say; a root has no parent
-abbrev pub fits_in : Option Kind → Kind → Bool
-fits_in None child = is_container_kind child
-fits_in (Some kind.Par) child = not (is_class_kind child)
-fits_in (Some kind.Seq) child = not (is_class_kind child)
-fits_in (Some kind.Excl) child = true
-fits_in (Some kind.PriorityClass) child = not (is_class_kind child)
-fits_in (Some _) child = false
-
-abbrev pub is_seq : Option Kind → Bool
-is_seq (Some kind.Seq) = true
-is_seq _ = false
-
 -- a column is counted from 1, up to the greatest number of 32 bits
 abbrev pub column_at : ℕ → ℕ
 column_at place = min (place + 1) 4_294_967_295
@@ -154,7 +141,7 @@ attrs_from in_seq k attrs (written ∷ others) = attr_of in_seq k written >>= λ
 abbrev pub attrs_of : Option Kind → Kind → Option Shape → Result (Kind × Attrs) NodeFault
 attrs_of parent k None = Err BadOutline
 attrs_of parent k (Some shape) =
-    if fits_in parent k then (attrs_from (is_seq parent) k no_attrs shape.attributes >>= λ attrs. Ok (k, attrs)) else Err BadPlace
+    if may_stand parent k then (attrs_from (is_seq_parent parent) k no_attrs shape.attributes >>= λ attrs. Ok (k, attrs)) else Err BadPlace
 
 -- a node line without leading spaces, below a parent
 abbrev pub node_of : Option Kind → List ℕ → Result (Kind × Attrs) NodeFault

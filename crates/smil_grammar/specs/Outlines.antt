@@ -15,9 +15,11 @@ use Rattle.smil_model.specs.document.Document.{Document, is_class_kind}
 use Rattle.smil_grammar.specs.declared.fault.NodeFault.{NodeFault}
 use Rattle.smil_grammar.specs.declared.fault.NodeFault.TheVariants as fault
 use Rattle.smil_grammar.specs.Results.{◌>>=◌}
-use Rattle.smil_grammar.specs.Nodes.{Shape, is_space, is_no_space, shape_of, saved_shape_of, kind_of_shape, attrs_from, fits_in, is_seq}
+use Rattle.smil_grammar.specs.Nodes.{Shape, is_space, is_no_space, shape_of, saved_shape_of, kind_of_shape, attrs_from}
 use Rattle.smil_grammar.specs.Items.{count_of}
 use Rattle.smil_model.specs.document.Edits.{no_attrs}
+use Rattle.smil_model.specs.document.Values.{is_seq_parent}
+use Rattle.smil_model.specs.document.Valid.{may_stand}
 use Rattle.smil_grammar.specs.Spellings.{node_text, saved_node_text, header_text}
 
 -- the nodes so far, the serials and kinds of the last node and those above it, from the root down, and the next serial
@@ -83,7 +85,7 @@ last_of items = slice_get items (length items - 1)
 -- the attributes of a node below this one
 abbrev pub attrs_in : Option (ℕ × Kind) → Kind → Shape → Result Attrs NodeFault
 attrs_in parent kind shape =
-    attrs_from (is_seq (option_map (λ (n : ℕ × Kind). n.1) parent)) kind no_attrs shape.attributes
+    attrs_from (is_seq_parent (option_map (λ (n : ℕ × Kind). n.1) parent)) kind no_attrs shape.attributes
 
 -- a node line as it is read, with its serial: the one that it gives, or the next in document order
 abbrev pub shape_in : Outline → Option ℕ → List ℕ → Option (ℕ × Shape)
@@ -99,7 +101,7 @@ is_bad_serial outline (Some next) serial =
 -- whether a node of this kind may not stand below these
 abbrev pub is_misplaced : Outline → List (ℕ × Kind) → Kind → Bool
 is_misplaced outline above kind =
-    not (fits_in (option_map (λ (n : ℕ × Kind). n.1) (last_of above)) kind) || (length above == 0 && nat_lt 0 (length outline.nodes))
+    not (may_stand (option_map (λ (n : ℕ × Kind). n.1) (last_of above)) kind) || (length above == 0 && nat_lt 0 (length outline.nodes))
     || mixes outline.nodes (last_of above) kind
 
 -- the node of a line below these nodes: its place, its attributes, and what a document within these limits can hold

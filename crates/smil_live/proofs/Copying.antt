@@ -12,8 +12,8 @@ use Rattle.smil_model.specs.declared.order.Refusal.TheVariants as refusal
 use Rattle.smil_model.specs.document.Document.{Document, node_at, serial_of}
 use Rattle.smil_model.specs.document.Edits.{attr_unset, node_inserted, no_attrs, with_attr}
 use Rattle.smil_model.specs.document.Limits.{limits}
-use Rattle.smil_model.specs.document.Valid.{IsValid, kind_of}
-use Rattle.smil_model.specs.document.Values.{fit_kind}
+use Rattle.smil_model.specs.document.Valid.{IsValid, kind_of, may_stand}
+use Rattle.smil_model.specs.document.Values.{fit_kind, is_seq_parent}
 use Rattle.smil_model.specs.happening.Queue.{parent_of}
 use Rattle.smil_model.specs.shown.Orders.{and_then, attr_set_by, attr_unset_by, found, insert_checked, may_insert, node_inserted_by, node_removed_from, set_checked}
 use Rattle.smil_grammar.specs.declared.fault.AttrFault.{AttrFault}
@@ -21,7 +21,7 @@ use Rattle.smil_grammar.specs.declared.fault.AttrFault.TheVariants as attr_fault
 use Rattle.smil_grammar.specs.declared.fault.NodeFault.{NodeFault}
 use Rattle.smil_grammar.specs.declared.fault.NodeFault.TheVariants as node_fault
 use Rattle.smil_grammar.specs.Formats.{attr_in_line, attrs_in_line, formats, kind_in_line, name_in_line, written_at}
-use Rattle.smil_grammar.specs.Nodes.{Shape, Written, at_column, attribute_of, attrs_from, attrs_of, fits_in, is_seq, node_of, shape_of}
+use Rattle.smil_grammar.specs.Nodes.{Shape, Written, at_column, attribute_of, attrs_from, attrs_of, node_of, shape_of}
 use Rattle.smil_grammar.specs.Nodes.{kind_of as kind_of_line}
 use Rattle.smil_grammar.specs.Outlines.{in_line}
 use Rattle.smil_grammar.specs.Results.{◌>>=◌}
@@ -82,8 +82,8 @@ read_attribute w (Err attr_fault.Memory) given h = absurd cc
 
 given_fits : (k : Kind) (parent : Option Kind) (attrs : Attrs) (name value : List ℕ) (name_column column : ℕ) (given : Attr) → fit_kind k parent attrs ≡ true → attr_in_line k parent name value name_column column ≡ Ok given → fit_kind k parent (with_attr attrs given) ≡ true
 given_fits k parent attrs name value name_column column given fit read =
-    let had = attribute_is (is_seq parent) k name value given (read_attribute (written_at name value name_column column) (attribute_of (is_seq parent) k name value) given read) in
-    ranges k parent (with_attr attrs given) (with_stays (is_seq parent) k attrs given (fits k parent attrs fit) had.0 had.1)
+    let had = attribute_is (is_seq_parent parent) k name value given (read_attribute (written_at name value name_column column) (attribute_of (is_seq_parent parent) k name value) given read) in
+    ranges k parent (with_attr attrs given) (with_stays (is_seq_parent parent) k attrs given (fits k parent attrs fit) had.0 had.1)
 
 -- an attribute that was read at a node of a document
 module _ (d : Document) (s : ℕ) (some : IsSome (node_at d.nodes s)) (kind : Kind) (parent : Option Kind) (kinds : (n : Node) → node_at d.nodes s ≡ Some n → kind ≡ n.kind) (parents : (n : Node) → node_at d.nodes s ≡ Some n → parent ≡ kind_of (node_at d.nodes n.parent)) where
@@ -150,8 +150,8 @@ paired k r = r >>= λ a. Ok (k, a)
 same_kind : (parent : Option Kind) (k k2 : Kind) (shape : Option Shape) (attrs : Attrs) → attrs_of parent k shape ≡ Ok (k2, attrs) → k2 ≡ k
 same_kind parent k k2 None attrs h = absurd cc
 same_kind parent k k2 (Some shape) attrs h =
-    cond_both (fits_in parent k) (paired k (attrs_from (is_seq parent) k no_attrs shape.attributes)) (Err node_fault.BadPlace) (λ r. r ≡ Ok (k2, attrs) → k2 ≡ k)
-    (λ e. by_attrs (attrs_from (is_seq parent) k no_attrs shape.attributes)) (λ e g. absurd cc) h
+    cond_both (may_stand parent k) (paired k (attrs_from (is_seq_parent parent) k no_attrs shape.attributes)) (Err node_fault.BadPlace) (λ r. r ≡ Ok (k2, attrs) → k2 ≡ k)
+    (λ e. by_attrs (attrs_from (is_seq_parent parent) k no_attrs shape.attributes)) (λ e g. absurd cc) h
   where
     by_attrs : (r : Result Attrs NodeFault) → paired k r ≡ Ok (k2, attrs) → k2 ≡ k
     by_attrs (Ok a) g = sym (ap (kind_or k) g)

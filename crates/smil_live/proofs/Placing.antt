@@ -12,6 +12,8 @@ use Rattle.smil_model.specs.declared.document.AttrName.TheVariants as name
 use Rattle.smil_model.specs.declared.document.Attrs.{Attrs}
 use Rattle.smil_model.specs.declared.document.Item.{Item}
 use Rattle.smil_model.specs.document.Edits.{with_attr, no_attrs}
+use Rattle.smil_model.specs.document.Values.{is_seq_parent}
+use Rattle.smil_model.specs.document.Valid.{may_stand}
 use Rattle.smil_grammar.specs.declared.fault.ItemFault.{ItemFault}
 use Rattle.smil_grammar.specs.declared.fault.ItemFault.TheVariants as item_fault
 use Rattle.smil_grammar.specs.declared.fault.ListFault.{ListFault}
@@ -27,7 +29,7 @@ use Rattle.smil_grammar.specs.Lists.{item_at, piece_at, items_from, few_items, p
 use Rattle.smil_grammar.specs.Values.{id_of, attribute_name_of, restart_default_of, fill_default_of, dur_of, time_of, count_of, repeat_dur_of, restart_of, fill_of, endsync_of, peers_of, higher_of, lower_of, kept_of, is_other_value, of_list, of_value, plain_value_of, value_of}
 use Rattle.smil_grammar.specs.Clock.{clock_within}
 use Rattle.smil_grammar.specs.Attributes.{attr_name_of, name_called, name_or, unnamed, is_other_name, has, kind_called, is_other_kind}
-use Rattle.smil_grammar.specs.Nodes.{is_space, is_of_kind, is_named, Written, attribute_at, attributes_at, with_written, Shape, shaped, shape_of, repeats, kind_or, kind_of_shape, kind_of, column_at, at_column, attribute_of, attr_of, attrs_from, attrs_of, fits_in, is_seq, node_of}
+use Rattle.smil_grammar.specs.Nodes.{is_space, is_of_kind, is_named, Written, attribute_at, attributes_at, with_written, Shape, shaped, shape_of, repeats, kind_or, kind_of_shape, kind_of, column_at, at_column, attribute_of, attr_of, attrs_from, attrs_of, node_of}
 
 -- how long a text is that was cut into these pieces, and one more
 abbrev joined_len : List (List ℕ) → ℕ
@@ -232,8 +234,8 @@ kind_in line = kind_shape_in (length line + 2) (shape_of line) (omega arith)
 attrs_of_in : (n : ℕ) (parent : Option Kind) (k : Kind) (shape : Option Shape) → IfSome shape (ShapeStands n) → IfErr (attrs_of parent k shape) (ColumnWithin (n + 1))
 attrs_of_in n parent k None h = tt
 attrs_of_in n parent k (Some shape) h =
-    cond_both (fits_in parent k) (attrs_from (is_seq parent) k no_attrs shape.attributes >>= λ attrs. Ok (k, attrs)) (Err fault.BadPlace) (λ r. IfErr r (ColumnWithin (n + 1)))
-    (λ e. after (ColumnWithin (n + 1)) (attrs_from (is_seq parent) k no_attrs shape.attributes) (λ attrs. Ok (k, attrs)) (attrs_in n (is_seq parent) k no_attrs shape.attributes h) (λ attrs. tt))
+    cond_both (may_stand parent k) (attrs_from (is_seq_parent parent) k no_attrs shape.attributes >>= λ attrs. Ok (k, attrs)) (Err fault.BadPlace) (λ r. IfErr r (ColumnWithin (n + 1)))
+    (λ e. after (ColumnWithin (n + 1)) (attrs_from (is_seq_parent parent) k no_attrs shape.attributes) (λ attrs. Ok (k, attrs)) (attrs_in n (is_seq_parent parent) k no_attrs shape.attributes h) (λ attrs. tt))
     (λ e. tt)
 
 pub node_in : (parent : Option Kind) (line : List ℕ) → IfErr (node_of parent line) (ColumnWithin (length line + 2))

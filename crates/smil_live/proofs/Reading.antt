@@ -6,6 +6,7 @@ use Rattle.smil_model.specs.declared.document.Attr.{Attr}
 use Rattle.smil_model.specs.declared.document.Attrs.{Attrs}
 use Rattle.smil_model.specs.declared.order.Refusal.TheVariants as refusal
 use Rattle.smil_model.specs.shown.Answers.{IsText, IsColumn}
+use Rattle.smil_model.specs.document.Values.{is_seq_parent}
 use Rattle.smil_grammar.specs.declared.fault.AttrFault.{AttrFault}
 use Rattle.smil_grammar.specs.declared.fault.AttrFault.TheVariants as attr_fault
 use Rattle.smil_grammar.specs.declared.fault.NodeFault.{NodeFault}
@@ -13,7 +14,7 @@ use Rattle.smil_grammar.specs.declared.fault.NodeFault.TheVariants as node_fault
 use Rattle.smil_grammar.specs.Attributes.{attr_name_of}
 use Rattle.smil_grammar.specs.Formats.{written_at, attr_in_line, name_in_line, kind_in_line, attrs_in_line}
 use Rattle.smil_grammar.specs.Gives.{GivesAttr, GivesNode, GivesReading}
-use Rattle.smil_grammar.specs.Nodes.{at_column, attribute_of, is_seq, kind_of, node_of}
+use Rattle.smil_grammar.specs.Nodes.{at_column, attribute_of, kind_of, node_of}
 use Rattle.smil_grammar.specs.Outlines.{in_line, refused}
 use Rattle.smil_grammar.specs.Results.{◌>>=◌}
 use Rattle.smil_live.specs.Refusing.{of_value, IsPlaced, IsInText}
@@ -55,7 +56,7 @@ at_refused name value nc c attr_fault.Memory h k p = refl
 in_line_at : {A : Type 0} (name value : List ℕ) (name_column column : ℕ) (e : AttrFault) (reading : Result A AttrFault) → IsColumn name_column → IsColumn column → IsPlaced e → reading ≡ Err e → in_line 0 (at_column (written_at name value name_column column) reading) ≡ Err (of_value name_column column e)
 in_line_at {A} name value nc c e reading h k p given = ap (λ (r : Result A AttrFault). in_line 0 (at_column (written_at name value nc c) r)) given ∙ at_refused {A = A} name value nc c e h k p
 
-pub value_refused : (kind : Kind) (parent : Option Kind) (name value : List ℕ) (name_column column : ℕ) (e : AttrFault) → IsColumn name_column → IsColumn column → IsPlaced e → GivesAttr {A = Attr} (Err e) (attribute_of (is_seq parent) kind name value) → GivesReading {A = Attr} (Err (of_value name_column column e)) (attr_in_line kind parent name value name_column column)
+pub value_refused : (kind : Kind) (parent : Option Kind) (name value : List ℕ) (name_column column : ℕ) (e : AttrFault) → IsColumn name_column → IsColumn column → IsPlaced e → GivesAttr {A = Attr} (Err e) (attribute_of (is_seq_parent parent) kind name value) → GivesReading {A = Attr} (Err (of_value name_column column e)) (attr_in_line kind parent name value name_column column)
 value_refused kind parent name value nc c attr_fault.Memory h k p given = tt
 value_refused kind parent name value nc c attr_fault.UnknownAttribute h k p given = in_line_at name value nc c attr_fault.UnknownAttribute _ h k p given
 value_refused kind parent name value nc c attr_fault.UnsupportedName h k p given = in_line_at name value nc c attr_fault.UnsupportedName _ h k p given

@@ -6,7 +6,6 @@ use Rattle.std.proofs.lemmas.Bool.{and_parts, or_parts, not-true, not_from_false
 use Rattle.std.proofs.lemmas.Bool.Decides.{nat_tests}
 use Rattle.std.proofs.lemmas.List.Elements.{All-from_recursion}
 use Rattle.smil_model.specs.declared.document.Kind.{Kind}
-use Rattle.smil_model.specs.declared.document.Kind.TheVariants as kind
 use Rattle.smil_model.specs.declared.document.Attr.{Attr}
 use Rattle.smil_model.specs.declared.document.Attr.TheVariants as attr
 use Rattle.smil_model.specs.declared.document.Attrs.{Attrs}
@@ -39,7 +38,6 @@ use Rattle.smil_grammar.specs.Texts.{trim}
 use Rattle.smil_grammar.specs.Items.{IsItem}
 use Rattle.smil_grammar.specs.Lists.{is_plain, IsList}
 use Rattle.smil_grammar.specs.Values.{above_zero, id_of, attribute_name_of}
-use Rattle.smil_grammar.specs.Nodes.{is_seq}
 use Rattle.smil_grammar.specs.Attributes.{has}
 use Rattle.smil_grammar.specs.Spellings.{IsWithin, item_text, list_text, count_text, attr_at}
 use Rattle.smil_grammar.specs.Clock.{clock_text}
@@ -530,27 +528,10 @@ element_fits in_seq k attrs class id none values endsync apart name.Lower = abse
 
 -- both
 
-pub seq_same : (parent : Option Kind) → is_seq_parent parent ≡ is_seq parent
-seq_same None = refl
-seq_same (Some kind.Par) = refl
-seq_same (Some kind.Seq) = refl
-seq_same (Some kind.Excl) = refl
-seq_same (Some kind.PriorityClass) = refl
-seq_same (Some kind.Img) = refl
-seq_same (Some kind.Text) = refl
-seq_same (Some kind.Brush) = refl
-seq_same (Some kind.Audio) = refl
-seq_same (Some kind.Video) = refl
-seq_same (Some kind.Animation) = refl
-seq_same (Some kind.TextStream) = refl
-seq_same (Some kind.Ref) = refl
-seq_same (Some kind.Set) = refl
-
-pub in_range : (k : Kind) (parent : Option Kind) (attrs : Attrs) → fit_kind k parent attrs ≡ true → AreInRange (is_seq parent) k attrs
+pub in_range : (k : Kind) (parent : Option Kind) (attrs : Attrs) → fit_kind k parent attrs ≡ true → AreInRange (is_seq_parent parent) k attrs
 in_range k parent attrs h =
     let parts = and_parts (absent_or is_id attrs.id) _ h in
-    subst (λ (in_seq : Bool). AreInRange in_seq k attrs) (seq_same parent)
-    (cond_both (is_class_kind k) (not (has_element_attrs attrs) && absent_or is_higher attrs.higher && absent_or is_lower attrs.lower) (not (has_class_attrs attrs) && are_element_values (is_seq_parent parent) attrs && (has_endsync k || not (is_some attrs.endsync)) && not (cond (is_set_kind k) (has_media_attrs attrs) (has_set_attrs attrs)))
+    cond_both (is_class_kind k) (not (has_element_attrs attrs) && absent_or is_higher attrs.higher && absent_or is_lower attrs.lower) (not (has_class_attrs attrs) && are_element_values (is_seq_parent parent) attrs && (has_endsync k || not (is_some attrs.endsync)) && not (cond (is_set_kind k) (has_media_attrs attrs) (has_set_attrs attrs)))
     (λ t. t ≡ true → AreInRange (is_seq_parent parent) k attrs)
     (λ class e.
     let last = and_parts _ (absent_or is_lower attrs.lower) e in
@@ -561,12 +542,12 @@ in_range k parent attrs h =
     let last = and_parts _ (has_endsync k || not (is_some attrs.endsync)) whole.0 in
     let first = and_parts (not (has_class_attrs attrs)) (are_element_values (is_seq_parent parent) attrs) last.0 in
     element_fits (is_seq_parent parent) k attrs class parts.0 (classless attrs (not-true _ first.0)) (valued (is_seq_parent parent) attrs first.1) last.1 (parted k attrs class whole.1))
-    parts.1)
+    parts.1
 
 -- all of them can be read
 readable : (in_seq had : Bool) (o : Option Attr) → Fits in_seq had o → IfSome o (λ given. IsTrue had × IsAttr in_seq given)
 readable in_seq had None h = tt
 readable in_seq had (Some given) h = (h.0, is_attr in_seq given h.1)
 
-pub fits : (k : Kind) (parent : Option Kind) (attrs : Attrs) → fit_kind k parent attrs ≡ true → IsAttrs (is_seq parent) k attrs
-fits k parent attrs h n = readable (is_seq parent) (has k n) (attr_at attrs n) (in_range k parent attrs h n)
+pub fits : (k : Kind) (parent : Option Kind) (attrs : Attrs) → fit_kind k parent attrs ≡ true → IsAttrs (is_seq_parent parent) k attrs
+fits k parent attrs h n = readable (is_seq_parent parent) (has k n) (attr_at attrs n) (in_range k parent attrs h n)

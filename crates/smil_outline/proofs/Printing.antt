@@ -28,12 +28,11 @@ use Rattle.smil_model.specs.declared.document.Act.{Act}
 use Rattle.smil_model.specs.declared.document.Act.TheVariants as act
 use Rattle.smil_model.specs.declared.times.Time.TheVariants as time
 use Rattle.smil_model.specs.document.Words.{is_of_name, is_of_id, is_kept, is_kept_text, is_id, is_key, is_attribute_name}
-use Rattle.smil_model.specs.document.Values.{is_item, is_list, is_clock}
+use Rattle.smil_model.specs.document.Values.{is_item, is_list, is_clock, is_seq_parent}
 use Rattle.smil_grammar.specs.Attributes.{kind_text, name_text, names, has}
 use Rattle.smil_model.specs.declared.document.Node.{Node}
 use Rattle.smil_model.specs.document.Document.{Document, node_at}
 use Rattle.smil_model.specs.document.Valid.{IsValid, kind_of, has_fitting_attrs}
-use Rattle.smil_grammar.specs.Nodes.{is_seq}
 use Rattle.smil_grammar.specs.Outlines.{depth_among, lines_from, outline_text}
 use Rattle.smil_grammar.specs.Clock.{clock_text}
 use Rattle.smil_grammar.specs.Spellings.{escaped, of_who, tail_text, item_text, list_text, decimals, attr_text, act_text, attr_at, value_text, attribute_text, node_text, IsWithin}
@@ -267,7 +266,7 @@ lines_shown nodes depths [] h = tt
 lines_shown nodes depths (n ∷ rest) h =
     let parts = and_parts (has_fitting_attrs nodes n) (list_all (has_fitting_attrs nodes) rest) h in
     let parent : Option Kind = kind_of (node_at nodes n.parent) in
-    (line_shown (is_seq parent) (depth_among depths n.parent) n.kind n.attrs (in_range n.kind parent n.attrs parts.0), lines_shown nodes ((n.serial, depth_among depths n.parent) ∷ depths) rest parts.1)
+    (line_shown (is_seq_parent parent) (depth_among depths n.parent) n.kind n.attrs (in_range n.kind parent n.attrs parts.0), lines_shown nodes ((n.serial, depth_among depths n.parent) ∷ depths) rest parts.1)
 
 -- a byte that is shown is no line feed
 no_feed : (b : ℕ) → is_shown b ≡ true → eqb b 10 ≡ false

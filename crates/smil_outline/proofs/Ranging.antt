@@ -38,7 +38,6 @@ use Rattle.smil_grammar.specs.Clock.{clock_within}
 use Rattle.smil_grammar.specs.Items.{IsItem}
 use Rattle.smil_grammar.specs.Lists.{is_plain, list_of, IsList}
 use Rattle.smil_grammar.specs.Values.{either, above_zero, short_number_of, thousandths, id_of, attribute_name_of, restart_default_of, fill_default_of, kept_of, dur_of, time_of, repeat_dur_of, count_of, restart_of, fill_of, endsync_of, peers_of, higher_of, lower_of, is_other_value, plain_value_of, value_of}
-use Rattle.smil_grammar.specs.Nodes.{is_seq}
 use Rattle.smil_grammar.specs.Spellings.{IsWithin}
 use Rattle.smil_grammar.specs.Allowed.{name_of, IsAttr, IsAttrs}
 use Rattle.smil_lexis.proofs.Fronts.{Passes}
@@ -47,7 +46,7 @@ use Rattle.smil_time_list.proofs.Printable.{IsEventName, IsWho, Printable, item_
 use Rattle.smil_time_list.proofs.Listed.{list_is}
 use Rattle.smil_attrs.proofs.Readings.{clock_small, length_small, IsLength, number, both, word, value, any_value, listed}
 use Rattle.smil_attrs.proofs.Counts.{IsCount, number_below}
-use Rattle.smil_outline.proofs.Fitting.{IsInRange, seq_same}
+use Rattle.smil_outline.proofs.Fitting.{IsInRange}
 
 -- words
 
@@ -378,11 +377,10 @@ element_ranged in_seq k attrs class h =
     let last = left_out attr.Endsync in_seq (has_endsync k) attrs.endsync (h name.Endsync) in
     rw (g_peers, g_higher, g_lower, p_begin, p_dur, p_end, p_min, p_max, p_repeat_count, p_repeat_dur, p_endsync, p_src, p_region, p_alt, p_title, p_target, p_name, p_to, last, apart) refl
 
-pub ranges : (k : Kind) (parent : Option Kind) (attrs : Attrs) → IsAttrs (is_seq parent) k attrs → fit_kind k parent attrs ≡ true
+pub ranges : (k : Kind) (parent : Option Kind) (attrs : Attrs) → IsAttrs (is_seq_parent parent) k attrs → fit_kind k parent attrs ≡ true
 ranges k parent attrs h =
-    let id = in_range attr.Id is_id (is_seq parent) true (λ x r. r) attrs.id (h name.Id) in
-    let given : IsAttrs (is_seq_parent parent) k attrs = subst (λ (in_seq : Bool). IsAttrs in_seq k attrs) (sym (seq_same parent)) h in
+    let id = in_range attr.Id is_id (is_seq_parent parent) true (λ x r. r) attrs.id (h name.Id) in
     let rest =
     cond_both (is_class_kind k) (not (has_element_attrs attrs) && absent_or is_higher attrs.higher && absent_or is_lower attrs.lower) (not (has_class_attrs attrs) && are_element_values (is_seq_parent parent) attrs && (has_endsync k || not (is_some attrs.endsync)) && not (cond (is_set_kind k) (has_media_attrs attrs) (has_set_attrs attrs)))
-    (λ t. t ≡ true) (λ class. class_ranged (is_seq_parent parent) k attrs class given) (λ class. element_ranged (is_seq_parent parent) k attrs class given) in
+    (λ t. t ≡ true) (λ class. class_ranged (is_seq_parent parent) k attrs class h) (λ class. element_ranged (is_seq_parent parent) k attrs class h) in
     rw (id, rest) refl

@@ -11,10 +11,12 @@ use Rattle.smil_model.specs.declared.document.Attrs.{Attrs}
 use Rattle.smil_model.specs.declared.order.Refusal.{Refusal}
 use Rattle.smil_model.specs.declared.order.Refusal.TheVariants as refusal
 use Rattle.smil_model.specs.document.Limits.{limits}
+use Rattle.smil_model.specs.document.Values.{is_seq_parent}
+use Rattle.smil_model.specs.document.Valid.{may_stand}
 use Rattle.smil_grammar.specs.Results.{◌>>=◌}
 use Rattle.smil_grammar.specs.Attributes.{kind_text, names}
 use Rattle.smil_grammar.specs.Spellings.{value_text, attribute_text, node_text, saved_node_text}
-use Rattle.smil_grammar.specs.Nodes.{Shape, is_space, is_no_space, kind_of_shape, fits_in, is_seq}
+use Rattle.smil_grammar.specs.Nodes.{Shape, is_space, is_no_space, kind_of_shape}
 use Rattle.smil_grammar.specs.Outlines.{Outline, unless, in_line, mixes, has_id, references, attrs_in, last_of, is_bad_serial, opens_saved, shape_in, node_within, shape_within, with_node, with_line}
 use Rattle.smil_attrs.proofs.Noded.{IsShape}
 use Rattle.smil_attrs.proofs.Printed.{behind_kind, saved_parts}
@@ -111,7 +113,7 @@ made serial above k attrs = record { serial = serial; kind = k; parent = unwrap_
 
 -- where a node may stand below these, and what a document can hold
 pub record IsRoom (nodes : List Node) (above : List (ℕ × Kind)) (k : Kind) (attrs : Attrs) : Type 0 where
-  pub fits : fits_in (option_map (λ (n : ℕ × Kind). n.1) (last_of above)) k ≡ true
+  pub fits : may_stand (option_map (λ (n : ℕ × Kind). n.1) (last_of above)) k ≡ true
   pub single_root : (eqb (length above) 0 && ltb 0 (length nodes)) ≡ false
   pub unmixed : mixes nodes (last_of above) k ≡ false
   pub own_id : has_id nodes attrs.id ≡ false
@@ -142,7 +144,7 @@ pub record IsShaped (outline : Outline) (depth serial : ℕ) (k : Kind) (attrs :
   pub later : opens_saved outline line ≡ false
   pub spaces : prefix_len is_space line ≡ 2 * depth
   pub shaped : shape_in outline outline.next (drop (2 * depth) line) ≡ Some (serial, shape)
-  pub is : IsShape (is_seq (option_map (λ (n : ℕ × Kind). n.1) (last_of (take depth outline.branch)))) k attrs shape
+  pub is : IsShape (is_seq_parent (option_map (λ (n : ℕ × Kind). n.1) (last_of (take depth outline.branch)))) k attrs shape
   pub fresh : is_bad_serial outline outline.next serial ≡ false
 
 pub line_read : (outline : Outline) (depth serial : ℕ) (k : Kind) (attrs : Attrs) (line : List ℕ) (shape : Shape) → IsShaped outline depth serial k attrs line shape → depth < 32 → depth ≤ length outline.branch

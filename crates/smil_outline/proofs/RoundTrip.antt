@@ -17,7 +17,7 @@ use Rattle.smil_model.specs.declared.document.Item.TheVariants.{Offset, Sync, Ev
 use Rattle.smil_model.specs.declared.order.Refusal.{Refusal}
 use Rattle.smil_model.specs.document.Document.{Document, is_class_kind, has_id, node_at as node_with}
 use Rattle.smil_model.specs.document.Words.{is_id}
-use Rattle.smil_model.specs.document.Values.{absent_or}
+use Rattle.smil_model.specs.document.Values.{absent_or, is_seq_parent}
 use Rattle.smil_model.specs.document.Defaults.{items_or}
 use Rattle.smil_model.specs.document.Valid.{open_from, IsDistinct, IsTree, IsValid, depth_of, kind_of, may_stand, same_test, agree_with, is_well_placed, has_fitting_attrs, is_other_with, is_id_taken, is_reference, references_of, references as all_references}
 use Rattle.smil_grammar.specs.Results.{◌>>=◌}
@@ -25,7 +25,7 @@ use Rattle.smil_grammar.specs.Spellings.{node_text, saved_node_text, header_text
 use Rattle.smil_grammar.specs.Allowed.{IsAttrs}
 use Rattle.smil_grammar.specs.Attributes.{kind_text}
 use Rattle.smil_grammar.specs.Items.{count_of}
-use Rattle.smil_grammar.specs.Nodes.{Shape, shape_of, saved_shape_of, fits_in, is_seq}
+use Rattle.smil_grammar.specs.Nodes.{Shape, shape_of, saved_shape_of}
 use Rattle.smil_model.specs.declared.limits.TheConstants.{LINE_BYTES}
 use Rattle.smil_grammar.specs.Outlines.{Outline, mixes, differ, has_id as has_id_among, counted, references, last_of, depth_among, lines_from, saved_lines_from, no_lines, with_header, with_line, with_lines, ended, outline_of}
 use Rattle.smil_outline.specs.Numbered.{number_of, renumbered}
@@ -38,47 +38,6 @@ use Rattle.smil_outline.proofs.Reading.{IsRoom, made, IsShaped, line_spaces, lin
 use Rattle.smil_outline.proofs.Parts.{as_header}
 use Rattle.smil_time_list.proofs.Spelled.{count_read}
 use Rattle.smil_outline.proofs.Numbers.{place_of, counted as counted_at, number_is, number_none, number_once, differ_before}
-
--- ---- kinds
-
-alone : (t : Bool) → cond t false true ≡ true → not t ≡ true
-alone false h = refl
-alone true h = absurd cc
-
-nothing : (t : Bool) → cond t false false ≡ true → ⊥
-nothing false h = absurd cc
-nothing true h = absurd cc
-
-root_fits : (k : Kind) → may_stand None k ≡ true → fits_in None k ≡ true
-root_fits kind.Par h = refl
-root_fits kind.Seq h = refl
-root_fits kind.Excl h = refl
-root_fits kind.PriorityClass h = absurd cc
-root_fits kind.Img h = absurd cc
-root_fits kind.Text h = absurd cc
-root_fits kind.Brush h = absurd cc
-root_fits kind.Audio h = absurd cc
-root_fits kind.Video h = absurd cc
-root_fits kind.Animation h = absurd cc
-root_fits kind.TextStream h = absurd cc
-root_fits kind.Ref h = absurd cc
-root_fits kind.Set h = absurd cc
-
-pub stands : (parent : Option Kind) (k : Kind) → may_stand parent k ≡ true → fits_in parent k ≡ true
-stands None k h = root_fits k h
-stands (Some kind.Par) k h = alone (is_class_kind k) h
-stands (Some kind.Seq) k h = alone (is_class_kind k) h
-stands (Some kind.Excl) k h = refl
-stands (Some kind.PriorityClass) k h = alone (is_class_kind k) h
-stands (Some kind.Img) k h = absurd (nothing (is_class_kind k) h)
-stands (Some kind.Text) k h = absurd (nothing (is_class_kind k) h)
-stands (Some kind.Brush) k h = absurd (nothing (is_class_kind k) h)
-stands (Some kind.Audio) k h = absurd (nothing (is_class_kind k) h)
-stands (Some kind.Video) k h = absurd (nothing (is_class_kind k) h)
-stands (Some kind.Animation) k h = absurd (nothing (is_class_kind k) h)
-stands (Some kind.TextStream) k h = absurd (nothing (is_class_kind k) h)
-stands (Some kind.Ref) k h = absurd (nothing (is_class_kind k) h)
-stands (Some kind.Set) k h = absurd (nothing (is_class_kind k) h)
 
 -- ---- lists of nodes
 
@@ -357,7 +316,7 @@ abbrev read : Outline → Result Outline Refusal
 read outline = Ok outline
 
 abbrev in_seq : List (ℕ × Kind) → Bool
-in_seq above = is_seq (option_map (λ (n : ℕ × Kind). n.1) (last_of above))
+in_seq above = is_seq_parent (option_map (λ (n : ℕ × Kind). n.1) (last_of above))
 
 -- a node of this depth may stand below these
 record IsReady (outline : Outline) (depth : ℕ) (above : List (ℕ × Kind)) (k : Kind) (attrs : Attrs) : Type 0 where
@@ -450,7 +409,7 @@ room number document valid before n rest above all is under =
     let few : all_references nodes ≤ 32000 = valid.references in
     let sum : all_references nodes ≡ sum_by references_of (reverse before ++ n ∷ rest) = ap (sum_by references_of) all in
     record {
-      fits = ap (λ (parent : Option Kind). fits_in parent n.kind) under.kind ∙ stands (kind_of (node_with nodes n.parent)) n.kind is.stand;
+      fits = ap (λ (parent : Option Kind). may_stand parent n.kind) under.kind ∙ is.stand;
       single_root = under.single_root;
       unmixed = under.unmixed;
       own_id = free_id number (reverse before) n rest id is.first free;
@@ -518,7 +477,7 @@ module _ (number : ℕ → ℕ) (next : Option ℕ) (document : Document) (befor
         flat = is_sound.flat;
         near = omega (arith, length_branch number document.nodes opened, fewer opened n.parent);
         room = room number document within.valid before n rest above within.all is_sound under;
-        own = subst (λ (parent : Option Kind). IsAttrs (is_seq parent) n.kind n.attrs) (sym under.kind) (fits n.kind (kind_of (node_with document.nodes n.parent)) n.attrs is_sound.fit);
+        own = subst (λ (parent : Option Kind). IsAttrs (is_seq_parent parent) n.kind n.attrs) (sym under.kind) (fits n.kind (kind_of (node_with document.nodes n.parent)) n.attrs is_sound.fit);
       }
 
   -- a line that is shaped as this node's is read as one more node

@@ -11,21 +11,20 @@ use Rattle.std.proofs.lemmas.List.Elements.{All-from_recursion}
 use Rattle.std.proofs.lemmas.List.Sums.{sum_by-append, sum_by-cons}
 use Rattle.std.proofs.lemmas.Slice.Eq.{bytes_eq-Decides}
 use Rattle.smil_model.specs.declared.document.Kind.{Kind}
-use Rattle.smil_model.specs.declared.document.Kind.TheVariants as kind
 use Rattle.smil_model.specs.declared.document.Node.{Node}
 use Rattle.smil_model.specs.declared.document.Attrs.{Attrs}
 use Rattle.smil_model.specs.declared.order.Refusal.{Refusal}
 use Rattle.smil_model.specs.declared.order.Refusal.TheVariants as refusal
 use Rattle.smil_model.specs.document.Document.{Document, is_class_kind, has_id, node_at as node_with}
 use Rattle.smil_model.specs.document.Document.{upwards as lineage_up}
-use Rattle.smil_model.specs.document.Values.{fit_kind}
+use Rattle.smil_model.specs.document.Values.{fit_kind, is_seq_parent}
 use Rattle.smil_model.specs.document.Valid.{open_from, IsDistinct, IsTreeFrom, IsTree, IsValid, depth_of, kind_of, may_stand, same_test, agree_with, is_well_placed, has_fitting_attrs, is_other_with, is_id_taken, references_of}
 use Rattle.smil_grammar.specs.declared.fault.NodeFault.{NodeFault}
 use Rattle.smil_grammar.specs.Results.{◌>>=◌}
 use Rattle.smil_grammar.specs.Allowed.{IsAttrs}
 use Rattle.smil_grammar.specs.Texts.{behind}
 use Rattle.smil_grammar.specs.Items.{count_of}
-use Rattle.smil_grammar.specs.Nodes.{Shape, is_space, is_of_kind, shape_of, with_serial, shape_behind, saved_shape_of, kind_of_shape, fits_in, is_seq}
+use Rattle.smil_grammar.specs.Nodes.{Shape, is_space, is_of_kind, shape_of, with_serial, shape_behind, saved_shape_of, kind_of_shape}
 use Rattle.smil_model.specs.declared.limits.TheConstants.{NODES, DEPTH, REFERENCES, SERIALS, LINE_BYTES}
 use Rattle.smil_model.specs.document.Limits.{limits}
 use Rattle.smil_time_list.proofs.Printable.{IsCounted, count_small}
@@ -80,7 +79,7 @@ pub record IsAdded (old new : Outline) : Type 0 where
   pub near : depth ≤ length old.branch
   pub flat : depth < 32
   pub room : IsRoom old.nodes (take depth old.branch) kind attrs
-  pub allowed : IsAttrs (is_seq (option_map (λ (n : ℕ × Kind). n.1) (last_of (take depth old.branch)))) kind attrs
+  pub allowed : IsAttrs (is_seq_parent (option_map (λ (n : ℕ × Kind). n.1) (last_of (take depth old.branch)))) kind attrs
   pub is : new ≡ outline_with old depth (made serial (take depth old.branch) kind attrs)
 
 -- what a header adds
@@ -123,9 +122,9 @@ node_added outline new spaces serial k shape given_serial near flat h =
     let own = goes (has_id_among outline.nodes attrs.value.id) refusal.DuplicateId _ whole.value attrs.rest in
     let few = goes (leb NODES (length outline.nodes)) refusal.TooManyElements _ whole.value own.1 in
     let light = goes (ltb REFERENCES (sum_by (λ (n : Node). references n.attrs) outline.nodes + references attrs.value)) refusal.TooManyReferences _ whole.value few.1 in
-    let last = or_parts (not (fits_in (option_map (λ (n : ℕ × Kind). n.1) (last_of above)) k) || (eqb (length above) 0 && ltb 0 (length outline.nodes))) (mixes outline.nodes (last_of above) k) placed.0 in
-    let first = or_parts (not (fits_in (option_map (λ (n : ℕ × Kind). n.1) (last_of above)) k)) (eqb (length above) 0 && ltb 0 (length outline.nodes)) last.0 in
-    let fits : fits_in (option_map (λ (n : ℕ × Kind). n.1) (last_of above)) k ≡ true = not-false _ first.0 in
+    let last = or_parts (not (may_stand (option_map (λ (n : ℕ × Kind). n.1) (last_of above)) k) || (eqb (length above) 0 && ltb 0 (length outline.nodes))) (mixes outline.nodes (last_of above) k) placed.0 in
+    let first = or_parts (not (may_stand (option_map (λ (n : ℕ × Kind). n.1) (last_of above)) k)) (eqb (length above) 0 && ltb 0 (length outline.nodes)) last.0 in
+    let fits : may_stand (option_map (λ (n : ℕ × Kind). n.1) (last_of above)) k ≡ true = not-false _ first.0 in
     let node : made serial above k attrs.value ≡ whole.value = cc (light.1) in
     let all : outline_with outline (spaces / 2) whole.value ≡ new = cc (whole.rest) in
     record {
@@ -137,7 +136,7 @@ node_added outline new spaces serial k shape given_serial near flat h =
       near = near;
       flat = flat;
       room = record { fits = fits; single_root = first.1; unmixed = last.1; own_id = own.0; few = leb-false _ _ few.0; light = ltb-false _ _ light.0 };
-      allowed = attrs_had_from (is_seq (option_map (λ (n : ℕ × Kind). n.1) (last_of above))) k shape.attributes attrs.value attrs.is;
+      allowed = attrs_had_from (is_seq_parent (option_map (λ (n : ℕ × Kind). n.1) (last_of above))) k shape.attributes attrs.value attrs.is;
       is = sym (ap (outline_with outline (spaces / 2)) node ∙ all);
     }
 
@@ -426,45 +425,6 @@ kind_kept (m ∷ nodes) x serial k h = by m nodes x serial k (eqb m.serial seria
 
 -- ---- where a node is put
 
-back_alone : (t : Bool) → not t ≡ true → cond t false true ≡ true
-back_alone false h = refl
-back_alone true h = absurd cc
-
-both_ways : (t : Bool) → cond t true true ≡ true
-both_ways false = refl
-both_ways true = refl
-
-root_stands : (k : Kind) → fits_in None k ≡ true → may_stand None k ≡ true
-root_stands kind.Par h = refl
-root_stands kind.Seq h = refl
-root_stands kind.Excl h = refl
-root_stands kind.PriorityClass h = absurd cc
-root_stands kind.Img h = absurd cc
-root_stands kind.Text h = absurd cc
-root_stands kind.Brush h = absurd cc
-root_stands kind.Audio h = absurd cc
-root_stands kind.Video h = absurd cc
-root_stands kind.Animation h = absurd cc
-root_stands kind.TextStream h = absurd cc
-root_stands kind.Ref h = absurd cc
-root_stands kind.Set h = absurd cc
-
-back_stands : (parent : Option Kind) (k : Kind) → fits_in parent k ≡ true → may_stand parent k ≡ true
-back_stands None k h = root_stands k h
-back_stands (Some kind.Par) k h = back_alone (is_class_kind k) h
-back_stands (Some kind.Seq) k h = back_alone (is_class_kind k) h
-back_stands (Some kind.Excl) k h = both_ways (is_class_kind k)
-back_stands (Some kind.PriorityClass) k h = back_alone (is_class_kind k) h
-back_stands (Some kind.Img) k h = absurd cc
-back_stands (Some kind.Text) k h = absurd cc
-back_stands (Some kind.Brush) k h = absurd cc
-back_stands (Some kind.Audio) k h = absurd cc
-back_stands (Some kind.Video) k h = absurd cc
-back_stands (Some kind.Animation) k h = absurd cc
-back_stands (Some kind.TextStream) k h = absurd cc
-back_stands (Some kind.Ref) k h = absurd cc
-back_stands (Some kind.Set) k h = absurd cc
-
 same_of : (a b : Bool) → differ a b ≡ false → same_test a b ≡ true
 same_of true true h = refl
 same_of true false h = absurd cc
@@ -585,8 +545,8 @@ same_sums (n ∷ nodes) = omega (arith, sum_by-cons (λ (n : Node). references n
 -- what a line asks of the node it adds
 record IsFit (nodes : List Node) (above : List (ℕ × Kind)) (x : Node) : Type 0 where
   flat : length above < 32
-  fits : fits_in (option_map (λ (n : ℕ × Kind). n.1) (last_of above)) x.kind ≡ true
-  allowed : IsAttrs (is_seq (option_map (λ (n : ℕ × Kind). n.1) (last_of above))) x.kind x.attrs
+  fits : may_stand (option_map (λ (n : ℕ × Kind). n.1) (last_of above)) x.kind ≡ true
+  allowed : IsAttrs (is_seq_parent (option_map (λ (n : ℕ × Kind). n.1) (last_of above))) x.kind x.attrs
   free : has_id_among nodes x.attrs.id ≡ false
   few : length nodes < NODES
   light : sum_by (λ (n : Node). references n.attrs) nodes + references x.attrs ≤ REFERENCES
@@ -602,9 +562,9 @@ new_settled nodes branch above x walked put fit =
       early = known_self nodes x;
       parent = known_on nodes x x.parent put.parent;
       flat = lt-ltb _ _ (omega (arith, fit.flat));
-      stand = ap (λ (parent : Option Kind). may_stand parent x.kind) same ∙ back_stands (option_map (λ (n : ℕ × Kind). n.1) (last_of above)) x.kind fit.fits;
+      stand = ap (λ (parent : Option Kind). may_stand parent x.kind) same ∙ fit.fits;
       agree = all_on (λ (m : Node). not (eqb m.parent x.parent) || same_test (is_class_kind m.kind) (is_class_kind x.kind)) nodes x put.alike_before (or_true (not (eqb x.parent x.parent)) _ (same_self (is_class_kind x.kind)));
-      fit = ranges x.kind (kind_of (node_with (nodes ++ x ∷ []) x.parent)) x.attrs (subst (λ (parent : Option Kind). IsAttrs (is_seq parent) x.kind x.attrs) (sym same) fit.allowed);
+      fit = ranges x.kind (kind_of (node_with (nodes ++ x ∷ []) x.parent)) x.attrs (subst (λ (parent : Option Kind). IsAttrs (is_seq_parent parent) x.kind x.attrs) (sym same) fit.allowed);
       free = taken_on nodes x x.serial x.attrs.id (new_free nodes x.serial x.attrs.id fit.free) (λ id e. rw own refl);
     }
 

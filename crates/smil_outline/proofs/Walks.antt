@@ -11,9 +11,9 @@ use Rattle.smil_model.specs.declared.document.Node.{Node}
 use Rattle.smil_model.specs.declared.document.Kind.{Kind}
 use Rattle.smil_model.specs.document.Document.{Document, upwards, node_at as node_with}
 use Rattle.smil_model.specs.document.Valid.{open_from, IsTreeFrom, IsTree, IsDistinct, IsValid, depth_of, kind_of, may_stand, agree_with, is_well_placed, has_fitting_attrs}
+use Rattle.smil_model.specs.document.Values.{is_seq_parent}
 use Rattle.smil_grammar.specs.Spellings.{Begins}
 use Rattle.smil_outline.specs.Written.{line_text, lines_behind}
-use Rattle.smil_grammar.specs.Nodes.{is_seq}
 use Rattle.smil_grammar.specs.Allowed.{IsAttrs}
 use Rattle.smil_grammar.specs.Outlines.{depth_among}
 use Rattle.smil_lexis.proofs.Growing.{begins_on}
@@ -220,7 +220,7 @@ is_shallow document place opened n valid e h =
 pub can_write_at : (document : Document) (place : ℕ) (n : Node) → IsValid document → slice_get document.nodes place ≡ Some n → IsAttrs false n.kind n.attrs
 can_write_at document place n valid e =
     let parent : Option Kind = kind_of (node_with document.nodes n.parent) in
-    attrs_anywhere (is_seq parent) n.kind n.attrs (fits n.kind parent n.attrs (passes_at (has_fitting_attrs document.nodes) document.nodes place n e valid.fitting))
+    attrs_anywhere (is_seq_parent parent) n.kind n.attrs (fits n.kind parent n.attrs (passes_at (has_fitting_attrs document.nodes) document.nodes place n e valid.fitting))
 
 pub none_left : (nodes : List Node) (place : ℕ) → slice_get nodes place ≡ None → place < length nodes → ⊥
 none_left nodes place e lt = elim (slice_get_cases nodes place).1 [

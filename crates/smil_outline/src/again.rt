@@ -5,10 +5,9 @@ ghost use Rattle.smil_model.specs.declared.limits.TheConstants.{LINE_BYTES};
 ghost use Rattle.std.specs.List.{slice_split};
 ghost use Rattle.smil_model.specs.declared.document.Kind.{Kind};
 ghost use Rattle.smil_model.specs.declared.document.Attrs.{Attrs};
-ghost use Rattle.smil_model.specs.document.Values.{fit_kind};
+ghost use Rattle.smil_model.specs.document.Values.{fit_kind, is_seq_parent};
 ghost use Rattle.smil_model.specs.document.Document.{Document};
 ghost use Rattle.smil_model.specs.document.Valid.{IsValid};
-ghost use Rattle.smil_grammar.specs.Nodes.{is_seq};
 ghost use Rattle.smil_grammar.specs.Allowed.{IsAttrs};
 ghost use Rattle.smil_grammar.specs.Outlines.{lines_from, outline_text, outline_of};
 ghost use Rattle.smil_outline.specs.Numbered.{renumbered};
@@ -19,9 +18,9 @@ ghost use Rattle.smil_outline.specs.Migration.{LinesMigrate, OutlinesMigrate};
 /// kind's and some text is read as it.
 pub fn attrs_fit()
     ensures can_write { (kind : Kind) (parent : Option Kind) (attrs : Attrs)
-        → fit_kind kind parent attrs ≡ true → IsAttrs (is_seq parent) kind attrs }
+        → fit_kind kind parent attrs ≡ true → IsAttrs (is_seq_parent parent) kind attrs }
     ensures is_read { (kind : Kind) (parent : Option Kind) (attrs : Attrs)
-        → IsAttrs (is_seq parent) kind attrs → fit_kind kind parent attrs ≡ true }
+        → IsAttrs (is_seq_parent parent) kind attrs → fit_kind kind parent attrs ≡ true }
 {}
 
 /// The canonical outline of a valid document, cut at its line feeds, is its node lines and an empty

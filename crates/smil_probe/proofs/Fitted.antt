@@ -8,9 +8,9 @@ use Rattle.smil_model.specs.declared.document.Attrs.{Attrs}
 use Rattle.smil_model.specs.document.Document.{Document, node_at, serial_of}
 use Rattle.smil_model.specs.document.Edits.{with_attr}
 use Rattle.smil_model.specs.document.Valid.{IsValid, kind_of}
-use Rattle.smil_model.specs.document.Values.{fit_kind}
+use Rattle.smil_model.specs.document.Values.{fit_kind, is_seq_parent}
 use Rattle.smil_model.specs.happening.Queue.{parent_of}
-use Rattle.smil_grammar.specs.Nodes.{attribute_of, is_seq, node_of}
+use Rattle.smil_grammar.specs.Nodes.{attribute_of, node_of}
 use Rattle.smil_attrs.proofs.Kept.{with_stays}
 use Rattle.smil_attrs.proofs.Noded.{attribute_is, node_is}
 use Rattle.smil_laws.proofs.Rounds.{find-serial}
@@ -34,20 +34,20 @@ there nodes s some = by_node (node_at nodes s) refl some
 kind_there : (nodes : List Node) (s : ℕ) (n : Node) (kind : Kind) → node_at nodes s ≡ Some n → Some kind ≡ kind_of (node_at nodes s) → kind ≡ n.kind
 kind_there nodes s n kind at is = let found : Some kind ≡ Some n.kind = is ∙ ap kind_of at in cc
 
-given_fits : (k : Kind) (parent : Option Kind) (attrs : Attrs) (name value : List ℕ) (given : Attr) → fit_kind k parent attrs ≡ true → attribute_of (is_seq parent) k name value ≡ Ok given → fit_kind k parent (with_attr attrs given) ≡ true
+given_fits : (k : Kind) (parent : Option Kind) (attrs : Attrs) (name value : List ℕ) (given : Attr) → fit_kind k parent attrs ≡ true → attribute_of (is_seq_parent parent) k name value ≡ Ok given → fit_kind k parent (with_attr attrs given) ≡ true
 given_fits k parent attrs name value given fit read =
-    let had = attribute_is (is_seq parent) k name value given read in
-    ranges k parent (with_attr attrs given) (with_stays (is_seq parent) k attrs given (fits k parent attrs fit) had.0 had.1)
+    let had = attribute_is (is_seq_parent parent) k name value given read in
+    ranges k parent (with_attr attrs given) (with_stays (is_seq_parent parent) k attrs given (fits k parent attrs fit) had.0 had.1)
 
 -- an attribute of a node that is read for its kind and its parent's
-pub may_take_read : (d : Document) (s : ℕ) (kind : Kind) (parent : Option Kind) (name value : List ℕ) (given : Attr) → IsValid d → IsSome (node_at d.nodes s) → Some kind ≡ kind_of (node_at d.nodes s) → ((n : Node) → node_at d.nodes s ≡ Some n → parent ≡ kind_of (node_at d.nodes n.parent)) → attribute_of (is_seq parent) kind name value ≡ Ok given → may_take d.nodes s given ≡ true
+pub may_take_read : (d : Document) (s : ℕ) (kind : Kind) (parent : Option Kind) (name value : List ℕ) (given : Attr) → IsValid d → IsSome (node_at d.nodes s) → Some kind ≡ kind_of (node_at d.nodes s) → ((n : Node) → node_at d.nodes s ≡ Some n → parent ≡ kind_of (node_at d.nodes n.parent)) → attribute_of (is_seq_parent parent) kind name value ≡ Ok given → may_take d.nodes s given ≡ true
 may_take_read d s kind parent name value given valid some kind_is parent_is read =
     let n : There d.nodes s = there d.nodes s some in
     let above : Option Kind = kind_of (node_at d.nodes n.node.parent) in
     let own : kind ≡ n.node.kind = kind_there d.nodes s n.node kind n.at kind_is in
     ap (λ (o : Option Node). passes (λ (m : Node). fit_kind m.kind (kind_of (node_at d.nodes m.parent)) (with_attr m.attrs given)) o) n.at
     ∙ given_fits n.node.kind above n.node.attrs name value given (fits_at d.nodes s n.node valid.fitting n.at)
-    (ap (λ p. attribute_of (is_seq p) n.node.kind name value) (sym (parent_is n.node n.at)) ∙ ap (λ k. attribute_of (is_seq parent) k name value) (sym own) ∙ read)
+    (ap (λ p. attribute_of (is_seq_parent p) n.node.kind name value) (sym (parent_is n.node n.at)) ∙ ap (λ k. attribute_of (is_seq_parent parent) k name value) (sym own) ∙ read)
 
 -- a node line that is read for a child of a node
 pub may_bear_read : (nodes : List Node) (s : ℕ) (parent kind : Kind) (line : List ℕ) (attrs : Attrs) → IsSome (node_at nodes s) → Some parent ≡ kind_of (node_at nodes s) → node_of (Some parent) line ≡ Ok (kind, attrs) → may_bear nodes s kind attrs ≡ true

@@ -21,6 +21,7 @@ use Rattle.smil_model.specs.document.Limits.{Limits}
 use Rattle.smil_model.specs.document.Valid.{is_id_taken, kind_of, references}
 use Rattle.smil_model.specs.shown.Orders.{Presentation, and_then, unless as model_unless, id_in, kept_where, unless_too_full, course_of, at_moment_with, with_logged, node_of as node_of_who, found as node_found, on_node, set_checked, attr_set_by, attr_unset_by, may_insert, insert_checked, node_inserted_by, node_removed_from, resolved_with, opened_within, outcome_within}
 use Rattle.smil_model.specs.happening.Resolution.{diary_within}
+use Rattle.smil_model.specs.document.Values.{is_seq_parent}
 use Rattle.smil_grammar.specs.declared.read.Read.{Read}
 use Rattle.smil_grammar.specs.declared.read.Read.TheVariants.{Blank, Load, Close, To}
 use Rattle.smil_grammar.specs.declared.fault.NodeFault.{NodeFault}
@@ -28,7 +29,7 @@ use Rattle.smil_grammar.specs.declared.fault.NodeFault.TheVariants as fault
 use Rattle.smil_grammar.specs.Results.{◌>>=◌}
 use Rattle.smil_grammar.specs.Scripts.{Word, Reading, given, timed, end_timed, finish, or_refused, to, named, is_title, order_line, command, first_of, line_of}
 use Rattle.smil_grammar.specs.Formats.{formats, written_at}
-use Rattle.smil_grammar.specs.Nodes.{Shape, is_space, is_seq, shape_of, kind_of_shape}
+use Rattle.smil_grammar.specs.Nodes.{Shape, is_space, shape_of, kind_of_shape}
 use Rattle.smil_grammar.specs.Outlines.{Outline, no_lines, unless, is_misplaced, is_bad_serial, has_id, references as attr_references, in_line, attrs_in, last_of, node_within, opens_saved, shape_in, with_header, header_of, shape_within, read_within, line_within, ended, with_node}
 use Rattle.smil_top.specs.Cut.{Numbered, LoadLines, OrderLines, single, load}
 use Rattle.smil_top.specs.Session.{Session, presentation_of, may_load}
@@ -90,7 +91,7 @@ node_within_sure : (allowed : Limits) (outline : Outline) (spaces : ℕ) (above 
 node_within_sure allowed outline spaces above kind serial shape =
     behind (is_misplaced outline above kind) refusal.BadPlace (λ _. with_attrs outline spaces above kind serial shape allowed) refl
     (λ _. onward is_memory (in_line spaces (attrs_in (last_of above) kind shape)) (with_id outline above kind serial allowed)
-    (in_line_sure spaces _ (attrs_sure (is_seq (option_map (λ (n : ℕ × Kind). n.1) (last_of above))) kind no_attrs shape.attributes))
+    (in_line_sure spaces _ (attrs_sure (is_seq_parent (option_map (λ (n : ℕ × Kind). n.1) (last_of above))) kind no_attrs shape.attributes))
     (λ attrs. behind (has_id outline.nodes attrs.id) refusal.DuplicateId (λ _. counted outline allowed attrs (node_made serial above kind attrs)) refl
     (λ _. counted_sure outline allowed attrs (node_made serial above kind attrs))))
 
@@ -219,7 +220,7 @@ may_sure document n place kind = checked _ refusal.TooDeep kind _ refl (λ k. ch
 
 attr_set_sure : (allowed : Limits) (document : Document) (n : Node) (name value : List ℕ) (name_column column : ℕ) → Fine (attr_set_by allowed formats document n name value name_column column)
 attr_set_sure allowed document n name value name_column column =
-    model_onward _ (set_checked allowed document n) (in_line_sure 0 _ (attr_sure (is_seq (kind_of (node_at document.nodes n.parent))) n.kind (written_at name value name_column column))) (set_sure allowed document n)
+    model_onward _ (set_checked allowed document n) (in_line_sure 0 _ (attr_sure (is_seq_parent (kind_of (node_at document.nodes n.parent))) n.kind (written_at name value name_column column))) (set_sure allowed document n)
 
 attr_unset_sure : (document : Document) (n : Node) (name : List ℕ) (column : ℕ) → Fine (attr_unset_by formats document n name column)
 attr_unset_sure document n name column = model_onward _ _ (in_line_sure 0 _ (column_sure (written_at name [] column column) _ (name_sure n.kind name))) (λ chosen. made is_memory _)

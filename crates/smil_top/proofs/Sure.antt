@@ -24,8 +24,9 @@ use Rattle.smil_grammar.specs.Words.{id_len}
 use Rattle.smil_grammar.specs.Lists.{item_at, piece_at, items_from, pieces_of, few_items, list_of}
 use Rattle.smil_grammar.specs.Values.{of_list, of_value, plain_value_of, value_of}
 use Rattle.smil_grammar.specs.Attributes.{attr_name_of, name_or, is_other_name}
-use Rattle.smil_grammar.specs.Nodes.{Written, Shape, at_column, attribute_of, attr_of, attrs_from, attrs_of, kind_or, kind_of_shape, kind_of, node_of, shape_of, is_seq}
+use Rattle.smil_grammar.specs.Nodes.{Written, Shape, at_column, attribute_of, attr_of, attrs_from, attrs_of, kind_or, kind_of_shape, kind_of, node_of, shape_of}
 use Rattle.smil_model.specs.document.Edits.{no_attrs, with_attr}
+use Rattle.smil_model.specs.document.Values.{is_seq_parent}
 
 -- ---- results that are not refused for a cause
 
@@ -189,7 +190,7 @@ attrs_of_sure : (parent : Option Kind) (kind : Kind) (shape : Option Shape) → 
 attrs_of_sure parent kind None = refused node_lacks node.BadOutline refl
 attrs_of_sure parent kind (Some shape) =
     either node_lacks _ _ _
-    (onward node_lacks (attrs_from (is_seq parent) kind no_attrs shape.attributes) (λ attrs. Ok (kind, attrs)) (attrs_sure (is_seq parent) kind no_attrs shape.attributes) (λ attrs. made node_lacks (kind, attrs)))
+    (onward node_lacks (attrs_from (is_seq_parent parent) kind no_attrs shape.attributes) (λ attrs. Ok (kind, attrs)) (attrs_sure (is_seq_parent parent) kind no_attrs shape.attributes) (λ attrs. made node_lacks (kind, attrs)))
     (refused node_lacks node.BadPlace refl)
 
 kind_or_sure : (word : List ℕ) (o : Option Kind) → Sure node_lacks (kind_or word o)

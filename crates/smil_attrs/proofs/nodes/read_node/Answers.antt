@@ -1,6 +1,6 @@
-use Rattle.smil_grammar.specs.Nodes.{is_seq}
+use Rattle.smil_model.specs.document.Values.{is_seq_parent}
 use Rattle.smil_attrs.proofs.Noded.{attrs_allowed}
 use Rattle.smil_attrs.proofs.nodes.read_node.Goals as goal
 
 pub returns-clause-can_write : goal.returns-clause-can_write
-returns-clause-can_write c = attrs_allowed (is_seq c.args.parent) c.in_ok-kind.kind c.in-Some.shape.attributes c.in_ok-attrs.attrs c.in_ok-attrs.ensures
+returns-clause-can_write c = attrs_allowed (is_seq_parent c.args.parent) c.in_ok-kind.kind c.in-Some.shape.attributes c.in_ok-attrs.attrs c.in_ok-attrs.ensures

@@ -1,13 +1,14 @@
 use Rattle.std.proofs.Common.{◌≡◌, length, IsSome}
 use Rattle.smil_model.specs.document.Edits.{no_attrs}
-use Rattle.smil_grammar.specs.Nodes.{attrs_from, is_seq}
+use Rattle.smil_model.specs.document.Values.{is_seq_parent}
+use Rattle.smil_grammar.specs.Nodes.{attrs_from}
 use Rattle.smil_attrs.specs.Left.{attributes_in, written_in}
 use Rattle.smil_attrs.proofs.nodes.shape_attrs.Given as goal
 
 abbrev pub invariant-loop-written : goal.invariant-loop-written
 invariant-loop-written l = record {
   shaped : IsSome (attributes_in l.left);
-  same : attrs_from (is_seq l.parent) l.kind l.attrs (written_in l.left) ≡ attrs_from (is_seq l.parent) l.kind no_attrs l.fn.shape.attributes;
+  same : attrs_from (is_seq_parent l.parent) l.kind l.attrs (written_in l.left) ≡ attrs_from (is_seq_parent l.parent) l.kind no_attrs l.fn.shape.attributes;
 }
 
 abbrev pub decreases-loop-written : goal.decreases-loop-written
