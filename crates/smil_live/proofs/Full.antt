@@ -4,6 +4,7 @@ use Rattle.std.specs.Prelude.{cond, pos, int_le, nat_le, slice_get, ◌&&◌}
 use Rattle.std.specs.List.{AllByRecursion}
 use Rattle.std.proofs.lemmas.List.{append-nil}
 use Rattle.std.proofs.lemmas.Int.{ints}
+use Rattle.std.proofs.lemmas.Bool.{and_parts}
 use Rattle.smil_model.specs.declared.diary.LogEntry.{LogEntry}
 use Rattle.smil_model.specs.declared.limits.TheConstants.{DIARY_ENTRIES}
 use Rattle.smil_model.specs.document.Document.{Document}
@@ -63,20 +64,12 @@ pub full_by_first : (d : Document) (log : List LogEntry) (k last later : ℕ) �
 full_by_first d log k last later numbered after further e =
     subst (λ (l : List LogEntry). diary_of (course_on d.nodes l later) ≡ None) (whole log k) (full_further d (take k log) (drop k log) last later numbered after further e)
 
-left : (s t : Bool) → s && t ≡ true → s ≡ true
-left true t p = cc
-left false t p = p
-
-right : (s t : Bool) → s && t ≡ true → t ≡ true
-right true t p = p
-right false t p = cc
-
 -- the moments of a log do not fall
 pub rising_from : (from : ℤ) (log : List LogEntry) → moments_rise from log ≡ true → AreFrom from log
 rising_from from [] q = tt
 rising_from from (x ∷ xs) q =
-    let here = left (int_le from x.moment) (moments_rise x.moment xs) q in
-    let rest = right (int_le from x.moment) (moments_rise x.moment xs) q in
+    let here = (and_parts (int_le from x.moment) (moments_rise x.moment xs) q).0 in
+    let rest = (and_parts (int_le from x.moment) (moments_rise x.moment xs) q).1 in
     (here, from_sooner from x.moment xs here (rising_from x.moment xs rest))
 
 at_or_before : (x : ℤ) → int_le x x ≡ true
@@ -87,14 +80,14 @@ pub rising_at : (from : ℤ) (log : List LogEntry) (k : ℕ) (entry : LogEntry) 
 rising_at from [] k entry q e = cc
 rising_at from (x ∷ xs) zero entry q e =
     let one : x ≡ entry = cc in
-    let rest = right (int_le from x.moment) (moments_rise x.moment xs) q in
+    let rest = (and_parts (int_le from x.moment) (moments_rise x.moment xs) q).1 in
     subst (λ (y : LogEntry). AreFrom y.moment (x ∷ xs)) one (at_or_before x.moment, rising_from x.moment xs rest)
-rising_at from (x ∷ xs) (suc k) entry q e = rising_at x.moment xs k entry (right (int_le from x.moment) (moments_rise x.moment xs) q) e
+rising_at from (x ∷ xs) (suc k) entry q e = rising_at x.moment xs k entry (and_parts (int_le from x.moment) (moments_rise x.moment xs) q).1 e
 
 pub rising_behind : (from : ℤ) (log : List LogEntry) (k : ℕ) (entry : LogEntry) → moments_rise from log ≡ true → slice_get log k ≡ Some entry → AreFrom entry.moment (drop (suc k) log)
 rising_behind from [] k entry q e = cc
 rising_behind from (x ∷ xs) zero entry q e =
     let one : x ≡ entry = cc in
-    let rest = right (int_le from x.moment) (moments_rise x.moment xs) q in
+    let rest = (and_parts (int_le from x.moment) (moments_rise x.moment xs) q).1 in
     subst (λ (y : LogEntry). AreFrom y.moment xs) one (rising_from x.moment xs rest)
-rising_behind from (x ∷ xs) (suc k) entry q e = rising_behind x.moment xs k entry (right (int_le from x.moment) (moments_rise x.moment xs) q) e
+rising_behind from (x ∷ xs) (suc k) entry q e = rising_behind x.moment xs k entry (and_parts (int_le from x.moment) (moments_rise x.moment xs) q).1 e

@@ -3,6 +3,7 @@ use Rattle.std.proofs.Common.{◌≡◌, refl, ◌∙◌, ap, ℕ, suc, zero, �
 use Rattle.std.specs.Prelude.{◌&&◌, pos, int_le, ◌≤ℤ◌}
 use Rattle.std.specs.List.{list_all}
 use Rattle.std.proofs.lemmas.Int.{ints}
+use Rattle.std.proofs.lemmas.Bool.{and_from, and_parts}
 use Rattle.smil_model.specs.declared.diary.LogEntry.{LogEntry}
 use Rattle.smil_model.specs.declared.times.TheConstants.{HORIZON}
 use Rattle.smil_model.specs.diary.Logs.{is_log, is_logged_by, may_happen, moments_rise}
@@ -14,17 +15,6 @@ no_less x y l = grind (arith, ints)
 
 at_most : (x y : ℤ) → int_le x y ≡ true → x ≤ℤ y
 at_most x y q = grind (arith, ints)
-
-both : (s t : Bool) → s ≡ true → t ≡ true → s && t ≡ true
-both s t p q = ap (λ a. a && t) p ∙ q
-
-left : (s t : Bool) → s && t ≡ true → s ≡ true
-left true t p = cc
-left false t p = p
-
-right : (s t : Bool) → s && t ≡ true → t ≡ true
-right true t p = p
-right false t p = cc
 
 -- a state is not beyond the horizon
 pub within_horizon : (p : Presentation) → IsState p → pos p.now ≤ℤ HORIZON
@@ -42,16 +32,16 @@ state_moved p n state from within = record {
 -- ---- with one more entry
 
 rises_more : (from m : ℤ) (log : List LogEntry) (entry : LogEntry) → moments_rise from log ≡ true → is_logged_by m log ≡ true → int_le from m ≡ true → entry.moment ≡ m → moments_rise from (log ++ entry ∷ []) ≡ true
-rises_more from m [] entry q l f e = both (int_le from entry.moment) true (ap (int_le from) e ∙ f) refl
+rises_more from m [] entry q l f e = and_from (int_le from entry.moment) true (ap (int_le from) e ∙ f) refl
 rises_more from m (x ∷ xs) entry q l f e =
-    both (int_le from x.moment) (moments_rise x.moment (xs ++ entry ∷ []))
-    (left (int_le from x.moment) (moments_rise x.moment xs) q)
-    (rises_more x.moment m xs entry (right (int_le from x.moment) (moments_rise x.moment xs) q) (right (int_le x.moment m) (is_logged_by m xs) l) (left (int_le x.moment m) (is_logged_by m xs) l) e)
+    and_from (int_le from x.moment) (moments_rise x.moment (xs ++ entry ∷ []))
+    (and_parts (int_le from x.moment) (moments_rise x.moment xs) q).0
+    (rises_more x.moment m xs entry (and_parts (int_le from x.moment) (moments_rise x.moment xs) q).1 (and_parts (int_le x.moment m) (is_logged_by m xs) l).1 (and_parts (int_le x.moment m) (is_logged_by m xs) l).0 e)
 
 all_more : (test : LogEntry → Bool) (log : List LogEntry) (entry : LogEntry) → list_all test log ≡ true → test entry ≡ true → list_all test (log ++ entry ∷ []) ≡ true
-all_more test [] entry q t = both (test entry) true t refl
+all_more test [] entry q t = and_from (test entry) true t refl
 all_more test (x ∷ xs) entry q t =
-    both (test x) (list_all test (xs ++ entry ∷ [])) (left (test x) (list_all test xs) q) (all_more test xs entry (right (test x) (list_all test xs) q) t)
+    and_from (test x) (list_all test (xs ++ entry ∷ [])) (and_parts (test x) (list_all test xs) q).0 (all_more test xs entry (and_parts (test x) (list_all test xs) q).1 t)
 
 from_start : (n : ℕ) → int_le (pos 0) (pos n) ≡ true
 from_start n = grind (arith, ints)
@@ -64,9 +54,9 @@ pub state_logged : (p : Presentation) (entry : LogEntry) → IsState p → entry
 state_logged p entry state here may = record {
   document = state.document;
   log =
-      both (moments_rise (pos 0) (p.log ++ entry ∷ [])) (list_all (λ (x : LogEntry). may_happen x.what) (p.log ++ entry ∷ []))
-      (rises_more (pos 0) (pos p.now) p.log entry (left (moments_rise (pos 0) p.log) (list_all (λ (x : LogEntry). may_happen x.what) p.log) state.log) state.logged (from_start p.now) here)
-      (all_more (λ (x : LogEntry). may_happen x.what) p.log entry (right (moments_rise (pos 0) p.log) (list_all (λ (x : LogEntry). may_happen x.what) p.log) state.log) may);
+      and_from (moments_rise (pos 0) (p.log ++ entry ∷ [])) (list_all (λ (x : LogEntry). may_happen x.what) (p.log ++ entry ∷ []))
+      (rises_more (pos 0) (pos p.now) p.log entry (and_parts (moments_rise (pos 0) p.log) (list_all (λ (x : LogEntry). may_happen x.what) p.log) state.log).0 state.logged (from_start p.now) here)
+      (all_more (λ (x : LogEntry). may_happen x.what) p.log entry (and_parts (moments_rise (pos 0) p.log) (list_all (λ (x : LogEntry). may_happen x.what) p.log) state.log).1 may);
   logged = all_more (λ (x : LogEntry). int_le x.moment (pos p.now)) p.log entry state.logged (at_or_before entry.moment (pos p.now) here);
   now = state.now;
 }
@@ -78,20 +68,20 @@ first_all test zero [] q = refl
 first_all test zero (x ∷ xs) q = refl
 first_all test (suc len) [] q = refl
 first_all test (suc len) (x ∷ xs) q =
-    both (test x) (list_all test (take len xs)) (left (test x) (list_all test xs) q) (first_all test len xs (right (test x) (list_all test xs) q))
+    and_from (test x) (list_all test (take len xs)) (and_parts (test x) (list_all test xs) q).0 (first_all test len xs (and_parts (test x) (list_all test xs) q).1)
 
 first_rises : (from : ℤ) (len : ℕ) (log : List LogEntry) → moments_rise from log ≡ true → moments_rise from (take len log) ≡ true
 first_rises from zero [] q = refl
 first_rises from zero (x ∷ xs) q = refl
 first_rises from (suc len) [] q = refl
 first_rises from (suc len) (x ∷ xs) q =
-    both (int_le from x.moment) (moments_rise x.moment (take len xs)) (left (int_le from x.moment) (moments_rise x.moment xs) q) (first_rises x.moment len xs (right (int_le from x.moment) (moments_rise x.moment xs) q))
+    and_from (int_le from x.moment) (moments_rise x.moment (take len xs)) (and_parts (int_le from x.moment) (moments_rise x.moment xs) q).0 (first_rises x.moment len xs (and_parts (int_le from x.moment) (moments_rise x.moment xs) q).1)
 
 pub first_is_log : (len : ℕ) (log : List LogEntry) → is_log log ≡ true → is_log (take len log) ≡ true
 first_is_log len log q =
-    both (moments_rise (pos 0) (take len log)) (list_all (λ (x : LogEntry). may_happen x.what) (take len log))
-    (first_rises (pos 0) len log (left (moments_rise (pos 0) log) (list_all (λ (x : LogEntry). may_happen x.what) log) q))
-    (first_all (λ (x : LogEntry). may_happen x.what) len log (right (moments_rise (pos 0) log) (list_all (λ (x : LogEntry). may_happen x.what) log) q))
+    and_from (moments_rise (pos 0) (take len log)) (list_all (λ (x : LogEntry). may_happen x.what) (take len log))
+    (first_rises (pos 0) len log (and_parts (moments_rise (pos 0) log) (list_all (λ (x : LogEntry). may_happen x.what) log) q).0)
+    (first_all (λ (x : LogEntry). may_happen x.what) len log (and_parts (moments_rise (pos 0) log) (list_all (λ (x : LogEntry). may_happen x.what) log) q).1)
 
 pub first_is_logged_by : (m : ℤ) (len : ℕ) (log : List LogEntry) → is_logged_by m log ≡ true → is_logged_by m (take len log) ≡ true
 first_is_logged_by m len log q = first_all (λ (x : LogEntry). int_le x.moment m) len log q

@@ -3,7 +3,7 @@ use Rattle.std.proofs.Common.{◌≡◌, refl, sym, ◌∙◌, ap, ℕ, suc, zer
 use Rattle.std.specs.Prelude.{cond, pos, int_le, find, map, not, ◌&&◌, ◌==◌, ◌≤ℤ◌, ◌+ℤ◌, unwrap_or}
 use Rattle.std.specs.List.{AllByRecursion, list_any}
 use Rattle.std.proofs.lemmas.Int.{ints}
-use Rattle.std.proofs.lemmas.Bool.{eq-eqb, eqb-true, or_parts}
+use Rattle.std.proofs.lemmas.Bool.{eq-eqb, eqb-true, or_parts, and_from}
 use Rattle.smil_model.specs.declared.diary.Entry.{Entry}
 use Rattle.smil_model.specs.declared.document.Node.{Node}
 use Rattle.smil_model.specs.declared.view.View.{View}
@@ -44,21 +44,18 @@ in_two p a (suc b) =
 same_number : (x : ℤ) → int_le x x ≡ true
 same_number x = grind (arith, ints)
 
-both : (s t : Bool) → s ≡ true → t ≡ true → s && t ≡ true
-both s t p q = ap (λ a. a && t) p ∙ q
-
 same_shown : (x : Shown) → shown_eq x x ≡ true
 same_shown shown.Nothing = refl
 same_shown shown.Indefinite = refl
 same_shown shown.Unresolved = refl
 same_shown shown.Standing = refl
-same_shown (shown.At x) = both (int_le x x) (int_le x x) (same_number x) (same_number x)
+same_shown (shown.At x) = and_from (int_le x x) (int_le x x) (same_number x) (same_number x)
 
 pub same_view : (v : View) → view_eq v v ≡ true
 same_view v =
-    both _ _
-    (both _ _
-    (both _ _ (both _ _ (both _ _ (eq-eqb v.serial v.serial refl) (eq-eqb (state_code v.state) (state_code v.state) refl)) (same_shown v.begin)) (same_shown v.«end»))
+    and_from _ _
+    (and_from _ _
+    (and_from _ _ (and_from _ _ (and_from _ _ (eq-eqb v.serial v.serial refl) (eq-eqb (state_code v.state) (state_code v.state) refl)) (same_shown v.begin)) (same_shown v.«end»))
     (eq-eqb v.iteration v.iteration refl))
     (eq-eqb v.finished v.finished refl)
 
