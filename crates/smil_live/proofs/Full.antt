@@ -14,6 +14,7 @@ use Rattle.smil_model.specs.happening.Resolution.{Course, Progress, resolved, di
 use Rattle.smil_laws.specs.Agreement.{course_on}
 use Rattle.smil_laws.proofs.Decided.{too_long_is_full}
 use Rattle.smil_laws.proofs.Further.{reaches_further}
+use Rattle.smil_stretch.proofs.Moments.{le_self}
 use Rattle.smil_live.proofs.Ended.{comes_within}
 
 many_entries : (r : Progress) (most : ℕ) → cond (nat_le (length r.diary) most) (Some r.diary) None ≡ None → most < length r.diary
@@ -72,16 +73,13 @@ rising_from from (x ∷ xs) q =
     let rest = (and_parts (int_le from x.moment) (moments_rise x.moment xs) q).1 in
     (here, from_sooner from x.moment xs here (rising_from x.moment xs rest))
 
-at_or_before : (x : ℤ) → int_le x x ≡ true
-at_or_before x = grind (arith, ints)
-
 -- from an entry on none is before it, and none of those behind it
 pub rising_at : (from : ℤ) (log : List LogEntry) (k : ℕ) (entry : LogEntry) → moments_rise from log ≡ true → slice_get log k ≡ Some entry → AreFrom entry.moment (drop k log)
 rising_at from [] k entry q e = cc
 rising_at from (x ∷ xs) zero entry q e =
     let one : x ≡ entry = cc in
     let rest = (and_parts (int_le from x.moment) (moments_rise x.moment xs) q).1 in
-    subst (λ (y : LogEntry). AreFrom y.moment (x ∷ xs)) one (at_or_before x.moment, rising_from x.moment xs rest)
+    subst (λ (y : LogEntry). AreFrom y.moment (x ∷ xs)) one (le_self x.moment, rising_from x.moment xs rest)
 rising_at from (x ∷ xs) (suc k) entry q e = rising_at x.moment xs k entry (and_parts (int_le from x.moment) (moments_rise x.moment xs) q).1 e
 
 pub rising_behind : (from : ℤ) (log : List LogEntry) (k : ℕ) (entry : LogEntry) → moments_rise from log ≡ true → slice_get log k ≡ Some entry → AreFrom entry.moment (drop (suc k) log)

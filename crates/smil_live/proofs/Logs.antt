@@ -7,6 +7,7 @@ use Rattle.std.proofs.lemmas.Bool.{and_parts}
 use Rattle.std.proofs.lemmas.Int.{ints}
 use Rattle.smil_model.specs.declared.diary.LogEntry.{LogEntry}
 use Rattle.smil_model.specs.diary.Logs.{moments_rise}
+use Rattle.smil_stretch.proofs.Moments.{le_both}
 
 -- ---- what a binary search parts
 
@@ -30,22 +31,19 @@ front_passes p (x ∷ xs) (suc i) parts within =
 
 -- ---- moments that do not fall
 
-pub low_through : (a b c : ℤ) → int_le a b ≡ true → int_le b c ≡ true → int_le a c ≡ true
-low_through a b c p q = grind (arith, ints)
-
 first_low : (a : ℤ) (xs : List LogEntry) (k : ℕ) (d : LogEntry) → moments_rise a xs ≡ true → k < length xs → int_le a (slice_index_or xs k d).moment ≡ true
 first_low a [] k d q l = absurd (omega (arith, l))
 first_low a (x ∷ xs) zero d q l = (and_parts (int_le a x.moment) (moments_rise x.moment xs) q).0
 first_low a (x ∷ xs) (suc k) d q l =
     let parts = and_parts (int_le a x.moment) (moments_rise x.moment xs) q in
-    low_through a x.moment (slice_index_or xs k d).moment parts.0 (first_low x.moment xs k d parts.1 (omega (arith, l)))
+    le_both a x.moment (slice_index_or xs k d).moment parts.0 (first_low x.moment xs k d parts.1 (omega (arith, l)))
 
 -- a moment parts the entries that are not later from those that are
 pub parted : (m from : ℤ) (xs : List LogEntry) → moments_rise from xs ≡ true → IsPartitionedBy (λ (x : LogEntry). int_le x.moment m) xs
 parted m from [] q i j d low high holds = absurd (omega (arith, high))
 parted m from (x ∷ xs) q zero zero d low high holds = holds
 parted m from (x ∷ xs) q zero (suc j) d low high holds =
-    low_through x.moment (slice_index_or xs j d).moment m
+    le_both x.moment (slice_index_or xs j d).moment m
     (first_low x.moment xs j d (and_parts (int_le from x.moment) (moments_rise x.moment xs) q).1 (omega (arith, high))) holds
 parted m from (x ∷ xs) q (suc i) zero d low high holds = absurd (omega (arith, low))
 parted m from (x ∷ xs) q (suc i) (suc j) d low high holds =
@@ -58,7 +56,7 @@ pub none_before : (a m : ℤ) (xs : List LogEntry) → int_le a m ≡ true → m
 none_before a m [] low q = tt
 none_before a m (x ∷ xs) low q =
     let parts = and_parts (int_le m x.moment) (moments_rise x.moment xs) q in
-    let here = low_through a m x.moment low parts.0 in
+    let here = le_both a m x.moment low parts.0 in
     (here, none_before a x.moment xs here parts.1)
 
 -- the entry at a place, by all that is known of the log from there on

@@ -9,14 +9,12 @@ use Rattle.smil_model.specs.declared.diary.Entry.{Entry}
 use Rattle.smil_model.specs.declared.times.TheConstants.{HORIZON}
 use Rattle.smil_model.specs.diary.Clocks.{until}
 use Rattle.smil_model.specs.diary.Lawful.{is_rising_from}
+use Rattle.smil_stretch.proofs.Moments.{le_both}
 
 take_next : (xs : List Entry) (k : ℕ) (x : Entry) → slice_get xs k ≡ Some x → take (suc k) xs ≡ take k xs ++ x ∷ []
 take_next [] k x e = cc
 take_next (y ∷ ys) zero x e = let one : y ≡ x = cc in ap (λ (z : Entry). z ∷ []) one
 take_next (y ∷ ys) (suc k) x e = ap (λ (l : List Entry). y ∷ l) (take_next ys k x e)
-
-lower : (a b c : ℤ) → int_le a b ≡ true → int_le b c ≡ true → int_le a c ≡ true
-lower a b c p q = grind (arith, ints)
 
 -- what rises, entry by entry
 record Rises (from : ℤ) (x : Entry) (xs : List Entry) : Type 0 where
@@ -33,7 +31,7 @@ first_low from [] k x q e = cc
 first_low from (y ∷ ys) zero x q e = let one : y ≡ x = cc in rw (← one) (rises from y ys q).here
 first_low from (y ∷ ys) (suc k) x q e =
     let r = rises from y ys q in
-    lower from y.moment x.moment r.here (first_low y.moment ys k x r.rest e)
+    le_both from y.moment x.moment r.here (first_low y.moment ys k x r.rest e)
 
 -- where the last of the first entries is not later, none of them is
 pub first_until : (m from : ℤ) (xs : List Entry) (k : ℕ) (x : Entry) → is_rising_from from xs ≡ true → slice_get xs k ≡ Some x → int_le x.moment m ≡ true → until m (take (suc k) xs) ≡ take (suc k) xs
@@ -44,7 +42,7 @@ first_until m from (y ∷ ys) zero x q e low =
     ap (λ (t : Bool). cond t (y ∷ []) []) here
 first_until m from (y ∷ ys) (suc k) x q e low =
     let r = rises from y ys q in
-    let here : int_le y.moment m ≡ true = lower y.moment x.moment m (first_low y.moment ys k x r.rest e) low in
+    let here : int_le y.moment m ≡ true = le_both y.moment x.moment m (first_low y.moment ys k x r.rest e) low in
     ap (λ (t : Bool). cond t (y ∷ until m (take (suc k) ys)) (until m (take (suc k) ys))) here
     ∙ ap (λ (l : List Entry). y ∷ l) (first_until m y.moment ys k x r.rest e low)
 

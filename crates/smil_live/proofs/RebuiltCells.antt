@@ -12,10 +12,11 @@ use Rattle.smil_model.specs.document.Document.{Document}
 use Rattle.smil_model.specs.document.Valid.{IsValid}
 use Rattle.smil_model.specs.shown.Orders.{IsState, Presentation}
 use Rattle.smil_laws.specs.Cut.{logged}
+use Rattle.smil_stretch.proofs.Moments.{le_from}
 use Rattle.smil_cells.specs.Standing.{IsRebuilt, MayRebuild, Standing}
 use Rattle.smil_live.specs.Moves.{IsReplayed, IsUnderWay, edited_to, replay_of}
 use Rattle.smil_live.proofs.RebuiltParts.{IsPart}
-use Rattle.smil_live.proofs.Replays.{at_most as at_most_z, fits, under_way}
+use Rattle.smil_live.proofs.Replays.{fits, under_way}
 
 pub may_rebuild : (s : Standing) (d : Document) (len bound : ℕ) → IsValid d → len ≤ length s.diary → s.marked ≡ None → IsPart d.nodes s.presentation.log (take len s.diary) bound → MayRebuild s d len
 may_rebuild s d len bound valid within unmarked part = record {
@@ -88,7 +89,7 @@ replay_is p doc d log len to same logs lens moment =
 -- a moment of a state is kept as it is in 64 bits
 pub moment_kept : (p : Presentation) (m : ℤ) → IsState p → m ≡ pos p.now → to_z w64 (of_z w64 m) ≡ pos p.now
 moment_kept p m state is =
-    to_z-of_z w64 m (subst (λ (z : ℤ). FitsSigned w64 z) (sym is) (fits 0 (pos p.now) (omega (arith, ints)) (at_most_z (pos p.now) HORIZON state.now))) ∙ is
+    to_z-of_z w64 m (subst (λ (z : ℤ). FitsSigned w64 z) (sym is) (fits 0 (pos p.now) (omega (arith, ints)) (le_from (pos p.now) HORIZON state.now))) ∙ is
 
 -- new cells of a document are under way
 pub new_way : (d : Document) (log : List LogEntry) (len : ℕ) (to : ℤ) (s : Standing) → IsState (replay_of d log len to) → s.presentation ≡ record { document = d; log = []; now = 0 } → s.fault ≡ None → s.marked ≡ None

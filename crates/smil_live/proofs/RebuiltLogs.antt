@@ -48,9 +48,6 @@ no_entries (x ∷ xs) e = absurd (omega (arith, e))
 both_ways : (x y : ℤ) → int_le x y ≡ true → int_le y x ≡ true → x ≡ y
 both_ways x y p q = grind (arith, ints)
 
-lower : (a b c : ℤ) → int_le a b ≡ true → int_le b c ≡ true → int_le a c ≡ true
-lower a b c p q = grind (arith, ints)
-
 next_moment : (m : ℕ) (x : ℤ) → int_le x (pos m) ≡ false → int_le (pos (suc m)) x ≡ true
 next_moment m x p = grind (arith, ints)
 

@@ -24,6 +24,7 @@ use Rattle.smil_laws.specs.Cut.{is_logged, logged}
 use Rattle.smil_laws.proofs.Back.{reaches_back}
 use Rattle.smil_laws.proofs.Cutting.{reaches_at_last}
 use Rattle.smil_laws.proofs.Further.{is_past}
+use Rattle.smil_stretch.proofs.Moments.{le_both}
 use Rattle.smil_live.proofs.Ended.{comes_to}
 use Rattle.smil_live.proofs.RebuiltLogs.{has_heard, heard_moments, log_moments}
 
@@ -39,9 +40,6 @@ rise_from from m [] (suc k) rise first = refl
 rise_from from m (x ∷ xs) zero rise first =
     ap (λ (t : Bool). t && moments_rise x.moment xs) (first x refl) ∙ (and_parts (int_le from x.moment) (moments_rise x.moment xs) rise).1
 rise_from from m (x ∷ xs) (suc k) rise first = rise_from x.moment m xs k (and_parts (int_le from x.moment) (moments_rise x.moment xs) rise).1 first
-
-lower : (a b c : ℤ) → int_le a b ≡ true → int_le b c ≡ true → int_le a c ≡ true
-lower a b c p q = grind (arith, ints)
 
 none_passes : (m from : ℤ) (log : List LogEntry) → int_le from m ≡ false → moments_rise from log ≡ true → filter (λ (x : LogEntry). int_le x.moment m) log ≡ []
 none_passes m from [] late rise = refl
@@ -142,7 +140,7 @@ rise_after c p log reached =
     let heard = has_heard c p rise reached in
     let past = is_past c p reached in
     subst (λ (n : ℕ). moments_rise (last_moment p.diary) (drop n c.log) ≡ true) (sym heard.count)
-    (rise_from (pos 0) (last_moment p.diary) c.log p.heard rise (λ x e. lower (last_moment p.diary) (pos p.moment) x.moment (last_within p.moment p.diary past.entries) (heard.next x e)))
+    (rise_from (pos 0) (last_moment p.diary) c.log p.heard rise (λ x e. le_both (last_moment p.diary) (pos p.moment) x.moment (last_within p.moment p.diary past.entries) (heard.next x e)))
 
 -- ---- what comes to a part of a diary
 

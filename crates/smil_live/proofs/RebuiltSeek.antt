@@ -17,13 +17,14 @@ use Rattle.smil_model.specs.shown.Orders.{IsState, Presentation, course_of}
 use Rattle.smil_diary.specs.declared.fault.BookFault.{BookFault}
 use Rattle.smil_diary.specs.declared.fault.BookFault.TheVariants as book_fault
 use Rattle.smil_laws.specs.Cut.{logged}
+use Rattle.smil_stretch.proofs.Moments.{le_from}
 use Rattle.smil_cells.specs.Standing.{GoesOn, IsRebuilt, IsSettled, MayRebuild, Standing, WhereTold, moved_to, reached_since}
 use Rattle.smil_live.specs.Moves.{IsReplayed, IsTooFull, sought_of}
 use Rattle.smil_live.specs.Refusing.{of_book}
 use Rattle.smil_live.proofs.RebuiltCells.{may_rebuild, not_later}
 use Rattle.smil_live.proofs.RebuiltParts.{IsPart, front_until, log_until, part_until}
 use Rattle.smil_live.proofs.RebuiltSame.{same_until}
-use Rattle.smil_live.proofs.Replays.{at_most, refused_as}
+use Rattle.smil_live.proofs.Replays.{refused_as}
 
 pub earlier_is : (to : ℤ) → pos 0 ≤ℤ to → pos (nat_abs to) ≡ to
 earlier_is (pos k) from = refl
@@ -40,7 +41,7 @@ until_same len book diary to m same there from first =
     (subst (λ (z : ℤ). take len book ≡ until z book) (there ∙ sym (earlier_is to from)) first)
 
 pub within_horizon : (p : Presentation) (to m : ℤ) → IsState p → to ≤ℤ pos p.now → m ≡ to → m ≤ℤ HORIZON
-within_horizon p to m state back there = subst (λ (z : ℤ). z ≤ℤ HORIZON) (sym there) (through to (pos p.now) HORIZON back (at_most (pos p.now) HORIZON state.now))
+within_horizon p to m state back there = subst (λ (z : ℤ). z ≤ℤ HORIZON) (sym there) (through to (pos p.now) HORIZON back (le_from (pos p.now) HORIZON state.now))
   where
     through : (a b c : ℤ) → a ≤ℤ b → b ≤ℤ c → a ≤ℤ c
     through a b c l m = omega (arith, ints, l, m)

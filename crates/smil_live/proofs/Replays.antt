@@ -15,11 +15,12 @@ use Rattle.smil_model.specs.shown.Orders.{IsState, Presentation, course_of}
 use Rattle.smil_diary.specs.declared.fault.BookFault.{BookFault}
 use Rattle.smil_diary.specs.declared.fault.BookFault.TheVariants as book_fault
 use Rattle.smil_laws.specs.Agreement.{course_on}
+use Rattle.smil_stretch.proofs.Moments.{le_from, le_self, le_both}
 use Rattle.smil_cells.specs.Standing.{GoesOn, IsSettled, Standing, moved_to, with_logged}
 use Rattle.smil_live.specs.Moves.{IsReplayed, IsTooFull, IsUnderWay, heard_at}
 use Rattle.smil_live.specs.Refusing.{of_book}
 use Rattle.smil_live.proofs.Full.{full_further, full_by_first}
-use Rattle.smil_live.proofs.Logs.{IsAt, at, all_at, none_before, low_through, take_whole}
+use Rattle.smil_live.proofs.Logs.{IsAt, at, all_at, none_before, take_whole}
 
 -- ---- numbers
 
@@ -27,15 +28,9 @@ natural : (m : ℕ) (x : ℤ) → int_le (pos m) x ≡ true → pos (nat_abs x) 
 natural m (pos k) q = refl
 natural m (negsuc k) q = cc
 
-pub at_most : (x y : ℤ) → int_le x y ≡ true → x ≤ℤ y
-at_most x y q = grind (arith, ints)
-
 no_more : (x : ℤ) (n : ℕ) → pos (nat_abs x) ≡ x → int_le x (pos n) ≡ true → nat_abs x ≤ n
 no_more (pos k) n e q = grind (arith, ints)
 no_more (negsuc k) n e q = cc
-
-reflexive : (x : ℤ) → int_le x x ≡ true
-reflexive x = grind (arith, ints)
 
 itself : (n : ℕ) → int_le (pos n) (pos n) ≡ true
 itself n = grind (arith, ints)
@@ -100,8 +95,8 @@ module _ (p : Presentation) (state : IsState p) where
         let whole = natural s.presentation.now x.moment here.from in
         let sooner = all_at (λ (y : LogEntry). int_le y.moment (pos p.now)) p.log place x state.logged is in
         record {
-          from = at_most (pos s.presentation.now) x.moment here.from;
-          within = at_most x.moment HORIZON (low_through x.moment (pos p.now) HORIZON sooner state.now);
+          from = le_from (pos s.presentation.now) x.moment here.from;
+          within = le_from x.moment HORIZON (le_both x.moment (pos p.now) HORIZON sooner state.now);
           may = all_at (λ (y : LogEntry). may_happen y.what) p.log place x happening is;
           numbered = subst (λ (d : Document). IsNumberedTree d) (sym way.document_is) state.document.numbered;
           natural = whole;
@@ -148,7 +143,7 @@ module _ (p : Presentation) (state : IsState p) where
         whole_full : diary_of (course_of p) ≡ None
         whole_full =
             full_by_first p.document p.log (suc place) (nat_abs x.moment) p.now state.document.numbered
-            (none_before (pos (nat_abs x.moment)) x.moment (drop (suc place) p.log) (ap (λ (m : ℤ). int_le m x.moment) next.natural ∙ reflexive x.moment) next.here.later) next.until first
+            (none_before (pos (nat_abs x.moment)) x.moment (drop (suc place) p.log) (ap (λ (m : ℤ). int_le m x.moment) next.natural ∙ le_self x.moment) next.here.later) next.until first
 
   -- ---- at the end
 

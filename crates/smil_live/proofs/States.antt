@@ -8,17 +8,12 @@ use Rattle.smil_model.specs.declared.diary.LogEntry.{LogEntry}
 use Rattle.smil_model.specs.declared.times.TheConstants.{HORIZON}
 use Rattle.smil_model.specs.diary.Logs.{is_log, is_logged_by, may_happen, moments_rise}
 use Rattle.smil_model.specs.shown.Orders.{IsState, Presentation, as_of}
+use Rattle.smil_stretch.proofs.Moments.{le_from, is_le}
 use Rattle.smil_live.proofs.Quiet.{logged_later}
-
-no_less : (x y : ℤ) → x ≤ℤ y → int_le x y ≡ true
-no_less x y l = grind (arith, ints)
-
-at_most : (x y : ℤ) → int_le x y ≡ true → x ≤ℤ y
-at_most x y q = grind (arith, ints)
 
 -- a state is not beyond the horizon
 pub within_horizon : (p : Presentation) → IsState p → pos p.now ≤ℤ HORIZON
-within_horizon p state = at_most (pos p.now) HORIZON state.now
+within_horizon p state = le_from (pos p.now) HORIZON state.now
 
 -- at a later moment
 pub state_moved : (p : Presentation) (n : ℕ) → IsState p → p.now ≤ n → pos n ≤ℤ HORIZON → IsState (as_of p n)
@@ -26,7 +21,7 @@ state_moved p n state from within = record {
   document = state.document;
   log = state.log;
   logged = logged_later p.now n p.log from state.logged;
-  now = no_less (pos n) HORIZON within;
+  now = is_le (pos n) HORIZON within;
 }
 
 -- ---- with one more entry

@@ -15,6 +15,7 @@ use Rattle.smil_model.specs.diary.Diary.{History}
 use Rattle.smil_model.specs.interval.Current.{current_table, in_table}
 use Rattle.smil_model.specs.shown.Orders.{Presentation, as_of, views_of, view_eq, state_code, shown_eq, view_before, changed, at_moment, changes_through, changes_between, resolved_history}
 use Rattle.smil_model.specs.shown.Views.{views, view_of, blank}
+use Rattle.smil_stretch.proofs.Moments.{le_self}
 use Rattle.smil_live.proofs.Quiet.{HasDiary, IsQuiet, views_stay}
 
 -- ---- one advance after another
@@ -41,15 +42,12 @@ in_two p a (suc b) =
 
 -- ---- views that are the same
 
-same_number : (x : ℤ) → int_le x x ≡ true
-same_number x = grind (arith, ints)
-
 same_shown : (x : Shown) → shown_eq x x ≡ true
 same_shown shown.Nothing = refl
 same_shown shown.Indefinite = refl
 same_shown shown.Unresolved = refl
 same_shown shown.Standing = refl
-same_shown (shown.At x) = and_from (int_le x x) (int_le x x) (same_number x) (same_number x)
+same_shown (shown.At x) = and_from (int_le x x) (int_le x x) (le_self x) (le_self x)
 
 pub same_view : (v : View) → view_eq v v ≡ true
 same_view v =

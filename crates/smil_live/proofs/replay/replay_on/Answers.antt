@@ -8,12 +8,13 @@ use Rattle.smil_model.specs.declared.times.TheConstants.{HORIZON}
 use Rattle.smil_model.specs.happening.Resolution.{diary_of}
 use Rattle.smil_model.specs.shown.Orders.{Presentation, course_of}
 use Rattle.smil_diary.specs.declared.fault.BookFault.TheVariants.{DiaryFull}
+use Rattle.smil_stretch.proofs.Moments.{le_from}
 use Rattle.smil_cells.specs.Standing.{moved_to}
 use Rattle.smil_live.specs.Moves.{IsTooFull, IsUnderWay, replay_of}
 use Rattle.smil_live.proofs.Counted.{counted_first}
 use Rattle.smil_live.proofs.Logs.{entry_at, is_there}
 use Rattle.smil_live.proofs.RebuiltCounts.{counted_more, named_since, none_since}
-use Rattle.smil_live.proofs.Replays.{arrived, at_most, fits, goes_on, next_of, not_below, refused_there, too_full}
+use Rattle.smil_live.proofs.Replays.{arrived, fits, goes_on, next_of, not_below, refused_there, too_full}
 use Rattle.smil_live.proofs.replay.replay_on.Goals as goal
 
 pub loop-place-init : goal.loop-place-init
@@ -82,7 +83,7 @@ returns-in-Ok-clause-ok g c =
     let p = replay_of c.args.cells.now.presentation.document c.args.replay.log.now c.args.replay.len c.args.replay.to in
     let s = c.loop-place.cells in
     let to = c.args.replay.to in
-    let there : to_z w64 (of_z w64 to) ≡ to = to_z-of_z w64 to (fits 0 to c.requires.from (at_most to HORIZON (subst (λ (z : ℤ). int_le z HORIZON ≡ true) (not_below 0 to c.requires.from) c.requires.state.now))) in
+    let there : to_z w64 (of_z w64 to) ≡ to = to_z-of_z w64 to (fits 0 to c.requires.from (le_from to HORIZON (subst (λ (z : ℤ). int_le z HORIZON ≡ true) (not_below 0 to c.requires.from) c.requires.state.now))) in
     arrived p c.requires.state c.loop-place.place s c.loop-place.invariant.0 (past_all c.args.replay.len c.loop-place.place c.args.replay.log.now c.requires.within c.loop-place-test.false) c.settle.new.self
     (subst (λ (z : ℤ). c.settle.new.self.presentation ≡ moved_to s.presentation (nat_abs z)) there c.in-Ok.ensures.state) c.in-Ok.ensures.settled c.in-Ok.ensures.goes_on
 
@@ -92,7 +93,7 @@ returns-in-Err-settle-clause-refused g c =
     let s = c.loop-place.cells in
     let to = c.args.replay.to in
     let fault = c.in-Err-settle.fault in
-    let there : to_z w64 (of_z w64 to) ≡ to = to_z-of_z w64 to (fits 0 to c.requires.from (at_most to HORIZON (subst (λ (z : ℤ). int_le z HORIZON ≡ true) (not_below 0 to c.requires.from) c.requires.state.now))) in
+    let there : to_z w64 (of_z w64 to) ≡ to = to_z-of_z w64 to (fits 0 to c.requires.from (le_from to HORIZON (subst (λ (z : ℤ). int_le z HORIZON ≡ true) (not_below 0 to c.requires.from) c.requires.state.now))) in
     subst (λ (r : Refusal). IsTooFull p r) (sym c.refused_book.ensures)
     (refused_there p c.requires.state c.loop-place.place s c.loop-place.invariant.0 (past_all c.args.replay.len c.loop-place.place c.args.replay.log.now c.requires.within c.loop-place-test.false) fault
     (subst (λ (z : ℤ). fault ≡ DiaryFull → (s.fault ≡ Some fault) ⊎ (diary_of (course_of (moved_to s.presentation (nat_abs z))) ≡ None)) there c.in-Err-settle.ensures.full))
