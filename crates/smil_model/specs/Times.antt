@@ -1,6 +1,6 @@
 -- Time values: a number of milliseconds, then indefinite, then unresolved, in SMIL's order.
 use Rattle.std.specs.Prelude.{ℕ, ◌/◌, ℤ, pos, negsuc, neg_ℤ, ◌+ℤ◌, ◌*ℤ◌, ◌≤ℤ◌, int_lt, int_le, Bool, true, false, if◌then◌else◌, List, [], ◌∷◌, fold, ◌&&◌}
-use Rattle.smil_model.specs.declared.times.TheConstants.{HORIZON}
+use Rattle.smil_model.specs.declared.times.TheConstants.{CARRIED, HORIZON}
 use Rattle.smil_model.specs.declared.times.Time.{Time}
 use Rattle.smil_model.specs.declared.times.Time.TheVariants.{At, Indefinite, Unresolved}
 
@@ -13,6 +13,11 @@ pub record IsMoment (moment : ℤ) : Type 0 where
 pub record IsNear (time : ℤ) : Type 0 where
   pub low : neg_ℤ HORIZON ≤ℤ time
   pub high : time ≤ℤ HORIZON
+
+-- a time on a clock that can be carried to another: from -10^13 to 10^13
+pub record IsCarried (time : ℤ) : Type 0 where
+  pub low : neg_ℤ CARRIED ≤ℤ time
+  pub high : time ≤ℤ CARRIED
 
 -- a sum or a product as a time: indefinite above the horizon, and never below minus the horizon
 abbrev pub within_horizon : ℤ → Time

@@ -26,12 +26,13 @@ pub use duplicate::{Duplicate, copy_of};
 pub use happening::{Class, Key};
 pub use interval::{ChildEnd, EndList, Facts, Interval, Play};
 pub use limits::{
-    ATTRIBUTE_BYTES, DEPTH, DIARY_ENTRIES, EVENT_BYTES, ID_BYTES, ITEMS, LINE_BYTES, LOG_ENTRIES,
-    NAME_BYTES, NODES, PRESENTATIONS, REFERENCES, SERIALS,
+    ATTRIBUTE_BYTES, COUNT_THOUSANDTHS, DEPTH, DIARY_ENTRIES, DIGITS, EVENT_BYTES, ID_BYTES, ITEMS,
+    ITERATIONS, LINE_BYTES, LOG_ENTRIES, NAME_BYTES, NODES, PRESENTATIONS, REFERENCES, SERIALS,
+    TEXT_BYTES,
 };
 pub use listed::{Bytes, Listed, Serials, WordList};
 pub use order::{Order, Refusal, Who};
 pub use player::Player;
 pub use steps::Steps;
-pub use times::{HORIZON, Time, greatest, later, least};
+pub use times::{CARRIED, HORIZON, Time, greatest, later, least};
 pub use view::{How, Layer, Shown, State, View, ViewFacts};

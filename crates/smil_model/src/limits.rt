@@ -15,6 +15,19 @@ pub const REFERENCES: usize = 32_000;
 /// The greatest serial, and the greatest next serial of a document.
 pub const SERIALS: u32 = 999_999_999;
 
+/// The greatest number of digits of a serial, of an iteration's number, and of a `repeatCount`
+/// before its point.
+pub const DIGITS: usize = 9;
+
+/// The greatest number of an iteration that an item names.
+pub const ITERATIONS: u32 = 999_999_999;
+
+/// The greatest `repeatCount`, in thousandths.
+pub const COUNT_THOUSANDTHS: u64 = 999_999_999_999;
+
+/// Each text of an order has fewer bytes than these.
+pub const TEXT_BYTES: usize = 2_147_483_648;
+
 /// The greatest number of bytes of a line, without its line feed.
 pub const LINE_BYTES: usize = 16_384;
 

@@ -6,6 +6,9 @@ ghost use Rattle.smil_model.specs.Times.{later_time, least_time, greatest_time};
 /// The latest moment and the greatest time value, in milliseconds.
 pub const HORIZON: i64 = 1_000_000_000_000;
 
+/// The greatest number that is carried from one clock to another, in milliseconds.
+pub const CARRIED: i64 = 10_000_000_000_000;
+
 /// A time value. Numbers stand below indefinite, and indefinite below unresolved (SMIL 3.0 Timing,
 /// computing the active duration). The place where the value stands says on which clock a number
 /// is.

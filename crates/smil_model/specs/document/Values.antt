@@ -4,7 +4,7 @@ use Rattle.std.specs.List.{list_all, list_any}
 use Rattle.smil_model.specs.declared.times.TheConstants.{HORIZON}
 use Rattle.smil_model.specs.declared.times.Time.{Time}
 use Rattle.smil_model.specs.declared.times.Time.TheVariants as time
-use Rattle.smil_model.specs.declared.limits.TheConstants.{ITEMS}
+use Rattle.smil_model.specs.declared.limits.TheConstants.{COUNT_THOUSANDTHS, ITEMS, ITERATIONS}
 use Rattle.smil_model.specs.declared.document.Kind.{Kind}
 use Rattle.smil_model.specs.declared.document.Kind.TheVariants.{Par, Excl}
 use Rattle.smil_model.specs.declared.document.Attrs.{Attrs}
@@ -40,7 +40,7 @@ is_item (item.Offset offset) = is_offset offset
 is_item (item.Sync who edge offset) = is_id who && is_offset offset
 is_item (item.Event who name offset) = absent_or is_id who && is_event_name name && is_offset offset
 is_item (item.Repeat who n offset) =
-    absent_or is_id who && nat_le 1 n && nat_le n 999_999_999 && is_offset offset
+    absent_or is_id who && nat_le 1 n && nat_le n ITERATIONS && is_offset offset
 is_item (item.Key key offset) = is_key key && is_offset offset
 is_item item.Indefinite = true
 
@@ -75,7 +75,7 @@ is_positive_bound time.Unresolved = false
 
 -- `repeatCount`: above 0, with at most nine digits before the point and three behind it, or indefinite
 abbrev pub is_count : Count → Bool
-is_count (count.Thousandths k) = nat_lt 0 k && nat_le k 999_999_999_999
+is_count (count.Thousandths k) = nat_lt 0 k && nat_le k COUNT_THOUSANDTHS
 is_count count.Indefinite = true
 
 -- `endsync`: a keyword, or an id that is none of its keywords

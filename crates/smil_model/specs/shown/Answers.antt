@@ -1,6 +1,7 @@
 -- What a player answers to an order: the new state and the text, or the refusal.
 use Rattle.std.specs.Prelude.{ℕ, ◌<◌, ◌≤◌, pos, List, [], ◌∷◌, ◌++◌, flat_map, length, true, not, ◌&&◌, ◌≡◌, ◌⊎◌, Option, Some, None, unwrap_or, Ok, Err}
 use Rattle.std.specs.Option.{option_map_or}
+use Rattle.smil_model.specs.declared.limits.TheConstants.{TEXT_BYTES}
 use Rattle.smil_model.specs.declared.document.Node.{Node}
 use Rattle.smil_model.specs.declared.order.Refusal.{Refusal}
 use Rattle.smil_model.specs.declared.order.Refusal.TheVariants.{DiaryFull, Memory}
@@ -87,12 +88,12 @@ answer_text formats before after given =
 
 -- ---- what may be ordered
 
--- a text of an order has fewer than 2^31 bytes, and its columns stand in such a line
+-- a text of an order has fewer than so many bytes, and its columns stand in such a line
 abbrev pub IsText : List ℕ → Type 0
-IsText text = length text < 2_147_483_648
+IsText text = length text < TEXT_BYTES
 
 abbrev pub IsColumn : ℕ → Type 0
-IsColumn column = (1 ≤ column) × (column < 2_147_483_648)
+IsColumn column = (1 ≤ column) × (column < TEXT_BYTES)
 
 abbrev pub IsName : Who → Type 0
 IsName (Id id) = IsText id
