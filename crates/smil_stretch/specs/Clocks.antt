@@ -1,7 +1,6 @@
 -- The clocks of a document after what has happened so far: one for each node, which runs or stands since the last entry.
-use Rattle.std.specs.Prelude.{◌≡◌, ℕ, ℤ, pos, neg_ℤ, ◌-ℤ◌, ◌≤ℤ◌, List, [], ◌∷◌, ◌++◌, map, fold, Bool, true, false, ◌&&◌, ◌==◌, Option, option_and_then}
+use Rattle.std.specs.Prelude.{◌≡◌, ℕ, ℤ, ◌-ℤ◌, List, [], ◌∷◌, ◌++◌, map, fold, Bool, true, false, ◌&&◌, ◌==◌, Option, option_and_then}
 use Rattle.std.specs.List.{position}
-use Rattle.smil_model.specs.declared.times.TheConstants.{HORIZON}
 use Rattle.smil_model.specs.declared.diary.Entry.{Entry}
 use Rattle.smil_model.specs.declared.diary.Step.{Step}
 use Rattle.smil_model.specs.declared.diary.Step.TheVariants.{Resumed, Ended, Cut}
@@ -14,11 +13,6 @@ use Rattle.smil_model.specs.diary.Clocks.{run, stands}
 use Rattle.smil_stretch.specs.declared.clock.Clock.{Clock}
 use Rattle.smil_stretch.specs.declared.clock.Clock.TheVariants.{Runs, Stands}
 use Rattle.smil_stretch.specs.declared.clock.NodeClock.{NodeClock}
-
--- a time on a clock that can be carried to another: from -10^13 to 10^13
-pub record IsCarried (time : ℤ) : Type 0 where
-  pub low : neg_ℤ (pos 10_000_000_000_000) ≤ℤ time
-  pub high : time ≤ℤ pos 10_000_000_000_000
 
 -- what a clock shows at a moment
 abbrev pub shown : Clock → ℤ → ℤ

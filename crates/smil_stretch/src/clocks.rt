@@ -11,8 +11,8 @@ ghost use Rattle.smil_model.specs.diary.Clocks.{run as run_of, outer as outer_of
 ghost use Rattle.smil_model.specs.declared.diary.Entry.{Entry as AnyEntry};
 ghost use Rattle.smil_model.specs.declared.diary.Step.{Step as AnyStep};
 ghost use Rattle.smil_model.specs.declared.diary.Step.TheVariants as step;
-ghost use Rattle.smil_stretch.specs.Clocks.{AreClocksOf, IsCarried, IsHistoryOf, IsLawfulFor, MayEndPause, MayFollow, ends_pause, parent_place};
-ghost use Rattle.smil_model.specs.Times.{IsMoment, IsNear};
+ghost use Rattle.smil_stretch.specs.Clocks.{AreClocksOf, IsHistoryOf, IsLawfulFor, MayEndPause, MayFollow, ends_pause, parent_place};
+ghost use Rattle.smil_model.specs.Times.{IsCarried, IsMoment, IsNear};
 ghost use Rattle.smil_stretch.specs.Kept.{AllFit, ArePlacesOf, Fits, MayTurn, Turns, clock_at, idle_clock, parent_at};
 
 use super::clock::{Clock, NodeClock, shown_by, stands_by};
