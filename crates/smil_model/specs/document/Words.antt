@@ -67,9 +67,13 @@ is_raised_name text =
 abbrev pub is_key : ℕ → Bool
 is_key b = is_in_range 33 126 b && not (b == quote) && not (b == semicolon) && not (b == backslash)
 
+-- a later byte of the name of an attribute: one of a name or `-`
+abbrev pub is_of_attribute : ℕ → Bool
+is_of_attribute b = is_of_name b || (b == minus)
+
 -- the name of an attribute that a set names, of at most 64 bytes
 abbrev pub is_attribute_name : List ℕ → Bool
-is_attribute_name text = is_word (λ b. is_of_name b || (b == minus)) text && nat_le (length text) ATTRIBUTE_BYTES
+is_attribute_name text = is_word is_of_attribute text && nat_le (length text) ATTRIBUTE_BYTES
 
 -- a byte of `src`, `region`, `alt`, `title` and `to`
 abbrev pub is_kept : ℕ → Bool
