@@ -5,12 +5,12 @@ use Rattle.std.specs.List.{AllByRecursion}
 use Rattle.std.proofs.lemmas.Bool.{ne_eqb}
 use Rattle.smil_model.specs.declared.document.Node.{Node}
 use Rattle.smil_model.specs.document.Document.{node_at}
-use Rattle.smil_model.specs.document.Valid.{IsValid, IsNumberedTree, references, references_of}
+use Rattle.smil_model.specs.document.Valid.{IsValid, IsNumberedTree, references, references_among, references_of}
 use Rattle.smil_model.specs.document.Edits.{children}
 use Rattle.smil_laws.proofs.Numbered.{all_low}
 use Rattle.smil_laws.proofs.Aside.{each_weaker}
 use Rattle.smil_tree.specs.Held.{cut}
-use Rattle.smil_tree.specs.Kept.{IsTableOf, Keeps, references_among}
+use Rattle.smil_tree.specs.Kept.{IsTableOf, Keeps}
 use Rattle.smil_tree.specs.Kin.{Families, IsKinOf}
 use Rattle.smil_tree.proofs.Cuts.{get_inserted, sum_inserted}
 use Rattle.smil_tree.proofs.KinCallers.{next_leaf, cut-insert}

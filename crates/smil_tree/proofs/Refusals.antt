@@ -8,12 +8,11 @@ use Rattle.smil_model.specs.declared.document.Attrs.{Attrs}
 use Rattle.smil_model.specs.declared.document.Kind.{Kind}
 use Rattle.smil_model.specs.document.Document.{Document, node_at}
 use Rattle.smil_model.specs.document.Values.{fit_kind}
-use Rattle.smil_model.specs.document.Valid.{IsValid, depth_of, kind_of, may_stand, agree_with, is_id_taken, references, references_of}
+use Rattle.smil_model.specs.document.Valid.{IsValid, depth_of, kind_of, may_stand, agree_with, is_id_taken, references, references_among, references_of}
 use Rattle.smil_model.specs.document.Edits.{children, child_place, node_inserted}
 use Rattle.smil_model.specs.shown.Orders.{is_place}
 use Rattle.smil_tree.specs.declared.fault.TreeFault.{TreeFault}
 use Rattle.smil_tree.specs.declared.fault.TreeFault.TheVariants.{TooDeep, BadPlace, DuplicateId, TooManyElements, TooManyReferences, Root, Memory}
-use Rattle.smil_tree.specs.Kept.{references_among}
 use Rattle.smil_tree.specs.Outcomes.{IsFaultOf, passes, may_bear, place_outcome, room_outcome, insert_outcome, and_after}
 use Rattle.smil_tree.proofs.Changed.{fit_few}
 use Rattle.smil_tree.proofs.Cuts.{long_inserted, sum_inserted}

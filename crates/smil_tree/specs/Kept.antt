@@ -1,22 +1,11 @@
 -- What a tree keeps beside its nodes, and what it knows of them.
-use Rattle.std.specs.Prelude.{◌≡◌, ℕ, ◌+◌, List, [], length, filter, find, Bool, false, not, ◌==◌, Option, None, Some, option_map}
+use Rattle.std.specs.Prelude.{◌≡◌, ℕ, List, find, Bool, false, not, ◌==◌, Option, None, Some, option_map}
 use Rattle.std.specs.Str.{bytes_eq}
 use Rattle.std.specs.Map.{lookup}
 use Rattle.smil_model.specs.declared.document.Node.{Node}
-use Rattle.smil_model.specs.declared.document.Attrs.{Attrs}
-use Rattle.smil_model.specs.declared.document.Item.{Item}
-use Rattle.smil_model.specs.document.Defaults.{items_or}
 use Rattle.smil_model.specs.document.Document.{has_id}
-use Rattle.smil_model.specs.document.Valid.{IsValid, is_reference, references}
+use Rattle.smil_model.specs.document.Valid.{IsValid, references}
 use Rattle.smil_tree.specs.Kin.{Families, IsKinOf}
-
--- how many items of a list refer to something; an absent list has none
-abbrev pub listed_references : Option (List Item) → ℕ
-listed_references items = length (filter is_reference (items_or [] items))
-
--- how many items of attributes refer to something
-abbrev pub references_among : Attrs → ℕ
-references_among attrs = listed_references attrs.begin + listed_references attrs.«end»
 
 -- whether the node has this id
 abbrev pub bears : List ℕ → Node → Bool

@@ -1,9 +1,8 @@
 //! Items that refer to an element, an event or a key, counted.
 
 ghost use Rattle.std.specs.Prelude.{◌≡◌, ◌<◌, ◌^◌, length, filter};
-ghost use Rattle.smil_model.specs.document.Valid.{is_reference};
+ghost use Rattle.smil_model.specs.document.Valid.{is_reference, listed_references, references_among};
 ghost use Rattle.smil_model.specs.document.Edits.{with_attr, without_attr};
-ghost use Rattle.smil_tree.specs.Kept.{listed_references, references_among};
 
 use smil_model::{Attr, AttrName, Attrs, Item, Items};
 

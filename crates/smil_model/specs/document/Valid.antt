@@ -5,6 +5,7 @@ use Rattle.std.specs.List.{list_any, list_all}
 use Rattle.smil_model.specs.declared.limits.TheConstants.{DEPTH, SERIALS}
 use Rattle.smil_model.specs.declared.document.Node.{Node}
 use Rattle.smil_model.specs.declared.document.Kind.{Kind}
+use Rattle.smil_model.specs.declared.document.Attrs.{Attrs}
 use Rattle.smil_model.specs.declared.document.Item.{Item}
 use Rattle.smil_model.specs.declared.document.Item.TheVariants.{Sync, Event, Repeat, Key}
 use Rattle.smil_model.specs.document.Limits.{Limits, limits}
@@ -99,9 +100,16 @@ is_reference (Repeat who n offset) = true
 is_reference (Key key offset) = true
 is_reference _ = false
 
+-- how many items of a list refer to something; an absent list has none
+abbrev pub listed_references : Option (List Item) → ℕ
+listed_references items = length (filter is_reference (items_or [] items))
+
+-- how many items of attributes refer to something
+abbrev pub references_among : Attrs → ℕ
+references_among attrs = listed_references attrs.begin + listed_references attrs.«end»
+
 abbrev pub references_of : Node → ℕ
-references_of n =
-    length (filter is_reference (items_or [] n.attrs.begin)) + length (filter is_reference (items_or [] n.attrs.«end»))
+references_of n = references_among n.attrs
 
 -- how many items of the document refer to an element, an event or a key
 abbrev pub references : List Node → ℕ
