@@ -33,6 +33,7 @@ pub enum Kind {
 impl Kind {
     ghost use Rattle.std.specs.Prelude.{not};
     ghost use Rattle.smil_model.specs.document.Document.{is_class_kind};
+    ghost use Rattle.smil_model.specs.document.Valid.{may_hold as may_hold_kind};
 
     /// Whether a node of this kind is an element, which has times and a view: each is, but a
     /// priorityClass. It has no condition and takes no memory.
@@ -40,6 +41,19 @@ impl Kind {
         ensures { result ≡ not (is_class_kind self) }
     {
         !matches!(self, Kind::PriorityClass)
+    }
+
+    /// Whether a node of this kind may have a child of the given one: a container may have each
+    /// element, an excl a priorityClass too, and a priorityClass elements. It has no condition and
+    /// takes no memory.
+    pub fn may_hold(self, child: Kind) -> bool
+        ensures { result ≡ may_hold_kind self child }
+    {
+        match self {
+            Kind::Par | Kind::Seq | Kind::PriorityClass => child.is_element(),
+            Kind::Excl => true,
+            _ => false,
+        }
     }
 }
 

@@ -2,7 +2,7 @@
 
 ghost use Rattle.std.specs.Prelude.{◌≡◌, ℕ, suc, ◌&&◌, nat_lt, nat_le, length, Some, IsSome, slice_get};
 ghost use Rattle.smil_model.specs.document.Document.{node_at};
-ghost use Rattle.smil_model.specs.document.Valid.{may_hold as may_hold_kind};
+ghost use Rattle.smil_model.specs.document.Valid.{may_hold};
 ghost use Rattle.smil_tree.specs.Outcomes.{agrees_with_first, place_outcome};
 
 use super::Tree;
@@ -50,10 +50,10 @@ fn may_place(parent: &Parent<'_>, place: usize, kind: Kind) -> bool
     requires { (serial : ℕ) → slice_get parent.now.children.now 0 ≡ Some serial
         → IsSome (node_at parent.now.nodes.now serial) }
     ensures { result ≡ (nat_lt 0 place && nat_le place (suc (length parent.now.children.now))
-        && may_hold_kind parent.now.kind kind
+        && may_hold parent.now.kind kind
         && agrees_with_first parent.now.nodes.now (slice_get parent.now.children.now 0) kind) }
 {
-    has_place(parent.children, place) && may_hold(parent.kind, kind) && agrees(parent, kind)
+    has_place(parent.children, place) && parent.kind.may_hold(kind) && agrees(parent, kind)
 }
 
 // Whether a place is from 1 to the number of children plus 1.
@@ -61,17 +61,6 @@ fn has_place(children: &[u32], place: usize) -> bool
     ensures { result ≡ (nat_lt 0 place && nat_le place (suc (length children.now))) }
 {
     0 < place && place - 1 <= children.len()
-}
-
-// Whether a node of one kind may hold one of another.
-fn may_hold(parent: Kind, child: Kind) -> bool
-    ensures { result ≡ may_hold_kind parent child }
-{
-    match parent {
-        Kind::Par | Kind::Seq | Kind::PriorityClass => child.is_element(),
-        Kind::Excl => true,
-        _ => false,
-    }
 }
 
 // Whether the first child, if there is one, agrees with a kind in being a priorityClass or not.
