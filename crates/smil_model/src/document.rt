@@ -324,6 +324,7 @@ pub struct Attrs {
 }
 
 impl Attrs {
+    ghost use Rattle.smil_model.specs.document.Defaults.{stated_list};
     ghost use Rattle.smil_model.specs.document.Edits.{no_attrs};
 
     /// The attributes, each of them absent.
@@ -354,6 +355,16 @@ impl Attrs {
             target_element: None,
             attribute_name: None,
             to: None,
+        }
+    }
+
+    /// The list of `begin` or `end`, where it is stated. It takes no memory.
+    pub fn list(&self, side: Edge) -> Option<&Items>
+        ensures { option_copied result ≡ stated_list self.now side }
+    {
+        match side {
+            Edge::Begin => self.begin.as_ref(),
+            Edge::End => self.end.as_ref(),
         }
     }
 }
