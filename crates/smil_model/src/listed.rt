@@ -99,21 +99,21 @@ impl<T: Drop> Listed<T> {
     }
 }
 
-impl Listed<u8> {
-    /// The list of these bytes, unless memory runs out.
-    pub fn of(alloc: Global, bytes: &[u8]) -> Result<Self, AllocError>
-        ensures { IfOk result (λ list. list ≡ bytes.now) }
+impl<T: Copy> Listed<T> {
+    /// The list of these elements, unless memory runs out.
+    pub fn of(alloc: Global, items: &[T]) -> Result<Self, AllocError>
+        ensures { IfOk result (λ list. list ≡ items.now) }
     {
         Ok(Listed {
-            items: Vec::from_slice(alloc, bytes)?,
+            items: Vec::from_slice(alloc, items)?,
         })
     }
 
-    /// Appends all of these bytes. Where memory runs out the list is as before.
-    pub fn append(&mut self, bytes: &[u8]) -> Result<(), AllocError>
-        ensures ok { OnOk result (self.new ≡ self.old ++ bytes.now) }
+    /// Appends all of these elements. Where memory runs out the list is as before.
+    pub fn append(&mut self, items: &[T]) -> Result<(), AllocError>
+        ensures ok { OnOk result (self.new ≡ self.old ++ items.now) }
         ensures err { OnErr result (self.new ≡ self.old) }
     {
-        self.items.extend_from_slice(bytes)
+        self.items.extend_from_slice(items)
     }
 }
