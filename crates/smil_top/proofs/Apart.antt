@@ -20,15 +20,13 @@ use Rattle.smil_top.specs.Cut.{Numbered, LoadLines, OrderLines, single, load, is
 use Rattle.smil_top.specs.Session.{Session, presentation_of, with_state, without, may_load}
 use Rattle.smil_top.specs.Answers.{Refused, Answer, Given, at_line, held, said_within, name_of, outline_from, given_within, loaded_within, answer_within}
 use Rattle.smil_top.specs.Laws.{heard, session_after, refuses_as, loads, is_of, part_of, is_too_many, IsOwn as HasOwn}
+use Rattle.smil_top.proofs.Aside.{document_from}
 use Rattle.smil_top.proofs.Sifted.{part-with, part-without, part-own, presentation-part, may-part, with-other, without-other, loaded-other}
 use Rattle.smil_top.proofs.Isolated.{IsOwn, IsOther, own_line, other_line}
 
 -- ---- what a load gives has the name of its first line
 
 module _ (allowed : Limits) (line end_line : ℕ) (nodes : List Numbered) where
-  abbrev document_from : List ℕ → Outline → Result Document Refused → Result Given Refused
-  document_from name outline d = d >>= λ document. Ok (record { name = name; document = document; version = version_of outline })
-
   abbrev nodes_from : List ℕ → Result Outline Refused → Result Given Refused
   nodes_from name o = o >>= λ outline. document_from name outline (at_line end_line (ended outline))
 

@@ -24,6 +24,10 @@ use Rattle.smil_top.specs.Transcript.{Answering, untold}
 use Rattle.smil_top.specs.Laws.{Tried, Answered, answer_to, heard, session_after, answered_from, numbered_by, renumbered, renumbered_try, AreSameBut, without_text, with_text, refused_at, AreAside}
 use Rattle.smil_top.proofs.Retold.{sessions_from, sessions-told}
 
+-- what a load gives, by its name, its outline and what the outline's end gives
+abbrev pub document_from : List ℕ → Outline → Result Document Refused → Result Given Refused
+document_from name outline d = d >>= λ document. Ok (record { name = name; document = document; version = version_of outline })
+
 module _ (allowed : Limits) (given : ℕ → ℕ) where
   -- the same with the line of a fault moved
   abbrev moved : {A : Type 0} → Result A Refused → Result A Refused
@@ -45,9 +49,6 @@ module _ (allowed : Limits) (given : ℕ → ℕ) where
   outline-moved : (outline : Outline) (lines : List Numbered) → outline_from allowed outline (map (numbered_by given) lines) ≡ moved (outline_from allowed outline lines)
   outline-moved outline [] = refl
   outline-moved outline (line ∷ lines) = lines-step line.number lines (line_within allowed outline line.text) (λ more. outline-moved more lines)
-
-  abbrev document_from : List ℕ → Outline → Result Document Refused → Result Given Refused
-  document_from name outline d = d >>= λ document. Ok (record { name = name; document = document; version = version_of outline })
 
   ended-moved : (name : List ℕ) (outline : Outline) (end_line : ℕ) (d : Result Document Refusal)
       → document_from name outline (at_line (given end_line) d) ≡ moved (document_from name outline (at_line end_line d))
