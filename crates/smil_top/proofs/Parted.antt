@@ -11,7 +11,7 @@ use Rattle.smil_outside.proofs.LineLemmas.{lines_of_parts-cons, some_part}
 use Rattle.smil_top.specs.Cut.{Numbered, LoadLines, OrderLines, single, load, Cut, opens, ends, is_silent, cut_by, cut_of, unended, orders, whole_orders}
 use Rattle.smil_top.specs.Answers.{Answer}
 use Rattle.smil_top.specs.Transcript.{Answering, Told, untold, with_answer, IsTranscriptBy, and_then, transcript_by}
-use Rattle.smil_top.specs.Laws.{Tried, answer_to, told_by, heard, answer_lines, AtMostOne, IsCutShort, HasFront, IsFrontAndOne}
+use Rattle.smil_top.specs.Laws.{Tried, answer_to, told_by, heard, answer_lines, AtMostOne, SharesFirstOrders, HasFront, IsFrontAndOne}
 use Rattle.smil_top.proofs.Cuts.{cut_of-one_more, if_either, orders-first}
 use Rattle.smil_top.proofs.Retold.{text_with, is_told, each_is_told, is_some}
 
@@ -115,7 +115,7 @@ few_orders front (line ∷ []) few =
     (one.0, ap (λ (cut : Cut). cut.whole ++ unended cut.«open») (cut_of-one_more front line) ∙ one.1, one.2)
 few_orders front (line ∷ next ∷ more) few = elim few [ ]
 
-pub inputs_cut : (came more : List ℕ) → IsCutShort came more
+pub inputs_cut : (came more : List ℕ) → SharesFirstOrders came more
 inputs_cut came more =
     let all = orders-first (whole_lines came) (behind came more) in
     let one = few_orders (whole_lines came) (behind came []) (few_behind came) in

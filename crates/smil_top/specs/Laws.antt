@@ -327,7 +327,7 @@ AtMostOne _ = ⊥
 
 -- of two inputs the orders that are whole in the whole lines of the shorter one are the first of both, and it has at
 -- most one order more
-pub record IsCutShort (came more : List ℕ) : Type 0 where
+pub record SharesFirstOrders (came more : List ℕ) : Type 0 where
   pub later : List OrderLines
   pub last : List OrderLines
   pub whole : orders (lines (came ++ more)) ≡ whole_orders (whole_lines came) ++ later
@@ -336,7 +336,7 @@ pub record IsCutShort (came more : List ℕ) : Type 0 where
 
 -- wherever the input is cut, in a line too
 abbrev pub InputsAreCut : Type 0
-InputsAreCut = (came more : List ℕ) → IsCutShort came more
+InputsAreCut = (came more : List ℕ) → SharesFirstOrders came more
 
 -- the transcript of the first orders is the front of the transcript of more
 pub record HasFront (answering : Answering) (first : List OrderLines) (told : Told) : Type 0 where
