@@ -18,7 +18,7 @@ use Rattle.smil_grammar.specs.Outlines.{Outline, no_lines, ended, version_of}
 use Rattle.smil_live.proofs.AgreedReferences.{bytes_same}
 use Rattle.smil_top.specs.Cut.{Numbered, LoadLines, OrderLines, single, load, is_short}
 use Rattle.smil_top.specs.Session.{Session, presentation_of, with_state, without, may_load}
-use Rattle.smil_top.specs.Answers.{Refused, Answer, Given, at_line, held, said_within, name_of, outline_from, given_within, loaded_within, answer_within}
+use Rattle.smil_top.specs.Answers.{Refused, Answer, Given, at_line, found_presentation, said_within, name_of, outline_from, given_within, loaded_within, answer_within}
 use Rattle.smil_top.specs.Laws.{heard, session_after, refuses_as, loads, is_of, part_of, is_too_many, IsOwn as HasOwn}
 use Rattle.smil_top.proofs.Aside.{document_from}
 use Rattle.smil_top.proofs.Sifted.{part-with, part-without, part-own, presentation-part, may-part, with-other, without-other, loaded-other}
@@ -62,12 +62,12 @@ module _ (allowed : Limits) (name : List ℕ) (session : Session) where
     outcome_stays before order (Err refusal) = refl
 
     ordered_stays : (order : Order) (p : Option Presentation)
-        → Stays (at_line line (held p >>= λ before. outcome_within allowed formats before order >>= λ after.
+        → Stays (at_line line (found_presentation p >>= λ before. outcome_within allowed formats before order >>= λ after.
         Ok (record { text = answer_text formats before after order ++ ok_line line other (pos after.now); session = with_state other after session })))
     ordered_stays order (Some before) = outcome_stays before order (outcome_within allowed formats before order)
     ordered_stays order None = refl
 
-    closed_stays : (p : Option Presentation) → Stays (at_line line (held p >>= λ before. Ok (record { text = closed_line line other; session = without other session })))
+    closed_stays : (p : Option Presentation) → Stays (at_line line (found_presentation p >>= λ before. Ok (record { text = closed_line line other; session = without other session })))
     closed_stays (Some before) = without-other name other apart session
     closed_stays None = refl
 
@@ -132,7 +132,7 @@ module _ (allowed : Limits) (name : List ℕ) (session : Session) where
     outcome_alike before order (Err refusal) = refused_alike _
 
     abbrev ordered_in : Order → Session → Option Presentation → Answer
-    ordered_in order s p = at_line line (held p >>= λ before. outcome_within allowed formats before order >>= λ after.
+    ordered_in order s p = at_line line (found_presentation p >>= λ before. outcome_within allowed formats before order >>= λ after.
         Ok (record { text = answer_text formats before after order ++ ok_line line name (pos after.now); session = with_state name after s }))
 
     ordered_alike : (order : Order) (p : Option Presentation) → Alike (ordered_in order part p) (ordered_in order session p)
@@ -140,7 +140,7 @@ module _ (allowed : Limits) (name : List ℕ) (session : Session) where
     ordered_alike order None = refused_alike _
 
     abbrev closed_in : Session → Option Presentation → Answer
-    closed_in s p = at_line line (held p >>= λ before. Ok (record { text = closed_line line name; session = without name s }))
+    closed_in s p = at_line line (found_presentation p >>= λ before. Ok (record { text = closed_line line name; session = without name s }))
 
     closed_alike : (p : Option Presentation) → Alike (closed_in part p) (closed_in session p)
     closed_alike (Some before) = record { heard_is = refl; after_is = sym (part-without name session) }

@@ -19,7 +19,7 @@ use Rattle.smil_grammar.specs.Formats.{formats}
 use Rattle.smil_grammar.specs.Outlines.{Outline, no_lines, line_within, ended, version_of}
 use Rattle.smil_top.specs.Cut.{Numbered, OrderLines, single, load, first_line}
 use Rattle.smil_top.specs.Session.{Session, presentation_of, with_state, without, may_load}
-use Rattle.smil_top.specs.Answers.{Refused, Answer, Given, at_line, read_of, held, said_within, name_of, outline_from, given_within, loaded_within, answer_within}
+use Rattle.smil_top.specs.Answers.{Refused, Answer, Given, at_line, read_of, found_presentation, said_within, name_of, outline_from, given_within, loaded_within, answer_within}
 use Rattle.smil_top.specs.Transcript.{Answering, untold}
 use Rattle.smil_top.specs.Laws.{Tried, Answered, answer_to, heard, session_after, answered_from, numbered_by, renumbered, renumbered_try, AreSameBut, without_text, with_text, refused_at, AreAside}
 use Rattle.smil_top.proofs.Retold.{sessions_from, sessions-told}
@@ -83,7 +83,7 @@ module _ (allowed : Limits) (given : ℕ → ℕ) where
     outcome_same line order name before (Err refusal) = (refused_at line refusal, refl)
 
     abbrev ordered_at : Order → List ℕ → ℕ → Option Presentation → Answer
-    ordered_at order name line p = at_line line (held p >>= λ before. outcome_within allowed formats before order >>= λ after.
+    ordered_at order name line p = at_line line (found_presentation p >>= λ before. outcome_within allowed formats before order >>= λ after.
         Ok (record { text = answer_text formats before after order ++ ok_line line name (pos after.now); session = with_state name after session }))
 
     ordered_same : (line : ℕ) (order : Order) (name : List ℕ) (p : Option Presentation) → Same line (ordered_at order name line p) (ordered_at order name (given line) p)
@@ -91,7 +91,7 @@ module _ (allowed : Limits) (given : ℕ → ℕ) where
     ordered_same line order name None = (refused_at line _, refl)
 
     abbrev closed_at : List ℕ → ℕ → Option Presentation → Answer
-    closed_at name line p = at_line line (held p >>= λ before. Ok (record { text = closed_line line name; session = without name session }))
+    closed_at name line p = at_line line (found_presentation p >>= λ before. Ok (record { text = closed_line line name; session = without name session }))
 
     closed_same : (line : ℕ) (name : List ℕ) (p : Option Presentation) → Same line (closed_at name line p) (closed_at name (given line) p)
     closed_same line name (Some before) = (with_text [] (name ∷ codes "closed" ∷ []), refl)

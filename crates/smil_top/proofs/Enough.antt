@@ -33,7 +33,7 @@ use Rattle.smil_grammar.specs.Nodes.{Shape, is_space, shape_of, kind_of_shape}
 use Rattle.smil_grammar.specs.Outlines.{Outline, no_lines, unless, is_misplaced, is_bad_serial, has_id, references as attr_references, in_line, attrs_in, last_of, node_within, opens_saved, shape_in, with_header, header_of, shape_within, read_within, line_within, ended, with_node}
 use Rattle.smil_top.specs.Cut.{Numbered, LoadLines, OrderLines, single, load}
 use Rattle.smil_top.specs.Session.{Session, presentation_of, may_load}
-use Rattle.smil_top.specs.Answers.{Refused, Answer, Given, at_line, read_of, held, said_within, name_of, outline_from, given_within, loaded_within, silent, answer_within, check_within}
+use Rattle.smil_top.specs.Answers.{Refused, Answer, Given, at_line, read_of, found_presentation, said_within, name_of, outline_from, given_within, loaded_within, silent, answer_within, check_within}
 use Rattle.smil_top.specs.Transcript.{is_memory}
 use Rattle.smil_top.specs.Laws.{heard, refuses_as}
 use Rattle.smil_top.proofs.Sure.{Sure, made, refused, either, onward, attr_sure, attrs_sure, kind_shape_sure, node_sure, name_sure, column_sure, node_lacks}
@@ -262,15 +262,15 @@ at_line_sure : {A : Type 0} (line : ℕ) (r : Result A Refusal) → Fine r → S
 at_line_sure line (Ok x) h = made fault_lacks x
 at_line_sure line (Err e) h = record { never = h.never }
 
-held_sure : (p : Option Presentation) → Fine (held p)
+held_sure : (p : Option Presentation) → Fine (found_presentation p)
 held_sure None = no refusal.NoPresentation refl
 held_sure (Some p) = made is_memory p
 
 said_sure : (allowed : Limits) (session : Session) (line : ℕ) (read : Read) → Fine (said_within allowed session line read)
 said_sure allowed session line (To name order) =
-    onward is_memory (held (presentation_of name session)) _ (held_sure (presentation_of name session))
+    onward is_memory (found_presentation (presentation_of name session)) _ (held_sure (presentation_of name session))
     (λ before. onward is_memory (outcome_within allowed formats before order) _ (outcome_sure allowed before order) (λ after. made is_memory _))
-said_sure allowed session line (Close name) = onward is_memory (held (presentation_of name session)) _ (held_sure (presentation_of name session)) (λ before. made is_memory _)
+said_sure allowed session line (Close name) = onward is_memory (found_presentation (presentation_of name session)) _ (held_sure (presentation_of name session)) (λ before. made is_memory _)
 said_sure allowed session line (Load name) = no refusal.NotACommand refl
 said_sure allowed session line Blank = made is_memory _
 

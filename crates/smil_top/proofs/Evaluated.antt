@@ -25,7 +25,7 @@ use Rattle.smil_top.specs.declared.given.Given.{Given as GivenDoc}
 use Rattle.smil_top.specs.declared.run.Run.{Run}
 use Rattle.smil_top.specs.Cut.{Cut, LoadLines, OrderLines, cut_of, load, unended, with_line}
 use Rattle.smil_top.specs.Session.{Session, presentation_of, may_load}
-use Rattle.smil_top.specs.Answers.{Answer, Given, Refused, at_line, held, given_within, answer_of}
+use Rattle.smil_top.specs.Answers.{Answer, Given, Refused, at_line, found_presentation, given_within, answer_of}
 use Rattle.smil_top.specs.Transcript.{Told, MayAnswer, is_memory, transcript_by, untold}
 use Rattle.smil_top.specs.Serving.{status_by}
 use Rattle.smil_top.specs.Laws.{heard, refuses_as}
@@ -61,7 +61,7 @@ module _ (name : List ℕ) (order : Order) (house new : Presentations) (session 
   counted-ordered text rise moment answered =
       let found : presentation_of name session ≡ Some answered.before.player = held-at name house session answered.place answered.before holds answered.turned.at in
       let same : (bound : Bound) → bound.number answered.before.player order ≡ result_unwrap_or (ordered_number bound session name order) 0 =
-      λ bound. sym (ap (λ o. result_unwrap_or (held o >>= λ (p : Presentation). Ok (bound.number p order)) 0) found)
+      λ bound. sym (ap (λ o. result_unwrap_or (found_presentation o >>= λ (p : Presentation). Ok (bound.number p order)) 0) found)
       in
       (subst (λ n. n ≤ rise) (same least) answered.least_is, subst (λ n. rise ≤ n) (same most) answered.most_is)
 

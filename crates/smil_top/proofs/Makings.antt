@@ -19,7 +19,7 @@ use Rattle.smil_house.specs.declared.house.Held.{Held}
 use Rattle.smil_house.specs.House.{place_of, load_refusal, without as house_without, IsAt, IsAnsweredBy, AreKept, IsRefused}
 use Rattle.smil_top.specs.declared.answer.Answer.{Answer as AnswerText}
 use Rattle.smil_top.specs.Session.{Session, presentation_of, with_state, without, may_load}
-use Rattle.smil_top.specs.Answers.{Accepted, Given, held, ordered_within, closed, loaded_within, checked}
+use Rattle.smil_top.specs.Answers.{Accepted, Given, found_presentation, ordered_within, close_answer, loaded_within, checked}
 use Rattle.smil_top.specs.Houses.{Presentations, shown, AreApart, Holds}
 use Rattle.smil_top.specs.Kept.{Makes, Checks}
 use Rattle.smil_top.proofs.HouseLemmas.{presentation-held, some-held, may_load-held, may_load-free, turned-session, turned-apart, closed-session, closed-apart, added-session, added-apart}
@@ -103,7 +103,7 @@ module _ (name : List ℕ) (order : Order) (house new : Presentations) (session 
               ∙ ap (map shown) (sym turned.new_is);
           apart = subst AreApart (sym turned.new_is) (turned-apart house answered.place answered.before answered.after holds.apart at.here turned.name_is);
         },
-        ap (λ o. held o >>= λ (p : Presentation). outcome formats p order >>= λ (q : Presentation). Ok (record { text = answer_text formats p q order ++ ok_line number name (pos q.now); session = with_state name q session })) found
+        ap (λ o. found_presentation o >>= λ (p : Presentation). outcome formats p order >>= λ (q : Presentation). Ok (record { text = answer_text formats p q order ++ ok_line number name (pos q.now); session = with_state name q session })) found
             ∙ ap (λ r. r >>= λ (q : Presentation). Ok (record { text = answer_text formats before q order ++ ok_line number name (pos q.now); session = with_state name q session })) answered.accepted.state
             ∙ ap (λ zs. Ok (record { text = zs; session = with_state name after session })) (sym words),
       )
@@ -123,7 +123,7 @@ module _ (name : List ℕ) (order : Order) (house new : Presentations) (session 
   unmade-ordered text rise refusal (inl absent) kept = (
     kept-holds kept,
     inr (
-        ap (λ o. held o >>= λ (p : Presentation). outcome formats p order >>= λ (q : Presentation). Ok (record { text = answer_text formats p q order ++ ok_line number name (pos q.now); session = with_state name q session })) (held-nowhere name house session holds absent.place_is)
+        ap (λ o. found_presentation o >>= λ (p : Presentation). outcome formats p order >>= λ (q : Presentation). Ok (record { text = answer_text formats p q order ++ ok_line number name (pos q.now); session = with_state name q session })) (held-nowhere name house session holds absent.place_is)
         ∙ ap Err (sym absent.refusal_is)
         ),
   )
@@ -133,7 +133,7 @@ module _ (name : List ℕ) (order : Order) (house new : Presentations) (session 
         elim refused.refused [
           | inl memory ↦ inl memory
           | inr is ↦ inr (
-              ap (λ o. held o >>= λ (p : Presentation). outcome formats p order >>= λ (q : Presentation). Ok (record { text = answer_text formats p q order ++ ok_line number name (pos q.now); session = with_state name q session })) found
+              ap (λ o. found_presentation o >>= λ (p : Presentation). outcome formats p order >>= λ (q : Presentation). Ok (record { text = answer_text formats p q order ++ ok_line number name (pos q.now); session = with_state name q session })) found
               ∙ ap (λ r. r >>= λ (q : Presentation). Ok (record { text = answer_text formats refused.before.player q order ++ ok_line number name (pos q.now); session = with_state name q session })) is
               )
         ],
@@ -154,10 +154,10 @@ accepted = Ok tt
 pub made-closed : (name : List ℕ) (house new : Presentations) (session : Session) (number : ℕ) → Holds house session →
     (place_of name house ≡ None → accepted ≡ refused NoPresentation) →
     ((place : ℕ) → place_of name house ≡ Some place → (accepted ≡ accepted) × (new ≡ house_without place house)) →
-    Makes (Ok tt) (record { told = []; last = closed_line number name }) new session (closed session number name)
+    Makes (Ok tt) (record { told = []; last = closed_line number name }) new session (close_answer session number name)
 made-closed name house new session number holds absent is_closed = go (place_of name house) refl
   where
-    go : (place : Option ℕ) → place_of name house ≡ place → Makes (Ok tt) (record { told = []; last = closed_line number name }) new session (closed session number name)
+    go : (place : Option ℕ) → place_of name house ≡ place → Makes (Ok tt) (record { told = []; last = closed_line number name }) new session (close_answer session number name)
     go None none = absurd (let e = absent none in cc)
     go (Some place) found =
         let new_is : new ≡ house_without place house = (is_closed place found).1 in
@@ -167,20 +167,20 @@ made-closed name house new session number holds absent is_closed = go (place_of 
             session_is = ap (without name) holds.session_is ∙ sym (closed-session name house place holds.apart found) ∙ ap (map shown) (sym new_is);
             apart = subst AreApart (sym new_is) (closed-apart house place holds.apart);
           },
-          ap (λ o. held o >>= λ (p : Presentation). Ok (record { text = closed_line number name; session = without name session })) is_held.1,
+          ap (λ o. found_presentation o >>= λ (p : Presentation). Ok (record { text = closed_line number name; session = without name session })) is_held.1,
         )
 
 pub unmade-closed : (name : List ℕ) (house new : Presentations) (session : Session) (number : ℕ) (text : AnswerText) (refusal : Refusal) → Holds house session →
     (place_of name house ≡ None → refused refusal ≡ refused NoPresentation) →
     ((place : ℕ) → place_of name house ≡ Some place → (refused refusal ≡ accepted) × (new ≡ house_without place house)) → new ≡ house →
-    Makes (Err refusal) text new session (closed session number name)
+    Makes (Err refusal) text new session (close_answer session number name)
 unmade-closed name house new session number text refusal holds absent is_closed same = go (place_of name house) refl
   where
-    go : (place : Option ℕ) → place_of name house ≡ place → Makes (Err refusal) text new session (closed session number name)
+    go : (place : Option ℕ) → place_of name house ≡ place → Makes (Err refusal) text new session (close_answer session number name)
     go None none = (
       subst (λ h. Holds h session) (sym same) holds,
       inr (
-          ap (λ o. held o >>= λ (p : Presentation). Ok (record { text = closed_line number name; session = without name session })) (held-nowhere name house session holds none)
+          ap (λ o. found_presentation o >>= λ (p : Presentation). Ok (record { text = closed_line number name; session = without name session })) (held-nowhere name house session holds none)
           ∙ ap as_accepted (sym (absent none))
           ),
     )

@@ -19,7 +19,7 @@ use Rattle.smil_laws.proofs.Migrating.{outcome_same, opening_same}
 use Rattle.smil_outline.proofs.Migrating.{line_same, then_same as plain_same}
 use Rattle.smil_top.specs.Cut.{Numbered, LoadLines, OrderLines, single, load}
 use Rattle.smil_top.specs.Session.{Session, presentation_of, with_state, may_load}
-use Rattle.smil_top.specs.Answers.{Accepted, Refused, Answer, Given, at_line, read_of, held, ordered_within, said_within, name_of, outline_from, given_within, loaded_within, checked, answer_within, check_within}
+use Rattle.smil_top.specs.Answers.{Accepted, Refused, Answer, Given, at_line, read_of, found_presentation, ordered_within, said_within, name_of, outline_from, given_within, loaded_within, checked, answer_within, check_within}
 use Rattle.smil_top.specs.Transcript.{Answering, Told, with_answer, untold}
 use Rattle.smil_top.specs.Laws.{Tried, answer_to, told_by, heard, session_after, answered_from, answered_by, refuses_as, any_refused_as}
 use Rattle.smil_top.proofs.Retold.{told_further, session_with}
@@ -56,7 +56,7 @@ module _ (small large : Limits) (below : AreBelow small large) where
         text = answer_text formats before after order ++ ok_line line name (pos after.now);
         session = with_state name after session;
       }) in
-      plain_same (held (presentation_of name session)) (held (presentation_of name session))
+      plain_same (found_presentation (presentation_of name session)) (found_presentation (presentation_of name session))
       (λ before. outcome_within small formats before order >>= with before) (λ before. outcome_within large formats before order >>= with before) m (λ _. refl)
       (λ before v. plain_same (outcome_within small formats before order) (outcome_within large formats before order) (with before) (with before) v (outcome_same small large below formats before order) (λ after w. refl))
 

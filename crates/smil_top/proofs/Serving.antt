@@ -23,7 +23,7 @@ use Rattle.smil_words.specs.declared.mode.Mode.TheVariants as mode
 use Rattle.smil_top.specs.Cut.{Cut, OrderLines, cut_of, with_line, orders, unended, whole_orders}
 use Rattle.smil_top.specs.Transcript.{Told, IsTranscriptBy, untold}
 use Rattle.smil_top.specs.Words.{is_told}
-use Rattle.smil_top.specs.Serving.{counted, status_by, status_of, IsWhole, IsPart, AreFirst, IsBroken, Runs, Explains, Generates, Serves, reads}
+use Rattle.smil_top.specs.Serving.{counted_bytes, status_by, status_of, IsWhole, IsPart, AreFirst, IsBroken, Runs, Explains, Generates, Serves, reads}
 use Rattle.smil_top.specs.Evaluations.{AreEvaluated, Evaluates, EvaluatesBy}
 use Rattle.smil_top.specs.Kept.{answering, asked_by, ended_by, IsAll, IsRunning, IsText, Tells, WritesAll, WritesPart, Goes, Answers, AnswersOrders, Ends, Ran, RanCounted, RunsBy}
 use Rattle.smil_top.proofs.Cuts.{cut_of-one_more, count-cut_of, whole-first, orders-first}
@@ -166,7 +166,7 @@ module _ (old new : Reading) (before rest after : Option (List ℕ)) (came : Lis
       )
 
   -- the limit is passed, or a read failed: these are the whole lines of what counts
-  pub next-too_long : Nexts old new InputTooLong rest after → (came' : List ℕ) × Consumes before after came' × (whole_lines (counted came') ≡ answered) × (INPUT_BYTES < length came')
+  pub next-too_long : Nexts old new InputTooLong rest after → (came' : List ℕ) × Consumes before after came' × (whole_lines (counted_bytes came') ≡ answered) × (INPUT_BYTES < length came')
   next-too_long (inr h) = cc
   next-too_long (inl (is_open, reads)) =
       let next = HasAnswered-next old new InputTooLong rest after came answered has.has is_open reads in
@@ -177,7 +177,7 @@ module _ (old new : Reading) (before rest after : Option (List ℕ)) (came : Lis
         lines_are.1,
       )
 
-  pub next-fault : Nexts old new ReadFault rest after → (came' : List ℕ) × Consumes before after came' × (whole_lines (counted came') ≡ answered) × (length came' ≤ INPUT_BYTES)
+  pub next-fault : Nexts old new ReadFault rest after → (came' : List ℕ) × Consumes before after came' × (whole_lines (counted_bytes came') ≡ answered) × (length came' ≤ INPUT_BYTES)
   next-fault (inr h) = cc
   next-fault (inl (is_open, reads)) =
       let next = HasAnswered-next old new ReadFault rest after came answered has.has is_open reads in

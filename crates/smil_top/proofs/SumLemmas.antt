@@ -16,7 +16,7 @@ use Rattle.smil_grammar.specs.Results.{◌>>=◌}
 use Rattle.smil_live.specs.Counts.{least_between, when_accepted}
 use Rattle.smil_top.specs.Cut.{OrderLines, single, load}
 use Rattle.smil_top.specs.Session.{Session, presentation_of, with_state, may_load}
-use Rattle.smil_top.specs.Answers.{Accepted, Answer, Given, Refused, at_line, read_of, held, said_within, given_within, loaded_within, answer_of}
+use Rattle.smil_top.specs.Answers.{Accepted, Answer, Given, Refused, at_line, read_of, found_presentation, said_within, given_within, loaded_within, answer_of}
 use Rattle.smil_top.specs.Transcript.{Told, with_answer}
 use Rattle.smil_top.specs.Laws.{with_ease, heard, session_after, answered_from, refuses_as, any_refused_as}
 use Rattle.smil_top.specs.Evaluations.{Bound, least, number_of, loaded_number, said_number, sum_from, is_diary_full}
@@ -80,8 +80,8 @@ module _ (bound : Bound) (spares : SparesRefused bound) (session : Session) (lin
   outcome-0 name order p (Ok q) is refused = absurd cc
   outcome-0 name order p (Err refusal) is refused = spares p order refusal is
 
-  held-0 : (name : List ℕ) (order : Order) (o : Option Presentation) → at_line line (held o >>= λ (p : Presentation). ordered_by name order p (outcome formats p order)) ≡ Err fault →
-      result_unwrap_or (held o >>= λ (p : Presentation). Ok (bound.number p order)) 0 ≡ 0
+  held-0 : (name : List ℕ) (order : Order) (o : Option Presentation) → at_line line (found_presentation o >>= λ (p : Presentation). ordered_by name order p (outcome formats p order)) ≡ Err fault →
+      result_unwrap_or (found_presentation o >>= λ (p : Presentation). Ok (bound.number p order)) 0 ≡ 0
   held-0 name order None refused = refl
   held-0 name order (Some p) refused = outcome-0 name order p (outcome formats p order) refl refused
 

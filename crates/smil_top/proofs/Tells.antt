@@ -26,7 +26,7 @@ use Rattle.smil_top.specs.Answers.{Refused, Answer, Given, at_line, said_within,
 use Rattle.smil_top.specs.Transcript.{Told, and_then, is_memory, with_answer}
 use Rattle.smil_top.specs.Summary.{line_count}
 use Rattle.smil_top.specs.Houses.{Presentations, Holds}
-use Rattle.smil_top.specs.Kept.{answering, counted, counted_on, fault_at, given_of, line_by, load_by, refused_by, said, text_of, AreCounted, Answers, AnswersOrders, Gives, Goes, IsOpen, IsRead, IsRunning, IsText, Makes, MakesAnswer, Tells, Writes, WritesAll}
+use Rattle.smil_top.specs.Kept.{answering, with_order, counted_on, fault_at, given_of, line_by, load_by, refused_by, said, text_of, AreCounted, Answers, AnswersOrders, Gives, Goes, IsOpen, IsRead, IsRunning, IsText, Makes, MakesAnswer, Tells, Writes, WritesAll}
 use Rattle.smil_top.proofs.CutLines.{is_short-true, is_short-false}
 
 -- the answer that was made
@@ -35,7 +35,7 @@ answer_as (Ok done) text after = Ok (record { text = text_of text; session = aft
 answer_as (Err fault) text after = Err (refused_by fault)
 
 abbrev pub counted_as : Result (Unit {0}) Fault → AnswerText → Counts → Counts
-counted_as answered text counts = counted answered (min (line_count (said answered text)) last_count) counts
+counted_as answered text counts = with_order answered (min (line_count (said answered text)) last_count) counts
 
 -- ---- counts
 
@@ -65,7 +65,7 @@ refused-counted false count refused is = ap (λ n. min (n + 1) last_count) is �
 -- the counts of an order that was answered so
 told-counted : (answered : Result (Unit {0}) Fault) (text : AnswerText) (counts : Counts) (orders : List OrderLines) (told : Told) (order : OrderLines) (after : Session) →
     AreCounted counts orders told →
-    AreCounted (counted answered (min (line_count (said answered text)) last_count) counts) (orders ++ order ∷ []) (with_answer told (answer_as answered text after))
+    AreCounted (with_order answered (min (line_count (said answered text)) last_count) counts) (orders ++ order ∷ []) (with_answer told (answer_as answered text after))
 told-counted (Ok done) text counts orders told order after were = record {
   orders_are = orders-counted counts.orders orders order were.orders_are;
   refused_is = were.refused_is;
@@ -84,7 +84,7 @@ told-counted (Err fault) text counts orders told order after were = record {
 -- what is told with an order that was answered so
 pub told-more : (checks : Bool) (run new : Run) (whole : List OrderLines) (told : Told) (order : OrderLines) (answered : Result (Unit {0}) Fault) (text : AnswerText) →
     Tells checks run whole told → MakesAnswer answered text new.session.house told.session (answering checks) order →
-    new.session.checks ≡ run.session.checks → new.counts ≡ counted answered (min (line_count (said answered text)) last_count) run.counts →
+    new.session.checks ≡ run.session.checks → new.counts ≡ with_order answered (min (line_count (said answered text)) last_count) run.counts →
     (more : Told) × Tells checks new (whole ++ order ∷ []) more × (more.text ≡ told.text ++ said answered text)
 told-more checks run new whole told order (Ok done) text tells made same counts = (
   with_answer told (answer_as (Ok done) text made.0),
@@ -111,7 +111,7 @@ told-more checks run new whole told order (Err fault) text tells made same count
 pub told-order : (checks : Bool) (run new : Run) (whole : List OrderLines) (told : Told) (order : OrderLines) (answered : Result (Unit {0}) Fault) (text : AnswerText)
     (result : Result (Unit {0}) Failed) (before after : Option (List ℕ)) (room left : ℕ) →
     Tells checks run whole told → MakesAnswer answered text new.session.house told.session (answering checks) order →
-    new.session.checks ≡ run.session.checks → new.counts ≡ counted answered (min (line_count (said answered text)) last_count) run.counts →
+    new.session.checks ≡ run.session.checks → new.counts ≡ with_order answered (min (line_count (said answered text)) last_count) run.counts →
     Writes result before after room left (said answered text) →
     AnswersOrders checks result new (whole ++ order ∷ []) told before after room left
 told-order checks run new whole told order answered text result before after room left tells made same counts writes =

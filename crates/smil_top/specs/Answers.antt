@@ -44,14 +44,14 @@ abbrev pub read_of : List ℕ → Result Read Refusal
 read_of line = if is_short line then line_of line else Err LongLine
 
 -- a presentation that is held, or there is none
-abbrev pub held : Option Presentation → Result Presentation Refusal
-held None = Err NoPresentation
-held (Some presentation) = Ok presentation
+abbrev pub found_presentation : Option Presentation → Result Presentation Refusal
+found_presentation None = Err NoPresentation
+found_presentation (Some presentation) = Ok presentation
 
 -- an order to the presentation of this name
 abbrev pub ordered_within : Limits → Session → ℕ → List ℕ → Order → Result Accepted Refusal
 ordered_within allowed session line name order = do
-  before ← held (presentation_of name session)
+  before ← found_presentation (presentation_of name session)
   after ← outcome_within allowed formats before order
   Ok (record {
     text = answer_text formats before after order ++ ok_line line name (pos after.now);
@@ -59,9 +59,9 @@ ordered_within allowed session line name order = do
   })
 
 -- the presentation of this name is closed
-abbrev pub closed : Session → ℕ → List ℕ → Result Accepted Refusal
-closed session line name = do
-  before ← held (presentation_of name session)
+abbrev pub close_answer : Session → ℕ → List ℕ → Result Accepted Refusal
+close_answer session line name = do
+  before ← found_presentation (presentation_of name session)
   Ok (record { text = closed_line line name; session = without name session })
 
 -- no text, and the same session
@@ -71,7 +71,7 @@ silent session = Ok (record { text = []; session = session })
 -- by what the line says; one that opens a load is no single line, nor is one without an answer
 abbrev pub said_within : Limits → Session → ℕ → Read → Result Accepted Refusal
 said_within allowed session line (To name order) = ordered_within allowed session line name order
-said_within allowed session line (Close name) = closed session line name
+said_within allowed session line (Close name) = close_answer session line name
 said_within allowed session line (Load name) = Err NotACommand
 said_within allowed session line Blank = silent session
 

@@ -16,7 +16,7 @@ use Rattle.smil_live.specs.Counts.{most_loading, least_loading, most_number, lea
 use Rattle.smil_top.specs.declared.status.Status.{Status}
 use Rattle.smil_top.specs.Cut.{LoadLines, OrderLines, single, load, orders}
 use Rattle.smil_top.specs.Session.{Session, presentation_of, may_load}
-use Rattle.smil_top.specs.Answers.{Refused, Given, at_line, read_of, held, given_within, answer_of}
+use Rattle.smil_top.specs.Answers.{Refused, Given, at_line, read_of, found_presentation, given_within, answer_of}
 use Rattle.smil_top.specs.Words.{is_told}
 use Rattle.smil_top.specs.Serving.{Serves}
 use Rattle.smil_top.specs.Laws.{with_ease, answered_by, any_refused_as, session_after}
@@ -39,7 +39,7 @@ least = record { number = least_number; loading = least_loading }
 -- of an order to the presentation of this name, in the state in which it is answered
 abbrev pub ordered_number : Bound → Session → List ℕ → Order → Result ℕ Refusal
 ordered_number bound session name order = do
-  before ← held (presentation_of name session)
+  before ← found_presentation (presentation_of name session)
   Ok (bound.number before order)
 
 -- by what the line says; a close and a blank line have 0

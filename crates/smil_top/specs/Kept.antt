@@ -180,12 +180,12 @@ abbrev pub counted_on : ℕ → ℕ → ℕ
 counted_on count more = min (count + more) last_count
 
 -- with one more order, whose answer has so many lines
-abbrev pub counted : Result (Unit {0}) Fault → ℕ → Counts → Counts
-counted (Ok done) lines counts = record counts {
+abbrev pub with_order : Result (Unit {0}) Fault → ℕ → Counts → Counts
+with_order (Ok done) lines counts = record counts {
   orders = counted_on counts.orders 1;
   lines = counted_on counts.lines lines;
 }
-counted (Err fault) lines counts = record counts {
+with_order (Err fault) lines counts = record counts {
   orders = counted_on counts.orders 1;
   lines = counted_on counts.lines lines;
   refused = if is_memory fault.refusal then counts.refused else counted_on counts.refused 1;

@@ -27,8 +27,8 @@ status_of told = status_by (nat_lt 0 told.refused) told.memory
 -- ---- a session is read
 
 -- the bytes of an input that count: what stands past the limit is part of no line
-abbrev pub counted : List ℕ → List ℕ
-counted came = take INPUT_BYTES came
+abbrev pub counted_bytes : List ℕ → List ℕ
+counted_bytes came = take INPUT_BYTES came
 
 -- the whole transcript of a whole input, with which a call ends so
 pub record IsWhole (answering : Answering) (ended : Status) (came text : List ℕ) : Type 0 where
@@ -41,7 +41,7 @@ pub record IsWhole (answering : Answering) (ended : Status) (came text : List �
 -- the transcript of the orders that are whole in the whole lines of what counts
 abbrev pub IsCutShort : Answering → List ℕ → List ℕ → Type 0
 IsCutShort answering came text =
-    (told : Told) × IsTranscriptBy answering (whole_orders (whole_lines (counted came))) told × (text ≡ told.text)
+    (told : Told) × IsTranscriptBy answering (whole_orders (whole_lines (counted_bytes came))) told × (text ≡ told.text)
 
 -- a part of the text from its front, and not all of it; the sink had no sure room for all of it
 pub record IsPart (text whole : List ℕ) (room : ℕ) : Type 0 where
@@ -53,7 +53,7 @@ pub record IsPart (text whole : List ℕ) (room : ℕ) : Type 0 where
 -- orders that were read first: they are whole in the whole lines of what counts, or the input has ended
 abbrev pub AreFirst : List OrderLines → Option (List ℕ) → List ℕ → Type 0
 AreFirst first rest came =
-    ((later : List OrderLines) × (whole_orders (whole_lines (counted came)) ≡ first ++ later))
+    ((later : List OrderLines) × (whole_orders (whole_lines (counted_bytes came)) ≡ first ++ later))
     ⊎ (IsAtEnd rest × (length came ≤ INPUT_BYTES)
     × ((later : List OrderLines) × (orders (lines came) ≡ first ++ later)))
 

@@ -1,7 +1,7 @@
 //! What is counted of a session.
 
 ghost use Rattle.std.specs.Prelude.{◌≡◌, ◌↔◌, nat_lt, IsTrue};
-ghost use Rattle.smil_top.specs.Kept.{AreExact, counted, uncounted};
+ghost use Rattle.smil_top.specs.Kept.{AreExact, with_order, uncounted};
 ghost use Rattle.smil_top.specs.Serving.{status_by};
 
 use super::fault::Fault;
@@ -34,7 +34,7 @@ impl Counts {
 
     /// One more order, whose answer has so many lines.
     pub fn count(&mut self, answered: &Result<(), Fault>, lines: u64)
-        ensures { self.new ≡ counted answered.now lines self.old }
+        ensures { self.new ≡ with_order answered.now lines self.old }
     {
         self.orders = self.orders.saturating_add(1);
         self.lines = self.lines.saturating_add(lines);

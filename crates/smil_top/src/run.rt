@@ -8,7 +8,7 @@ ghost use Rattle.smil_top.specs.Summary.{line_count};
 ghost use Rattle.smil_top.specs.Transcript.{Told, untold};
 ghost use Rattle.smil_top.specs.Houses.{Holds};
 ghost use Rattle.smil_top.specs.Evaluations.{Bound, number_of};
-ghost use Rattle.smil_top.specs.Kept.{answering, counted, said, Answers, AnswersOrders, EvaluatesOn, IsOrderCounted, IsRead, IsRunning, IsText, MakesAnswer, Tells, Writes};
+ghost use Rattle.smil_top.specs.Kept.{answering, with_order, said, Answers, AnswersOrders, EvaluatesOn, IsOrderCounted, IsRead, IsRunning, IsText, MakesAnswer, Tells, Writes};
 
 use super::answer::Answer;
 use super::counts::Counts;
@@ -284,7 +284,7 @@ impl Run {
             (K.sure_room sink.new) (said answered self.old.answer) }
         ensures session { self.new.session ≡ self.old.session }
         ensures load { self.new.load ≡ self.old.load }
-        ensures counts { self.new.counts ≡ counted answered
+        ensures counts { self.new.counts ≡ with_order answered
             (min (line_count (said answered self.old.answer)) last_count) self.old.counts }
         ensures cause { OnErr result (HasRisen (K.faults sink.old) (K.faults sink.new)) }
         ensures count { K.faults sink.old ≤ K.faults sink.new }

@@ -7,7 +7,7 @@ ghost use Rattle.smil_model.specs.document.Valid.{IsValid};
 ghost use Rattle.smil_model.specs.shown.Answers.{IsGiven};
 ghost use Rattle.smil_script.specs.Gives.{HoldsGiven};
 ghost use Rattle.smil_top.specs.Session.{Session as Presentations};
-ghost use Rattle.smil_top.specs.Answers.{checked, closed, loaded_within, ordered_within};
+ghost use Rattle.smil_top.specs.Answers.{checked, close_answer, loaded_within, ordered_within};
 ghost use Rattle.smil_top.specs.Evaluations.{Bound, line_number, loaded_number, ordered_number, said_number};
 ghost use Rattle.smil_top.specs.Houses.{Holds};
 ghost use Rattle.smil_top.specs.Kept.{given_of, line_by, load_by, no_text, single_by, Checks, HoldsTitle, IsCounted, Makes};
@@ -154,7 +154,7 @@ impl Session {
         requires title { length name.now ≤ NAME_BYTES }
         requires empty { answer.old ≡ no_text }
         ensures answer { (session : Presentations) → Holds self.old.house session
-            → Makes result answer.new self.new.house session (closed session number name.now) }
+            → Makes result answer.new self.new.house session (close_answer session number name.now) }
         ensures checks { self.new.checks ≡ self.old.checks }
     {
         match self.house.close(name.slice()) {

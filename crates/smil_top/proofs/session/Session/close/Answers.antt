@@ -1,7 +1,7 @@
 use Rattle.std.proofs.Common.{◌≡◌, ℕ, List, [], Ok, Err, ap, sym, subst, ◌∙◌}
 use Rattle.smil_model.specs.shown.Lines.{closed_line}
 use Rattle.smil_top.specs.declared.answer.Answer.{Answer as AnswerText}
-use Rattle.smil_top.specs.Answers.{closed}
+use Rattle.smil_top.specs.Answers.{close_answer}
 use Rattle.smil_top.specs.Kept.{Makes}
 use Rattle.smil_top.proofs.Makings.{made-closed, unmade-closed}
 use Rattle.smil_top.proofs.session.Session.close.Goals as goal
@@ -17,12 +17,12 @@ returns-in-Ok-clause-answer c session holds =
     in
     let made = made-closed name house new session number holds c.in-Ok.ensures.absent c.in-Ok.ensures.closed in
     subst
-    (λ (a : AnswerText). Makes (Ok tt) (record { told = a.told; last = c.closed-answer.result }) new session (closed session number c.args.name.now))
+    (λ (a : AnswerText). Makes (Ok tt) (record { told = a.told; last = c.closed-answer.result }) new session (close_answer session number c.args.name.now))
     (sym c.requires.empty)
     (subst
-    (λ n. Makes (Ok tt) (record { told = []; last = c.closed-answer.result }) new session (closed session number n))
+    (λ n. Makes (Ok tt) (record { told = []; last = c.closed-answer.result }) new session (close_answer session number n))
     c.slice.ensures
-    (subst (λ l. Makes (Ok tt) (record { told = []; last = l }) new session (closed session number name)) (sym last) made))
+    (subst (λ l. Makes (Ok tt) (record { told = []; last = l }) new session (close_answer session number name)) (sym last) made))
 
 pub returns-in-Err-clause-answer : goal.returns-in-Err-clause-answer
 returns-in-Err-clause-answer c session holds =
@@ -32,4 +32,4 @@ returns-in-Err-clause-answer c session holds =
     let name : List ℕ = c.slice.result.now in
     let text : AnswerText = c.args.answer.now in
     let unmade = unmade-closed name house new session number text c.in-Err.refusal holds c.in-Err.ensures.absent c.in-Err.ensures.closed c.in-Err.ensures.kept in
-    subst (λ n. Makes (Err c.in-Err.refusal) text new session (closed session number n)) c.slice.ensures unmade
+    subst (λ n. Makes (Err c.in-Err.refusal) text new session (close_answer session number n)) c.slice.ensures unmade
