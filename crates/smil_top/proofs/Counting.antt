@@ -9,7 +9,7 @@ use Rattle.smil_top.specs.declared.status.Status.TheVariants as status
 use Rattle.smil_top.specs.Cut.{OrderLines}
 use Rattle.smil_top.specs.Transcript.{Told}
 use Rattle.smil_top.specs.Serving.{status_by, status_of}
-use Rattle.smil_top.specs.Kept.{AreCounted}
+use Rattle.smil_top.specs.Running.{AreCounted}
 
 min-some : (n : ℕ) → 0 < min n last_count → 0 < n
 min-some n h = omega arith

@@ -31,7 +31,7 @@ use Rattle.smil_top.specs.Serving.{status_by}
 use Rattle.smil_top.specs.Laws.{heard, refuses_as}
 use Rattle.smil_top.specs.Evaluations.{Bound, most, least, ordered_number, said_number, line_number, loaded_number, number_of, least_of, most_of, sum_of, is_diary_full, IsBounded, AreEvaluated}
 use Rattle.smil_top.specs.Houses.{Presentations, Holds}
-use Rattle.smil_top.specs.Kept.{fault_at, given_of, refused_by, EvaluatesOn, Gives, HasEvaluated, IsCounted, IsCountedBy, IsOrderCounted, MakesAnswer, Tells}
+use Rattle.smil_top.specs.Running.{fault_at, given_of, refused_by, EvaluatesOn, Gives, HasEvaluated, IsCounted, IsCountedBy, IsOrderCounted, MakesAnswer, Tells}
 use Rattle.smil_top.proofs.CutLines.{is_short-true}
 use Rattle.smil_top.proofs.Cuts.{cut_of-one_more}
 use Rattle.smil_top.proofs.HouseLemmas.{may_load-held}

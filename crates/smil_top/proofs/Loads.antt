@@ -12,7 +12,7 @@ use Rattle.smil_top.specs.declared.load.Load.{Load}
 use Rattle.smil_top.specs.declared.given.Titled.{Titled}
 use Rattle.smil_top.specs.Cut.{Numbered, LoadLines}
 use Rattle.smil_top.specs.Answers.{Refused, at_line, name_of, outline_from, given_within}
-use Rattle.smil_top.specs.Kept.{Gives, IsRead, Reads, ReadsTitle, given_at, reading_of, with_node}
+use Rattle.smil_top.specs.Running.{Gives, IsRead, Reads, ReadsTitle, given_at, reading_of, with_node}
 
 -- ---- chains of steps that may be refused
 

@@ -21,7 +21,7 @@ use Rattle.smil_top.specs.declared.answer.Answer.{Answer as AnswerText}
 use Rattle.smil_top.specs.Session.{Session, presentation_of, with_state, without, may_load}
 use Rattle.smil_top.specs.Answers.{Accepted, Given, found_presentation, ordered_within, close_answer, loaded_within, checked}
 use Rattle.smil_top.specs.Houses.{Presentations, shown, AreApart, Holds}
-use Rattle.smil_top.specs.Kept.{Makes, Checks}
+use Rattle.smil_top.specs.Running.{Makes, Checks}
 use Rattle.smil_top.proofs.HouseLemmas.{presentation-held, some-held, may_load-held, may_load-free, turned-session, turned-apart, closed-session, closed-apart, added-session, added-apart}
 
 -- a refusal of a call that reads is the reading's, unless memory ran out

@@ -25,7 +25,7 @@ use Rattle.smil_top.specs.Transcript.{Told, IsTranscriptBy, untold}
 use Rattle.smil_top.specs.Words.{is_told}
 use Rattle.smil_top.specs.Serving.{counted_bytes, status_by, status_of, IsWhole, IsPart, AreFirst, IsBroken, Runs, Explains, Generates, Serves, reads}
 use Rattle.smil_top.specs.Evaluations.{AreEvaluated, Evaluates, EvaluatesBy}
-use Rattle.smil_top.specs.Kept.{answering, asked_by, ended_by, IsAll, IsRunning, IsText, Tells, WritesAll, WritesPart, Goes, Answers, AnswersOrders, Ends, Ran, RanCounted, RunsBy}
+use Rattle.smil_top.specs.Running.{answering, asked_by, ended_by, IsAll, IsRunning, IsText, Tells, WritesAll, WritesPart, Goes, Answers, AnswersOrders, Ends, Ran, RanCounted, RunsBy}
 use Rattle.smil_top.proofs.Cuts.{cut_of-one_more, count-cut_of, whole-first, orders-first}
 
 -- the reader has not ended, or only at the end of the input

@@ -14,7 +14,7 @@ use Rattle.smil_top.specs.Transcript.{Told, transcript_by}
 use Rattle.smil_top.specs.Summary.{session_told, session_orders, told_of}
 use Rattle.smil_top.specs.Words.{is_told}
 use Rattle.smil_top.specs.Serving.{status_by}
-use Rattle.smil_top.specs.Kept.{IsAll, IsSummary, Ran, RunsBy, Tells}
+use Rattle.smil_top.specs.Running.{IsAll, IsSummary, Ran, RunsBy, Tells}
 use Rattle.smil_top.proofs.Summed.{one-transcript}
 
 -- a run that was answered to its end

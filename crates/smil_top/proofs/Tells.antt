@@ -26,7 +26,7 @@ use Rattle.smil_top.specs.Answers.{Refused, Answer, Given, at_line, said_within,
 use Rattle.smil_top.specs.Transcript.{Told, and_then, is_memory, with_answer}
 use Rattle.smil_top.specs.Summary.{line_count}
 use Rattle.smil_top.specs.Houses.{Presentations, Holds}
-use Rattle.smil_top.specs.Kept.{answering, with_order, counted_on, fault_at, given_of, line_by, load_by, refused_by, said, text_of, AreCounted, Answers, AnswersOrders, Gives, Goes, IsOpen, IsRead, IsRunning, IsText, Makes, MakesAnswer, Tells, Writes, WritesAll}
+use Rattle.smil_top.specs.Running.{answering, with_order, counted_on, fault_at, given_of, line_by, load_by, refused_by, said, text_of, AreCounted, Answers, AnswersOrders, Gives, Goes, IsOpen, IsRead, IsRunning, IsText, Makes, MakesAnswer, Tells, Writes, WritesAll}
 use Rattle.smil_top.proofs.CutLines.{is_short-true, is_short-false}
 
 -- the answer that was made

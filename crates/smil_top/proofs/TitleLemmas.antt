@@ -11,7 +11,7 @@ use Rattle.smil_grammar.specs.declared.read.Read.{Read}
 use Rattle.smil_grammar.specs.declared.read.Read.TheVariants.{Blank, Load, Close}
 use Rattle.smil_grammar.specs.Words.{word_len}
 use Rattle.smil_grammar.specs.Scripts.{Word, first_of, is_ended, at_end, named, or_refused, to, finish, order_line, command, is_blank, is_title, is_of_title, line_of}
-use Rattle.smil_top.specs.Kept.{HoldsTitle}
+use Rattle.smil_top.specs.Running.{HoldsTitle}
 
 abbrev pub OkTitle : Result Read Refusal → Type 0
 OkTitle (Ok read) = HoldsTitle read

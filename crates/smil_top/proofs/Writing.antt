@@ -8,7 +8,7 @@ use Rattle.std.specs.Io.KnownBytes.{Appends}
 use Rattle.smil_outside.specs.declared.failed.Failed.{Failed}
 use Rattle.smil_outside.specs.Faults.{HasRisen}
 use Rattle.std.proofs.KnownBytes.{Appends-trans}
-use Rattle.smil_top.specs.Kept.{WritesAll, Writes}
+use Rattle.smil_top.specs.Running.{WritesAll, Writes}
 
 -- what `write_all` ensures
 pub Writes-of : (r : Result (Unit {0}) Failed) (before after : Option (List ℕ)) (room left : ℕ) (text : List ℕ) →

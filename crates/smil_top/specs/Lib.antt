@@ -6,6 +6,6 @@ pub mod Summary
 pub mod Words
 pub mod Serving
 pub mod Houses
-pub mod Kept
+pub mod Running
 pub mod Laws
 pub mod Evaluations

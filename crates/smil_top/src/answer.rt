@@ -2,7 +2,7 @@
 
 ghost use Rattle.std.specs.Prelude.{◌≡◌, ◌≤◌, min, OnErr};
 ghost use Rattle.smil_outside.specs.Faults.{HasRisen, last_count};
-ghost use Rattle.smil_top.specs.Kept.{Writes, finished, no_text, text_of};
+ghost use Rattle.smil_top.specs.Running.{Writes, finished, no_text, text_of};
 ghost use Rattle.smil_top.specs.Summary.{line_count};
 
 use super::fault::Fault;

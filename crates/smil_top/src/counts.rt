@@ -1,7 +1,7 @@
 //! What is counted of a session.
 
 ghost use Rattle.std.specs.Prelude.{◌≡◌, ◌↔◌, nat_lt, IsTrue};
-ghost use Rattle.smil_top.specs.Kept.{AreExact, with_order, uncounted};
+ghost use Rattle.smil_top.specs.Running.{AreExact, with_order, uncounted};
 ghost use Rattle.smil_top.specs.Serving.{status_by};
 
 use super::fault::Fault;

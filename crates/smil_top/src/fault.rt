@@ -1,7 +1,7 @@
 //! Why and where an order is refused.
 
 ghost use Rattle.std.specs.Prelude.{◌≡◌};
-ghost use Rattle.smil_top.specs.Kept.{fault_at};
+ghost use Rattle.smil_top.specs.Running.{fault_at};
 
 use smil_model::Refusal;
 

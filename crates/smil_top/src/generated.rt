@@ -5,7 +5,7 @@ ghost use Rattle.smil_words.specs.declared.mode.TheConstants.{SESSIONS};
 ghost use Rattle.smil_top.specs.Cut.{OrderLines};
 ghost use Rattle.smil_top.specs.Summary.{count_line, count_lines, told_of};
 ghost use Rattle.smil_top.specs.Transcript.{Told};
-ghost use Rattle.smil_top.specs.Kept.{IsSummary, Tells};
+ghost use Rattle.smil_top.specs.Running.{IsSummary, Tells};
 
 use super::counts::Counts;
 use super::nowhere::Nowhere;

@@ -5,7 +5,7 @@ ghost use Rattle.smil_model.specs.document.Limits.{limits};
 ghost use Rattle.smil_model.specs.document.Valid.{IsValid};
 ghost use Rattle.smil_top.specs.Cut.{LoadLines};
 ghost use Rattle.smil_top.specs.Answers.{given_within};
-ghost use Rattle.smil_top.specs.Kept.{Gives, IsRead, IsText, Reads, ReadsTitle, given_at, with_node};
+ghost use Rattle.smil_top.specs.Running.{Gives, IsRead, IsText, Reads, ReadsTitle, given_at, with_node};
 
 use super::fault::Fault;
 use super::given::{Given, Titled};

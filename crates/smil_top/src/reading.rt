@@ -6,7 +6,7 @@ ghost use Rattle.smil_outside.specs.Reading.{fresh_reading};
 ghost use Rattle.smil_top.specs.Cut.{Cut, cut_of, unended};
 ghost use Rattle.smil_top.specs.Transcript.{Told, untold};
 ghost use Rattle.smil_top.specs.Evaluations.{AreEvaluated};
-ghost use Rattle.smil_top.specs.Kept.{Ends, HasEvaluated, IsRunning, Ran, RanCounted};
+ghost use Rattle.smil_top.specs.Running.{Ends, HasEvaluated, IsRunning, Ran, RanCounted};
 
 use super::run::{NumberedLine, Run};
 use super::status::Status;

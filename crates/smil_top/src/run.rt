@@ -8,7 +8,7 @@ ghost use Rattle.smil_top.specs.Summary.{line_count};
 ghost use Rattle.smil_top.specs.Transcript.{Told, untold};
 ghost use Rattle.smil_top.specs.Houses.{Holds};
 ghost use Rattle.smil_top.specs.Evaluations.{Bound, number_of};
-ghost use Rattle.smil_top.specs.Kept.{answering, with_order, said, Answers, AnswersOrders, EvaluatesOn, IsOrderCounted, IsRead, IsRunning, IsText, MakesAnswer, Tells, Writes};
+ghost use Rattle.smil_top.specs.Running.{answering, with_order, said, Answers, AnswersOrders, EvaluatesOn, IsOrderCounted, IsRead, IsRunning, IsText, MakesAnswer, Tells, Writes};
 
 use super::answer::Answer;
 use super::counts::Counts;

@@ -10,7 +10,7 @@ ghost use Rattle.smil_top.specs.Session.{Session as Presentations};
 ghost use Rattle.smil_top.specs.Answers.{checked, close_answer, loaded_within, ordered_within};
 ghost use Rattle.smil_top.specs.Evaluations.{Bound, line_number, loaded_number, ordered_number, said_number};
 ghost use Rattle.smil_top.specs.Houses.{Holds};
-ghost use Rattle.smil_top.specs.Kept.{given_of, line_by, load_by, no_text, single_by, Checks, HoldsTitle, IsCounted, Makes};
+ghost use Rattle.smil_top.specs.Running.{given_of, line_by, load_by, no_text, single_by, Checks, HoldsTitle, IsCounted, Makes};
 
 use super::answer::Answer;
 use super::given::Given;

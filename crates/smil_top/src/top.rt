@@ -6,7 +6,7 @@ ghost use Rattle.smil_words.specs.declared.mode.TheConstants.{SESSIONS};
 ghost use Rattle.smil_outside.specs.Faults.{HasRisen};
 ghost use Rattle.smil_words.specs.Words.{mode_of};
 ghost use Rattle.smil_top.specs.Evaluations.{Evaluates};
-ghost use Rattle.smil_top.specs.Kept.{asked_by};
+ghost use Rattle.smil_top.specs.Running.{asked_by};
 ghost use Rattle.smil_top.specs.Serving.{Explains, Generates, Serves, reads};
 
 use super::generated::summary_of;

@@ -1,7 +1,7 @@
 use Rattle.std.proofs.Common.{[], subst, arith}
 use Rattle.std.proofs.KnownBytes.{Appends-nil}
 use Rattle.smil_top.specs.Words.{usage_line}
-use Rattle.smil_top.specs.Kept.{Writes}
+use Rattle.smil_top.specs.Running.{Writes}
 use Rattle.smil_top.proofs.Writing.{Writes-of}
 use Rattle.smil_top.proofs.Serving.{part-of}
 use Rattle.smil_top.proofs.top.explain.Goals as goal

@@ -2,7 +2,7 @@ use Rattle.std.proofs.Common.{◌≡◌, ℕ, List, [], subst, ◌∙◌, arith}
 use Rattle.std.proofs.KnownBytes.{Appends-nil}
 use Rattle.smil_top.specs.Summary.{summary}
 use Rattle.smil_top.specs.Serving.{IsPart}
-use Rattle.smil_top.specs.Kept.{Writes}
+use Rattle.smil_top.specs.Running.{Writes}
 use Rattle.smil_top.proofs.Writing.{Writes-of}
 use Rattle.smil_top.proofs.Serving.{part-of}
 use Rattle.smil_top.proofs.top.generated.Goals as goal

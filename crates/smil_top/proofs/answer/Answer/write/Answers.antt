@@ -1,5 +1,5 @@
 use Rattle.std.proofs.Common.{subst}
-use Rattle.smil_top.specs.Kept.{WritesAll, Writes}
+use Rattle.smil_top.specs.Running.{WritesAll, Writes}
 use Rattle.smil_top.proofs.Writing.{Writes-of, Writes-two}
 use Rattle.smil_top.proofs.answer.Answer.write.Goals as goal
 

@@ -1,7 +1,7 @@
 use Rattle.std.proofs.Common.{sym, subst}
 use Rattle.smil_top.specs.declared.given.Titled.{Titled}
 use Rattle.smil_top.specs.Cut.{Numbered}
-use Rattle.smil_top.specs.Kept.{IsRead}
+use Rattle.smil_top.specs.Running.{IsRead}
 use Rattle.smil_top.proofs.Loads.{IsNodeAt, IsRead-ok, IsRead-err, more_lines}
 use Rattle.smil_top.proofs.load.Load.push.Goals as goal
 use Rattle.smil_top.proofs.load.Load.push.Goals.{in-Ok, in-Err}

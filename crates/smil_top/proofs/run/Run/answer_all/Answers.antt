@@ -2,7 +2,7 @@ use Rattle.std.proofs.Common.{ℕ, ◌-◌, List, [], ◌∷◌, ◌++◌, Optio
 use Rattle.std.specs.Prelude.{option_map}
 use Rattle.smil_top.specs.Cut.{cut_of}
 use Rattle.smil_top.specs.Transcript.{untold}
-use Rattle.smil_top.specs.Kept.{IsRunning}
+use Rattle.smil_top.specs.Running.{IsRunning}
 use Rattle.smil_top.proofs.Evaluated.{evaluated-fresh, evaluated-next}
 use Rattle.smil_top.proofs.Serving.{Nexts, Nexts-of, Hands, next-line, fault-open, HasRead, HasRead-fresh, IsServing-of, Wrote-fresh, Wrote-next, RanCounted-end, RanCounted-untold, Ran-too_long, Ran-fault, Ran-unwritten}
 use Rattle.smil_top.proofs.Writing.{on-err, risen-from}

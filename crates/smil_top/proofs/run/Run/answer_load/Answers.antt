@@ -1,7 +1,7 @@
 use Rattle.std.proofs.Common.{ℕ, ◌-◌, Some, sym, subst}
 use Rattle.smil_top.specs.Cut.{load}
 use Rattle.smil_top.specs.Evaluations.{number_of}
-use Rattle.smil_top.specs.Kept.{IsOrderCounted, MakesAnswer, answering}
+use Rattle.smil_top.specs.Running.{IsOrderCounted, MakesAnswer, answering}
 use Rattle.smil_top.proofs.Evaluated.{counted-fault, counted-load}
 use Rattle.smil_top.proofs.Tells.{load-made}
 use Rattle.smil_top.proofs.run.Run.answer_load.Goals as goal

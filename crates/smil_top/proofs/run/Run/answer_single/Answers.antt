@@ -2,7 +2,7 @@ use Rattle.std.proofs.Common.{◌≡◌, ℕ, ◌-◌, List, Bool, false, ap, sy
 use Rattle.smil_top.specs.declared.session.Session.{Session}
 use Rattle.smil_top.specs.Cut.{OrderLines, single}
 use Rattle.smil_top.specs.Evaluations.{line_number}
-use Rattle.smil_top.specs.Kept.{MakesAnswer, Makes, answering, fault_at, line_by}
+use Rattle.smil_top.specs.Running.{MakesAnswer, Makes, answering, fault_at, line_by}
 use Rattle.smil_top.proofs.Evaluated.{counted-single, evaluated-more}
 use Rattle.smil_top.proofs.Tells.{counted_as, single-made, told-order}
 use Rattle.smil_top.proofs.run.Run.answer_single.Goals as goal

@@ -4,7 +4,7 @@ use Rattle.smil_top.specs.declared.fault.Fault.{Fault}
 use Rattle.smil_top.specs.declared.session.Session.{Session}
 use Rattle.smil_top.specs.Cut.{OrderLines, LoadLines, load as load_order, unended}
 use Rattle.smil_top.specs.Evaluations.{number_of}
-use Rattle.smil_top.specs.Kept.{AnswersOrders, EvaluatesOn, MakesAnswer, answering}
+use Rattle.smil_top.specs.Running.{AnswersOrders, EvaluatesOn, MakesAnswer, answering}
 use Rattle.smil_top.proofs.Evaluated.{counted-fault, evaluated-ended, evaluated-more}
 use Rattle.smil_top.proofs.Tells.{load-of, no_load-of, unfinished-made, told-order}
 use Rattle.smil_top.proofs.run.Run.end.Goals as goal

@@ -2,7 +2,7 @@ use Rattle.std.proofs.Common.{◌≡◌, Bool, false, Some, ap, sym, subst, ◌�
 use Rattle.smil_top.specs.declared.session.Session.{Session}
 use Rattle.smil_top.specs.declared.counts.Counts.{Counts}
 use Rattle.smil_top.specs.Cut.{OrderLines, load}
-use Rattle.smil_top.specs.Kept.{MakesAnswer, answering}
+use Rattle.smil_top.specs.Running.{MakesAnswer, answering}
 use Rattle.smil_top.proofs.Evaluated.{evaluated-more}
 use Rattle.smil_top.proofs.Tells.{told-order, counted_as}
 use Rattle.smil_top.proofs.run.Run.end_load.Goals as goal

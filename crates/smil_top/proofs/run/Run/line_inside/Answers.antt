@@ -5,7 +5,7 @@ use Rattle.smil_grammar.specs.Scripts.{is_blank}
 use Rattle.smil_script.specs.Loads.{ends_load}
 use Rattle.smil_top.specs.declared.run.Run.{Run}
 use Rattle.smil_top.specs.Cut.{Numbered, LoadLines, load, with_line}
-use Rattle.smil_top.specs.Kept.{IsText}
+use Rattle.smil_top.specs.Running.{IsText}
 use Rattle.smil_top.proofs.CutLines.{cut-ends, cut-long_node, cut-node}
 use Rattle.smil_top.proofs.Tells.{Shows, running-order, running-load, tells-on}
 use Rattle.smil_top.proofs.run.Run.line_inside.Goals as goal

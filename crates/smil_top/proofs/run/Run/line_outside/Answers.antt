@@ -8,7 +8,7 @@ use Rattle.smil_top.specs.declared.run.Run.{Run}
 use Rattle.smil_top.specs.declared.session.Session.{Session}
 use Rattle.smil_top.specs.Cut.{OrderLines, Numbered, LoadLines, single, with_line}
 use Rattle.smil_top.specs.Evaluations.{number_of}
-use Rattle.smil_top.specs.Kept.{IsRead, IsText, MakesAnswer, answering}
+use Rattle.smil_top.specs.Running.{IsRead, IsText, MakesAnswer, answering}
 use Rattle.smil_top.proofs.CutLines.{cut-long, cut-opens}
 use Rattle.smil_top.proofs.Evaluated.{counted-fault, evaluated-cut, evaluated-more}
 use Rattle.smil_top.proofs.Tells.{Shows, long-made, told-order, running-order, running-load, tells-on}

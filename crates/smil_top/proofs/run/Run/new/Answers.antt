@@ -3,7 +3,7 @@ use Rattle.smil_top.specs.declared.session.Session.{Session}
 use Rattle.smil_top.specs.declared.counts.Counts.{Counts}
 use Rattle.smil_top.specs.Transcript.{of_nothing, untold}
 use Rattle.smil_top.specs.Houses.{Holds}
-use Rattle.smil_top.specs.Kept.{AreCounted}
+use Rattle.smil_top.specs.Running.{AreCounted}
 use Rattle.smil_top.proofs.run.Run.new.Goals as goal
 
 pub returns : goal.returns

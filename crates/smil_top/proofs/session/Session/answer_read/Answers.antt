@@ -1,6 +1,6 @@
 use Rattle.std.proofs.Common.{ℕ, ◌-◌, sym, subst}
 use Rattle.smil_top.specs.Evaluations.{said_number}
-use Rattle.smil_top.specs.Kept.{IsCounted}
+use Rattle.smil_top.specs.Running.{IsCounted}
 use Rattle.smil_top.proofs.session.Session.answer_read.Goals as goal
 
 pub returns-in-To-clause-evaluated : goal.returns-in-To-clause-evaluated

@@ -2,7 +2,7 @@ use Rattle.std.proofs.Common.{◌≡◌, ℕ, List, [], Ok, Err, ap, sym, subst,
 use Rattle.smil_model.specs.shown.Lines.{closed_line}
 use Rattle.smil_top.specs.declared.answer.Answer.{Answer as AnswerText}
 use Rattle.smil_top.specs.Answers.{close_answer}
-use Rattle.smil_top.specs.Kept.{Makes}
+use Rattle.smil_top.specs.Running.{Makes}
 use Rattle.smil_top.proofs.Makings.{made-closed, unmade-closed}
 use Rattle.smil_top.proofs.session.Session.close.Goals as goal
 

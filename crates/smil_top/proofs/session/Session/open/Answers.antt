@@ -6,7 +6,7 @@ use Rattle.smil_house.specs.House.{load_refusal}
 use Rattle.smil_top.specs.declared.answer.Answer.{Answer as AnswerText}
 use Rattle.smil_top.specs.Answers.{loaded_within}
 use Rattle.smil_top.specs.Evaluations.{loaded_number}
-use Rattle.smil_top.specs.Kept.{Makes, given_of}
+use Rattle.smil_top.specs.Running.{Makes, given_of}
 use Rattle.smil_top.proofs.Evaluated.{counted-loaded, counted-refused, counted-unloaded}
 use Rattle.smil_top.proofs.Makings.{made-loaded, refusal-of, unmade-loaded, unloaded}
 use Rattle.smil_top.proofs.session.Session.open.Goals as goal
