@@ -4,7 +4,6 @@ use Rattle.std.specs.Prelude.{cond, int_le, filter, slice_get, slice_index_or, o
 use Rattle.std.specs.List.{AllByRecursion, list_all}
 use Rattle.std.specs.List.Sorted.{IsPartitionPoint, IsPartitionedBy}
 use Rattle.std.proofs.lemmas.Bool.{and_parts}
-use Rattle.std.proofs.lemmas.Int.{ints}
 use Rattle.smil_model.specs.declared.diary.LogEntry.{LogEntry}
 use Rattle.smil_model.specs.diary.Logs.{moments_rise}
 use Rattle.smil_stretch.proofs.Moments.{le_both}

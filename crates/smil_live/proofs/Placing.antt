@@ -1,7 +1,7 @@
 -- The faults of values and node lines stand in their texts.
-use Rattle.std.proofs.Common.{◌≡◌, ℕ, ◌+◌, ◌-◌, ◌<◌, ◌≤◌, ◌&&◌, eqb, ltb, List, [], ◌∷◌, length, take, drop, Bool, true, false, Option, Some, None, Result, Ok, Err, refl, subst, arith, length-drop}
-use Rattle.std.specs.Prelude.{IfSome, IfErr, unwrap_or}
-use Rattle.std.specs.List.{prefix_len, list_all, slice_split, onto_first}
+use Rattle.std.proofs.Common.{◌≡◌, ℕ, ◌+◌, ◌-◌, ◌≤◌, ◌&&◌, eqb, ltb, List, [], ◌∷◌, length, take, drop, Bool, true, false, Option, Some, None, Result, Ok, Err, subst, arith, length-drop}
+use Rattle.std.specs.Prelude.{IfSome, IfErr}
+use Rattle.std.specs.List.{prefix_len, list_all, slice_split}
 use Rattle.std.proofs.lemmas.Bool.{cond_both}
 use Rattle.std.proofs.lemmas.List.Sums.{prefix_len-le-length}
 use Rattle.smil_model.specs.declared.document.Kind.{Kind}
@@ -10,71 +10,31 @@ use Rattle.smil_model.specs.declared.document.Attr.TheVariants as attr
 use Rattle.smil_model.specs.declared.document.AttrName.{AttrName}
 use Rattle.smil_model.specs.declared.document.AttrName.TheVariants as name
 use Rattle.smil_model.specs.declared.document.Attrs.{Attrs}
-use Rattle.smil_model.specs.declared.document.Item.{Item}
 use Rattle.smil_model.specs.document.Edits.{with_attr, no_attrs}
 use Rattle.smil_model.specs.document.Values.{is_seq_parent}
 use Rattle.smil_model.specs.document.Valid.{may_stand}
-use Rattle.smil_grammar.specs.declared.fault.ItemFault.{ItemFault}
-use Rattle.smil_grammar.specs.declared.fault.ItemFault.TheVariants as item_fault
-use Rattle.smil_grammar.specs.declared.fault.ListFault.{ListFault}
 use Rattle.smil_grammar.specs.declared.fault.ListFault.TheVariants as list_fault
 use Rattle.smil_grammar.specs.declared.fault.AttrFault.{AttrFault}
 use Rattle.smil_grammar.specs.declared.fault.AttrFault.TheVariants as attr_fault
-use Rattle.smil_grammar.specs.declared.fault.NodeFault.{NodeFault}
 use Rattle.smil_grammar.specs.declared.fault.NodeFault.TheVariants as fault
 use Rattle.smil_grammar.specs.Results.{◌>>=◌}
 use Rattle.smil_grammar.specs.Texts.{is_white, trim}
 use Rattle.smil_grammar.specs.Items.{item_of}
-use Rattle.smil_grammar.specs.Lists.{item_at, piece_at, items_from, few_items, pieces_of, is_plain, plain_at, list_of}
-use Rattle.smil_grammar.specs.Values.{id_of, attribute_name_of, restart_default_of, fill_default_of, dur_of, time_of, count_of, repeat_dur_of, restart_of, fill_of, endsync_of, peers_of, higher_of, lower_of, kept_of, is_other_value, of_list, of_value, plain_value_of, value_of}
+use Rattle.smil_grammar.specs.Lists.{piece_at, items_from, few_items, pieces_of, is_plain, plain_at, list_of}
+use Rattle.smil_grammar.specs.Values.{id_of, attribute_name_of, restart_default_of, fill_default_of, dur_of, time_of, count_of, repeat_dur_of, restart_of, fill_of, endsync_of, peers_of, higher_of, lower_of, kept_of, is_other_value, plain_value_of, value_of}
 use Rattle.smil_grammar.specs.Clock.{clock_within}
-use Rattle.smil_grammar.specs.Attributes.{attr_name_of, name_called, name_or, unnamed, is_other_name, has, kind_called, is_other_kind}
-use Rattle.smil_grammar.specs.Nodes.{is_space, is_of_kind, is_named, Written, attribute_at, attributes_at, with_written, Shape, shaped, shape_of, repeats, kind_or, kind_of_shape, kind_of, column_at, at_column, attribute_of, attr_of, attrs_from, attrs_of, node_of}
-
--- how long a text is that was cut into these pieces, and one more
-abbrev joined_len : List (List ℕ) → ℕ
-joined_len [] = 0
-joined_len (piece ∷ pieces) = length piece + 1 + joined_len pieces
-
-onto_len : (x : ℕ) (pieces : List (List ℕ)) → 0 < joined_len pieces → joined_len (onto_first x pieces) ≡ 1 + joined_len pieces
-onto_len x [] some = absurd (omega arith)
-onto_len x (piece ∷ pieces) some = omega arith
-
-split_len : (k : ℕ) (text : List ℕ) → joined_len (slice_split (λ b. eqb b k) text) ≡ length text + 1
-split_len k [] = refl
-split_len k (b ∷ text) =
-    let rest : joined_len (slice_split (λ b. eqb b k) text) ≡ length text + 1 = split_len k text in
-    cond_both (eqb b k) ([] ∷ slice_split (λ b. eqb b k) text) (onto_first b (slice_split (λ b. eqb b k) text)) (λ pieces. joined_len pieces ≡ length (b ∷ text) + 1)
-    (λ e. omega arith)
-    (λ e. let more : joined_len (onto_first b (slice_split (λ b. eqb b k) text)) ≡ 1 + joined_len (slice_split (λ b. eqb b k) text) = onto_len b (slice_split (λ b. eqb b k) text) (omega arith) in omega arith)
-
-after : {A B E : Type 0} (P : E → Type 0) (r : Result A E) (f : A → Result B E) → IfErr r P → ((x : A) → IfErr (f x) P) → IfErr (r >>= f) P
-after P (Ok x) f h k = k x
-after P (Err e) f h k = h
+use Rattle.smil_grammar.specs.Attributes.{attr_name_of, name_called}
+use Rattle.smil_grammar.specs.Nodes.{is_space, is_of_kind, is_named, Written, attribute_at, attributes_at, with_written, Shape, shaped, shape_of, kind_of, column_at, at_column, attribute_of, attr_of, attrs_from, attrs_of, node_of}
+use Rattle.smil_outline.proofs.Columns.{joined_len, split_len, after, ListPlace, item_near, AttrPlace, of_list_near, of_value_near, name_near, FaultWithin, kind_shape_near}
 
 -- ---- lists
-
-abbrev ListPlace : ℕ → ListFault → Type 0
-ListPlace m (list_fault.Bad place) = place ≤ m
-ListPlace m (list_fault.Unsupported place) = place ≤ m
-ListPlace m _ = Unit {0}
-
-first_in : (m place : ℕ) (first : Option ℕ) → place ≤ m → IfSome first (λ p. p ≤ m) → unwrap_or first place ≤ m
-first_in m place None le h = le
-first_in m place (Some p) le h = h
-
-item_in : (m : ℕ) (first : Option ℕ) (place : ℕ) (r : Result Item ItemFault) → place ≤ m → IfSome first (λ p. p ≤ m) → IfErr (item_at first place r) (ListPlace m)
-item_in m first place (Ok x) le h = tt
-item_in m first place (Err item_fault.Bad) le h = first_in m place first le h
-item_in m first place (Err item_fault.Unsupported) le h = le
-item_in m first place (Err item_fault.Memory) le h = tt
 
 items_in : (m : ℕ) (first : Option ℕ) (place : ℕ) (pieces : List (List ℕ)) → place + joined_len pieces ≤ m + 1 → IfSome first (λ p. p ≤ m) → IfErr (items_from first place pieces) (ListPlace m)
 items_in m first place [] le h = tt
 items_in m first place (piece ∷ pieces) le h =
     let white : prefix_len is_white piece ≤ length piece = prefix_len-le-length is_white piece in
     after (ListPlace m) (piece_at first place piece) (λ item. items_from first (place + length piece + 1) pieces >>= λ items. Ok (item ∷ items))
-    (item_in m first (place + prefix_len is_white piece) (item_of (trim piece)) (omega arith) h)
+    (item_near m first (place + prefix_len is_white piece) (item_of (trim piece)) (omega arith) h)
     (λ item. after (ListPlace m) (items_from first (place + length piece + 1) pieces) (λ items. Ok (item ∷ items)) (items_in m first (place + length piece + 1) pieces (omega arith) h) (λ items. tt))
 
 few_in : (first : Option ℕ) (text : List ℕ) → IfSome first (λ p. p ≤ length text) → IfErr (few_items first text) (ListPlace (length text))
@@ -92,71 +52,41 @@ list_in true text =
 
 -- ---- values
 
-abbrev pub AttrPlace : ℕ → AttrFault → Type 0
-AttrPlace m (attr_fault.UnsupportedValue place) = place ≤ m
-AttrPlace m (attr_fault.BadValue place) = place ≤ m
-AttrPlace m _ = Unit {0}
-
-of_list_in : (m : ℕ) (made : List Item → Attr) (r : Result (List Item) ListFault) → IfErr r (ListPlace m) → IfErr (of_list made r) (AttrPlace m)
-of_list_in m made (Ok items) h = tt
-of_list_in m made (Err (list_fault.Bad place)) h = h
-of_list_in m made (Err (list_fault.Unsupported place)) h = h
-of_list_in m made (Err list_fault.TooManyItems) h = tt
-of_list_in m made (Err list_fault.Memory) h = tt
-
-of_value_in : {A : Type 0} (m : ℕ) (made : A → Attr) (value : Option A) → IfErr (of_value made value) (AttrPlace m)
-of_value_in m made None = omega arith
-of_value_in m made (Some x) = tt
-
 plain_in : (in_seq : Bool) (n : AttrName) (text : List ℕ) → IfErr (plain_value_of in_seq n text) (AttrPlace (length text))
-plain_in in_seq name.Id text = of_value_in _ attr.Id (id_of text)
-plain_in in_seq name.Begin text = of_list_in _ attr.Begin (list_of in_seq text) (list_in in_seq text)
-plain_in in_seq name.Dur text = of_value_in _ attr.Dur (dur_of (trim text))
-plain_in in_seq name.End text = of_list_in _ attr.End (list_of false text) (list_in false text)
-plain_in in_seq name.Min text = of_value_in _ _ (clock_within (trim text))
-plain_in in_seq name.Max text = of_value_in _ attr.Max (time_of (trim text))
-plain_in in_seq name.RepeatCount text = of_value_in _ attr.RepeatCount (count_of (trim text))
-plain_in in_seq name.RepeatDur text = of_value_in _ attr.RepeatDur (repeat_dur_of (trim text))
-plain_in in_seq name.Restart text = of_value_in _ attr.Restart (restart_of (trim text))
-plain_in in_seq name.Fill text = of_value_in _ attr.Fill (fill_of (trim text))
-plain_in in_seq name.RestartDefault text = of_value_in _ attr.RestartDefault (restart_default_of (trim text))
-plain_in in_seq name.FillDefault text = of_value_in _ attr.FillDefault (fill_default_of (trim text))
-plain_in in_seq name.Endsync text = of_value_in _ attr.Endsync (endsync_of (trim text))
-plain_in in_seq name.Peers text = of_value_in _ attr.Peers (peers_of (trim text))
-plain_in in_seq name.Higher text = of_value_in _ attr.Higher (higher_of (trim text))
-plain_in in_seq name.Lower text = of_value_in _ attr.Lower (lower_of (trim text))
-plain_in in_seq name.Src text = of_value_in _ attr.Src (kept_of text)
-plain_in in_seq name.Region text = of_value_in _ attr.Region (kept_of text)
-plain_in in_seq name.Alt text = of_value_in _ attr.Alt (kept_of text)
-plain_in in_seq name.Title text = of_value_in _ attr.Title (kept_of text)
-plain_in in_seq name.TargetElement text = of_value_in _ attr.TargetElement (id_of (trim text))
-plain_in in_seq name.AttributeName text = of_value_in _ attr.AttributeName (attribute_name_of (trim text))
-plain_in in_seq name.To text = of_value_in _ attr.To (kept_of text)
+plain_in in_seq name.Id text = of_value_near _ attr.Id (id_of text)
+plain_in in_seq name.Begin text = of_list_near _ attr.Begin (list_of in_seq text) (list_in in_seq text)
+plain_in in_seq name.Dur text = of_value_near _ attr.Dur (dur_of (trim text))
+plain_in in_seq name.End text = of_list_near _ attr.End (list_of false text) (list_in false text)
+plain_in in_seq name.Min text = of_value_near _ _ (clock_within (trim text))
+plain_in in_seq name.Max text = of_value_near _ attr.Max (time_of (trim text))
+plain_in in_seq name.RepeatCount text = of_value_near _ attr.RepeatCount (count_of (trim text))
+plain_in in_seq name.RepeatDur text = of_value_near _ attr.RepeatDur (repeat_dur_of (trim text))
+plain_in in_seq name.Restart text = of_value_near _ attr.Restart (restart_of (trim text))
+plain_in in_seq name.Fill text = of_value_near _ attr.Fill (fill_of (trim text))
+plain_in in_seq name.RestartDefault text = of_value_near _ attr.RestartDefault (restart_default_of (trim text))
+plain_in in_seq name.FillDefault text = of_value_near _ attr.FillDefault (fill_default_of (trim text))
+plain_in in_seq name.Endsync text = of_value_near _ attr.Endsync (endsync_of (trim text))
+plain_in in_seq name.Peers text = of_value_near _ attr.Peers (peers_of (trim text))
+plain_in in_seq name.Higher text = of_value_near _ attr.Higher (higher_of (trim text))
+plain_in in_seq name.Lower text = of_value_near _ attr.Lower (lower_of (trim text))
+plain_in in_seq name.Src text = of_value_near _ attr.Src (kept_of text)
+plain_in in_seq name.Region text = of_value_near _ attr.Region (kept_of text)
+plain_in in_seq name.Alt text = of_value_near _ attr.Alt (kept_of text)
+plain_in in_seq name.Title text = of_value_near _ attr.Title (kept_of text)
+plain_in in_seq name.TargetElement text = of_value_near _ attr.TargetElement (id_of (trim text))
+plain_in in_seq name.AttributeName text = of_value_near _ attr.AttributeName (attribute_name_of (trim text))
+plain_in in_seq name.To text = of_value_near _ attr.To (kept_of text)
 
 value_in : (in_seq : Bool) (n : AttrName) (text : List ℕ) → IfErr (value_of in_seq n text) (AttrPlace (length text))
 value_in in_seq n text = cond_both (is_other_value n (trim text)) (Err (attr_fault.UnsupportedValue 0)) (plain_value_of in_seq n text) (λ r. IfErr r (AttrPlace (length text))) (λ e. omega arith) (λ e. plain_in in_seq n text)
 
-unnamed_in : (m : ℕ) (word : List ℕ) → AttrPlace m (unnamed word)
-unnamed_in m word = cond_both (is_other_name word) attr_fault.UnsupportedName attr_fault.UnknownAttribute (AttrPlace m) (λ e. tt) (λ e. tt)
-
-name_or_in : (m : ℕ) (k : Kind) (word : List ℕ) (called : Option AttrName) → IfErr (name_or k word called) (AttrPlace m)
-name_or_in m k word None = unnamed_in m word
-name_or_in m k word (Some n) = cond_both (has k n) (Ok n) (Err attr_fault.UnknownAttribute) (λ r. IfErr r (AttrPlace m)) (λ e. tt) (λ e. tt)
-
 pub name_in : (m : ℕ) (k : Kind) (word : List ℕ) → IfErr (attr_name_of k word) (AttrPlace m)
-name_in m k word = name_or_in m k word (name_called word)
+name_in m k word = name_near m k word (name_called word)
 
 pub attribute_in : (in_seq : Bool) (k : Kind) (word value : List ℕ) → IfErr (attribute_of in_seq k word value) (AttrPlace (length value))
 attribute_in in_seq k word value = after (AttrPlace (length value)) (attr_name_of k word) (λ n. value_of in_seq n value) (name_in (length value) k word) (λ n. value_in in_seq n value)
 
 -- ---- node lines
-
-abbrev pub ColumnWithin : ℕ → NodeFault → Type 0
-ColumnWithin n (fault.Unsupported column) = column ≤ n
-ColumnWithin n (fault.UnknownAttribute column) = column ≤ n
-ColumnWithin n (fault.BadValue column) = column ≤ n
-ColumnWithin n (fault.TooManyItems column) = column ≤ n
-ColumnWithin n _ = Unit {0}
 
 -- an attribute that stands within so many bytes
 record Stands (bytes : ℕ) (written : Written) : Type 0 where
@@ -170,7 +100,7 @@ AllStand bytes (written ∷ others) = Stands bytes written × AllStand bytes oth
 column_in : (n place : ℕ) → place ≤ n → column_at place ≤ n + 1
 column_in n place le = omega arith
 
-at_in : (n : ℕ) (w : Written) (r : Result Attr AttrFault) → Stands n w → IfErr r (AttrPlace (length w.value)) → IfErr (at_column w r) (ColumnWithin (n + 1))
+at_in : (n : ℕ) (w : Written) (r : Result Attr AttrFault) → Stands n w → IfErr r (AttrPlace (length w.value)) → IfErr (at_column w r) (FaultWithin (n + 1))
 at_in n w (Ok x) s h = tt
 at_in n w (Err attr_fault.UnknownAttribute) s h = column_in n w.name_place s.name
 at_in n w (Err attr_fault.UnsupportedName) s h = column_in n w.name_place s.name
@@ -179,10 +109,10 @@ at_in n w (Err (attr_fault.BadValue place)) s h = column_in n (w.value_place + p
 at_in n w (Err attr_fault.TooManyItems) s h = column_in n w.value_place (omega (arith, s.value))
 at_in n w (Err attr_fault.Memory) s h = tt
 
-attrs_in : (n : ℕ) (in_seq : Bool) (k : Kind) (attrs : Attrs) (ws : List Written) → AllStand n ws → IfErr (attrs_from in_seq k attrs ws) (ColumnWithin (n + 1))
+attrs_in : (n : ℕ) (in_seq : Bool) (k : Kind) (attrs : Attrs) (ws : List Written) → AllStand n ws → IfErr (attrs_from in_seq k attrs ws) (FaultWithin (n + 1))
 attrs_in n in_seq k attrs [] h = tt
 attrs_in n in_seq k attrs (w ∷ ws) h =
-    after (ColumnWithin (n + 1)) (attr_of in_seq k w) (λ given. attrs_from in_seq k (with_attr attrs given) ws)
+    after (FaultWithin (n + 1)) (attr_of in_seq k w) (λ given. attrs_from in_seq k (with_attr attrs given) ws)
     (at_in n w (attribute_of in_seq k w.name w.value) h.0 (attribute_in in_seq k w.name w.value))
     (λ given. attrs_in n in_seq k (with_attr attrs given) ws h.1)
 
@@ -220,24 +150,16 @@ shape_in line =
     shaped_in (length line + 1) (take (prefix_len is_of_kind line) line) (attributes_at (prefix_len is_of_kind line) (slice_split (λ b. eqb b 34) (drop (prefix_len is_of_kind line) line)))
     (attributes_in (length line + 1) (prefix_len is_of_kind line) (slice_split (λ b. eqb b 34) (drop (prefix_len is_of_kind line) line)) (omega (arith, length-drop (prefix_len is_of_kind line) line)))
 
-kind_or_in : (n : ℕ) (word : List ℕ) (called : Option Kind) → 1 ≤ n → IfErr (kind_or word called) (ColumnWithin n)
-kind_or_in n word (Some k) le = tt
-kind_or_in n word None le = cond_both (is_other_kind word) (Err (fault.Unsupported 1)) (Err fault.BadOutline) (λ r. IfErr r (ColumnWithin n)) (λ e. le) (λ e. tt)
+pub kind_in : (line : List ℕ) → IfErr (kind_of line) (FaultWithin (length line + 2))
+kind_in line = kind_shape_near (length line + 2) (shape_of line) (omega arith)
 
-kind_shape_in : (n : ℕ) (shape : Option Shape) → 1 ≤ n → IfErr (kind_of_shape shape) (ColumnWithin n)
-kind_shape_in n None le = tt
-kind_shape_in n (Some shape) le = cond_both (repeats shape.attributes) (Err fault.BadOutline) (kind_or shape.kind (kind_called shape.kind)) (λ r. IfErr r (ColumnWithin n)) (λ e. tt) (λ e. kind_or_in n shape.kind (kind_called shape.kind) le)
-
-pub kind_in : (line : List ℕ) → IfErr (kind_of line) (ColumnWithin (length line + 2))
-kind_in line = kind_shape_in (length line + 2) (shape_of line) (omega arith)
-
-attrs_of_in : (n : ℕ) (parent : Option Kind) (k : Kind) (shape : Option Shape) → IfSome shape (ShapeStands n) → IfErr (attrs_of parent k shape) (ColumnWithin (n + 1))
+attrs_of_in : (n : ℕ) (parent : Option Kind) (k : Kind) (shape : Option Shape) → IfSome shape (ShapeStands n) → IfErr (attrs_of parent k shape) (FaultWithin (n + 1))
 attrs_of_in n parent k None h = tt
 attrs_of_in n parent k (Some shape) h =
-    cond_both (may_stand parent k) (attrs_from (is_seq_parent parent) k no_attrs shape.attributes >>= λ attrs. Ok (k, attrs)) (Err fault.BadPlace) (λ r. IfErr r (ColumnWithin (n + 1)))
-    (λ e. after (ColumnWithin (n + 1)) (attrs_from (is_seq_parent parent) k no_attrs shape.attributes) (λ attrs. Ok (k, attrs)) (attrs_in n (is_seq_parent parent) k no_attrs shape.attributes h) (λ attrs. tt))
+    cond_both (may_stand parent k) (attrs_from (is_seq_parent parent) k no_attrs shape.attributes >>= λ attrs. Ok (k, attrs)) (Err fault.BadPlace) (λ r. IfErr r (FaultWithin (n + 1)))
+    (λ e. after (FaultWithin (n + 1)) (attrs_from (is_seq_parent parent) k no_attrs shape.attributes) (λ attrs. Ok (k, attrs)) (attrs_in n (is_seq_parent parent) k no_attrs shape.attributes h) (λ attrs. tt))
     (λ e. tt)
 
-pub node_in : (parent : Option Kind) (line : List ℕ) → IfErr (node_of parent line) (ColumnWithin (length line + 2))
-node_in parent line = after (ColumnWithin (length line + 2)) (kind_of line) (λ k. attrs_of parent k (shape_of line)) (kind_in line)
-    (λ k. subst (λ n. IfErr (attrs_of parent k (shape_of line)) (ColumnWithin n)) (omega arith) (attrs_of_in (length line + 1) parent k (shape_of line) (shape_in line)))
+pub node_in : (parent : Option Kind) (line : List ℕ) → IfErr (node_of parent line) (FaultWithin (length line + 2))
+node_in parent line = after (FaultWithin (length line + 2)) (kind_of line) (λ k. attrs_of parent k (shape_of line)) (kind_in line)
+    (λ k. subst (λ n. IfErr (attrs_of parent k (shape_of line)) (FaultWithin n)) (omega arith) (attrs_of_in (length line + 1) parent k (shape_of line) (shape_in line)))

@@ -17,8 +17,9 @@ use Rattle.smil_grammar.specs.Gives.{GivesAttr, GivesNode, GivesReading}
 use Rattle.smil_grammar.specs.Nodes.{at_column, attribute_of, kind_of, node_of}
 use Rattle.smil_grammar.specs.Outlines.{in_line, refused}
 use Rattle.smil_grammar.specs.Results.{◌>>=◌}
+use Rattle.smil_outline.proofs.Columns.{AttrPlace, FaultWithin}
 use Rattle.smil_live.specs.Refusing.{of_value, IsPlaced, IsInText}
-use Rattle.smil_live.proofs.Placing.{AttrPlace, ColumnWithin, attribute_in, name_in, kind_in, node_in}
+use Rattle.smil_live.proofs.Placing.{attribute_in, name_in, kind_in, node_in}
 
 -- ---- attributes
 
@@ -69,7 +70,7 @@ name_refused kind name column e h p given = sym (in_line_at name [] column colum
 
 -- ---- node lines
 
-in_text : (m : ℕ) (e : NodeFault) → m < 2_147_483_648 → ColumnWithin (m + 2) e → IsInText e
+in_text : (m : ℕ) (e : NodeFault) → m < 2_147_483_648 → FaultWithin (m + 2) e → IsInText e
 in_text m node_fault.BadOutline le h = tt
 in_text m (node_fault.Unsupported column) le h = omega arith
 in_text m node_fault.BadPlace le h = tt
@@ -81,7 +82,7 @@ in_text m node_fault.Memory le h = tt
 pub kind_in_text : (line : List ℕ) (e : NodeFault) → IsText line → Err e ≡ kind_of line → IsInText e
 kind_in_text line e le given = in_text (length line) e le (rw (sym given) at (kind_in line))
 
-node_within : (m : ℕ) (e : NodeFault) (reading : Result (Kind × Attrs) NodeFault) → m < 2_147_483_648 → GivesNode {A = Kind × Attrs} (Err e) reading → IfErr reading (ColumnWithin (m + 2)) → IsInText e
+node_within : (m : ℕ) (e : NodeFault) (reading : Result (Kind × Attrs) NodeFault) → m < 2_147_483_648 → GivesNode {A = Kind × Attrs} (Err e) reading → IfErr reading (FaultWithin (m + 2)) → IsInText e
 node_within m node_fault.Memory reading le given h = tt
 node_within m node_fault.BadOutline reading le given h = tt
 node_within m node_fault.BadPlace reading le given h = tt

@@ -1,6 +1,6 @@
 -- Presentations that stay states: at a later moment, with an entry at the present moment, with the first entries alone.
-use Rattle.std.proofs.Common.{◌≡◌, refl, ◌∙◌, ap, ℕ, suc, zero, ◌≤◌, List, [], ◌∷◌, ◌++◌, Bool, true, false, ℤ, arith, take}
-use Rattle.std.specs.Prelude.{◌&&◌, pos, int_le, ◌≤ℤ◌}
+use Rattle.std.proofs.Common.{◌≡◌, refl, ◌∙◌, ap, ℕ, suc, zero, ◌≤◌, List, [], ◌∷◌, ◌++◌, Bool, true, ℤ, arith, take}
+use Rattle.std.specs.Prelude.{pos, int_le, ◌≤ℤ◌}
 use Rattle.std.specs.List.{list_all}
 use Rattle.std.proofs.lemmas.Int.{ints}
 use Rattle.std.proofs.lemmas.Bool.{and_from, and_parts}

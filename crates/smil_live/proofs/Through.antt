@@ -1,6 +1,6 @@
 -- What an advance tells: moment by moment, or from one moment at which something comes to the next.
 use Rattle.std.proofs.Common.{◌≡◌, refl, sym, ◌∙◌, ap, ℕ, suc, zero, ◌≤◌, ◌+◌, List, [], ◌∷◌, ◌++◌, Option, Some, Bool, true, false, ℤ, arith, append_assoc, append-nil}
-use Rattle.std.specs.Prelude.{cond, pos, int_le, find, map, not, ◌&&◌, ◌==◌, ◌≤ℤ◌, ◌+ℤ◌, unwrap_or}
+use Rattle.std.specs.Prelude.{cond, pos, int_le, find, map, not, ◌==◌, ◌≤ℤ◌, ◌+ℤ◌, unwrap_or}
 use Rattle.std.specs.List.{AllByRecursion, list_any}
 use Rattle.std.proofs.lemmas.Int.{ints}
 use Rattle.std.proofs.lemmas.Bool.{eq-eqb, eqb-true, or_parts, and_from}
