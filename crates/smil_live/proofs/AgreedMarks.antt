@@ -1,9 +1,8 @@
 -- Marks of looped references, item by item.
-use Rattle.std.proofs.Common.{◌≡◌, refl, sym, ◌∙◌, ap, subst, ℕ, suc, zero, ◌<◌, ◌≤◌, ◌+◌, List, [], ◌∷◌, ◌++◌, Option, Some, None, Bool, true, false, arith, length, take, drop, ◌≢◌, append_assoc, add-one}
-use Rattle.std.specs.Prelude.{cond, map, option_map, pos, slice_get, slice_index_or, ◌&&◌, ◌==◌, IsSome}
+use Rattle.std.proofs.Common.{◌≡◌, refl, sym, ◌∙◌, ap, ℕ, suc, zero, ◌<◌, ◌≤◌, ◌+◌, List, [], ◌∷◌, ◌++◌, Option, Some, None, Bool, true, false, arith, length, take, drop, ◌≢◌, append_assoc, add-one}
+use Rattle.std.specs.Prelude.{cond, map, option_map, pos, slice_get, slice_index_or, ◌&&◌, IsSome}
 use Rattle.std.specs.Bool.{beq}
 use Rattle.std.specs.List.{list_all}
-use Rattle.std.proofs.lemmas.Bool.{eqb-true}
 use Rattle.std.proofs.lemmas.List.{map-append}
 use Rattle.smil_model.specs.declared.document.Attrs.{Attrs}
 use Rattle.smil_model.specs.declared.document.Edge.{Edge}
@@ -15,6 +14,7 @@ use Rattle.smil_model.specs.document.Defaults.{begin_list, end_list, items_of, i
 use Rattle.smil_model.specs.document.Dependencies.{is_looped}
 use Rattle.smil_model.specs.document.Document.{elements, is_element, is_in_excl, node_at, serial_of}
 use Rattle.smil_model.specs.document.Valid.{IsDistinct}
+use Rattle.smil_tree.proofs.Changed.{serial_of as own_serial}
 use Rattle.smil_graph.specs.Graph.{is_looped_item, looped_at, looped_of}
 use Rattle.smil_graph.proofs.Answered.{element_at}
 use Rattle.smil_instances.specs.Spread.{only_element}
@@ -22,14 +22,6 @@ use Rattle.smil_live.specs.Linked.{counts_at, item_counts}
 use Rattle.smil_live.specs.References.{are_same_marks, loops}
 
 -- ---- how many items
-
-serial_is : (ns : List Node) (s : ℕ) (n : Node) → node_at ns s ≡ Some n → n.serial ≡ s
-serial_is [] s n e = cc
-serial_is (x ∷ xs) s n e = by_test (x.serial == s) refl e (serial_is xs s n)
-  where
-    by_test : (t : Bool) → x.serial == s ≡ t → cond t (Some x) (node_at xs s) ≡ Some n → (node_at xs s ≡ Some n → n.serial ≡ s) → n.serial ≡ s
-    by_test true t e rest = let one : x ≡ n = cc in subst (λ (m : Node). m.serial ≡ s) one (eqb-true x.serial s t)
-    by_test false t e rest = rest e
 
 one_item : (t : Bool) → length (cond t (Indefinite ∷ []) (Offset (pos 0) ∷ [])) ≡ 1
 one_item true = refl
@@ -60,7 +52,7 @@ found ns s p distinct e = by_node (node_at ns s) refl e
             let same : p ≡ n.serial = cc in
             record {
               node = n;
-              known = ap (node_at ns) (same ∙ serial_is ns s n is) ∙ is;
+              known = ap (node_at ns) (same ∙ own_serial ns s n is) ∙ is;
               element = element_at ns s distinct ∙ (ap only_element is ∙ ap (λ (u : Bool). cond u (Some n) None) t);
             }
         by_kind false t e = cc

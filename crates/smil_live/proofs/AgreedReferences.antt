@@ -13,15 +13,10 @@ use Rattle.smil_model.specs.document.Defaults.{end_list, items_or}
 use Rattle.smil_model.specs.document.Dependencies.{all_items, is_looped, is_looped_to, is_sync_with, leads_to}
 use Rattle.smil_model.specs.document.Document.{element_named, elements, has_id, has_serial, is_element, is_in_excl, node_at}
 use Rattle.smil_laws.specs.Edited.{KeepsReferences}
+use Rattle.smil_outline.proofs.RoundTrip.{all_front}
 use Rattle.smil_live.specs.References.{are_same_marks, is_same_serial, keeps_id, keeps_ids, keeps_loops, keeps_loops_of, keeps_references, loops, serial_named}
 
 -- ---- lists
-
-all_left : (p : Node → Bool) (xs ys : List Node) → list_all p (xs ++ ys) ≡ true → list_all p xs ≡ true
-all_left p [] ys q = refl
-all_left p (x ∷ xs) ys q =
-    let parts = and_parts (p x) (list_all p (xs ++ ys)) q in
-    ap (λ (t : Bool). t && list_all p xs) parts.0 ∙ all_left p xs ys parts.1
 
 all_right : (p : Node → Bool) (xs ys : List Node) → list_all p (xs ++ ys) ≡ true → list_all p ys ≡ true
 all_right p [] ys q = q
@@ -70,7 +65,7 @@ by_named old new id keeps = by_old (element_named old id) refl
     by_old : (o : Option Node) → element_named old id ≡ o → serial_named old id ≡ serial_named new id
     by_old None old_is = by_new (element_named new id) refl old_is
     by_old (Some n) old_is =
-        let both = found_of (λ (m : Node). keeps_id old new m.attrs.id) (λ (m : Node). is_element m && has_id id m.attrs.id) old n (all_left (λ (m : Node). keeps_id old new m.attrs.id) old new keeps) old_is in
+        let both = found_of (λ (m : Node). keeps_id old new m.attrs.id) (λ (m : Node). is_element m && has_id id m.attrs.id) old n (all_front (λ (m : Node). keeps_id old new m.attrs.id) old new keeps) old_is in
         by_own old new id n.attrs.id (and_parts (is_element n) (has_id id n.attrs.id) both.1).1 both.0
 
 -- ---- loops

@@ -25,6 +25,7 @@ use Rattle.smil_model.specs.interval.Current.{current_table, in_table}
 use Rattle.smil_laws.proofs.Aside.{find_each}
 use Rattle.smil_laws.proofs.Members.{Differ, differ_all, each_kept}
 use Rattle.smil_report.specs.Words.{Begins}
+use Rattle.smil_past.proofs.References.{kept_known as kept_found}
 use Rattle.smil_cells.specs.Standing.{IsSettled, Standing, history_of}
 use Rattle.smil_live.specs.Histories.{told_line}
 use Rattle.smil_live.specs.Kept.{IsPlaying, views_at}
@@ -172,23 +173,6 @@ found_own t (m ∷ ms) n d q = by (t m) q (found_own t ms n d.1)
 named_at : (ns : List Node) (w : Who) (n : Node) → IsDistinct ns → node_of ns w ≡ Some n → node_at ns n.serial ≡ Some n
 named_at ns (who.Id id) n d q = found_own _ ns n (differ_all ns d) q
 named_at ns (who.Serial s) n d q = found_own _ ns n (differ_all ns d) q
-
-kept_found : (ns : List Node) (s : ℕ) (n : Node) → node_at ns s ≡ Some n → is_element n ≡ true → node_at (elements ns) s ≡ Some n
-kept_found [] s n q e = cc
-kept_found (m ∷ ms) s n q e = by (m.serial == s) refl q (λ r. kept_found ms s n r e)
-  where
-    later : (u : Bool) → (m.serial == s) ≡ false → node_at (elements ms) s ≡ Some n → node_at (cond u (m ∷ elements ms) (elements ms)) s ≡ Some n
-    later true far rest = ap (λ (b : Bool). cond b (Some m) (node_at (elements ms) s)) far ∙ rest
-    later false far rest = rest
-
-    first : (m.serial == s) ≡ true → m ≡ n → node_at (cond (is_element m) (m ∷ elements ms) (elements ms)) s ≡ Some n
-    first here is =
-        ap (λ (b : Bool). node_at (cond b (m ∷ elements ms) (elements ms)) s) (ap is_element is ∙ e)
-        ∙ ap (λ (b : Bool). cond b (Some m) (node_at (elements ms) s)) here ∙ ap Some is
-
-    by : (u : Bool) → (m.serial == s) ≡ u → cond u (Some m) (node_at ms s) ≡ Some n → (node_at ms s ≡ Some n → node_at (elements ms) s ≡ Some n) → node_at (elements (m ∷ ms)) s ≡ Some n
-    by true here r rest = first here cc
-    by false far r rest = later (is_element m) far (rest r)
 
 -- an element that is named is found by its serial
 pub record IsAt (p : Presentation) (d : Document) (serial : ℕ) (n : Node) : Type 0 where

@@ -14,9 +14,10 @@ use Rattle.smil_model.specs.document.Document.{elements, is_element, is_set_kind
 use Rattle.smil_model.specs.document.Edits.{place_in}
 use Rattle.smil_model.specs.document.Valid.{IsDistinct}
 use Rattle.smil_model.specs.shown.Sandwich.{begin_shown, contributes, layer_by, layer_of, layers, target_by, with_setter}
-use Rattle.smil_laws.proofs.Aside.{find_true}
 use Rattle.smil_laws.proofs.Lineages.{swap_eqb}
 use Rattle.smil_laws.proofs.Members.{Differ, differ_all, differ_kept, each_kept, each_member}
+use Rattle.smil_tree.proofs.KinLists.{each_left, each_at, each_serial}
+use Rattle.smil_tree.proofs.Changed.{serial_of as own_serial}
 use Rattle.smil_sandwich.specs.Stacks.{AreApart, IsApart}
 use Rattle.smil_live.specs.Sets.{AreOfElements, AreSettersOf, layer_in}
 
@@ -32,9 +33,6 @@ found_below test (x ∷ xs) h = step (test x) refl h (found_below test xs)
 pub found_place : {X : Type 0} (test : X → Bool) (xs : List X) → IsSome (find test xs) → position test xs ≡ Some (position_or_len test xs)
 found_place test xs h = let t : ltb (position_or_len test xs) (length xs) ≡ true = lt-ltb _ _ (found_below test xs h) in rw t refl
 
-pub found_serial : (nodes : List Node) (s : ℕ) (n : Node) → node_at nodes s ≡ Some n → n.serial ≡ s
-found_serial nodes s n q = eqb-true n.serial s (find_true (λ (m : Node). m.serial == s) nodes n q)
-
 -- ---- layers
 
 pub layer_made : (nodes : List Node) (view : View) (n : Node) (attrs : Attrs) → node_at nodes view.serial ≡ Some n → attrs ≡ n.attrs
@@ -42,7 +40,7 @@ pub layer_made : (nodes : List Node) (view : View) (n : Node) (attrs : Attrs) �
     → layer_by (place_in nodes view.serial) (target_by nodes view.serial attrs.target_element) attrs.attribute_name (begin_shown view.begin)
     ≡ layer_of nodes view n
 layer_made nodes view n attrs here same set plays to =
-    let own : n.serial ≡ view.serial = found_serial nodes view.serial n here in
+    let own : n.serial ≡ view.serial = own_serial nodes view.serial n here in
     let given : is_some n.attrs.to ≡ true = ap (λ (a : Attrs). is_some a.to) (sym same) ∙ to in
     ap (λ (a : Attrs). layer_by (place_in nodes view.serial) (target_by nodes view.serial a.target_element) a.attribute_name (begin_shown view.begin)) same
     ∙ rw (set, plays, given) (ap (λ s. layer_by (place_in nodes s) (target_by nodes s n.attrs.target_element) n.attrs.attribute_name (begin_shown view.begin)) (sym own))
@@ -104,7 +102,7 @@ row_of nodes v r q = by (node_at nodes v.serial) refl q
         let Q : Option Node → Type 0 = λ x. IsSome x in
         subst P is (record {
           serial = refl;
-          place = placed_of nodes v n l e ∙ ap (place_in nodes) (found_serial nodes v.serial n here);
+          place = placed_of nodes v n l e ∙ ap (place_in nodes) (own_serial nodes v.serial n here);
           known = subst Q (sym here) refl;
         })
 
@@ -163,13 +161,9 @@ different_of (n ∷ ns) d = (different_each n.serial ns d.0, different_of ns d.1
 pub elements_different : (nodes : List Node) → IsDistinct nodes → Different (serials (elements nodes))
 elements_different nodes d = different_of (elements nodes) (differ_kept is_element nodes (differ_all nodes d))
 
-each_front : {A : Type 0} (P : A → Type 0) (xs ys : List A) → AllByRecursion P (xs ++ ys) → AllByRecursion P xs
-each_front P [] ys each = tt
-each_front P (x ∷ xs) ys each = (each.0, each_front P xs ys each.1)
-
 different_front : (xs ys : List ℕ) → Different (xs ++ ys) → Different xs
 different_front [] ys d = tt
-different_front (x ∷ xs) ys d = (each_front (λ t. (x == t) ≡ false) xs ys d.0, different_front xs ys d.1)
+different_front (x ∷ xs) ys d = (each_left (λ t. (x == t) ≡ false) xs ys d.0, different_front xs ys d.1)
 
 -- what stands in front of a place
 pub front_different : (k : ℕ) (vs : List View) → Different (map (λ (v : View). v.serial) vs) → Different (map (λ (v : View). v.serial) (take k vs))
@@ -192,18 +186,9 @@ found_each (n ∷ ns) = (
   each_member (λ (m : Node). IsSome (node_at ns m.serial)) (λ (m : Node). IsSome (node_at (n ∷ ns) m.serial)) ns (found_each ns) (λ m h. find_more n ns m.serial h),
 )
 
-each_serial : (P : ℕ → Type 0) (ns : List Node) → AllByRecursion (λ (n : Node). P n.serial) ns → AllByRecursion P (serials ns)
-each_serial P [] each = tt
-each_serial P (n ∷ ns) each = (each.0, each_serial P ns each.1)
-
 each_view : (P : ℕ → Type 0) (vs : List View) → AllByRecursion P (map (λ (v : View). v.serial) vs) → AllByRecursion (λ (v : View). P v.serial) vs
 each_view P [] each = tt
 each_view P (v ∷ vs) each = (each.0, each_view P vs each.1)
-
-pub at_place : {A : Type 0} (P : A → Type 0) (xs : List A) (i : ℕ) (d : A) → AllByRecursion P xs → i < length xs → P (get_or xs i d)
-at_place P [] i d each l = absurd (omega arith)
-at_place P (x ∷ xs) zero d each l = each.0
-at_place P (x ∷ xs) (suc i) d each l = at_place P xs i d each.1 (omega arith)
 
 -- each view is of a node
 pub views_known : (nodes : List Node) (vs : List View) → AreOfElements nodes vs → AllByRecursion (λ (v : View). IsSome (node_at nodes v.serial)) vs
@@ -230,7 +215,7 @@ pub standing_known : (nodes : List Node) (s k : ℕ) → Some s ≡ serial_of (s
 standing_known nodes s k q =
     let stands = stands_at nodes s k q in
     let n = stands.node in
-    let known = at_place (λ (m : Node). IsSome (node_at nodes m.serial)) nodes k n (found_each nodes) (slice_get_within nodes k n stands.at) in
+    let known = each_at (λ (m : Node). IsSome (node_at nodes m.serial)) nodes k n (found_each nodes) (slice_get_within nodes k n stands.at) in
     let P : ℕ → Type 0 = λ x. IsSome (node_at nodes x) in
     subst P (ap (λ (m : Node). m.serial) (get_or_from_slice_get nodes k n n stands.at) ∙ stands.serial) known
 

@@ -30,6 +30,7 @@ use Rattle.smil_live.specs.Seen.{AreOf, Shown}
 use Rattle.smil_live.specs.Telling.{is_edit}
 use Rattle.smil_live.proofs.Copying.{at_there, some_from}
 use Rattle.smil_live.proofs.Editing.{edit_accepted, is_found, known, state_refused}
+use Rattle.smil_live.proofs.Growth.{is_appended}
 use Rattle.smil_model.specs.declared.diary.Entry.{Entry}
 
 -- ---- the node that an order names
@@ -58,9 +59,6 @@ pub edit_err : (r x y : Result Document Refusal) → x ≡ y → IfErr r (IsRefu
 edit_err r x y same h = subst (λ (z : Result Document Refusal). IfErr r (IsRefusedBy z)) (sym same) h
 
 -- ---- the answer
-
-pub is_appended : (old new more : List ℕ) → new ≡ old ++ more → new ≡ old ++ drop (length old) new
-is_appended old new more is = is ∙ sym (ap (λ t. old ++ t) (ap (drop (length old)) is ∙ drop-append_seam old more))
 
 -- the two parts of the text as one
 whole_text : (p q : Presentation) (d : Document) (old new : List ℕ) → IsEdited p d q old new → new ≡ old ++ (gone_text p q ++ text_of q (changes_between p q))
@@ -130,7 +128,7 @@ cut_again old new cut len is begins cuts = cuts ∙ ap (λ n. take n new) is ∙
 
 -- ---- each view is that of a node
 
-each_view : (nodes : List Node) (f : Node → View) → ((n : Node) → (f n).serial ≡ n.serial) → (ns : List Node) → AllByRecursion (λ (n : Node). node_at nodes n.serial ≡ Some n) ns → AllByRecursion (λ (v : View). IsSome (node_at nodes v.serial)) (map f (elements ns))
+pub each_view : (nodes : List Node) (f : Node → View) → ((n : Node) → (f n).serial ≡ n.serial) → (ns : List Node) → AllByRecursion (λ (n : Node). node_at nodes n.serial ≡ Some n) ns → AllByRecursion (λ (v : View). IsSome (node_at nodes v.serial)) (map f (elements ns))
 each_view nodes f same [] h = tt
 each_view nodes f same (n ∷ ns) h = by_test (is_element n) (each_view nodes f same ns h.1)
   where

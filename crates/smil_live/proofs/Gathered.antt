@@ -8,11 +8,13 @@ use Rattle.std.proofs.lemmas.List.Sums.{fold-append}
 use Rattle.smil_model.specs.declared.document.Node.{Node}
 use Rattle.smil_model.specs.declared.view.Layer.{Layer}
 use Rattle.smil_model.specs.declared.view.View.{View}
-use Rattle.smil_model.specs.document.Document.{elements, is_element, node_at}
+use Rattle.smil_model.specs.document.Document.{elements, node_at}
 use Rattle.smil_model.specs.document.Valid.{IsDistinct}
 use Rattle.smil_model.specs.shown.Sandwich.{is_above, layers, layers_on, names_on, put_layer, put_name, stack_of}
 use Rattle.smil_laws.proofs.Members.{each_kept}
 use Rattle.smil_sandwich.specs.Stacks.{AreApart, all_applied, applied}
+use Rattle.smil_sandwich.proofs.Sorted.{all_put}
+use Rattle.smil_cells.proofs.Taking.{elements_few}
 use Rattle.smil_live.specs.declared.sets.Sets.{Sets}
 use Rattle.smil_live.proofs.Apart.{Different, elements_different, front_different, layers_apart, layers_known}
 use Rattle.smil_live.specs.Sets.{AreOfElements, AreSetsAmong, AreSetsOf, AreSettersOf, and_layer, layer_in, names_in}
@@ -68,17 +70,9 @@ next_apart nodes vs i d distinct of l =
 
 -- ---- the members of a stack
 
-put_known : (P : Row → Type 0) (l : Row) (ls : List Row) → P l → AllByRecursion P ls → AllByRecursion P (put_layer ls l)
-put_known P l [] p h = (p, tt)
-put_known P l (o ∷ ls) p h = by (is_above l.1 o.1) (put_known P l ls p h.1)
-  where
-    by : (t : Bool) → AllByRecursion P (put_layer ls l) → AllByRecursion P (if t then l ∷ o ∷ ls else o ∷ put_layer ls l)
-    by true rest = (p, h)
-    by false rest = (h.0, rest)
-
 fold_known : (P : Row → Type 0) (ls xs : List Row) → AllByRecursion P ls → AllByRecursion P xs → AllByRecursion P (fold put_layer ls xs)
 fold_known P ls [] h g = h
-fold_known P ls (x ∷ xs) h g = fold_known P (put_layer ls x) xs (put_known P x ls g.0 h) g.1
+fold_known P ls (x ∷ xs) h g = fold_known P (put_layer ls x) xs (all_put P x ls g.0 h) g.1
 
 at_known : (P : ℕ → Type 0) (ls : List Row) (k s : ℕ) → AllByRecursion (λ (l : Row). P l.0) ls → slice_get (map (λ (l : Row). l.0) ls) k ≡ Some s → P s
 at_known P [] k s h q = cc
@@ -127,14 +121,6 @@ layers_few nodes (v ∷ vs) = by (layer_in nodes v) (layers_few nodes vs)
     by : (o : Option Row) → length (layers nodes vs) ≤ length vs → length (cons_option o (layers nodes vs)) ≤ suc (length vs)
     by None rest = omega (arith, rest)
     by (Some r) rest = omega (arith, rest)
-
-elements_few : (ns : List Node) → length (elements ns) ≤ length ns
-elements_few [] = omega arith
-elements_few (n ∷ ns) = by (is_element n) (elements_few ns)
-  where
-    by : (t : Bool) → length (elements ns) ≤ length ns → length (cond t (n ∷ elements ns) (elements ns)) ≤ suc (length ns)
-    by true rest = omega (arith, rest)
-    by false rest = omega (arith, rest)
 
 -- the layers of the views of all elements
 pub among : (nodes : List Node) (sets : Sets) (vs : List View) → AreOfElements nodes vs → AreSetsOf sets (layers nodes vs) → AreSetsAmong nodes sets (layers nodes vs)

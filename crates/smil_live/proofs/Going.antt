@@ -1,6 +1,6 @@
 -- Moves: what is shown behind one and told of it, and a presentation that goes on by one or back from it.
-use Rattle.std.proofs.Common.{◌≡◌, refl, sym, ◌∙◌, ap, subst, ℕ, List, [], ◌∷◌, ◌++◌, Option, Some, None, Bool, true}
-use Rattle.std.specs.Prelude.{cond, IsSome, Result, Ok, Err, OnOk, map, not}
+use Rattle.std.proofs.Common.{◌≡◌, refl, sym, ◌∙◌, ap, subst, ℕ, List, [], ◌∷◌, ◌++◌, Some, None, Bool, true}
+use Rattle.std.specs.Prelude.{cond, Result, Ok, Err, OnOk, map, not}
 use Rattle.smil_model.specs.declared.diary.Entry.{Entry}
 use Rattle.smil_model.specs.declared.document.Kind.{Kind}
 use Rattle.smil_model.specs.declared.document.Node.{Node}
@@ -89,10 +89,6 @@ plays_again old marked gone back shown seen again was made kept undone before is
     }))
 
 -- ---- nodes that are elements
-
-pub the_node : (o : Option Node) → IsSome o → (n : Node) × (o ≡ Some n)
-the_node None q = cc
-the_node (Some n) q = (n, refl)
 
 pub kind_element : (nodes : List Node) (s : ℕ) (kind : Kind) (n : Node) (b : Bool) → node_at nodes s ≡ Some n → Some kind ≡ kind_of (node_at nodes s) → not (is_class_kind kind) ≡ b → is_element n ≡ b
 kind_element nodes s kind n b at of_kind is =

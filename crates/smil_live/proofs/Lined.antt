@@ -1,5 +1,5 @@
 -- Texts that are written line by line.
-use Rattle.std.proofs.Common.{◌≡◌, sym, ◌∙◌, ap, zero, suc, ℕ, ◌+◌, ◌<◌, ◌≤◌, List, [], ◌∷◌, ◌++◌, append-nil, append_assoc, length, get_or, take, Some, None, Result, Ok, Err, OnOk, arith}
+use Rattle.std.proofs.Common.{◌≡◌, sym, ◌∙◌, ap, ℕ, ◌+◌, ◌<◌, ◌≤◌, List, [], ◌∷◌, ◌++◌, append-nil, append_assoc, length, get_or, take, Some, Result, Ok, Err, OnOk, arith}
 use Rattle.std.specs.Prelude.{OnErr, flat_map, slice_get}
 use Rattle.std.proofs.lemmas.Grind.{flat_map-append}
 use Rattle.std.proofs.lemmas.List.{take_all, take_more}
@@ -27,11 +27,6 @@ module _ {X : Type 0} (f : X → List ℕ) (xs : List X) (start : List ℕ) wher
 
   pub lines_all : (i : ℕ) (out : List ℕ) → length xs ≤ i → out ≡ start ++ flat_map f (take i xs) → out ≡ start ++ flat_map f xs
   lines_all i out l so_far = so_far ∙ ap (λ ys. start ++ flat_map f ys) (take_all i xs l)
-
-pub past_end : {X : Type 0} (xs : List X) (i : ℕ) → None ≡ slice_get xs i → length xs ≤ i
-past_end [] i q = omega arith
-past_end (x ∷ xs) zero q = cc
-past_end (x ∷ xs) (suc i) q = let rest = past_end xs i q in omega arith
 
 -- what was there begins it
 pub begins_with : (a x : List ℕ) → Begins a (a ++ x)

@@ -1,12 +1,12 @@
 -- Lines that are told one after another.
-use Rattle.std.proofs.Common.{◌≡◌, refl, sym, ◌∙◌, ap, subst, ℕ, zero, suc, ◌+◌, ◌<◌, ◌≤◌, List, [], ◌∷◌, ◌++◌, Option, Some, None, Bool, true, false, length, take, drop, get_or, arith, append-nil}
+use Rattle.std.proofs.Common.{◌≡◌, refl, sym, ◌∙◌, ap, ℕ, zero, suc, ◌+◌, ◌<◌, ◌≤◌, List, [], ◌∷◌, ◌++◌, Option, Some, None, Bool, true, false, length, drop, get_or, arith, append-nil}
 use Rattle.std.specs.Prelude.{cond, not, ◌==◌, ℤ, IsSome, is_some, filter, flat_map, nat_lt, slice_get, option_map}
 use Rattle.std.specs.Option.{option_map_or}
 use Rattle.std.specs.List.{position, position_or_len}
 use Rattle.std.proofs.Math.Seq.{drop-cons}
 use Rattle.std.proofs.lemmas.Bool.{eqb-true, ltb-true, ltb-false}
-use Rattle.std.proofs.lemmas.Option.{same_Some, get_or_from_slice_get, slice_get_within}
-use Rattle.std.proofs.lemmas.List.{append_assoc, take_at, take-append-drop}
+use Rattle.std.proofs.lemmas.Option.{same_Some}
+use Rattle.std.proofs.lemmas.List.{append_assoc}
 use Rattle.std.proofs.lemmas.List.Folds.{find_at}
 use Rattle.smil_model.specs.declared.document.Attrs.{Attrs}
 use Rattle.smil_model.specs.declared.document.Kind.{Kind}
@@ -19,8 +19,7 @@ use Rattle.smil_model.specs.shown.Answers.{change_text, name_in}
 use Rattle.smil_model.specs.shown.Lines.{gone_line, name_by, name_of}
 use Rattle.smil_model.specs.shown.Orders.{changed, view_before, view_eq}
 use Rattle.smil_laws.proofs.Aside.{find_true}
-use Rattle.smil_report.specs.Words.{Begins}
-use Rattle.smil_report.proofs.Growing.{begins_on}
+use Rattle.smil_tree.proofs.Families.{drop_at}
 use Rattle.smil_live.specs.Told.{gone_from, lines_between, lines_gone, lines_of}
 
 -- the name of a node that is there
@@ -65,15 +64,6 @@ difference_on nodes m before views i d all old new l so_far made =
     (ap (lines_between nodes m before) (next_view views i d l) ∙ between_next nodes m before (get_or views i d) (drop (i + 1) views))
 
 -- ---- nodes that are gone
-
-next_node : (nodes : List Node) (i : ℕ) (n : Node) → slice_get nodes i ≡ Some n → drop i nodes ≡ n ∷ drop (i + 1) nodes
-next_node nodes i n at =
-    drop-cons nodes i n (slice_get_within nodes i n at)
-    ∙ (ap (λ (w : Node). w ∷ drop (suc i) nodes) (get_or_from_slice_get nodes i n n at)
-    ∙ ap (λ k. n ∷ drop k nodes) (one_on i))
-  where
-    one_on : (k : ℕ) → suc k ≡ k + 1
-    one_on k = omega arith
 
 gone_next : (after : List Node) (moment : ℤ) (n : Node) (ns : List Node) → lines_gone after moment (n ∷ ns) ≡ lines_gone after moment (n ∷ []) ++ lines_gone after moment ns
 gone_next after moment n ns = by_element (not (is_class_kind n.kind))
@@ -143,22 +133,7 @@ pub gone_on : (after : List Node) (moment : ℤ) (nodes : List Node) (i : ℕ) (
     → new ++ lines_gone after moment (drop (i + 1) nodes) ≡ all
 gone_on after moment nodes i n all old new at so_far made =
     one_told all old new (lines_gone after moment (n ∷ [])) (lines_gone after moment (drop (i + 1) nodes)) (lines_gone after moment (drop i nodes)) made so_far
-    (ap (lines_gone after moment) (next_node nodes i n at) ∙ gone_next after moment n (drop (i + 1) nodes))
-
-pub from_first : (text : List ℕ) → take (length text) text ≡ text
-from_first text = sym (ap (take (length text)) (append-nil text)) ∙ take_at text [] (length text) refl
-
--- what was at the front stays there
-begins_more : (front text more now : List ℕ) → Begins front text → now ≡ text ++ more → Begins front now
-begins_more front text more now begins is =
-    begins_on front (drop (length front) text) now
-    (subst (λ l. Begins l now) (sym (whole front text begins)) (subst (λ l. Begins text l) (sym is) (take_at text more (length text) refl)))
-  where
-    whole : (front text : List ℕ) → Begins front text → front ++ drop (length front) text ≡ text
-    whole front text q = ap (λ l. l ++ drop (length front) text) (sym q) ∙ take-append-drop (length front) text
-
-pub begins_on_more : (front text now : List ℕ) → Begins front text → Begins text now → Begins front now
-begins_on_more front text now begins more = begins_more front text (drop (length text) now) now begins (sym (ap (λ l. l ++ drop (length text) now) (sym more) ∙ take-append-drop (length text) now))
+    (ap (lines_gone after moment) (drop_at nodes i n at) ∙ gone_next after moment n (drop (i + 1) nodes))
 
 pub all_gone : (after : List Node) (moment other : ℤ) (nodes : List Node) (i : ℕ) (out now : List ℕ) → other ≡ moment → length nodes ≤ i
     → now ++ lines_gone after other (drop i nodes) ≡ out ++ lines_gone after other nodes → now ≡ out ++ lines_gone after moment nodes

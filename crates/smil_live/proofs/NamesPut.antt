@@ -1,8 +1,6 @@
 -- A name put among names in the order of their bytes.
-use Rattle.std.proofs.Common.{◌≡◌, refl, sym, ◌∙◌, ap, suc, ℕ, List, [], ◌∷◌, Bool, true, false, Some, ltb, inl, inr, ◌≤◌, length, arith}
-use Rattle.std.specs.Prelude.{not, slice_get, unwrap_or, position}
-use Rattle.std.proofs.lemmas.Bool.{cases_lt, lt-ltb, le-ltb}
-use Rattle.std.proofs.lemmas.List.Sums.{prefix_len-le-length}
+use Rattle.std.proofs.Common.{◌≡◌, refl, sym, ◌∙◌, ap, suc, ℕ, List, [], ◌∷◌, true, false, Some, arith}
+use Rattle.std.specs.Prelude.{slice_get}
 use Rattle.std.specs.Ordering.{nat_cmp, is_le, is_eq}
 use Rattle.std.specs.declared.cmp.Ordering.{Ordering}
 use Rattle.std.specs.declared.cmp.Ordering.TheVariants.{Less, Equal, Greater}
@@ -50,13 +48,3 @@ put_new n (o ∷ os) q = step (slice_cmp nat_cmp n o) refl (put_new n os)
         let there : is_there n (slice_get os (place n os)) ≡ false = sym (ap (λ i. is_there n (slice_get (o ∷ os) i)) (at_rest n o os e)) ∙ q in
         let put : put_name (o ∷ os) n ≡ o ∷ put_name os n = rw e refl in
         put ∙ ap (λ ns. o ∷ ns) (rest there) ∙ ap (λ i. insert (o ∷ os) i n) (sym (at_rest n o os e))
-
--- the place of what isn't there is the length
-pub or_length : {A : Type 0} (p : A → Bool) (xs : List A) → unwrap_or (position p xs) (length xs) ≡ position_or_len p xs
-or_length p xs = elim (cases_lt (position_or_len p xs) (length xs)) [
-  | inl lt ↦ let t : ltb (position_or_len p xs) (length xs) ≡ true = lt-ltb _ _ lt in rw t refl
-  | inr le ↦ let t : ltb (position_or_len p xs) (length xs) ≡ false = le-ltb _ _ le in
-      let most : position_or_len p xs ≤ length xs = prefix_len-le-length (λ x. not (p x)) xs in
-      let same : length xs ≡ position_or_len p xs = omega arith in
-      rw t same
-]

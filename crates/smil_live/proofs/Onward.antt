@@ -1,5 +1,5 @@
 -- A presentation passed through from one due moment to the next: what was told by then, and what is left.
-use Rattle.std.proofs.Common.{◌≡◌, refl, sym, ◌∙◌, ap, subst, ℕ, ◌<◌, ◌≤◌, ◌+◌, ◌-◌, List, [], ◌∷◌, ◌++◌, Some, None, ℤ, arith, inl, inr, append_assoc, append-nil, take, length}
+use Rattle.std.proofs.Common.{◌≡◌, refl, sym, ◌∙◌, ap, subst, ℕ, ◌<◌, ◌≤◌, ◌+◌, ◌-◌, List, ◌++◌, Some, None, ℤ, arith, inl, inr, append_assoc, append-nil}
 use Rattle.std.specs.Prelude.{pos, negsuc, nat_abs, ◌≤ℤ◌, ◌+ℤ◌}
 use Rattle.std.proofs.lemmas.Int.{ints}
 use Rattle.std.proofs.lemmas.Grind.{flat_map-append}
@@ -12,23 +12,16 @@ use Rattle.smil_model.specs.happening.Keys.{Coming}
 use Rattle.smil_model.specs.happening.Resolution.{diary_of}
 use Rattle.smil_model.specs.shown.Answers.{change_text}
 use Rattle.smil_model.specs.shown.Orders.{Presentation, as_of, course_of, changes_between, changes_through}
-use Rattle.smil_report.specs.Words.{Begins}
 use Rattle.smil_cells.specs.Standing.{NothingBefore, Standing, moved_to}
+use Rattle.smil_cells.proofs.OnWay.{sooner}
+use Rattle.smil_cells.proofs.Passing.{over}
 use Rattle.smil_live.specs.Kept.{IsShown}
 use Rattle.smil_live.specs.Moves.{IsFirstDue, IsShownAt, IsTooFull, text_of}
 use Rattle.smil_live.specs.Seen.{Shown}
 use Rattle.smil_live.proofs.Full.{full_later}
 use Rattle.smil_live.proofs.Quiet.{HasDiary, IsQuiet}
-use Rattle.smil_live.proofs.Standings.{has_diary, later_by, nothing_before}
+use Rattle.smil_live.proofs.Standings.{has_diary, nothing_before}
 use Rattle.smil_live.proofs.Through.{in_two, through_quiet}
-
--- ---- numbers
-
-sooner : (a : ℕ) (x : ℤ) → (pos a +ℤ pos 1) ≤ℤ x → pos a ≤ℤ x
-sooner a x l = omega (arith, ints, l)
-
-sooner_than : (v x : ℤ) → (v +ℤ pos 1) ≤ℤ x → v ≤ℤ x
-sooner_than v x l = omega (arith, ints, l)
 
 -- ---- what was told
 
@@ -56,23 +49,6 @@ told_from p q a n d front text text' is there =
     subst (λ (x : Presentation). HasDiary x d → IsQuiet x d (pos (x.now + n)) → text ≡ front ++ text_of p (changes_through p a) → text' ≡ text ++ text_of x (changes_between x (moved_to x (x.now + n))) → text' ≡ front ++ text_of p (changes_through p (a + n)))
     (built p q a is there)
     (told_on p a n d front text text')
-
--- ---- texts that grow
-
-pub begins_itself : (text : List ℕ) → Begins text text
-begins_itself [] = refl
-begins_itself (x ∷ xs) = ap (λ (l : List ℕ). x ∷ l) (begins_itself xs)
-
-pub begins_then : (a b c : List ℕ) → Begins a b → Begins b c → Begins a c
-begins_then [] b c p q = refl
-begins_then (x ∷ a) [] c p q = cc
-begins_then (x ∷ a) (y ∷ b) [] p q = cc
-begins_then (x ∷ a) (y ∷ b) (z ∷ c) p q =
-    let first : y ≡ x = cc in
-    let then : z ≡ y = cc in
-    let rest : take (length a) b ≡ a = cc in
-    let on : take (length b) c ≡ b = cc in
-    ap (λ (w : ℕ). w ∷ take (length a) c) (then ∙ first) ∙ ap (λ (l : List ℕ). x ∷ l) (begins_then a b c rest on)
 
 -- ---- on the way
 
@@ -104,7 +80,7 @@ module _ (p : Presentation) (front : List ℕ) (to : ℤ) (s : Standing) (shown 
   module _ (next : Standing) (shown' : Shown) (text' : List ℕ) (v : ℤ) (from : pos s.presentation.now ≤ℤ v) (quiet : NothingBefore s v)
       (new : text' ≡ text ++ text_of s.presentation (changes_between s.presentation (moved_to s.presentation (nat_abs v)))) where
     pub told_then : text' ≡ front ++ text_of p (changes_through p (nat_abs v - p.now))
-    told_then = by_number (later_by s.presentation.now v from)
+    told_then = by_number (over s.presentation.now v from)
       where
         by_number : (n : ℕ) × (v ≡ pos (s.presentation.now + n)) → text' ≡ front ++ text_of p (changes_through p (nat_abs v - p.now))
         by_number (n, e) =
@@ -122,7 +98,7 @@ module _ (p : Presentation) (front : List ℕ) (to : ℤ) (s : Standing) (shown 
     due_later = subst (λ (x : ℤ). (pos s.presentation.now +ℤ pos 1) ≤ℤ x) first.due_is (nothing_before s way.shown_is.settled first.coming first.first)
 
     pub due_from : pos s.presentation.now ≤ℤ due
-    due_from = sooner s.presentation.now due due_later
+    due_from = sooner (pos s.presentation.now) due due_later
 
     quiet_until : NothingBefore s due
     quiet_until c e =
@@ -142,7 +118,7 @@ module _ (p : Presentation) (front : List ℕ) (to : ℤ) (s : Standing) (shown 
       now_is = ap (λ (q : Presentation). q.now) at_due
 
       due_is : pos (nat_abs due) ≡ due
-      due_is = by_number (later_by s.presentation.now due due_from)
+      due_is = by_number (over s.presentation.now due due_from)
         where
           by_number : (n : ℕ) × (due ≡ pos (s.presentation.now + n)) → pos (nat_abs due) ≡ due
           by_number (n, e) = ap (λ (x : ℤ). pos (nat_abs x)) e ∙ sym e
@@ -190,7 +166,7 @@ module _ (p : Presentation) (front : List ℕ) (to : ℤ) (s : Standing) (shown 
 
   module _ (silence : NothingBefore s (to +ℤ pos 1)) where
     quiet_to : NothingBefore s to
-    quiet_to c e = sooner_than to c.key.value (silence c e)
+    quiet_to c e = sooner to c.key.value (silence c e)
 
     pub arrives : (next : Standing) (shown' : Shown) (text' : List ℕ) → text' ≡ text ++ text_of s.presentation (changes_between s.presentation (moved_to s.presentation (nat_abs to))) → text' ≡ front ++ text_of p (changes_through p (nat_abs to - p.now))
     arrives next shown' text' new = told_then next shown' text' to way.within quiet_to new

@@ -34,9 +34,10 @@ use Rattle.smil_grammar.specs.Formats.{formats}
 use Rattle.smil_laws.proofs.Aside.{find_each}
 use Rattle.smil_tree.proofs.Spans.{all_known}
 use Rattle.smil_cells.specs.Standing.{Standing, moved_to, with_logged}
+use Rattle.smil_cells.proofs.Heeded.{first_is_log}
 use Rattle.smil_live.specs.Moves.{IsHeardBy, IsNotHeard, IsReplayed, IsTooFull, entry_of, replay_of, sought_of, text_of}
 use Rattle.smil_live.specs.Telling.{element_named}
-use Rattle.smil_live.proofs.States.{first_is_log}
+use Rattle.smil_live.proofs.Growth.{is_appended}
 
 -- ---- the node that an order names
 
@@ -137,10 +138,6 @@ none_gone : (p q : Presentation) → IsNumberedTree p.document → q.document �
 none_gone p q numbered same =
     ap (λ (d : Document). gone_text p (record { document = d; log = q.log; now = q.now })) same
     ∙ ap (λ (ns : List Node). flat_map (λ (n : Node). gone_line (pos q.now) (name_of n)) ns) (all_stay p.document.nodes p.document.nodes (all_known p.document.nodes p.document.next numbered))
-
--- what was appended
-pub is_appended : (old new more : List ℕ) → new ≡ old ++ more → new ≡ old ++ drop (length old) new
-is_appended old new more is = is ∙ sym (ap (λ t. old ++ t) (ap (drop (length old)) is ∙ drop-append_seam old more))
 
 -- only changes are told
 pub told_alone : (p q : Presentation) (changes : List (ℕ × View)) (text : List ℕ) → IsNumberedTree p.document → q.document ≡ p.document → text ≡ text_of p changes → text ≡ gone_text p q ++ flat_map (change_text q.document.nodes) changes

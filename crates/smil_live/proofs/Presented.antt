@@ -1,42 +1,20 @@
 -- Settled cells with the views that they give, as a presentation shows them.
-use Rattle.std.proofs.Common.{◌≡◌, refl, sym, ◌∙◌, ap, subst, ℕ, List, [], ◌∷◌, ◌++◌, Bool, true, false}
-use Rattle.std.specs.Prelude.{cond, pos, flat_map, is_some, map, IsSome, Some}
-use Rattle.std.specs.List.{AllByRecursion}
+use Rattle.std.proofs.Common.{◌≡◌, refl, sym, ◌∙◌, ap, subst, ℕ, List, ◌++◌}
+use Rattle.std.specs.Prelude.{pos, flat_map, IsSome}
 use Rattle.std.proofs.lemmas.List.Elements.{All-from_recursion}
-use Rattle.smil_model.specs.declared.document.Node.{Node}
 use Rattle.smil_model.specs.declared.view.View.{View}
-use Rattle.smil_model.specs.document.Document.{Document, elements, is_element, node_at}
+use Rattle.smil_model.specs.document.Document.{Document, node_at}
 use Rattle.smil_model.specs.interval.Current.{current_table, in_table}
 use Rattle.smil_model.specs.shown.Answers.{change_text}
 use Rattle.smil_model.specs.shown.Orders.{IsState, Presentation, at_moment, changed, changes_between, views_of}
 use Rattle.smil_model.specs.shown.Views.{view_of}
 use Rattle.smil_tree.proofs.Spans.{all_known}
 use Rattle.smil_cells.specs.Standing.{IsSettled, Standing, history_of}
-use Rattle.smil_live.specs.Kept.{IsPlaying, views_at}
-use Rattle.smil_live.specs.Moves.{IsReplayed, text_of}
+use Rattle.smil_live.specs.Kept.{views_at}
+use Rattle.smil_live.specs.Moves.{text_of}
 use Rattle.smil_live.specs.Seen.{AreOf, Shown}
 use Rattle.smil_live.proofs.Standings.{views_settled}
-
--- settled cells of a state, with their views
-pub played : (p : Presentation) (s : Standing) (shown : Shown) → IsState p → IsReplayed p s → shown ≡ record { views = views_at s; before = views_at s } → IsPlaying s shown
-played p s shown state is seen = record {
-  shown_is = record {
-    state = subst IsState (sym is.presentation_is) state;
-    sound = is.sound;
-    settled = is.settled;
-    views_are = ap (λ (x : Shown). x.views) seen;
-  };
-  unmarked = is.unmarked;
-  before = ap (λ (x : Shown). x.before) seen ∙ sym (ap (λ (x : Shown). x.views) seen);
-}
-
-each_view : (nodes : List Node) (f : Node → View) → ((n : Node) → (f n).serial ≡ n.serial) → (ns : List Node) → AllByRecursion (λ (n : Node). node_at nodes n.serial ≡ Some n) ns → AllByRecursion (λ (v : View). IsSome (node_at nodes v.serial)) (map f (elements ns))
-each_view nodes f same [] h = tt
-each_view nodes f same (n ∷ ns) h = by_test (is_element n) (each_view nodes f same ns h.1)
-  where
-    by_test : (t : Bool) → AllByRecursion (λ (v : View). IsSome (node_at nodes v.serial)) (map f (elements ns)) → AllByRecursion (λ (v : View). IsSome (node_at nodes v.serial)) (map f (cond t (n ∷ elements ns) (elements ns)))
-    by_test true rest = (ap (λ s. is_some (node_at nodes s)) (same n) ∙ ap is_some h.0, rest)
-    by_test false rest = rest
+use Rattle.smil_live.proofs.Edited.{each_view}
 
 -- each view is that of a node
 pub are_of_nodes : (p : Presentation) (s : Standing) (shown : Shown) (d : Document) → IsState p → s.presentation ≡ p → shown ≡ record { views = views_at s; before = views_at s } → d ≡ s.presentation.document → AreOf d.nodes shown.views

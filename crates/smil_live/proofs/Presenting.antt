@@ -1,18 +1,17 @@
 -- What a settled standing gives to those that read its views.
-use Rattle.std.proofs.Common.{◌≡◌, refl, sym, ◌∙◌, ap, subst, ℕ, zero, suc, ℤ, List, [], ◌∷◌, Option, Some, None, Bool, true, false, length, eqb-true, arith}
+use Rattle.std.proofs.Common.{◌≡◌, refl, sym, ap, subst, ℕ, zero, suc, ℤ, List, [], ◌∷◌, Option, Some, None, Bool, true, false, length, arith}
 use Rattle.std.specs.Prelude.{cond, ◌==◌, pos, map, ◌≤ℤ◌, IfSome}
 use Rattle.std.proofs.lemmas.Int.{ints}
 use Rattle.smil_model.specs.declared.diary.Entry.{Entry}
 use Rattle.smil_model.specs.declared.document.Node.{Node}
 use Rattle.smil_model.specs.declared.interval.Interval.{Interval}
-use Rattle.smil_model.specs.document.Document.{elements, is_element, node_at}
+use Rattle.smil_model.specs.document.Document.{elements}
 use Rattle.smil_model.specs.diary.Clocks.{until}
 use Rattle.smil_model.specs.diary.Diary.{History}
 use Rattle.smil_model.specs.interval.Current.{current_interval, in_table, interval_given, table}
 use Rattle.smil_model.specs.shown.Orders.{IsState, course_of}
 use Rattle.smil_laws.specs.Courses.{ReachedIsPast}
 use Rattle.smil_laws.specs.Near.{AllNear, IntervalsAreNear, IsIntervalNear}
-use Rattle.smil_laws.proofs.Aside.{find_true}
 use Rattle.smil_past.specs.Past.{Happened, IsPresent}
 use Rattle.smil_past.specs.Past as past_of
 use Rattle.smil_cells.specs.Standing.{Standing, IsSettled, history_of}
@@ -58,22 +57,3 @@ current_near h now s law near = in_round (length (elements h.nodes))
     in_round zero = tt
     in_round (suc k) = in_rows (in_table (table h now k)) (elements h.nodes)
 
--- an element has the serial by which it is found
-pub own_serial : (nodes : List Node) (s : ℕ) (e : Node) → node_at nodes s ≡ Some e → e.serial ≡ s
-own_serial nodes s e at = eqb-true e.serial s (find_true (λ (m : Node). m.serial == s) nodes e at)
-
--- a node that is an element is found among the elements
-pub element_there : (nodes : List Node) (s : ℕ) (n : Node) → node_at nodes s ≡ Some n → is_element n ≡ true → node_at (elements nodes) s ≡ Some n
-element_there [] s n at is = cc
-element_there (m ∷ ms) s n at is = by_test (m.serial == s) refl at (λ q. element_there ms s n q is)
-  where
-    by_element : (t : Bool) → m.serial == s ≡ false → node_at (elements ms) s ≡ Some n → node_at (cond t (m ∷ elements ms) (elements ms)) s ≡ Some n
-    by_element true e later = ap (λ (b : Bool). cond b (Some m) (node_at (elements ms) s)) e ∙ later
-    by_element false e later = later
-
-    by_test : (b : Bool) → m.serial == s ≡ b → cond b (Some m) (node_at ms s) ≡ Some n → (node_at ms s ≡ Some n → node_at (elements ms) s ≡ Some n) → node_at (elements (m ∷ ms)) s ≡ Some n
-    by_test true e q later =
-        let one : m ≡ n = cc in
-        ap (λ (t : Bool). node_at (cond t (m ∷ elements ms) (elements ms)) s) (ap is_element one ∙ is)
-        ∙ (ap (λ (b : Bool). cond b (Some m) (node_at (elements ms) s)) e ∙ ap Some one)
-    by_test false e q later = by_element (is_element m) e (later q)

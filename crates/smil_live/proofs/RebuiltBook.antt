@@ -8,12 +8,8 @@ use Rattle.smil_model.specs.declared.diary.Entry.{Entry}
 use Rattle.smil_model.specs.declared.times.TheConstants.{HORIZON}
 use Rattle.smil_model.specs.diary.Clocks.{until}
 use Rattle.smil_model.specs.diary.Lawful.{is_rising_from}
+use Rattle.smil_tree.proofs.Making.{take-suc_at}
 use Rattle.smil_stretch.proofs.Moments.{le_both}
-
-take_next : (xs : List Entry) (k : ℕ) (x : Entry) → slice_get xs k ≡ Some x → take (suc k) xs ≡ take k xs ++ x ∷ []
-take_next [] k x e = cc
-take_next (y ∷ ys) zero x e = let one : y ≡ x = cc in ap (λ (z : Entry). z ∷ []) one
-take_next (y ∷ ys) (suc k) x e = ap (λ (l : List Entry). y ∷ l) (take_next ys k x e)
 
 -- what rises, entry by entry
 record Rises (from : ℤ) (x : Entry) (xs : List Entry) : Type 0 where
@@ -48,7 +44,7 @@ first_until m from (y ∷ ys) (suc k) x q e low =
 -- an entry that is later is none of those up to the moment
 pub until_shorter : (m : ℤ) (xs : List Entry) (k : ℕ) (x : Entry) → slice_get xs k ≡ Some x → int_le x.moment m ≡ false → until m (take (suc k) xs) ≡ until m (take k xs)
 until_shorter m xs k x e late =
-    ap (until m) (take_next xs k x e)
+    ap (until m) (take-suc_at xs k x e)
     ∙ (filter-append (λ (y : Entry). int_le y.moment m) (take k xs) (x ∷ [])
     ∙ (ap (λ (t : Bool). until m (take k xs) ++ cond t (x ∷ []) []) late ∙ append-nil (until m (take k xs))))
 

@@ -1,8 +1,7 @@
 -- How often cells that are rebuilt, or made anew, have intervals evaluated.
-use Rattle.std.proofs.Common.{◌≡◌, refl, sym, ◌∙◌, ap, subst, ℕ, suc, zero, ◌<◌, ◌≤◌, ◌+◌, ◌-◌, List, [], ◌∷◌, ◌++◌, Option, Some, None, Bool, true, false, arith, length, drop, append_assoc}
-use Rattle.std.specs.Prelude.{cond, filter, is_some, not, pos, slice_get, ◌&&◌}
-use Rattle.std.proofs.Math.Seq.{drop-append_seam}
-use Rattle.std.proofs.lemmas.List.Sums.{sum_by-append, sum_by-cons}
+use Rattle.std.proofs.Common.{◌≡◌, refl, sym, ◌∙◌, ap, subst, ℕ, suc, zero, ◌≤◌, ◌+◌, ◌-◌, List, [], ◌∷◌, ◌++◌, Option, Some, None, Bool, true, false, arith, length, drop}
+use Rattle.std.specs.Prelude.{cond, filter, is_some, not, pos, ◌&&◌}
+use Rattle.std.proofs.lemmas.List.Sums.{sum_by-cons}
 use Rattle.smil_model.specs.declared.diary.Entry.{Entry}
 use Rattle.smil_model.specs.declared.diary.LogEntry.{LogEntry}
 use Rattle.smil_model.specs.declared.diary.Step.{Step}
@@ -18,8 +17,9 @@ use Rattle.smil_model.specs.reach.Reach.{key_of, logged_key, logged_subject, rea
 use Rattle.smil_model.specs.shown.Orders.{Presentation, course_of}
 use Rattle.smil_laws.specs.Cut.{IsNamedBelow, NamesBelow}
 use Rattle.smil_laws.proofs.Further.{is_past}
+use Rattle.smil_laws.proofs.Cutting.{names_weaker}
+use Rattle.smil_laws.proofs.Longer.{get_longer}
 use Rattle.smil_cells.specs.Standing.{GoesOn, IsSettled, Standing, WhereTold, any_interval, fresh, fresh_since, interval_at, is_same_interval, reached_since}
-use Rattle.smil_cells.proofs.OnWay.{triangle}
 use Rattle.smil_live.specs.Counts.{interval_by, least_loading, reached_behind}
 use Rattle.smil_live.specs.Moves.{IsReplayed}
 use Rattle.smil_live.proofs.Counted.{IsCounted, counted_by, drops}
@@ -28,14 +28,9 @@ use Rattle.smil_live.proofs.Resolved.{resolved_is}
 
 -- ---- a longer log
 
-get_front : (xs ys : List LogEntry) (k : ℕ) → k < length xs → slice_get (xs ++ ys) k ≡ slice_get xs k
-get_front [] ys k l = absurd (omega (arith, l))
-get_front (x ∷ xs) ys zero l = refl
-get_front (x ∷ xs) ys (suc k) l = get_front xs ys k (omega (arith, l))
-
 -- an entry that names none of the new log entries reaches the same elements
 reach_longer : (nodes : List Node) (log rest : List LogEntry) (step : Step) → IsNamedBelow (length log) step → reach_by nodes (key_of (log ++ rest) step) (subject_of (log ++ rest) step) ≡ reach_by nodes (key_of log step) (subject_of log step)
-reach_longer nodes log rest (Logged place) l = ap (λ (o : Option LogEntry). reach_by nodes (logged_key o) (logged_subject o)) (get_front log rest place l)
+reach_longer nodes log rest (Logged place) l = ap (λ (o : Option LogEntry). reach_by nodes (logged_key o) (logged_subject o)) (get_longer log rest place l)
 reach_longer nodes log rest (Began who begin) l = refl
 reach_longer nodes log rest (Repeated who start) l = refl
 reach_longer nodes log rest (Ended who end') l = refl
@@ -56,21 +51,6 @@ reaches_longer nodes log rest (x ∷ xs) named =
   where
     numbers : (a b c d e f : ℕ) → c ≡ d → e ≡ f → a ≡ c + e → b ≡ d + f → a ≡ b
     numbers a b c d e f p q r s = omega (arith, p, q, r, s)
-
-step_weaker : (n j : ℕ) (step : Step) → n ≤ j → IsNamedBelow n step → IsNamedBelow j step
-step_weaker n j (Logged place) l p = omega (arith, l, p)
-step_weaker n j (Began who begin) l p = tt
-step_weaker n j (Repeated who start) l p = tt
-step_weaker n j (Ended who end') l p = tt
-step_weaker n j (Cut who) l p = tt
-step_weaker n j (Paused who) l p = tt
-step_weaker n j (Resumed who) l p = tt
-step_weaker n j (Deferred who begin) l p = tt
-step_weaker n j (Passed who begin) l p = tt
-
-names_weaker : (n j : ℕ) (ds : List Entry) → n ≤ j → NamesBelow n ds → NamesBelow j ds
-names_weaker n j [] l named = tt
-names_weaker n j (x ∷ xs) l named = (step_weaker n j x.step l named.0, names_weaker n j xs l named.1)
 
 names_behind : (n k : ℕ) (ds : List Entry) → NamesBelow n ds → NamesBelow n (drop k ds)
 names_behind n zero ds named = named

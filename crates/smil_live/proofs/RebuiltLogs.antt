@@ -1,9 +1,9 @@
 -- The log entries that a resolution has heard: each at its own moment, and none that is left is earlier.
-use Rattle.std.proofs.Common.{◌≡◌, refl, sym, ◌∙◌, ap, subst, ℕ, suc, zero, ◌+◌, List, [], ◌∷◌, ◌++◌, Option, Some, None, ℤ, Bool, true, false, arith, length, take, drop, length-append}
+use Rattle.std.proofs.Common.{◌≡◌, refl, sym, ◌∙◌, ap, subst, ℕ, suc, zero, ◌+◌, List, [], ◌∷◌, ◌++◌, Option, Some, None, ℤ, Bool, true, false, arith, take, drop}
 use Rattle.std.specs.Prelude.{cond, pos, int_le, nat_lt, slice_get, map, filter}
 use Rattle.std.specs.Option.{option_map_or}
 use Rattle.std.proofs.lemmas.Int.{ints}
-use Rattle.std.proofs.lemmas.List.{map-append}
+use Rattle.std.proofs.lemmas.List.{map-append, nil_from_length}
 use Rattle.std.proofs.lemmas.List.Elements.{filter-append}
 use Rattle.smil_model.specs.declared.diary.Entry.{Entry}
 use Rattle.smil_model.specs.declared.diary.LogEntry.{LogEntry}
@@ -13,7 +13,9 @@ use Rattle.smil_model.specs.happening.Keys.{Coming, coming, first_coming, is_due
 use Rattle.smil_model.specs.happening.Groups.{group}
 use Rattle.smil_model.specs.happening.Resolution.{Course, Progress, outset, history_at, after_quiet, after_settling, after_coming, next_step, after_steps, Reaches}
 use Rattle.smil_laws.specs.Cut.{is_logged, logged}
-use Rattle.smil_laws.proofs.Cutting.{next_on}
+use Rattle.smil_laws.proofs.Cutting.{next_on, logged_append}
+use Rattle.smil_tree.proofs.Making.{take-suc_at}
+use Rattle.smil_instance_rows.specs.Orders.{le_exact}
 use Rattle.smil_live.proofs.Full.{AreFrom, rising_behind, rising_from}
 
 -- the moments at which a diary hears log entries
@@ -31,22 +33,10 @@ pub record HasHeard (log : List LogEntry) (p : Progress) : Type 0 where
 
 -- ---- lists
 
-take_next : (xs : List LogEntry) (k : ℕ) (x : LogEntry) → slice_get xs k ≡ Some x → take (suc k) xs ≡ take k xs ++ x ∷ []
-take_next [] k x e = cc
-take_next (y ∷ ys) zero x e = let one : y ≡ x = cc in ap (λ (z : LogEntry). z ∷ []) one
-take_next (y ∷ ys) (suc k) x e = ap (λ (l : List LogEntry). y ∷ l) (take_next ys k x e)
-
 first_from : (m : ℤ) (xs : List LogEntry) (k : ℕ) (x : LogEntry) → AreFrom m (drop k xs) → slice_get xs k ≡ Some x → int_le m x.moment ≡ true
 first_from m [] k x all e = cc
 first_from m (y ∷ ys) zero x all e = let one : y ≡ x = cc in rw (← one) all.0
 first_from m (y ∷ ys) (suc k) x all e = first_from m ys k x all e
-
-no_entries : (xs : List Entry) → length xs ≡ 0 → xs ≡ []
-no_entries [] e = refl
-no_entries (x ∷ xs) e = absurd (omega (arith, e))
-
-both_ways : (x y : ℤ) → int_le x y ≡ true → int_le y x ≡ true → x ≡ y
-both_ways x y p q = grind (arith, ints)
 
 next_moment : (m : ℕ) (x : ℤ) → int_le x (pos m) ≡ false → int_le (pos (suc m)) x ≡ true
 next_moment m x p = grind (arith, ints)
@@ -55,9 +45,6 @@ moments_append : (xs ys : List Entry) → heard_moments (xs ++ ys) ≡ heard_mom
 moments_append xs ys =
     ap (λ (l : List Entry). map (λ (x : Entry). x.moment) l) (filter-append (λ (x : Entry). is_logged x.step) xs ys)
     ∙ map-append (λ (x : Entry). x.moment) (filter (λ (x : Entry). is_logged x.step) xs) (filter (λ (x : Entry). is_logged x.step) ys)
-
-logged_more : (xs ys : List Entry) → logged (xs ++ ys) ≡ logged xs + logged ys
-logged_more xs ys = ap length (filter-append (λ (x : Entry). is_logged x.step) xs ys) ∙ length-append (filter (λ (x : Entry). is_logged x.step) xs) (filter (λ (x : Entry). is_logged x.step) ys)
 
 -- ---- step by step
 
@@ -79,17 +66,17 @@ module _ (c : Course) (rise : moments_rise (pos 0) c.log ≡ true) (q : Progress
     added = record { moment = pos q.moment; step = Logged q.heard } ∷ []
 
     now_is : pos q.moment ≡ entry.moment
-    now_is = both_ways (pos q.moment) entry.moment (before.next entry here) due
+    now_is = le_exact (pos q.moment) entry.moment (before.next entry here) due
 
     heard_one : HasHeard c.log (record { moment = q.moment; heard = suc q.heard; diary = q.diary ++ added })
     heard_one = record {
-      count = let count = before.count in logged_more q.diary added ∙ omega (arith, count);
+      count = let count = before.count in logged_append q.diary added ∙ omega (arith, count);
       moments =
           moments_append q.diary added
           ∙ (ap (λ (l : List ℤ). l ++ pos q.moment ∷ []) before.moments
           ∙ (ap (λ (m : ℤ). log_moments (take q.heard c.log) ++ m ∷ []) now_is
           ∙ (sym (map-append (λ (x : LogEntry). x.moment) (take q.heard c.log) (entry ∷ []))
-          ∙ ap log_moments (sym (take_next c.log q.heard entry here)))));
+          ∙ ap log_moments (sym (take-suc_at c.log q.heard entry here)))));
       next = λ later f. subst (λ (m : ℤ). int_le m later.moment ≡ true) (sym now_is) (first_from entry.moment c.log (suc q.heard) later (rising_behind (pos 0) c.log q.heard entry rise here) f);
     }
 
@@ -115,9 +102,9 @@ module _ (c : Course) (rise : moments_rise (pos 0) c.log ≡ true) (q : Progress
           let gs : List Entry = group (history_at c q) (pos q.moment) next.key.serial next.change in
           let one : record { moment = q.moment; heard = q.heard; diary = q.diary ++ gs } ≡ r = cc in
           let count : logged (q.diary ++ gs) ≡ q.heard = subst (λ (p : Progress). logged p.diary ≡ p.heard) (sym one) ((next_on c q r whole).count before.count) in
-          let both = logged_more q.diary gs in
+          let both = logged_append q.diary gs in
           let was = before.count in
-          let none : filter (λ (x : Entry). is_logged x.step) gs ≡ [] = no_entries (filter (λ (x : Entry). is_logged x.step) gs) (omega (arith, count, both, was)) in
+          let none : filter (λ (x : Entry). is_logged x.step) gs ≡ [] = nil_from_length (filter (λ (x : Entry). is_logged x.step) gs) (omega (arith, count, both, was)) in
           subst (λ (p : Progress). HasHeard c.log p) one
           (record {
             count = count;

@@ -25,6 +25,7 @@ use Rattle.smil_laws.proofs.Back.{reaches_back}
 use Rattle.smil_laws.proofs.Cutting.{reaches_at_last}
 use Rattle.smil_laws.proofs.Further.{is_past}
 use Rattle.smil_stretch.proofs.Moments.{le_both}
+use Rattle.smil_cells.proofs.Hearing.{from_first}
 use Rattle.smil_live.proofs.Ended.{comes_to}
 use Rattle.smil_live.proofs.RebuiltLogs.{has_heard, heard_moments, log_moments}
 
@@ -103,12 +104,9 @@ log_until c d m log by settled =
 
 -- ---- moments of entries
 
-least : (n : ℕ) → int_le (pos 0) (pos n) ≡ true
-least n = grind (arith, ints)
-
 -- the last of entries that are not later than a moment is not
 last_within : (n : ℕ) (d : List Entry) → until (pos n) d ≡ d → int_le (last_moment d) (pos n) ≡ true
-last_within n d e = from_start (pos 0) d (least n) (each d e)
+last_within n d e = from_start (pos 0) d (from_first n) (each d e)
   where
     NoneLater : List Entry → Type 0
     NoneLater xs = AllByRecursion (λ (x : Entry). int_le x.moment (pos n) ≡ true) xs

@@ -1,11 +1,10 @@
 -- A diary that begins with the entries of another one up to a moment, and goes no further than that moment, is these entries.
-use Rattle.std.proofs.Common.{◌≡◌, refl, sym, ◌∙◌, ap, subst, ℕ, suc, zero, ◌≤◌, List, [], ◌∷◌, ◌++◌, Option, Some, None, ℤ, Bool, true, false, arith, length, take, drop, length-append, append_assoc}
+use Rattle.std.proofs.Common.{◌≡◌, refl, sym, ◌∙◌, ap, subst, ℕ, suc, ◌≤◌, List, [], ◌∷◌, ◌++◌, Option, Some, None, ℤ, Bool, true, false, arith, length, take, drop, length-append}
 use Rattle.std.specs.Prelude.{cond, pos, int_le, nat_lt, slice_get, filter}
 use Rattle.std.specs.List.{list_all}
-use Rattle.std.specs.Option.{option_map_or}
 use Rattle.std.proofs.lemmas.Bool.{and_parts}
 use Rattle.std.proofs.lemmas.Int.{ints}
-use Rattle.std.proofs.lemmas.List.{append-nil, take-append-drop}
+use Rattle.std.proofs.lemmas.List.{append-nil, take-append-drop, nil_from_length}
 use Rattle.std.proofs.lemmas.List.Elements.{filter-append}
 use Rattle.smil_model.specs.declared.diary.Entry.{Entry}
 use Rattle.smil_model.specs.declared.diary.LogEntry.{LogEntry}
@@ -14,12 +13,13 @@ use Rattle.smil_model.specs.document.Document.{Document}
 use Rattle.smil_model.specs.document.Valid.{IsNumberedTree}
 use Rattle.smil_model.specs.diary.Clocks.{until}
 use Rattle.smil_model.specs.diary.Logs.{is_log, may_happen, moments_rise}
-use Rattle.smil_model.specs.happening.Keys.{Coming, coming, first_coming, is_due}
+use Rattle.smil_model.specs.happening.Keys.{Coming, is_due}
 use Rattle.smil_model.specs.happening.Groups.{group}
 use Rattle.smil_model.specs.happening.Resolution.{Course, Progress, outset, history_at, after_quiet, after_settling, after_coming, next_step, after_steps, Reaches, diary_of}
 use Rattle.smil_laws.specs.Agreement.{course_on}
-use Rattle.smil_laws.proofs.Decided.{then}
+use Rattle.smil_laws.proofs.Decided.{then, stays}
 use Rattle.smil_laws.proofs.Further.{is_past, reaches_further}
+use Rattle.smil_laws.proofs.Through.{more_added}
 use Rattle.smil_live.proofs.Ended.{has_ended}
 use Rattle.smil_live.proofs.Full.{AreFrom}
 
@@ -53,21 +53,6 @@ module _ (c : Course) (q : Progress) where
           (group (history_at c q) (pos q.moment) next.key.serial next.change, ap (λ (p : Progress). p.diary) (sym one))
       by_test false e = settling_adds (slice_get c.log q.heard) r e
 
-steps_add : (c : Course) (k : ℕ) (q : Progress) → (added : List Entry) × ((after_steps c k q).diary ≡ q.diary ++ added)
-steps_add c zero q = ([], sym (append-nil q.diary))
-steps_add c (suc k) q = by_next (next_step c q) refl (steps_add c k)
-  where
-    by_next : (o : Option Progress) → next_step c q ≡ o → ((r : Progress) → (added : List Entry) × ((after_steps c k r).diary ≡ r.diary ++ added)) → (added : List Entry) × ((option_map_or (λ r. after_steps c k r) o q).diary ≡ q.diary ++ added)
-    by_next None e later = ([], sym (append-nil q.diary))
-    by_next (Some r) e later =
-        let one = coming_adds c q (first_coming (coming (history_at c q) (pos q.moment))) r e in
-        let rest = later r in
-        (one.0 ++ rest.0, rest.1 ∙ (ap (λ (d : List Entry). d ++ rest.0) one.1 ∙ append_assoc q.diary one.0 rest.0))
-
-stays : (c : Course) (k : ℕ) (q : Progress) → next_step c q ≡ None → after_steps c k q ≡ q
-stays c zero q e = refl
-stays c (suc k) q e = ap (λ o. option_map_or (λ r. after_steps c k r) o q) e
-
 -- what a course comes to begins its diary
 pub begins_diary : (c : Course) (d : List Entry) (q : Progress) → diary_of c ≡ Some d → Reaches c q → (more : List Entry) × (d ≡ q.diary ++ more)
 begins_diary c d q settled (k, e) =
@@ -78,14 +63,10 @@ begins_diary c d q settled (k, e) =
     by_end at (j, f) ended same =
         let there : after_steps c j q ≡ at =
         ap (after_steps c j) (sym e) ∙ (sym (then c k j outset) ∙ (ap (λ n. after_steps c n outset) (omega arith) ∙ (then c j k outset ∙ (ap (after_steps c k) f ∙ stays c k at ended)))) in
-        let more = steps_add c j q in
+        let more = more_added c j q in
         (more.0, sym same ∙ (ap (λ (p : Progress). p.diary) (sym there) ∙ more.1))
 
 -- ---- the same entries
-
-no_more : {X : Type 0} (xs : List X) → length xs ≡ 0 → xs ≡ []
-no_more [] e = refl
-no_more (x ∷ xs) e = absurd (omega (arith, e))
 
 pub none_added : (c : Course) (d : List Entry) (m : ℕ) (q : Progress) (more : List Entry) → diary_of c ≡ Some d → Reaches c q → q.moment ≡ m → q.diary ≡ until (pos m) d ++ more → more ≡ []
 none_added c d m q more settled reached here is =
@@ -94,7 +75,7 @@ none_added c d m q more settled reached here is =
     let whole : until (pos m) d ≡ q.diary ++ until (pos m) rest.0 = ap (until (pos m)) rest.1 ∙ (filter-append (λ (x : Entry). int_le x.moment (pos m)) q.diary rest.0 ∙ ap (λ (l : List Entry). l ++ until (pos m) rest.0) past) in
     let one = ap (λ (l : List Entry). length l) is ∙ length-append (until (pos m) d) more in
     let two = ap (λ (l : List Entry). length l) whole ∙ length-append q.diary (until (pos m) rest.0) in
-    no_more more (omega (arith, one, two))
+    nil_from_length more (omega (arith, one, two))
 
 -- the log entries behind those up to a moment are not before it
 later_from : (m from : ℤ) (log : List LogEntry) → moments_rise from log ≡ true → AreFrom m (drop (length (filter (λ (x : LogEntry). int_le x.moment m) log)) log)

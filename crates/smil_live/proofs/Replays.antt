@@ -15,6 +15,7 @@ use Rattle.smil_model.specs.shown.Orders.{IsState, Presentation, course_of}
 use Rattle.smil_diary.specs.declared.fault.BookFault.{BookFault}
 use Rattle.smil_diary.specs.declared.fault.BookFault.TheVariants as book_fault
 use Rattle.smil_laws.specs.Agreement.{course_on}
+use Rattle.smil_laws.proofs.Further.{le_same}
 use Rattle.smil_stretch.proofs.Moments.{le_from, le_self, le_both}
 use Rattle.smil_cells.specs.Standing.{GoesOn, IsSettled, Standing, moved_to, with_logged}
 use Rattle.smil_live.specs.Moves.{IsReplayed, IsTooFull, IsUnderWay, heard_at}
@@ -31,9 +32,6 @@ natural m (negsuc k) q = cc
 no_more : (x : ℤ) (n : ℕ) → pos (nat_abs x) ≡ x → int_le x (pos n) ≡ true → nat_abs x ≤ n
 no_more (pos k) n e q = grind (arith, ints)
 no_more (negsuc k) n e q = cc
-
-itself : (n : ℕ) → int_le (pos n) (pos n) ≡ true
-itself n = grind (arith, ints)
 
 pub fits : (n : ℕ) (z : ℤ) → pos n ≤ℤ z → z ≤ℤ HORIZON → FitsSigned w64 z
 fits n (pos k) from within = record { sfits = omega (arith, ints, from, within) }
@@ -57,7 +55,7 @@ refused_as p q s book_fault.DiaryFull sound full more = by_cause (full refl)
 -- an entry more at the same moment
 pub full_heard : (p : Presentation) (x : LogEntry) → IsNumberedTree p.document → x.moment ≡ pos p.now → diary_of (course_of p) ≡ None → diary_of (course_of (with_logged p x)) ≡ None
 full_heard p x numbered here none =
-    full_further p.document p.log (x ∷ []) p.now p.now numbered (ap (int_le (pos p.now)) here ∙ itself p.now, tt) (omega arith) none
+    full_further p.document p.log (x ∷ []) p.now p.now numbered (ap (int_le (pos p.now)) here ∙ le_same p.now, tt) (omega arith) none
 
 -- ---- under way to a presentation
 

@@ -1,10 +1,10 @@
 -- Settled cells: nothing comes up to their moment, and their views are those of the presentation.
 use Rattle.std.proofs.Common.{◌≡◌, sym, ap, subst, ℕ, ◌+◌, ◌-◌, ℤ, arith}
-use Rattle.std.specs.Prelude.{pos, negsuc, nat_abs, ◌≤ℤ◌, ◌+ℤ◌}
-use Rattle.std.proofs.lemmas.Int.{ints}
+use Rattle.std.specs.Prelude.{pos, nat_abs, ◌≤ℤ◌, ◌+ℤ◌}
 use Rattle.smil_model.specs.declared.times.TheConstants.{HORIZON}
 use Rattle.smil_model.specs.shown.Orders.{IsState, Presentation, course_of, views_of}
 use Rattle.smil_cells.specs.Standing.{IsSettled, NothingBefore, Standing, moved_to}
+use Rattle.smil_cells.proofs.Passing.{over}
 use Rattle.smil_live.specs.Kept.{IsShown, views_at}
 use Rattle.smil_live.specs.Moves.{MayMove, made}
 use Rattle.smil_live.specs.Seen.{Shown}
@@ -29,14 +29,9 @@ has_diary s shown is = record { numbered = is.state.document.numbered; logged = 
 
 -- ---- moves
 
--- a later moment, as so many milliseconds
-pub later_by : (a : ℕ) (v : ℤ) → pos a ≤ℤ v → (n : ℕ) × (v ≡ pos (a + n))
-later_by a (pos k) l = (k - a, ap pos (omega (arith, ints, l)))
-later_by a (negsuc k) l = absurd (omega (arith, ints, l))
-
 -- a move from a state leads to a state
 pub state_then : (p : Presentation) (to : ℤ) → IsState p → pos p.now ≤ℤ to → to ≤ℤ HORIZON → IsState (moved_to p (nat_abs to))
-state_then p to state from within = by_number (later_by p.now to from)
+state_then p to state from within = by_number (over p.now to from)
   where
     by_number : (n : ℕ) × (to ≡ pos (p.now + n)) → IsState (moved_to p (nat_abs to))
     by_number (n, e) =

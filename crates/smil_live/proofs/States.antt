@@ -1,14 +1,16 @@
 -- Presentations that stay states: at a later moment, with an entry at the present moment, with the first entries alone.
-use Rattle.std.proofs.Common.{◌≡◌, refl, ◌∙◌, ap, ℕ, suc, zero, ◌≤◌, List, [], ◌∷◌, ◌++◌, Bool, true, ℤ, arith, take}
+use Rattle.std.proofs.Common.{◌≡◌, refl, ◌∙◌, ap, ℕ, ◌≤◌, List, [], ◌∷◌, ◌++◌, true, ℤ, arith, take}
 use Rattle.std.specs.Prelude.{pos, int_le, ◌≤ℤ◌}
 use Rattle.std.specs.List.{list_all}
 use Rattle.std.proofs.lemmas.Int.{ints}
 use Rattle.std.proofs.lemmas.Bool.{and_from, and_parts}
 use Rattle.smil_model.specs.declared.diary.LogEntry.{LogEntry}
 use Rattle.smil_model.specs.declared.times.TheConstants.{HORIZON}
-use Rattle.smil_model.specs.diary.Logs.{is_log, is_logged_by, may_happen, moments_rise}
+use Rattle.smil_model.specs.diary.Logs.{is_logged_by, may_happen, moments_rise}
 use Rattle.smil_model.specs.shown.Orders.{IsState, Presentation, as_of}
 use Rattle.smil_stretch.proofs.Moments.{le_from, is_le}
+use Rattle.smil_cells.proofs.Heeded.{all_first, all_one}
+use Rattle.smil_cells.proofs.Hearing.{from_first}
 use Rattle.smil_live.proofs.Quiet.{logged_later}
 
 -- a state is not beyond the horizon
@@ -33,14 +35,6 @@ rises_more from m (x ∷ xs) entry q l f e =
     (and_parts (int_le from x.moment) (moments_rise x.moment xs) q).0
     (rises_more x.moment m xs entry (and_parts (int_le from x.moment) (moments_rise x.moment xs) q).1 (and_parts (int_le x.moment m) (is_logged_by m xs) l).1 (and_parts (int_le x.moment m) (is_logged_by m xs) l).0 e)
 
-all_more : (test : LogEntry → Bool) (log : List LogEntry) (entry : LogEntry) → list_all test log ≡ true → test entry ≡ true → list_all test (log ++ entry ∷ []) ≡ true
-all_more test [] entry q t = and_from (test entry) true t refl
-all_more test (x ∷ xs) entry q t =
-    and_from (test x) (list_all test (xs ++ entry ∷ [])) (and_parts (test x) (list_all test xs) q).0 (all_more test xs entry (and_parts (test x) (list_all test xs) q).1 t)
-
-from_start : (n : ℕ) → int_le (pos 0) (pos n) ≡ true
-from_start n = grind (arith, ints)
-
 at_or_before : (x y : ℤ) → x ≡ y → int_le x y ≡ true
 at_or_before x y e = grind (arith, ints)
 
@@ -50,33 +44,13 @@ state_logged p entry state here may = record {
   document = state.document;
   log =
       and_from (moments_rise (pos 0) (p.log ++ entry ∷ [])) (list_all (λ (x : LogEntry). may_happen x.what) (p.log ++ entry ∷ []))
-      (rises_more (pos 0) (pos p.now) p.log entry (and_parts (moments_rise (pos 0) p.log) (list_all (λ (x : LogEntry). may_happen x.what) p.log) state.log).0 state.logged (from_start p.now) here)
-      (all_more (λ (x : LogEntry). may_happen x.what) p.log entry (and_parts (moments_rise (pos 0) p.log) (list_all (λ (x : LogEntry). may_happen x.what) p.log) state.log).1 may);
-  logged = all_more (λ (x : LogEntry). int_le x.moment (pos p.now)) p.log entry state.logged (at_or_before entry.moment (pos p.now) here);
+      (rises_more (pos 0) (pos p.now) p.log entry (and_parts (moments_rise (pos 0) p.log) (list_all (λ (x : LogEntry). may_happen x.what) p.log) state.log).0 state.logged (from_first p.now) here)
+      (all_one (λ (x : LogEntry). may_happen x.what) p.log entry (and_parts (moments_rise (pos 0) p.log) (list_all (λ (x : LogEntry). may_happen x.what) p.log) state.log).1 may);
+  logged = all_one (λ (x : LogEntry). int_le x.moment (pos p.now)) p.log entry state.logged (at_or_before entry.moment (pos p.now) here);
   now = state.now;
 }
 
 -- ---- the first entries alone
 
-first_all : (test : LogEntry → Bool) (len : ℕ) (log : List LogEntry) → list_all test log ≡ true → list_all test (take len log) ≡ true
-first_all test zero [] q = refl
-first_all test zero (x ∷ xs) q = refl
-first_all test (suc len) [] q = refl
-first_all test (suc len) (x ∷ xs) q =
-    and_from (test x) (list_all test (take len xs)) (and_parts (test x) (list_all test xs) q).0 (first_all test len xs (and_parts (test x) (list_all test xs) q).1)
-
-first_rises : (from : ℤ) (len : ℕ) (log : List LogEntry) → moments_rise from log ≡ true → moments_rise from (take len log) ≡ true
-first_rises from zero [] q = refl
-first_rises from zero (x ∷ xs) q = refl
-first_rises from (suc len) [] q = refl
-first_rises from (suc len) (x ∷ xs) q =
-    and_from (int_le from x.moment) (moments_rise x.moment (take len xs)) (and_parts (int_le from x.moment) (moments_rise x.moment xs) q).0 (first_rises x.moment len xs (and_parts (int_le from x.moment) (moments_rise x.moment xs) q).1)
-
-pub first_is_log : (len : ℕ) (log : List LogEntry) → is_log log ≡ true → is_log (take len log) ≡ true
-first_is_log len log q =
-    and_from (moments_rise (pos 0) (take len log)) (list_all (λ (x : LogEntry). may_happen x.what) (take len log))
-    (first_rises (pos 0) len log (and_parts (moments_rise (pos 0) log) (list_all (λ (x : LogEntry). may_happen x.what) log) q).0)
-    (first_all (λ (x : LogEntry). may_happen x.what) len log (and_parts (moments_rise (pos 0) log) (list_all (λ (x : LogEntry). may_happen x.what) log) q).1)
-
 pub first_is_logged_by : (m : ℤ) (len : ℕ) (log : List LogEntry) → is_logged_by m log ≡ true → is_logged_by m (take len log) ≡ true
-first_is_logged_by m len log q = first_all (λ (x : LogEntry). int_le x.moment m) len log q
+first_is_logged_by m len log q = all_first (λ (x : LogEntry). int_le x.moment m) len log q

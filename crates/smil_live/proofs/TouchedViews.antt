@@ -13,12 +13,14 @@ use Rattle.smil_model.specs.shown.Answers.{name_in}
 use Rattle.smil_model.specs.shown.Lines.{change_line}
 use Rattle.smil_model.specs.shown.Orders.{IsState, changed, view_eq}
 use Rattle.smil_report.specs.Words.{Begins}
+use Rattle.smil_instances.proofs.Siblings.{distinct_elements}
+use Rattle.smil_outline.proofs.Walks.{begins_by, begins_itself}
 use Rattle.smil_cells.specs.Standing.{GoesOn, Standing}
 use Rattle.smil_live.specs.Kept.{views_at}
 use Rattle.smil_live.specs.Seen.{Shown, differs, has_view, view_in, view_now, with_view}
 use Rattle.smil_live.specs.Told.{lines_between, lines_of}
-use Rattle.smil_live.proofs.LinesTold.{begins_on_more, difference_on, from_first, next_view}
-use Rattle.smil_live.proofs.Touching.{AreLeft, IsTurn, OwnsIn, Stays, all_left, all_put, elements_distinct, own_all, put_all, put_next, told_same, touched_of, touched_serials, turn_of}
+use Rattle.smil_live.proofs.LinesTold.{difference_on, next_view}
+use Rattle.smil_live.proofs.Touching.{AreLeft, IsTurn, OwnsIn, Stays, all_left, all_put, own_all, put_all, put_next, told_same, touched_of, touched_serials, turn_of}
 
 -- ---- the line of one view
 
@@ -50,7 +52,7 @@ module _ (nodes : List Node) (m : ℕ) (first all : List View) (front : List ℕ
     left = subst (λ (vs : List View). AreLeft first all vs (drop 0 all)) (sym views) (subst (λ (vs : List View). AreLeft first all first vs) (sym (none_off all)) left);
     told = ap (λ (vs : List View). front ++ lines_between nodes m first vs) (none_off all);
     before_is = is;
-    begins = from_first front;
+    begins = begins_itself front;
   }
     where
       none_off : (vs : List View) → drop 0 vs ≡ vs
@@ -68,7 +70,7 @@ module _ (nodes : List Node) (m : ℕ) (first all : List View) (front : List ℕ
     told = difference_on nodes m first all i d (front ++ lines_between nodes m first all) out out' l way.told
         (told ∙ (ap (λ x. out ++ x) (same_lines shown.views v left.stand.0.0) ∙ ap (λ x. out ++ lines_between nodes m first (x ∷ [])) (sym is)));
     before_is = ap (λ (s : Shown). s.before) put ∙ way.before_is;
-    begins = begins_on_more front out out' way.begins more;
+    begins = begins_by front out out' way.begins more;
   }
     where
       left : AreLeft first all shown.views (v ∷ drop (i + 1) all)
@@ -109,7 +111,7 @@ is_from old new first goes views same state = record {
 }
   where
     distinct : IsDistinct (elements new.presentation.document.nodes)
-    distinct = elements_distinct new.presentation.document.nodes (((state.document).numbered).distinct)
+    distinct = distinct_elements new.presentation.document.nodes (((state.document).numbered).distinct)
 
     each : (es : List Node) → AllByRecursion (OwnsIn (elements new.presentation.document.nodes)) es → AllByRecursion (Stays (has new.touched) (view_now old) (view_now new)) es
     each [] own = tt

@@ -255,23 +255,6 @@ own_all (x ∷ xs) d = (
       each ms other.1 own.1,
     )
 
--- the elements among nodes of different serials
-pub elements_distinct : (nodes : List Node) → IsDistinct nodes → IsDistinct (elements nodes)
-elements_distinct [] d = tt
-elements_distinct (n ∷ ns) d = by_element (is_element n) (none n.serial ns d.0) (elements_distinct ns d.1)
-  where
-    none : (s : ℕ) (ms : List Node) → list_any (λ (m : Node). m.serial == s) ms ≡ false → list_any (λ (m : Node). m.serial == s) (elements ms) ≡ false
-    none s [] q = refl
-    none s (m ∷ ms) q = by_own (is_element m) (or_false (m.serial == s) (list_any (λ (m : Node). m.serial == s) ms) q).0 (none s ms (or_false (m.serial == s) (list_any (λ (m : Node). m.serial == s) ms) q).1)
-      where
-        by_own : (t : Bool) → m.serial == s ≡ false → list_any (λ (m : Node). m.serial == s) (elements ms) ≡ false → list_any (λ (m : Node). m.serial == s) (cond t (m ∷ elements ms) (elements ms)) ≡ false
-        by_own true here later = ap (λ (t : Bool). t || list_any (λ (m : Node). m.serial == s) (elements ms)) here ∙ later
-        by_own false here later = later
-
-    by_element : (t : Bool) → list_any (λ (m : Node). m.serial == n.serial) (elements ns) ≡ false → IsDistinct (elements ns) → IsDistinct (cond t (n ∷ elements ns) (elements ns))
-    by_element true other later = (other, later)
-    by_element false other later = later
-
 -- an element is a node
 pub is_node : (nodes : List Node) (s : ℕ) (e : Node) → node_at (elements nodes) s ≡ Some e → is_some (node_at nodes s) ≡ true
 is_node [] s e q = cc

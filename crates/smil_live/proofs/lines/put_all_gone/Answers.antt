@@ -2,7 +2,8 @@ use Rattle.std.proofs.Common.{refl, sym, ◌∙◌, ap, ◌≤◌, length, arith
 use Rattle.smil_model.specs.document.Document.{node_at}
 use Rattle.smil_stretch.proofs.Above.{node_of}
 use Rattle.smil_stretch.proofs.Idle.{node_found, node_known, node_inside, none_left}
-use Rattle.smil_live.proofs.LinesTold.{all_gone, begins_on_more, gone_on}
+use Rattle.smil_outline.proofs.Walks.{begins_by}
+use Rattle.smil_live.proofs.LinesTold.{all_gone, gone_on}
 use Rattle.smil_live.proofs.lines.put_all_gone.Goals as goal
 
 pub put_where_gone-requires : goal.put_where_gone-requires
@@ -24,7 +25,7 @@ loop-serial-preserved c =
       told =
           gone_on c.args.after.now.nodes _ nodes k found.node _ c.loop-serial.out _ found.at c.loop-serial.invariant.told
           (c.in_ok-put_where_gone.ensures.ok found.node there);
-      begins = begins_on_more c.args.out.now c.loop-serial.out _ c.loop-serial.invariant.begins c.in_ok-put_where_gone.ensures.begins;
+      begins = begins_by c.args.out.now c.loop-serial.out _ c.loop-serial.invariant.begins c.in_ok-put_where_gone.ensures.begins;
     }
 
 pub returns-clause-ok : goal.returns-clause-ok

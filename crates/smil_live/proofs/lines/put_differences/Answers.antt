@@ -1,8 +1,9 @@
 use Rattle.std.proofs.Common.{◌∙◌, ap, subst, ◌++◌, [], ◌∷◌, ◌<◌, length, get_or, List}
 use Rattle.smil_model.specs.declared.view.View.{View}
 use Rattle.smil_model.specs.shown.Views.{blank}
+use Rattle.smil_outline.proofs.Walks.{begins_by}
 use Rattle.smil_live.specs.Told.{lines_between}
-use Rattle.smil_live.proofs.LinesTold.{begins_on_more, difference_on}
+use Rattle.smil_live.proofs.LinesTold.{difference_on}
 use Rattle.smil_live.proofs.lines.put_differences.Goals as goal
 
 pub loop-view-preserved : goal.loop-view-preserved
@@ -16,5 +17,5 @@ loop-view-preserved c =
       told = λ m q.
           difference_on nodes m before views i (blank 0) _ c.loop-view.out _ (subst (λ (l : List View). i < length l) same c.loop-view-test.true) (c.loop-view.invariant.told m q)
           (c.in_ok-put_difference.ensures.ok m q ∙ ap (λ (l : List View). c.loop-view.out ++ lines_between nodes m before (get_or l i (blank 0) ∷ [])) same);
-      begins = begins_on_more c.args.out.now c.loop-view.out _ c.loop-view.invariant.begins c.in_ok-put_difference.ensures.begins;
+      begins = begins_by c.args.out.now c.loop-view.out _ c.loop-view.invariant.begins c.in_ok-put_difference.ensures.begins;
     }

@@ -1,8 +1,8 @@
 use Rattle.std.proofs.Common.{arith}
 use Rattle.std.proofs.lemmas.Option.{slice_get_within}
 use Rattle.smil_model.specs.shown.Answers.{values_on}
+use Rattle.smil_outline.proofs.Walks.{begins_by}
 use Rattle.smil_live.proofs.Apart.{past_nodes, standing_known, stands_at}
-use Rattle.smil_live.proofs.Growth.{begins_through}
 use Rattle.smil_live.proofs.Lined.{lines_all, lines_next}
 use Rattle.smil_live.proofs.tells.put_all_values.Goals as goal
 
@@ -29,7 +29,7 @@ loop-target-preserved c =
       text = λ all are.
           lines_next (values_on c.args.document.tree.now.nodes all) c.args.document.tree.now.nodes c.args.out.now c.loop-target.place stands.node c.loop-target.out c.put_values_on.new.out stands.at (c.loop-target.invariant.text all are)
           (c.in_ok-put_values_on.ensures.told stands.node all stands.serial are);
-      begins = begins_through c.args.out.now c.loop-target.out c.put_values_on.new.out c.loop-target.invariant.begins c.put_values_on.ensures.begins;
+      begins = begins_by c.args.out.now c.loop-target.out c.put_values_on.new.out c.loop-target.invariant.begins c.put_values_on.ensures.begins;
     }
 
 pub returns-clause-told : goal.returns-clause-told

@@ -2,10 +2,11 @@ use Rattle.std.proofs.Common.{◌≡◌, sym, subst, ℕ, List, Some, None, arit
 use Rattle.std.specs.Prelude.{slice_get}
 use Rattle.std.proofs.lemmas.Option.{slice_get_within}
 use Rattle.smil_model.specs.shown.Sandwich.{stack_of}
+use Rattle.smil_outline.proofs.Walks.{begins_by}
+use Rattle.smil_cells.proofs.Parting.{no_gap}
 use Rattle.smil_live.specs.Telling.{setter_text}
 use Rattle.smil_live.proofs.Gathered.{stack_few, stack_known}
-use Rattle.smil_live.proofs.Growth.{begins_through}
-use Rattle.smil_live.proofs.Lined.{begins_more, lines_all, lines_next, past_end}
+use Rattle.smil_live.proofs.Lined.{begins_more, lines_all, lines_next}
 use Rattle.smil_live.proofs.tells.put_layers.Goals as goal
 
 pub put_setter-requires : goal.put_setter-requires
@@ -38,12 +39,12 @@ loop-setter-preserved c = record {
       let P : List ℕ → Type 0 = λ name. slice_get (stack_of all c.args.target name) c.loop-setter.k ≡ Some c.in-Some.setter in
       lines_next (setter_text c.args.document.tree.now.nodes) (stack_of all c.args.target c.args.attr.now) c.args.out.now c.loop-setter.k c.in-Some.setter c.loop-setter.out c.put_setter.new.out
       (subst P c.slice.ensures (sym (c.in-Some.ensures all are))) (c.loop-setter.invariant.text all are) c.in_ok-put_setter.ensures.ok;
-  begins = begins_through c.args.out.now c.loop-setter.out c.put_setter.new.out c.loop-setter.invariant.begins (begins_more c.loop-setter.out c.put_setter.new.out _ c.in_ok-put_setter.ensures.ok);
+  begins = begins_by c.args.out.now c.loop-setter.out c.put_setter.new.out c.loop-setter.invariant.begins (begins_more c.loop-setter.out c.put_setter.new.out _ c.in_ok-put_setter.ensures.ok);
 }
 
 pub returns-clause-told : goal.returns-clause-told
 returns-clause-told c = λ all are.
     let P : List ℕ → Type 0 = λ name. None ≡ slice_get (stack_of all c.args.target name) c.loop-setter.k in
     lines_all (setter_text c.args.document.tree.now.nodes) (stack_of all c.args.target c.args.attr.now) c.args.out.now c.loop-setter.k c.loop-setter.out
-    (past_end (stack_of all c.args.target c.args.attr.now) c.loop-setter.k (subst P c.slice.ensures (c.in_default.ensures all are)))
+    (no_gap (stack_of all c.args.target c.args.attr.now) c.loop-setter.k (subst P c.slice.ensures (c.in_default.ensures all are)))
     (c.loop-setter.invariant.text all are)

@@ -1,7 +1,7 @@
 use Rattle.std.proofs.Common.{◌≡◌, ◌∙◌, ap, ℕ, ◌<◌, List, ◌++◌, length, get_or, arith}
 use Rattle.smil_model.specs.shown.Answers.{top_text}
 use Rattle.smil_model.specs.shown.Sandwich.{names_on, stack_of}
-use Rattle.smil_live.proofs.Growth.{begins_through}
+use Rattle.smil_outline.proofs.Walks.{begins_by}
 use Rattle.smil_live.proofs.Lined.{begins_more, lines_more}
 use Rattle.smil_live.proofs.tells.put_values_on.Goals as goal
 
@@ -17,5 +17,5 @@ loop-name-preserved c =
           let inside : i < length (names_on all c.args.target) = omega (arith, ap length same, c.loop-name-test.true) in
           lines_more (λ name. top_text c.args.document.tree.now.nodes c.args.target name (stack_of all c.args.target name)) (names_on all c.args.target) c.args.out.now i c.name-item.result c.loop-name.out c.put_top.new.out inside (c.loop-name.invariant.text all are)
           (c.in_ok-put_top.ensures.told all are ∙ ap (λ (n : List ℕ). c.loop-name.out ++ top_text c.args.document.tree.now.nodes c.args.target n (stack_of all c.args.target n)) item);
-      begins = begins_through c.args.out.now c.loop-name.out c.put_top.new.out c.loop-name.invariant.begins (begins_more c.loop-name.out c.put_top.new.out _ one);
+      begins = begins_by c.args.out.now c.loop-name.out c.put_top.new.out c.loop-name.invariant.begins (begins_more c.loop-name.out c.put_top.new.out _ one);
     }

@@ -3,8 +3,8 @@ use Rattle.std.proofs.Math.Seq.{take-append_seam}
 use Rattle.std.proofs.lemmas.Result.{on_err_weaker, on_ok_weaker}
 use Rattle.std.specs.Prelude.{length, take}
 use Rattle.smil_model.specs.shown.Orders.{Presentation, views_of}
+use Rattle.smil_outline.proofs.Walks.{begins_by}
 use Rattle.smil_live.proofs.Edited.{are_of, told_edited}
-use Rattle.smil_live.proofs.Onward.{begins_then}
 use Rattle.smil_live.proofs.RebuiltCells.{moment_kept}
 use Rattle.smil_live.proofs.Standings.{views_settled}
 use Rattle.smil_live.proofs.playing.Playing.put_edited.Goals as goal
@@ -29,6 +29,6 @@ returns-clause-ok g c =
 pub returns-clause-err : goal.returns-clause-err
 returns-clause-err g c =
     on_err_weaker c.put_differences.result
-    (begins_then c.args.out.now c.put_all_gone.new.out c.put_differences.new.out
+    (begins_by c.args.out.now c.put_all_gone.new.out c.put_differences.new.out
     (ap (take (length c.args.out.now)) c.in_default.ensures.ok ∙ take-append_seam c.args.out.now _))
     c.put_differences.ensures.err

@@ -3,15 +3,16 @@ use Rattle.smil_model.specs.declared.view.Layer.{Layer as AnyLayer}
 use Rattle.smil_model.specs.declared.view.View.{View}
 use Rattle.smil_model.specs.document.Document.{node_at}
 use Rattle.smil_model.specs.shown.Sandwich.{layers}
+use Rattle.smil_tree.proofs.KinLists.{each_at}
 use Rattle.smil_live.specs.Sets.{AreSetsOf}
-use Rattle.smil_live.proofs.Apart.{at_place, views_known}
+use Rattle.smil_live.proofs.Apart.{views_known}
 use Rattle.smil_live.proofs.Gathered.{layers_more, next_apart}
 use Rattle.smil_live.proofs.sets.Sets.of.Goals as goal
 
 pub take_in-requires : goal.take_in-requires
 take_in-requires c =
     let nodes = c.args.tree.now.nodes in
-    at_place (λ (v : View). IsSome (node_at nodes v.serial)) c.args.views.now c.loop-view.view-index _ (views_known nodes c.args.views.now c.requires) (omega arith)
+    each_at (λ (v : View). IsSome (node_at nodes v.serial)) c.args.views.now c.loop-view.view-index _ (views_known nodes c.args.views.now c.requires) (omega arith)
 
 pub loop-view-preserved : goal.loop-view-preserved
 loop-view-preserved c =

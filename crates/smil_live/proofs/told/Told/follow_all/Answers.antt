@@ -6,9 +6,9 @@ use Rattle.smil_model.specs.diary.Diary.{History, up_to}
 use Rattle.smil_model.specs.diary.Lawful.{IsLawful}
 use Rattle.smil_stretch.proofs.Diaries.{lawful_first}
 use Rattle.smil_stretch.proofs.Idle.{next_first}
+use Rattle.smil_outline.proofs.Walks.{begins_by}
 use Rattle.smil_live.specs.Histories.{IsTold}
 use Rattle.smil_live.proofs.Followed.{near_at}
-use Rattle.smil_live.proofs.Growth.{begins_through}
 use Rattle.smil_live.proofs.told.Told.follow_all.Goals as goal
 
 pub follow-requires-clause-follows : goal.follow-requires-clause-follows
@@ -34,7 +34,7 @@ loop-place-preserved c = record {
       subst P next
       (c.in_ok-follow.ensures.told (up_to h (take c.loop-place.place h.diary)) start (c.loop-place.invariant.told h start same lawful nothing) (subst IsLawful (sym next) (lawful_first h (c.loop-place.place + 1) lawful)));
   who = c.follow.ensures.who ∙ c.loop-place.invariant.who;
-  begins = begins_through c.args.out.now c.loop-place.out c.follow.new.out c.loop-place.invariant.begins c.follow.ensures.begins;
+  begins = begins_by c.args.out.now c.loop-place.out c.follow.new.out c.loop-place.invariant.begins c.follow.ensures.begins;
 }
 
 pub returns-clause-told : goal.returns-clause-told

@@ -4,10 +4,11 @@ use Rattle.std.proofs.lemmas.Int.{ints, to_z-of_z}
 use Rattle.std.proofs.lemmas.Result.{on_ok_weaker}
 use Rattle.smil_model.specs.declared.times.TheConstants.{HORIZON}
 use Rattle.smil_model.specs.shown.Orders.{changes_between, changes_through}
+use Rattle.smil_outline.proofs.Walks.{begins_by, begins_itself}
 use Rattle.smil_cells.specs.Standing.{moved_to}
 use Rattle.smil_live.specs.Moves.{IsShownAt, IsTooFull, text_of}
 use Rattle.smil_live.proofs.Counted.{IsCounted, counted_first, counted_last, counted_then}
-use Rattle.smil_live.proofs.Onward.{arrives, begins_itself, begins_then, comes_nearer, due_from, passes_on, sets_out, too_full_then}
+use Rattle.smil_live.proofs.Onward.{arrives, comes_nearer, due_from, passes_on, sets_out, too_full_then}
 use Rattle.smil_live.proofs.watched.Watched.pass_through.Given.{Over}
 use Rattle.smil_live.proofs.watched.Watched.pass_through.Goals as goal
 
@@ -84,7 +85,7 @@ loop-due-preserved g c =
       v.2,
       e.marked ∙ v.3,
       e.before ∙ v.4,
-      begins_then c.args.out.now c.loop-due.out c.settle_once.new.out v.5 e.begins,
+      begins_by c.args.out.now c.loop-due.out c.settle_once.new.out v.5 e.begins,
       counted_then g.T.Table.counts c.args.self.now.cells s c.settle_once.new.self.cells _ c.settle_once.new.self.seen c.args.steps.now c.loop-due.steps c.settle_once.new.steps v.0.presentation_is v.6 e.counted e.ok
           e.goes_on e.most e.least,
     )
