@@ -1,6 +1,6 @@
 -- Moments at which nothing comes: the diary stays settled, and the views stay.
-use Rattle.std.proofs.Common.{◌≡◌, refl, sym, ◌∙◌, ap, subst, ℕ, suc, zero, ◌≤◌, ◌+◌, List, [], ◌∷◌, ◌++◌, Option, Some, None, Bool, true, false, ℤ, arith, length}
-use Rattle.std.specs.Prelude.{◌&&◌, cond, pos, int_le, nat_lt, slice_get, ◌≤ℤ◌, ◌+ℤ◌, reverse}
+use Rattle.std.proofs.Common.{◌≡◌, refl, sym, ◌∙◌, ap, subst, ℕ, suc, zero, ◌≤◌, ◌+◌, List, [], ◌∷◌, Some, Bool, true, false, ℤ, arith, length}
+use Rattle.std.specs.Prelude.{◌&&◌, pos, int_le, ◌≤ℤ◌, ◌+ℤ◌, reverse}
 use Rattle.std.proofs.lemmas.Int.{ints}
 use Rattle.std.proofs.lemmas.Option.{slice_get_past}
 use Rattle.smil_model.specs.declared.diary.Entry.{Entry}
@@ -9,9 +9,8 @@ use Rattle.smil_model.specs.document.Valid.{IsNumberedTree}
 use Rattle.smil_model.specs.diary.Clocks.{until}
 use Rattle.smil_model.specs.diary.Diary.{History}
 use Rattle.smil_model.specs.diary.Logs.{is_logged_by}
-use Rattle.smil_model.specs.happening.Keys.{Coming, coming, first_coming, is_due}
-use Rattle.smil_model.specs.happening.Groups.{group}
-use Rattle.smil_model.specs.happening.Resolution.{Course, Progress, history_at, after_quiet, after_settling, after_coming, diary_of, Reaches}
+use Rattle.smil_model.specs.happening.Keys.{Coming, coming, first_coming}
+use Rattle.smil_model.specs.happening.Resolution.{diary_of, Reaches}
 use Rattle.smil_model.specs.shown.Orders.{Presentation, as_of, course_of, views_of}
 use Rattle.smil_model.specs.shown.Views.{views}
 use Rattle.smil_laws.specs.Agreement.{course_on}
