@@ -1,6 +1,6 @@
 -- What one entry more tells of an element's intervals.
 use Rattle.std.proofs.Common.{◌≡◌, refl, sym, ◌∙◌, ap, subst, zero, suc, ℕ, ℤ, List, [], ◌∷◌, ◌++◌, append-nil, append_assoc, map, cond, Bool, true, false, Option, Some, None, eq-eqb, pos, arith}
-use Rattle.std.specs.Prelude.{◌==◌, ◌+ℤ◌, ◌-ℤ◌, ◌≤ℤ◌, int_le, fold, flat_map, option_map, slice_get, if◌then◌else◌}
+use Rattle.std.specs.Prelude.{◌==◌, ◌+ℤ◌, ◌-ℤ◌, ◌≤ℤ◌, fold, flat_map, option_map, slice_get, if◌then◌else◌}
 use Rattle.std.specs.List.{AllByRecursion}
 use Rattle.std.proofs.lemmas.Int.{ints}
 use Rattle.std.proofs.lemmas.List.{map-append}
@@ -21,29 +21,19 @@ use Rattle.smil_laws.specs.Near.{AllNear, HasNear}
 use Rattle.smil_stretch.specs.Clocks.{AreClocksOf}
 use Rattle.smil_stretch.specs.declared.clock.NodeClock.{NodeClock}
 use Rattle.smil_stretch.proofs.Moments.{EachUntil, le_from, le_self, rising_push}
-use Rattle.smil_past.proofs.Clocked.{outer_with, each_until, fold_with}
-use Rattle.smil_past.proofs.Shown.{AreUntil, IsMarked, IsUntil, mark_with, until_after}
+use Rattle.smil_past.proofs.Clocked.{each_until, fold_with}
+use Rattle.smil_past.specs.Followed.{shown_begun_after}
+use Rattle.smil_past.proofs.Shown.{AreUntil, IsMarked, IsUntil, mark_with, until_after, after_same}
 use Rattle.smil_live.specs.declared.told.Told.{Told}
-use Rattle.smil_live.specs.Histories.{IsTold, begin_after, begin_by, closed_by, closed_text, finish_line, finished_text, told_begin, told_line}
+use Rattle.smil_live.specs.Histories.{IsTold, begin_after, closed_by, closed_text, finish_line, finished_text, told_begin, told_line}
 
 -- ---- the plays after one entry more
 
 module _ (h : History) (y : Entry) (s : ℕ) (lawful : IsLawful (with_entry h y)) where
-  after_same : (m : ℤ) → int_le m y.moment ≡ true → (b : Plays) (step : Step) → play_after (with_entry h y) s m b step ≡ play_after h s m b step
-  after_same m le b (Cut who) = ap (λ o. cond (who == s) (record { present = None; finished = finish_with b.present (record { value = o; moment = m }) true b.finished }) b) (outer_with h y s m le)
-  after_same m le b (Began who begin) = refl
-  after_same m le b (Repeated who start) = refl
-  after_same m le b (Ended who end') = refl
-  after_same m le b (Paused who) = refl
-  after_same m le b (Resumed who) = refl
-  after_same m le b (Deferred who begin) = refl
-  after_same m le b (Passed who begin) = refl
-  after_same m le b (Logged place) = refl
-
   pub plays_more : all_plays (with_entry h y) s ≡ play_after h s y.moment (all_plays h s) y.step
   plays_more =
       fold_with (λ b (x : Entry). play_after (with_entry h y) s x.moment b x.step) (λ b (x : Entry). play_after h s x.moment b x.step) h y lawful
-      (λ b x le. after_same x.moment le b x.step)
+      (λ b x le. after_same h y s lawful x.moment le b x.step)
       (record { present = None; finished = [] })
 
 -- ---- no mark is later than a moment
@@ -83,7 +73,7 @@ mark_kept h y s (Some k) is = ap Some (mark_with h y s k is)
 -- ---- what a step makes of them
 
 module _ (h : History) (s : ℕ) (m : ℤ) where
-  begin_step : (b : Plays) (step : Step) → shown_mark h s (play_after h s m b step).present ≡ begin_by h s m (shown_mark h s b.present) step
+  begin_step : (b : Plays) (step : Step) → shown_mark h s (play_after h s m b step).present ≡ shown_begun_after h s m (shown_mark h s b.present) step
   begin_step b (Began who begin) = by_own (who == s)
     where
       by_own : (t : Bool) → shown_mark h s (cond t (record { present = Some (record { value = begin; moment = m }); finished = b.finished }) b).present ≡ cond t (Some (to_document h s begin m)) (shown_mark h s b.present)
@@ -187,8 +177,8 @@ read_shown h y clocks s who v at value result same is own tells known lawful =
 pub began_shown : (h : History) (y : Entry) (s who : ℕ) (b result : ℤ) → y.step ≡ Began who b → who ≡ s → result ≡ to_document h s b y.moment → Some result ≡ begin_after h y s
 began_shown h y s who b result step own is =
     let t : (who == s) ≡ true = eq-eqb who s own in
-    let read : begin_by h s y.moment (told_begin h s) (Began who b) ≡ Some (to_document h s b y.moment) = rw t refl in
-    ap Some is ∙ sym read ∙ ap (begin_by h s y.moment (told_begin h s)) (sym step)
+    let read : shown_begun_after h s y.moment (told_begin h s) (Began who b) ≡ Some (to_document h s b y.moment) = rw t refl in
+    ap Some is ∙ sym read ∙ ap (shown_begun_after h s y.moment (told_begin h s)) (sym step)
 
 pub ended_text : (h : History) (y : Entry) (s who : ℕ) (name : Who) (e result : ℤ) → y.step ≡ Ended who e → who ≡ s → result ≡ to_document h s e y.moment → finish_line name (told_begin h s) result how.Ended ≡ closed_text h y s name
 ended_text h y s who name e result step own is =

@@ -2,7 +2,7 @@
 use Rattle.std.specs.Prelude.{◌≡◌, ℕ, ℤ, List, [], ◌++◌, map, flat_map, ◌==◌, if◌then◌else◌, true, false, Option, Some, None, option_map}
 use Rattle.smil_model.specs.declared.diary.Entry.{Entry}
 use Rattle.smil_model.specs.declared.diary.Step.{Step}
-use Rattle.smil_model.specs.declared.diary.Step.TheVariants.{Began, Ended, Cut}
+use Rattle.smil_model.specs.declared.diary.Step.TheVariants.{Ended, Cut}
 use Rattle.smil_model.specs.declared.document.Node.{Node}
 use Rattle.smil_model.specs.declared.interval.Interval.{Interval}
 use Rattle.smil_model.specs.declared.order.Who.{Who}
@@ -18,6 +18,7 @@ use Rattle.smil_model.specs.shown.Histories.{Told as ToldInterval, all_plays, to
 use Rattle.smil_model.specs.shown.Lines.{interval_line}
 use Rattle.smil_model.specs.shown.Views.{document_value, shown_or, shown_time, view_facts}
 use Rattle.smil_stretch.specs.Clocks.{AreClocksOf}
+use Rattle.smil_past.specs.Followed.{shown_begun_after}
 use Rattle.smil_live.specs.declared.told.Told.{Told}
 
 -- the line of an interval as it is shown
@@ -37,16 +38,9 @@ abbrev pub finish_line : Who → Option ℤ → ℤ → How → List ℕ
 finish_line name None finish how = []
 finish_line name (Some begin) finish how = interval_line name (shown.At begin) (shown.At finish) how
 
--- what a step makes of the begin of the present play
-abbrev pub begin_by : History → ℕ → ℤ → Option ℤ → Step → Option ℤ
-begin_by h serial moment before (Began who begin) =
-    if who == serial then Some (to_document h serial begin moment) else before
-begin_by h serial moment before (Ended who end') = if who == serial then None else before
-begin_by h serial moment before (Cut who) = if who == serial then None else before
-begin_by h serial moment before _ = before
-
+-- what an entry makes of the begin of the present play
 abbrev pub begin_after : History → Entry → ℕ → Option ℤ
-begin_after h y serial = begin_by h serial y.moment (told_begin h serial) y.step
+begin_after h y serial = shown_begun_after h serial y.moment (told_begin h serial) y.step
 
 -- the line of the interval that a step finishes
 abbrev pub closed_by : History → ℕ → Who → ℤ → Option ℤ → Step → List ℕ
