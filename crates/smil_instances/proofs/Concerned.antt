@@ -18,8 +18,9 @@ use Rattle.smil_instances.specs.declared.source.Source.TheVariants as source
 use Rattle.smil_instance_rows.specs.declared.cell.Cell.{Cell}
 use Rattle.smil_instance_rows.specs.Rows.{Row}
 use Rattle.smil_instance_rows.specs.Readings.{place_in}
-use Rattle.smil_instances.specs.Sources.{base_of, is_under, is_reset_with, item_under, source_by, source_under, source_at, is_keyed, concerns_under, concerns_cell, AreThose}
+use Rattle.smil_instances.specs.Sources.{base_of, is_reset_with, item_under, source_by, source_under, source_at, is_keyed, concerns_under, concerns_cell, AreThose}
 use Rattle.smil_model.specs.document.Defaults.{items_of}
+use Rattle.smil_model.specs.happening.Queue.{is_child_of}
 use Rattle.smil_instances.specs.Updates.{BasesAreElements, remaining}
 use Rattle.smil_instance_rows.specs.Changes.{HasCell}
 use Rattle.smil_laws.proofs.Aside.{each_reverse}
@@ -154,7 +155,7 @@ module _ (nodes : List Node) (distinct : IsDistinct nodes) where
     dropped [] each = tt
     dropped (m ∷ ms) each = each.1
 
-    no_child : (s : ℕ) → is_under nodes x s ≡ false
+    no_child : (s : ℕ) → is_child_of nodes x s ≡ false
     no_child s = none_found (ancestors nodes s) (dropped (lineage nodes s) (each_upwards IsOther (reverse nodes) s (each_reverse IsOther nodes (each_other nodes absent))))
 
     other_base : (o : Option ℕ) → ((of : ℕ) → o ≡ Some of → is_some (node_at (elements nodes) of) ≡ true) → is_option x o ≡ false
@@ -169,7 +170,7 @@ module _ (nodes : List Node) (distinct : IsDistinct nodes) where
 
     no_reset : (e : ℕ) (s : Source) → is_reset_with nodes x e s ≡ false
     no_reset e source.Start = no_child e
-    no_reset e (source.Syncbase of edge) = ap (λ t. t || is_under nodes x of) (no_child e) ∙ no_child of
+    no_reset e (source.Syncbase of edge) = ap (λ t. t || is_child_of nodes x of) (no_child e) ∙ no_child of
     no_reset e (source.Eventbase of) = no_child e
     no_reset e (source.Key key) = no_child e
     no_reset e source.Nothing = refl

@@ -24,8 +24,9 @@ use Rattle.smil_instance_rows.specs.Places.{IsNotAfter}
 use Rattle.smil_instances.specs.Contribution.{given_edge, given_by, given_at, offset_given}
 use Rattle.smil_instance_rows.specs.Rows.{Row, at_place, from_place, instance_at}
 use Rattle.smil_instances.specs.SettledTimes.{all_edges, all_heard, heard_time, at_start, instances_of, offset_instances, named_instances, event_instances, repeat_instances, settled_rows, occurs_event, occurs_key, occurs_repeat}
-use Rattle.smil_instances.specs.Sources.{is_birth, is_concerned, is_keyed, item_under, source_at, source_by, source_of, AreThose, is_cell}
+use Rattle.smil_instances.specs.Sources.{is_concerned, is_keyed, item_under, source_at, source_by, source_of, AreThose, is_cell}
 use Rattle.smil_model.specs.document.Defaults.{items_of}
+use Rattle.smil_laws.specs.Resolved.{is_opening}
 use Rattle.smil_diary.proofs.PlaceLists.{past-length}
 use Rattle.smil_instance_rows.specs.Changes.{HasCell, cell_of, with_adds, Fits}
 use Rattle.smil_instances.specs.Updates.{EntriesAreTakenIn, OnlyConcernedChange, concerned_by, remaining}
@@ -171,7 +172,7 @@ module _ (nodes : List Node) (log : List LogEntry) (before : List Entry) (y : En
   now = record { nodes = nodes; log = log; diary = before ++ y ∷ [] }
 
   abbrev test : Cell → Bool
-  test cell = is_concerned_cell nodes (is_birth y.step) (subject_of log y.step) (key_of log y.step) cell
+  test cell = is_concerned_cell nodes (is_opening y.step) (subject_of log y.step) (key_of log y.step) cell
 
   abbrev changed : Cell → List InstanceTime
   changed cell = remaining_at now cell (kept_in past cell ++ option_to_list (given_to past y cell))
@@ -204,8 +205,8 @@ module _ (nodes : List Node) (log : List LogEntry) (before : List Entry) (y : En
     left law timely q =
         kept_now
         ∙ law past y e cell.side item timely
-        (ap (concerned_by nodes (is_birth y.step) (subject_of log y.step) (key_of log y.step) e.serial) (sym source_is)
-        ∙ sym (ap (concerned_under nodes (is_birth y.step) (subject_of log y.step) (key_of log y.step) cell) here) ∙ q)
+        (ap (concerned_by nodes (is_opening y.step) (subject_of log y.step) (key_of log y.step) e.serial) (sym source_is)
+        ∙ sym (ap (concerned_under nodes (is_opening y.step) (subject_of log y.step) (key_of log y.step) cell) here) ∙ q)
         ∙ sym kept_past
 
     ready_order : (rows : List Row) → rows ≡ settled_rows past → (kept : InstanceTime) → given_to past y cell ≡ Some kept → IsNotAfter kept.place (cell_of rows cell)
@@ -236,7 +237,7 @@ module _ (nodes : List Node) (log : List LogEntry) (before : List Entry) (y : En
       where
         ready : (d : Cell) → test d ≡ true → IsReady (given_to past y) rows d
         ready d q =
-            let is = item_of nodes d (concerned_item nodes (is_birth y.step) (subject_of log y.step) (key_of log y.step) d q) in
+            let is = item_of nodes d (concerned_item nodes (is_opening y.step) (subject_of log y.step) (key_of log y.step) d q) in
             record {
               has = item_cell nodes rows d is.element is.item rows_of is.here is.at;
               order = ready_order d is.element is.item is.here is.at rows are;
@@ -264,7 +265,7 @@ module _ (nodes : List Node) (log : List LogEntry) (before : List Entry) (y : En
 
         own : (d : Cell) → test d ≡ true → count_by (is_cell d) cells ≡ 1 → cell_of (with_remainders now (with_adds rows (adds_to past y cells)) cells) d ≡ cell_of (settled_rows now) d
         own d q once =
-            let is = item_of nodes d (concerned_item nodes (is_birth y.step) (subject_of log y.step) (key_of log y.step) d q) in
+            let is = item_of nodes d (concerned_item nodes (is_opening y.step) (subject_of log y.step) (key_of log y.step) d q) in
             let has : HasCell rows d = item_cell nodes rows d is.element is.item rows_of is.here is.at in
             all_own (with_remainder now) (remaining_at now) (trims now) (with_adds rows (adds_to past y cells)) d cells (has_too rows (with_adds rows (adds_to past y cells)) d (sym added_shape) has) once
             ∙ ap (λ rs. remaining_at now d (cell_of rs d)) added_is

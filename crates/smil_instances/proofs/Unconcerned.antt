@@ -22,11 +22,13 @@ use Rattle.smil_instances.specs.declared.source.Source.TheVariants as source
 use Rattle.smil_instances.proofs.Changes.{is_edge, may_change, concerns_edges, concerns_heard, concerns_key, concerns_named, concerns_offset, is_reset_by}
 use Rattle.smil_instances.specs.Laws.{IsUpTo}
 use Rattle.smil_instances.specs.SettledTimes.{instances_of}
-use Rattle.smil_instances.specs.Sources.{eventbase, is_birth, is_concerned, is_keyed, is_under, source_of, syncbase_or}
+use Rattle.smil_instances.specs.Sources.{eventbase, is_concerned, is_keyed, source_of, syncbase_or}
 use Rattle.smil_instances.specs.Updates.{concerned_by}
 use Rattle.smil_instances.proofs.Untouched.{kept_stays}
 use Rattle.smil_model.specs.interval.Instances.{is_press, is_pressed, is_log_key}
+use Rattle.smil_model.specs.happening.Queue.{is_child_of}
 use Rattle.smil_laws.proofs.Lineages.{swap_eqb}
+use Rattle.smil_laws.specs.Resolved.{is_opening}
 
 -- whether a step can change what is kept for an item of e with this source
 abbrev reaches : List Node → List LogEntry → Step → ℕ → Source → Bool
@@ -88,10 +90,10 @@ no_press log (Logged place) x key q = by_entry (slice_get log place) q
 no_press log _ x key q = refl
 
 module _ (log : List LogEntry) (step : Step) (x : ℕ) (on : subject_of log step ≡ Some x) where
-  no_birth : (o : Option Node) → is_birth step && has_serial x o ≡ false → is_birth_under o step ≡ false
+  no_birth : (o : Option Node) → is_opening step && has_serial x o ≡ false → is_birth_under o step ≡ false
   no_birth o q = by_step step o on q
     where
-      by_step : (s : Step) (o : Option Node) → subject_of log s ≡ Some x → is_birth s && has_serial x o ≡ false → is_birth_under o s ≡ false
+      by_step : (s : Step) (o : Option Node) → subject_of log s ≡ Some x → is_opening s && has_serial x o ≡ false → is_birth_under o s ≡ false
       by_step s None same r = refl
       by_step (Began who begin) (Some p) same r = let one : who ≡ x = cc in grind (arith, one, r)
       by_step (Repeated who start) (Some p) same r = let one : who ≡ x = cc in grind (arith, one, r)
@@ -111,15 +113,15 @@ module _ (log : List LogEntry) (step : Step) (x : ℕ) (on : subject_of log step
   neither true u v q = or_parts u v q
   neither false u v q = (refl, refl)
 
-  spared : (nodes : List Node) (e : ℕ) (s : Source) → is_concerned nodes (is_birth step) x e s ≡ false → reaches nodes log step e s ≡ false
+  spared : (nodes : List Node) (e : ℕ) (s : Source) → is_concerned nodes (is_opening step) x e s ≡ false → reaches nodes log step e s ≡ false
   spared nodes e source.Start q = no_birth (time_parent nodes e) q
   spared nodes e (source.Syncbase t edge) q =
-      let a = or_parts (x == t) (is_birth step && (is_under nodes x e || is_under nodes x t)) q in
-      let b = neither (is_birth step) (is_under nodes x e) (is_under nodes x t) a.1 in
+      let a = or_parts (x == t) (is_opening step && (is_child_of nodes x e || is_child_of nodes x t)) q in
+      let b = neither (is_opening step) (is_child_of nodes x e) (is_child_of nodes x t) a.1 in
       or_from (is_edge edge t step) (is_reset_by nodes e step || is_reset_by nodes t step) (no_edge edge t a.0)
       (or_from (is_reset_by nodes e step) (is_reset_by nodes t step) (no_birth (time_parent nodes e) b.0) (no_birth (time_parent nodes t) b.1))
   spared nodes e (source.Eventbase t) q =
-      let a = or_parts (x == t) (is_birth step && is_under nodes x e) q in
+      let a = or_parts (x == t) (is_opening step && is_child_of nodes x e) q in
       or_from (is_option t (subject_of log step)) (is_reset_by nodes e step) (ap (is_option t) on ∙ swap_eqb x t a.0) (no_birth (time_parent nodes e) a.1)
   spared nodes e (source.Key key) q =
       or_from (is_press log key step) (is_reset_by nodes e step) (no_press log step x key on) (no_birth (time_parent nodes e) q)
@@ -150,11 +152,11 @@ lone_spared nodes log step e (source.Key key) on q =
     or_from (is_press log key step) (is_reset_by nodes e step) (lone_press log step key q) (lone_birth log step (time_parent nodes e) on)
 lone_spared nodes log step e source.Nothing on q = refl
 
-unreached : (nodes : List Node) (log : List LogEntry) (step : Step) (e : ℕ) (s : Source) (o : Option ℕ) → subject_of log step ≡ o → concerned_by nodes (is_birth step) o (key_of log step) e s ≡ false → reaches nodes log step e s ≡ false
+unreached : (nodes : List Node) (log : List LogEntry) (step : Step) (e : ℕ) (s : Source) (o : Option ℕ) → subject_of log step ≡ o → concerned_by nodes (is_opening step) o (key_of log step) e s ≡ false → reaches nodes log step e s ≡ false
 unreached nodes log step e s None on q = lone_spared nodes log step e s on q
 unreached nodes log step e s (Some x) on q = spared log step x on nodes e s q
 
-pub unconcerned : (h : History) (y : Entry) (e : Node) (side : Edge) (item : Item) → IsUpTo y.moment h.diary → concerned_by h.nodes (is_birth y.step) (subject_of h.log y.step) (key_of h.log y.step) e.serial (source_of h.nodes e.serial item) ≡ false → instances_of (with_entry h y) e side item ≡ instances_of h e side item
+pub unconcerned : (h : History) (y : Entry) (e : Node) (side : Edge) (item : Item) → IsUpTo y.moment h.diary → concerned_by h.nodes (is_opening y.step) (subject_of h.log y.step) (key_of h.log y.step) e.serial (source_of h.nodes e.serial item) ≡ false → instances_of (with_entry h y) e side item ≡ instances_of h e side item
 unconcerned h y e side item timely q =
     kept_stays h y e side item timely
     (by_source h.nodes h.log y.step e.serial item ∙ unreached h.nodes h.log y.step e.serial (source_of h.nodes e.serial item) (subject_of h.log y.step) refl q)

@@ -1,14 +1,13 @@
 -- What the times of each item follow from, and whose entries concern it.
 use Rattle.std.specs.Prelude.{◌≡◌, ℕ, List, count_by, Bool, true, false, ◌&&◌, ◌||◌, ◌==◌, if◌then◌else◌, Option, Some, None, slice_get}
-use Rattle.smil_model.specs.declared.diary.Step.{Step}
-use Rattle.smil_model.specs.declared.diary.Step.TheVariants.{Began, Repeated}
 use Rattle.smil_model.specs.declared.document.Node.{Node}
 use Rattle.smil_model.specs.declared.document.Edge.{Edge}
 use Rattle.smil_model.specs.declared.document.Edge.TheVariants.{Begin, End}
 use Rattle.smil_model.specs.declared.document.Item.{Item}
 use Rattle.smil_model.specs.declared.document.Item.TheVariants.{Offset, Sync, Event, Repeat, Key, Indefinite}
-use Rattle.smil_model.specs.document.Document.{elements, element_named, previous_in_seq, time_parent, has_serial, target}
+use Rattle.smil_model.specs.document.Document.{elements, element_named, previous_in_seq, target}
 use Rattle.smil_model.specs.document.Defaults.{items_of}
+use Rattle.smil_model.specs.happening.Queue.{is_child_of}
 use Rattle.smil_model.specs.reach.Reach.{is_option}
 use Rattle.smil_instances.specs.declared.source.Source.{Source}
 use Rattle.smil_instances.specs.declared.source.Source.TheVariants as source
@@ -46,16 +45,12 @@ base_of (source.Eventbase x) = Some x
 base_of (source.Key key) = None
 base_of source.Nothing = None
 
--- whether e is a time child of p
-abbrev pub is_under : List Node → ℕ → ℕ → Bool
-is_under nodes p e = has_serial p (time_parent nodes e)
-
 -- whether a birth of the time children of p can change what is kept for an item of e with this source
 abbrev pub is_reset_with : List Node → ℕ → ℕ → Source → Bool
-is_reset_with nodes p e source.Start = is_under nodes p e
-is_reset_with nodes p e (source.Syncbase x edge) = is_under nodes p e || is_under nodes p x
-is_reset_with nodes p e (source.Eventbase x) = is_under nodes p e
-is_reset_with nodes p e (source.Key key) = is_under nodes p e
+is_reset_with nodes p e source.Start = is_child_of nodes p e
+is_reset_with nodes p e (source.Syncbase x edge) = is_child_of nodes p e || is_child_of nodes p x
+is_reset_with nodes p e (source.Eventbase x) = is_child_of nodes p e
+is_reset_with nodes p e (source.Key key) = is_child_of nodes p e
 is_reset_with nodes p e source.Nothing = false
 
 -- whether an entry on x, which is a birth of the time children of x or not, can change what is kept for an item of e with
@@ -67,12 +62,6 @@ is_concerned nodes is_birth x e s = is_option x (base_of s) || (is_birth && is_r
 abbrev pub is_keyed : Option ℕ → Source → Bool
 is_keyed (Some key) (source.Key own) = own == key
 is_keyed _ s = false
-
--- whether a step is a begin or a repeat, and so a birth of its element's time children
-abbrev pub is_birth : Step → Bool
-is_birth (Began who begin) = true
-is_birth (Repeated who start) = true
-is_birth _ = false
 
 -- ---- by cells
 

@@ -7,6 +7,7 @@ use Rattle.smil_model.specs.declared.document.Item.{Item}
 use Rattle.smil_model.specs.document.Document.{elements, node_at}
 use Rattle.smil_model.specs.diary.Diary.{History, birth, with_entry}
 use Rattle.smil_model.specs.reach.Reach.{subject_of, key_of}
+use Rattle.smil_laws.specs.Resolved.{is_opening}
 use Rattle.smil_instance_rows.specs.declared.item_times.InstanceTime.{InstanceTime}
 use Rattle.smil_instances.specs.declared.source.Source.{Source}
 use Rattle.smil_instances.specs.declared.source.Source.TheVariants as source
@@ -14,7 +15,7 @@ use Rattle.smil_instances.specs.Laws.{IsUpTo}
 use Rattle.smil_instance_rows.specs.Places.{last_part}
 use Rattle.smil_instance_rows.specs.Rows.{from_place}
 use Rattle.smil_instances.specs.SettledTimes.{instances_of}
-use Rattle.smil_instances.specs.Sources.{base_of, is_birth, is_concerned, is_keyed, source_of}
+use Rattle.smil_instances.specs.Sources.{base_of, is_concerned, is_keyed, source_of}
 use Rattle.smil_instances.specs.Contribution.{given_at}
 
 -- what is still kept for an item of e with this source, by the births in the history
@@ -42,7 +43,7 @@ concerned_by nodes is_birth (Some x) key e s = is_concerned nodes is_birth x e s
 abbrev pub OnlyConcernedChange : Type 0
 OnlyConcernedChange =
     (h : History) (y : Entry) (e : Node) (side : Edge) (item : Item) → IsUpTo y.moment h.diary
-    → concerned_by h.nodes (is_birth y.step) (subject_of h.log y.step) (key_of h.log y.step) e.serial (source_of h.nodes e.serial item) ≡ false
+    → concerned_by h.nodes (is_opening y.step) (subject_of h.log y.step) (key_of h.log y.step) e.serial (source_of h.nodes e.serial item) ≡ false
     → instances_of (with_entry h y) e side item ≡ instances_of h e side item
 
 -- an item names elements alone

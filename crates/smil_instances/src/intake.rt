@@ -3,8 +3,9 @@
 ghost use Rattle.std.specs.Prelude.{◌≡◌, List, [], ◌∷◌, ◌++◌, OnOk, OnErr};
 ghost use Rattle.smil_model.specs.declared.diary.Entry.{Entry as AnyEntry};
 ghost use Rattle.smil_model.specs.reach.Reach.{key_of, pressed as pressed_in, subject as subject_in, subject_of};
+ghost use Rattle.smil_laws.specs.Resolved.{is_opening};
 ghost use Rattle.smil_instances.specs.SettledTimes.{settled_rows};
-ghost use Rattle.smil_instances.specs.Sources.{is_birth as is_birth_step, AreThose};
+ghost use Rattle.smil_instances.specs.Sources.{AreThose};
 ghost use Rattle.smil_instances.specs.Entry.{HasArrived};
 ghost use Rattle.smil_instances.specs.Dependents.{AreDependentsOf};
 ghost use Rattle.smil_instances.specs.Intake.{history_of, is_concerned_cell, keyed_by, AreRowsOf};
@@ -49,7 +50,7 @@ pub(crate) fn take_in(
 fn concerned<'a>(rows: &Rows, arrival: &Arrival<'a>, step: Step) -> &'a [Cell]
     requires rows { AreRowsOf arrival.now.tree.now.nodes rows.now }
     requires dependents { AreDependentsOf arrival.now.tree.now.nodes arrival.now.dependents.now }
-    ensures those { AreThose (is_concerned_cell arrival.now.tree.now.nodes (is_birth_step step)
+    ensures those { AreThose (is_concerned_cell arrival.now.tree.now.nodes (is_opening step)
         (subject_of arrival.now.log.now step) (key_of arrival.now.log.now step)) result.now }
 {
     arrival.tree.valid();
@@ -123,7 +124,7 @@ fn pressed(what: &Happening) -> Option<u8>
 
 /// Whether a step is a begin or a repeat, and so a birth of its element's time children.
 fn is_birth(step: Step) -> bool
-    ensures { result ≡ is_birth_step step }
+    ensures { result ≡ is_opening step }
 {
     matches!(step, Step::Began { .. } | Step::Repeated { .. })
 }

@@ -1,6 +1,7 @@
 use Rattle.std.proofs.Common.{sym, ◌∙◌, ap, subst, Some, None, []}
 use Rattle.smil_model.specs.reach.Reach.{key_of}
-use Rattle.smil_instances.specs.Sources.{AreThose, is_birth}
+use Rattle.smil_laws.specs.Resolved.{is_opening}
+use Rattle.smil_instances.specs.Sources.{AreThose}
 use Rattle.smil_instances.specs.Dependents.{cells_in}
 use Rattle.smil_instances.specs.Intake.{is_concerned_cell, keyed_by}
 use Rattle.smil_instances.proofs.Concerned.{those_keyed, those_of, those_unplaced}
@@ -9,7 +10,7 @@ use Rattle.smil_instances.proofs.intake.concerned.Goals as goal
 pub returns-in-Some-place : goal.returns-in-Some-place
 returns-in-Some-place c =
     let nodes = c.args.arrival.now.tree.now.nodes in
-    let birth = is_birth c.args.step in
+    let birth = is_opening c.args.step in
     let key = key_of c.args.arrival.now.log.now c.args.step in
     record {
       those =
@@ -21,7 +22,7 @@ returns-in-Some-place c =
 pub returns-in-None : goal.returns-in-None
 returns-in-None c =
     let nodes = c.args.arrival.now.tree.now.nodes in
-    let birth = is_birth c.args.step in
+    let birth = is_opening c.args.step in
     let key = key_of c.args.arrival.now.log.now c.args.step in
     record {
       those =
@@ -32,7 +33,7 @@ returns-in-None c =
 pub returns-in_default : goal.returns-in_default
 returns-in_default c =
     let nodes = c.args.arrival.now.tree.now.nodes in
-    let birth = is_birth c.args.step in
+    let birth = is_opening c.args.step in
     let key = key_of c.args.arrival.now.log.now c.args.step in
     record {
       those =

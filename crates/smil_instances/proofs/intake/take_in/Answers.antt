@@ -2,8 +2,9 @@ use Rattle.std.proofs.Common.{◌≡◌, sym, ◌∙◌, ap, subst, List}
 use Rattle.std.specs.Prelude.{map}
 use Rattle.smil_model.specs.declared.diary.Entry.{Entry}
 use Rattle.smil_model.specs.reach.Reach.{key_of, subject_of}
+use Rattle.smil_laws.specs.Resolved.{is_opening}
 use Rattle.smil_instances.specs.SettledTimes.{settled_rows}
-use Rattle.smil_instances.specs.Sources.{is_birth, AreThose}
+use Rattle.smil_instances.specs.Sources.{AreThose}
 use Rattle.smil_instance_rows.specs.Changes.{with_adds, Fits}
 use Rattle.smil_instances.specs.Intake.{adds_to, history_of, is_concerned_cell, shape_of, with_remainders}
 use Rattle.smil_instances.proofs.Extents.{settled_shape}
@@ -35,13 +36,13 @@ add_each-requires c =
     let cells = c.concerned-cells.result.now in
     subst (Fits c.args.rows.now) (sym (c.as_slice.ensures.value ∙ c.in_ok-adds.ensures before y q))
     (adds_fit nodes log before y cells
-    (subst (λ (z : Entry). AreThose (is_concerned_cell nodes (is_birth z.step) (subject_of log z.step) (key_of log z.step)) cells) (c.last_entry-entry.ensures.value before y q) c.concerned-cells.ensures.those)
+    (subst (λ (z : Entry). AreThose (is_concerned_cell nodes (is_opening z.step) (subject_of log z.step) (key_of log z.step)) cells) (c.last_entry-entry.ensures.value before y q) c.concerned-cells.ensures.those)
     c.args.rows.now (c.requires.rows before y q))
 
 pub trim_each-requires-clause-cells : goal.trim_each-requires-clause-cells
 trim_each-requires-clause-cells c =
     let step = c.last_entry-entry.result.step in
-    those_have_items c.args.arrival.now.tree.now.nodes (is_birth step) (subject_of c.args.arrival.now.log.now step) (key_of c.args.arrival.now.log.now step) c.concerned-cells.result.now c.concerned-cells.ensures.those
+    those_have_items c.args.arrival.now.tree.now.nodes (is_opening step) (subject_of c.args.arrival.now.log.now step) (key_of c.args.arrival.now.log.now step) c.concerned-cells.result.now c.concerned-cells.ensures.those
 
 pub trim_each-requires-clause-rows : goal.trim_each-requires-clause-rows
 trim_each-requires-clause-rows c =
@@ -63,7 +64,7 @@ returns-clause-ok c =
     let rows = c.args.rows.now in
     let cells = c.concerned-cells.result.now in
     let past = history_of document log before in
-    let those = subst (λ (z : Entry). AreThose (is_concerned_cell document.nodes (is_birth z.step) (subject_of log z.step) (key_of log z.step)) cells) (c.last_entry-entry.ensures.value before y q) c.concerned-cells.ensures.those in
+    let those = subst (λ (z : Entry). AreThose (is_concerned_cell document.nodes (is_opening z.step) (subject_of log z.step) (key_of log z.step)) cells) (c.last_entry-entry.ensures.value before y q) c.concerned-cells.ensures.those in
     let added = with_adds rows (adds_to past y cells) in
     c.trim_each.ensures log
     ∙ ap (λ rs. with_remainders (history_of document log book) rs cells) (c.in_ok-add_each.ensures.ok ∙ ap (with_adds rows) (c.as_slice.ensures.value ∙ c.in_ok-adds.ensures before y q))
