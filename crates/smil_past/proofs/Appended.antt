@@ -16,9 +16,10 @@ use Rattle.smil_stretch.specs.Clocks.{AreClocksOf}
 use Rattle.smil_past.specs.Played.{all_played}
 use Rattle.smil_past.specs.Queues.{kept_queues}
 use Rattle.smil_instances.specs.Instances.{IsSettled}
+use Rattle.smil_instances.specs.Intake.{history_of}
 use Rattle.smil_past.specs.declared.kept.Kept.{Kept}
 use Rattle.smil_past.specs.Past.{Happened, IsPossible, MayFollow}
-use Rattle.smil_past.specs.Kept.{Holds, IsKeptOf, IsLast, history_by}
+use Rattle.smil_past.specs.Kept.{Holds, IsKeptOf, IsLast}
 
 -- ---- lists
 
@@ -37,7 +38,7 @@ cut_last xs ys y n is len =
 pub below_full : (n limit : ℕ) → n ≤ limit → (n ≡ limit → ⊥) → n + 1 ≤ limit
 below_full n limit few other = omega (arith, few, other)
 
-pub possible_push : (document : Document) (log : List LogEntry) (diary : List Entry) (y : Entry) → IsPossible document log diary → IsLawful (with_entry (history_by document log diary) y) → HasNear y.step → IsNamedBelow (length log) y.step → length diary + 1 ≤ DIARY_ENTRIES → IsPossible document log (diary ++ y ∷ [])
+pub possible_push : (document : Document) (log : List LogEntry) (diary : List Entry) (y : Entry) → IsPossible document log diary → IsLawful (with_entry (history_of document log diary) y) → HasNear y.step → IsNamedBelow (length log) y.step → length diary + 1 ≤ DIARY_ENTRIES → IsPossible document log (diary ++ y ∷ [])
 possible_push document log diary y possible lawful near named few = record {
   valid = possible.valid;
   lawful = lawful;
@@ -47,7 +48,7 @@ possible_push document log diary y possible lawful near named few = record {
 }
 
 -- the entry is the last one of the longer diary
-pub is_last : (document : Document) (log : List LogEntry) (diary more : List Entry) (y : Entry) (kept : Kept) → IsKeptOf kept document log diary → IsLawful (with_entry (history_by document log diary) y) → HasNear y.step → more ≡ diary ++ y ∷ [] → IsLast kept y document log more
+pub is_last : (document : Document) (log : List LogEntry) (diary more : List Entry) (y : Entry) (kept : Kept) → IsKeptOf kept document log diary → IsLawful (with_entry (history_of document log diary) y) → HasNear y.step → more ≡ diary ++ y ∷ [] → IsLast kept y document log more
 is_last document log diary more y kept known lawful near is = record {
   before = diary;
   diary_is = is;
@@ -57,7 +58,7 @@ is_last document log diary more y kept known lawful near is = record {
 }
 
 -- what is kept of the longer diary, by what is kept of it with one entry more
-pub taken_in : (document : Document) (log : List LogEntry) (before diary : List Entry) (y : Entry) (kept : Kept) → diary ≡ before ++ y ∷ [] → AreClocksOf kept.clocks (with_entry (history_by document log before) y) → kept.plays ≡ all_played (with_entry (history_by document log before) y) → kept.queues ≡ kept_queues (with_entry (history_by document log before) y) → IsSettled kept.instances document log diary → IsKeptOf kept document log diary
+pub taken_in : (document : Document) (log : List LogEntry) (before diary : List Entry) (y : Entry) (kept : Kept) → diary ≡ before ++ y ∷ [] → AreClocksOf kept.clocks (with_entry (history_of document log before) y) → kept.plays ≡ all_played (with_entry (history_of document log before) y) → kept.queues ≡ kept_queues (with_entry (history_of document log before) y) → IsSettled kept.instances document log diary → IsKeptOf kept document log diary
 taken_in document log before diary y kept is clocks plays queues instances =
     subst (λ ds. IsKeptOf kept document log ds) (sym is)
     (record {

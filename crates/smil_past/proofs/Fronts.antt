@@ -12,8 +12,8 @@ use Rattle.smil_laws.specs.Near.{HasNear}
 use Rattle.smil_laws.specs.Cut.{IsNamedBelow}
 use Rattle.smil_tree.proofs.KinLists.{each_left}
 use Rattle.smil_stretch.proofs.Diaries.{lawful_first}
+use Rattle.smil_instances.specs.Intake.{history_of}
 use Rattle.smil_past.specs.Past.{IsPossible, MayFollow, unmarked}
-use Rattle.smil_past.specs.Kept.{history_by}
 
 each_last : {A : Type 0} (P : A → Type 0) (xs : List A) (y : A) → AllByRecursion P (xs ++ y ∷ []) → P y
 each_last P [] y each = each.0
@@ -34,7 +34,7 @@ follows_at document log book len place y possible below within at =
     let front = front_is book len place y below within at in
     let whole : take (place + 1) (take len book) ++ drop (place + 1) (take len book) ≡ take len book = take-append-drop (place + 1) (take len book) in
     record {
-      lawful = subst (λ ds. IsLawful (history_by document log ds)) front (lawful_first (history_by document log (take len book)) (place + 1) possible.lawful);
+      lawful = subst (λ ds. IsLawful (history_of document log ds)) front (lawful_first (history_of document log (take len book)) (place + 1) possible.lawful);
       near =
           each_last (λ (x : Entry). HasNear x.step) (take place book) y
           (subst (AllByRecursion (λ (x : Entry). HasNear x.step)) front

@@ -25,9 +25,10 @@ use Rattle.smil_instance_rows.specs.Rows.{Row}
 use Rattle.smil_instances.specs.Laws.{IsSameHeard}
 use Rattle.smil_instances.specs.SettledTimes.{instances_of, row_of, settled_rows}
 use Rattle.smil_instances.proofs.Logs.{kept_grown}
+use Rattle.smil_instances.specs.Intake.{history_of}
 use Rattle.smil_past.specs.declared.kept.Kept.{Kept}
 use Rattle.smil_past.specs.Past.{IsPossible}
-use Rattle.smil_past.specs.Kept.{Holds, IsKeptOf, history_by}
+use Rattle.smil_past.specs.Kept.{Holds, IsKeptOf}
 
 -- ---- what is named
 
@@ -67,44 +68,44 @@ lengths_same log more s before (x ∷ xs) named =
     ∙ lengths_same log more s (length_after log s before x.step) xs named.1
 
 module _ (document : Document) (log more : List LogEntry) (diary : List Entry) (named : NamesBelow (length log) diary) where
-  media_same : (s : ℕ) → media_length (history_by document (log ++ more) diary) s ≡ media_length (history_by document log diary) s
+  media_same : (s : ℕ) → media_length (history_of document (log ++ more) diary) s ≡ media_length (history_of document log diary) s
   media_same s = ap (λ o. unwrap_or o time.Unresolved) (lengths_same log more s None diary named)
 
-  played_same : (s : ℕ) → played (history_by document (log ++ more) diary) s ≡ played (history_by document log diary) s
-  played_same s = ap (λ t. record (played (history_by document log diary) s) { length = t }) (media_same s)
+  played_same : (s : ℕ) → played (history_of document (log ++ more) diary) s ≡ played (history_of document log diary) s
+  played_same s = ap (λ t. record (played (history_of document log diary) s) { length = t }) (media_same s)
 
   abbrev play_row : List LogEntry → Node → ℕ × Played
-  play_row l e = (e.serial, played (history_by document l diary) e.serial)
+  play_row l e = (e.serial, played (history_of document l diary) e.serial)
 
   plays_same : (es : List Node) → map (play_row (log ++ more)) es ≡ map (play_row log) es
   plays_same [] = refl
   plays_same (e ∷ es) =
       ap (λ p. (e.serial, p) ∷ map (play_row (log ++ more)) es) (played_same e.serial) ∙ ap (λ rows. play_row log e ∷ rows) (plays_same es)
 
-  pub plays_longer : all_played (history_by document (log ++ more) diary) ≡ all_played (history_by document log diary)
+  pub plays_longer : all_played (history_of document (log ++ more) diary) ≡ all_played (history_of document log diary)
   plays_longer = plays_same (elements document.nodes)
 
-  item_same : (e : Node) (side : Edge) (item : Item) → instances_of (history_by document (log ++ more) diary) e side item ≡ instances_of (history_by document log diary) e side item
-  item_same e side item = kept_grown (history_by document log diary) (log ++ more) e side item (all_alike log more diary named)
+  item_same : (e : Node) (side : Edge) (item : Item) → instances_of (history_of document (log ++ more) diary) e side item ≡ instances_of (history_of document log diary) e side item
+  item_same e side item = kept_grown (history_of document log diary) (log ++ more) e side item (all_alike log more diary named)
 
-  items_same : (e : Node) (side : Edge) (is : List Item) → map (instances_of (history_by document (log ++ more) diary) e side) is ≡ map (instances_of (history_by document log diary) e side) is
+  items_same : (e : Node) (side : Edge) (is : List Item) → map (instances_of (history_of document (log ++ more) diary) e side) is ≡ map (instances_of (history_of document log diary) e side) is
   items_same e side [] = refl
   items_same e side (i ∷ is) =
-      ap (λ ts. ts ∷ map (instances_of (history_by document (log ++ more) diary) e side) is) (item_same e side i)
-      ∙ ap (λ rest. instances_of (history_by document log diary) e side i ∷ rest) (items_same e side is)
+      ap (λ ts. ts ∷ map (instances_of (history_of document (log ++ more) diary) e side) is) (item_same e side i)
+      ∙ ap (λ rest. instances_of (history_of document log diary) e side i ∷ rest) (items_same e side is)
 
-  row_same : (e : Node) → row_of (history_by document (log ++ more) diary) e ≡ row_of (history_by document log diary) e
+  row_same : (e : Node) → row_of (history_of document (log ++ more) diary) e ≡ row_of (history_of document log diary) e
   row_same e =
-      ap (λ ts. record (row_of (history_by document (log ++ more) diary) e) { begins = ts }) (items_same e Begin (begin_list document.nodes e))
-      ∙ ap (λ ts. record (row_of (history_by document log diary) e) { ends = ts }) (items_same e End (end_list e))
+      ap (λ ts. record (row_of (history_of document (log ++ more) diary) e) { begins = ts }) (items_same e Begin (begin_list document.nodes e))
+      ∙ ap (λ ts. record (row_of (history_of document log diary) e) { ends = ts }) (items_same e End (end_list e))
 
-  rows_same : (es : List Node) → map (row_of (history_by document (log ++ more) diary)) es ≡ map (row_of (history_by document log diary)) es
+  rows_same : (es : List Node) → map (row_of (history_of document (log ++ more) diary)) es ≡ map (row_of (history_of document log diary)) es
   rows_same [] = refl
   rows_same (e ∷ es) =
-      ap (λ r. r ∷ map (row_of (history_by document (log ++ more) diary)) es) (row_same e)
-      ∙ ap (λ rows. row_of (history_by document log diary) e ∷ rows) (rows_same es)
+      ap (λ r. r ∷ map (row_of (history_of document (log ++ more) diary)) es) (row_same e)
+      ∙ ap (λ rows. row_of (history_of document log diary) e ∷ rows) (rows_same es)
 
-  pub rows_longer : settled_rows (history_by document (log ++ more) diary) ≡ settled_rows (history_by document log diary)
+  pub rows_longer : settled_rows (history_of document (log ++ more) diary) ≡ settled_rows (history_of document log diary)
   rows_longer = rows_same (elements document.nodes)
 
   -- the same is kept with the longer log and with the shorter

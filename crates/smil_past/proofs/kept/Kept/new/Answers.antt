@@ -4,18 +4,18 @@ use Rattle.smil_stretch.specs.Clocks.{AreClocksOf}
 use Rattle.smil_past.specs.Played.{all_played}
 use Rattle.smil_past.specs.Queues.{kept_queues}
 use Rattle.smil_instances.specs.Instances.{IsSettled}
-use Rattle.smil_past.specs.Kept.{history_by}
+use Rattle.smil_instances.specs.Intake.{history_of}
 use Rattle.smil_past.proofs.kept.Kept.new.Goals as goal
 
 pub of-requires : goal.of-requires
 of-requires c = record {
-  past = history_by c.args.tree.now [] [];
+  past = history_of c.args.tree.now [] [];
   history = record { same_nodes = refl; same_diary = sym c.new-book.ensures; lawful = record { moments = refl; steps = tt } };
 }
 
 pub returns : goal.returns
 returns c = λ log.
-    let h = history_by c.args.tree.now log [] in
+    let h = history_of c.args.tree.now log [] in
     record {
       clocks_are =
           IfOk-at_ok (λ clocks. AreClocksOf clocks h) c.in_ok-of.was
