@@ -11,7 +11,8 @@ use Rattle.smil_stretch.specs.declared.clock.NodeClock.{NodeClock}
 use Rattle.smil_stretch.proofs.Moments.{le_from, rising_push}
 use Rattle.smil_stretch.proofs.Turning.{entry_moment}
 use Rattle.smil_stretch.proofs.Diaries.{lawful_last}
-use Rattle.smil_past.specs.Followed.{AreClocksAt, IsBefore}
+use Rattle.smil_instances.specs.Contribution.{AreClocksAt}
+use Rattle.smil_past.specs.Followed.{IsBefore}
 
 module _ (h : History) (y : Entry) (document : Document) (clocks : List NodeClock) (log : List LogEntry) (is : IsBefore h y document clocks log) where
   pub clocks_at : AreClocksAt h clocks y.moment

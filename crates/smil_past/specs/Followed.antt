@@ -1,5 +1,5 @@
 -- What one entry more makes of what is kept of an element.
-use Rattle.std.specs.Prelude.{◌≡◌, ℕ, ℤ, ◌≤ℤ◌, List, Bool, true, false, ◌||◌, ◌==◌, if◌then◌else◌, Option, Some, None, unwrap_or}
+use Rattle.std.specs.Prelude.{◌≡◌, ℕ, ℤ, List, Bool, true, false, ◌||◌, ◌==◌, if◌then◌else◌, Option, Some, None, unwrap_or}
 use Rattle.std.specs.Option.{option_or}
 use Rattle.smil_model.specs.declared.times.Time.{Time}
 use Rattle.smil_model.specs.declared.times.Time.TheVariants.{Unresolved}
@@ -9,7 +9,7 @@ use Rattle.smil_model.specs.declared.diary.Step.{Step}
 use Rattle.smil_model.specs.declared.diary.Step.TheVariants.{Began, Ended, Cut, Deferred, Passed}
 use Rattle.smil_model.specs.declared.document.Node.{Node}
 use Rattle.smil_model.specs.document.Document.{Document, time_parent}
-use Rattle.smil_model.specs.diary.Diary.{History, with_entry, last_moment}
+use Rattle.smil_model.specs.diary.Diary.{History, with_entry}
 use Rattle.smil_model.specs.diary.Lawful.{IsLawful}
 use Rattle.smil_model.specs.diary.Clocks.{outer, to_document, start_of, play_start_after, iteration_start_after}
 use Rattle.smil_model.specs.diary.Plays.{is_birth_under, passed_after}
@@ -131,11 +131,6 @@ abbrev pub deferred_row : History → ℕ → ℤ → ℤ → Played → Played
 deferred_row h s m begin r = record r { shown_deferred = Some (to_document h s begin m) }
 
 -- ---- what is at hand
-
--- the clocks of a history at a moment that is not before its last entry
-pub record AreClocksAt (h : History) (clocks : List NodeClock) (moment : ℤ) : Type 0 where
-  pub known : AreClocksOf clocks h
-  pub after : last_moment h.diary ≤ℤ moment
 
 -- the history before an entry, by the document, the clocks before it, and the log
 pub record IsBefore (h : History) (y : Entry) (document : Document) (clocks : List NodeClock)

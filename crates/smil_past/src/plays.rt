@@ -11,7 +11,8 @@ ghost use Rattle.smil_model.specs.Times.{IsMoment};
 ghost use Rattle.smil_laws.specs.Near.{HasNear};
 ghost use Rattle.smil_past.specs.Played.{TakesIn, all_played, played_at};
 ghost use Rattle.smil_past.specs.Rows.{AreChildrenTaken, ArePlaces, AreTurned, IsOwnTaken, IsPut, IsTurned, idle_row, row_of};
-ghost use Rattle.smil_past.specs.Followed.{AreClocksAt, IsBefore, MayBeTaken};
+ghost use Rattle.smil_instances.specs.Contribution.{AreClocksAt};
+ghost use Rattle.smil_past.specs.Followed.{IsBefore, MayBeTaken};
 
 pub mod played;
 mod row;

@@ -8,7 +8,8 @@ ghost use Rattle.smil_model.specs.diary.Plays.{greater_begin};
 ghost use Rattle.smil_model.specs.Times.{IsMoment, IsNear};
 ghost use Rattle.smil_laws.specs.Near.{HasNear};
 ghost use Rattle.smil_model.specs.reach.Reach.{subject as logged_on, subject_of};
-ghost use Rattle.smil_past.specs.Followed.{AreClocksAt, began_row, child_after, closed, deferred_row, finished_row, own_after, told_by};
+ghost use Rattle.smil_instances.specs.Contribution.{AreClocksAt};
+ghost use Rattle.smil_past.specs.Followed.{began_row, child_after, closed, deferred_row, finished_row, own_after, told_by};
 
 use super::played::{PastInterval, Played};
 use smil_model::{Entry, Happening, Log, LogEntry, Step, Time};
