@@ -12,9 +12,9 @@ use Rattle.smil_stretch.proofs.Moments.{le_from, rising_push}
 use Rattle.smil_stretch.proofs.Turning.{entry_moment}
 use Rattle.smil_stretch.proofs.Diaries.{lawful_last}
 use Rattle.smil_instances.specs.Contribution.{AreClocksAt}
-use Rattle.smil_past.specs.Followed.{IsBefore}
+use Rattle.smil_past.specs.Followed.{IsEntryAfter}
 
-module _ (h : History) (y : Entry) (document : Document) (clocks : List NodeClock) (log : List LogEntry) (is : IsBefore h y document clocks log) where
+module _ (h : History) (y : Entry) (document : Document) (clocks : List NodeClock) (log : List LogEntry) (is : IsEntryAfter h y document clocks log) where
   pub clocks_at : AreClocksAt h clocks y.moment
   clocks_at = record { known = is.known; after = le_from (last_moment h.diary) y.moment (rising_push (pos 0) h.diary y is.lawful.moments).1 }
 

@@ -12,7 +12,7 @@ use Rattle.smil_stretch.specs.declared.clock.NodeClock.{NodeClock}
 use Rattle.smil_past.specs.declared.plays.played.Played.{Played}
 use Rattle.smil_past.specs.Played.{played, all_played}
 use Rattle.smil_past.specs.Rows.{row_of, keys_of, IsOwnTaken, AreChildrenTaken}
-use Rattle.smil_past.specs.Followed.{own_after, child_step, IsBefore}
+use Rattle.smil_past.specs.Followed.{own_after, child_step, IsEntryAfter}
 use Rattle.smil_past.proofs.Rows.{row_map, row_of_found, found_any, rows_are}
 use Rattle.smil_past.proofs.Stepped.{played_with}
 
@@ -33,7 +33,7 @@ row_known h s q = row_map (played h) (elements h.nodes) s ∙ ap (λ t. cond t (
 pub row_is : (h : History) (s : ℕ) → row_of (all_played h) s ≡ option_map (λ (e : Node). played h e.serial) (node_at (elements h.nodes) s)
 row_is h s = row_of_found (played h) (elements h.nodes) s
 
-module _ (h : History) (y : Entry) (document : Document) (clocks : List NodeClock) (log : List LogEntry) (is : IsBefore h y document clocks log) where
+module _ (h : History) (y : Entry) (document : Document) (clocks : List NodeClock) (log : List LogEntry) (is : IsEntryAfter h y document clocks log) where
   abbrev tree : Document
   tree = record { nodes = h.nodes; next = is.known.next }
 

@@ -132,8 +132,8 @@ deferred_row h s m begin r = record r { shown_deferred = Some (to_document h s b
 
 -- ---- what is at hand
 
--- the history before an entry, by the document, the clocks before it, and the log
-pub record IsBefore (h : History) (y : Entry) (document : Document) (clocks : List NodeClock)
+-- the entry comes after this history, by the document, the clocks before it, and the log
+pub record IsEntryAfter (h : History) (y : Entry) (document : Document) (clocks : List NodeClock)
     (log : List LogEntry) : Type 0 where
   pub same_nodes : h.nodes ≡ document.nodes
   pub same_log : h.log ≡ log
@@ -143,4 +143,4 @@ pub record IsBefore (h : History) (y : Entry) (document : Document) (clocks : Li
 -- there is such a history
 pub record MayBeTaken (y : Entry) (document : Document) (clocks : List NodeClock) (log : List LogEntry) : Type 0 where
   pub past : History
-  pub before : IsBefore past y document clocks log
+  pub before : IsEntryAfter past y document clocks log

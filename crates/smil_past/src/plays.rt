@@ -12,7 +12,7 @@ ghost use Rattle.smil_laws.specs.Near.{HasNear};
 ghost use Rattle.smil_past.specs.Played.{TakesIn, all_played, played_at};
 ghost use Rattle.smil_past.specs.Rows.{AreChildrenTaken, ArePlaces, AreTurned, IsOwnTaken, IsPut, IsTurned, idle_row, row_of};
 ghost use Rattle.smil_instances.specs.Contribution.{AreClocksAt};
-ghost use Rattle.smil_past.specs.Followed.{IsBefore, MayBeTaken};
+ghost use Rattle.smil_past.specs.Followed.{IsEntryAfter, MayBeTaken};
 
 pub mod played;
 mod row;
@@ -93,7 +93,7 @@ impl Plays {
     pub fn follow(&mut self, tree: &Tree, clocks: &Clocks, log: &Log, entry: Entry)
         requires follows { MayBeTaken entry tree.now clocks.now log.now }
         requires near { HasNear entry.step }
-        ensures { (h : History) → IsBefore h entry tree.now clocks.now log.now
+        ensures { (h : History) → IsEntryAfter h entry tree.now clocks.now log.now
             → TakesIn h entry self.old self.new }
     {
         self.take_own(clocks, log, entry);

@@ -1,6 +1,6 @@
 use Rattle.std.proofs.Common.{refl}
 use Rattle.smil_instances.specs.Intake.{history_of}
-use Rattle.smil_past.specs.Followed.{IsBefore}
+use Rattle.smil_past.specs.Followed.{IsEntryAfter}
 use Rattle.smil_past.specs.Queues.{IsPastOf}
 use Rattle.smil_past.proofs.Appended.{taken_in}
 use Rattle.smil_past.proofs.kept.Kept.take_in.Goals as goal
@@ -19,7 +19,7 @@ returns-clause-ok c =
     let kept = c.requires.kept_is in
     let h = history_of c.args.tree.now c.args.log.now c.requires.before in
     let past : IsPastOf c.args.self.now.queues c.args.tree.now c.args.entry h = record { known = record { nodes = refl; value = kept.queues_are }; lawful = c.requires.lawful } in
-    let before : IsBefore h c.args.entry c.args.tree.now c.args.self.now.clocks c.args.log.now = record {
+    let before : IsEntryAfter h c.args.entry c.args.tree.now c.args.self.now.clocks c.args.log.now = record {
       same_nodes = refl;
       same_log = refl;
       known = kept.clocks_are;
