@@ -20,7 +20,7 @@ use Rattle.smil_past.specs.declared.plays.played.PastInterval.{PastInterval}
 use Rattle.smil_past.specs.declared.plays.played.Played.{Played}
 use Rattle.smil_model.specs.reach.Reach.{subject, logged_subject, subject_of}
 use Rattle.smil_past.specs.Rows.{row_of, IsPut, IsOwnTaken}
-use Rattle.smil_past.specs.Followed.{began_row, deferred_row, finished_row, closed, told_by, own_after}
+use Rattle.smil_past.specs.Followed.{began_row, deferred_row, finished_row, finished_interval, told_by, own_after}
 
 or_none : (o : Option PastInterval) → option_or o None ≡ o
 or_none None = refl
@@ -33,7 +33,7 @@ abbrev began_by : History → ℤ → ℕ → Played → ℤ → Bool → Played
 began_by h m s r b t = record { begun = cond t (Some b) r.begun; shown_begun = cond t (Some (to_document h s b m)) r.shown_begun; first = cond t (start_of h s m b) r.first; start = cond t (start_of h s m b) r.start; first_finished = option_or r.first_finished None; last_finished = r.last_finished; shown_deferred = cond t None r.shown_deferred; passed = r.passed; length = r.length }
 
 abbrev finished_by : History → ℤ → ℕ → Played → ℤ → Bool → Bool → Played
-finished_by h m s r v cut t = record { begun = cond t None r.begun; shown_begun = cond t None r.shown_begun; first = r.first; start = r.start; first_finished = option_or r.first_finished (cond t (closed h s m v cut r.begun r.shown_begun) None); last_finished = option_or (cond t (closed h s m v cut r.begun r.shown_begun) None) r.last_finished; shown_deferred = cond t None r.shown_deferred; passed = r.passed; length = r.length }
+finished_by h m s r v cut t = record { begun = cond t None r.begun; shown_begun = cond t None r.shown_begun; first = r.first; start = r.start; first_finished = option_or r.first_finished (cond t (finished_interval h s m v cut r.begun r.shown_begun) None); last_finished = option_or (cond t (finished_interval h s m v cut r.begun r.shown_begun) None) r.last_finished; shown_deferred = cond t None r.shown_deferred; passed = r.passed; length = r.length }
 
 abbrev deferred_by : History → ℤ → ℕ → Played → ℤ → Bool → Played
 deferred_by h m s r b t = record { begun = r.begun; shown_begun = r.shown_begun; first = r.first; start = r.start; first_finished = option_or r.first_finished None; last_finished = r.last_finished; shown_deferred = cond t (Some (to_document h s b m)) r.shown_deferred; passed = r.passed; length = r.length }

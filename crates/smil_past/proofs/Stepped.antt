@@ -25,7 +25,7 @@ use Rattle.smil_stretch.proofs.Moments.{EachUntil, le_self}
 use Rattle.smil_stretch.proofs.Diaries.{lawful_last}
 use Rattle.smil_past.specs.declared.plays.played.PastInterval.{PastInterval}
 use Rattle.smil_past.specs.Played.{past_interval, played}
-use Rattle.smil_past.specs.Followed.{is_death_under, begun_after, shown_begun_after, closed, closed_by, shown_deferred_after, told_by, told_after, unless, row_after}
+use Rattle.smil_past.specs.Followed.{is_death_under, begun_after, shown_begun_after, finished_interval, interval_finished_by, shown_deferred_after, told_by, told_after, none_if, row_after}
 use Rattle.smil_past.proofs.Clocked.{document_with, start_with, each_until, each_drop, fold_with}
 use Rattle.smil_past.proofs.Since.{since_hit, since_miss}
 use Rattle.smil_past.proofs.Shown.{plays_with, present_then, finished_then, active_is, plays_until, IsMarked, IsUntil, AreUntil, mark_with, past_with, first_with, last_with, last_more}
@@ -180,12 +180,12 @@ module _ (h : History) (y : Entry) (s : ℕ) (lawful : IsLawful (with_entry h y)
   abbrev past_then : Finished → PastInterval
   past_then = past_interval (with_entry h y) s
 
-  close_first : (o : Option Mark) → IsMarked y.moment o → (v : ℤ) (cut : Bool) (fs : List Finished) → AllByRecursion (IsUntil y.moment) fs → option_map past_then (first_of (finish_with o (record { value = v; moment = y.moment }) cut fs)) ≡ option_or (option_map past_now (first_of fs)) (closed h s y.moment v cut (option_map value_of o) (option_map (document_value h s) o))
+  close_first : (o : Option Mark) → IsMarked y.moment o → (v : ℤ) (cut : Bool) (fs : List Finished) → AllByRecursion (IsUntil y.moment) fs → option_map past_then (first_of (finish_with o (record { value = v; moment = y.moment }) cut fs)) ≡ option_or (option_map past_now (first_of fs)) (finished_interval h s y.moment v cut (option_map value_of o) (option_map (document_value h s) o))
   close_first None is v cut fs each = first_with h y s fs each ∙ sym (or_none (option_map past_now (first_of fs)))
   close_first (Some k) is v cut [] each = ap Some (past_with h y s (record { begin = k; finish = record { value = v; moment = y.moment }; was_cut = cut }) (record { begin = is; finish = le_self y.moment }))
   close_first (Some k) is v cut (f ∷ fs) each = ap Some (past_with h y s f each.0)
 
-  close_last : (o : Option Mark) → IsMarked y.moment o → (v : ℤ) (cut : Bool) (fs : List Finished) → AllByRecursion (IsUntil y.moment) fs → option_map past_then (last_or None (finish_with o (record { value = v; moment = y.moment }) cut fs)) ≡ option_or (closed h s y.moment v cut (option_map value_of o) (option_map (document_value h s) o)) (option_map past_now (last_or None fs))
+  close_last : (o : Option Mark) → IsMarked y.moment o → (v : ℤ) (cut : Bool) (fs : List Finished) → AllByRecursion (IsUntil y.moment) fs → option_map past_then (last_or None (finish_with o (record { value = v; moment = y.moment }) cut fs)) ≡ option_or (finished_interval h s y.moment v cut (option_map value_of o) (option_map (document_value h s) o)) (option_map past_now (last_or None fs))
   close_last None is v cut fs each = last_with h y s fs each
   close_last (Some k) is v cut fs each =
       ap (option_map past_then) (last_more None fs (record { begin = k; finish = record { value = v; moment = y.moment }; was_cut = cut }))
@@ -204,7 +204,7 @@ module _ (h : History) (y : Entry) (s : ℕ) (lawful : IsLawful (with_entry h y)
     last_rest : option_map past_then (last_or None b.finished) ≡ option_map past_now (last_or None b.finished)
     last_rest = last_with h y s b.finished are.finished
 
-    first_step : (step : Step) → option_map past_then (first_of (play_after h s y.moment b step).finished) ≡ option_or (option_map past_now (first_of b.finished)) (closed_by h s y.moment begun shown step)
+    first_step : (step : Step) → option_map past_then (first_of (play_after h s y.moment b step).finished) ≡ option_or (option_map past_now (first_of b.finished)) (interval_finished_by h s y.moment begun shown step)
     first_step (Began who begin) = by_own (who == s)
       where
         by_own : (t : Bool) → option_map past_then (first_of (cond t (record { present = Some (record { value = begin; moment = y.moment }); finished = b.finished }) b).finished) ≡ option_or (option_map past_now (first_of b.finished)) None
@@ -212,12 +212,12 @@ module _ (h : History) (y : Entry) (s : ℕ) (lawful : IsLawful (with_entry h y)
         by_own false = first_rest
     first_step (Ended who end') = by_own (who == s)
       where
-        by_own : (t : Bool) → option_map past_then (first_of (cond t (record { present = None; finished = finish_with b.present (record { value = end'; moment = y.moment }) false b.finished }) b).finished) ≡ option_or (option_map past_now (first_of b.finished)) (cond t (closed h s y.moment end' false begun shown) None)
+        by_own : (t : Bool) → option_map past_then (first_of (cond t (record { present = None; finished = finish_with b.present (record { value = end'; moment = y.moment }) false b.finished }) b).finished) ≡ option_or (option_map past_now (first_of b.finished)) (cond t (finished_interval h s y.moment end' false begun shown) None)
         by_own true = close_first b.present are.present end' false b.finished are.finished
         by_own false = first_rest
     first_step (Cut who) = by_own (who == s)
       where
-        by_own : (t : Bool) → option_map past_then (first_of (cond t (record { present = None; finished = finish_with b.present (record { value = outer h s y.moment; moment = y.moment }) true b.finished }) b).finished) ≡ option_or (option_map past_now (first_of b.finished)) (cond t (closed h s y.moment (outer h s y.moment) true begun shown) None)
+        by_own : (t : Bool) → option_map past_then (first_of (cond t (record { present = None; finished = finish_with b.present (record { value = outer h s y.moment; moment = y.moment }) true b.finished }) b).finished) ≡ option_or (option_map past_now (first_of b.finished)) (cond t (finished_interval h s y.moment (outer h s y.moment) true begun shown) None)
         by_own true = close_first b.present are.present (outer h s y.moment) true b.finished are.finished
         by_own false = first_rest
     first_step (Repeated who start) = first_rest
@@ -227,7 +227,7 @@ module _ (h : History) (y : Entry) (s : ℕ) (lawful : IsLawful (with_entry h y)
     first_step (Passed who begin) = first_rest
     first_step (Logged place) = first_rest
 
-    last_step : (step : Step) → option_map past_then (last_or None (play_after h s y.moment b step).finished) ≡ option_or (closed_by h s y.moment begun shown step) (option_map past_now (last_or None b.finished))
+    last_step : (step : Step) → option_map past_then (last_or None (play_after h s y.moment b step).finished) ≡ option_or (interval_finished_by h s y.moment begun shown step) (option_map past_now (last_or None b.finished))
     last_step (Began who begin) = by_own (who == s)
       where
         by_own : (t : Bool) → option_map past_then (last_or None (cond t (record { present = Some (record { value = begin; moment = y.moment }); finished = b.finished }) b).finished) ≡ option_map past_now (last_or None b.finished)
@@ -235,12 +235,12 @@ module _ (h : History) (y : Entry) (s : ℕ) (lawful : IsLawful (with_entry h y)
         by_own false = last_rest
     last_step (Ended who end') = by_own (who == s)
       where
-        by_own : (t : Bool) → option_map past_then (last_or None (cond t (record { present = None; finished = finish_with b.present (record { value = end'; moment = y.moment }) false b.finished }) b).finished) ≡ option_or (cond t (closed h s y.moment end' false begun shown) None) (option_map past_now (last_or None b.finished))
+        by_own : (t : Bool) → option_map past_then (last_or None (cond t (record { present = None; finished = finish_with b.present (record { value = end'; moment = y.moment }) false b.finished }) b).finished) ≡ option_or (cond t (finished_interval h s y.moment end' false begun shown) None) (option_map past_now (last_or None b.finished))
         by_own true = close_last b.present are.present end' false b.finished are.finished
         by_own false = last_rest
     last_step (Cut who) = by_own (who == s)
       where
-        by_own : (t : Bool) → option_map past_then (last_or None (cond t (record { present = None; finished = finish_with b.present (record { value = outer h s y.moment; moment = y.moment }) true b.finished }) b).finished) ≡ option_or (cond t (closed h s y.moment (outer h s y.moment) true begun shown) None) (option_map past_now (last_or None b.finished))
+        by_own : (t : Bool) → option_map past_then (last_or None (cond t (record { present = None; finished = finish_with b.present (record { value = outer h s y.moment; moment = y.moment }) true b.finished }) b).finished) ≡ option_or (cond t (finished_interval h s y.moment (outer h s y.moment) true begun shown) None) (option_map past_now (last_or None b.finished))
         by_own true = close_last b.present are.present (outer h s y.moment) true b.finished are.finished
         by_own false = last_rest
     last_step (Repeated who start) = last_rest
@@ -250,21 +250,21 @@ module _ (h : History) (y : Entry) (s : ℕ) (lawful : IsLawful (with_entry h y)
     last_step (Passed who begin) = last_rest
     last_step (Logged place) = last_rest
 
-  first_is : option_map past_then (first_of (plays (with_entry h y) s).finished) ≡ unless birth_now (option_or (option_map past_now (first_of (plays h s).finished)) (closed_by h s y.moment (option_map value_of (plays h s).present) (present_begin h s) y.step))
+  first_is : option_map past_then (first_of (plays (with_entry h y) s).finished) ≡ none_if birth_now (option_or (option_map past_now (first_of (plays h s).finished)) (interval_finished_by h s y.moment (option_map value_of (plays h s).present) (present_begin h s) y.step))
   first_is =
       ap (λ fs. option_map past_then (first_of fs)) finished_is ∙ by_birth birth_now
-      ∙ ap (λ o. unless birth_now (option_or (option_map past_now (first_of (plays h s).finished)) (closed_by h s y.moment (option_map value_of (plays h s).present) o y.step))) (sym (shown_of h apart))
+      ∙ ap (λ o. none_if birth_now (option_or (option_map past_now (first_of (plays h s).finished)) (interval_finished_by h s y.moment (option_map value_of (plays h s).present) o y.step))) (sym (shown_of h apart))
     where
-      by_birth : (t : Bool) → option_map past_then (first_of (cond t [] after.finished)) ≡ unless t (option_or (option_map past_now (first_of (plays h s).finished)) (closed_by h s y.moment (option_map value_of (plays h s).present) (option_map (document_value h s) (plays h s).present) y.step))
+      by_birth : (t : Bool) → option_map past_then (first_of (cond t [] after.finished)) ≡ none_if t (option_or (option_map past_now (first_of (plays h s).finished)) (interval_finished_by h s y.moment (option_map value_of (plays h s).present) (option_map (document_value h s) (plays h s).present) y.step))
       by_birth true = refl
       by_birth false = first_step (plays h s) (plays_until h y s lawful) y.step
 
-  last_is : option_map past_then (last_or None (plays (with_entry h y) s).finished) ≡ unless birth_now (option_or (closed_by h s y.moment (option_map value_of (plays h s).present) (present_begin h s) y.step) (option_map past_now (last_or None (plays h s).finished)))
+  last_is : option_map past_then (last_or None (plays (with_entry h y) s).finished) ≡ none_if birth_now (option_or (interval_finished_by h s y.moment (option_map value_of (plays h s).present) (present_begin h s) y.step) (option_map past_now (last_or None (plays h s).finished)))
   last_is =
       ap (λ fs. option_map past_then (last_or None fs)) finished_is ∙ by_birth birth_now
-      ∙ ap (λ o. unless birth_now (option_or (closed_by h s y.moment (option_map value_of (plays h s).present) o y.step) (option_map past_now (last_or None (plays h s).finished)))) (sym (shown_of h apart))
+      ∙ ap (λ o. none_if birth_now (option_or (interval_finished_by h s y.moment (option_map value_of (plays h s).present) o y.step) (option_map past_now (last_or None (plays h s).finished)))) (sym (shown_of h apart))
     where
-      by_birth : (t : Bool) → option_map past_then (last_or None (cond t [] after.finished)) ≡ unless t (option_or (closed_by h s y.moment (option_map value_of (plays h s).present) (option_map (document_value h s) (plays h s).present) y.step) (option_map past_now (last_or None (plays h s).finished)))
+      by_birth : (t : Bool) → option_map past_then (last_or None (cond t [] after.finished)) ≡ none_if t (option_or (interval_finished_by h s y.moment (option_map value_of (plays h s).present) (option_map (document_value h s) (plays h s).present) y.step) (option_map past_now (last_or None (plays h s).finished)))
       by_birth true = refl
       by_birth false = last_step (plays h s) (plays_until h y s lawful) y.step
 
@@ -296,10 +296,10 @@ module _ (h : History) (y : Entry) (s : ℕ) (lawful : IsLawful (with_entry h y)
   abbrev pass : Option ℤ → Entry → Option ℤ
   pass before x = passed_after s before x.step
 
-  passed_is : passed (with_entry h y) s ≡ unless birth_now (passed_after s (passed h s) y.step)
+  passed_is : passed (with_entry h y) s ≡ none_if birth_now (passed_after s (passed h s) y.step)
   passed_is = by_birth birth_now refl
     where
-      by_birth : (t : Bool) → birth_now ≡ t → passed (with_entry h y) s ≡ unless t (passed_after s (passed h s) y.step)
+      by_birth : (t : Bool) → birth_now ≡ t → passed (with_entry h y) s ≡ none_if t (passed_after s (passed h s) y.step)
       by_birth true q = ap (fold pass None) (since_hit h y s q)
       by_birth false q = since_miss h y s pass None q passed_dead
 
@@ -448,7 +448,7 @@ module _ (h : History) (y : Entry) (s : ℕ) (lawful : IsLawful (with_entry h y)
       under None u v = refl
       under (Some p) u v = active_push h.diary y p.serial ∙ stays p (is_active h.diary p.serial) y.step u v
 
-  deferred_is : put_off (with_entry h y) (deferral (with_entry h y) s) ≡ unless (birth_now || death_now) (shown_deferred_after h s y.moment (put_off h (deferral h s)) y.step)
+  deferred_is : put_off (with_entry h y) (deferral (with_entry h y) s) ≡ none_if (birth_now || death_now) (shown_deferred_after h s y.moment (put_off h (deferral h s)) y.step)
   deferred_is = by_birth birth_now refl
     where
       never : (t : Bool) → cond {A = Option Entry} t None None ≡ None
@@ -459,14 +459,14 @@ module _ (h : History) (y : Entry) (s : ℕ) (lawful : IsLawful (with_entry h y)
       on true e = put_off_step held is_held
       on false e = sym (ap (put_off (with_entry h y)) (deferred_dead e)) ∙ put_off_step None tt
 
-      by_death : birth_now ≡ false → (t : Bool) → death_now ≡ t → put_off (with_entry h y) (deferral (with_entry h y) s) ≡ unless t (shown_deferred_after h s y.moment (put_off h (deferral h s)) y.step)
+      by_death : birth_now ≡ false → (t : Bool) → death_now ≡ t → put_off (with_entry h y) (deferral (with_entry h y) s) ≡ none_if t (shown_deferred_after h s y.moment (put_off h (deferral h s)) y.step)
       by_death q true r = ap (λ a. put_off (with_entry h y) (cond a (fold defer None (since_birth (with_entry h y) s)) None)) (dies r)
       by_death q false r =
           ap (λ a. put_off (with_entry h y) (cond a (fold defer None (since_birth (with_entry h y) s)) None)) (lives_on q r)
           ∙ ap (λ o. put_off (with_entry h y) (cond (is_alive h s) o None)) (since_miss h y s defer None q deferred_dead)
           ∙ on (is_alive h s) refl
 
-      by_birth : (t : Bool) → birth_now ≡ t → put_off (with_entry h y) (deferral (with_entry h y) s) ≡ unless (t || death_now) (shown_deferred_after h s y.moment (put_off h (deferral h s)) y.step)
+      by_birth : (t : Bool) → birth_now ≡ t → put_off (with_entry h y) (deferral (with_entry h y) s) ≡ none_if (t || death_now) (shown_deferred_after h s y.moment (put_off h (deferral h s)) y.step)
       by_birth true q =
           ap (λ ds. put_off (with_entry h y) (cond (is_alive (with_entry h y) s) (fold defer None ds) None)) (since_hit h y s q)
           ∙ ap (put_off (with_entry h y)) (never (is_alive (with_entry h y) s))

@@ -39,21 +39,21 @@ shown_begun_after h s m before (Cut who) = if who == s then None else before
 shown_begun_after h s m before _ = before
 
 -- the interval of a play that finishes with a value
-abbrev pub closed : History → ℕ → ℤ → ℤ → Bool → Option ℤ → Option ℤ → Option PastInterval
-closed h s m finish was_cut (Some begin) (Some shown) = Some (record {
+abbrev pub finished_interval : History → ℕ → ℤ → ℤ → Bool → Option ℤ → Option ℤ → Option PastInterval
+finished_interval h s m finish was_cut (Some begin) (Some shown) = Some (record {
   begin = begin;
   finish = finish;
   shown_begin = shown;
   shown_finish = to_document h s finish m;
   was_cut = was_cut;
 })
-closed h s m finish was_cut _ _ = None
+finished_interval h s m finish was_cut _ _ = None
 
 -- the interval that a step finishes
-abbrev pub closed_by : History → ℕ → ℤ → Option ℤ → Option ℤ → Step → Option PastInterval
-closed_by h s m begun shown (Ended who end') = if who == s then closed h s m end' false begun shown else None
-closed_by h s m begun shown (Cut who) = if who == s then closed h s m (outer h s m) true begun shown else None
-closed_by h s m begun shown _ = None
+abbrev pub interval_finished_by : History → ℕ → ℤ → Option ℤ → Option ℤ → Step → Option PastInterval
+interval_finished_by h s m begun shown (Ended who end') = if who == s then finished_interval h s m end' false begun shown else None
+interval_finished_by h s m begun shown (Cut who) = if who == s then finished_interval h s m (outer h s m) true begun shown else None
+interval_finished_by h s m begun shown _ = None
 
 -- the begin that an excl has put off, in document time
 abbrev pub shown_deferred_after : History → ℕ → ℤ → Option ℤ → Step → Option ℤ
@@ -72,8 +72,8 @@ abbrev pub told_after : List LogEntry → ℕ → Time → Step → Time
 told_after log s before step = unwrap_or (length_after log s (Some before) step) Unresolved
 
 -- none after it, else what was
-abbrev pub unless : {A : Type 0} → Bool → Option A → Option A
-unless gone before = if gone then None else before
+abbrev pub none_if : {A : Type 0} → Bool → Option A → Option A
+none_if gone before = if gone then None else before
 
 -- the entry's own part of it
 abbrev pub own_after : History → Entry → ℕ → Played → Played
@@ -82,8 +82,8 @@ own_after h y s r = record {
   shown_begun = shown_begun_after h s y.moment r.shown_begun y.step;
   first = play_start_after h s y.moment r.first y.step;
   start = iteration_start_after h s y.moment r.start y.step;
-  first_finished = option_or r.first_finished (closed_by h s y.moment r.begun r.shown_begun y.step);
-  last_finished = option_or (closed_by h s y.moment r.begun r.shown_begun y.step) r.last_finished;
+  first_finished = option_or r.first_finished (interval_finished_by h s y.moment r.begun r.shown_begun y.step);
+  last_finished = option_or (interval_finished_by h s y.moment r.begun r.shown_begun y.step) r.last_finished;
   shown_deferred = shown_deferred_after h s y.moment r.shown_deferred y.step;
   passed = passed_after s r.passed y.step;
   length = told_after h.log s r.length y.step;
@@ -93,10 +93,10 @@ own_after h y s r = record {
 -- and with an end nothing is put off
 abbrev pub child_after : Bool → Bool → Played → Played
 child_after birth death r = record r {
-  first_finished = unless birth r.first_finished;
-  last_finished = unless birth r.last_finished;
-  shown_deferred = unless (birth || death) r.shown_deferred;
-  passed = unless birth r.passed;
+  first_finished = none_if birth r.first_finished;
+  last_finished = none_if birth r.last_finished;
+  shown_deferred = none_if (birth || death) r.shown_deferred;
+  passed = none_if birth r.passed;
 }
 
 -- what a step leaves of what is kept of an element by its time parent
@@ -122,8 +122,8 @@ abbrev pub finished_row : History → ℕ → ℤ → ℤ → Bool → Played �
 finished_row h s m finish was_cut r = record r {
   begun = None;
   shown_begun = None;
-  first_finished = option_or r.first_finished (closed h s m finish was_cut r.begun r.shown_begun);
-  last_finished = option_or (closed h s m finish was_cut r.begun r.shown_begun) r.last_finished;
+  first_finished = option_or r.first_finished (finished_interval h s m finish was_cut r.begun r.shown_begun);
+  last_finished = option_or (finished_interval h s m finish was_cut r.begun r.shown_begun) r.last_finished;
   shown_deferred = None;
 }
 

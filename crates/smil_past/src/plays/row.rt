@@ -9,7 +9,7 @@ ghost use Rattle.smil_model.specs.Times.{IsMoment, IsNear};
 ghost use Rattle.smil_laws.specs.Near.{HasNear};
 ghost use Rattle.smil_model.specs.reach.Reach.{subject as logged_on, subject_of};
 ghost use Rattle.smil_instances.specs.Contribution.{AreClocksAt};
-ghost use Rattle.smil_past.specs.Followed.{began_row, child_after, closed, deferred_row, finished_row, own_after, told_by};
+ghost use Rattle.smil_past.specs.Followed.{began_row, child_after, finished_interval, deferred_row, finished_row, own_after, told_by};
 
 use super::played::{PastInterval, Played};
 use smil_model::{Entry, Happening, Log, LogEntry, Step, Time};
@@ -151,7 +151,7 @@ fn finished(own: &OwnEntry<'_>, finish: i64, was_cut: bool, row: Played) -> Play
         ..
     } = *own;
     let shown_finish = clocks.to_document(who, finish, entry.moment);
-    let interval = closed(&row, finish, shown_finish, was_cut);
+    let interval = finished_interval(&row, finish, shown_finish, was_cut);
     Played {
         begun: None,
         shown_begun: None,
@@ -182,9 +182,9 @@ fn put_off(own: &OwnEntry<'_>, begin: i64, row: Played) -> Played
 }
 
 // The interval of the play of a row, which finishes; None where there is no play.
-fn closed(row: &Played, finish: i64, shown_finish: i64, was_cut: bool) -> Option<PastInterval>
+fn finished_interval(row: &Played, finish: i64, shown_finish: i64, was_cut: bool) -> Option<PastInterval>
     ensures { (h : History) (s : ℕ) (m : ℤ) → shown_finish ≡ document_time h s finish m → result
-        ≡ closed h s m finish was_cut row.now.begun row.now.shown_begun }
+        ≡ finished_interval h s m finish was_cut row.now.begun row.now.shown_begun }
 {
     match (row.begun, row.shown_begun) {
         (Some(begin), Some(shown_begin)) => Some(PastInterval {
