@@ -12,7 +12,7 @@ use Rattle.smil_model.specs.diary.Diary.{History, gives_birth}
 use Rattle.smil_model.specs.diary.Clocks.{start_of, iteration_start_after}
 use Rattle.smil_instance_rows.specs.declared.item_times.InstanceTime.{InstanceTime}
 use Rattle.smil_instance_rows.specs.Rows.{instance_at}
-use Rattle.smil_instances.specs.Contribution.{started}
+use Rattle.smil_instances.specs.Contribution.{start_time}
 
 module _ (h : History) (y : Entry) (offset : ℤ) (p : Node) where
   -- by the step, and the test whether it is on the parent
@@ -25,20 +25,20 @@ module _ (h : History) (y : Entry) (offset : ℤ) (p : Node) where
   by_step : Step → Option InstanceTime
   by_step step = cond (gives_birth p.serial step) (Some (instance_at 0 (within_horizon (iteration_start_after h p.serial y.moment (pos 0) step +ℤ offset)))) None
 
-  pub began_starts : (on : ℕ) (value : ℤ) → y.step ≡ Began on value → on ≡ p.serial → started h y offset (Some p) ≡ Some (instance_at 0 (within_horizon (start_of h p.serial y.moment value +ℤ offset)))
+  pub began_starts : (on : ℕ) (value : ℤ) → y.step ≡ Began on value → on ≡ p.serial → start_time h y offset (Some p) ≡ Some (instance_at 0 (within_horizon (start_of h p.serial y.moment value +ℤ offset)))
   unfolding by_step
   began_starts on value q r = ap by_step q ∙ by_began y.moment value (on == p.serial) (eq-eqb on p.serial r)
 
-  pub repeated_starts : (on : ℕ) (start : ℤ) → y.step ≡ Repeated on start → on ≡ p.serial → started h y offset (Some p) ≡ Some (instance_at 0 (within_horizon (start +ℤ offset)))
+  pub repeated_starts : (on : ℕ) (start : ℤ) → y.step ≡ Repeated on start → on ≡ p.serial → start_time h y offset (Some p) ≡ Some (instance_at 0 (within_horizon (start +ℤ offset)))
   unfolding by_step
   repeated_starts on start q r = ap by_step q ∙ by_repeated start (on == p.serial) (eq-eqb on p.serial r)
 
 -- ---- by the time parent, if there is one
 
-pub started_under : (h : History) (y : Entry) (offset : ℤ) (told : Option InstanceTime) (parent : ℕ) → ((x : Node) → x.serial ≡ parent → told ≡ started h y offset (Some x)) → (p : Option Node) → serial_of p ≡ Some parent → told ≡ started h y offset p
+pub started_under : (h : History) (y : Entry) (offset : ℤ) (told : Option InstanceTime) (parent : ℕ) → ((x : Node) → x.serial ≡ parent → told ≡ start_time h y offset (Some x)) → (p : Option Node) → serial_of p ≡ Some parent → told ≡ start_time h y offset p
 started_under h y offset told parent is None q = cc
 started_under h y offset told parent is (Some x) q = let own : x.serial ≡ parent = cc in is x own
 
-pub unstarted : (h : History) (y : Entry) (offset : ℤ) (p : Option Node) → serial_of p ≡ None → None ≡ started h y offset p
+pub unstarted : (h : History) (y : Entry) (offset : ℤ) (p : Option Node) → serial_of p ≡ None → None ≡ start_time h y offset p
 unstarted h y offset None q = refl
 unstarted h y offset (Some x) q = cc

@@ -14,7 +14,7 @@ use Rattle.smil_model.specs.diary.Diary.{History}
 use Rattle.smil_model.specs.diary.Clocks.{outer}
 use Rattle.smil_model.specs.interval.Instances.{edge_time, hears}
 use Rattle.smil_instances.specs.declared.source.Source.TheVariants as source
-use Rattle.smil_instances.specs.Contribution.{given_edge, given_event, given_repeat, given_at, offset_given, started, given_heard, offset_of}
+use Rattle.smil_instances.specs.Contribution.{given_edge, given_event, given_repeat, given_at, offset_given, start_time, given_heard, offset_of}
 use Rattle.smil_instance_rows.specs.Rows.{at_place, instance_at}
 use Rattle.smil_instances.specs.Sources.{eventbase, source_of, syncbase_or}
 use Rattle.smil_instances.specs.Occurrence.{occurs_in, target_of}
@@ -61,25 +61,25 @@ key_means nodes e Indefinite k q = refl
 -- ---- what is given
 
 module _ (h : History) (y : Entry) (e : Node) (side : Edge) where
-  pub start_given : (item : Item) → source_of h.nodes e.serial item ≡ source.Start → given_at h y e side item ≡ started h y (offset_of item) (time_parent h.nodes e.serial)
+  pub start_given : (item : Item) → source_of h.nodes e.serial item ≡ source.Start → given_at h y e side item ≡ start_time h y (offset_of item) (time_parent h.nodes e.serial)
   start_given (Offset offset) q = by (previous_in_seq h.nodes e.serial) q
     where
-      by : (o : Option Node) → syncbase_or source.Start End o ≡ source.Start → offset_given h y e.serial offset o ≡ started h y offset (time_parent h.nodes e.serial)
+      by : (o : Option Node) → syncbase_or source.Start End o ≡ source.Start → offset_given h y e.serial offset o ≡ start_time h y offset (time_parent h.nodes e.serial)
       by None r = refl
       by (Some b) r = cc
   start_given (Sync who edge offset) q = by (element_named h.nodes who) q
     where
-      by : (o : Option Node) → syncbase_or source.Nothing edge o ≡ source.Start → at_place (length h.diary) (given_edge h y e.serial offset edge o) ≡ started h y offset (time_parent h.nodes e.serial)
+      by : (o : Option Node) → syncbase_or source.Nothing edge o ≡ source.Start → at_place (length h.diary) (given_edge h y e.serial offset edge o) ≡ start_time h y offset (time_parent h.nodes e.serial)
       by None r = cc
       by (Some b) r = cc
   start_given (Event who name offset) q = by (target h.nodes e.serial who) q
     where
-      by : (o : Option ℕ) → eventbase o ≡ source.Start → at_place (length h.diary) (given_event h y e side (Event who name offset) offset name o) ≡ started h y offset (time_parent h.nodes e.serial)
+      by : (o : Option ℕ) → eventbase o ≡ source.Start → at_place (length h.diary) (given_event h y e side (Event who name offset) offset name o) ≡ start_time h y offset (time_parent h.nodes e.serial)
       by None r = cc
       by (Some b) r = cc
   start_given (Repeat who n offset) q = by (target h.nodes e.serial who) q
     where
-      by : (o : Option ℕ) → eventbase o ≡ source.Start → at_place (length h.diary) (given_repeat h y e side (Repeat who n offset) offset n o) ≡ started h y offset (time_parent h.nodes e.serial)
+      by : (o : Option ℕ) → eventbase o ≡ source.Start → at_place (length h.diary) (given_repeat h y e side (Repeat who n offset) offset n o) ≡ start_time h y offset (time_parent h.nodes e.serial)
       by None r = cc
       by (Some b) r = cc
   start_given (Key key offset) q = cc
@@ -160,12 +160,12 @@ module _ (h : History) (y : Entry) (e : Node) (side : Edge) where
   -- ---- by what is at hand
 
   module _ (who : ℕ) (own : e.serial ≡ who) (z : Entry) (same : z ≡ y) where
-    pub start_read : (nodes : List Node) (off off' : ℤ) → h.nodes ≡ nodes → off ≡ off' → started h z off (time_parent nodes who) ≡ started h y off' (time_parent h.nodes e.serial)
+    pub start_read : (nodes : List Node) (off off' : ℤ) → h.nodes ≡ nodes → off ≡ off' → start_time h z off (time_parent nodes who) ≡ start_time h y off' (time_parent h.nodes e.serial)
     start_read nodes off off' is at =
-        ap (λ (x : Entry). started h x off (time_parent nodes who)) same
-        ∙ ap (λ o. started h y o (time_parent nodes who)) at
-        ∙ ap (λ ns. started h y off' (time_parent ns who)) (sym is)
-        ∙ ap (λ s. started h y off' (time_parent h.nodes s)) (sym own)
+        ap (λ (x : Entry). start_time h x off (time_parent nodes who)) same
+        ∙ ap (λ o. start_time h y o (time_parent nodes who)) at
+        ∙ ap (λ ns. start_time h y off' (time_parent ns who)) (sym is)
+        ∙ ap (λ s. start_time h y off' (time_parent h.nodes s)) (sym own)
 
     pub edge_read : (x : ℕ) (edge : Edge) (off off' : ℤ) (place : ℕ) (t : Option Time) → t ≡ edge_time h who x off z.moment edge z.step → off ≡ off' → place ≡ length h.diary → at_place place t ≡ at_place (length h.diary) (edge_time h e.serial x off' y.moment edge y.step)
     edge_read x edge off off' place t told at is =

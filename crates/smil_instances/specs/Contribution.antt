@@ -46,15 +46,15 @@ given_by h y e side Indefinite = None
 -- ---- what is cut after it
 
 -- the birth of the time parent's children gives an offset anew
-abbrev pub started : History → Entry → ℤ → Option Node → Option InstanceTime
-started h y offset None = None
-started h y offset (Some p) =
+abbrev pub start_time : History → Entry → ℤ → Option Node → Option InstanceTime
+start_time h y offset None = None
+start_time h y offset (Some p) =
     if gives_birth p.serial y.step
     then Some (instance_at 0 (within_horizon (iteration_start_after h p.serial y.moment (pos 0) y.step +ℤ offset)))
     else None
 
 abbrev pub offset_given : History → Entry → ℕ → ℤ → Option Node → Option InstanceTime
-offset_given h y e offset None = started h y offset (time_parent h.nodes e)
+offset_given h y e offset None = start_time h y offset (time_parent h.nodes e)
 offset_given h y e offset (Some before) = at_place (length h.diary) (given_edge h y e offset End (Some before))
 
 -- what the entry gives to an item of e, by the clocks and the diary before it

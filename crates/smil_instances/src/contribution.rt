@@ -21,7 +21,7 @@ use super::items::ListItem;
 use super::occurrence::occurs;
 use super::sensitivity::hears;
 use super::source::Source;
-use super::starts::started;
+use super::starts::start_time;
 use super::syncbase::Syncbase;
 use smil_duration::moved;
 use smil_instance_rows::InstanceTime;
@@ -49,7 +49,7 @@ pub fn given(arrival: &Arrival<'_>, own: &ListItem<'_>, source: Source) -> Optio
     match source {
         Source::Start => {
             let parent = arrival.tree.time_parent(own.who);
-            started(arrival.clocks, entry, parent, offset)
+            start_time(arrival.clocks, entry, parent, offset)
         }
         Source::Syncbase { of, edge } => {
             let sync = Syncbase { of, edge, offset };

@@ -17,7 +17,7 @@ use smil_stretch::Clocks;
 /// What an entry gives to an item with this offset from the start of the iteration of its element's
 /// time parent, if it has one, in milliseconds on the time parent's clock; None exactly where it is
 /// no begin or repeat of the time parent. It takes no memory.
-pub fn started(
+pub fn start_time(
     clocks: &Clocks,
     entry: Entry,
     parent: Option<u32>,
@@ -25,19 +25,19 @@ pub fn started(
 ) -> Option<InstanceTime>
     requires { IsMoment entry.moment }
     ensures { (h : History) (p : Option AnyNode) → AreClocksAt h clocks.now entry.moment
-        → serial_of p ≡ parent → result ≡ Contribution.started h entry offset p }
+        → serial_of p ≡ parent → result ≡ Contribution.start_time h entry offset p }
 {
     match parent {
-        Some(parent) => started_by(clocks, entry, parent, offset),
+        Some(parent) => start_time_under(clocks, entry, parent, offset),
         None => None,
     }
 }
 
 /// What an entry gives to such an item, whose time parent is `parent`.
-fn started_by(clocks: &Clocks, entry: Entry, parent: u32, offset: i64) -> Option<InstanceTime>
+fn start_time_under(clocks: &Clocks, entry: Entry, parent: u32, offset: i64) -> Option<InstanceTime>
     requires { IsMoment entry.moment }
     ensures { (h : History) (p : AnyNode) → AreClocksAt h clocks.now entry.moment
-        → p.serial ≡ parent → result ≡ Contribution.started h entry offset (Some p) }
+        → p.serial ≡ parent → result ≡ Contribution.start_time h entry offset (Some p) }
 {
     let time = match entry.step {
         Step::Began { who, begin } if who == parent => {

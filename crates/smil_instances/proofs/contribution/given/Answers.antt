@@ -26,7 +26,7 @@ returns-in-Start c = λ h y e is at.
     let own = serial_is h.nodes c.args.own.now.who e at in
     let same = c.last_entry-entry.ensures.value h.diary y is.same_diary in
     let fits : SFits w64 c.offset_of-offset.result = search rules in
-    c.started.ensures h (time_parent c.args.arrival.now.tree.now.nodes c.args.own.now.who) (clocks_read _ _ _ _ h y is c.last_entry-entry.result same) (sym c.time_parent-parent.ensures)
+    c.start_time.ensures h (time_parent c.args.arrival.now.tree.now.nodes c.args.own.now.who) (clocks_read _ _ _ _ h y is c.last_entry-entry.result same) (sym c.time_parent-parent.ensures)
     ∙ start_read h y e c.args.own.now.side c.args.own.now.who own c.last_entry-entry.result same c.args.arrival.now.tree.now.nodes _ _ is.same_nodes (to_z-of_z w64 c.offset_of-offset.result fits ∙ c.offset_of-offset.ensures)
     ∙ sym (start_given h y e c.args.own.now.side c.args.own.now.item.now (source_read h.nodes c.args.arrival.now.tree.now.nodes c.args.own.now.who e.serial c.args.own.now.item.now c.args.source _ is.same_nodes own c.requires.source c.in-Start.is))
 

@@ -5,7 +5,7 @@ use Rattle.smil_model.specs.diary.Clocks.{outer, run}
 use Rattle.smil_instance_rows.specs.Rows.{instance_at}
 use Rattle.smil_instances.proofs.Births.{began_starts, repeated_starts}
 use Rattle.smil_instances.proofs.Sums.{carried_is, moved_is, read_at}
-use Rattle.smil_instances.proofs.starts.started_by.Goals as goal
+use Rattle.smil_instances.proofs.starts.start_time_under.Goals as goal
 
 pub returns-in-Began : goal.returns-in-Began
 returns-in-Began c = λ h p are is.
