@@ -39,7 +39,7 @@ pub(crate) fn adds_of(
     Ok(adds)
 }
 
-/// What the last entry gives to a cell's item.
+// What the last entry gives to a cell's item.
 fn given_to(rows: &Rows, cell: Cell, arrival: &Arrival<'_>) -> Option<InstanceTime>
     requires hand { HasArrived arrival.now }
     requires dependents { AreDependentsOf arrival.now.tree.now.nodes arrival.now.dependents.now }
@@ -54,7 +54,7 @@ fn given_to(rows: &Rows, cell: Cell, arrival: &Arrival<'_>) -> Option<InstanceTi
     given_item(arrival, CellItem { cell, who, source })
 }
 
-/// What the last entry gives to the item of a cell.
+// What the last entry gives to the item of a cell.
 fn given_item(arrival: &Arrival<'_>, own: CellItem) -> Option<InstanceTime>
     requires hand { HasArrived arrival.now }
     requires cell { IsCellOf arrival.now.tree.now.nodes own.cell own.who own.source }
@@ -76,7 +76,7 @@ fn given_item(arrival: &Arrival<'_>, own: CellItem) -> Option<InstanceTime>
     }
 }
 
-/// What the last entry gives to the item of a cell, whose element has no `begin`.
+// What the last entry gives to the item of a cell, whose element has no `begin`.
 fn given_by_default(arrival: &Arrival<'_>, own: CellItem) -> Option<InstanceTime>
     requires hand { HasArrived arrival.now }
     requires cell { IsCellOf arrival.now.tree.now.nodes own.cell own.who own.source }
@@ -99,7 +99,7 @@ fn given_by_default(arrival: &Arrival<'_>, own: CellItem) -> Option<InstanceTime
     given(arrival, &listed, source)
 }
 
-/// The list of `begin` or `end`, where it is stated.
+// The list of `begin` or `end`, where it is stated.
 fn stated(attrs: &Attrs, side: Edge) -> Option<&Items>
     ensures { option_copied result ≡ stated_list attrs.now side }
 {
@@ -109,8 +109,8 @@ fn stated(attrs: &Attrs, side: Edge) -> Option<&Items>
     }
 }
 
-/// The item of an element without `begin`, by its source: `indefinite` in an excl, and else the
-/// offset 0.
+// The item of an element without `begin`, by its source: `indefinite` in an excl, and else the
+// offset 0.
 fn default_begin(source: Source) -> Item
     ensures { result ≡ default_of source }
 {

@@ -62,8 +62,8 @@ pub fn given(arrival: &Arrival<'_>, own: &ListItem<'_>, source: Source) -> Optio
     }
 }
 
-/// What the last entry of the book gives to an event, repeat or accesskey item, which means the
-/// element `of`.
+// What the last entry of the book gives to an event, repeat or accesskey item, which means the
+// element `of`.
 fn heard(arrival: &Arrival<'_>, own: &ListItem<'_>, of: Option<u32>) -> Option<InstanceTime>
     requires hand { HasArrived arrival.now }
     requires element { has_element arrival.now.tree.now.nodes own.now.who ≡ true }
@@ -82,8 +82,8 @@ fn heard(arrival: &Arrival<'_>, own: &ListItem<'_>, of: Option<u32>) -> Option<I
     Some(InstanceTime { place, time })
 }
 
-/// Whether the last entry of the book is what an event, repeat or accesskey item, which means the
-/// element `of`, waits for, and the item's element hears it.
+// Whether the last entry of the book is what an event, repeat or accesskey item, which means the
+// element `of`, waits for, and the item's element hears it.
 fn is_heard(arrival: &Arrival<'_>, own: &ListItem<'_>, of: Option<u32>) -> bool
     requires hand { HasArrived arrival.now }
     requires element { has_element arrival.now.tree.now.nodes own.now.who ≡ true }
@@ -96,14 +96,14 @@ fn is_heard(arrival: &Arrival<'_>, own: &ListItem<'_>, of: Option<u32>) -> bool
     occurs(arrival, of, own.item) && hears(arrival, own, of)
 }
 
-/// A time, if there is one, with the place of the entry that gives it.
+// A time, if there is one, with the place of the entry that gives it.
 fn at_place(place: usize, time: Option<Time>) -> Option<InstanceTime>
     ensures { result ≡ placed place time }
 {
     Some(InstanceTime { place, time: time? })
 }
 
-/// The milliseconds by which an item is moved; 0 for `indefinite`.
+// The milliseconds by which an item is moved; 0 for `indefinite`.
 fn offset_of(item: &Item) -> i64
     ensures { result ≡ Contribution.offset_of item.now }
 {

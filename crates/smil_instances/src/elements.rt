@@ -67,8 +67,8 @@ pub fn children_before(
     Ok(befores)
 }
 
-/// Puts a time child in the place of the last one of its parent, if it has one; the answer is the
-/// one that was there.
+// Puts a time child in the place of the last one of its parent, if it has one; the answer is the
+// one that was there.
 fn put_last(
     last: &mut HashMap<u32, u32>,
     parent: Option<u32>,

@@ -39,7 +39,7 @@ pub fn fill(
     Ok(())
 }
 
-/// A document with the places of its elements by their serials.
+// A document with the places of its elements by their serials.
 #[derive(Clone, Copy)]
 struct Index<'a> {
     tree: &'a Tree,
@@ -47,7 +47,7 @@ struct Index<'a> {
 }
 
 impl Index<'_> {
-    /// Notes each cell of one side of an element in the rows.
+    // Notes each cell of one side of an element in the rows.
     fn fill_side(
         &self,
         rows: &mut [DependentsRow],
@@ -69,7 +69,7 @@ impl Index<'_> {
         Ok(())
     }
 
-    /// Notes a cell of an element in the rows of the elements whose entries can concern it.
+    // Notes a cell of an element in the rows of the elements whose entries can concern it.
     fn fill_cell(&self, rows: &mut [DependentsRow], who: u32, cell: Cell) -> Result<(), AllocError>
         requires who { has_serial who (slice_get (elements self.now.tree.now.nodes) cell.row)
             ≡ true }
@@ -89,7 +89,7 @@ impl Index<'_> {
         self.note(rows, other_than(beside, base, above), true, cell)
     }
 
-    /// Notes a cell in the row of an element, if there is one.
+    // Notes a cell in the row of an element, if there is one.
     fn note(
         &self,
         rows: &mut [DependentsRow],
@@ -111,7 +111,7 @@ impl Index<'_> {
     }
 }
 
-/// The element whose begins and ends, or whose events, a source names.
+// The element whose begins and ends, or whose events, a source names.
 fn base_of(source: Source) -> Option<u32>
     ensures { result ≡ base_of source }
 {
@@ -121,8 +121,8 @@ fn base_of(source: Source) -> Option<u32>
     }
 }
 
-/// The elements of whose children a birth can change what is kept for an item of an element with
-/// this source.
+// The elements of whose children a birth can change what is kept for an item of an element with
+// this source.
 fn resets_of(tree: &Tree, who: u32, source: Source) -> (Option<u32>, Option<u32>)
     ensures { (x : ℕ) → (is_option x result.0 || is_option x result.1)
         ≡ is_reset_with tree.now.nodes x who source }
@@ -135,7 +135,7 @@ fn resets_of(tree: &Tree, who: u32, source: Source) -> (Option<u32>, Option<u32>
     }
 }
 
-/// The serial, unless it is one of two others.
+// The serial, unless it is one of two others.
 fn other_than(who: Option<u32>, first: Option<u32>, second: Option<u32>) -> Option<u32>
     ensures { (x : ℕ) → is_option x result
         ≡ (is_option x who && not (is_option x first || is_option x second)) }

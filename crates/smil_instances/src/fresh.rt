@@ -38,7 +38,7 @@ pub fn fresh_rows(
     Ok(rows)
 }
 
-/// The row of an element, by its serial and the time child before it.
+// The row of an element, by its serial and the time child before it.
 fn fresh_row(
     alloc: Global,
     tree: &Tree,
@@ -62,8 +62,8 @@ fn fresh_row(
     Ok(DependentsRow::new(alloc, begins, ends))
 }
 
-/// The source of an offset alone: the end of the child before in a seq, and else the start of the
-/// time parent's iteration.
+// The source of an offset alone: the end of the child before in a seq, and else the start of the
+// time parent's iteration.
 fn source_by_offset(tree: &Tree, who: u32, before: Option<u32>) -> Source
     requires known { IsSome (node_at tree.now.nodes who) }
     requires before { before ≡ serial_of
@@ -79,7 +79,7 @@ fn source_by_offset(tree: &Tree, who: u32, before: Option<u32>) -> Source
     }
 }
 
-/// The sources of the items of an element's begin list.
+// The sources of the items of an element's begin list.
 fn begin_sources(alloc: Global, element: &Element<'_>) -> Result<Vec<Source>, AllocError>
     requires known { IsSome (node_at element.now.tree.now.nodes element.now.who) }
     requires by_offset { element.now.by_offset ≡ syncbase_or source.Start End
@@ -98,8 +98,8 @@ fn begin_sources(alloc: Global, element: &Element<'_>) -> Result<Vec<Source>, Al
     Ok(sources)
 }
 
-/// The source of the one item of an element without a begin list: nothing in an excl, and else that
-/// of an offset.
+// The source of the one item of an element without a begin list: nothing in an excl, and else that
+// of an offset.
 fn begin_by_default(element: &Element<'_>) -> Source
     requires { IsSome (node_at element.now.tree.now.nodes element.now.who) }
     ensures { result ≡ (if is_in_excl element.now.tree.now.nodes element.now.who
@@ -111,7 +111,7 @@ fn begin_by_default(element: &Element<'_>) -> Source
     }
 }
 
-/// The sources of the items of an element's end list.
+// The sources of the items of an element's end list.
 fn end_sources(alloc: Global, element: &Element<'_>) -> Result<Vec<Source>, AllocError>
     requires known { IsSome (node_at element.now.tree.now.nodes element.now.who) }
     requires by_offset { element.now.by_offset ≡ syncbase_or source.Start End

@@ -48,7 +48,7 @@ pub(crate) fn idle_rows(
     Ok(rows)
 }
 
-/// Whether a node is an element.
+// Whether a node is an element.
 fn is_element(tree: &Tree, serial: u32) -> bool
     requires { IsSome (node_at tree.now.nodes serial) }
     ensures { (n : AnyNode) → node_at tree.now.nodes serial ≡ Some n → result ≡ is_element n }
@@ -56,14 +56,14 @@ fn is_element(tree: &Tree, serial: u32) -> bool
     !matches!(tree.kind(serial), Kind::PriorityClass)
 }
 
-/// What the items of the element at a place among the elements follow from.
+// What the items of the element at a place among the elements follow from.
 #[derive(Clone, Copy)]
 struct ElementSources<'a> {
     dependents: &'a Dependents,
     place: usize,
 }
 
-/// The row of the element that has these sources.
+// The row of the element that has these sources.
 fn idle_row(
     alloc: Global,
     tree: &Tree,
@@ -83,7 +83,7 @@ fn idle_row(
     Ok(row)
 }
 
-/// Appends the items of the begin list of an element, with this `begin`, to a row without begins.
+// Appends the items of the begin list of an element, with this `begin`, to a row without begins.
 fn push_begins(
     row: &mut InstanceRow,
     sources: &ElementSources<'_>,
@@ -104,7 +104,7 @@ fn push_begins(
     }
 }
 
-/// Appends the items of the end list of an element, with this `end`, to a row without ends.
+// Appends the items of the end list of an element, with this `end`, to a row without ends.
 fn push_ends(
     row: &mut InstanceRow,
     sources: &ElementSources<'_>,
@@ -124,7 +124,7 @@ fn push_ends(
     }
 }
 
-/// Appends the items of a begin or end list to a row that has none on that side.
+// Appends the items of a begin or end list to a row that has none on that side.
 fn push_list(
     row: &mut InstanceRow,
     sources: &ElementSources<'_>,
@@ -150,8 +150,8 @@ fn push_list(
     Ok(())
 }
 
-/// Appends the item that stands for a begin list where there is none to a row without begins: an
-/// offset of 0, or `indefinite` in a child of an excl, whose source is nothing.
+// Appends the item that stands for a begin list where there is none to a row without begins: an
+// offset of 0, or `indefinite` in a child of an excl, whose source is nothing.
 fn push_default(row: &mut InstanceRow, sources: &ElementSources<'_>) -> Result<(), AllocError>
     requires { row.old.begins ≡ [] }
     ensures { (document : Document) (log : List AnyLogEntry) (e : AnyNode)
@@ -169,8 +169,8 @@ fn push_default(row: &mut InstanceRow, sources: &ElementSources<'_>) -> Result<(
     push_item(row, Edge::Begin, 0, time_from_start(source, 0))
 }
 
-/// Appends an item to a side that has so many, with the time that is known for it before the first
-/// entry, if any.
+// Appends an item to a side that has so many, with the time that is known for it before the first
+// entry, if any.
 fn push_item(
     row: &mut InstanceRow,
     side: Edge,
@@ -187,8 +187,8 @@ fn push_item(
     }
 }
 
-/// The time that is known for an item with this source before the first entry: an offset's from the
-/// start of the time parent, and an `indefinite` end.
+// The time that is known for an item with this source before the first entry: an offset's from the
+// start of the time parent, and an `indefinite` end.
 fn idle_time(item: &Item, side: Edge, source: Source) -> Option<Time>
     ensures { (document : Document) (log : List AnyLogEntry) (e : AnyNode)
         → source ≡ source_of document.nodes e.serial item.now
@@ -201,7 +201,7 @@ fn idle_time(item: &Item, side: Edge, source: Source) -> Option<Time>
     }
 }
 
-/// The time that is known for an offset with this source before the first entry.
+// The time that is known for an offset with this source before the first entry.
 fn time_from_start(source: Source, offset: i64) -> Option<Time>
     ensures kept { (document : Document) (log : List AnyLogEntry) (e : AnyNode) (side : AnyEdge)
         → source ≡ source_of document.nodes e.serial (item.Offset offset)

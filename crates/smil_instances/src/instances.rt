@@ -124,8 +124,8 @@ impl Instances {
         Ok(())
     }
 
-    /// The rows of the document after the entries of its book, each taken in by the clocks before
-    /// it.
+    // The rows of the document after the entries of its book, each taken in by the clocks before
+    // it.
     fn rows_of(&self, tree: &Tree, log: &Log, book: &Book) -> Result<Rows, AllocError>
         requires lawful { IsLawfulFor tree.now book.now }
         requires document { AreDependentsOf tree.now.nodes self.now.dependents }
@@ -220,7 +220,7 @@ impl Instances {
     }
 }
 
-/// Appends an entry of a book to the front of that book, which therefore is not full.
+// Appends an entry of a book to the front of that book, which therefore is not full.
 fn push(front: &mut Book, entry: Entry) -> Result<(), AllocError>
     ensures { OnOk result (front.new ≡ front.old ++ entry ∷ []) }
 {

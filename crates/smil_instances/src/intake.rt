@@ -46,7 +46,7 @@ pub(crate) fn take_in(
     Ok(())
 }
 
-/// The items that an entry with this step concerns.
+// The items that an entry with this step concerns.
 fn concerned<'a>(rows: &Rows, arrival: &Arrival<'a>, step: Step) -> &'a [Cell]
     requires rows { AreRowsOf arrival.now.tree.now.nodes rows.now }
     requires dependents { AreDependentsOf arrival.now.tree.now.nodes arrival.now.dependents.now }
@@ -64,7 +64,7 @@ fn concerned<'a>(rows: &Rows, arrival: &Arrival<'a>, step: Step) -> &'a [Cell]
     }
 }
 
-/// The items that wait for a key, if there is one.
+// The items that wait for a key, if there is one.
 fn keyed(dependents: &Dependents, key: Option<u8>) -> &[Cell]
     ensures { result.now ≡ keyed_by dependents.now key }
 {
@@ -74,8 +74,8 @@ fn keyed(dependents: &Dependents, key: Option<u8>) -> &[Cell]
     }
 }
 
-/// The element that a step is on; None where it hears a press of a key, or a log entry that there
-/// is not.
+// The element that a step is on; None where it hears a press of a key, or a log entry that there
+// is not.
 fn subject(step: Step, log: &Log) -> Option<u32>
     ensures { result ≡ subject_of log.now step }
 {
@@ -92,7 +92,7 @@ fn subject(step: Step, log: &Log) -> Option<u32>
     }
 }
 
-/// Whom a logged event or length is on; a press of a key is on none.
+// Whom a logged event or length is on; a press of a key is on none.
 fn happened_to(what: &Happening) -> Option<u32>
     ensures { result ≡ subject_in what.now }
 {
@@ -102,7 +102,7 @@ fn happened_to(what: &Happening) -> Option<u32>
     }
 }
 
-/// The key whose press a step hears, if it hears one.
+// The key whose press a step hears, if it hears one.
 fn key(step: Step, log: &Log) -> Option<u8>
     ensures { result ≡ key_of log.now step }
 {
@@ -112,7 +112,7 @@ fn key(step: Step, log: &Log) -> Option<u8>
     }
 }
 
-/// The key of a logged press.
+// The key of a logged press.
 fn pressed(what: &Happening) -> Option<u8>
     ensures { result ≡ pressed_in what.now }
 {
@@ -122,7 +122,7 @@ fn pressed(what: &Happening) -> Option<u8>
     }
 }
 
-/// Whether a step is a begin or a repeat, and so a birth of its element's time children.
+// Whether a step is a begin or a repeat, and so a birth of its element's time children.
 fn is_birth(step: Step) -> bool
     ensures { result ≡ is_opening step }
 {

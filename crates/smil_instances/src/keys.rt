@@ -25,7 +25,7 @@ pub fn cells_by_key(alloc: Global, rows: &[DependentsRow]) -> Result<Vec<Listed<
     Ok(keys)
 }
 
-/// Notes each cell of one side of an element with its key.
+// Notes each cell of one side of an element with its key.
 fn note_side(
     keys: &mut Vec<Listed<Cell>>,
     rows: &[DependentsRow],
@@ -42,7 +42,7 @@ fn note_side(
     Ok(())
 }
 
-/// Notes a cell whose item has this source with its key, if it waits for one.
+// Notes a cell whose item has this source with its key, if it waits for one.
 fn note_key(keys: &mut Vec<Listed<Cell>>, source: Source, cell: Cell) -> Result<(), AllocError>
     ensures { OnOk result (TakesKeys (goes_to_key source cell) keys.old.items keys.new.items) }
 {
@@ -56,7 +56,7 @@ fn note_key(keys: &mut Vec<Listed<Cell>>, source: Source, cell: Cell) -> Result<
     }
 }
 
-/// Makes an empty list for each key up to this one that has none.
+// Makes an empty list for each key up to this one that has none.
 fn make_room(keys: &mut Vec<Listed<Cell>>, key: usize) -> Result<(), AllocError>
     requires { key < 256 }
     ensures room { OnOk result (key < length keys.new.items) }

@@ -33,7 +33,7 @@ pub(crate) fn trim_each(rows: &mut Rows, cells: &[Cell], arrival: &Arrival<'_>)
     }
 }
 
-/// Takes out of an item what is no longer kept.
+// Takes out of an item what is no longer kept.
 fn trim_at(rows: &mut Rows, cell: Cell, arrival: &Arrival<'_>)
     requires cell { HasItem arrival.now.tree.now.nodes cell }
     requires dependents { AreDependentsOf arrival.now.tree.now.nodes arrival.now.dependents.now }
@@ -50,7 +50,7 @@ fn trim_at(rows: &mut Rows, cell: Cell, arrival: &Arrival<'_>)
     trim(rows, own, arrival.tree, arrival.book);
 }
 
-/// Takes out of the item of a cell what is no longer kept.
+// Takes out of the item of a cell what is no longer kept.
 fn trim(rows: &mut Rows, own: CellItem, tree: &Tree, book: &Book)
     requires has { HasCell rows.old own.cell }
     requires cell { IsCellOf tree.now.nodes own.cell own.who own.source }
@@ -73,7 +73,7 @@ fn trim(rows: &mut Rows, own: CellItem, tree: &Tree, book: &Book)
     }
 }
 
-/// The birth of an element.
+// The birth of an element.
 fn birth(tree: &Tree, book: &Book, who: u32) -> usize
     requires { IsSome (node_at tree.now.nodes who) }
     ensures { result ≡ birth_under (time_parent tree.now.nodes who) book.now }

@@ -63,8 +63,8 @@ pub fn element_of(tree: &Tree, who: &Who) -> Option<u32>
     }
 }
 
-/// The source of an item whose events or repeats are those of the element with the id, or of the
-/// element itself.
+// The source of an item whose events or repeats are those of the element with the id, or of the
+// element itself.
 fn source_by(tree: &Tree, who: u32, id: &Option<Bytes>) -> Result<Source, AllocError>
     ensures { IfOk result (λ s. s ≡ eventbase (target tree.now.nodes who id.now)) }
 {
@@ -77,7 +77,7 @@ fn source_by(tree: &Tree, who: u32, id: &Option<Bytes>) -> Result<Source, AllocE
     }
 }
 
-/// The source of an item of an element.
+// The source of an item of an element.
 fn source_of(element: &Element<'_>, item: &Item) -> Result<Source, AllocError>
     requires { element.now.by_offset ≡ syncbase_or source.Start End
         (previous_in_seq element.now.tree.now.nodes element.now.who) }

@@ -33,7 +33,7 @@ pub fn start_time(
     }
 }
 
-/// What an entry gives to such an item, whose time parent is `parent`.
+// What an entry gives to such an item, whose time parent is `parent`.
 fn start_time_under(clocks: &Clocks, entry: Entry, parent: u32, offset: i64) -> Option<InstanceTime>
     requires { IsMoment entry.moment }
     ensures { (h : History) (p : AnyNode) → AreClocksAt h clocks.now entry.moment

@@ -27,7 +27,7 @@ use std::alloc::{AllocError, Global};
 use std::collections::HashMap;
 use std::marker::Model;
 
-/// What is kept of an element to which nothing has happened yet.
+// What is kept of an element to which nothing has happened yet.
 const IDLE: Played = Played {
     begun: None,
     shown_begun: None,
@@ -108,7 +108,7 @@ impl Plays {
         self.row(who)
     }
 
-    /// The rows, with the table of their places.
+    // The rows, with the table of their places.
     fn indexed(alloc: Global, rows: Vec<(u32, Played)>) -> Result<Plays, AllocError>
         ensures { IfOk result (λ plays. plays ≡ rows.items) }
     {
@@ -118,7 +118,7 @@ impl Plays {
         })
     }
 
-    /// The row of an element.
+    // The row of an element.
     fn row(&self, who: u32) -> Option<Played>
         ensures { result ≡ row_of self.now who }
     {
@@ -126,7 +126,7 @@ impl Plays {
         Some(self.rows.get(*place)?.1)
     }
 
-    /// Puts a row in the place of the one that an element has; nothing where it has none.
+    // Puts a row in the place of the one that an element has; nothing where it has none.
     fn put(&mut self, who: u32, played: Played)
         ensures { IsPut who played self.old self.new }
     {
@@ -136,7 +136,7 @@ impl Plays {
         self.rows[*place] = (who, played);
     }
 
-    /// Takes in what an entry makes of its own element.
+    // Takes in what an entry makes of its own element.
     fn take_own(&mut self, clocks: &Clocks, log: &Log, entry: Entry)
         requires moment { IsMoment entry.moment }
         requires near { HasNear entry.step }
@@ -158,7 +158,7 @@ impl Plays {
         self.put(who, own_row(&own, row));
     }
 
-    /// Takes in what a step makes of the time children of its element.
+    // Takes in what a step makes of the time children of its element.
     fn take_children(&mut self, tree: &Tree, step: Step)
         requires { (past : History) × (past.nodes ≡ tree.now.nodes)
             × (is_lawful_step past step ≡ true) }
@@ -177,7 +177,7 @@ impl Plays {
         }
     }
 
-    /// Takes in a birth, or else an end, of the time children of an element.
+    // Takes in a birth, or else an end, of the time children of an element.
     fn turn_children(&mut self, tree: &Tree, who: u32, birth: bool)
         requires { has_element tree.now.nodes who ≡ true }
         ensures { AreTurned (time_children tree.now.nodes who) birth self.old self.new }
@@ -190,7 +190,7 @@ impl Plays {
         }
     }
 
-    /// Takes in a birth, or else an end, of the time parent of an element.
+    // Takes in a birth, or else an end, of the time parent of an element.
     fn turn(&mut self, who: u32, birth: bool)
         ensures { IsTurned who birth self.old self.new }
     {
@@ -201,7 +201,7 @@ impl Plays {
     }
 }
 
-/// The rows of the elements of a document to which nothing has happened yet.
+// The rows of the elements of a document to which nothing has happened yet.
 fn idle_rows(alloc: Global, tree: &Tree) -> Result<Vec<(u32, Played)>, AllocError>
     ensures { IfOk result (λ rows. rows.items ≡ map idle_row (elements tree.now.nodes)) }
 {
@@ -215,7 +215,7 @@ fn idle_rows(alloc: Global, tree: &Tree) -> Result<Vec<(u32, Played)>, AllocErro
     Ok(rows)
 }
 
-/// Puts the row of a node at the end, where it is an element.
+// Puts the row of a node at the end, where it is an element.
 fn push_idle(rows: &mut Vec<(u32, Played)>, serial: u32, kind: Kind) -> Result<(), AllocError>
     ensures { OnOk result (rows.new.items ≡ rows.old.items
         ++ (if is_class_kind kind then [] else (serial, IDLE) ∷ [])) }
@@ -226,7 +226,7 @@ fn push_idle(rows: &mut Vec<(u32, Played)>, serial: u32, kind: Kind) -> Result<(
     Ok(())
 }
 
-/// A table from serials to places, in which the first place of a serial counts.
+// A table from serials to places, in which the first place of a serial counts.
 fn places_of(alloc: Global, rows: &[(u32, Played)]) -> Result<HashMap<u32, usize>, AllocError>
     ensures { IfOk result (λ places. ArePlaces (get nat_eq places) rows.now) }
 {
@@ -237,7 +237,7 @@ fn places_of(alloc: Global, rows: &[(u32, Played)]) -> Result<HashMap<u32, usize
     Ok(places)
 }
 
-/// Notes the place of a serial, where it has none yet.
+// Notes the place of a serial, where it has none yet.
 fn note_place(places: &mut HashMap<u32, usize>, serial: u32, place: usize) -> Result<(), AllocError>
     ensures { OnOk result ((s : ℕ) → get nat_eq places.new s
         ≡ option_or (get nat_eq places.old s) (if serial == s then Some place else None)) }
