@@ -15,6 +15,7 @@ pub mod Foreign
 pub mod Kept
 pub mod Law
 pub mod Lineages
+pub mod Lists
 pub mod Locality
 pub mod Numbered
 pub mod Passing
