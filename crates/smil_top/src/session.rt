@@ -239,11 +239,7 @@ fn check(number: u32, given: &Given, answer: &mut Answer) -> Result<(), Refusal>
     } else {
         write_doc(&given.doc, &mut answer.told)
     };
-    match written {
-        Ok(()) => {
-            answer.last = LastLine::checked(number, given.name.slice());
-            Ok(())
-        }
-        Err(_) => Err(Refusal::Memory),
-    }
+    written?;
+    answer.last = LastLine::checked(number, given.name.slice());
+    Ok(())
 }
