@@ -78,10 +78,10 @@ fn read_title(alloc: Global, head: &[u8]) -> Result<Titled, Refusal>
     ensures { ReadsTitle result head.now }
 {
     match read_line(alloc, head) {
-        Ok(Read::Load { name }) => match Builder::new(alloc) {
-            Ok(outline) => Ok(Titled { name, outline }),
-            Err(_) => Err(Refusal::Memory),
-        },
+        Ok(Read::Load { name }) => {
+            let outline = Builder::new(alloc)?;
+            Ok(Titled { name, outline })
+        }
         Ok(_) => Err(Refusal::NotACommand),
         Err(refusal) => Err(refusal),
     }
