@@ -9,7 +9,7 @@ ghost use Rattle.smil_top.specs.Running.{IsSummary, Tells};
 
 use super::counts::Counts;
 use super::nowhere::Nowhere;
-use super::reading::begin;
+use super::reading::Opening;
 use super::run::Run;
 use super::status::Status;
 use itoa::Buffer;
@@ -43,16 +43,16 @@ pub(crate) fn summary_of<L: Ledger>(
 {
     let bytes = session_bytes(alloc, number)?;
     let mut source = MemSource::new(alloc, bytes.slice(), CHUNK, &[])?;
-    let mut begun = begin(alloc, false)?;
-    let reader = begun.reader;
-    let status = begun
+    let mut opening = Opening::new(alloc, false)?;
+    let reader = opening.reader;
+    let status = opening
         .run
         .answer_all(reader, &mut source, &mut Nowhere, steps);
     if !status.is_told() {
         return Err(AllocError);
     }
     Ok(Summary {
-        text: summary_text(alloc, number, &begun.run)?,
+        text: summary_text(alloc, number, &opening.run)?,
         status,
     })
 }

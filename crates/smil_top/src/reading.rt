@@ -17,21 +17,23 @@ use std::sync::ledger::Ledger;
 
 /// A reader of lines, and a session before its first one.
 #[derive(Drop)]
-pub(crate) struct Begun {
+pub(crate) struct Opening {
     pub reader: LineReader,
     pub run: Run,
 }
 
-/// A session before its first line, whose loads are only read or are opened too; unless memory runs
-/// out.
-pub(crate) fn begin(alloc: Global, checks: bool) -> Result<Begun, AllocError>
-    ensures reader { IfOk result (λ begun. begun.reader ≡ fresh_reading) }
-    ensures run { IfOk result (λ begun. IsRunning checks begun.run (cut_of []) untold) }
-{
-    Ok(Begun {
-        reader: LineReader::new(alloc)?,
-        run: Run::new(alloc, checks)?,
-    })
+impl Opening {
+    /// A session before its first line, whose loads are only read or are opened too; unless memory
+    /// runs out.
+    pub fn new(alloc: Global, checks: bool) -> Result<Opening, AllocError>
+        ensures reader { IfOk result (λ opening. opening.reader ≡ fresh_reading) }
+        ensures run { IfOk result (λ opening. IsRunning checks opening.run (cut_of []) untold) }
+    {
+        Ok(Opening {
+            reader: LineReader::new(alloc)?,
+            run: Run::new(alloc, checks)?,
+        })
+    }
 }
 
 impl Run {

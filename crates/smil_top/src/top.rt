@@ -10,7 +10,7 @@ ghost use Rattle.smil_top.specs.Running.{asked_by};
 ghost use Rattle.smil_top.specs.Serving.{Explains, Generates, Serves, reads};
 
 use super::generated::summary_of;
-use super::reading::begin;
+use super::reading::Opening;
 use super::status::Status;
 use smil_model::{Steps, WordList};
 use smil_outside::{Sink, Source, write_all};
@@ -126,10 +126,10 @@ fn session<S: Source, K: Sink, L: Ledger>(
         (S.rest source.new)
         (K.taken sink.old) (K.taken sink.new) (K.sure_room sink.old) (steps.new - steps.old) }
 {
-    match begin(setup.alloc, setup.checks) {
-        Ok(mut begun) => {
-            let reader = begun.reader;
-            begun.run.answer_all(reader, source, sink, steps)
+    match Opening::new(setup.alloc, setup.checks) {
+        Ok(mut opening) => {
+            let reader = opening.reader;
+            opening.run.answer_all(reader, source, sink, steps)
         }
         Err(_) => Status::Memory,
     }

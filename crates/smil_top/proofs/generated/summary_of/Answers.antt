@@ -7,7 +7,7 @@ pub returns-clause-summary : goal.returns-clause-summary
 returns-clause-summary g c =
     let bytes : List ℕ = c.in_ok-source.source.rest in
     let made : bytes ≡ session_text c.args.number = ap (λ s. s.rest) c.in_ok-source.ensures ∙ c.slice.ensures ∙ c.in_ok-bytes.ensures in
-    let ran = c.answer_all-status.ensures.ran false c.in_ok-begun.ensures.run in
+    let ran = c.answer_all-status.ensures.ran false c.in_ok-opening.ensures.run in
     summed
     c.args.number
     bytes
