@@ -50,7 +50,7 @@ starts_with_line old bytes before taken scan rest after at s stops = record {
   stripped = refl;
 }
 
--- a line whose front was let go is too long
+-- a line whose front was dropped is too long
 long_line : (dropped bytes : List ℕ) (at : ℕ) → IsCutFront dropped bytes → at < length bytes → slice_index bytes at ≡ line_feed → LINE_BYTES < length (strip_carriage_return (dropped ++ take at bytes))
 long_line dropped bytes at long inside here =
     let some : at ≢ 0 = λ zero. long.goes_on (ap (λ k. slice_index bytes k) (sym zero) ∙ here) in

@@ -110,7 +110,7 @@ Scanning-keeps old bytes before taken is_long scanned rest now after s keeps = r
   searched = s.searched;
 }
 
--- the front of a line that is too long is let go
+-- the front of a line that is too long is dropped
 let_go_front : (old bytes new : List ℕ) (before taken : ℕ) (is_long : Bool) (scanned : ℕ) (rest now : Option (List ℕ)) →
     Scanning old bytes before taken is_long scanned rest now → HasNoLineFeed bytes →
     LINE_BYTES + 1 < length bytes → new ≡ drop (length bytes - 1) bytes → Scanning old new before taken true (length new) rest now
@@ -137,7 +137,7 @@ let_go_front old bytes new before taken is_long scanned rest now s none long is 
       searched = subst HasNoLineFeed (sym is) (HasNoLineFeed-drop n bytes none);
     }
 
--- nothing is let go
+-- nothing is dropped
 let_go_nothing : (old bytes new : List ℕ) (before taken : ℕ) (is_long : Bool) (scanned : ℕ) (rest now : Option (List ℕ)) →
     Scanning old bytes before taken is_long scanned rest now → HasNoLineFeed bytes → new ≡ bytes → Scanning old new before taken is_long (length new) rest now
 let_go_nothing old bytes new before taken is_long scanned rest now s none is = record {

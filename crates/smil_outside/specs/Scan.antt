@@ -17,7 +17,7 @@ Stops InputEnd bytes taken after = HasNoLineFeed bytes × IsAtEnd after × (take
 Stops InputTooLong bytes taken after = HasNoLineFeed bytes × (INPUT_BYTES < taken)
 Stops Fault bytes taken after = HasNoLineFeed bytes × (taken ≤ INPUT_BYTES)
 
--- too many bytes for a line were let go, and the byte behind them is no line feed
+-- too many bytes for a line were dropped, and the byte behind them is no line feed
 pub record IsCutFront (dropped bytes : List ℕ) : Type 0 where
   pub many : LINE_BYTES < length dropped
   pub some : 0 < length bytes

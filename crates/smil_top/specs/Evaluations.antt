@@ -104,7 +104,7 @@ pub record IsBounded (orders : List OrderLines) (rise : ℕ) : Type 0 where
   pub at_least : sum_of least_of orders ≤ rise
   pub at_most : rise ≤ sum_of most_of orders
 
--- the same where all were answered and none was refused for want of memory or a full diary
+-- the same where all were answered, and none was refused since memory ran out or a diary was full
 abbrev pub AreEvaluated : Status → List OrderLines → ℕ → Type 0
 AreEvaluated ended orders rise = is_told ended ≡ true → has_full_diary orders ≡ false → IsBounded orders rise
 

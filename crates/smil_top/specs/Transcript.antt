@@ -28,7 +28,7 @@ pub record Told : Type 0 where
 abbrev pub untold : Told
 untold = record { text = []; session = []; refused = 0; memory = false }
 
--- want of memory
+-- memory ran out
 abbrev pub is_memory : Refusal → Bool
 is_memory Memory = true
 is_memory _ = false

@@ -29,7 +29,7 @@ impl Answer {
         }
     }
 
-    /// Lets go of the text, and keeps its memory.
+    /// Drops the text, and keeps its memory.
     pub fn clear(&mut self)
         ensures { self.new ≡ no_text }
     {

@@ -87,7 +87,8 @@ fn read_title(alloc: Global, head: &[u8]) -> Result<Titled, Refusal>
     }
 }
 
-// One more node line. Its fault stands at its number, and want of memory at the load's first line.
+// One more node line. Its fault stands at its number, or at the load's first line where memory ran
+// out.
 fn push_node(
     mut so_far: Titled,
     first: u32,
