@@ -13,12 +13,12 @@ use Rattle.smil_model.specs.document.Defaults.{begin_list, end_list}
 use Rattle.smil_model.specs.diary.Diary.{History, is_active}
 use Rattle.smil_model.specs.diary.Clocks.{between, outer_stands}
 use Rattle.smil_model.specs.interval.Instances.{begin_times, end_times, interval_edge, item_times, no_interval, number_of, settled_begins, settled_ends}
+use Rattle.smil_laws.proofs.Lists.{take-more_at}
 use Rattle.smil_instance_rows.specs.Rising.{IsOrder, IsRising, poured}
 use Rattle.smil_instance_rows.specs.Values.{begins_of, ends_of}
 use Rattle.smil_instance_rows.proofs.Rising.{poured-append, poured-swap, rises_put}
 use Rattle.smil_instances.specs.SettledTimes.{row_of}
 use Rattle.smil_instances.proofs.Begins.{are_merged}
-use Rattle.smil_instances.proofs.Lists.{take_next}
 use Rattle.smil_interval.proofs.Sorting.{rising_rises, rising_times_rise}
 use Rattle.smil_instances.specs.declared.syncbase.Syncbase.{Syncbase}
 use Rattle.smil_past.specs.Syncs.{expected_by, is_empty, syncs_of}
@@ -134,7 +134,7 @@ module _ {A : Type 0} (le : A → A → Bool) (order : IsOrder le) (choose : Tim
       new_is
       ∙ (λ i. with_times le choose ((given_is ∙ sym (flat_one f s)) i) (old_is i))
       ∙ sym (with_more (flat_map f (take k syncs)) (flat_map f (s ∷ [])) into)
-      ∙ ap (λ ts. with_times le choose ts into) (sym (flat_map-append f (take k syncs) (s ∷ [])) ∙ ap (flat_map f) (sym (take_next syncs k s at)))
+      ∙ ap (λ ts. with_times le choose ts into) (sym (flat_map-append f (take k syncs) (s ∷ [])) ∙ ap (flat_map f) (sym (take-more_at syncs k s at)))
 
 pub none_there : (syncs : List Syncbase) → is_empty syncs ≡ true → syncs ≡ []
 none_there [] is = refl

@@ -1,7 +1,6 @@
 -- The rows of elements before any cell is noted.
 use Rattle.std.proofs.Common.{◌≡◌, refl, sym, ◌∙◌, ap, subst, ℕ, zero, suc, List, [], ◌∷◌, Option, Some, None, Bool, true, false, cond, map, length, get_or, take, ◌++◌, ◌+◌, ◌<◌, arith}
 use Rattle.std.specs.Prelude.{not, slice_get, option_map, pos}
-use Rattle.std.specs.List.{AllByRecursion}
 use Rattle.std.proofs.lemmas.List.{map-append}
 use Rattle.std.proofs.lemmas.List.Elements.{filter-append}
 use Rattle.std.proofs.lemmas.Option.{slice_get-map, get_or_from_slice_get}
@@ -14,19 +13,14 @@ use Rattle.smil_model.specs.document.Document.{Document, elements, is_class_kind
 use Rattle.smil_model.specs.document.Defaults.{begin_list, end_list, items_or}
 use Rattle.smil_model.specs.document.Valid.{IsDistinct, IsNumberedTree, kind_of}
 use Rattle.smil_laws.proofs.Members.{each_kept}
+use Rattle.smil_laws.proofs.Lists.{take-more_at, each_at}
 use Rattle.smil_tree.proofs.Families.{node_of_place}
 use Rattle.smil_tree.proofs.Spans.{all_known}
 use Rattle.smil_tree.proofs.Changed.{serial_of}
 use Rattle.smil_instances.specs.declared.source.Source.{Source}
 use Rattle.smil_instances.specs.declared.source.Source.TheVariants as source
 use Rattle.smil_instances.specs.Sources.{source_of, syncbase_or}
-use Rattle.smil_instances.proofs.Lists.{take_next}
 use Rattle.smil_instances.specs.Spread.{fresh_row, without_cells}
-
-pub each_at : {A : Type 0} (P : A → Type 0) (xs : List A) (i : ℕ) (x : A) → AllByRecursion P xs → slice_get xs i ≡ Some x → P x
-each_at P [] i x each at = cc
-each_at P (y ∷ ys) zero x each at = let one : y ≡ x = cc in subst P one each.0
-each_at P (y ∷ ys) (suc i) x each at = each_at P ys i x each.1 at
 
 -- an element at its place is the node with its serial
 pub element_known : (document : Document) → IsNumberedTree document → (i : ℕ) (n : Node) → slice_get (elements document.nodes) i ≡ Some n → node_at document.nodes n.serial ≡ Some n
@@ -100,7 +94,7 @@ found_known nodes i who d is = ap (node_at nodes) is.serial ∙ node_of_place no
 
 pub elements_next : (nodes : List Node) (i : ℕ) (n : Node) → slice_get nodes i ≡ Some n → serials (elements (take (i + 1) nodes)) ≡ serials (elements (take i nodes)) ++ cond (is_element n) (n.serial ∷ []) []
 elements_next nodes i n at =
-    ap (λ xs. serials (elements xs)) (take_next nodes i n at)
+    ap (λ xs. serials (elements xs)) (take-more_at nodes i n at)
     ∙ ap serials (filter-append is_element (take i nodes) (n ∷ []))
     ∙ map-append (λ (m : Node). m.serial) (elements (take i nodes)) (elements (n ∷ []))
     ∙ ap (λ xs. serials (elements (take i nodes)) ++ xs) (one (is_element n))

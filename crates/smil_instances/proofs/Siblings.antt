@@ -10,11 +10,10 @@ use Rattle.smil_model.specs.declared.document.Node.{Node}
 use Rattle.smil_model.specs.document.Document.{elements, is_element, is_time_child, just_before, has_serial, previous_child, time_children, time_parent, serials, serial_of}
 use Rattle.smil_model.specs.document.Valid.{IsDistinct}
 use Rattle.smil_model.specs.reach.Reach.{is_option}
+use Rattle.smil_laws.proofs.Lists.{take-more_at, each_at}
 use Rattle.smil_tree.proofs.Families.{drop_at}
 use Rattle.smil_tree.proofs.Holding.{same_test}
 use Rattle.smil_tree.proofs.Removed.{distinct_fewer}
-use Rattle.smil_instances.proofs.Begun.{each_at}
-use Rattle.smil_instances.proofs.Lists.{take_next}
 
 abbrev pub last_or : Option Node → List Node → Option Node
 last_or before [] = before
@@ -128,7 +127,7 @@ module _ (nodes : List Node) where
         step p ∙ by_test (has_serial p (time_parent nodes n.serial)) refl
         ∙ ap (λ t. serial_of (last_of (filter (is_time_child nodes p) (take i (elements nodes)) ++ cond t (n ∷ []) []))) (sym (child_is p))
         ∙ ap (λ xs. serial_of (last_of xs)) (sym (filter-append (is_time_child nodes p) (take i (elements nodes)) (n ∷ [])))
-        ∙ ap (λ xs. serial_of (last_of (filter (is_time_child nodes p) xs))) (sym (take_next (elements nodes) i n at))
+        ∙ ap (λ xs. serial_of (last_of (filter (is_time_child nodes p) xs))) (sym (take-more_at (elements nodes) i n at))
       where
         same_parent : (o : Option Node) → is_option p (serial_of o) ≡ has_serial p o
         same_parent None = refl

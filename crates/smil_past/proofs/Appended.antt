@@ -2,7 +2,6 @@
 use Rattle.std.proofs.Common.{◌≡◌, sym, ◌∙◌, ap, subst, ℕ, ◌+◌, ◌-◌, ◌≤◌, List, [], ◌∷◌, ◌++◌, take, length, Option, Some, Bool, true, arith}
 use Rattle.std.specs.Prelude.{is_some}
 use Rattle.std.proofs.Math.Seq.{take-length}
-use Rattle.std.specs.List.{AllByRecursion}
 use Rattle.std.proofs.lemmas.List.{take-append-le, length_push}
 use Rattle.smil_model.specs.declared.limits.TheConstants.{DIARY_ENTRIES}
 use Rattle.smil_model.specs.declared.diary.Entry.{Entry}
@@ -12,6 +11,7 @@ use Rattle.smil_model.specs.diary.Diary.{with_entry}
 use Rattle.smil_model.specs.diary.Lawful.{IsLawful}
 use Rattle.smil_laws.specs.Near.{AllNear, HasNear}
 use Rattle.smil_laws.specs.Cut.{IsNamedBelow, NamesBelow}
+use Rattle.smil_laws.proofs.Lists.{each_push}
 use Rattle.smil_stretch.specs.Clocks.{AreClocksOf}
 use Rattle.smil_past.specs.Played.{all_played}
 use Rattle.smil_past.specs.Queues.{kept_queues}
@@ -22,10 +22,6 @@ use Rattle.smil_past.specs.Past.{Happened, IsPossible, MayFollow}
 use Rattle.smil_past.specs.Kept.{Holds, IsKeptOf, IsLast}
 
 -- ---- lists
-
-pub each_push : {A : Type 0} (P : A → Type 0) (xs : List A) (y : A) → AllByRecursion P xs → P y → AllByRecursion P (xs ++ y ∷ [])
-each_push P [] y each last = (last, tt)
-each_push P (x ∷ xs) y each last = (each.0, each_push P xs y each.1 last)
 
 pub cut_last : {A : Type 0} (xs ys : List A) (y : A) (n : ℕ) → ys ≡ xs ++ y ∷ [] → n ≡ length ys → take (n - 1) ys ≡ xs
 cut_last xs ys y n is len =

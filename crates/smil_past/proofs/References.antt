@@ -14,6 +14,7 @@ use Rattle.smil_model.specs.document.Document.{elements, element_named, is_eleme
 use Rattle.smil_model.specs.document.Defaults.{begin_list, items_of, items_or}
 use Rattle.smil_model.specs.document.Dependencies.{is_looped, is_looped_to, leads_to}
 use Rattle.smil_model.specs.reach.Reach.{is_option}
+use Rattle.smil_laws.proofs.Lists.{take-more_at}
 use Rattle.smil_instances.specs.declared.source.Source.{Source}
 use Rattle.smil_instances.specs.declared.source.Source.TheVariants as source
 use Rattle.smil_instance_rows.specs.declared.cell.Cell.{Cell}
@@ -21,7 +22,6 @@ use Rattle.smil_instances.specs.Sources.{item_under, source_at, source_by, sourc
 use Rattle.smil_graph.specs.Graph.{is_looped_item, looped_at, looped_of}
 use Rattle.smil_instances.specs.Dependents.{DocumentDependents, AreDependentsOf, source_in}
 use Rattle.smil_instances.specs.Spread.{IsIndex}
-use Rattle.smil_instances.proofs.Lists.{take_next}
 use Rattle.smil_instances.specs.declared.syncbase.Syncbase.{Syncbase}
 use Rattle.smil_past.specs.Syncs.{IsListOf, SyncRow, all_syncs, from_end, from_named, listed, serials_in, sync_by, sync_from, sync_of, sync_row, syncs_of, syncs_on}
 
@@ -76,7 +76,7 @@ list_more nodes e items k item old new sync at old_is sync_is new_is =
     new_is
     ∙ (λ i. old_is i ++ listed (sync_is i))
     ∙ sym (filter_map-append (sync_of nodes e) (take k items) (item ∷ []))
-    ∙ ap (filter_map (sync_of nodes e)) (sym (take_next items k item at))
+    ∙ ap (filter_map (sync_of nodes e)) (sym (take-more_at items k item at))
 
 -- ---- the lists of an element
 

@@ -7,7 +7,7 @@ use Rattle.smil_instances.proofs.Targets.{known_node}
 use Rattle.smil_past.proofs.Turned.{turned_next}
 use Rattle.std.specs.Prelude.{slice_get}
 use Rattle.smil_model.specs.declared.limits.TheConstants.{NODES}
-use Rattle.smil_laws.proofs.Ranks.{nodes_le}
+use Rattle.smil_laws.proofs.Lists.{filter_shorter}
 use Rattle.smil_past.proofs.plays.Plays.turn_children.Goals as goal
 
 pub loop-serial-init : goal.loop-serial-init
@@ -19,7 +19,7 @@ time_child-requires c = known_node c.args.tree.now.nodes c.args.who c.requires
 pub overflow_add-place : goal.overflow_add-place
 overflow_add-place c =
     let inside = node_inside (time_children c.args.tree.now.nodes c.args.who) c.in-Some.serial c.loop-serial.place c.in-Some.ensures in
-    let most = nodes_le (is_time_child c.args.tree.now.nodes c.args.who) c.args.tree.now.nodes in
+    let most = filter_shorter (is_time_child c.args.tree.now.nodes c.args.who) c.args.tree.now.nodes in
     let few : length c.args.tree.now.nodes ≤ NODES = c.valid.ensures.nodes in
     omega (arith, inside, most, few)
 

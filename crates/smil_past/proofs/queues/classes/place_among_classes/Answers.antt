@@ -5,7 +5,7 @@ use Rattle.std.proofs.lemmas.List.{length-map}
 use Rattle.smil_model.specs.declared.document.Node.{Node}
 use Rattle.smil_model.specs.document.Document.{node_at}
 use Rattle.smil_model.specs.document.Edits.{children}
-use Rattle.smil_laws.proofs.Ranks.{nodes_le}
+use Rattle.smil_laws.proofs.Lists.{filter_shorter}
 use Rattle.smil_past.proofs.Classing.{class_parent, parent_is, place_is, place_of_serial}
 use Rattle.smil_past.proofs.queues.classes.place_among_classes.Goals as goal
 
@@ -21,7 +21,7 @@ overflow_cast-result c =
       c.place_in.ensures.bound,
       ap length c.children.ensures,
       length-map (children nodes excl) (λ (n : Node). n.serial),
-      nodes_le (λ (n : Node). n.parent == excl) nodes,
+      filter_shorter (λ (n : Node). n.parent == excl) nodes,
       c.valid.ensures.nodes,
     )
 
