@@ -12,7 +12,7 @@ use super::cells::Cells;
 use super::table::Table;
 use known::{Known, Row};
 use smil_due::DueQueue;
-use smil_element::{Coming, Intervals, Room, comings_of, evaluation_of};
+use smil_element::{Coming, Intervals, Present, Room, comings_of, evaluation_of};
 use smil_model::{Duplicate, Interval, Serials, Steps};
 use smil_past::Past;
 use std::alloc::{AllocError, Global};
@@ -169,7 +169,12 @@ impl PlainTable {
     {
         past.possible();
         for who in past.graph().order() {
-            self.take_one(past, *who, moment, changed, steps)?;
+            let present = Present {
+                past,
+                who: *who,
+                moment,
+            };
+            self.take_one(&present, changed, steps)?;
         }
         self.due = due_of(self.alloc, self.known.rows())?;
         Ok(())
@@ -178,30 +183,29 @@ impl PlainTable {
     // Evaluates an element, and appends it to `changed` where its interval changes.
     fn take_one<L: Ledger>(
         &mut self,
-        past: &Past,
-        who: u32,
-        moment: i64,
+        present: &Present<'_>,
         changed: &mut Serials,
         steps: &mut Steps<L>,
     ) -> Result<(), AllocError>
-        requires element { has_element past.now.document.nodes who ≡ true }
-        requires moment { IsPresent past.now moment }
-        requires of_elements { AreOfElements past.now.document.nodes self.old.known }
-        ensures taken { OnOk result (IsTaken (history_of past.now) moment who self.old.known
-            self.new.known) }
+        requires element { has_element present.now.past.now.document.nodes present.now.who ≡ true }
+        requires moment { IsPresent present.now.past.now present.now.moment }
+        requires of_elements { AreOfElements present.now.past.now.document.nodes self.old.known }
+        ensures taken { OnOk result (IsTaken (history_of present.now.past.now) present.now.moment
+            present.now.who self.old.known self.new.known) }
         ensures changed { OnOk result (StayUnchanged changed.old changed.new self.old.known
             self.new.known) }
         ensures noted { self.new.noted ≡ self.old.noted }
         ensures has_mark { self.new.has_mark ≡ self.old.has_mark }
         ensures counted { steps.old ≤ steps.new }
     {
-        past.possible();
+        let who = present.who;
+        present.past.possible();
         let place = self.known.place(who).unwrap();
-        let made = evaluation_of(past, &self.known, who, moment, &mut self.room, steps)?;
+        let made = evaluation_of(present, &self.known, &mut self.room, steps)?;
         if !is_same(self.known.interval(who), made.interval) {
             changed.push(who)?;
         }
-        let comings = comings_of(past, who, place as u32, moment, &made);
+        let comings = comings_of(present, place as u32, &made);
         self.known.put(
             place,
             Row {

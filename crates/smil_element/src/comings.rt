@@ -18,6 +18,7 @@ ghost use Rattle.smil_element.specs.Parts.{coming_meant};
 use super::evaluation::Evaluated;
 use super::facts::{attrs_of, parent_of, played_of};
 use super::happening::{Change, Coming};
+use super::present::Present;
 use smil_duration::Bounds;
 use smil_model::{Attrs, Interval, Key, Play, Time, later};
 use smil_past::Past;
@@ -32,62 +33,64 @@ pub struct Comings {
 /// What comes of an element by its interval and its simple duration, at a moment: its begin, or its
 /// end and its repeat. `place` is its place among the elements. The numbers of the interval are
 /// from -10^12 to 10^12. It takes no memory.
-pub fn comings_of(past: &Past, who: u32, place: u32, now: i64, made: &Evaluated) -> Comings
-    requires element { has_element past.now.document.nodes who ≡ true }
-    requires moment { IsPresent past.now now }
+pub fn comings_of(present: &Present<'_>, place: u32, made: &Evaluated) -> Comings
+    requires element { has_element present.now.past.now.document.nodes present.now.who ≡ true }
+    requires moment { IsPresent present.now.past.now present.now.moment }
     requires near { IfSome made.now.interval IsIntervalNear }
-    ensures { (e : AnyNode) → node_at (elements past.now.document.nodes) who ≡ Some e
+    ensures { (e : AnyNode)
+        → node_at (elements present.now.past.now.document.nodes) present.now.who ≡ Some e
         → both result.moved result.repeat
-        ≡ coming_by (history_of past.now) made.now.interval made.now.simple now place e }
+        ≡ coming_by (history_of present.now.past.now) made.now.interval made.now.simple
+        present.now.moment place e }
 {
-    let repeat = if past.book().active(who) {
-        repeat_of(past, who, place, now, made.simple)
+    let repeat = if present.past.book().active(present.who) {
+        repeat_of(present, place, made.simple)
     } else {
         None
     };
     Comings {
-        moved: moved_of(past, who, place, now, made.interval),
+        moved: moved_of(present, place, made.interval),
         repeat,
     }
 }
 
 // The end of an active element, and the begin of another, while the time parent's clock runs.
-fn moved_of(
-    past: &Past,
-    who: u32,
-    place: u32,
-    now: i64,
-    interval: Option<Interval>,
-) -> Option<Coming>
-    requires moment { IsPresent past.now now }
+fn moved_of(present: &Present<'_>, place: u32, interval: Option<Interval>) -> Option<Coming>
+    requires moment { IsPresent present.now.past.now present.now.moment }
     requires near { IfSome interval IsIntervalNear }
-    ensures { (e : AnyNode) → node_at (elements past.now.document.nodes) who ≡ Some e
-        → and_coming result [] ≡ moved_by (history_of past.now) interval now place e }
+    ensures { (e : AnyNode)
+        → node_at (elements present.now.past.now.document.nodes) present.now.who ≡ Some e
+        → and_coming result []
+        ≡ moved_by (history_of present.now.past.now) interval present.now.moment place e }
 {
     let interval = interval?;
-    if past.clocks().outer_stands(who) {
+    if present.past.clocks().outer_stands(present.who) {
         return None;
     }
-    if past.book().active(who) {
-        end_of(past, who, place, now, interval)
+    if present.past.book().active(present.who) {
+        end_of(present, place, interval)
     } else {
-        Some(begin_of(past, who, place, now, interval))
+        Some(begin_of(present, place, interval))
     }
 }
 
 // The begin of an interval, in class 2.
-fn begin_of(past: &Past, who: u32, place: u32, now: i64, interval: Interval) -> Coming
-    requires moment { IsPresent past.now now }
+fn begin_of(present: &Present<'_>, place: u32, interval: Interval) -> Coming
+    requires moment { IsPresent present.now.past.now present.now.moment }
     requires near { IsIntervalNear interval }
-    ensures { (e : AnyNode) → node_at (elements past.now.document.nodes) who ≡ Some e
-        → coming_meant result ∷ [] ≡ coming_begin (history_of past.now) now place e (Some interval) }
+    ensures { (e : AnyNode)
+        → node_at (elements present.now.past.now.document.nodes) present.now.who ≡ Some e
+        → coming_meant result ∷ []
+        ≡ coming_begin (history_of present.now.past.now) present.now.moment place e
+        (Some interval) }
 {
+    let clocks = present.past.clocks();
     Coming {
         key: Key {
-            value: past.clocks().to_document(who, interval.begin, now),
+            value: clocks.to_document(present.who, interval.begin, present.moment),
             class: 2,
             position: place,
-            serial: who,
+            serial: present.who,
             repeat: false,
         },
         change: Change::Begins {
@@ -97,21 +100,25 @@ fn begin_of(past: &Past, who: u32, place: u32, now: i64, interval: Interval) -> 
 }
 
 // The end of an interval that is a number: in class 1, and in class 3 where the length is 0.
-fn end_of(past: &Past, who: u32, place: u32, now: i64, interval: Interval) -> Option<Coming>
-    requires moment { IsPresent past.now now }
+fn end_of(present: &Present<'_>, place: u32, interval: Interval) -> Option<Coming>
+    requires moment { IsPresent present.now.past.now present.now.moment }
     requires near { IsIntervalNear interval }
-    ensures { (e : AnyNode) → node_at (elements past.now.document.nodes) who ≡ Some e
-        → and_coming result [] ≡ coming_end (history_of past.now) now place e (Some interval) }
+    ensures { (e : AnyNode)
+        → node_at (elements present.now.past.now.document.nodes) present.now.who ≡ Some e
+        → and_coming result []
+        ≡ coming_end (history_of present.now.past.now) present.now.moment place e
+        (Some interval) }
 {
     let Time::At(end) = interval.end else {
         return None;
     };
+    let clocks = present.past.clocks();
     Some(Coming {
         key: Key {
-            value: past.clocks().to_document(who, end, now),
+            value: clocks.to_document(present.who, end, present.moment),
             class: if interval.begin < end { 1 } else { 3 },
             position: place,
-            serial: who,
+            serial: present.who,
             repeat: false,
         },
         change: Change::Ends { end },
@@ -119,14 +126,16 @@ fn end_of(past: &Past, who: u32, place: u32, now: i64, interval: Interval) -> Op
 }
 
 // The repeat of an active element, while its own clock runs.
-fn repeat_of(past: &Past, who: u32, place: u32, now: i64, simple: Time) -> Option<Coming>
-    requires element { has_element past.now.document.nodes who ≡ true }
-    requires moment { IsPresent past.now now }
-    ensures { (e : AnyNode) → node_at (elements past.now.document.nodes) who ≡ Some e
-        → and_coming result [] ≡ repeat_by (history_of past.now) simple now place e }
+fn repeat_of(present: &Present<'_>, place: u32, simple: Time) -> Option<Coming>
+    requires element { has_element present.now.past.now.document.nodes present.now.who ≡ true }
+    requires moment { IsPresent present.now.past.now present.now.moment }
+    ensures { (e : AnyNode)
+        → node_at (elements present.now.past.now.document.nodes) present.now.who ≡ Some e
+        → and_coming result []
+        ≡ repeat_by (history_of present.now.past.now) simple present.now.moment place e }
 {
-    if may_repeat(past, who) {
-        repeat_at(past, who, place, now, simple)
+    if may_repeat(present.past, present.who) {
+        repeat_at(present, place, simple)
     } else {
         None
     }
@@ -151,26 +160,28 @@ fn repeats(attrs: &Attrs) -> bool
 
 // The repeat of an element that may repeat, where its iteration ends at a number and another
 // follows.
-fn repeat_at(past: &Past, who: u32, place: u32, now: i64, simple: Time) -> Option<Coming>
-    requires element { has_element past.now.document.nodes who ≡ true }
-    requires moment { IsPresent past.now now }
-    ensures { (e : AnyNode) → node_at (elements past.now.document.nodes) who ≡ Some e
-        → and_coming result [] ≡ coming_repeat_at (history_of past.now) now place e simple
-        (later_time simple (iteration_start (history_of past.now) who)) }
+fn repeat_at(present: &Present<'_>, place: u32, simple: Time) -> Option<Coming>
+    requires element { has_element present.now.past.now.document.nodes present.now.who ≡ true }
+    requires moment { IsPresent present.now.past.now present.now.moment }
+    ensures { (e : AnyNode)
+        → node_at (elements present.now.past.now.document.nodes) present.now.who ≡ Some e
+        → and_coming result []
+        ≡ coming_repeat_at (history_of present.now.past.now) present.now.moment place e simple
+        (later_time simple (iteration_start (history_of present.now.past.now) present.now.who)) }
 {
-    let play = last_play(past, who);
+    let play = last_play(present.past, present.who);
     let Time::At(over) = later(simple, play.start) else {
         return None;
     };
-    if !goes_on(bounds_of(past, who), simple, &play, over) {
+    if !goes_on(bounds_of(present.past, present.who), simple, &play, over) {
         return None;
     }
     Some(Coming {
         key: Key {
-            value: moment_of(past, who, over, now),
+            value: moment_of(present, over),
             class: 1,
             position: place,
-            serial: who,
+            serial: present.who,
             repeat: true,
         },
         change: Change::Repeats { start: over },
@@ -187,12 +198,14 @@ fn bounds_of(past: &Past, who: u32) -> Bounds
 }
 
 // When the own clock of an element shows a value, if it goes on as now.
-fn moment_of(past: &Past, who: u32, value: i64, now: i64) -> i64
-    requires moment { IsPresent past.now now }
+fn moment_of(present: &Present<'_>, value: i64) -> i64
+    requires moment { IsPresent present.now.past.now present.now.moment }
     requires near { IsNear value }
-    ensures { result ≡ now +ℤ (value -ℤ run (history_of past.now) who now) }
+    ensures { result ≡ present.now.moment
+        +ℤ (value -ℤ run (history_of present.now.past.now) present.now.who present.now.moment) }
 {
-    now + (value - past.clocks().run(who, now))
+    let clocks = present.past.clocks();
+    present.moment + (value - clocks.run(present.who, present.moment))
 }
 
 // The last play of an element, by what its own clock tells.

@@ -17,6 +17,7 @@ ghost use Rattle.smil_element.specs.Element.{IsEvaluated};
 use super::expected::{Reading, is_settled, pour_begins, pour_ends};
 use super::facts::{attrs_of, facts_of, kind_of, played_of};
 use super::intervals::{Containers, Intervals};
+use super::present::Present;
 use smil_duration::{implicit_by_kind, simple, takes_implicit};
 use smil_interval::evaluate;
 use smil_model::{ChildEnd, Edge, Interval, Kind, Steps, Time};
@@ -54,32 +55,36 @@ impl Room {
 /// evaluation is counted. What is kept of the ends of its time children is right where its duration
 /// is implicit. Memory may be wanted for the lists that it reads, and then none is.
 pub fn evaluation_of<J: Containers, L: Ledger>(
-    past: &Past,
+    present: &Present<'_>,
     intervals: &J,
-    who: u32,
-    now: i64,
     room: &mut Room,
     steps: &mut Steps<L>,
 ) -> Result<Evaluated, AllocError>
-    requires element { has_element past.now.document.nodes who ≡ true }
-    requires moment { IsPresent past.now now }
-    requires known { (e : AnyNode) → node_at (elements past.now.document.nodes) who ≡ Some e
-        → has_implicit_duration e ≡ true → J.knows_ends intervals.now (history_of past.now) who }
-    ensures made { (e : AnyNode) → node_at (elements past.now.document.nodes) who ≡ Some e
-        → IfOk result (IsEvaluated (history_of past.now) (J.given intervals.now) now e) }
+    requires element { has_element present.now.past.now.document.nodes present.now.who ≡ true }
+    requires moment { IsPresent present.now.past.now present.now.moment }
+    requires known { (e : AnyNode)
+        → node_at (elements present.now.past.now.document.nodes) present.now.who ≡ Some e
+        → has_implicit_duration e ≡ true
+        → J.knows_ends intervals.now (history_of present.now.past.now) present.now.who }
+    ensures made { (e : AnyNode)
+        → node_at (elements present.now.past.now.document.nodes) present.now.who ≡ Some e
+        → IfOk result (IsEvaluated (history_of present.now.past.now) (J.given intervals.now)
+        present.now.moment e) }
     ensures steps { OnOk result (steps.new ≡ steps.old + 1) }
     ensures most { steps.new ≤ steps.old + 1 }
     ensures counted { steps.old ≤ steps.new }
 {
+    let past = present.past;
+    let who = present.who;
     let simple = simple_duration(past, intervals, who, &mut room.children)?;
     let reading = Reading {
         past,
         intervals,
-        moment: now,
+        moment: present.moment,
     };
     fill_begins(&reading, who, &mut room.begins)?;
     fill_ends(&reading, who, &mut room.ends)?;
-    let facts = facts_of(past, who, now, simple);
+    let facts = facts_of(present, simple);
     let begins = begins_told(past, who, &room.begins);
     let ends = ends_told(past, who, &room.ends);
     Ok(Evaluated {

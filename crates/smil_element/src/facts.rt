@@ -14,34 +14,36 @@ ghost use Rattle.smil_past.specs.Past.{IsPresent, history_of};
 ghost use Rattle.smil_past.specs.Played.{played as kept_of};
 ghost use Rattle.smil_element.specs.Element.{interval_in, shift_of};
 
+use super::present::Present;
 use smil_duration::Bounds;
 use smil_model::{Attrs, EndList, Facts, Interval, Item, Items, Kind, Play, Time};
 use smil_past::{Past, PastInterval, Played};
 
 /// The facts of an element at a moment, by its simple duration. It takes no memory, and a step for
 /// each node above it.
-pub fn facts_of(past: &Past, who: u32, now: i64, simple: Time) -> Facts
-    requires element { has_element past.now.document.nodes who ≡ true }
-    requires moment { IsPresent past.now now }
+pub fn facts_of(present: &Present<'_>, simple: Time) -> Facts
+    requires element { has_element present.now.past.now.document.nodes present.now.who ≡ true }
+    requires moment { IsPresent present.now.past.now present.now.moment }
     ensures { (e : AnyNode) (intervals : ℕ → Option AnyInterval)
-        → node_at (elements past.now.document.nodes) who ≡ Some e → simple
-        ≡ model.simple_of (history_of past.now) intervals e → result
-        ≡ model.facts_of (history_of past.now) intervals now e }
+        → node_at (elements present.now.past.now.document.nodes) present.now.who ≡ Some e
+        → simple ≡ model.simple_of (history_of present.now.past.now) intervals e → result
+        ≡ model.facts_of (history_of present.now.past.now) intervals present.now.moment e }
 {
+    let past = present.past;
     past.possible();
-    let parent = parent_of(past, who);
-    let played = played_of(past, who);
-    let attrs = attrs_of(past, who);
+    let parent = parent_of(past, present.who);
+    let played = played_of(past, present.who);
+    let attrs = attrs_of(past, present.who);
     let bounds = Bounds::of_attrs(attrs);
     Facts {
         alive: is_alive(past, parent),
-        deferred: past.book().deferred(who, parent),
-        play: present_play(past, who, parent, now, &played),
+        deferred: past.book().deferred(present.who, parent),
+        play: present_play(present, parent, &played),
         parent_start: parent_start(past, parent),
         last: last_interval(&played),
         passed: played.passed,
         end_list: end_list(&attrs.end),
-        restart: past.tree().restart_of(who),
+        restart: past.tree().restart_of(present.who),
         min: bounds.min(),
         max: bounds.max(),
         simple,
@@ -112,21 +114,16 @@ fn parent_start(past: &Past, parent: Option<u32>) -> i64
 }
 
 // The present play of an active element, whose time parent is `parent`.
-fn present_play(
-    past: &Past,
-    who: u32,
-    parent: Option<u32>,
-    now: i64,
-    played: &Played,
-) -> Option<Play>
-    requires element { has_element past.now.document.nodes who ≡ true }
-    requires moment { IsPresent past.now now }
-    requires kept { played.now ≡ kept_of (history_of past.now) who }
-    ensures { (e : AnyNode) → node_at (elements past.now.document.nodes) who ≡ Some e
-        → serial_of (time_parent past.now.document.nodes who) ≡ parent → result
-        ≡ model.present_play (history_of past.now) now e }
+fn present_play(present: &Present<'_>, parent: Option<u32>, played: &Played) -> Option<Play>
+    requires element { has_element present.now.past.now.document.nodes present.now.who ≡ true }
+    requires moment { IsPresent present.now.past.now present.now.moment }
+    requires kept { played.now ≡ kept_of (history_of present.now.past.now) present.now.who }
+    ensures { (e : AnyNode)
+        → node_at (elements present.now.past.now.document.nodes) present.now.who ≡ Some e
+        → serial_of (time_parent present.now.past.now.document.nodes present.now.who) ≡ parent
+        → result ≡ model.present_play (history_of present.now.past.now) present.now.moment e }
 {
-    if !past.book().active(who) {
+    if !present.past.book().active(present.who) {
         return None;
     }
     let begin = played.begun?;
@@ -134,20 +131,23 @@ fn present_play(
         begin,
         first: played.first,
         start: played.start,
-        iteration: past.book().iteration(who, parent),
-        shift: shift(past, who, now),
+        iteration: present.past.book().iteration(present.who, parent),
+        shift: shift(present),
     })
 }
 
 // How far the time parent's clock is ahead of the element's own; None while the element is paused.
-fn shift(past: &Past, who: u32, now: i64) -> Option<i64>
-    requires { IsPresent past.now now }
-    ensures { result ≡ shift_of (history_of past.now) who now }
+fn shift(present: &Present<'_>) -> Option<i64>
+    requires { IsPresent present.now.past.now present.now.moment }
+    ensures { result
+        ≡ shift_of (history_of present.now.past.now) present.now.who present.now.moment }
 {
-    if past.book().paused(who) {
+    if present.past.book().paused(present.who) {
         return None;
     }
-    Some(past.clocks().outer(who, now) - past.clocks().run(who, now))
+    let clocks = present.past.clocks();
+    let outer = clocks.outer(present.who, present.moment);
+    Some(outer - clocks.run(present.who, present.moment))
 }
 
 // The last finished interval, as the search for the next one sees it.

@@ -11,6 +11,7 @@ pub mod facts;
 mod frozen;
 mod happening;
 pub mod intervals;
+pub mod present;
 pub mod view;
 
 pub use comings::{Comings, comings_of};
@@ -19,4 +20,5 @@ pub use evaluation::{Evaluated, Room, evaluation_of};
 pub use facts::facts_of;
 pub use happening::{Change, Coming, Parts, group_of};
 pub use intervals::{Containers, Intervals};
+pub use present::Present;
 pub use view::view_of;

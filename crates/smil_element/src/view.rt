@@ -16,37 +16,44 @@ ghost use Rattle.smil_element.specs.Shown.{is_cut, minds, shown_last};
 use super::displaced::is_displaced;
 use super::facts::{parent_of, played_of};
 use super::frozen::{fill_of, is_frozen, shows};
+use super::present::Present;
 use smil_fill::view;
 use smil_model::{Fill, Interval, View, ViewFacts};
-use smil_past::{Past, Played};
+use smil_past::Played;
 
 /// The view of an element at a moment, by its current interval, whose numbers are from -10^12 to
 /// 10^12. It takes no memory, and a step for each element above it up to an active one; for each of
 /// these that freezes in a seq or an excl, a look-up for each of its siblings.
-pub fn view_of(past: &Past, who: u32, now: i64, interval: Option<Interval>) -> View
-    requires element { has_element past.now.document.nodes who ≡ true }
-    requires moment { IsPresent past.now now }
+pub fn view_of(present: &Present<'_>, interval: Option<Interval>) -> View
+    requires element { has_element present.now.past.now.document.nodes present.now.who ≡ true }
+    requires moment { IsPresent present.now.past.now present.now.moment }
     requires near { IfSome interval IsIntervalNear }
     ensures { (e : AnyNode) (intervals : ℕ → Option AnyInterval)
-        → node_at (elements past.now.document.nodes) who ≡ Some e → intervals who ≡ interval
-        → result ≡ model.view_of (history_of past.now) now intervals e }
+        → node_at (elements present.now.past.now.document.nodes) present.now.who ≡ Some e
+        → intervals present.now.who ≡ interval → result
+        ≡ model.view_of (history_of present.now.past.now) present.now.moment intervals e }
 {
+    let past = present.past;
     past.possible();
-    let above = is_frozen(past, parent_of(past, who));
-    view(&view_facts(past, who, now, interval, above))
+    let above = is_frozen(past, parent_of(past, present.who));
+    view(&view_facts(present, interval, above))
 }
 
 // What the view of an element follows from, by whether its time parent is frozen.
-fn view_facts(past: &Past, who: u32, now: i64, interval: Option<Interval>, above: bool) -> ViewFacts
-    requires element { has_element past.now.document.nodes who ≡ true }
-    requires moment { IsPresent past.now now }
+fn view_facts(present: &Present<'_>, interval: Option<Interval>, above: bool) -> ViewFacts
+    requires element { has_element present.now.past.now.document.nodes present.now.who ≡ true }
+    requires moment { IsPresent present.now.past.now present.now.moment }
     requires near { IfSome interval IsIntervalNear }
-    ensures same { (e : AnyNode) → node_at (elements past.now.document.nodes) who ≡ Some e
+    ensures same { (e : AnyNode)
+        → node_at (elements present.now.past.now.document.nodes) present.now.who ≡ Some e
         → model.view_by result ≡ model.view_by
-        (model.view_facts (history_of past.now) now interval
-        (lives_under (time_parent past.now.document.nodes who) past.now.diary || above) above e) }
+        (model.view_facts (history_of present.now.past.now) present.now.moment interval
+        (lives_under (time_parent present.now.past.now.document.nodes present.now.who)
+        present.now.past.now.diary || above) above e) }
     ensures near { HasNumbersWithin result }
 {
+    let past = present.past;
+    let who = present.who;
     past.possible();
     let parent = parent_of(past, who);
     let played = played_of(past, who);
@@ -66,7 +73,7 @@ fn view_facts(past: &Past, who: u32, now: i64, interval: Option<Interval>, above
         parent_shows: shows(past, parent, above),
         parent_frozen: above,
         standing: past.clocks().outer_stands(who),
-        shift: document_shift(past, who, now),
+        shift: document_shift(present),
         iteration: past.book().iteration(who, parent),
         finished: past.book().finished(who, parent),
     }
@@ -102,10 +109,11 @@ fn minds(fill: Fill, last: Option<(i64, i64)>) -> bool
 }
 
 // How far document time is ahead of the clock of an element's time parent.
-fn document_shift(past: &Past, who: u32, now: i64) -> i64
-    requires { IsPresent past.now now }
-    ensures value { result ≡ now -ℤ outer (history_of past.now) who now }
+fn document_shift(present: &Present<'_>) -> i64
+    requires { IsPresent present.now.past.now present.now.moment }
+    ensures value { result ≡ present.now.moment
+        -ℤ outer (history_of present.now.past.now) present.now.who present.now.moment }
     ensures within { IsWithin result }
 {
-    now - past.clocks().outer(who, now)
+    present.moment - present.past.clocks().outer(present.who, present.moment)
 }

@@ -11,7 +11,7 @@ ghost use Rattle.smil_live.specs.Seen.{differs, has_view, view_in as view_among,
 
 use super::same::is_same;
 use smil_cells::{Cells, Table};
-use smil_element::view_of;
+use smil_element::{Present, view_of};
 use smil_laws::courses::reached_is_past;
 use smil_laws::near::intervals_are_near;
 use smil_model::{Shown, State, View};
@@ -183,7 +183,12 @@ pub fn view_in<T: Table>(cells: &Cells<T>, serial: u32) -> View
     reached_is_past();
     let past = cells.past();
     past.possible();
-    view_of(past, serial, cells.moment(), cells.interval(serial))
+    let present = Present {
+        past,
+        who: serial,
+        moment: cells.moment(),
+    };
+    view_of(&present, cells.interval(serial))
 }
 
 // The view of an element of which nothing is known.

@@ -25,7 +25,9 @@ use super::touched::note_touched;
 use super::undo::{Noted, Undo};
 use smil_cells::plain::known::Row;
 use smil_cells::{Cells, Table};
-use smil_element::{Coming, Ending, Intervals, Room, comings_of, ending_of, evaluation_of};
+use smil_element::{
+    Coming, Ending, Intervals, Present, Room, comings_of, ending_of, evaluation_of,
+};
 use smil_model::{Duplicate, Interval, Serials, Steps};
 use smil_past::Past;
 use std::alloc::{AllocError, Global};
@@ -111,7 +113,8 @@ impl Table for LiveTable {
         note_touched(self.alloc, past, graph, from, &mut self.agenda)?;
         while let Some(rank) = self.agenda.take_first() {
             let who = order[rank];
-            if self.evaluate(past, who, moment, steps)? {
+            let present = Present { past, who, moment };
+            if self.evaluate(&present, steps)? {
                 changed.push(who)?;
                 put_readers(graph, who, rank, &mut self.agenda)?;
             }
@@ -181,7 +184,12 @@ impl LiveTable {
     {
         past.possible();
         for who in past.graph().order() {
-            self.evaluate(past, *who, moment, steps)?;
+            let present = Present {
+                past,
+                who: *who,
+                moment,
+            };
+            self.evaluate(&present, steps)?;
         }
         Ok(())
     }
@@ -190,23 +198,24 @@ impl LiveTable {
     // implicit; whether its interval changes.
     fn evaluate<L: Ledger>(
         &mut self,
-        past: &Past,
-        who: u32,
-        moment: i64,
+        present: &Present<'_>,
         steps: &mut Steps<L>,
     ) -> Result<bool, AllocError>
-        requires element { has_element past.now.document.nodes who ≡ true }
-        requires moment { IsPresent past.now moment }
-        requires of_elements { AreOfElements past.now.document.nodes self.old.schedule }
-        requires known { (e : AnyNode) → node_at (elements past.now.document.nodes) who ≡ Some e
+        requires element { has_element present.now.past.now.document.nodes present.now.who ≡ true }
+        requires moment { IsPresent present.now.past.now present.now.moment }
+        requires of_elements { AreOfElements present.now.past.now.document.nodes
+            self.old.schedule }
+        requires known { (e : AnyNode)
+            → node_at (elements present.now.past.now.document.nodes) present.now.who ≡ Some e
             → has_implicit_duration e ≡ true
-            → KnowsEnds self.old.schedule self.old.endings (history_of past.now) who }
-        ensures taken { OnOk result (IsTaken (history_of past.now) moment who self.old.schedule
-            self.new.schedule) }
-        ensures ended { OnOk result (IsEnded (history_of past.now) who self.new.schedule
-            self.old.endings self.new.endings) }
+            → KnowsEnds self.old.schedule self.old.endings (history_of present.now.past.now)
+            present.now.who }
+        ensures taken { OnOk result (IsTaken (history_of present.now.past.now) present.now.moment
+            present.now.who self.old.schedule self.new.schedule) }
+        ensures ended { OnOk result (IsEnded (history_of present.now.past.now) present.now.who
+            self.new.schedule self.old.endings self.new.endings) }
         ensures same { IfOk result (λ changes. changes ≡ false
-            → HasSame who self.old.schedule self.new.schedule) }
+            → HasSame present.now.who self.old.schedule self.new.schedule) }
         ensures agenda { self.new.agenda ≡ self.old.agenda }
         ensures back { GoesBack self.old self.new }
         ensures has_mark { self.new.has_mark ≡ self.old.has_mark }
@@ -214,14 +223,15 @@ impl LiveTable {
         ensures steps { OnOk result (steps.new ≡ steps.old + 1) }
         ensures most { steps.new ≤ steps.old + 1 }
     {
-        past.possible();
+        let who = present.who;
+        present.past.possible();
         let place = self.schedule.place(who).unwrap();
         let sources = Sources {
             schedule: &self.schedule,
             endings: &self.endings,
         };
-        let made = evaluation_of(past, &sources, who, moment, &mut self.room, steps)?;
-        let comings = comings_of(past, who, place as u32, moment, &made);
+        let made = evaluation_of(present, &sources, &mut self.room, steps)?;
+        let comings = comings_of(present, place as u32, &made);
         let before = self.schedule.interval(who);
         self.replace(
             place,
@@ -230,7 +240,7 @@ impl LiveTable {
                 interval: made.interval,
                 comings,
             },
-            ending_of(past, who, made.interval),
+            ending_of(present.past, who, made.interval),
         )?;
         Ok(differ(before, made.interval))
     }

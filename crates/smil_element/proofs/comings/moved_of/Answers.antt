@@ -1,6 +1,4 @@
-use Rattle.std.proofs.Common.{◌∙◌, sym, ap, Some}
-use Rattle.std.proofs.lemmas.Int.{to_z-of_z}
-use mir.Syntax.{w64}
+use Rattle.std.proofs.Common.{◌∙◌, sym, ap}
 use Rattle.smil_model.specs.diary.Diary.{is_active}
 use Rattle.smil_model.specs.diary.Clocks.{outer_stands}
 use Rattle.smil_model.specs.happening.Keys.{coming_begin, coming_end}
@@ -14,32 +12,30 @@ use Rattle.std.proofs.Common.{[]}
 pub returns-in_err-interval : goal.returns-in_err-interval
 returns-in_err-interval c = λ e at.
     ap (λ o. and_coming o []) c.from_residual.ensures
-    ∙ none_comes (history_of c.args.past.now) c.args.interval c.args.now c.args.place e c.in_err-interval.was
+    ∙ none_comes (history_of c.args.present.now.past.now) c.args.interval c.args.present.now.moment c.args.place e c.in_err-interval.was
 
 pub returns-then-outer_stands : goal.returns-then-outer_stands
 returns-then-outer_stands c = λ e at.
-    let h = history_of c.args.past.now in
-    none_moves h c.args.interval c.args.now c.args.place e c.outer_stands.result
-    (c.outer_stands.ensures h c.clocks.ensures ∙ ap (outer_stands h) (sym (serial_is c.args.past.now.document.nodes c.args.who e at))) c.if-outer_stands.true
+    let h = history_of c.args.present.now.past.now in
+    none_moves h c.args.interval c.args.present.now.moment c.args.place e c.outer_stands.result
+    (c.outer_stands.ensures h c.clocks.ensures ∙ ap (outer_stands h) (sym (serial_is c.args.present.now.past.now.document.nodes c.args.present.now.who e at))) c.if-outer_stands.true
 
 pub returns-then-active : goal.returns-then-active
 returns-then-active c = λ e at.
-    let h = history_of c.args.past.now in
-    let same = serial_is c.args.past.now.document.nodes c.args.who e at in
+    let h = history_of c.args.present.now.past.now in
+    let same = serial_is c.args.present.now.past.now.document.nodes c.args.present.now.who e at in
     c.end_of.ensures e at
-    ∙ ap (λ m. coming_end h m c.args.place e (Some c.in_ok-interval.interval)) (to_z-of_z w64 c.args.now c.ranges.now)
-    ∙ ap (coming_end h c.args.now c.args.place e) (sym c.in_ok-interval.was)
-    ∙ end_moves h c.args.interval c.args.now c.args.place e c.outer_stands.result c.active.result
+    ∙ ap (coming_end h c.args.present.now.moment c.args.place e) (sym c.in_ok-interval.was)
+    ∙ end_moves h c.args.interval c.args.present.now.moment c.args.place e c.outer_stands.result c.active.result
     (c.outer_stands.ensures h c.clocks.ensures ∙ ap (outer_stands h) (sym same)) c.if-outer_stands.false
-    (c.active.ensures ∙ ap (λ ds. is_active ds c.args.who) c.book.ensures ∙ ap (is_active h.diary) (sym same)) c.if-active.true
+    (c.active.ensures ∙ ap (λ ds. is_active ds c.args.present.now.who) c.book.ensures ∙ ap (is_active h.diary) (sym same)) c.if-active.true
 
 pub returns-else-active : goal.returns-else-active
 returns-else-active c = λ e at.
-    let h = history_of c.args.past.now in
-    let same = serial_is c.args.past.now.document.nodes c.args.who e at in
+    let h = history_of c.args.present.now.past.now in
+    let same = serial_is c.args.present.now.past.now.document.nodes c.args.present.now.who e at in
     c.begin_of.ensures e at
-    ∙ ap (λ m. coming_begin h m c.args.place e (Some c.in_ok-interval.interval)) (to_z-of_z w64 c.args.now c.ranges.now)
-    ∙ ap (coming_begin h c.args.now c.args.place e) (sym c.in_ok-interval.was)
-    ∙ begin_moves h c.args.interval c.args.now c.args.place e c.outer_stands.result c.active.result
+    ∙ ap (coming_begin h c.args.present.now.moment c.args.place e) (sym c.in_ok-interval.was)
+    ∙ begin_moves h c.args.interval c.args.present.now.moment c.args.place e c.outer_stands.result c.active.result
     (c.outer_stands.ensures h c.clocks.ensures ∙ ap (outer_stands h) (sym same)) c.if-outer_stands.false
-    (c.active.ensures ∙ ap (λ ds. is_active ds c.args.who) c.book.ensures ∙ ap (is_active h.diary) (sym same)) c.if-active.false
+    (c.active.ensures ∙ ap (λ ds. is_active ds c.args.present.now.who) c.book.ensures ∙ ap (is_active h.diary) (sym same)) c.if-active.false

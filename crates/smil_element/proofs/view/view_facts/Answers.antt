@@ -1,5 +1,5 @@
 use Rattle.std.proofs.Common.{◌≡◌, ◌∙◌, ap, sym, subst, ℤ, Option}
-use Rattle.std.proofs.lemmas.Int.{ints, to_z-of_z}
+use Rattle.std.proofs.lemmas.Int.{ints}
 use Rattle.std.specs.Prelude.{◌&&◌, ◌||◌, ◌-ℤ◌}
 use Rattle.std.proofs.Common.{arith}
 use Rattle.std.specs.Option.{ForSome}
@@ -22,8 +22,8 @@ use Rattle.smil_element.proofs.view.view_facts.Goals.{then-minds, else-minds}
 
 pub returns-clause-same : goal.returns-clause-same
 returns-clause-same c = λ e at.
-    let past = c.args.past.now in
-    let who = c.args.who in
+    let past = c.args.present.now.past.now in
+    let who = c.args.present.now.who in
     let h = history_of past in
     let parent = c.parent_of-parent.ensures.parent in
     let last = ap (λ (r : Played). r.last_finished) c.played_of-played.ensures in
@@ -37,7 +37,7 @@ returns-clause-same c = λ e at.
           w.result-is ∙ w.if-minds.false
           ∙ ap (λ b. b && is_displaced h who) (sym w.if-minds.false ∙ c.minds.ensures)
     ] in
-    view_told h who c.args.now c.args.interval (lives_under (time_parent past.document.nodes who) past.diary || c.args.above) c.args.above e (serial_is past.document.nodes who e at)
+    view_told h who c.args.present.now.moment c.args.interval (lives_under (time_parent past.document.nodes who) past.diary || c.args.above) c.args.above e (serial_is past.document.nodes who e at)
     c.active.result c.paused.result c.was_cut.result c.if-minds.result c.outer_stands.result c.played_of-played.result.shown_deferred c.played_of-played.result.shown_begun
     c.last_shown-last.result c.fill_of-fill.result c.shows.result (to_z w64 (of_z w64 c.document_shift.result)) c.iteration.result c.finished.result
     (c.active.ensures ∙ ap (λ ds. is_active ds who) c.book.ensures)
@@ -50,14 +50,14 @@ returns-clause-same c = λ e at.
     displaced_is
     (c.shows.ensures (time_parent past.document.nodes who) (sym parent))
     (c.outer_stands.ensures h c.clocks.ensures)
-    (shift_is ∙ c.document_shift.ensures.value ∙ ap (λ m. m -ℤ outer h who m) (to_z-of_z w64 c.args.now c.ranges.now))
+    (shift_is ∙ c.document_shift.ensures.value)
     (c.iteration.ensures h (reads past c.book-3.result.now who c.parent_of-parent.result c.book-3.ensures parent))
     (c.finished.ensures h (reads past c.book-4.result.now who c.parent_of-parent.result c.book-4.ensures parent))
 
 pub returns-clause-near : goal.returns-clause-near
 returns-clause-near c =
-    let past = c.args.past.now in
-    let who = c.args.who in
+    let past = c.args.present.now.past.now in
+    let who = c.args.present.now.who in
     let h = history_of past in
     let lawful = c.possible.ensures.lawful in
     let near = c.possible.ensures.near in

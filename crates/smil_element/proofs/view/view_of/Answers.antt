@@ -1,7 +1,5 @@
-use Rattle.std.proofs.Common.{◌≡◌, ◌∙◌, ap, sym, ℤ, Bool, Option}
+use Rattle.std.proofs.Common.{◌≡◌, ◌∙◌, ap, sym, Bool, Option}
 use Rattle.std.specs.Prelude.{◌||◌}
-use Rattle.std.proofs.lemmas.Int.{to_z-of_z}
-use mir.Syntax.{w64}
 use Rattle.smil_model.specs.declared.interval.Interval.{Interval}
 use Rattle.smil_model.specs.document.Document.{time_parent}
 use Rattle.smil_model.specs.diary.Diary.{lives_under}
@@ -14,9 +12,9 @@ use Rattle.smil_element.proofs.view.view_of.Goals as goal
 
 pub returns : goal.returns
 returns c = λ e intervals at given.
-    let past = c.args.past.now in
-    let who = c.args.who in
-    let now = c.args.now in
+    let past = c.args.present.now.past.now in
+    let who = c.args.present.now.who in
+    let now = c.args.present.now.moment in
     let h = history_of past in
     let tree = c.possible.ensures.valid.numbered in
     let same = serial_is past.document.nodes who e at in
@@ -28,7 +26,6 @@ returns c = λ e intervals at given.
     let shows_is : (lives || frozen) ≡ shows_under h frozen (time_ancestors past.document.nodes e.serial) =
     sym (ap (λ k. shows_under h frozen (time_ancestors past.document.nodes k)) same ∙ shows_above h past.document.next tree who e frozen at) in
     c.view.ensures ∙ c.view_facts.ensures.same e at
-    ∙ ap (λ (m : ℤ). view_by (view_facts h m c.args.interval (lives || above) above e)) (to_z-of_z w64 now c.ranges.now)
     ∙ ap (λ (i : Option Interval). view_by (view_facts h now i (lives || above) above e)) (sym given ∙ ap intervals (sym same))
     ∙ ap (λ (f : Bool). view_by (view_facts h now (intervals e.serial) (lives || f) f e)) above_is
     ∙ ap (λ (b : Bool). view_by (view_facts h now (intervals e.serial) b frozen e)) shows_is

@@ -1,0 +1,11 @@
+//! An element at a moment.
+
+use smil_past::Past;
+
+/// The element with the serial `who` at a moment, and what has happened by then.
+#[derive(Clone, Copy)]
+pub struct Present<'a> {
+    pub past: &'a Past,
+    pub who: u32,
+    pub moment: i64,
+}
