@@ -22,7 +22,7 @@ ghost use Rattle.smil_laws.specs.Same.{IsSame};
 
 use super::named::{heard_log, last_moment};
 use super::order::in_order;
-use super::table::Table;
+use super::table::{Since, Table};
 use super::touched::touch;
 use smil_diary::{Book, BookFault};
 use smil_element::{Coming, Parts, group_of};
@@ -514,8 +514,13 @@ impl<T: Table> Cells<T> {
         }
         self.past.possible();
         touch(self.alloc, &self.past, from, &mut self.touched)?;
+        let since = Since {
+            past: &self.past,
+            from,
+            moment: self.moment,
+        };
         let table = &mut self.table;
-        table.refresh(&self.past, from, self.moment, &mut self.touched, steps)?;
+        table.refresh(&since, &mut self.touched, steps)?;
         self.fault = None;
         Ok(())
     }
@@ -556,8 +561,13 @@ impl<T: Table> Cells<T> {
         }
         self.past.possible();
         touch(self.alloc, &self.past, from, &mut self.touched)?;
+        let since = Since {
+            past: &self.past,
+            from,
+            moment: self.moment,
+        };
         let intervals = &mut self.table;
-        intervals.refresh(&self.past, from, self.moment, &mut self.touched, steps)?;
+        intervals.refresh(&since, &mut self.touched, steps)?;
         self.fault = None;
         Ok(())
     }

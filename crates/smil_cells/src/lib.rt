@@ -11,4 +11,4 @@ mod touched;
 
 pub use cells::Cells;
 pub use plain::{PlainCells, PlainTable};
-pub use table::Table;
+pub use table::{Since, Table};

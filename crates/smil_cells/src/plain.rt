@@ -9,7 +9,7 @@ ghost use Rattle.smil_cells.specs.Round.{AreOfElements, IsNoted, IsTaken, StayUn
 pub mod known;
 
 use super::cells::Cells;
-use super::table::Table;
+use super::table::{Since, Table};
 use known::{Known, Row};
 use smil_due::DueQueue;
 use smil_element::{Coming, Intervals, Present, Room, comings_of, evaluation_of};
@@ -80,14 +80,12 @@ impl Table for PlainTable {
 
     fn refresh<L: Ledger>(
         &mut self,
-        past: &Past,
-        from: usize,
-        moment: i64,
+        since: &Since<'_>,
         changed: &mut Serials,
         steps: &mut Steps<L>,
     ) -> Result<(), AllocError> {
         self.note()?;
-        self.take_all(past, moment, changed, steps)
+        self.take_all(since.past, since.moment, changed, steps)
     }
 
     fn interval(&self, who: u32) -> Option<Interval> {

@@ -18,6 +18,15 @@ use smil_past::Past;
 use std::alloc::{AllocError, Global};
 use std::sync::ledger::Ledger;
 
+/// What has happened, of which the entries from a place on were appended since a table took it in,
+/// and the moment at which they were.
+#[derive(Clone, Copy)]
+pub struct Since<'a> {
+    pub past: &'a Past,
+    pub from: usize,
+    pub moment: i64,
+}
+
 /// The current interval of each element of a document, and what comes next, kept while entries are
 /// appended. Its meanings are whether they are those of a history at a moment, whether `back` gives
 /// those of a history at a moment, whether a mark stands, and whether it tells how often intervals
@@ -53,30 +62,32 @@ pub trait Table: Drop {
     /// they may have changed. After a refusal nothing is known of the table but what `back` gives.
     fn refresh<L: Ledger>(
         &mut self,
-        past: &Past,
-        from: usize,
-        moment: i64,
+        since: &Since<'_>,
         changed: &mut Serials,
         steps: &mut Steps<L>,
     ) -> Result<(), AllocError>
-        requires moment { IsPresent past.now moment }
-        requires within { from ≤ length past.now.diary }
-        requires before { is_current self.old (front past.now from) moment }
-        ensures current { OnOk result (is_current self.new (history_of past.now) moment) }
+        requires moment { IsPresent since.now.past.now since.now.moment }
+        requires within { since.now.from ≤ length since.now.past.now.diary }
+        requires before { is_current self.old (front since.now.past.now since.now.from)
+            since.now.moment }
+        ensures current { OnOk result (is_current self.new (history_of since.now.past.now)
+            since.now.moment) }
         ensures changed { OnOk result ((s : ℕ) → has changed.new s ≡ false
-            → current_interval (history_of past.now) moment s
-            ≡ current_interval (front past.now from) moment s) }
+            → current_interval (history_of since.now.past.now) since.now.moment s
+            ≡ current_interval (front since.now.past.now since.now.from) since.now.moment s) }
         ensures more { OnOk result ((s : ℕ) → has changed.old s ≡ true → has changed.new s ≡ true) }
         ensures marked { (h : History) (now : ℤ) → is_marked self.old h now
             → is_marked self.new h now }
         ensures has_mark { has_mark self.new ≡ has_mark self.old }
         ensures counted { steps.old ≤ steps.new }
         ensures most { OnOk result (WhereTold counts
-            (steps.new - steps.old ≤ reaches past.now.document.nodes past.now.log
-            (drop from past.now.diary))) }
-        ensures least { OnOk result (WhereTold counts
-            (fresh past.now.document.nodes (current_interval (front past.now from) moment)
-            (current_interval (history_of past.now) moment) ≤ steps.new - steps.old)) };
+            (steps.new - steps.old
+            ≤ reaches since.now.past.now.document.nodes since.now.past.now.log
+            (drop since.now.from since.now.past.now.diary))) }
+        ensures least { OnOk result (WhereTold counts (fresh since.now.past.now.document.nodes
+            (current_interval (front since.now.past.now since.now.from) since.now.moment)
+            (current_interval (history_of since.now.past.now) since.now.moment)
+            ≤ steps.new - steps.old)) };
 
     /// The current interval of an element. It takes no memory.
     fn interval(&self, who: u32) -> Option<Interval>

@@ -24,7 +24,7 @@ use super::sources::Sources;
 use super::touched::note_touched;
 use super::undo::{Noted, Undo};
 use smil_cells::plain::known::Row;
-use smil_cells::{Cells, Table};
+use smil_cells::{Cells, Since, Table};
 use smil_element::{
     Coming, Ending, Intervals, Present, Room, comings_of, ending_of, evaluation_of,
 };
@@ -100,17 +100,17 @@ impl Table for LiveTable {
 
     fn refresh<L: Ledger>(
         &mut self,
-        past: &Past,
-        from: usize,
-        moment: i64,
+        since: &Since<'_>,
         changed: &mut Serials,
         steps: &mut Steps<L>,
     ) -> Result<(), AllocError> {
+        let past = since.past;
+        let moment = since.moment;
         past.possible();
         let graph = past.graph();
         let order = graph.order();
         self.agenda.clear();
-        note_touched(self.alloc, past, graph, from, &mut self.agenda)?;
+        note_touched(self.alloc, past, graph, since.from, &mut self.agenda)?;
         while let Some(rank) = self.agenda.take_first() {
             let who = order[rank];
             let present = Present { past, who, moment };

@@ -4,6 +4,7 @@ use Rattle.smil_model.specs.document.Closure.{has}
 use Rattle.smil_model.specs.interval.Current.{current_interval}
 use Rattle.smil_laws.proofs.Numbered.{ordered}
 use Rattle.smil_past.specs.Past.{front, history_of}
+use Rattle.smil_element.proofs.Latest.{present_fits}
 use Rattle.smil_cells.proofs.Current.{ordered_element}
 use Rattle.smil_cells.proofs.Taking.{unchanged_both, unchanged_none}
 use Rattle.smil_nodes.specs.Work.{AreSettled}
@@ -25,7 +26,7 @@ use Rattle.smil_nodes.proofs.live.LiveTableTable.refresh.Goals as goal
 
 pub loop-rank-init : goal.loop-rank-init
 loop-rank-init g c =
-    let past = c.args.past.now in
+    let past = c.args.since.now.past.now in
     let nodes = past.document.nodes in
     let graph = c.graph-graph.result.now in
     let order = c.order-order.result.now in
@@ -34,22 +35,22 @@ loop-rank-init g c =
     let is = is_order graph nodes order c.graph-graph.ensures c.order-order.ensures.order in
     let in_order = ordered past.document c.possible.ensures.valid.numbered in
     let apart = differ_in nodes order c.possible.ensures.valid.numbered.distinct is in
-    let told = noted_told graph past c.args.from c.clear.new.self c.note_touched.new.agenda order c.order-order.ensures.kept c.graph-graph.ensures c.clear.ensures c.in_ok-note_touched.ensures in
-    let within = noted_within graph past c.args.from c.clear.new.self c.note_touched.new.agenda order c.order-order.ensures.kept c.graph-graph.ensures c.clear.ensures c.in_ok-note_touched.ensures in (
-      subst (λ (m : ℤ). AreSettled (history_of past) m order listed rows) (sym (to_z-of_z w64 c.args.moment c.ranges.moment))
-          (settled_first past c.args.from c.args.moment order rows listed in_order is apart told c.requires.before.rows_are),
-      none_counted nodes past.log (drop c.args.from past.diary) order rows c.args.steps.now listed within
-          (first_reached past c.args.from c.args.moment order rows listed in_order is apart told within),
+    let told = noted_told graph past c.args.since.now.from c.clear.new.self c.note_touched.new.agenda order c.order-order.ensures.kept c.graph-graph.ensures c.clear.ensures c.in_ok-note_touched.ensures in
+    let within = noted_within graph past c.args.since.now.from c.clear.new.self c.note_touched.new.agenda order c.order-order.ensures.kept c.graph-graph.ensures c.clear.ensures c.in_ok-note_touched.ensures in (
+      subst (λ (m : ℤ). AreSettled (history_of past) m order listed rows) (sym (to_z-of_z w64 c.args.since.now.moment (present_fits c.args.since.now.past.now c.args.since.now.moment c.requires.moment)))
+          (settled_first past c.args.since.now.from c.args.since.now.moment order rows listed in_order is apart told c.requires.before.rows_are),
+      none_counted nodes past.log (drop c.args.since.now.from past.diary) order rows c.args.steps.now listed within
+          (first_reached past c.args.since.now.from c.args.since.now.moment order rows listed in_order is apart told within),
       unchanged_none c.args.changed.now rows,
       λ m. (refl, refl),
       refl,
       omega arith,
-      known_first past c.args.from order listed in_order apart told (interval_in rows) c.args.self.now.endings c.requires.before.ends_are,
+      known_first past c.args.since.now.from order listed in_order apart told (interval_in rows) c.args.self.now.endings c.requires.before.ends_are,
     )
 
 pub evaluate-requires-clause-element : goal.evaluate-requires-clause-element
 evaluate-requires-clause-element g c =
-    let nodes = c.args.past.now.document.nodes in
+    let nodes = c.args.since.now.past.now.document.nodes in
     let order = c.order-order.result.now in
     ordered_element nodes order c.in-Some.rank
     (is_order c.graph-graph.result.now nodes order c.graph-graph.ensures c.order-order.ensures.order)
@@ -57,7 +58,7 @@ evaluate-requires-clause-element g c =
 
 pub evaluate-requires-clause-known : goal.evaluate-requires-clause-known
 evaluate-requires-clause-known g c = λ e here implicit.
-    let past = c.args.past.now in
+    let past = c.args.since.now.past.now in
     let nodes = past.document.nodes in
     let order = c.order-order.result.now in
     let rank = c.in-Some.rank in
@@ -72,7 +73,7 @@ evaluate-requires-clause-known g c = λ e here implicit.
 
 pub loop-rank-smaller-in-Continue-branch-4 : goal.loop-rank-smaller-in-Continue-branch-4
 loop-rank-smaller-in-Continue-branch-4 g c =
-    let past = c.args.past.now in
+    let past = c.args.since.now.past.now in
     let nodes = past.document.nodes in
     let graph = c.graph-graph.result.now in
     let order = c.order-order.result.now in
@@ -90,12 +91,12 @@ loop-rank-smaller-in-Continue-branch-4 g c =
     let told = later_told graph nodes order mid c.evaluate.new.self.agenda c.put_readers.new.agenda rank who c.order-order.ensures.kept c.graph-graph.ensures kept.agenda c.in_ok-put_readers.ensures in
     let from = from_later graph nodes order mid c.evaluate.new.self.agenda c.put_readers.new.agenda rank who c.order-order.ensures.kept c.graph-graph.ensures kept.agenda told in
     gap_falls (has old) (has c.put_readers.new.agenda) (length order) rank within c.in-Some.ensures.member
-    (rank_passed nodes past.log (drop c.args.from past.diary) order c.args.self.now.schedule c.args.steps.now old c.loop-rank.self.schedule c.evaluate.new.self.schedule c.loop-rank.steps rank who is apart mid within refl c.in-Some.ensures others counted
+    (rank_passed nodes past.log (drop c.args.since.now.from past.diary) order c.args.self.now.schedule c.args.steps.now old c.loop-rank.self.schedule c.evaluate.new.self.schedule c.loop-rank.steps rank who is apart mid within refl c.in-Some.ensures others counted
     (has c.put_readers.new.agenda) from)
 
 pub loop-rank-preserved-in-Continue-branch-4 : goal.loop-rank-preserved-in-Continue-branch-4
 loop-rank-preserved-in-Continue-branch-4 g c =
-    let past = c.args.past.now in
+    let past = c.args.since.now.past.now in
     let nodes = past.document.nodes in
     let graph = c.graph-graph.result.now in
     let order = c.order-order.result.now in
@@ -114,7 +115,7 @@ loop-rank-preserved-in-Continue-branch-4 g c =
     let from = from_later graph nodes order mid c.evaluate.new.self.agenda c.put_readers.new.agenda rank who c.order-order.ensures.kept c.graph-graph.ensures kept.agenda told in (
       settled_changed (history_of past) _ who c.loop-rank.self.schedule c.evaluate.new.self.schedule distinct (c.loop-rank.invariant.0).of_elements kept.taken order rank is within refl
           (has old) (has mid) (has c.put_readers.new.agenda) apart c.loop-rank.invariant.0 c.in-Some.ensures.rest told,
-      one_counted nodes past.log (drop c.args.from past.diary) order c.args.self.now.schedule c.args.steps.now old c.loop-rank.self.schedule c.evaluate.new.self.schedule c.loop-rank.steps rank who is apart mid within refl c.in-Some.ensures others counted
+      one_counted nodes past.log (drop c.args.since.now.from past.diary) order c.args.self.now.schedule c.args.steps.now old c.loop-rank.self.schedule c.evaluate.new.self.schedule c.loop-rank.steps rank who is apart mid within refl c.in-Some.ensures others counted
           (has c.put_readers.new.agenda) from c.evaluate.new.steps kept.steps,
       unchanged_both c.args.changed.now c.loop-rank.changed c.push.new.self c.args.self.now.schedule c.loop-rank.self.schedule c.evaluate.new.self.schedule c.loop-rank.invariant.2
           (told_pushed c.loop-rank.changed c.push.new.self who c.loop-rank.self.schedule c.evaluate.new.self.schedule others c.in_ok-push.ensures.ok),
@@ -132,7 +133,7 @@ loop-rank-preserved-in-Continue-branch-4 g c =
 
 pub loop-rank-smaller : goal.loop-rank-smaller
 loop-rank-smaller g c =
-    let past = c.args.past.now in
+    let past = c.args.since.now.past.now in
     let nodes = past.document.nodes in
     let graph = c.graph-graph.result.now in
     let order = c.order-order.result.now in
@@ -149,12 +150,12 @@ loop-rank-smaller g c =
     let others = others_stay (history_of past) _ who c.loop-rank.self.schedule c.evaluate.new.self.schedule distinct (c.loop-rank.invariant.0).of_elements kept.taken in
     let from = from_taken nodes order mid c.evaluate.new.self.agenda rank who kept.agenda in
     gap_falls (has old) (has c.evaluate.new.self.agenda) (length order) rank within c.in-Some.ensures.member
-    (rank_passed nodes past.log (drop c.args.from past.diary) order c.args.self.now.schedule c.args.steps.now old c.loop-rank.self.schedule c.evaluate.new.self.schedule c.loop-rank.steps rank who is apart mid within refl c.in-Some.ensures others counted
+    (rank_passed nodes past.log (drop c.args.since.now.from past.diary) order c.args.self.now.schedule c.args.steps.now old c.loop-rank.self.schedule c.evaluate.new.self.schedule c.loop-rank.steps rank who is apart mid within refl c.in-Some.ensures others counted
     (has c.evaluate.new.self.agenda) from)
 
 pub loop-rank-preserved : goal.loop-rank-preserved
 loop-rank-preserved g c =
-    let past = c.args.past.now in
+    let past = c.args.since.now.past.now in
     let nodes = past.document.nodes in
     let graph = c.graph-graph.result.now in
     let order = c.order-order.result.now in
@@ -173,7 +174,7 @@ loop-rank-preserved g c =
     let stays = kept.same c.if-branch.false in (
       settled_same (history_of past) _ who c.loop-rank.self.schedule c.evaluate.new.self.schedule distinct (c.loop-rank.invariant.0).of_elements kept.taken order rank is within refl
           (has old) (has c.evaluate.new.self.agenda) c.loop-rank.invariant.0 (rest_of old mid c.evaluate.new.self.agenda rank kept.agenda c.in-Some.ensures) stays,
-      one_counted nodes past.log (drop c.args.from past.diary) order c.args.self.now.schedule c.args.steps.now old c.loop-rank.self.schedule c.evaluate.new.self.schedule c.loop-rank.steps rank who is apart mid within refl c.in-Some.ensures others counted
+      one_counted nodes past.log (drop c.args.since.now.from past.diary) order c.args.self.now.schedule c.args.steps.now old c.loop-rank.self.schedule c.evaluate.new.self.schedule c.loop-rank.steps rank who is apart mid within refl c.in-Some.ensures others counted
           (has c.evaluate.new.self.agenda) from c.evaluate.new.steps kept.steps,
       unchanged_both c.args.changed.now c.loop-rank.changed c.loop-rank.changed c.args.self.now.schedule c.loop-rank.self.schedule c.evaluate.new.self.schedule c.loop-rank.invariant.2
           (told_same c.loop-rank.changed c.loop-rank.changed who c.loop-rank.self.schedule c.evaluate.new.self.schedule others refl stays),
@@ -192,14 +193,14 @@ loop-rank-preserved g c =
 -- the rows at the end
 pub returns-clause-current : goal.returns-clause-current
 returns-clause-current g c =
-    let past = c.args.past.now in
+    let past = c.args.since.now.past.now in
     let order = c.order-order.result.now in
-    let settled : AreSettled (history_of past) c.args.moment order (has c.loop-rank.self.agenda) c.loop-rank.self.schedule =
-    subst (λ (m : ℤ). AreSettled (history_of past) m order (has c.loop-rank.self.agenda) c.loop-rank.self.schedule) (to_z-of_z w64 c.args.moment c.ranges.moment) c.loop-rank.invariant.0 in
+    let settled : AreSettled (history_of past) c.args.since.now.moment order (has c.loop-rank.self.agenda) c.loop-rank.self.schedule =
+    subst (λ (m : ℤ). AreSettled (history_of past) m order (has c.loop-rank.self.agenda) c.loop-rank.self.schedule) (to_z-of_z w64 c.args.since.now.moment (present_fits c.args.since.now.past.now c.args.since.now.moment c.requires.moment)) c.loop-rank.invariant.0 in
     let is = is_order c.graph-graph.result.now past.document.nodes order c.graph-graph.ensures c.order-order.ensures.order in
     record {
       rows_are =
-          settled_current (history_of past) c.args.moment order (has c.loop-rank.self.agenda) c.loop-rank.self.schedule (ordered past.document c.possible.ensures.valid.numbered) is settled
+          settled_current (history_of past) c.args.since.now.moment order (has c.loop-rank.self.agenda) c.loop-rank.self.schedule (ordered past.document c.possible.ensures.valid.numbered) is settled
           (λ r. ap (λ (l : List ℕ). has l r) c.in_default.ensures);
       ends_are =
           all_unlisted (history_of past) (interval_in c.loop-rank.self.schedule) order c.loop-rank.self.endings c.possible.ensures.valid.numbered.distinct is (has c.loop-rank.self.agenda)
@@ -208,18 +209,18 @@ returns-clause-current g c =
 
 pub returns-clause-changed : goal.returns-clause-changed
 returns-clause-changed g c =
-    untold_stay (front c.args.past.now c.args.from) (history_of c.args.past.now) c.args.moment c.args.self.now.schedule c.loop-rank.self.schedule c.args.changed.now c.loop-rank.changed
+    untold_stay (front c.args.since.now.past.now c.args.since.now.from) (history_of c.args.since.now.past.now) c.args.since.now.moment c.args.self.now.schedule c.loop-rank.self.schedule c.args.changed.now c.loop-rank.changed
     c.requires.before.rows_are (returns-clause-current g c).rows_are c.loop-rank.invariant.2
 
 pub returns-clause-most : goal.returns-clause-most
 returns-clause-most g c =
-    counted_most c.args.past.now.document.nodes c.args.past.now.log (drop c.args.from c.args.past.now.diary) c.order-order.result.now (has c.loop-rank.self.agenda)
+    counted_most c.args.since.now.past.now.document.nodes c.args.since.now.past.now.log (drop c.args.since.now.from c.args.since.now.past.now.diary) c.order-order.result.now (has c.loop-rank.self.agenda)
     c.args.self.now.schedule c.loop-rank.self.schedule c.args.steps.now c.loop-rank.steps c.loop-rank.invariant.1
 
 pub returns-clause-least : goal.returns-clause-least
 returns-clause-least g c =
-    counted_least c.args.past.now.document.nodes c.args.past.now.log (drop c.args.from c.args.past.now.diary) c.order-order.result.now (has c.loop-rank.self.agenda)
+    counted_least c.args.since.now.past.now.document.nodes c.args.since.now.past.now.log (drop c.args.since.now.from c.args.since.now.past.now.diary) c.order-order.result.now (has c.loop-rank.self.agenda)
     c.args.self.now.schedule c.loop-rank.self.schedule c.args.steps.now c.loop-rank.steps c.loop-rank.invariant.1
-    (current_interval (front c.args.past.now c.args.from) c.args.moment) (current_interval (history_of c.args.past.now) c.args.moment) c.possible.ensures.valid.numbered.distinct
-    (current_intervals c.args.self.now.schedule (front c.args.past.now c.args.from) c.args.moment c.requires.before.rows_are)
-    (current_intervals c.loop-rank.self.schedule (history_of c.args.past.now) c.args.moment (returns-clause-current g c).rows_are)
+    (current_interval (front c.args.since.now.past.now c.args.since.now.from) c.args.since.now.moment) (current_interval (history_of c.args.since.now.past.now) c.args.since.now.moment) c.possible.ensures.valid.numbered.distinct
+    (current_intervals c.args.self.now.schedule (front c.args.since.now.past.now c.args.since.now.from) c.args.since.now.moment c.requires.before.rows_are)
+    (current_intervals c.loop-rank.self.schedule (history_of c.args.since.now.past.now) c.args.since.now.moment (returns-clause-current g c).rows_are)

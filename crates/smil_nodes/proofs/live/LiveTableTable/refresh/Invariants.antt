@@ -12,7 +12,7 @@ use Rattle.smil_nodes.proofs.live.LiveTableTable.refresh.Given as goal
 abbrev pub invariant-loop-rank : goal.invariant-loop-rank
 invariant-loop-rank g l =
     AreSettled (history_of l.past) l.moment l.order (has l.self.agenda) l.self.schedule
-    × IsCounted l.past.document.nodes l.past.log (drop l.from l.past.diary) l.order (has l.self.agenda) l.fn.self.schedule l.self.schedule l.fn.steps l.steps
+    × IsCounted l.past.document.nodes l.past.log (drop l.since.from l.past.diary) l.order (has l.self.agenda) l.fn.self.schedule l.self.schedule l.fn.steps l.steps
     × StayUnchanged l.fn.changed l.changed l.fn.self.schedule l.self.schedule
     × GoesBack l.fn.self l.self
     × (l.self.has_mark ≡ l.fn.self.has_mark)
