@@ -21,7 +21,7 @@ use super::endings::Endings;
 use super::readers::put_readers;
 use super::schedule::Schedule;
 use super::sources::Sources;
-use super::touched::note_touched;
+use super::touched::{Network, note_touched};
 use super::undo::{Noted, Undo};
 use smil_cells::plain::known::Row;
 use smil_cells::{Cells, Since, Table};
@@ -110,7 +110,8 @@ impl Table for LiveTable {
         let graph = past.graph();
         let order = graph.order();
         self.agenda.clear();
-        note_touched(self.alloc, past, graph, since.from, &mut self.agenda)?;
+        let network = Network { past, graph };
+        note_touched(self.alloc, &network, since.from, &mut self.agenda)?;
         while let Some(rank) = self.agenda.take_first() {
             let who = order[rank];
             let present = Present { past, who, moment };

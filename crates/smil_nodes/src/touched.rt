@@ -14,24 +14,31 @@ use smil_past::{Past, subject};
 use smil_tree::Tree;
 use std::alloc::{AllocError, Global};
 
+/// What has happened, and the graph of the document by which entries reach elements.
+#[derive(Clone, Copy)]
+pub struct Network<'a> {
+    pub past: &'a Past,
+    pub graph: &'a Graph,
+}
+
 /// Lists the ranks, in the order of the document's graph, of the elements that the entries from a
 /// place on touch, and for a press of a key those of its whole reach. Where memory runs out some
 /// may be listed. It takes time for what is below the entries' elements and for what reads these.
 pub fn note_touched(
     alloc: Global,
-    past: &Past,
-    graph: &Graph,
+    network: &Network<'_>,
     from: usize,
     agenda: &mut Agenda,
 ) -> Result<(), AllocError>
-    requires within { from ≤ length past.now.diary }
-    requires graph { graph.now.nodes ≡ past.now.document.nodes }
-    ensures { OnOk result (NotesEntries graph.now past.now from agenda.old agenda.new) }
+    requires within { from ≤ length network.now.past.now.diary }
+    requires graph { network.now.graph.now.nodes ≡ network.now.past.now.document.nodes }
+    ensures { OnOk result (NotesEntries network.now.graph.now network.now.past.now from agenda.old
+        agenda.new) }
 {
-    let book = past.book();
+    let book = network.past.book();
     for place in from..book.len() {
         let entry = book.entry(place).unwrap();
-        note_step(alloc, past, graph, entry.step, agenda)?;
+        note_step(alloc, network, entry.step, agenda)?;
     }
     Ok(())
 }
@@ -39,17 +46,18 @@ pub fn note_touched(
 // Lists what a step touches, or the reach of the key whose press it hears.
 fn note_step(
     alloc: Global,
-    past: &Past,
-    graph: &Graph,
+    network: &Network<'_>,
     step: Step,
     agenda: &mut Agenda,
 ) -> Result<(), AllocError>
-    requires { graph.now.nodes ≡ past.now.document.nodes }
-    ensures { OnOk result (NotesStep graph.now past.now.log step agenda.old agenda.new) }
+    requires { network.now.graph.now.nodes ≡ network.now.past.now.document.nodes }
+    ensures { OnOk result (NotesStep network.now.graph.now network.now.past.now.log step agenda.old
+        agenda.new) }
 {
+    let past = network.past;
     match (key(past.log(), step), subject(past.log(), step)) {
-        (Some(key), _) => note_reach(alloc, graph, key, agenda),
-        (None, Some(who)) => note_within(past.tree(), graph, who, agenda),
+        (Some(key), _) => note_reach(alloc, network.graph, key, agenda),
+        (None, Some(who)) => note_within(past.tree(), network.graph, who, agenda),
         (None, None) => Ok(()),
     }
 }
