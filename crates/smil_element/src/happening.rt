@@ -136,25 +136,33 @@ fn begin_steps(
         (λ h m. begin_under h m who begin (time_parent h.nodes who))) }
 {
     match rival(parts, who) {
-        Some(playing) => interrupt(parts, who, begin, playing, entries),
+        Some(playing) => interrupt(parts, Newcomer { who, begin }, playing, entries),
         None => put(parts, Step::Began { who, begin }, entries),
     }
+}
+
+// A child of an excl that is to begin, and the begin of its interval.
+#[derive(Clone, Copy)]
+struct Newcomer {
+    who: u32,
+    begin: i64,
 }
 
 // Appends a begin while another child plays: what the class of that child decides.
 fn interrupt(
     parts: &Parts<'_>,
-    who: u32,
-    begin: i64,
+    newcomer: Newcomer,
     playing: u32,
     entries: &mut Vec<Entry>,
 ) -> Result<(), AllocError>
-    requires newcomer { IsSome (node_at parts.now.tree.now.nodes who) }
+    requires newcomer { IsSome (node_at parts.now.tree.now.nodes newcomer.who) }
     requires known { IsSome (node_at parts.now.tree.now.nodes playing) }
     requires parts { (h : History) × ArePartsOf parts.now h }
     ensures { OnOk result (AppendsBy parts.now entries.old entries.new
-        (λ h m. interruption h m who begin playing (decision h.nodes playing who))) }
+        (λ h m. interruption h m newcomer.who newcomer.begin playing
+        (decision h.nodes playing newcomer.who))) }
 {
+    let Newcomer { who, begin } = newcomer;
     match act_against(parts, playing, who) {
         Act::Stop => {
             let end = outer_of(parts, playing);
