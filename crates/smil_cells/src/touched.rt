@@ -9,8 +9,9 @@ ghost use Rattle.smil_laws.specs.Seen.{any_shows, shows_from, shows_in, starts a
 ghost use Rattle.smil_cells.specs.Shown.{displaced_in};
 
 use super::order::in_order;
+use smil_instances::subject;
 use smil_model::{Kind, Log, Serials, Step};
-use smil_past::{Past, subject};
+use smil_past::Past;
 use smil_tree::Tree;
 use std::alloc::{AllocError, Global};
 

@@ -1,19 +1,18 @@
 //! What the last entry of a diary gives to items.
 
-ghost use Rattle.std.specs.Prelude.{◌≡◌, List, [], ◌∷◌, ◌++◌, IfOk, option_copied};
+ghost use Rattle.std.specs.Prelude.{◌≡◌, List, [], ◌∷◌, ◌++◌, IfOk};
 ghost use Rattle.smil_model.specs.declared.diary.Entry.{Entry as AnyEntry};
 ghost use Rattle.smil_model.specs.declared.document.Edge.TheVariants as edge;
 ghost use Rattle.smil_instances.specs.Entry.{HasArrived};
 ghost use Rattle.smil_instances.specs.Dependents.{AreDependentsOf};
 ghost use Rattle.smil_instances.specs.Intake.{history_of, default_of, IsCellOf, IsUnstated, given_to as gift, adds_to, AreRowsOf};
-ghost use Rattle.smil_model.specs.document.Defaults.{stated_list};
 
 use super::arrival::Arrival;
 use super::contribution::given;
 use super::items::{CellItem, ListItem};
 use super::source::Source;
 use smil_instance_rows::{Add, Cell, InstanceTime, Rows};
-use smil_model::{Attrs, Edge, Item, Items};
+use smil_model::{Edge, Item};
 use std::alloc::{AllocError, Global};
 
 /// What the last entry gives to the items of these cells, in their order, unless memory runs out.
@@ -64,7 +63,7 @@ fn given_item(arrival: &Arrival<'_>, own: CellItem) -> Option<InstanceTime>
 {
     let CellItem { cell, who, source } = own;
     let side = cell.side;
-    match stated(arrival.tree.attrs(who), side) {
+    match arrival.tree.attrs(who).list(side) {
         Some(items) => {
             let item = items.get(cell.item)?;
             given(arrival, &ListItem { who, side, item }, source)
@@ -97,16 +96,6 @@ fn given_by_default(arrival: &Arrival<'_>, own: CellItem) -> Option<InstanceTime
         item: &item,
     };
     given(arrival, &listed, source)
-}
-
-// The list of `begin` or `end`, where it is stated.
-fn stated(attrs: &Attrs, side: Edge) -> Option<&Items>
-    ensures { option_copied result ≡ stated_list attrs.now side }
-{
-    match side {
-        Edge::Begin => attrs.begin.as_ref(),
-        Edge::End => attrs.end.as_ref(),
-    }
 }
 
 // The item of an element without `begin`, by its source: `indefinite` in an excl, and else the

@@ -2,7 +2,7 @@
 
 ghost use Rattle.std.specs.Prelude.{◌≡◌, List, [], ◌∷◌, ◌++◌, OnOk, OnErr};
 ghost use Rattle.smil_model.specs.declared.diary.Entry.{Entry as AnyEntry};
-ghost use Rattle.smil_model.specs.reach.Reach.{key_of, pressed as pressed_in, subject as subject_in, subject_of};
+ghost use Rattle.smil_model.specs.reach.Reach.{key_of, subject_of};
 ghost use Rattle.smil_laws.specs.Resolved.{is_opening};
 ghost use Rattle.smil_instances.specs.SettledTimes.{settled_rows};
 ghost use Rattle.smil_instances.specs.Sources.{AreThose};
@@ -15,8 +15,9 @@ use super::arrival::Arrival;
 use super::dependents::Dependents;
 use super::laws::{bases_are_elements, entries_are_taken_in, only_concerned_items_change};
 use super::remainder::trim_each;
+use super::steps::{key, subject};
 use smil_instance_rows::{Cell, Rows, add_each};
-use smil_model::{Happening, Log, Step};
+use smil_model::Step;
 use std::alloc::{AllocError, Global};
 
 /// Takes in the last entry of the book: of the items that it concerns adds what it gives, and then
@@ -55,8 +56,8 @@ fn concerned<'a>(rows: &Rows, arrival: &Arrival<'a>, step: Step) -> &'a [Cell]
 {
     arrival.tree.valid();
     bases_are_elements();
-    let Some(on) = subject(step, arrival.log) else {
-        return keyed(arrival.dependents, key(step, arrival.log));
+    let Some(on) = subject(arrival.log, step) else {
+        return keyed(arrival.dependents, key(arrival.log, step));
     };
     match rows.place(on) {
         Some(row) => arrival.dependents.cells(row, is_birth(step)),
@@ -71,54 +72,6 @@ fn keyed(dependents: &Dependents, key: Option<u8>) -> &[Cell]
     match key {
         Some(key) => dependents.key_cells(key),
         None => &[],
-    }
-}
-
-// The element that a step is on; None where it hears a press of a key, or a log entry that there
-// is not.
-fn subject(step: Step, log: &Log) -> Option<u32>
-    ensures { result ≡ subject_of log.now step }
-{
-    match step {
-        Step::Began { who, .. }
-        | Step::Repeated { who, .. }
-        | Step::Ended { who, .. }
-        | Step::Cut { who }
-        | Step::Paused { who }
-        | Step::Resumed { who }
-        | Step::Deferred { who, .. }
-        | Step::Passed { who, .. } => Some(who),
-        Step::Logged { place } => happened_to(&log.get(place as usize)?.what),
-    }
-}
-
-// Whom a logged event or length is on; a press of a key is on none.
-fn happened_to(what: &Happening) -> Option<u32>
-    ensures { result ≡ subject_in what.now }
-{
-    match what {
-        Happening::Event { who, .. } | Happening::Media { who, .. } => Some(*who),
-        Happening::Key { .. } => None,
-    }
-}
-
-// The key whose press a step hears, if it hears one.
-fn key(step: Step, log: &Log) -> Option<u8>
-    ensures { result ≡ key_of log.now step }
-{
-    match step {
-        Step::Logged { place } => pressed(&log.get(place as usize)?.what),
-        _ => None,
-    }
-}
-
-// The key of a logged press.
-fn pressed(what: &Happening) -> Option<u8>
-    ensures { result ≡ pressed_in what.now }
-{
-    match what {
-        Happening::Key { key } => Some(*key),
-        _ => None,
     }
 }
 

@@ -26,6 +26,7 @@ mod sensitivity;
 mod source;
 mod sources;
 mod starts;
+mod steps;
 mod syncbase;
 
 pub use arrival::Arrival;
@@ -36,5 +37,6 @@ pub use items::ListItem;
 pub use occurrence::occurs;
 pub use sensitivity::hears;
 pub use source::Source;
-pub use sources::{element_named, element_of};
+pub use sources::{element_named, element_of, parent_of};
+pub use steps::{key, subject};
 pub use syncbase::Syncbase;

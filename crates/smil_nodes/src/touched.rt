@@ -2,15 +2,16 @@
 
 ghost use Rattle.std.specs.Prelude.{◌≡◌, ◌==◌, ◌≤◌, ℕ, Some, OnOk, length};
 ghost use Rattle.smil_model.specs.document.Closure.{has};
-ghost use Rattle.smil_model.specs.reach.Reach.{down_key, key_of, pressed as pressed_in};
+ghost use Rattle.smil_model.specs.reach.Reach.{down_key};
 ghost use Rattle.smil_laws.specs.Touched.{is_touched_from};
 ghost use Rattle.smil_graph.specs.Graph.{IsOrder};
 ghost use Rattle.smil_nodes.specs.Noted.{AreNoted, NotesEntries, NotesStep, is_self_or_reader};
 
 use super::agenda::Agenda;
 use smil_graph::Graph;
-use smil_model::{Happening, Log, Serials, Step};
-use smil_past::{Past, subject};
+use smil_instances::{key, subject};
+use smil_model::{Serials, Step};
+use smil_past::Past;
 use smil_tree::Tree;
 use std::alloc::{AllocError, Global};
 
@@ -122,26 +123,6 @@ fn note(graph: &Graph, serial: u32, agenda: &mut Agenda) -> Result<(), AllocErro
     match graph.place_in_order(serial) {
         Some(rank) => agenda.put(rank),
         None => Ok(()),
-    }
-}
-
-// The key whose press a step hears, if it hears one.
-fn key(log: &Log, step: Step) -> Option<u8>
-    ensures { result ≡ key_of log.now step }
-{
-    match step {
-        Step::Logged { place } => pressed(&log.get(place as usize)?.what),
-        _ => None,
-    }
-}
-
-// The key of a logged press.
-fn pressed(what: &Happening) -> Option<u8>
-    ensures { result ≡ pressed_in what.now }
-{
-    match what {
-        Happening::Key { key } => Some(*key),
-        _ => None,
     }
 }
 

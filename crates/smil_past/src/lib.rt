@@ -11,6 +11,6 @@ pub mod syncs;
 
 pub use kept::Kept;
 pub use past::Past;
-pub use plays::{PastInterval, Played, Plays, subject};
+pub use plays::{PastInterval, Played, Plays};
 pub use queues::Queues;
 pub use syncs::{Syncbase, Syncs};

@@ -18,8 +18,8 @@ pub mod played;
 mod row;
 
 pub use played::{PastInterval, Played};
-pub use row::subject;
 use row::{OwnEntry, child, own_row};
+use smil_instances::subject;
 use smil_model::{Duplicate, Entry, Kind, Log, Step, Time};
 use smil_stretch::Clocks;
 use smil_tree::Tree;

@@ -7,41 +7,13 @@ ghost use Rattle.smil_model.specs.diary.Clocks.{start_of, to_document as documen
 ghost use Rattle.smil_model.specs.diary.Plays.{greater_begin};
 ghost use Rattle.smil_model.specs.Times.{IsMoment, IsNear};
 ghost use Rattle.smil_laws.specs.Near.{HasNear};
-ghost use Rattle.smil_model.specs.reach.Reach.{subject as logged_on, subject_of};
+ghost use Rattle.smil_model.specs.reach.Reach.{subject_of};
 ghost use Rattle.smil_instances.specs.Contribution.{AreClocksAt};
 ghost use Rattle.smil_past.specs.Followed.{began_row, child_after, finished_interval, deferred_row, finished_row, own_after, told_by};
 
 use super::played::{PastInterval, Played};
 use smil_model::{Entry, Happening, Log, LogEntry, Step, Time};
 use smil_stretch::Clocks;
-
-/// The element that a step is on; None where it hears a press of a key, or a log entry that there
-/// is not. It takes no memory.
-pub fn subject(log: &Log, step: Step) -> Option<u32>
-    ensures { result ≡ subject_of log.now step }
-{
-    match step {
-        Step::Began { who, .. } => Some(who),
-        Step::Repeated { who, .. } => Some(who),
-        Step::Ended { who, .. } => Some(who),
-        Step::Cut { who } => Some(who),
-        Step::Paused { who } => Some(who),
-        Step::Resumed { who } => Some(who),
-        Step::Deferred { who, .. } => Some(who),
-        Step::Passed { who, .. } => Some(who),
-        Step::Logged { place } => happened_to(&log.get(place as usize)?.what),
-    }
-}
-
-// Whom a logged event or length is on; a key is on none.
-fn happened_to(what: &Happening) -> Option<u32>
-    ensures { result ≡ logged_on what.now }
-{
-    match what {
-        Happening::Event { who, .. } | Happening::Media { who, .. } => Some(*who),
-        Happening::Key { .. } => None,
-    }
-}
 
 /// An entry on the element with the serial `who`, with the clocks before it and the log.
 #[derive(Clone, Copy)]
