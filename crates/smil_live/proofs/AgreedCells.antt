@@ -20,7 +20,7 @@ use Rattle.smil_cells.specs.Standing.{IsRebuilt, MayRebuild, Standing, WhereTold
 use Rattle.smil_live.specs.Counted.{IsAtLeast, IsAtMost}
 use Rattle.smil_live.specs.Counts.{diary_at, least_between, least_seeking, most_between, most_seeking, reached_behind}
 use Rattle.smil_live.specs.Editing.{IsEdited, edit_of}
-use Rattle.smil_live.specs.Kept.{IsPlaying}
+use Rattle.smil_live.specs.ShownViews.{IsPlaying}
 use Rattle.smil_live.specs.Moves.{IsReplayed, IsUnderWay, edited_to, sought_of}
 use Rattle.smil_live.specs.Seen.{Shown}
 use Rattle.smil_live.specs.Sites.{IsMade, most_resolving, site_of, staying}

@@ -24,7 +24,7 @@ use Rattle.smil_grammar.specs.Formats.{formats}
 use Rattle.smil_tree.proofs.Spans.{all_known}
 use Rattle.smil_cells.specs.Standing.{Standing, history_of}
 use Rattle.smil_live.specs.Editing.{IsEdited, IsRefusedBy, at_node, edit_of}
-use Rattle.smil_live.specs.Kept.{IsPlaying, views_at}
+use Rattle.smil_live.specs.ShownViews.{IsPlaying, views_at}
 use Rattle.smil_live.specs.Moves.{IsReplayed, IsTooFull, edited_to, text_of}
 use Rattle.smil_live.specs.Seen.{AreOf, Shown}
 use Rattle.smil_live.specs.Telling.{is_edit}

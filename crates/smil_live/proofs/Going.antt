@@ -11,7 +11,7 @@ use Rattle.smil_model.specs.shown.Orders.{IsState, Presentation, changes_between
 use Rattle.std.proofs.lemmas.Option.{same_Some}
 use Rattle.smil_cells.specs.Kept.{at_mark}
 use Rattle.smil_cells.specs.Standing.{IsSettled, Standing}
-use Rattle.smil_live.specs.Kept.{IsPlaying, IsShown, views_at}
+use Rattle.smil_live.specs.ShownViews.{IsPlaying, IsShown, views_at}
 use Rattle.smil_live.specs.Moves.{IsShownAt, text_of}
 use Rattle.smil_live.specs.Seen.{Shown}
 use Rattle.smil_live.specs.Told.{lines_between}

@@ -15,7 +15,7 @@ use Rattle.smil_model.specs.shown.Orders.{Presentation, as_of, course_of, change
 use Rattle.smil_cells.specs.Standing.{NothingBefore, Standing, moved_to}
 use Rattle.smil_cells.proofs.OnWay.{sooner}
 use Rattle.smil_cells.proofs.Passing.{over}
-use Rattle.smil_live.specs.Kept.{IsShown}
+use Rattle.smil_live.specs.ShownViews.{IsShown}
 use Rattle.smil_live.specs.Moves.{IsFirstDue, IsShownAt, IsTooFull, text_of}
 use Rattle.smil_live.specs.Seen.{Shown}
 use Rattle.smil_live.proofs.Full.{full_later}

@@ -10,7 +10,7 @@ use Rattle.smil_model.specs.shown.Orders.{IsState, Presentation, at_moment, chan
 use Rattle.smil_model.specs.shown.Views.{view_of}
 use Rattle.smil_tree.proofs.Spans.{all_known}
 use Rattle.smil_cells.specs.Standing.{IsSettled, Standing, history_of}
-use Rattle.smil_live.specs.Kept.{views_at}
+use Rattle.smil_live.specs.ShownViews.{views_at}
 use Rattle.smil_live.specs.Moves.{text_of}
 use Rattle.smil_live.specs.Seen.{AreOf, Shown}
 use Rattle.smil_live.proofs.Standings.{views_settled}

@@ -5,7 +5,7 @@ use Rattle.smil_model.specs.declared.times.TheConstants.{HORIZON}
 use Rattle.smil_model.specs.shown.Orders.{IsState, Presentation, course_of, views_of}
 use Rattle.smil_cells.specs.Standing.{IsSettled, NothingBefore, Standing, moved_to}
 use Rattle.smil_cells.proofs.Passing.{over}
-use Rattle.smil_live.specs.Kept.{IsShown, views_at}
+use Rattle.smil_live.specs.ShownViews.{IsShown, views_at}
 use Rattle.smil_live.specs.Moves.{MayMove, made}
 use Rattle.smil_live.specs.Seen.{Shown}
 use Rattle.smil_live.specs.declared.moves.Move.{Move}

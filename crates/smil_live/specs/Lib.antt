@@ -2,7 +2,6 @@ pub mod Counted
 pub mod Counts
 pub mod Editing
 pub mod Histories
-pub mod Kept
 pub mod Linked
 pub mod Moves
 pub mod Names
@@ -10,6 +9,7 @@ pub mod References
 pub mod Refusing
 pub mod Seen
 pub mod Sets
+pub mod ShownViews
 pub mod Sites
 pub mod Telling
 pub mod Told

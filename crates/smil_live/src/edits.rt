@@ -12,7 +12,7 @@ ghost use Rattle.smil_cells.specs.Standing.{WhereTold};
 ghost use Rattle.smil_live.specs.Counted.{IsAtLeast, IsAtMost, IsFree};
 ghost use Rattle.smil_live.specs.Counts.{agreed_under, serial_or_0};
 ghost use Rattle.smil_live.specs.Editing.{IsEdited, IsRefusedBy, edit_of};
-ghost use Rattle.smil_live.specs.Kept.{IsPlaying};
+ghost use Rattle.smil_live.specs.ShownViews.{IsPlaying};
 ghost use Rattle.smil_live.specs.Moves.{IsReplayed, IsTooFull, edited_to, text_of};
 ghost use Rattle.smil_live.specs.References.{keeps_references};
 ghost use Rattle.smil_live.specs.Sites.{IsMade, most_resolving, site_nodes, site_serial, staying};

@@ -13,7 +13,7 @@ ghost use Rattle.smil_grammar.specs.Formats.{formats};
 ghost use Rattle.smil_cells.specs.Standing.{WhereTold};
 ghost use Rattle.smil_live.specs.Counted.{IsAtLeast, IsAtMost, IsFree};
 ghost use Rattle.smil_live.specs.Counts.{least_loading, most_loading};
-ghost use Rattle.smil_live.specs.Kept.{IsPlaying};
+ghost use Rattle.smil_live.specs.ShownViews.{IsPlaying};
 ghost use Rattle.smil_live.specs.Moves.{IsReplayed};
 ghost use Rattle.smil_live.specs.Telling.{element_named, is_edit};
 
@@ -52,7 +52,7 @@ impl<T: Table> Drop for Playing<T> {
 
 impl<T: Table> Model for Playing<T> {
     ghost use Rattle.smil_model.specs.shown.Orders.{Presentation as State};
-    ghost use Rattle.smil_live.specs.Kept.{IsPlaying};
+    ghost use Rattle.smil_live.specs.ShownViews.{IsPlaying};
 
     ghost Value = { State };
 

@@ -6,7 +6,7 @@ ghost use Rattle.smil_model.specs.document.Document.{elements, node_at};
 ghost use Rattle.smil_model.specs.shown.Orders.{IsState};
 ghost use Rattle.smil_model.specs.shown.Views.{blank};
 ghost use Rattle.smil_cells.specs.Standing.{IsSettled};
-ghost use Rattle.smil_live.specs.Kept.{views_at};
+ghost use Rattle.smil_live.specs.ShownViews.{views_at};
 ghost use Rattle.smil_live.specs.Seen.{differs, has_view, view_in as view_among, view_now, with_view};
 
 use super::same::is_same;

@@ -6,7 +6,7 @@ ghost use Rattle.smil_model.specs.document.Document.{elements, node_at};
 ghost use Rattle.smil_model.specs.shown.Orders.{IsState};
 ghost use Rattle.smil_report.specs.Words.{Begins};
 ghost use Rattle.smil_cells.specs.Standing.{GoesOn, NothingBefore, Standing, IsSettled, WhereTold, fresh_since, reached_since};
-ghost use Rattle.smil_live.specs.Kept.{IsShown, views_at};
+ghost use Rattle.smil_live.specs.ShownViews.{IsShown, views_at};
 ghost use Rattle.smil_live.specs.Moves.{IsFirstDue, IsShownAt, IsTooFull, MayMove, changes_by, made, text_of};
 ghost use Rattle.smil_live.specs.Seen.{has_view, view_now, with_view};
 ghost use Rattle.smil_live.specs.Told.{lines_between};

@@ -1,6 +1,6 @@
 use Rattle.std.proofs.Common.{◌≡◌, ◌∙◌, ap, sym, subst, ◌-◌}
 use Rattle.smil_cells.specs.Standing.{Standing}
-use Rattle.smil_live.specs.Kept.{IsPlaying}
+use Rattle.smil_live.specs.ShownViews.{IsPlaying}
 use Rattle.smil_live.specs.Moves.{made}
 use Rattle.smil_live.proofs.Counted.{least_made, most_made}
 use Rattle.smil_live.proofs.Going.{plays_again, plays_on, shown_marked}

@@ -1,6 +1,6 @@
 use Rattle.std.proofs.Common.{ap, sym, subst}
 use Rattle.smil_cells.specs.Standing.{Standing}
-use Rattle.smil_live.specs.Kept.{IsPlaying}
+use Rattle.smil_live.specs.ShownViews.{IsPlaying}
 use Rattle.smil_live.proofs.Edited.{begins_long, cut_again, plays}
 use Rattle.smil_live.proofs.playing.Playing.take_over.Goals as goal
 
