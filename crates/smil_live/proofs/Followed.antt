@@ -24,7 +24,7 @@ use Rattle.smil_stretch.proofs.Moments.{EachUntil, le_from, le_self, rising_push
 use Rattle.smil_past.proofs.Clocked.{each_until, fold_with}
 use Rattle.smil_past.specs.Followed.{shown_begun_after}
 use Rattle.smil_past.proofs.Shown.{AreUntil, IsMarked, IsUntil, mark_with, until_after, after_same}
-use Rattle.smil_live.specs.declared.told.Told.{Told}
+use Rattle.smil_live.specs.declared.past_intervals.PastIntervals.{PastIntervals}
 use Rattle.smil_live.specs.Histories.{IsTold, begin_after, closed_by, closed_text, finish_line, finished_text, told_begin, told_line}
 
 -- ---- the plays after one entry more
@@ -150,7 +150,7 @@ module _ (h : History) (y : Entry) (s : ℕ) (lawful : IsLawful (with_entry h y)
       ∙ text_step h s y.moment name (all_plays h s) y.step
 
 -- one entry more is told
-pub followed : (h : History) (y : Entry) (name : Who) (start : List ℕ) (told new : Told) (text more : List ℕ) → IsTold h name start told text → IsLawful (with_entry h y)
+pub followed : (h : History) (y : Entry) (name : Who) (start : List ℕ) (told new : PastIntervals) (text more : List ℕ) → IsTold h name start told text → IsLawful (with_entry h y)
     → new.who ≡ told.who → AreClocksOf new.clocks (with_entry h y) → new.present ≡ begin_after h y told.who → more ≡ text ++ closed_text h y told.who name
     → IsTold (with_entry h y) name start new more
 followed h y name start told new text more is lawful who clocks present appended = record {

@@ -26,7 +26,7 @@ use Rattle.smil_laws.proofs.NearIntervals.{interval_near}
 use Rattle.smil_laws.proofs.Further.{is_past}
 use Rattle.smil_stretch.specs.Clocks.{AreClocksOf, IsHistoryOf}
 use Rattle.smil_cells.proofs.Grown.{is_late}
-use Rattle.smil_live.specs.declared.told.Told.{Told}
+use Rattle.smil_live.specs.declared.past_intervals.PastIntervals.{PastIntervals}
 use Rattle.smil_live.specs.Histories.{IsTold, end_at, finished_text, present_line, told_begin, told_line}
 use Rattle.smil_live.proofs.Ended.{has_ended}
 
@@ -104,7 +104,7 @@ sum_shown e m o now near moment other at =
 
 -- ---- before the first entry
 
-pub nothing_told : (h : History) (name : Who) (start : List ℕ) (told : Told) → AreClocksOf told.clocks (up_to h []) → told.present ≡ None → IsTold (up_to h []) name start told start
+pub nothing_told : (h : History) (name : Who) (start : List ℕ) (told : PastIntervals) → AreClocksOf told.clocks (up_to h []) → told.present ≡ None → IsTold (up_to h []) name start told start
 nothing_told h name start told known none = record { clocks_are = known; present_is = none; text_is = sym (append-nil start) }
 
 pub first_history : (h : History) (document : Document) → h.nodes ≡ document.nodes → IsHistoryOf (up_to h []) document []
@@ -112,7 +112,7 @@ first_history h document same = record { same_nodes = same; same_diary = refl; l
 
 -- ---- the whole text
 
-pub told_all : (h : History) (now : ℤ) (e : Node) (name : Who) (start : List ℕ) (told : Told) (text new : List ℕ) → IsTold h name start told text → told.who ≡ e.serial
+pub told_all : (h : History) (now : ℤ) (e : Node) (name : Who) (start : List ℕ) (told : PastIntervals) (text new : List ℕ) → IsTold h name start told text → told.who ≡ e.serial
     → new ≡ text ++ present_line name told.present (end_at h now e) → new ≡ start ++ flat_map (told_line name) (intervals_of h now e)
 told_all h now e name start told text new is own appended =
     let present : told.present ≡ told_begin h e.serial = is.present_is ∙ ap (told_begin h) own in

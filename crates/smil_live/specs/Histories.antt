@@ -19,7 +19,7 @@ use Rattle.smil_model.specs.shown.Lines.{interval_line}
 use Rattle.smil_model.specs.shown.Views.{document_value, shown_or, shown_time, view_facts}
 use Rattle.smil_stretch.specs.Clocks.{AreClocksOf}
 use Rattle.smil_past.specs.Followed.{shown_begun_after}
-use Rattle.smil_live.specs.declared.told.Told.{Told}
+use Rattle.smil_live.specs.declared.past_intervals.PastIntervals.{PastIntervals}
 
 -- the line of an interval as it is shown
 abbrev pub told_line : Who → ToldInterval → List ℕ
@@ -53,13 +53,13 @@ abbrev pub closed_text : History → Entry → ℕ → Who → List ℕ
 closed_text h y serial name = closed_by h serial name y.moment (told_begin h serial) y.step
 
 -- what is told of an element after what has happened so far, behind a text
-pub record IsTold (h : History) (name : Who) (start : List ℕ) (told : Told) (text : List ℕ) : Type 0 where
+pub record IsTold (h : History) (name : Who) (start : List ℕ) (told : PastIntervals) (text : List ℕ) : Type 0 where
   pub clocks_are : AreClocksOf told.clocks h
   pub present_is : told.present ≡ told_begin h told.who
   pub text_is : text ≡ start ++ finished_text h told.who name
 
 -- there is a lawful history of this diary, of which nothing is told yet
-pub record MayTell (diary : List Entry) (name : Who) (told : Told) (text : List ℕ) : Type 0 where
+pub record MayTell (diary : List Entry) (name : Who) (told : PastIntervals) (text : List ℕ) : Type 0 where
   pub past : History
   pub start : List ℕ
   pub same_diary : past.diary ≡ diary

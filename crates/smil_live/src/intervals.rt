@@ -11,7 +11,7 @@ ghost use Rattle.smil_report.specs.Words.{Begins};
 ghost use Rattle.smil_cells.specs.Standing.{IsSettled, history_of};
 ghost use Rattle.smil_live.specs.Histories.{end_at, present_line, told_line};
 
-use super::told::Told;
+use super::past_intervals::PastIntervals;
 use smil_cells::{Cells, Table};
 use smil_model::{Bytes, How, Shown, Time, Who};
 use smil_report::put_history;
@@ -44,7 +44,7 @@ pub fn put_intervals<T: Table>(
     ensures begins { Begins out.old out.new }
 {
     cells.past().possible();
-    let mut told = Told::new(alloc, cells.tree(), subject.serial)?;
+    let mut told = PastIntervals::new(alloc, cells.tree(), subject.serial)?;
     told.follow_all(cells.book(), subject.name, out)?;
     put_present(cells, subject, told.present, out)
 }

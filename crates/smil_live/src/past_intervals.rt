@@ -18,16 +18,16 @@ use std::alloc::{AllocError, Global};
 
 /// An element whose intervals are told: the clocks by the entries so far, and the begin of its
 /// present play, in document time.
-pub struct Told {
+pub struct PastIntervals {
     who: u32,
     clocks: Clocks,
     pub present: Option<i64>,
 }
 
-impl Drop for Told {
+impl Drop for PastIntervals {
     // One call for each holder: its fields are dropped here alone.
     fn drop(self) {
-        let Told {
+        let PastIntervals {
             who: _who,
             clocks: _clocks,
             present: _present,
@@ -35,14 +35,14 @@ impl Drop for Told {
     }
 }
 
-impl Told {
+impl PastIntervals {
     /// An element to which nothing has happened yet, unless memory runs out.
-    pub fn new(alloc: Global, tree: &Tree, who: u32) -> Result<Told, AllocError>
+    pub fn new(alloc: Global, tree: &Tree, who: u32) -> Result<PastIntervals, AllocError>
         ensures who { IfOk result (λ told. told.who ≡ who) }
         ensures nothing { (h : History) (name : AnyWho) (start : List ℕ) → h.nodes ≡ tree.now.nodes
             → IfOk result (λ told. IsTold (up_to h []) name start told start) }
     {
-        Ok(Told {
+        Ok(PastIntervals {
             who,
             clocks: Clocks::of(alloc, tree, &Book::new(alloc))?,
             present: None,

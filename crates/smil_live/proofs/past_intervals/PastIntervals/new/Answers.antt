@@ -3,7 +3,7 @@ use Rattle.smil_model.specs.declared.diary.Entry.{Entry}
 use Rattle.smil_model.specs.diary.Diary.{History, up_to}
 use Rattle.smil_stretch.specs.Clocks.{IsHistoryOf}
 use Rattle.smil_live.proofs.Presently.{first_history, nothing_told}
-use Rattle.smil_live.proofs.told.Told.new.Goals as goal
+use Rattle.smil_live.proofs.past_intervals.PastIntervals.new.Goals as goal
 
 pub of-requires : goal.of-requires
 of-requires c =

@@ -3,7 +3,7 @@ use Rattle.std.proofs.lemmas.Result.{on_ok_weaker}
 use Rattle.smil_stretch.specs.Clocks.{AreClocksOf}
 use Rattle.smil_stretch.specs.declared.clock.NodeClock.{NodeClock}
 use Rattle.smil_live.proofs.Followed.{followed}
-use Rattle.smil_live.proofs.told.Told.follow.Goals as goal
+use Rattle.smil_live.proofs.past_intervals.PastIntervals.follow.Goals as goal
 
 pub returns-clause-told : goal.returns-clause-told
 returns-clause-told c = λ h start is lawful.

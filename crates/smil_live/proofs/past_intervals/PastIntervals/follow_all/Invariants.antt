@@ -3,7 +3,7 @@ use Rattle.smil_model.specs.diary.Diary.{History, up_to}
 use Rattle.smil_model.specs.diary.Lawful.{IsLawful}
 use Rattle.smil_report.specs.Words.{Begins}
 use Rattle.smil_live.specs.Histories.{IsTold}
-use Rattle.smil_live.proofs.told.Told.follow_all.Given as goal
+use Rattle.smil_live.proofs.past_intervals.PastIntervals.follow_all.Given as goal
 
 -- what is told after the entries so far
 abbrev pub invariant-loop-place : goal.invariant-loop-place

@@ -9,7 +9,7 @@ use Rattle.smil_stretch.proofs.Idle.{next_first}
 use Rattle.smil_outline.proofs.Walks.{begins_by}
 use Rattle.smil_live.specs.Histories.{IsTold}
 use Rattle.smil_live.proofs.Followed.{near_at}
-use Rattle.smil_live.proofs.told.Told.follow_all.Goals as goal
+use Rattle.smil_live.proofs.past_intervals.PastIntervals.follow_all.Goals as goal
 
 pub follow-requires-clause-follows : goal.follow-requires-clause-follows
 follow-requires-clause-follows c =

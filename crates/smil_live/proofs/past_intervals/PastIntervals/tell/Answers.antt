@@ -9,7 +9,7 @@ use Rattle.smil_stretch.proofs.Turning.{entry_moment}
 use Rattle.smil_instances.proofs.Sums.{moment_fits}
 use Rattle.smil_live.specs.Histories.{finish_line}
 use Rattle.smil_live.proofs.Followed.{began_shown, ended_text, read_shown}
-use Rattle.smil_live.proofs.told.Told.tell.Goals as goal
+use Rattle.smil_live.proofs.past_intervals.PastIntervals.tell.Goals as goal
 
 pub to_document-requires-clause-moment : goal.to_document-requires-clause-moment
 to_document-requires-clause-moment c =
