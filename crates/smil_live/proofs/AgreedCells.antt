@@ -22,7 +22,7 @@ use Rattle.smil_live.specs.Counts.{diary_at, least_between, least_seeking, most_
 use Rattle.smil_live.specs.Editing.{IsEdited, edit_of}
 use Rattle.smil_live.specs.ShownViews.{IsPlaying}
 use Rattle.smil_live.specs.Moves.{IsReplayed, IsUnderWay, edited_to, sought_of}
-use Rattle.smil_live.specs.Seen.{Shown}
+use Rattle.smil_live.specs.ViewTable.{Shown}
 use Rattle.smil_live.specs.Sites.{IsMade, most_resolving, site_of, staying}
 use Rattle.smil_live.specs.Telling.{is_edit}
 use Rattle.smil_live.specs.declared.edits.Site.{Site}

@@ -8,7 +8,7 @@ use Rattle.smil_model.specs.declared.view.View.{View}
 use Rattle.smil_model.specs.document.Document.{elements, is_element}
 use Rattle.smil_model.specs.document.Valid.{IsDistinct}
 use Rattle.smil_stretch.proofs.Above.{others_before}
-use Rattle.smil_live.specs.Seen.{has_view}
+use Rattle.smil_live.specs.ViewTable.{has_view}
 
 module _ (f : Node → View) (own : (n : Node) → (f n).serial ≡ n.serial) where
   abbrev pub views_to : List Node → ℕ → List View

@@ -29,7 +29,7 @@ use Rattle.smil_past.proofs.References.{kept_known as kept_found}
 use Rattle.smil_cells.specs.Standing.{IsSettled, Standing, history_of}
 use Rattle.smil_live.specs.Histories.{told_line}
 use Rattle.smil_live.specs.ShownViews.{IsPlaying, views_at}
-use Rattle.smil_live.specs.Seen.{AreOf, Shown}
+use Rattle.smil_live.specs.ViewTable.{AreOf, Shown}
 use Rattle.smil_live.specs.Sets.{AreOfElements}
 use Rattle.smil_live.specs.Telling.{element_named, layers_text}
 use Rattle.smil_live.proofs.Apart.{found_each, views_known}

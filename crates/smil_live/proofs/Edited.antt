@@ -26,7 +26,7 @@ use Rattle.smil_cells.specs.Standing.{Standing, history_of}
 use Rattle.smil_live.specs.Editing.{IsEdited, IsRefusedBy, at_node, edit_of}
 use Rattle.smil_live.specs.ShownViews.{IsPlaying, views_at}
 use Rattle.smil_live.specs.Moves.{IsReplayed, IsTooFull, edited_to, text_of}
-use Rattle.smil_live.specs.Seen.{AreOf, Shown}
+use Rattle.smil_live.specs.ViewTable.{AreOf, Shown}
 use Rattle.smil_live.specs.Telling.{is_edit}
 use Rattle.smil_live.proofs.Copying.{at_there, some_from}
 use Rattle.smil_live.proofs.Editing.{edit_accepted, is_found, known, state_refused}

@@ -13,7 +13,7 @@ use Rattle.smil_cells.specs.Kept.{at_mark}
 use Rattle.smil_cells.specs.Standing.{IsSettled, Standing}
 use Rattle.smil_live.specs.ShownViews.{IsPlaying, IsShown, views_at}
 use Rattle.smil_live.specs.Moves.{IsShownAt, text_of}
-use Rattle.smil_live.specs.Seen.{Shown}
+use Rattle.smil_live.specs.ViewTable.{Shown}
 use Rattle.smil_live.specs.Told.{lines_between}
 use Rattle.smil_live.proofs.Standings.{views_settled}
 

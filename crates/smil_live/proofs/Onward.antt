@@ -17,7 +17,7 @@ use Rattle.smil_cells.proofs.OnWay.{sooner}
 use Rattle.smil_cells.proofs.Passing.{over}
 use Rattle.smil_live.specs.ShownViews.{IsShown}
 use Rattle.smil_live.specs.Moves.{IsFirstDue, IsShownAt, IsTooFull, text_of}
-use Rattle.smil_live.specs.Seen.{Shown}
+use Rattle.smil_live.specs.ViewTable.{Shown}
 use Rattle.smil_live.proofs.Full.{full_later}
 use Rattle.smil_live.proofs.Quiet.{HasDiary, IsQuiet}
 use Rattle.smil_live.proofs.Standings.{has_diary, nothing_before}

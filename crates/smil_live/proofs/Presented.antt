@@ -12,7 +12,7 @@ use Rattle.smil_tree.proofs.Spans.{all_known}
 use Rattle.smil_cells.specs.Standing.{IsSettled, Standing, history_of}
 use Rattle.smil_live.specs.ShownViews.{views_at}
 use Rattle.smil_live.specs.Moves.{text_of}
-use Rattle.smil_live.specs.Seen.{AreOf, Shown}
+use Rattle.smil_live.specs.ViewTable.{AreOf, Shown}
 use Rattle.smil_live.proofs.Standings.{views_settled}
 use Rattle.smil_live.proofs.Edited.{each_view}
 

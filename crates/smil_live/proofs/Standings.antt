@@ -7,7 +7,7 @@ use Rattle.smil_cells.specs.Standing.{IsSettled, NothingBefore, Standing, moved_
 use Rattle.smil_cells.proofs.Passing.{over}
 use Rattle.smil_live.specs.ShownViews.{IsShown, views_at}
 use Rattle.smil_live.specs.Moves.{MayMove, made}
-use Rattle.smil_live.specs.Seen.{Shown}
+use Rattle.smil_live.specs.ViewTable.{Shown}
 use Rattle.smil_live.specs.declared.moves.Move.{Move}
 use Rattle.smil_live.specs.declared.moves.Move.TheVariants as move
 use Rattle.smil_live.proofs.Ended.{nothing_due}

@@ -13,7 +13,7 @@ use Rattle.smil_model.specs.shown.Views.{blank}
 use Rattle.smil_laws.proofs.Below.{differ_each}
 use Rattle.smil_laws.proofs.Lineages.{swap_eqb}
 use Rattle.smil_stretch.proofs.Above.{each_at}
-use Rattle.smil_live.specs.Seen.{put_in, view_in, has_view, AreOne}
+use Rattle.smil_live.specs.ViewTable.{put_in, view_in, has_view, AreOne}
 use Rattle.smil_live.proofs.Through.{same_view}
 use Rattle.smil_live.proofs.ViewPlaces.{of, untouched, has_put}
 

@@ -9,7 +9,7 @@ use Rattle.std.proofs.lemmas.List.Sums.{passes_at_first}
 use Rattle.smil_model.specs.declared.view.View.{View}
 use Rattle.smil_model.specs.shown.Views.{blank}
 use Rattle.smil_model.specs.shown.Orders.{view_eq}
-use Rattle.smil_live.specs.Seen.{put_in, put_back, view_in, has_view, differs, AreOne, AreAt}
+use Rattle.smil_live.specs.ViewTable.{put_in, put_back, view_in, has_view, differs, AreOne, AreAt}
 use Rattle.smil_live.proofs.SameViews.{same_view}
 
 abbrev pub of : ℕ → View → Bool

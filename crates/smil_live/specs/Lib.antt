@@ -7,10 +7,10 @@ pub mod Moves
 pub mod Names
 pub mod References
 pub mod Refusing
-pub mod Seen
 pub mod Sets
 pub mod ShownViews
 pub mod Sites
 pub mod Telling
 pub mod Told
+pub mod ViewTable
 pub mod WorkedCounts

@@ -4,7 +4,7 @@ use Rattle.smil_model.specs.declared.view.View.{View}
 use Rattle.smil_model.specs.shown.Orders.{IsState}
 use Rattle.smil_model.specs.shown.Views.{views}
 use Rattle.smil_cells.specs.Standing.{Standing, IsSettled, history_of}
-use Rattle.smil_live.specs.Seen.{Shown}
+use Rattle.smil_live.specs.ViewTable.{Shown}
 
 -- the views of all elements by the diary so far
 abbrev pub views_at : Standing → List View

@@ -22,8 +22,8 @@ use super::lines::{Scene, put_all_gone, put_differences};
 use super::playing::Playing;
 use super::references::{Linked, Revision, keeps_references};
 use super::replay::{cells_with, diary_through};
-use super::seen::Seen;
 use super::values::{Child, Placed, Setting};
+use super::view_table::ViewTable;
 use smil_cells::{Cells, Table};
 use smil_diary::Book;
 use smil_graph::Graph;
@@ -299,7 +299,7 @@ impl<T: Table> Playing<T> {
         ensures kept { OnErr result (self.new ≡ self.old) }
         ensures text { OnErr result (out.new ≡ out.old) }
     {
-        let seen = match Seen::of(self.alloc, cells) {
+        let seen = match ViewTable::of(self.alloc, cells) {
             Ok(seen) => seen,
             Err(_) => return Err(Refusal::Memory),
         };
@@ -376,7 +376,12 @@ impl<T: Table> Playing<T> {
     }
 
     // Appends the lines of the elements that are gone, and those of the views that differ.
-    fn put_edited(&self, cells: &Cells<T>, seen: &Seen, out: &mut Bytes) -> Result<(), AllocError>
+    fn put_edited(
+        &self,
+        cells: &Cells<T>,
+        seen: &ViewTable,
+        out: &mut Bytes,
+    ) -> Result<(), AllocError>
         requires playing { IsPlaying cells.now seen.now }
         ensures ok { OnOk result (out.new ≡ out.old ++ gone_text self.now cells.now.presentation
             ++ text_of cells.now.presentation (changes_between self.now cells.now.presentation)) }

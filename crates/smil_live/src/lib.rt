@@ -14,10 +14,10 @@ mod playing;
 mod references;
 mod replay;
 mod same;
-mod seen;
 mod sets;
 mod tells;
 mod values;
+mod view_table;
 mod watched;
 mod worked;
 

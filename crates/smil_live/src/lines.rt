@@ -6,11 +6,11 @@ ghost use Rattle.smil_model.specs.document.Document.{node_at};
 ghost use Rattle.smil_model.specs.shown.Answers.{name_in};
 ghost use Rattle.smil_model.specs.shown.Lines.{change_line};
 ghost use Rattle.smil_report.specs.Words.{Begins};
-ghost use Rattle.smil_live.specs.Seen.{AreOf};
+ghost use Rattle.smil_live.specs.ViewTable.{AreOf};
 ghost use Rattle.smil_live.specs.Told.{lines_between, lines_gone, lines_of};
 
 use super::same::is_same;
-use super::seen::Seen;
+use super::view_table::ViewTable;
 use smil_model::{Bytes, Duplicate, View, Who};
 use smil_report::{put_change, put_gone};
 use smil_tree::Tree;
@@ -48,8 +48,8 @@ pub fn put_view(scene: Scene<'_>, view: &View, out: &mut Bytes) -> Result<(), Al
 /// Appends the lines of the views that differ from those before.
 pub fn put_differences(
     scene: Scene<'_>,
-    before: &Seen,
-    after: &Seen,
+    before: &ViewTable,
+    after: &ViewTable,
     out: &mut Bytes,
 ) -> Result<(), AllocError>
     requires { AreOf scene.tree.now.nodes after.now.views }
@@ -67,7 +67,7 @@ pub fn put_differences(
 // Appends the line of a view, where it differs from that before.
 fn put_difference(
     scene: Scene<'_>,
-    before: &Seen,
+    before: &ViewTable,
     view: &View,
     out: &mut Bytes,
 ) -> Result<(), AllocError>
@@ -86,7 +86,7 @@ fn put_difference(
 }
 
 /// Appends the lines of all views.
-pub fn put_views(scene: Scene<'_>, seen: &Seen, out: &mut Bytes) -> Result<(), AllocError>
+pub fn put_views(scene: Scene<'_>, seen: &ViewTable, out: &mut Bytes) -> Result<(), AllocError>
     requires { AreOf scene.tree.now.nodes seen.now.views }
     ensures ok { (m : ℕ) → scene.entry.moment ≡ pos m → OnOk result (out.new ≡ out.old
         ++ lines_of scene.entry.tree.now.nodes m seen.now.views) }

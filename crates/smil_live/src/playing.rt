@@ -19,8 +19,8 @@ ghost use Rattle.smil_live.specs.Telling.{element_named, is_edit};
 
 use super::lines::{Scene, put_differences};
 use super::replay::{Replay, replayed};
-use super::seen::Seen;
 use super::values::{Child, Placed, Setting};
+use super::view_table::ViewTable;
 use super::watched::Watched;
 use smil_cells::{Cells, Table};
 use smil_model::{Bytes, Doc, Happening, Log, Order, Player, Refusal, Steps, Who};
@@ -294,7 +294,11 @@ fn placed(text: &Bytes, column: u32) -> Placed<'_>
 }
 
 // The views of cells that are settled at moment 0, with their lines appended.
-fn put_first<T: Table>(alloc: Global, cells: &Cells<T>, out: &mut Bytes) -> Result<Seen, Refusal>
+fn put_first<T: Table>(
+    alloc: Global,
+    cells: &Cells<T>,
+    out: &mut Bytes,
+) -> Result<ViewTable, Refusal>
     requires state { IsState cells.now.presentation }
     requires replayed { IsReplayed cells.now.presentation cells.now }
     requires moment { cells.now.presentation.now ≡ 0 }
@@ -303,7 +307,7 @@ fn put_first<T: Table>(alloc: Global, cells: &Cells<T>, out: &mut Bytes) -> Resu
     ensures refused { IfErr result (λ refusal. refusal ≡ Refusal.Memory) }
     ensures text { OnErr result (out.new ≡ out.old) }
 {
-    let seen = match Seen::of(alloc, cells) {
+    let seen = match ViewTable::of(alloc, cells) {
         Ok(seen) => seen,
         Err(_) => return Err(Refusal::Memory),
     };
@@ -312,7 +316,7 @@ fn put_first<T: Table>(alloc: Global, cells: &Cells<T>, out: &mut Bytes) -> Resu
         tree: cells.tree(),
         moment: 0,
     };
-    if let Err(_) = put_differences(scene, &Seen::none(alloc), &seen, out) {
+    if let Err(_) = put_differences(scene, &ViewTable::none(alloc), &seen, out) {
         out.cut_back(len);
         return Err(Refusal::Memory);
     }

@@ -8,13 +8,13 @@ ghost use Rattle.smil_report.specs.Words.{Begins};
 ghost use Rattle.smil_cells.specs.Standing.{GoesOn, NothingBefore, Standing, IsSettled, WhereTold, fresh_since, reached_since};
 ghost use Rattle.smil_live.specs.ShownViews.{IsShown, views_at};
 ghost use Rattle.smil_live.specs.Moves.{IsFirstDue, IsShownAt, IsTooFull, MayMove, changes_by, made, text_of};
-ghost use Rattle.smil_live.specs.Seen.{has_view, view_now, with_view};
+ghost use Rattle.smil_live.specs.ViewTable.{has_view, view_now, with_view};
 ghost use Rattle.smil_live.specs.Told.{lines_between};
 
 use super::faults::refused_book;
 use super::lines::{Scene, put_view};
 use super::moves::Move;
-use super::seen::{Seen, view_in};
+use super::view_table::{ViewTable, view_in};
 use smil_cells::{Cells, Table};
 use smil_model::{Bytes, LogEntry, Refusal, Steps};
 use std::alloc::AllocError;
@@ -22,7 +22,7 @@ use std::sync::ledger::Ledger;
 /// The cells of a presentation, with the views of all elements as they were last told.
 pub struct Watched<T: Table> {
     pub cells: Cells<T>,
-    pub seen: Seen,
+    pub seen: ViewTable,
 }
 
 impl<T: Table> Drop for Watched<T> {
@@ -173,7 +173,11 @@ fn due_by<T: Table>(cells: &Cells<T>, to: i64) -> Option<i64>
 
 // Puts the views of the touched elements in place, and appends the lines of those that differ from
 // the views of an earlier state, of which the last call may have changed these alone.
-fn put_touched<T: Table>(cells: &Cells<T>, seen: &mut Seen, out: &mut Bytes) -> Result<(), Refusal>
+fn put_touched<T: Table>(
+    cells: &Cells<T>,
+    seen: &mut ViewTable,
+    out: &mut Bytes,
+) -> Result<(), Refusal>
     requires sound { cells.now.fault ≡ None }
     requires state { IsState cells.now.presentation }
     requires settled { IsSettled cells.now }
@@ -198,7 +202,7 @@ fn put_touched<T: Table>(cells: &Cells<T>, seen: &mut Seen, out: &mut Bytes) -> 
 // Puts the view of an element in its place, and appends its line where it differs from that before.
 fn put_one<T: Table>(
     cells: &Cells<T>,
-    seen: &mut Seen,
+    seen: &mut ViewTable,
     serial: u32,
     out: &mut Bytes,
 ) -> Result<(), AllocError>

@@ -1,5 +1,5 @@
 use Rattle.std.proofs.Common.{refl, sym, ap}
-use Rattle.smil_live.specs.Seen.{Shown}
+use Rattle.smil_live.specs.ViewTable.{Shown}
 use Rattle.smil_live.proofs.Opened.{told_load}
 use Rattle.smil_live.proofs.Presented.{are_of_nodes}
 use Rattle.smil_live.proofs.playing.put_first.Goals as goal

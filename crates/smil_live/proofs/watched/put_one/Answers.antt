@@ -4,7 +4,7 @@ use Rattle.std.specs.Prelude.{IsSome}
 use Rattle.std.proofs.lemmas.Int.{to_z-of_z}
 use Rattle.smil_model.specs.document.Document.{Document, elements, node_at}
 use Rattle.smil_tree.proofs.Changed.{serial_of as own_serial}
-use Rattle.smil_live.specs.Seen.{has_view, view_now}
+use Rattle.smil_live.specs.ViewTable.{has_view, view_now}
 use Rattle.smil_live.proofs.Touching.{is_node}
 use Rattle.smil_live.proofs.TouchedViews.{no_line, on_line}
 use Rattle.smil_live.proofs.watched.put_one.Goals as goal

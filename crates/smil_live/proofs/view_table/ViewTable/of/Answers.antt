@@ -4,9 +4,9 @@ use Rattle.smil_model.specs.declared.view.View.{View}
 use Rattle.smil_model.specs.document.Document.{Document, elements, node_at}
 use Rattle.smil_stretch.proofs.Above.{node_of}
 use Rattle.smil_stretch.proofs.Idle.{node_found, node_known, node_inside, none_left}
-use Rattle.smil_live.specs.Seen.{has_view, view_now}
+use Rattle.smil_live.specs.ViewTable.{has_view, view_now}
 use Rattle.smil_live.proofs.AllViews.{none_yet, views_all, views_next}
-use Rattle.smil_live.proofs.seen.Seen.of.Goals as goal
+use Rattle.smil_live.proofs.view_table.ViewTable.of.Goals as goal
 
 pub push_node-requires-clause-known : goal.push_node-requires-clause-known
 push_node-requires-clause-known g c =

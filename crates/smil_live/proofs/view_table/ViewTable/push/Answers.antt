@@ -2,9 +2,9 @@ use Rattle.std.proofs.Common.{◌≡◌, sym, ◌∙◌, ap, subst, ◌-◌, Lis
 use Rattle.std.specs.Prelude.{nat_eq}
 use Rattle.std.specs.HashMap.{get}
 use Rattle.smil_model.specs.declared.view.View.{View}
-use Rattle.smil_live.specs.Seen.{AreAt, has_view}
+use Rattle.smil_live.specs.ViewTable.{AreAt, has_view}
 use Rattle.smil_live.proofs.ViewPlaces.{places_more}
-use Rattle.smil_live.proofs.seen.Seen.push.Goals as goal
+use Rattle.smil_live.proofs.view_table.ViewTable.push.Goals as goal
 
 pub invariant_of-self-in_default : goal.invariant_of-self-in_default
 invariant_of-self-in_default c =

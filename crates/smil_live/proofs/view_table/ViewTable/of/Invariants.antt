@@ -1,8 +1,8 @@
 use Rattle.std.proofs.Common.{◌≡◌, ◌-◌, length, take}
 use Rattle.std.specs.Prelude.{map}
 use Rattle.smil_model.specs.document.Document.{elements}
-use Rattle.smil_live.specs.Seen.{view_now}
-use Rattle.smil_live.proofs.seen.Seen.of.Given as goal
+use Rattle.smil_live.specs.ViewTable.{view_now}
+use Rattle.smil_live.proofs.view_table.ViewTable.of.Given as goal
 
 -- the views of the elements among the first nodes
 abbrev pub invariant-loop-serial : goal.invariant-loop-serial

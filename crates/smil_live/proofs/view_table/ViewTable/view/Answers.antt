@@ -1,7 +1,7 @@
 use Rattle.std.proofs.Common.{◌≡◌, sym, ◌∙◌, subst}
 use Rattle.smil_live.proofs.ViewPlaces.{view_read, view_absent, absent}
-use Rattle.smil_live.specs.Seen.{view_in}
-use Rattle.smil_live.proofs.seen.Seen.view.Goals as goal
+use Rattle.smil_live.specs.ViewTable.{view_in}
+use Rattle.smil_live.proofs.view_table.ViewTable.view.Goals as goal
 
 pub returns-in-Some : goal.returns-in-Some
 returns-in-Some c =

@@ -4,9 +4,9 @@ use Rattle.smil_model.specs.document.Document.{Document, node_at}
 use Rattle.smil_model.specs.document.Valid.{kind_of}
 use Rattle.smil_tree.proofs.Changed.{some_node, serial_of as own_serial}
 use Rattle.smil_past.proofs.References.{kept_known}
-use Rattle.smil_live.specs.Seen.{has_view, view_now}
+use Rattle.smil_live.specs.ViewTable.{has_view, view_now}
 use Rattle.smil_live.proofs.Going.{kind_element, view_behind}
-use Rattle.smil_live.proofs.seen.Seen.push_node.Goals as goal
+use Rattle.smil_live.proofs.view_table.ViewTable.push_node.Goals as goal
 
 pub view_in-requires-clause-element : goal.view_in-requires-clause-element
 view_in-requires-clause-element g c =

@@ -2,9 +2,9 @@ use Rattle.std.proofs.Common.{sym, ◌∙◌, ap, subst, List}
 use Rattle.std.specs.Prelude.{nat_eq}
 use Rattle.std.specs.HashMap.{get}
 use Rattle.smil_model.specs.declared.view.View.{View}
-use Rattle.smil_live.specs.Seen.{AreAt, put_back}
+use Rattle.smil_live.specs.ViewTable.{AreAt, put_back}
 use Rattle.smil_live.proofs.ViewPlaces.{absent, untouched, placed, at_put, last_back}
-use Rattle.smil_live.proofs.seen.Seen.back.Goals as goal
+use Rattle.smil_live.proofs.view_table.ViewTable.back.Goals as goal
 
 pub loop-view-preserved-in-Some-get : goal.loop-view-preserved-in-Some-get
 loop-view-preserved-in-Some-get c =

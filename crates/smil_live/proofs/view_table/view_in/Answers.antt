@@ -7,7 +7,7 @@ use Rattle.smil_laws.specs.Near.{AllNear, IsIntervalNear}
 use Rattle.smil_past.specs.Past.{IsPresent}
 use Rattle.smil_cells.specs.Standing.{history_of}
 use Rattle.smil_live.proofs.Presenting.{current_near, present_is}
-use Rattle.smil_live.proofs.seen.view_in.Goals as goal
+use Rattle.smil_live.proofs.view_table.view_in.Goals as goal
 
 pub view_of-requires-clause-moment : goal.view_of-requires-clause-moment
 view_of-requires-clause-moment g c =

@@ -1,8 +1,8 @@
 use Rattle.std.proofs.Common.{◌≡◌, length}
 use Rattle.std.specs.Prelude.{nat_eq}
 use Rattle.std.specs.HashMap.{get}
-use Rattle.smil_live.specs.Seen.{AreAt, put_back}
-use Rattle.smil_live.proofs.seen.Seen.back.Given as goal
+use Rattle.smil_live.specs.ViewTable.{AreAt, put_back}
+use Rattle.smil_live.proofs.view_table.ViewTable.back.Given as goal
 
 abbrev pub invariant-loop-view : goal.invariant-loop-view
 invariant-loop-view l = record {

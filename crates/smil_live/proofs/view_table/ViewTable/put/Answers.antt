@@ -2,9 +2,9 @@ use Rattle.std.proofs.Common.{◌≡◌, sym, ◌∙◌, ap, subst, List, true, 
 use Rattle.std.specs.Prelude.{nat_eq, option_copied}
 use Rattle.std.specs.HashMap.{get}
 use Rattle.smil_model.specs.declared.view.View.{View}
-use Rattle.smil_live.specs.Seen.{differs, has_view, put_in, put_back, AreAt, with_view}
+use Rattle.smil_live.specs.ViewTable.{differs, has_view, put_in, put_back, AreAt, with_view}
 use Rattle.smil_live.proofs.ViewPlaces.{present, differs_by, unchanged, placed, back_put, at_put}
-use Rattle.smil_live.proofs.seen.Seen.put.Goals as goal
+use Rattle.smil_live.proofs.view_table.ViewTable.put.Goals as goal
 
 pub unwrap-place-requires : goal.unwrap-place-requires
 unwrap-place-requires c =

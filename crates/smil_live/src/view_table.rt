@@ -7,7 +7,7 @@ ghost use Rattle.smil_model.specs.shown.Orders.{IsState};
 ghost use Rattle.smil_model.specs.shown.Views.{blank};
 ghost use Rattle.smil_cells.specs.Standing.{IsSettled};
 ghost use Rattle.smil_live.specs.ShownViews.{views_at};
-ghost use Rattle.smil_live.specs.Seen.{differs, has_view, view_in as view_among, view_now, with_view};
+ghost use Rattle.smil_live.specs.ViewTable.{differs, has_view, view_in as view_among, view_now, with_view};
 
 use super::same::is_same;
 use smil_cells::{Cells, Table};
@@ -21,16 +21,16 @@ use std::marker::Model;
 
 /// The views of elements in document order, of each element one. Where a view is changed the one
 /// before is noted until `forget`; seen as the views, with those that `back` gives.
-pub struct Seen {
+pub struct ViewTable {
     rows: Vec<View>,
     places: HashMap<u32, usize>,
     noted: Vec<View>,
 }
 
-impl Drop for Seen {
+impl Drop for ViewTable {
     // One call for each holder: its fields are dropped here alone.
     fn drop(self) {
-        let Seen {
+        let ViewTable {
             rows: _rows,
             places: _places,
             noted: _noted,
@@ -38,10 +38,10 @@ impl Drop for Seen {
     }
 }
 
-impl Model for Seen {
+impl Model for ViewTable {
     ghost use Rattle.std.specs.Prelude.{nat_eq};
     ghost use Rattle.std.specs.HashMap.{get};
-    ghost use Rattle.smil_live.specs.Seen.{Shown as AnyShown, AreAt, put_back};
+    ghost use Rattle.smil_live.specs.ViewTable.{Shown as AnyShown, AreAt, put_back};
 
     ghost Value = { AnyShown };
 
@@ -50,12 +50,12 @@ impl Model for Seen {
     ghost invariant = { λ s. AreAt (get nat_eq s.places) s.rows.items };
 }
 
-impl Seen {
+impl ViewTable {
     /// No views. It takes no memory.
-    pub fn none(alloc: Global) -> Seen
+    pub fn none(alloc: Global) -> ViewTable
         ensures { result ≡ record { views = []; before = [] } }
     {
-        Seen {
+        ViewTable {
             rows: Vec::new(alloc),
             places: HashMap::new(alloc),
             noted: Vec::new(alloc),
@@ -64,14 +64,14 @@ impl Seen {
 
     /// The views of all elements, unless memory runs out. No refusal was answered, and all is
     /// settled.
-    pub fn of<T: Table>(alloc: Global, cells: &Cells<T>) -> Result<Seen, AllocError>
+    pub fn of<T: Table>(alloc: Global, cells: &Cells<T>) -> Result<ViewTable, AllocError>
         requires sound { cells.now.fault ≡ None }
         requires state { IsState cells.now.presentation }
         requires settled { IsSettled cells.now }
         ensures { IfOk result (λ seen. seen
             ≡ record { views = views_at cells.now; before = views_at cells.now }) }
     {
-        let mut seen = Seen::none(alloc);
+        let mut seen = ViewTable::none(alloc);
         let tree = cells.tree();
         tree.valid();
         let mut place = 0;
