@@ -19,6 +19,7 @@ use smil_cells::{Cells, Table};
 use smil_model::{Bytes, LogEntry, Refusal, Steps};
 use std::alloc::AllocError;
 use std::sync::ledger::Ledger;
+
 /// The cells of a presentation, with the views of all elements as they were last told.
 pub struct Watched<T: Table> {
     pub cells: Cells<T>,
