@@ -16,7 +16,7 @@ ghost use Rattle.smil_element.specs.Element.{last_alone};
 ghost use Rattle.smil_element.specs.Endings.{ending_by};
 
 use super::facts::{attrs_of, kind_of, parent_of, played_of};
-use super::intervals::Intervals;
+use super::intervals::{Container, Intervals};
 use smil_endsync::implicit;
 use smil_model::{Attrs, ChildEnd, Endsync, Interval, Kind, Time};
 use smil_past::{Past, PastInterval};
@@ -44,22 +44,25 @@ pub fn ending_of(past: &Past, who: u32, interval: Option<Interval>) -> Ending
     }
 }
 
-/// The implicit duration of an active container, in milliseconds, by a walk over its time children;
-/// `start` is the start of its present iteration. It takes a step for each time child (a seq: for
-/// its last one alone), and memory for a list of their ends.
+/// The implicit duration of an active container, in milliseconds, by a walk over its time children.
+/// It takes a step for each time child (a seq: for its last one alone), and memory for a list of
+/// their ends.
 pub fn walked_duration<J: Intervals>(
-    past: &Past,
+    container: &Container<'_>,
     intervals: &J,
-    who: u32,
-    start: i64,
     children: &mut Vec<ChildEnd>,
 ) -> Result<Time, AllocError>
-    requires { has_element past.now.document.nodes who ≡ true }
-    ensures { (e : AnyNode) → node_at (elements past.now.document.nodes) who ≡ Some e
-        → IfOk result (λ implicit. implicit ≡ container_duration e.kind (endsync_of e.attrs) start
-        (map (child_end (history_of past.now) (J.given intervals.now) e)
-        (time_children past.now.document.nodes who))) }
+    requires { has_element container.now.past.now.document.nodes container.now.who ≡ true }
+    ensures { (e : AnyNode)
+        → node_at (elements container.now.past.now.document.nodes) container.now.who ≡ Some e
+        → IfOk result (λ implicit. implicit
+        ≡ container_duration e.kind (endsync_of e.attrs) container.now.start
+        (map (child_end (history_of container.now.past.now) (J.given intervals.now) e)
+        (time_children container.now.past.now.document.nodes container.now.who))) }
 {
+    let past = container.past;
+    let who = container.who;
+    let start = container.start;
     deciding_ends(past, intervals, who, children)?;
     Ok(end_by(kind_of(past, who), attrs_of(past, who), start, children))
 }

@@ -16,7 +16,7 @@ ghost use Rattle.smil_element.specs.Element.{IsEvaluated};
 
 use super::expected::{Reading, is_settled, pour_begins, pour_ends};
 use super::facts::{attrs_of, facts_of, kind_of, played_of};
-use super::intervals::{Containers, Intervals};
+use super::intervals::{Container, Containers, Intervals};
 use super::present::Present;
 use smil_duration::{implicit_by_kind, simple, takes_implicit};
 use smil_interval::evaluate;
@@ -236,5 +236,5 @@ fn container_duration<J: Containers>(
         return Ok(Time::Unresolved);
     }
     let start = played_of(past, who).start;
-    intervals.implicit(past, who, start, children)
+    intervals.implicit(&Container { past, who, start }, children)
 }

@@ -27,27 +27,36 @@ pub trait Intervals {
         ensures near { IfSome result IsIntervalNear };
 }
 
+/// The active container with the serial `who`, what has happened, and the start of the container's
+/// present iteration.
+#[derive(Clone, Copy)]
+pub struct Container<'a> {
+    pub past: &'a Past,
+    pub who: u32,
+    pub start: i64,
+}
+
 /// Intervals of elements, and what they make of the time children of containers. Its meaning is
 /// whether what is kept of the ends of an element's time children is right for a history; where
 /// nothing is kept it always is.
 pub trait Containers: Intervals {
     ghost knows_ends: { Self → History → ℕ → Type 0 };
 
-    /// The implicit duration of an active container, in milliseconds, where what is kept of its time
-    /// children is right; `start` is the start of its present iteration. Memory may be wanted for a
-    /// list of their ends.
+    /// The implicit duration of an active container, in milliseconds, where what is kept of its
+    /// time children is right. Memory may be wanted for a list of their ends.
     fn implicit(
         &self,
-        past: &Past,
-        who: u32,
-        start: i64,
+        container: &Container<'_>,
         children: &mut Vec<ChildEnd>,
     ) -> Result<Time, AllocError>
-        requires element { has_element past.now.document.nodes who ≡ true }
-        requires known { knows_ends self.now (history_of past.now) who }
-        ensures { (e : AnyNode) → node_at (elements past.now.document.nodes) who ≡ Some e
+        requires element { has_element container.now.past.now.document.nodes container.now.who
+            ≡ true }
+        requires known { knows_ends self.now (history_of container.now.past.now)
+            container.now.who }
+        ensures { (e : AnyNode)
+            → node_at (elements container.now.past.now.document.nodes) container.now.who ≡ Some e
             → IfOk result (λ implicit. implicit
-            ≡ container_duration e.kind (endsync_of e.attrs) start
-            (map (child_end (history_of past.now) (Self.given self.now) e)
-            (time_children past.now.document.nodes who))) };
+            ≡ container_duration e.kind (endsync_of e.attrs) container.now.start
+            (map (child_end (history_of container.now.past.now) (Self.given self.now) e)
+            (time_children container.now.past.now.document.nodes container.now.who))) };
 }

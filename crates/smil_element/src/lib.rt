@@ -19,6 +19,6 @@ pub use endings::{Ending, ending_of, is_named, walked_duration};
 pub use evaluation::{Evaluated, Room, evaluation_of};
 pub use facts::facts_of;
 pub use happening::{Change, Coming, Parts, group_of};
-pub use intervals::{Containers, Intervals};
+pub use intervals::{Container, Containers, Intervals};
 pub use present::Present;
 pub use view::view_of;

@@ -4,9 +4,8 @@ ghost use Rattle.smil_cells.specs.Plain.{interval_in};
 
 use super::endings::Endings;
 use super::schedule::Schedule;
-use smil_element::{Containers, Intervals};
+use smil_element::{Container, Containers, Intervals};
 use smil_model::{ChildEnd, Interval, Time};
-use smil_past::Past;
 use std::alloc::AllocError;
 
 /// The intervals of the elements, and the ends of the time children of each.
@@ -31,17 +30,15 @@ impl<'a> Containers for Sources<'a> {
 
     fn implicit(
         &self,
-        past: &Past,
-        who: u32,
-        start: i64,
+        container: &Container<'_>,
         _children: &mut Vec<ChildEnd>,
     ) -> Result<Time, AllocError> {
-        past.possible();
+        let who = container.who;
+        container.past.possible();
         let place = self.schedule.place(who).unwrap();
-        let tree = past.tree();
-        Ok(
-            self.endings
-                .implicit(place, tree.kind(who), tree.attrs(who), start),
-        )
+        let tree = container.past.tree();
+        let kind = tree.kind(who);
+        let attrs = tree.attrs(who);
+        Ok(self.endings.implicit(place, kind, attrs, container.start))
     }
 }

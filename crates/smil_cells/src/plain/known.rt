@@ -9,9 +9,8 @@ ghost use Rattle.smil_laws.specs.Near.{IsIntervalNear};
 ghost use Rattle.smil_cells.specs.declared.plain.known.Row.{Row as AnyRow};
 ghost use Rattle.smil_cells.specs.Rows.{ArePlaces, IsChosen, empty_row, row_without};
 
-use smil_element::{Coming, Comings, Containers, Intervals, walked_duration};
+use smil_element::{Coming, Comings, Container, Containers, Intervals, walked_duration};
 use smil_model::{ChildEnd, Duplicate, Interval, Key, Kind, Time};
-use smil_past::Past;
 use smil_tree::Tree;
 use std::alloc::{AllocError, Global};
 use std::collections::HashMap;
@@ -62,12 +61,10 @@ impl Containers for Known {
 
     fn implicit(
         &self,
-        past: &Past,
-        who: u32,
-        start: i64,
+        container: &Container<'_>,
         children: &mut Vec<ChildEnd>,
     ) -> Result<Time, AllocError> {
-        walked_duration(past, self, who, start, children)
+        walked_duration(container, self, children)
     }
 }
 

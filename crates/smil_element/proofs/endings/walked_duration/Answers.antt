@@ -1,8 +1,8 @@
-use Rattle.std.proofs.Common.{◌≡◌, ◌∙◌, sym, ap, ℕ, List}
+use Rattle.std.proofs.Common.{◌≡◌, ◌∙◌, sym, ap, ℕ, List, rules}
 use Rattle.std.specs.Prelude.{Option, map}
 use Rattle.std.proofs.lemmas.Int.{to_z-of_z}
 use mir.Syntax.{w64}
-use mir.Val.{to_z, of_z}
+use mir.Val.{SFits, to_z, of_z}
 use Rattle.smil_model.specs.declared.interval.ChildEnd.{ChildEnd}
 use Rattle.smil_model.specs.declared.interval.Interval.{Interval}
 use Rattle.smil_model.specs.document.Defaults.{endsync_of}
@@ -12,6 +12,8 @@ use Rattle.smil_element.proofs.endings.walked_duration.Goals as goal
 
 pub returns : goal.returns
 returns g c = λ e here.
+    let start = c.args.container.now.start in
+    let fits : SFits w64 start = search rules in
     c.end_by.ensures
-    ∙ (λ i. container_duration (c.kind_of.ensures e here i) (ap endsync_of (c.attrs_of.ensures e here) i) (to_z-of_z w64 c.args.start c.ranges.start i) (c.deref.ensures.value i))
-    ∙ c.in_ok-deciding_ends.ensures e (endsync_of e.attrs) c.args.start here
+    ∙ (λ i. container_duration (c.kind_of.ensures e here i) (ap endsync_of (c.attrs_of.ensures e here) i) (to_z-of_z w64 start fits i) (c.deref.ensures.value i))
+    ∙ c.in_ok-deciding_ends.ensures e (endsync_of e.attrs) start here

@@ -1,4 +1,4 @@
-use Rattle.std.proofs.Common.{◌≡◌, ◌∙◌, ap, sym, subst, ◌<◌, length, arith, w64}
+use Rattle.std.proofs.Common.{◌≡◌, ◌∙◌, ap, sym, ◌<◌, length, arith, rules, SFits, w64}
 use Rattle.std.specs.Prelude.{Some, is_some, slice_get}
 use Rattle.std.proofs.lemmas.Int.{to_z-of_z}
 use Rattle.std.proofs.lemmas.Option.{same_Some}
@@ -13,35 +13,36 @@ use Rattle.smil_nodes.proofs.sources.SourcesContainers.implicit.Goals as goal
 
 pub unwrap-place-requires : goal.unwrap-place-requires
 unwrap-place-requires c =
-    let at = found c.args.past.now.document.nodes c.args.self.now.schedule.now c.args.who c.possible.ensures.valid.numbered.distinct c.requires.known.of_elements c.requires.element in
+    let at = found c.args.container.now.past.now.document.nodes c.args.self.now.schedule.now c.args.container.now.who c.possible.ensures.valid.numbered.distinct c.requires.known.of_elements c.requires.element in
     ap is_some (c.place.ensures ∙ at.position_is)
 
 pub implicit-requires : goal.implicit-requires
 implicit-requires c =
-    let nodes = c.args.past.now.document.nodes in
-    let at = found nodes c.args.self.now.schedule.now c.args.who c.possible.ensures.valid.numbered.distinct c.requires.known.of_elements c.requires.element in
+    let nodes = c.args.container.now.past.now.document.nodes in
+    let at = found nodes c.args.self.now.schedule.now c.args.container.now.who c.possible.ensures.valid.numbered.distinct c.requires.known.of_elements c.requires.element in
     let is : c.unwrap-place.result ≡ at.place = same_Some _ _ (sym c.unwrap-place.ensures ∙ c.place.ensures ∙ at.position_is) in
     let many : length c.args.self.now.endings.now.ends ≡ length (elements nodes) = c.requires.known.as_many in
     let within : at.place < length (elements nodes) = at.within in
     omega (arith, is, many, within)
 
-pub kind-requires : goal.kind-requires
-kind-requires c = tree_node c.args.past.now.document c.tree-tree.result.now c.args.who c.tree-tree.ensures c.requires.element
+pub kind-kind-requires : goal.kind-kind-requires
+kind-kind-requires c = tree_node c.args.container.now.past.now.document c.tree-tree.result.now c.args.container.now.who c.tree-tree.ensures c.requires.element
 
-pub attrs-requires : goal.attrs-requires
-attrs-requires c = tree_node c.args.past.now.document c.tree-tree.result.now c.args.who c.tree-tree.ensures c.requires.element
+pub attrs-attrs-requires : goal.attrs-attrs-requires
+attrs-attrs-requires c = tree_node c.args.container.now.past.now.document c.tree-tree.result.now c.args.container.now.who c.tree-tree.ensures c.requires.element
 
 pub returns : goal.returns
 returns c = λ e here.
-    let document = c.args.past.now.document in
+    let document = c.args.container.now.past.now.document in
     let nodes = document.nodes in
     let distinct = c.possible.ensures.valid.numbered.distinct in
-    let at = found nodes c.args.self.now.schedule.now c.args.who distinct c.requires.known.of_elements c.requires.element in
+    let at = found nodes c.args.self.now.schedule.now c.args.container.now.who distinct c.requires.known.of_elements c.requires.element in
     let is : c.unwrap-place.result ≡ at.place = same_Some _ _ (sym c.unwrap-place.ensures ∙ c.place.ensures ∙ at.position_is) in
     let one : at.element ≡ e = same_Some _ _ (sym at.node ∙ here) in
     let stands : slice_get (elements nodes) c.unwrap-place.result ≡ Some e = ap (slice_get (elements nodes)) is ∙ at.here ∙ ap Some one in
-    let known : node_at c.tree-tree.result.now.nodes c.args.who ≡ Some e = ap (λ (d : Document). node_at d.nodes c.args.who) c.tree-tree.ensures ∙ known_node document c.possible.ensures.valid.numbered c.args.who e here in
-    let kind : c.kind.result ≡ e.kind = kind_is c.tree-tree.result.now.nodes c.args.who e c.kind.result c.kind.ensures known in
-    let attrs : c.attrs.result.now ≡ e.attrs = tree_attrs document c.tree-tree.result.now c.args.who e c.attrs.result.now distinct c.tree-tree.ensures here c.attrs.ensures in
+    let known : node_at c.tree-tree.result.now.nodes c.args.container.now.who ≡ Some e = ap (λ (d : Document). node_at d.nodes c.args.container.now.who) c.tree-tree.ensures ∙ known_node document c.possible.ensures.valid.numbered c.args.container.now.who e here in
+    let kind : c.kind-kind.result ≡ e.kind = kind_is c.tree-tree.result.now.nodes c.args.container.now.who e c.kind-kind.result c.kind-kind.ensures known in
+    let attrs : c.attrs-attrs.result.now ≡ e.attrs = tree_attrs document c.tree-tree.result.now c.args.container.now.who e c.attrs-attrs.result.now distinct c.tree-tree.ensures here c.attrs-attrs.ensures in
     let ends = c.requires.known.ends_are c.unwrap-place.result e stands (ap (λ n. n.serial) (sym one) ∙ at.is_who) in
-    c.implicit.ensures ∙ (λ i. container_duration (kind i) (endsync_of (attrs i)) (to_z-of_z w64 c.args.start c.ranges.start i) (ends i))
+    let fits : SFits w64 c.args.container.now.start = search rules in
+    c.implicit.ensures ∙ (λ i. container_duration (kind i) (endsync_of (attrs i)) (to_z-of_z w64 c.args.container.now.start fits i) (ends i))
