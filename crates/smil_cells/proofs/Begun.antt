@@ -24,7 +24,7 @@ use Rattle.smil_past.specs.Past as past_of
 use Rattle.smil_past.specs.Past.{Happened, IsPossible, IsPresent}
 use Rattle.smil_cells.specs.Standing.{Standing, IsRebuilt, MayRebuild, cut_log}
 use Rattle.smil_diary.specs.declared.fault.BookFault.{BookFault}
-use Rattle.smil_cells.specs.Kept.{IsKept, MayBegin, begun, marked_by}
+use Rattle.smil_cells.specs.Standings.{IsKept, MayBegin, begun, marked_by}
 use Rattle.smil_cells.proofs.Heeded.{first_is_log, heeded}
 
 positive : (v : ℤ) → pos 0 ≤ℤ v → v ≡ pos (nat_abs v)

@@ -43,7 +43,7 @@ use Rattle.smil_stretch.specs.Clocks.{AreClocksOf}
 use Rattle.smil_past.specs.Queues.{kept_queues}
 use Rattle.smil_element.specs.declared.happening.parts.Parts.{Parts}
 use Rattle.smil_element.specs.Parts.{ArePartsOf}
-use Rattle.smil_cells.specs.Kept.{IsKept, IsSound, WhereMarked, at_mark, marked_by, standing_of}
+use Rattle.smil_cells.specs.Standings.{IsKept, IsSound, WhereMarked, at_mark, marked_by, standing_of}
 
 pub fits : (z : ℤ) → pos 0 ≤ℤ z → z ≤ℤ HORIZON → FitsSigned w64 z
 fits (pos k) from within = record { sfits = omega (arith, ints, from, within) }

@@ -32,7 +32,7 @@ use Rattle.smil_diary.specs.declared.fault.BookFault.{BookFault}
 use Rattle.smil_past.specs.Past as past_of
 use Rattle.smil_past.specs.Past.{Happened, IsPresent, MayHear, logged_entry, with_heard}
 use Rattle.smil_cells.specs.Standing.{Standing, IsFront, IsHeard, IsRefusing, NothingBefore, WhereTold, fresh, fresh_since, with_logged, is_same_interval}
-use Rattle.smil_cells.specs.Kept.{IsKept, IsSound, WhereMarked, marked_by, standing_of}
+use Rattle.smil_cells.specs.Standings.{IsKept, IsSound, WhereMarked, marked_by, standing_of}
 use Rattle.smil_cells.proofs.Coming.{coming_stays}
 use Rattle.smil_cells.proofs.Heard.{reached_heard}
 use Rattle.smil_cells.proofs.Heeded.{log_with, logged_one}

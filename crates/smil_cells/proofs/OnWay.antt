@@ -27,7 +27,7 @@ use Rattle.smil_laws.specs.Agreement.{course_on}
 use Rattle.smil_laws.specs.Courses.{ReachesFurther}
 use Rattle.smil_diary.specs.declared.fault.BookFault.{BookFault}
 use Rattle.smil_past.specs.Past.{Happened}
-use Rattle.smil_cells.specs.Kept.{IsKept, WhereMarked, marked_by, standing_of}
+use Rattle.smil_cells.specs.Standings.{IsKept, WhereMarked, marked_by, standing_of}
 use Rattle.smil_laws.specs.Same.{IsSame}
 use Rattle.smil_cells.specs.Standing.{Standing, is_same_interval, fresh, IsOnWay, IsPassed, IsNext, IsFront, GoesOn, StayTouched, WhereTold, moved_to, history_of, reached_since, fresh_since, interval_at}
 

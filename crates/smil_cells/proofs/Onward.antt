@@ -13,7 +13,7 @@ use Rattle.smil_model.specs.shown.Orders.{Presentation, course_of}
 use Rattle.smil_diary.specs.declared.fault.BookFault.{BookFault}
 use Rattle.smil_past.specs.Past.{Happened, logged_entry}
 use Rattle.smil_cells.specs.Standing.{Standing, GoesOn, IsFront, IsHeard, IsRefusing, StayTouched, WhereTold, fresh, fresh_since, interval_at, moved_to, reached_since, with_logged}
-use Rattle.smil_cells.specs.Kept.{standing_of}
+use Rattle.smil_cells.specs.Standings.{standing_of}
 use Rattle.smil_cells.proofs.OnWay.{triangle, untouched}
 
 module _ (old mid : Standing) (entry : LogEntry) (heard : IsHeard old entry mid) where

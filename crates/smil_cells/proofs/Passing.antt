@@ -21,7 +21,7 @@ use Rattle.smil_laws.specs.Courses.{ReachesOverQuiet}
 use Rattle.smil_past.specs.Past.{Happened}
 use Rattle.smil_cells.proofs.Coming.{coming_stays}
 use Rattle.smil_cells.specs.Standing.{IsSettled, NothingBefore, first_at, history_of}
-use Rattle.smil_cells.specs.Kept.{IsKept, standing_of}
+use Rattle.smil_cells.specs.Standings.{IsKept, standing_of}
 
 -- ---- numbers
 

@@ -8,7 +8,7 @@ use Rattle.smil_model.specs.diary.Clocks.{until}
 use Rattle.smil_laws.specs.Courses.{ReachedIsPast}
 use Rattle.smil_past.specs.Past as past_of
 use Rattle.smil_past.specs.Past.{Happened}
-use Rattle.smil_cells.specs.Kept.{IsKept, IsSound, WhereMarked, at_mark, marked_by}
+use Rattle.smil_cells.specs.Standings.{IsKept, IsSound, WhereMarked, at_mark, marked_by}
 
 positive : (v : ℤ) → pos 0 ≤ℤ v → v ≡ pos (nat_abs v)
 positive (pos k) l = refl

@@ -1,5 +1,5 @@
 pub mod Standing
-pub mod Kept
+pub mod Standings
 pub mod Shown
 pub mod Plain
 pub mod Rows

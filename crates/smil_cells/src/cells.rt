@@ -17,7 +17,7 @@ ghost use Rattle.smil_past.specs.Past as past_of;
 ghost use Rattle.smil_model.specs.declared.limits.TheConstants as limits;
 ghost use Rattle.smil_element.specs.Parts.{coming_meant};
 ghost use Rattle.smil_cells.specs.Standing.{GoesOn, IsFront, IsHeard, IsNext, IsPassed, IsRebuilt, IsRefusing, IsSettled, NothingBefore, first_at, IsPart, MayAppendAll, MayRebuild, Standing, StayTouched, WhereTold, any_interval, fresh_since, history_of, interval_at, moved_to, reached_since, with_logged};
-ghost use Rattle.smil_cells.specs.Kept.{MayBegin, at_mark, begun};
+ghost use Rattle.smil_cells.specs.Standings.{MayBegin, at_mark, begun};
 ghost use Rattle.smil_laws.specs.Same.{IsSame};
 
 use super::named::{heard_log, last_moment};
@@ -73,7 +73,7 @@ impl<T: Table> Drop for Cells<T> {
 
 impl<T: Table> Model for Cells<T> {
     ghost use Rattle.smil_cells.specs.Standing.{Standing};
-    ghost use Rattle.smil_cells.specs.Kept.{IsKept, standing_of};
+    ghost use Rattle.smil_cells.specs.Standings.{IsKept, standing_of};
 
     ghost Value = { Standing };
 

@@ -9,7 +9,7 @@ use Rattle.smil_model.specs.document.Document.{Document, elements, is_class_kind
 use Rattle.smil_model.specs.document.Valid.{kind_of}
 use Rattle.smil_model.specs.shown.Orders.{IsState, Presentation, changes_between, views_of}
 use Rattle.std.proofs.lemmas.Option.{same_Some}
-use Rattle.smil_cells.specs.Kept.{at_mark}
+use Rattle.smil_cells.specs.Standings.{at_mark}
 use Rattle.smil_cells.specs.Standing.{IsSettled, Standing}
 use Rattle.smil_live.specs.ShownViews.{IsPlaying, IsShown, views_at}
 use Rattle.smil_live.specs.Moves.{IsShownAt, text_of}

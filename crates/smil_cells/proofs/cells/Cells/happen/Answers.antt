@@ -10,7 +10,7 @@ use Rattle.smil_element.specs.Parts.{coming_meant, meant}
 use Rattle.smil_cells.specs.Standing.{IsFront, IsNext, IsRefusing, first_at, MayAppendAll, Standing, WhereTold, fresh_since}
 use Rattle.std.proofs.lemmas.Int.{to_z-of_z}
 use Rattle.smil_past.specs.Past.{Happened}
-use Rattle.smil_cells.specs.Kept.{IsKept, standing_of}
+use Rattle.smil_cells.specs.Standings.{IsKept, standing_of}
 use Rattle.smil_cells.proofs.Refusals.{refused_by}
 use Rattle.smil_cells.proofs.Grown.{parts, known_in, made_now, all_now, some_now, many_now, positive, may, fronted, reached_after, stepped, grows_by, came_to, least_fresh, fits, present_with, grown, refusing, of_element}
 use Rattle.smil_cells.proofs.cells.Cells.happen.Goals as goal

@@ -6,7 +6,7 @@ use Rattle.smil_model.specs.shown.Orders.{course_of}
 use Rattle.smil_diary.specs.declared.fault.BookFault.{BookFault}
 use Rattle.smil_diary.specs.declared.fault.BookFault.TheVariants.{DiaryFull}
 use Rattle.smil_cells.specs.Standing.{Standing, GoesOn, IsFront, IsRefusing, StayTouched, WhereTold, fresh_since, moved_to, reached_since, with_logged}
-use Rattle.smil_cells.specs.Kept.{standing_of}
+use Rattle.smil_cells.specs.Standings.{standing_of}
 use Rattle.smil_cells.proofs.Grown.{fits}
 use Rattle.smil_cells.proofs.OnWay.{goes_on_from}
 use Rattle.smil_cells.proofs.Onward.{refusing_on, state_on, front_on, goes_on_heard, reached_heard_on, fresh_heard_on, refusing_from}

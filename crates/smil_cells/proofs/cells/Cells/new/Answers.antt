@@ -3,7 +3,7 @@ use Rattle.std.specs.Prelude.{pos}
 use Rattle.smil_model.specs.declared.diary.LogEntry.{LogEntry}
 use Rattle.smil_model.specs.document.Document.{Document}
 use Rattle.smil_past.specs.Past.{Happened}
-use Rattle.smil_cells.specs.Kept.{MayBegin}
+use Rattle.smil_cells.specs.Standings.{MayBegin}
 use Rattle.smil_cells.proofs.Begun.{may_first}
 use Rattle.smil_cells.proofs.cells.Cells.new.Goals as goal
 

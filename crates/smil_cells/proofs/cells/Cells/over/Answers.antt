@@ -5,7 +5,7 @@ use Rattle.smil_model.specs.interval.Current.{current_interval}
 use Rattle.smil_past.specs.Past.{IsPresent, history_of}
 use Rattle.smil_cells.specs.Standing.{WhereTold, any_interval}
 use Rattle.smil_cells.proofs.Grown.{positive}
-use Rattle.smil_cells.specs.Kept.{IsKept}
+use Rattle.smil_cells.specs.Standings.{IsKept}
 use Rattle.smil_cells.proofs.Begun.{is_present, kept}
 use Rattle.smil_cells.proofs.cells.Cells.over.Goals as goal
 

@@ -4,7 +4,7 @@ use Rattle.std.proofs.lemmas.Int.{to_z-of_z}
 use mir.Val.{to_z, of_z}
 use Rattle.smil_cells.specs.Standing.{Standing, IsSettled, NothingBefore, history_of}
 use Rattle.smil_laws.specs.Same.{IsSame}
-use Rattle.smil_cells.specs.Kept.{IsKept, standing_of}
+use Rattle.smil_cells.specs.Standings.{IsKept, standing_of}
 use Rattle.smil_cells.proofs.Passing.{passed, same_passed, settled_passed}
 use Rattle.smil_cells.proofs.cells.Cells.pass_to.Goals as goal
 

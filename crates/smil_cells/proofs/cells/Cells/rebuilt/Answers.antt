@@ -8,7 +8,7 @@ use Rattle.smil_model.specs.diary.Diary.{last_moment}
 use Rattle.smil_stretch.proofs.Diaries.{lawful_first}
 use Rattle.smil_past.specs.Past.{Happened, IsPossible, history_of}
 use Rattle.smil_cells.specs.Standing.{Standing, IsRebuilt, MayRebuild, cut_log}
-use Rattle.smil_cells.specs.Kept.{MayBegin, begun, standing_of}
+use Rattle.smil_cells.specs.Standings.{MayBegin, begun, standing_of}
 use Rattle.smil_cells.proofs.Begun.{moment_is, possible_part, may_part, rebuilt_is, where_made}
 use Rattle.smil_cells.proofs.cells.Cells.rebuilt.Goals as goal
 

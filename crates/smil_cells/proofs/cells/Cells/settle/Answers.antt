@@ -5,7 +5,7 @@ use Rattle.smil_model.specs.happening.Resolution.{diary_of}
 use Rattle.smil_model.specs.shown.Orders.{course_of}
 use Rattle.smil_diary.specs.declared.fault.BookFault.TheVariants.{DiaryFull}
 use Rattle.smil_cells.specs.Standing.{Standing, GoesOn, IsFront, WhereTold, fresh_since, moved_to, reached_since}
-use Rattle.smil_cells.specs.Kept.{standing_of}
+use Rattle.smil_cells.specs.Standings.{standing_of}
 use Rattle.smil_cells.proofs.Refusals.{none_is_there, front_is_there}
 use Rattle.smil_cells.proofs.OnWay.{goes_on_from}
 use Rattle.smil_cells.proofs.cells.Cells.settle.Goals as goal

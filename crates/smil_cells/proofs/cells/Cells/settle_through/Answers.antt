@@ -6,7 +6,7 @@ use Rattle.std.proofs.lemmas.Int.{to_z-of_z}
 use Rattle.smil_cells.proofs.OnWay.{IsRest, rested, below, sooner, no_fewer, begun, nothing_reached, nothing_fresh, onward, fewer_free, reached_on, fresh_on, front_later, touched_anew, goes_on, stay_touched, fresh_at_rest}
 use Rattle.smil_model.specs.document.Document.{Document}
 use Rattle.smil_model.specs.document.Valid.{IsNumberedTree}
-use Rattle.smil_cells.specs.Kept.{standing_of}
+use Rattle.smil_cells.specs.Standings.{standing_of}
 use Rattle.smil_cells.proofs.cells.Cells.settle_through.Given.{Over}
 use Rattle.smil_cells.proofs.cells.Cells.settle_through.Goals as goal
 

@@ -8,7 +8,7 @@ use Rattle.smil_diary.specs.declared.fault.BookFault.TheVariants as book_fault
 use Rattle.smil_past.specs.Past as past_of
 use Rattle.smil_past.specs.Past.{Happened}
 use Rattle.smil_cells.specs.Standing.{Standing, IsFront, IsHeard, IsRefusing, NothingBefore, WhereTold, fresh_since, with_logged}
-use Rattle.smil_cells.specs.Kept.{IsKept, standing_of}
+use Rattle.smil_cells.specs.Standings.{IsKept, standing_of}
 use Rattle.smil_cells.proofs.Grown.{fits, positive}
 use Rattle.smil_cells.proofs.Refusals.{refused_by}
 use Rattle.smil_cells.proofs.Hearing.{kept_heard, present_heard, is_log_heard, may_hear, sound_heard, front_heard, current_before, came_heard, least_heard, refusing_heard}
