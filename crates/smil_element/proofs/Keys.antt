@@ -1,5 +1,6 @@
 -- What comes of an element, with its key.
 use Rattle.std.proofs.Common.{◌≡◌, refl, sym, ◌∙◌, ap, ℕ, List, [], ◌∷◌, ◌++◌, Bool, true, false, Option, Some, None, ℤ}
+use Rattle.std.proofs.lemmas.List.{append-nil}
 use Rattle.std.specs.Prelude.{cond, int_lt, pos, ◌+ℤ◌, ◌-ℤ◌, not, ◌&&◌, ◌||◌, is_some}
 use Rattle.smil_model.specs.declared.times.Time.{Time}
 use Rattle.smil_model.specs.declared.times.Time.TheVariants.{At, Indefinite, Unresolved}
@@ -11,7 +12,6 @@ use Rattle.smil_model.specs.interval.Durations.{Bounds, bounds_of, intermediate_
 use Rattle.smil_model.specs.diary.Diary.{History, is_active, iteration}
 use Rattle.smil_model.specs.diary.Clocks.{run, to_document, stands, outer_stands, iteration_start, play_start}
 use Rattle.smil_model.specs.happening.Keys.{Change, Coming, ends, repeats, is_repeating, coming_at, coming_begin, coming_end, coming_end_at, coming_repeat_at}
-use Rattle.smil_laws.proofs.Foreign.{append_nil}
 use Rattle.smil_element.specs.declared.happening.change.Coming.{Coming as Moved}
 use Rattle.smil_element.specs.Element.{and_coming, both, coming_by, goes_on, moved_by, repeat_by}
 
@@ -76,7 +76,7 @@ both_are h interval simple now place e t first second active is again =
         ∙ ap (λ u. cond u (ends_or_none h interval now place e ++ repeat_by h simple now place e) (begins_or_none h interval now place e)) q
     by false q =
         ap (λ u. cond u (ends_or_none h interval now place e) (begins_or_none h interval now place e) ++ []) (sym q)
-        ∙ append_nil (begins_or_none h interval now place e)
+        ∙ append-nil (begins_or_none h interval now place e)
         ∙ ap (λ u. cond u (ends_or_none h interval now place e ++ repeat_by h simple now place e) (begins_or_none h interval now place e)) q
 
 -- while the time parent's clock stands

@@ -8,8 +8,7 @@ use Rattle.smil_model.specs.declared.document.Kind.{Kind}
 use Rattle.smil_model.specs.document.Document.{Document, elements, has_serial, is_element, is_time_child, node_at, serial_of, serials, time_children, time_parent}
 use Rattle.smil_model.specs.document.Valid.{IsNumberedTree, kind_of}
 use Rattle.smil_model.specs.diary.Lawful.{has_element}
-use Rattle.smil_laws.proofs.Members.{each_kept}
-use Rattle.smil_laws.proofs.Lists.{each_at}
+use Rattle.smil_laws.proofs.Lists.{each_at, each_kept}
 use Rattle.smil_tree.proofs.Spans.{all_known}
 use Rattle.smil_instances.proofs.Begun.{IsAt, at_place, element_at}
 use Rattle.smil_past.proofs.References.{kept_known, stands}

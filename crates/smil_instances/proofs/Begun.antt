@@ -12,8 +12,7 @@ use Rattle.smil_model.specs.declared.document.Item.TheVariants.{Offset, Indefini
 use Rattle.smil_model.specs.document.Document.{Document, elements, is_class_kind, is_element, is_in_excl, node_at, previous_in_seq, serials}
 use Rattle.smil_model.specs.document.Defaults.{begin_list, end_list, items_or}
 use Rattle.smil_model.specs.document.Valid.{IsDistinct, IsNumberedTree, kind_of}
-use Rattle.smil_laws.proofs.Members.{each_kept}
-use Rattle.smil_laws.proofs.Lists.{take-more_at, each_at}
+use Rattle.smil_laws.proofs.Lists.{take-more_at, each_at, each_kept}
 use Rattle.smil_tree.proofs.Families.{node_of_place}
 use Rattle.smil_tree.proofs.Spans.{all_known}
 use Rattle.smil_tree.proofs.Changed.{serial_of}

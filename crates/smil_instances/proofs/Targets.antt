@@ -14,7 +14,7 @@ use Rattle.smil_model.specs.interval.Instances.{same_target}
 use Rattle.smil_laws.proofs.Lineages.{swap_eqb}
 use Rattle.smil_laws.proofs.Aside.{find_each, find_true, find_within}
 use Rattle.smil_laws.proofs.Below.{differ_each}
-use Rattle.smil_laws.proofs.Members.{each_kept, each_member}
+use Rattle.smil_laws.proofs.Lists.{each_weaker, each_kept}
 use Rattle.smil_tree.specs.Kept.{bears}
 use Rattle.smil_tree.proofs.Owners.{count-cons}
 use Rattle.smil_tree.proofs.Making.{once_of}
@@ -120,7 +120,7 @@ named_is q (n ∷ ns) s e d once at = step (is_element n) refl (bears q n) refl 
     step true k false f true g r later =
         let one : Some n ≡ Some e = sym (ap (λ u. cond u (Some n) (node_at (elements ns) s)) g) ∙ r in
         let same : n ≡ e = cc in
-        let apart : AllByRecursion (λ (m : Node). m.serial == s ≡ false) ns = each_member (λ (m : Node). m.serial == n.serial ≡ false) (λ (m : Node). m.serial == s ≡ false) ns (differ_each n.serial ns d.0) (λ m u. ap (λ x. m.serial == x) (sym (eqb-true n.serial s g)) ∙ u) in
+        let apart : AllByRecursion (λ (m : Node). m.serial == s ≡ false) ns = each_weaker (λ (m : Node). m.serial == n.serial ≡ false) (λ (m : Node). m.serial == s ≡ false) ns (differ_each n.serial ns d.0) (λ m u. ap (λ x. m.serial == x) (sym (eqb-true n.serial s g)) ∙ u) in
         skipped (ap (λ t. t && bears q n) k ∙ f) ∙ not_among q s ns apart ∙ sym f ∙ ap (bears q) same
     step true k false f false g r later =
         skipped (ap (λ t. t && bears q n) k ∙ f) ∙ later (sym (ap (λ u. cond u (Some n) (node_at (elements ns) s)) g) ∙ r)

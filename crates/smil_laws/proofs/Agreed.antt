@@ -4,6 +4,7 @@ use Rattle.std.specs.Prelude.{cond, pos, int_le, nat_lt, slice_get}
 use Rattle.std.specs.Option.{option_map_or}
 use Rattle.std.proofs.lemmas.Bool.{or_parts}
 use Rattle.std.proofs.lemmas.List.Folds.{list_any-append}
+use Rattle.std.proofs.lemmas.List.{append-nil}
 use Rattle.smil_model.specs.declared.diary.Entry.{Entry}
 use Rattle.smil_model.specs.declared.diary.LogEntry.{LogEntry}
 use Rattle.smil_model.specs.declared.diary.Step.TheVariants.{Logged}
@@ -19,10 +20,6 @@ use Rattle.smil_laws.proofs.AsideGroups.{group_same, group_spares}
 
 -- ---- one step appends to the diary
 
-append_none : (xs : List Entry) → xs ≡ xs ++ []
-append_none [] = refl
-append_none (x ∷ xs) = ap (λ ys. x ∷ ys) (append_none xs)
-
 -- the diary that a step leaves is the one before it with such entries appended
 abbrev Extends : (List Entry → Type 0) → Progress → Option Progress → Type 0
 Extends P q o = (r : Progress) → o ≡ Some r → (added : List Entry) × (r.diary ≡ q.diary ++ added) × P added
@@ -34,7 +31,7 @@ module _ (P : List Entry → Type 0) (c : Course) (q : Progress) (nothing : P []
       by_test : (t : Bool) → cond t (Some (record { moment = suc q.moment; heard = q.heard; diary = q.diary })) None ≡ Some r → (added : List Entry) × (r.diary ≡ q.diary ++ added) × P added
       by_test true e =
           let one : record { moment = suc q.moment; heard = q.heard; diary = q.diary } ≡ r = cc in
-          ([], sym (ap (λ (x : Progress). x.diary) one) ∙ append_none q.diary, nothing)
+          ([], sym (ap (λ (x : Progress). x.diary) one) ∙ sym (append-nil q.diary), nothing)
       by_test false e = cc
 
   settling_extends : (o : Option LogEntry) → Extends P q (after_settling c q o)

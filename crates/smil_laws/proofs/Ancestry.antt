@@ -11,7 +11,8 @@ use Rattle.smil_laws.specs.Edited.{IsOrdered}
 use Rattle.smil_laws.proofs.Lineages.{upwards-rest, upwards-head}
 use Rattle.smil_laws.proofs.Aside.{each_reverse}
 use Rattle.smil_laws.proofs.Below.{each_upwards, differ_each}
-use Rattle.smil_laws.proofs.Members.{holds, none_held, found_held, each_member, Differ, differ_all, differ_reverse}
+use Rattle.smil_laws.proofs.Members.{holds, none_held, found_held, Differ, differ_all, differ_reverse}
+use Rattle.smil_laws.proofs.Lists.{each_weaker}
 
 -- no node stands above itself
 own_free : (x : ℕ) (rs : List Node) → Differ rs → holds x (drop 1 (upwards rs x)) ≡ false
@@ -22,7 +23,7 @@ own_free x (n ∷ before) d = step (n.serial == x) refl (own_free x before d.1)
     step true e rest =
         none_held x (upwards before n.parent)
         (each_upwards (λ (m : Node). m.serial == x ≡ false) before n.parent
-        (each_member (λ (m : Node). m.serial == n.serial ≡ false) (λ (m : Node). m.serial == x ≡ false) before d.0 (λ m q. ap (λ y. m.serial == y) (sym (eqb-true n.serial x e)) ∙ q)))
+        (each_weaker (λ (m : Node). m.serial == n.serial ≡ false) (λ (m : Node). m.serial == x ≡ false) before d.0 (λ m q. ap (λ y. m.serial == y) (sym (eqb-true n.serial x e)) ∙ q)))
     step false e rest = rest
 
 -- where an element has this serial, each node with it is an element
@@ -31,7 +32,7 @@ all_elements x [] d q = tt
 all_elements x (n ∷ ns) d q = step (is_element n) refl q (all_elements x ns d.1)
   where
     none_else : n.serial == x ≡ true → AllByRecursion (λ (m : Node). m.serial == x ≡ true → is_element m ≡ true) ns
-    none_else e = each_member (λ (m : Node). m.serial == n.serial ≡ false) (λ (m : Node). m.serial == x ≡ true → is_element m ≡ true) ns (differ_each n.serial ns d.0) each
+    none_else e = each_weaker (λ (m : Node). m.serial == n.serial ≡ false) (λ (m : Node). m.serial == x ≡ true → is_element m ≡ true) ns (differ_each n.serial ns d.0) each
       where
         each : (m : Node) → m.serial == n.serial ≡ false → m.serial == x ≡ true → is_element m ≡ true
         each m r t = let never : false ≡ true = sym r ∙ ap (λ y. m.serial == y) (eqb-true n.serial x e) ∙ t in cc

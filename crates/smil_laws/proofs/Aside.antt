@@ -41,10 +41,6 @@ each_filter P t (n ∷ ns) f = step (t n) (f n) (each_filter P t ns f)
     step true g r = (g refl, r)
     step false g r = r
 
-pub each_weaker : (P Q : Node → Type 0) (ns : List Node) → AllByRecursion P ns → ((n : Node) → P n → Q n) → AllByRecursion Q ns
-each_weaker P Q [] each f = tt
-each_weaker P Q (n ∷ ns) each f = (f n each.0, each_weaker P Q ns each.1 f)
-
 pub find_each : (P : Node → Type 0) (t : Node → Bool) (ns : List Node) (n : Node) → AllByRecursion P ns → find t ns ≡ Some n → P n
 find_each P t [] n each q = cc
 find_each P t (m ∷ ms) n each q = step (t m) q (find_each P t ms n each.1)

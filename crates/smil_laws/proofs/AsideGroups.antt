@@ -19,8 +19,9 @@ use Rattle.smil_model.specs.happening.Groups.{cuts, follower, followers, interru
 use Rattle.smil_laws.specs.Agreement.{IsPlaced, DifferBelow, is_on, SparesAll}
 use Rattle.smil_laws.proofs.Rounds.{find-serial}
 use Rattle.smil_laws.proofs.Kept.{lineage_same, parent_same, parent_time_same}
-use Rattle.smil_laws.proofs.Aside.{each_weaker, find_each, find_true, each_append, each_reverse, each_filter, find_within, filter_swap, inactive, is_out, spared, closed}
+use Rattle.smil_laws.proofs.Aside.{find_each, find_true, each_append, each_reverse, each_filter, find_within, filter_swap, inactive, is_out, spared, closed}
 use Rattle.smil_laws.proofs.AsideIntervals.{far, children_ok}
+use Rattle.smil_laws.proofs.Lists.{each_weaker, each_kept}
 
 -- ---- lists
 
@@ -41,14 +42,6 @@ filter_within_each f g (n ∷ ns) each = step (f n) (g n) refl each.0 (filter_wi
 pub each_map : {A B : Type 0} (P : A → Type 0) (Q : B → Type 0) (f : A → B) (xs : List A) → AllByRecursion P xs → ((x : A) → P x → Q (f x)) → AllByRecursion Q (map f xs)
 each_map P Q f [] each g = tt
 each_map P Q f (x ∷ xs) each g = (g x each.0, each_map P Q f xs each.1 g)
-
-each_numbers : (P : ℕ → Type 0) (t : ℕ → Bool) (xs : List ℕ) → AllByRecursion P xs → AllByRecursion P (filter t xs)
-each_numbers P t [] each = tt
-each_numbers P t (x ∷ xs) each = step (t x) (each_numbers P t xs each.1)
-  where
-    step : (b : Bool) → AllByRecursion P (filter t xs) → AllByRecursion P (cond b (x ∷ filter t xs) (filter t xs))
-    step true r = (each.0, r)
-    step false r = r
 
 module _ (aside : ℕ → Bool) (p : ℕ) (n1 n2 : List Node) (differ : DifferBelow aside p n1 n2) (log1 log2 : List LogEntry) where
   abbrev k : ℕ → Bool
@@ -151,7 +144,7 @@ module _ (aside : ℕ → Bool) (p : ℕ) (n1 n2 : List Node) (differ : DifferBe
   deferred_kept ns s (o ∷ os) a each = either (nat_lt (rank ns s) (rank ns o)) (s ∷ o ∷ os) (o ∷ put_deferred ns s os) (a, each) (each.0, deferred_kept ns s os a each.1)
 
   without_kept : (s : ℕ) (queue : List ℕ) → AllByRecursion IsKept queue → AllByRecursion IsKept (without s queue)
-  without_kept s queue each = each_numbers IsKept (λ other. not (other == s)) queue each
+  without_kept s queue each = each_kept IsKept (λ other. not (other == s)) queue each
 
   child_same : (x s : ℕ) → aside s ≡ false → is_child_of n1 x s ≡ is_child_of n2 x s
   child_same x s a = ap (has_serial x) (parent_same k n1 n2 differ.same (closed aside p n1 differ.in_old) (closed aside p n2 differ.in_new) log1 log2 [] s (ap not a))

@@ -20,6 +20,7 @@ use Rattle.smil_model.specs.reach.Bounds.{has_begun}
 use Rattle.smil_laws.proofs.Kept.{held_same, parent_held_same, parent_time_same, own_same, play_start_same, iteration_start_same, iteration_same}
 use Rattle.smil_laws.proofs.Aside.{NamesAlike, not_aside, each_append, each_filter, filter_swap, inactive, spared, closed}
 use Rattle.smil_laws.proofs.AsideIntervals.{simple_same, current_none, current_same}
+use Rattle.smil_laws.proofs.Lists.{each_weaker}
 use Rattle.std.specs.List.{AllByRecursion}
 
 -- ---- keys at another place
@@ -198,10 +199,6 @@ keys_serial h J now q e =
     repeats : (d t : Time) → AllByRecursion (λ (next : Coming). next.key.serial ≡ e.serial) (coming_repeat_at h now q e d t)
     repeats d (At over) = row _ _ refl
     repeats d _ = tt
-
-each_weaker : (P Q : Coming → Type 0) (ks : List Coming) → AllByRecursion P ks → ((next : Coming) → P next → Q next) → AllByRecursion Q ks
-each_weaker P Q [] p f = tt
-each_weaker P Q (next ∷ ks) p f = (f next p.0, each_weaker P Q ks p.1 f)
 
 least_each : (P : Coming → Type 0) (ks : List Coming) (o : Option Coming) (next : Coming) → AllByRecursion P ks → ((l : Coming) → o ≡ Some l → P l) → fold earlier_coming o ks ≡ Some next → P next
 least_each P [] o next each start q = start next q

@@ -5,6 +5,7 @@ use Rattle.std.specs.Option.{option_map_or}
 use Rattle.std.specs.List.{AllByRecursion}
 use Rattle.std.proofs.lemmas.Bool.{leb-true, leb-false}
 use Rattle.std.proofs.lemmas.Int.{ints}
+use Rattle.std.proofs.lemmas.List.{append-nil}
 use Rattle.smil_model.specs.declared.diary.Entry.{Entry}
 use Rattle.smil_model.specs.declared.diary.LogEntry.{LogEntry}
 use Rattle.smil_model.specs.declared.diary.Step.{Step}
@@ -55,21 +56,17 @@ append_assoc : (xs ys zs : List Entry) → (xs ++ ys) ++ zs ≡ xs ++ (ys ++ zs)
 append_assoc [] ys zs = refl
 append_assoc (x ∷ xs) ys zs = ap (λ es. x ∷ es) (append_assoc xs ys zs)
 
-append_none : (xs : List Entry) → xs ++ [] ≡ xs
-append_none [] = refl
-append_none (x ∷ xs) = ap (λ ys. x ∷ ys) (append_none xs)
-
 record Grows (q r : Progress) : Type 0 where
   more : List Entry
   diary : r.diary ≡ q.diary ++ more
   late : NotBefore q.moment more
 
 grows : (c : Course) (k : ℕ) (q : Progress) → Grows q (after_steps c k q)
-grows c zero q = record { more = []; diary = sym (append_none q.diary); late = tt }
+grows c zero q = record { more = []; diary = sym (append-nil q.diary); late = tt }
 grows c (suc k) q = by_next (next_step c q) refl (grows c k)
   where
     by_next : (o : Option Progress) → next_step c q ≡ o → ((r : Progress) → Grows r (after_steps c k r)) → Grows q (option_map_or (λ r. after_steps c k r) o q)
-    by_next None e later = record { more = []; diary = sym (append_none q.diary); late = tt }
+    by_next None e later = record { more = []; diary = sym (append-nil q.diary); late = tt }
     by_next (Some r) e later =
         let one = next_extends (NotBefore q.moment) c q tt (le_same q.moment, tt)
         (λ next d. all_now q.moment (steps_of (history_at c q) (pos q.moment) next.key.serial next.change)) r e in

@@ -11,7 +11,8 @@ use Rattle.smil_laws.specs.Locality.{NoParent, ParentsBefore}
 use Rattle.smil_laws.specs.Agreement.{IsPlaced}
 use Rattle.smil_laws.specs.Edited.{IsOrdered}
 use Rattle.smil_laws.proofs.Lineages.{swap_eqb, skip, take_it, upwards-head}
-use Rattle.smil_laws.proofs.Aside.{each_weaker, find_each, find_true, each_append, each_reverse, each_drop}
+use Rattle.smil_laws.proofs.Aside.{find_each, find_true, each_append, each_reverse, each_drop}
+use Rattle.smil_laws.proofs.Lists.{each_weaker}
 
 -- ---- lists
 

@@ -21,10 +21,11 @@ use Rattle.smil_model.specs.interval.Instances.{begin_times, end_times}
 use Rattle.smil_model.specs.interval.Current.{present_play, facts_of, interval_given, simple_of, in_table, table, current_table}
 use Rattle.smil_model.specs.happening.Keys.{Coming, coming_begin, coming_end_at, coming_end, coming_repeat_at, coming_repeat, coming_of, coming_from, coming, earlier_coming, first_coming, comes_before}
 use Rattle.smil_laws.specs.Edited.{IsOrdered}
-use Rattle.smil_laws.proofs.Aside.{each_append, each_weaker}
+use Rattle.smil_laws.proofs.Aside.{each_append}
 use Rattle.smil_laws.proofs.Members.{holds}
 use Rattle.smil_laws.proofs.LawfulSteps.{by}
 use Rattle.smil_laws.proofs.LawfulGroups.{MayHappen}
+use Rattle.smil_laws.proofs.Lists.{each_weaker}
 
 -- ---- an interval of an element that is not active
 

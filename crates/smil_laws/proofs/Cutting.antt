@@ -6,6 +6,7 @@ use Rattle.std.proofs.lemmas.List.Sums.{fold-append}
 use Rattle.std.proofs.lemmas.List.Elements.{filter-append}
 use Rattle.smil_laws.specs.Cut.{IsNamedBelow, NamesBelow, is_logged, logged}
 use Rattle.std.proofs.lemmas.Bool.{lt-ltb, le-ltb, ltb-true, eq-eqb, ne_eqb}
+use Rattle.std.proofs.lemmas.List.{append-nil}
 use Rattle.smil_model.specs.declared.diary.Entry.{Entry}
 use Rattle.smil_model.specs.declared.diary.LogEntry.{LogEntry}
 use Rattle.smil_model.specs.declared.diary.Step.{Step}
@@ -24,11 +25,11 @@ use Rattle.smil_model.specs.happening.Groups.{cuts, follower, followers, interru
 use Rattle.smil_model.specs.happening.Resolution.{Course, Progress, outset, history_at, after_quiet, after_settling, after_coming, next_step, after_steps, Reaches}
 use Rattle.smil_laws.specs.Agreement.{IsPlaced, IsAside, DifferBelow, SparesAll, course_on}
 use Rattle.smil_model.specs.reach.Bounds.{has_begun}
-use Rattle.smil_laws.proofs.Aside.{SameLogged, NamesAlike, each_append, each_weaker, find_each, spared}
+use Rattle.smil_laws.proofs.Aside.{SameLogged, NamesAlike, each_append, find_each, spared}
 use Rattle.smil_laws.proofs.AsideGroups.{each_map}
 use Rattle.smil_laws.proofs.Agreed.{next_alike, next_frees}
 use Rattle.smil_laws.proofs.Numbered.{all_low, ordered}
-use Rattle.smil_laws.proofs.EditsBelow.{each_sub}
+use Rattle.smil_laws.proofs.Lists.{each_weaker, each_kept}
 use Rattle.std.specs.List.{AllByRecursion}
 
 -- ---- the places that a diary names
@@ -241,7 +242,7 @@ module _ (nodes : List Node) (first : ParentsBefore (reverse nodes)) (fresh : �
     under = λ e here a.
         let free : e.serial == fresh ≡ false =
         find_each (λ (x : Node). x.serial == fresh ≡ false) (λ (x : Node). x.serial == e.serial) (elements nodes) e
-        (each_sub (λ (x : Node). x.serial == fresh ≡ false) is_element nodes
+        (each_kept (λ (x : Node). x.serial == fresh ≡ false) is_element nodes
         (each_weaker (λ (x : Node). (x.serial == fresh ≡ false) × (x.parent == fresh ≡ false)) (λ (x : Node). x.serial == fresh ≡ false) nodes unused (λ x u. u.0))) here in
         let never : false ≡ true = sym free ∙ a in cc;
   }
@@ -351,10 +352,6 @@ reaches_when_cut d log last q numbered r = (
 
 -- ---- without the quiet moments behind the last entry
 
-append_none : (xs : List Entry) → xs ++ [] ≡ xs
-append_none [] = refl
-append_none (x ∷ xs) = ap (λ ys. x ∷ ys) (append_none xs)
-
 last_all : (m v : ℤ) (step : Step) (steps : List Step) → fold (λ before (x : Entry). x.moment) v (at_moment m (step ∷ steps)) ≡ m
 last_all m v step [] = refl
 last_all m v step (s ∷ ss) = last_all m m s ss
@@ -389,7 +386,7 @@ module _ (c : Course) (q : Progress) where
   key_adds (Some next) r e = by_test (is_due (pos q.moment) next.key) e
     where
       by_steps : (steps : List Step) → record { moment = q.moment; heard = q.heard; diary = q.diary ++ at_moment (pos q.moment) steps } ≡ r → Adds q r
-      by_steps [] one = inl (sym (ap (λ (x : Progress). x.diary) one) ∙ append_none q.diary)
+      by_steps [] one = inl (sym (ap (λ (x : Progress). x.diary) one) ∙ append-nil q.diary)
       by_steps (s ∷ ss) one = rw (← one) (inr (sym (last_added (pos q.moment) q.diary s ss)))
 
       by_test : (t : Bool) → cond t (Some (record { moment = q.moment; heard = q.heard; diary = q.diary ++ group (history_at c q) (pos q.moment) next.key.serial next.change })) (after_settling c q (slice_get c.log q.heard)) ≡ Some r → Adds q r

@@ -14,8 +14,9 @@ use Rattle.smil_laws.specs.Agreement.{IsPlaced, IsAside, DifferBelow, without_as
 use Rattle.smil_laws.specs.Edited.{KeepsReferences, IsOrdered}
 use Rattle.smil_laws.proofs.Kept.{KeepsParents, upwards_kept, filter_reverse}
 use Rattle.smil_laws.proofs.Lineages.{skip, take_it, upwards-rest, upwards-head}
-use Rattle.smil_laws.proofs.Aside.{each_weaker, find_each, each_append, each_reverse, each_drop, each_filter, find_within, filter_swap, not_aside, other_who}
+use Rattle.smil_laws.proofs.Aside.{find_each, each_append, each_reverse, each_drop, each_filter, find_within, filter_swap, not_aside, other_who}
 use Rattle.smil_laws.proofs.Below.{reverse_twice, IsChain, ordered_chains, under_some, edited_below, all_placed}
+use Rattle.smil_laws.proofs.Lists.{each_weaker, each_kept, each_take}
 
 -- ---- from the parts of an edit
 
@@ -177,14 +178,6 @@ pub keeps_list : (kept : ℕ → Bool) (ms : List Node) → AllByRecursion (λ (
 keeps_list kept [] each = tt
 keeps_list kept (m ∷ ms) each = (each.0, keeps_list kept ms each.1)
 
-pub each_sub : (P : Node → Type 0) (t : Node → Bool) (ns : List Node) → AllByRecursion P ns → AllByRecursion P (filter t ns)
-each_sub P t [] each = tt
-each_sub P t (n ∷ ns) each = step (t n) (each_sub P t ns each.1)
-  where
-    step : (b : Bool) → AllByRecursion P (filter t ns) → AllByRecursion P (cond b (n ∷ filter t ns) (filter t ns))
-    step true r = (each.0, r)
-    step false r = r
-
 no_parent_sub : (t : Node → Bool) (s : ℕ) (ms : List Node) → NoParent s ms → NoParent s (filter t ms)
 no_parent_sub t s [] free = tt
 no_parent_sub t s (m ∷ ms) free = step (t m) (no_parent_sub t s ms free.1)
@@ -267,11 +260,11 @@ module _ (nodes : List Node) (x : ℕ) (parent : Node) (o : IsOrdered nodes) (un
     under = λ e here a.
         under_some rest p e.serial (elements_only (is_below nodes p) p rest placed)
         (below_rest e.serial (find_each (λ (n : Node). stays n.serial ≡ true) (λ (n : Node). n.serial == e.serial) (elements rest) e
-        (each_sub (λ (n : Node). stays n.serial ≡ true) is_element rest (each_filter (λ (n : Node). stays n.serial ≡ true) (λ (n : Node). stays n.serial) nodes (λ n t. t))) here) ∙ a);
+        (each_kept (λ (n : Node). stays n.serial ≡ true) is_element rest (each_filter (λ (n : Node). stays n.serial ≡ true) (λ (n : Node). stays n.serial) nodes (λ n t. t))) here) ∙ a);
   }
     where
       placed : AllByRecursion (IsPlaced (is_below nodes p) p) rest
-      placed = each_sub (IsPlaced (is_below nodes p) p) (λ (n : Node). stays n.serial) nodes (all_placed nodes o x parent under)
+      placed = each_kept (IsPlaced (is_below nodes p) p) (λ (n : Node). stays n.serial) nodes (all_placed nodes o x parent under)
 
   pub removal_differs : KeepsReferences x nodes rest → DifferBelow (is_below nodes p) p nodes rest
   removal_differs keeps =
@@ -283,11 +276,6 @@ take_drop : (i : ℕ) (ns : List Node) → take i ns ++ drop i ns ≡ ns
 take_drop zero ns = refl
 take_drop (suc i) [] = refl
 take_drop (suc i) (n ∷ ns) = ap (λ xs. n ∷ xs) (take_drop i ns)
-
-each_take : (P : Node → Type 0) (i : ℕ) (ns : List Node) → AllByRecursion P ns → AllByRecursion P (take i ns)
-each_take P zero ns each = tt
-each_take P (suc i) [] each = tt
-each_take P (suc i) (n ∷ ns) each = (each.0, each_take P i ns each.1)
 
 filter_whole : (t : Node → Bool) (ns : List Node) → AllByRecursion (λ (n : Node). t n ≡ true) ns → filter t ns ≡ ns
 filter_whole t [] each = refl

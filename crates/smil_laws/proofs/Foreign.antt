@@ -8,7 +8,7 @@ use Rattle.smil_model.specs.declared.document.Edge.{Edge}
 use Rattle.smil_model.specs.declared.document.Edge.TheVariants.{Begin, End}
 use Rattle.std.specs.Option.{option_map_or}
 use Rattle.std.proofs.lemmas.Bool.{or_parts, or_left, or_right, and_from, eq-eqb}
-use Rattle.std.proofs.lemmas.List.{drop-append-le}
+use Rattle.std.proofs.lemmas.List.{drop-append-le, append-nil}
 use Rattle.std.proofs.lemmas.List.Sums.{fold_push}
 use Rattle.smil_model.specs.declared.diary.Entry.{Entry}
 use Rattle.smil_model.specs.declared.diary.LogEntry.{LogEntry}
@@ -131,10 +131,6 @@ last_place-below test (x ∷ xs) k q = step (test x) (last_place test xs) refl q
     step true None e q below = let one : 0 ≡ k = cc in omega (arith, one)
     step false None e q below = cc
 
-pub append_nil : {A : Type 0} (xs : List A) → xs ++ [] ≡ xs
-append_nil [] = refl
-append_nil (x ∷ xs) = ap (λ ys. x ∷ ys) (append_nil xs)
-
 drop_all : {A : Type 0} (xs : List A) → drop (length xs) xs ≡ []
 drop_all [] = refl
 drop_all (x ∷ xs) = drop_all xs
@@ -195,7 +191,7 @@ module _ (h : History) (first : ParentsBefore (reverse h.nodes)) (y : Entry) (x 
     where
       by_moment : (t : Bool) → stands_by h.nodes (until k h.diary ++ cond t (y ∷ []) []) s ≡ stands_by h.nodes (until k h.diary) s
       by_moment true = held-then (until k h.diary) s free
-      by_moment false = ap (λ ds. stands_by h.nodes ds s) (append_nil (until k h.diary))
+      by_moment false = ap (λ ds. stands_by h.nodes ds s) (append-nil (until k h.diary))
 
   elapsed-then : (s m : ℕ) → is_above h.nodes x s ≡ false → elapsed then s m ≡ elapsed h s m
   elapsed-then s zero free = refl
@@ -348,7 +344,7 @@ module _ (h : History) (first : ParentsBefore (reverse h.nodes)) (y : Entry) (x 
   filter_map_same f g (z ∷ zs) same = ap (λ o. cons_option o (filter_map f zs)) (same z) ∙ ap (λ r. cons_option (g z) r) (filter_map_same f g zs same)
 
   filter_map-ignores : {A B : Type 0} (f : A → Option B) (w : A) → f w ≡ None → (ws : List A) → filter_map f (ws ++ w ∷ []) ≡ filter_map f ws
-  filter_map-ignores f w none ws = filter_map-append f ws (w ∷ []) ∙ ap (λ o. filter_map f ws ++ cons_option o []) none ∙ append_nil (filter_map f ws)
+  filter_map-ignores f w none ws = filter_map-append f ws (w ∷ []) ∙ ap (λ o. filter_map f ws ++ cons_option o []) none ∙ append-nil (filter_map f ws)
 
   edge-other : (k : History) (e b : ℕ) (offset m : ℤ) (edge : Edge) (step : Step) → is_about h.log b step ≡ false → edge_time k e b offset m edge step ≡ None
   edge-other k e b offset m Begin (Began who begin) q = rw q
@@ -405,7 +401,7 @@ module _ (h : History) (first : ParentsBefore (reverse h.nodes)) (y : Entry) (x 
   repeat-other past t n _ q = refl
 
   with_past-push : (before ds : List Entry) → with_past before (ds ++ y ∷ []) ≡ with_past before ds ++ (before ++ ds, y) ∷ []
-  with_past-push before [] = ap (λ b. (b, y) ∷ []) (sym (append_nil before))
+  with_past-push before [] = ap (λ b. (b, y) ∷ []) (sym (append-nil before))
   with_past-push before (z ∷ zs) =
       ap (λ ws. (before, z) ∷ ws) (with_past-push (before ++ z ∷ []) zs)
       ∙ ap (λ b. (before, z) ∷ (with_past (before ++ z ∷ []) zs ++ (b, y) ∷ [])) (append_assoc before (z ∷ []) zs)

@@ -20,12 +20,12 @@ use Rattle.smil_model.specs.reach.Bounds.{has_begun}
 use Rattle.smil_laws.specs.Locality.{ParentsBefore}
 use Rattle.smil_laws.specs.Agreement.{IsPlaced, IsAside, DifferBelow, SparesAll, course_on}
 use Rattle.smil_laws.specs.Cut.{logged, IsNamedBelow, NamesBelow}
-use Rattle.smil_laws.proofs.Aside.{SameLogged, NamesAlike, each_append, each_weaker, find_each, spared}
+use Rattle.smil_laws.proofs.Aside.{SameLogged, NamesAlike, each_append, find_each, spared}
 use Rattle.smil_laws.proofs.Agreed.{next_alike, next_frees}
-use Rattle.smil_laws.proofs.EditsBelow.{each_sub}
 use Rattle.smil_laws.proofs.Numbered.{all_low, ordered}
 use Rattle.smil_laws.proofs.Cutting.{next_on, steps_on}
 use Rattle.smil_laws.proofs.Quiet.{le_later}
+use Rattle.smil_laws.proofs.Lists.{each_weaker, each_kept}
 use Rattle.smil_laws.specs.Courses.{IsPast}
 
 -- ---- no entry is later than the moment
@@ -166,7 +166,7 @@ module _ (nodes : List Node) (first : ParentsBefore (reverse nodes)) (fresh : �
     under = λ e here a.
         let free : e.serial == fresh ≡ false =
         find_each (λ (x : Node). x.serial == fresh ≡ false) (λ (x : Node). x.serial == e.serial) (elements nodes) e
-        (each_sub (λ (x : Node). x.serial == fresh ≡ false) is_element nodes
+        (each_kept (λ (x : Node). x.serial == fresh ≡ false) is_element nodes
         (each_weaker (λ (x : Node). (x.serial == fresh ≡ false) × (x.parent == fresh ≡ false)) (λ (x : Node). x.serial == fresh ≡ false) nodes unused (λ x u. u.0))) here in
         let never : false ≡ true = sym free ∙ a in cc;
   }

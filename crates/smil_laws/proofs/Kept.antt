@@ -18,7 +18,7 @@ use Rattle.smil_model.specs.declared.document.Restart.TheVariants.{Always}
 use Rattle.smil_model.specs.diary.Plays.{Plays, plays, play_after, is_birth_under, passed, passed_after}
 use Rattle.smil_laws.proofs.Foreign.{fold_same}
 use Rattle.std.proofs.lemmas.Bool.{eqb-true}
-use Rattle.std.proofs.lemmas.List.{reverse-append}
+use Rattle.std.proofs.lemmas.List.{reverse-append, append-nil}
 use Rattle.std.proofs.lemmas.List.Elements.{filter-append}
 use Rattle.smil_model.specs.declared.diary.Entry.{Entry}
 use Rattle.smil_model.specs.declared.diary.LogEntry.{LogEntry}
@@ -41,11 +41,7 @@ filter_reverse p (n ∷ ns) =
   where
     by_test : (t : Bool) → reverse (filter p ns) ++ cond t (n ∷ []) [] ≡ reverse (cond t (n ∷ filter p ns) (filter p ns))
     by_test true = sym (reverse-append (n ∷ []) (filter p ns))
-    by_test false = append_nil (reverse (filter p ns))
-      where
-        append_nil : (xs : List Node) → xs ++ [] ≡ xs
-        append_nil [] = refl
-        append_nil (x ∷ xs) = ap (λ ys. x ∷ ys) (append_nil xs)
+    by_test false = append-nil (reverse (filter p ns))
 
 pub filter_map_each : {A B : Type 0} (f g : A → Option B) (zs : List A) → ((z : A) → f z ≡ g z) → filter_map f zs ≡ filter_map g zs
 filter_map_each f g [] each = refl

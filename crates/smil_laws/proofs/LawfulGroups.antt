@@ -3,7 +3,7 @@ use Rattle.std.proofs.Common.{◌≡◌, refl, sym, ◌∙◌, ap, ℕ, List, []
 use Rattle.std.specs.Prelude.{cond, not, ◌==◌, ◌||◌, ◌&&◌, ◌⊎◌, fold, filter, map, reverse}
 use Rattle.std.specs.List.{AllByRecursion}
 use Rattle.std.proofs.lemmas.Bool.{and_parts, and_from, both_ways, or_cases, or_right, not-true, not_from_false, eqb-true}
-use Rattle.std.proofs.lemmas.List.{map-append}
+use Rattle.std.proofs.lemmas.List.{map-append, append-nil}
 use Rattle.std.proofs.lemmas.List.Sums.{fold-append}
 use Rattle.smil_model.specs.declared.diary.Entry.{Entry}
 use Rattle.smil_model.specs.declared.diary.LogEntry.{LogEntry}
@@ -22,9 +22,10 @@ use Rattle.smil_model.specs.happening.Groups.{cuts, follower, followers, end_ste
 use Rattle.smil_laws.specs.Edited.{IsOrdered}
 use Rattle.smil_laws.proofs.Lineages.{swap_eqb}
 use Rattle.smil_laws.proofs.Aside.{each_filter, each_reverse, find_each, find_true}
-use Rattle.smil_laws.proofs.Members.{holds, each_kept, each_member, held_each, held_reverse, held_kept, found_held, Differ, differ_all, differ_kept, differ_reverse}
+use Rattle.smil_laws.proofs.Members.{holds, held_each, held_reverse, held_kept, found_held, Differ, differ_all, differ_kept, differ_reverse}
 use Rattle.smil_laws.proofs.Ancestry.{below_none, parent_apart, child_apart}
-use Rattle.smil_laws.proofs.LawfulSteps.{pausing, active_push, pausing_push, append_empty, still, by, Follow, follow_append, Known, IsWaiting, AllWaiting}
+use Rattle.smil_laws.proofs.LawfulSteps.{pausing, active_push, pausing_push, still, by, Follow, follow_append, Known, IsWaiting, AllWaiting}
+use Rattle.smil_laws.proofs.Lists.{each_weaker, each_kept}
 
 and_true : (b : Bool) → (b && true) ≡ b
 and_true true = refl
@@ -69,7 +70,7 @@ module _ (nodes : List Node) (o : IsOrdered nodes) (log : List LogEntry) (m : �
   sound_along ds xs ys e s = rw (← e) s
 
   sound_none : (ds : List Entry) → Live ds → Sound ds []
-  sound_none ds live = (tt, live_along ds (ds ++ []) (sym (append_empty ds)) live)
+  sound_none ds live = (tt, live_along ds (ds ++ []) (sym (append-nil ds)) live)
 
   sound_push : (ds : List Entry) (y : Entry) (ys : List Entry) → is_lawful_step (by nodes log ds) y.step ≡ true → Sound (ds ++ y ∷ []) ys → Sound ds (y ∷ ys)
   sound_push ds y ys l sound = ((l, sound.0), live_along ((ds ++ y ∷ []) ++ ys) (ds ++ y ∷ ys) (append_assoc ds (y ∷ []) ys) sound.1)
@@ -148,7 +149,7 @@ module _ (nodes : List Node) (o : IsOrdered nodes) (log : List LogEntry) (m : �
     cut_follow : Follow nodes log ds cut_entries
     cut_follow =
         cuts_follow lost_nodes ds differ_lost
-        (each_member (λ (n : Node). is_active ds n.serial ≡ true) (λ (n : Node). has_element nodes n.serial ≡ true) lost_nodes each_active (λ n t. known n.serial t)) each_active
+        (each_weaker (λ (n : Node). is_active ds n.serial ≡ true) (λ (n : Node). has_element nodes n.serial ≡ true) lost_nodes each_active (λ n t. known n.serial t)) each_active
 
     active_cut : (s : ℕ) → is_active cut_diary s ≡ (is_active ds s && not (holds s lost_nodes))
     active_cut s = fold-append (λ before (y : Entry). active_after s before y.step) false ds cut_entries ∙ cut_active m s (is_active ds s) lost_nodes

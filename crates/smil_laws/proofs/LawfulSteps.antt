@@ -4,6 +4,7 @@ use Rattle.std.specs.Prelude.{cond, not, ◌==◌, ◌||◌, ◌&&◌, ◌⊎◌
 use Rattle.std.specs.List.{AllByRecursion}
 use Rattle.std.proofs.lemmas.Bool.{and_parts, or_cases, not-true, eqb-true, eq-eqb}
 use Rattle.std.proofs.lemmas.List.Sums.{fold_push}
+use Rattle.std.proofs.lemmas.List.{append-nil}
 use Rattle.smil_model.specs.declared.diary.Entry.{Entry}
 use Rattle.smil_model.specs.declared.diary.LogEntry.{LogEntry}
 use Rattle.smil_model.specs.declared.diary.Step.{Step}
@@ -13,7 +14,7 @@ use Rattle.smil_model.specs.diary.Diary.{History, active_after, is_active, pause
 use Rattle.smil_model.specs.diary.Lawful.{has_element, may_begin, is_lawful_step, AllLawful}
 use Rattle.smil_model.specs.happening.Queue.{rank, put_paused, put_deferred, without, is_child_of, queue_after, queue_of}
 use Rattle.smil_laws.proofs.Lineages.{swap_eqb}
-use Rattle.smil_laws.proofs.Members.{each_member, each_chosen}
+use Rattle.smil_laws.proofs.Lists.{each_weaker, each_chosen}
 
 -- ---- one entry
 
@@ -26,10 +27,6 @@ active_push ds y s = fold_push (λ before (x : Entry). active_after s before x.s
 
 pub pausing_push : (ds : List Entry) (y : Entry) (s : ℕ) → pausing (ds ++ y ∷ []) s ≡ paused_after s (pausing ds s) y.step
 pausing_push ds y s = fold_push (λ before (x : Entry). paused_after s before x.step) false ds y
-
-pub append_empty : {A : Type 0} (xs : List A) → xs ++ [] ≡ xs
-append_empty [] = refl
-append_empty (x ∷ xs) = ap (λ ys. x ∷ ys) (append_empty xs)
 
 -- an end takes activity away, and gives none
 pub still : (t b : Bool) → cond t false b ≡ true → (t ≡ false) × (b ≡ true)
@@ -67,7 +64,7 @@ module _ (nodes : List Node) (log : List LogEntry) where
   follow_along ds es xs e f = rw (← e) f
 
   pub follow_append : (before xs ys : List Entry) → Follow before xs → Follow (before ++ xs) ys → Follow before (xs ++ ys)
-  follow_append before [] ys f g = follow_along (before ++ []) before ys (append_empty before) g
+  follow_append before [] ys f g = follow_along (before ++ []) before ys (append-nil before) g
   follow_append before (x ∷ xs) ys f g =
       (f.0, follow_append (before ++ x ∷ []) xs ys f.1 (follow_along (before ++ x ∷ xs) ((before ++ x ∷ []) ++ xs) ys (sym (append_assoc before (x ∷ []) xs)) g))
 
@@ -77,7 +74,7 @@ module _ (nodes : List Node) (log : List LogEntry) where
 
   -- what each lawful entry keeps, lawful entries keep
   pub kept_along : (P : List Entry → Type 0) → ((ds : List Entry) (y : Entry) → P ds → is_lawful_step (by ds) y.step ≡ true → P (ds ++ y ∷ [])) → (before xs : List Entry) → P before → Follow before xs → P (before ++ xs)
-  kept_along P step before [] p f = rw (append_empty before) p
+  kept_along P step before [] p f = rw (append-nil before) p
   kept_along P step before (x ∷ xs) p f =
       along ((before ++ x ∷ []) ++ xs) (before ++ x ∷ xs) (append_assoc before (x ∷ []) xs) (kept_along P step (before ++ x ∷ []) xs (step before x p f.0) f.1)
     where
@@ -146,7 +143,7 @@ module _ (nodes : List Node) (log : List LogEntry) where
         here c = (facts.0, c, ap (λ a. waits a ((who == who) || pausing ds who)) ((and_parts (is_active ds who) (not (is_paused ds who)) facts.1).0) ∙ ap (λ t. waits true (t || pausing ds who)) (eq-eqb who who refl))
 
         all : AllByRecursion (WaitsAfter (Paused who)) queue
-        all = each_member (IsWaiting ds x) (WaitsAfter (Paused who)) queue each (λ q w. (w.0, w.1, more_paused (is_active ds q) (who == q) (pausing ds q) w.2))
+        all = each_weaker (IsWaiting ds x) (WaitsAfter (Paused who)) queue each (λ q w. (w.0, w.1, more_paused (is_active ds q) (who == q) (pausing ds q) w.2))
 
         by_child : (t : Bool) → is_child_of nodes x who ≡ t → AllByRecursion (WaitsAfter (Paused who)) (cond t (put_paused nodes who (without who queue)) queue)
         by_child true c =
@@ -178,7 +175,7 @@ module _ (nodes : List Node) (log : List LogEntry) where
     waits_push : (y : Entry) → is_lawful_step (by ds) y.step ≡ true → AllByRecursion (IsWaiting ds x) (queue_of (by ds) x) → AllByRecursion (IsWaiting (ds ++ y ∷ []) x) (queue_of (by (ds ++ y ∷ [])) x)
     waits_push y l each =
         rw (fold_push (λ queue (z : Entry). queue_after nodes x queue z.step) [] ds y)
-        (each_member (WaitsAfter y.step) (IsWaiting (ds ++ y ∷ []) x) (queue_after nodes x (queue_of (by ds) x) y.step) (waits_step (queue_of (by ds) x) y.step l each)
+        (each_weaker (WaitsAfter y.step) (IsWaiting (ds ++ y ∷ []) x) (queue_after nodes x (queue_of (by ds) x) y.step) (waits_step (queue_of (by ds) x) y.step l each)
         (λ q w. (w.0, w.1, ap (λ a. waits a (pausing (ds ++ y ∷ []) q)) (active_push ds y q) ∙ ap (λ p. waits (active_after q (is_active ds q) y.step) p) (pausing_push ds y q) ∙ w.2)))
 
   pub all_waiting : (ds : List Entry) → Follow [] ds → AllWaiting ds

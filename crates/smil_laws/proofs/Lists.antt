@@ -26,6 +26,27 @@ pub each_push : {A : Type 0} (P : A → Type 0) (xs : List A) (y : A) → AllByR
 each_push P [] y each last = (last, tt)
 each_push P (x ∷ xs) y each last = (each.0, each_push P xs y each.1 last)
 
+pub each_take : {A : Type 0} (P : A → Type 0) (i : ℕ) (xs : List A) → AllByRecursion P xs → AllByRecursion P (take i xs)
+each_take P zero xs each = tt
+each_take P (suc i) [] each = tt
+each_take P (suc i) (x ∷ xs) each = (each.0, each_take P i xs each.1)
+
+pub each_weaker : {A : Type 0} (P Q : A → Type 0) (xs : List A) → AllByRecursion P xs → ((x : A) → P x → Q x) → AllByRecursion Q xs
+each_weaker P Q [] each f = tt
+each_weaker P Q (x ∷ xs) each f = (f x each.0, each_weaker P Q xs each.1 f)
+
+-- what those that pass have
+pub each_chosen : {A : Type 0} (P Q : A → Type 0) (t : A → Bool) (xs : List A) → AllByRecursion P xs → ((x : A) → t x ≡ true → P x → Q x) → AllByRecursion Q (filter t xs)
+each_chosen P Q t [] each f = tt
+each_chosen P Q t (x ∷ xs) each f = step (t x) (λ e. f x e each.0) (each_chosen P Q t xs each.1 f)
+  where
+    step : (b : Bool) → (b ≡ true → Q x) → AllByRecursion Q (filter t xs) → AllByRecursion Q (cond b (x ∷ filter t xs) (filter t xs))
+    step true here rest = (here refl, rest)
+    step false here rest = rest
+
+pub each_kept : {A : Type 0} (P : A → Type 0) (t : A → Bool) (xs : List A) → AllByRecursion P xs → AllByRecursion P (filter t xs)
+each_kept P t xs each = each_chosen P P t xs each (λ x q p. p)
+
 -- ---- how many pass
 
 pub filter_shorter : {A : Type 0} (p : A → Bool) (xs : List A) → length (filter p xs) ≤ length xs

@@ -10,26 +10,11 @@ use Rattle.smil_model.specs.document.Valid.{IsDistinct}
 use Rattle.smil_laws.proofs.Lineages.{swap_eqb}
 use Rattle.smil_laws.proofs.Aside.{each_append, each_reverse}
 use Rattle.smil_laws.proofs.Below.{differ_each}
+use Rattle.smil_laws.proofs.Lists.{each_kept}
 
 -- whether a node with this serial is among these
 abbrev pub holds : ℕ → List Node → Bool
 holds s ns = list_any (λ (n : Node). n.serial == s) ns
-
-pub each_member : {A : Type 0} (P Q : A → Type 0) (xs : List A) → AllByRecursion P xs → ((x : A) → P x → Q x) → AllByRecursion Q xs
-each_member P Q [] each f = tt
-each_member P Q (x ∷ xs) each f = (f x each.0, each_member P Q xs each.1 f)
-
--- what those that pass have
-pub each_chosen : {A : Type 0} (P Q : A → Type 0) (t : A → Bool) (xs : List A) → AllByRecursion P xs → ((x : A) → t x ≡ true → P x → Q x) → AllByRecursion Q (filter t xs)
-each_chosen P Q t [] each f = tt
-each_chosen P Q t (x ∷ xs) each f = step (t x) (λ e. f x e each.0) (each_chosen P Q t xs each.1 f)
-  where
-    step : (b : Bool) → (b ≡ true → Q x) → AllByRecursion Q (filter t xs) → AllByRecursion Q (cond b (x ∷ filter t xs) (filter t xs))
-    step true here rest = (here refl, rest)
-    step false here rest = rest
-
-pub each_kept : {A : Type 0} (P : A → Type 0) (t : A → Bool) (xs : List A) → AllByRecursion P xs → AllByRecursion P (filter t xs)
-each_kept P t xs each = each_chosen P P t xs each (λ x q p. p)
 
 pub none_held : (s : ℕ) (ns : List Node) → AllByRecursion (λ (n : Node). n.serial == s ≡ false) ns → holds s ns ≡ false
 none_held s [] each = refl

@@ -12,7 +12,7 @@ use Rattle.smil_laws.specs.Locality.{NoParent, ParentsBefore}
 use Rattle.smil_laws.specs.Edited.{IsOrdered}
 use Rattle.smil_laws.proofs.Lineages.{swap_eqb}
 use Rattle.smil_laws.proofs.Below.{differ_each}
-use Rattle.smil_laws.proofs.Aside.{each_weaker}
+use Rattle.smil_laws.proofs.Lists.{each_weaker}
 
 each_all : (P : Node → Type 0) (ns : List Node) → All P ns → AllByRecursion P ns
 each_all P [] all = tt
@@ -33,10 +33,6 @@ found P s (x ∷ xs) each q = by_case (or_cases (x == s) (list_any (λ x. x == s
     by_case : (x == s ≡ true) ⊎ (list_any (λ x. x == s) xs ≡ true) → (list_any (λ x. x == s) xs ≡ true → P s) → P s
     by_case (inl d) later = rw (← eqb-true x s d) each.0
     by_case (inr d) later = later d
-
-weaker : (P Q : ℕ → Type 0) (xs : List ℕ) → AllByRecursion P xs → ((s : ℕ) → P s → Q s) → AllByRecursion Q xs
-weaker P Q [] each f = tt
-weaker P Q (x ∷ xs) each f = (f x each.0, weaker P Q xs each.1 f)
 
 -- ---- parents are below the next number
 
@@ -88,7 +84,7 @@ go (n ∷ ns) opened rs tree distinct above absent known first held =
     (sym (append_assoc (reverse ns) (n ∷ []) rs) ∙ ap (λ xs. xs ++ rs) (sym (reverse-append (n ∷ []) ns)))
     (go ns (n.serial ∷ open_from n.parent opened) (n ∷ rs) tree.1 distinct.1 above.1
     (still_absent n rs ns distinct.0 absent.1)
-    (or_left _ _ (eq-eqb n.serial n.serial refl), weaker (Holds rs) (Holds (n ∷ rs)) (open_from n.parent opened) (open_known (Holds rs) n.parent opened known) (λ s h. or_right _ _ h))
+    (or_left _ _ (eq-eqb n.serial n.serial refl), each_weaker (Holds rs) (Holds (n ∷ rs)) (open_from n.parent opened) (open_known (Holds rs) n.parent opened known) (λ s h. or_right _ _ h))
     (not_own, no_parent n.serial rs rs above.0 absent.0 held, first)
     (inr (or_right _ _ parent_held), each_weaker (HoldsParent rs) (HoldsParent (n ∷ rs)) rs held more))
   where

@@ -5,6 +5,7 @@ use Rattle.std.specs.List.{list_any}
 use Rattle.std.specs.Option.{option_map_or}
 use Rattle.std.proofs.lemmas.Bool.{or_parts}
 use Rattle.std.proofs.lemmas.List.Folds.{list_any-append}
+use Rattle.std.proofs.lemmas.List.{append-nil}
 use Rattle.smil_model.specs.declared.diary.Entry.{Entry}
 use Rattle.smil_model.specs.declared.diary.LogEntry.{LogEntry}
 use Rattle.smil_model.specs.declared.diary.Step.{Step}
@@ -35,10 +36,6 @@ record EndsSo (p : ℕ) (steps : List Step) : Type 0 where
   final : Option Step
   whole : steps ≡ front ++ option_to_list final
   no_attrs : begins_any p front ≡ false
-
-append_none : {A : Type 0} (xs : List A) → xs ++ [] ≡ xs
-append_none [] = refl
-append_none (x ∷ xs) = ap (λ ys. x ∷ ys) (append_none xs)
 
 behind : (p : ℕ) (xs steps : List Step) → begins_any p xs ≡ false → EndsSo p steps → EndsSo p (xs ++ steps)
 behind p xs steps q e = record {
@@ -110,7 +107,7 @@ through_plain p (x ∷ xs) zs q =
     ap (λ t. cond t (x ∷ []) (x ∷ through_begin p (xs ++ zs))) parts.0 ∙ ap (λ ys. x ∷ ys) (through_plain p xs zs parts.1)
 
 pub through_all : (p : ℕ) (xs : List Entry) → has_begun xs p ≡ false → through_begin p xs ≡ xs
-through_all p xs q = ap (through_begin p) (sym (append_none xs)) ∙ through_plain p xs [] q ∙ append_none xs
+through_all p xs q = ap (through_begin p) (sym (append-nil xs)) ∙ through_plain p xs [] q ∙ append-nil xs
 
 begun_at : (p : ℕ) (m : ℤ) (steps : List Step) → has_begun (at_moment m steps) p ≡ begins_any p steps
 begun_at p m [] = refl
@@ -122,7 +119,7 @@ at_append m (x ∷ xs) ys = ap (λ zs. record { moment = m; step = x } ∷ zs) (
 
 closes_final : (p : ℕ) (m : ℤ) (xs : List Entry) (o : Option Step) → has_begun xs p ≡ false → Closes p (xs ++ at_moment m (option_to_list o))
 closes_final p m xs None q t zs =
-    let never : false ≡ true = sym (ap (λ ys. has_begun ys p) (append_none xs) ∙ q) ∙ t in cc
+    let never : false ≡ true = sym (ap (λ ys. has_begun ys p) (append-nil xs) ∙ q) ∙ t in cc
 closes_final p m xs (Some step) q t zs =
     let here : is_begin_of p step ≡ true = last_one (is_begin_of p step) refl (sym (list_any-append (λ (x : Entry). is_begin_of p x.step) xs (record { moment = m; step = step } ∷ []) ∙ ap (λ b. b || (is_begin_of p step || false)) q) ∙ t) in
     ap (through_begin p) (append_assoc xs (record { moment = m; step = step } ∷ []) zs)
@@ -141,11 +138,11 @@ closes p m steps e =
 
 -- the diary after more steps is the one before with entries appended
 pub more_added : (c : Course) (k : ℕ) (q : Progress) → (added : List Entry) × ((after_steps c k q).diary ≡ q.diary ++ added)
-more_added c zero q = ([], sym (append_none q.diary))
+more_added c zero q = ([], sym (append-nil q.diary))
 more_added c (suc k) q = by_next (next_step c q) refl (more_added c k)
   where
     by_next : (o : Option Progress) → next_step c q ≡ o → ((r : Progress) → (added : List Entry) × ((after_steps c k r).diary ≡ r.diary ++ added)) → (added : List Entry) × ((option_map_or (λ r. after_steps c k r) o q).diary ≡ q.diary ++ added)
-    by_next None e later = ([], sym (append_none q.diary))
+    by_next None e later = ([], sym (append-nil q.diary))
     by_next (Some r) e later =
         let one = next_extends (λ added. Unit {0}) c q tt tt (λ next d. tt) r e in
         let rest = later r in

@@ -3,6 +3,7 @@ use Rattle.std.proofs.Common.{◌≡◌, refl, sym, ◌∙◌, ap, ℕ, List, []
 use Rattle.std.specs.Prelude.{cond, not, ◌==◌, ◌||◌, ◌&&◌, ◌⊎◌, is_some, reverse}
 use Rattle.std.specs.List.{list_any}
 use Rattle.std.proofs.lemmas.Bool.{or_left, or_right, or_cases, or_parts, eqb-true, and_from, eq-eqb, false_from_ne_true}
+use Rattle.std.proofs.lemmas.List.{append-nil}
 use Rattle.smil_model.specs.declared.times.Time.{Time}
 use Rattle.smil_model.specs.declared.times.Time.TheVariants.{At, Indefinite, Unresolved}
 use Rattle.smil_model.specs.declared.diary.Entry.{Entry}
@@ -21,7 +22,7 @@ use Rattle.smil_model.specs.interval.Current.{interval_given, simple_of}
 use Rattle.smil_model.specs.happening.Keys.{coming_of, coming_begin, coming_end, coming_end_at, coming_repeat, coming_repeat_at}
 use Rattle.smil_model.specs.reach.Reach.{reads, reads_node, is_key_item, waiters, key_of, subject_of}
 use Rattle.smil_laws.proofs.Lineages.{ParentsBefore}
-use Rattle.smil_laws.proofs.Foreign.{is_about, Apart, ReadsApart, active-then, own-then, parent-then, own_held-then, parent_held-then, play_start-then, iteration_start-then, iteration-then, simple-then, interval-then, append_nil}
+use Rattle.smil_laws.proofs.Foreign.{is_about, Apart, ReadsApart, active-then, own-then, parent-then, own_held-then, parent_held-then, play_start-then, iteration_start-then, iteration-then, simple-then, interval-then}
 use Rattle.smil_laws.proofs.Law.{IsOutside, IsMute}
 use Rattle.smil_laws.proofs.Reached.{any_kept, found_any, any_reverse, chain_begins, no_element_above, from_serials, child_is_all, before_is_all, sync_is_all, event_is_all, own_is_all}
 use Rattle.smil_laws.proofs.Unreached.{fresh, absent, about_none, about_no_one, no_press, lone_press, one_press, is_waiter, found_here, outside_all}
@@ -172,8 +173,8 @@ module _ (J : ℕ → Option Interval) (now : ℤ) (e : Node) where
 
   stays : (h : History) (ys : List Entry) → ParentsBefore (reverse h.nodes) → node_at (elements h.nodes) e.serial ≡ Some e → is_touched_by h.nodes h.log ys e.serial ≡ false → GivesSame h (up_to h (h.diary ++ ys)) J now e
   stays h [] first here free = record {
-    interval = ap (λ d. interval_given (up_to h d) J now e) (append_nil h.diary);
-    coming = λ place. ap (λ d. coming_of (up_to h d) J now place e) (append_nil h.diary);
+    interval = ap (λ d. interval_given (up_to h d) J now e) (append-nil h.diary);
+    coming = λ place. ap (λ d. coming_of (up_to h d) J now place e) (append-nil h.diary);
   }
   stays h (y ∷ ys) first here free =
       let parts = or_parts _ _ free in

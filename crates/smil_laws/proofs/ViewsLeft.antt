@@ -3,6 +3,7 @@ use Rattle.std.proofs.Common.{◌≡◌, refl, sym, ◌∙◌, ap, ℕ, suc, ◌
 use Rattle.std.specs.Prelude.{◌==◌, ◌||◌, ◌&&◌, reverse, drop, filter, is_some}
 use Rattle.std.specs.List.{AllByRecursion}
 use Rattle.std.proofs.lemmas.Bool.{or_parts, or_from, ne_eqb}
+use Rattle.std.proofs.lemmas.List.{append-nil}
 use Rattle.smil_model.specs.declared.interval.Interval.{Interval}
 use Rattle.smil_model.specs.declared.diary.Entry.{Entry}
 use Rattle.smil_model.specs.declared.diary.LogEntry.{LogEntry}
@@ -19,12 +20,13 @@ use Rattle.smil_laws.specs.Locality.{ParentsBefore}
 use Rattle.smil_laws.proofs.Lineages.{upwards-head}
 use Rattle.smil_laws.proofs.Aside.{each_drop}
 use Rattle.smil_laws.proofs.Below.{no_chain}
-use Rattle.smil_laws.proofs.Foreign.{is_about, append_nil}
-use Rattle.smil_laws.proofs.Members.{holds, held_reverse, found_held, each_kept}
+use Rattle.smil_laws.proofs.Foreign.{is_about}
+use Rattle.smil_laws.proofs.Members.{holds, held_reverse, found_held}
 use Rattle.smil_laws.proofs.Unreached.{about_none, about_no_one, absent_up, absent_reverse}
 use Rattle.smil_laws.specs.Seen.{starts, shows_from, any_shows, LeavesViews}
 use Rattle.smil_laws.proofs.ViewsAbove.{Unseen, all_unseen}
 use Rattle.smil_laws.proofs.ViewsStay.{view-then}
+use Rattle.smil_laws.proofs.Lists.{each_kept}
 
 -- ---- an entry on no element
 
@@ -81,7 +83,7 @@ module _ (h : History) (first : ParentsBefore (reverse h.nodes)) (y : Entry) (no
 -- ---- all entries
 
 view-all : (entries : List Entry) (h : History) → ParentsBefore (reverse h.nodes) → (now : ℤ) (i : Option Interval) (e : Node) → node_at (elements h.nodes) e.serial ≡ Some e → any_shows h.nodes h.log entries e.serial ≡ false → view_given (up_to h (h.diary ++ entries)) now i e ≡ view_given h now i e
-view-all [] h first now i e here free = ap (λ ds. view_given (up_to h ds) now i e) (append_nil h.diary)
+view-all [] h first now i e here free = ap (λ ds. view_given (up_to h ds) now i e) (append-nil h.diary)
 view-all (y ∷ ys) h first now i e here free =
     let parts = or_parts (shows_from h.nodes y.step (subject_of h.log y.step) e.serial) (any_shows h.nodes h.log ys e.serial) free in
     ap (λ ds. view_given (up_to h ds) now i e) (sym (append_assoc h.diary (y ∷ []) ys))

@@ -23,7 +23,8 @@ use Rattle.smil_model.specs.shown.Sandwich.{layers, stack_of}
 use Rattle.smil_model.specs.shown.Views.{view_of}
 use Rattle.smil_model.specs.interval.Current.{current_table, in_table}
 use Rattle.smil_laws.proofs.Aside.{find_each}
-use Rattle.smil_laws.proofs.Members.{Differ, differ_all, each_kept}
+use Rattle.smil_laws.proofs.Members.{Differ, differ_all}
+use Rattle.smil_laws.proofs.Lists.{each_kept}
 use Rattle.smil_report.specs.Words.{Begins}
 use Rattle.smil_past.proofs.References.{kept_known as kept_found}
 use Rattle.smil_cells.specs.Standing.{IsSettled, Standing, history_of}

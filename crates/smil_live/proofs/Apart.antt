@@ -15,7 +15,8 @@ use Rattle.smil_model.specs.document.Edits.{place_in}
 use Rattle.smil_model.specs.document.Valid.{IsDistinct}
 use Rattle.smil_model.specs.shown.Sandwich.{begin_shown, contributes, layer_by, layer_of, layers, target_by, with_setter}
 use Rattle.smil_laws.proofs.Lineages.{swap_eqb}
-use Rattle.smil_laws.proofs.Members.{Differ, differ_all, differ_kept, each_kept, each_member}
+use Rattle.smil_laws.proofs.Members.{Differ, differ_all, differ_kept}
+use Rattle.smil_laws.proofs.Lists.{each_weaker, each_kept}
 use Rattle.smil_tree.proofs.KinLists.{each_left, each_at, each_serial}
 use Rattle.smil_tree.proofs.Changed.{serial_of as own_serial}
 use Rattle.smil_sandwich.specs.Stacks.{AreApart, IsApart}
@@ -183,7 +184,7 @@ pub found_each : (ns : List Node) → AllByRecursion (λ (n : Node). IsSome (nod
 found_each [] = tt
 found_each (n ∷ ns) = (
   let P : Bool → Type 0 = λ t. IsSome (cond t (Some n) (node_at ns n.serial)) in subst P (sym (eq-eqb n.serial n.serial refl)) refl,
-  each_member (λ (m : Node). IsSome (node_at ns m.serial)) (λ (m : Node). IsSome (node_at (n ∷ ns) m.serial)) ns (found_each ns) (λ m h. find_more n ns m.serial h),
+  each_weaker (λ (m : Node). IsSome (node_at ns m.serial)) (λ (m : Node). IsSome (node_at (n ∷ ns) m.serial)) ns (found_each ns) (λ m h. find_more n ns m.serial h),
 )
 
 each_view : (P : ℕ → Type 0) (vs : List View) → AllByRecursion P (map (λ (v : View). v.serial) vs) → AllByRecursion (λ (v : View). P v.serial) vs

@@ -11,13 +11,13 @@ use Rattle.smil_model.specs.declared.view.View.{View}
 use Rattle.smil_model.specs.document.Document.{elements, node_at}
 use Rattle.smil_model.specs.document.Valid.{IsDistinct}
 use Rattle.smil_model.specs.shown.Sandwich.{is_above, layers, layers_on, names_on, put_layer, put_name, stack_of}
-use Rattle.smil_laws.proofs.Members.{each_kept}
 use Rattle.smil_sandwich.specs.Stacks.{AreApart, all_applied, applied}
 use Rattle.smil_sandwich.proofs.Sorted.{all_put}
 use Rattle.smil_cells.proofs.Taking.{elements_few}
 use Rattle.smil_live.specs.declared.sets.Sets.{Sets}
 use Rattle.smil_live.proofs.Apart.{Different, elements_different, front_different, layers_apart, layers_known}
 use Rattle.smil_live.specs.Sets.{AreOfElements, AreSetsAmong, AreSetsOf, AreSettersOf, and_layer, layer_in, names_in}
+use Rattle.smil_laws.proofs.Lists.{each_kept}
 
 abbrev Row : Type 0
 Row = ℕ × Layer

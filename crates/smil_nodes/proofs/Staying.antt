@@ -4,6 +4,7 @@ use Rattle.std.specs.Prelude.{◌&&◌, ◌==◌, if◌then◌else◌, is_some, 
 use Rattle.std.specs.List.{last_or, list_any}
 use Rattle.std.specs.Option.{option_or}
 use Rattle.std.proofs.lemmas.Bool.{false_from_ne_true, or_parts}
+use Rattle.std.proofs.lemmas.List.{append-nil}
 use Rattle.smil_model.specs.declared.times.Time.{Time}
 use Rattle.smil_model.specs.declared.times.Time.TheVariants.{Unresolved}
 use Rattle.smil_model.specs.declared.diary.Entry.{Entry}
@@ -22,7 +23,7 @@ use Rattle.smil_model.specs.interval.Instances.{is_press}
 use Rattle.smil_model.specs.reach.Reach.{is_key_item, key_of, subject_of, waiters}
 use Rattle.smil_laws.specs.Locality.{ParentsBefore}
 use Rattle.smil_laws.specs.Touched.{is_touched, is_touched_by, is_touched_from, is_touched_through}
-use Rattle.smil_laws.proofs.Foreign.{Apart, append_nil, deferral-then, is_about, plays-then}
+use Rattle.smil_laws.proofs.Foreign.{Apart, deferral-then, is_about, plays-then}
 use Rattle.smil_laws.proofs.Law.{IsMute}
 use Rattle.smil_laws.proofs.TouchedStay.{far_absent, far_untouched}
 use Rattle.smil_laws.proofs.Unreached.{about_no_one, about_none, absent, found_here, fresh, is_waiter, lone_press, no_press, one_press}
@@ -93,8 +94,8 @@ module _ (c : Node) where
 
   pub all_done : (h : History) (ys : List Entry) → ParentsBefore (reverse h.nodes) → node_at (elements h.nodes) c.serial ≡ Some c → is_touched_by h.nodes h.log ys c.serial ≡ false → SameDone h (up_to h (h.diary ++ ys)) c.serial
   all_done h [] first here free = record {
-    plays_are = ap (λ d. plays (up_to h d) c.serial) (append_nil h.diary);
-    deferred = ap (λ d. is_deferred (up_to h d) c.serial) (append_nil h.diary);
+    plays_are = ap (λ d. plays (up_to h d) c.serial) (append-nil h.diary);
+    deferred = ap (λ d. is_deferred (up_to h d) c.serial) (append-nil h.diary);
   }
   all_done h (y ∷ ys) first here free =
       let parts = or_parts _ _ free in

@@ -18,7 +18,7 @@ use Rattle.smil_model.specs.diary.Lawful.{AllLawful, IsLawful, has_element}
 use Rattle.smil_model.specs.happening.Queue.{rank, put_paused, put_deferred, without, is_child_of, queue_after, queue_of}
 use Rattle.smil_laws.proofs.Lineages.{swap_eqb}
 use Rattle.smil_laws.proofs.LawfulSteps.{Follow, IsWaiting, all_waiting}
-use Rattle.smil_laws.proofs.Members.{each_member, each_kept}
+use Rattle.smil_laws.proofs.Lists.{each_weaker, each_kept}
 
 -- ---- lists of serials in which none stands twice
 
@@ -123,7 +123,7 @@ left_is h e who lawful = by (is_child_of h.nodes e who) refl
   where
     by : (t : Bool) → is_child_of h.nodes e who ≡ t → cond t (without who (queue_of h e)) (queue_of h e) ≡ without who (queue_of h e)
     by true c = refl
-    by false c = sym (without_other h.nodes e who (queue_of h e) c (each_member (IsWaiting h.nodes h.log h.diary e) (λ q. is_child_of h.nodes e q ≡ true) (queue_of h e) (waiting h e lawful) (λ q w. w.1)))
+    by false c = sym (without_other h.nodes e who (queue_of h e) c (each_weaker (IsWaiting h.nodes h.log h.diary e) (λ q. is_child_of h.nodes e q ≡ true) (queue_of h e) (waiting h e lawful) (λ q w. w.1)))
 
 -- ---- the room
 
@@ -169,7 +169,7 @@ has_room h e who lawful known child =
     let each = each_kept (IsWaiting h.nodes h.log h.diary e) (λ other. not (other == who)) (queue_of h e) (waiting h e lawful) in
     let distinct = distinct_is (who ∷ q) (apart_without who (queue_of h e), distinct_without who (queue_of h e) (distinct_queue h e)) in
     let own = listed h.nodes e who h.nodes child known in
-    let among = each_member (IsWaiting h.nodes h.log h.diary e) (λ s. list_any (nat_eq s) (serials_of h e) ≡ true) q each (λ s w. listed h.nodes e s h.nodes w.1 w.0) in
+    let among = each_weaker (IsWaiting h.nodes h.log h.diary e) (λ s. list_any (nat_eq s) (serials_of h e) ≡ true) q each (λ s w. listed h.nodes e s h.nodes w.1 w.0) in
     let most : length (who ∷ q) ≤ length (serials_of h e) = length-le_from_is_member nat_eq_equiv (who ∷ q) (serials_of h e) distinct (λ s m. member_each (λ x. list_any (nat_eq x) (serials_of h e) ≡ true) s (who ∷ q) (own, among) m) in
     let same = length-map (time_children h.nodes e) (λ (n : Node). n.serial) in
     omega (arith, most, same)

@@ -2,7 +2,7 @@
 use Rattle.std.proofs.Common.{◌≡◌, refl, sym, ◌∙◌, ap, subst, ℕ, List, [], ◌∷◌, ◌++◌, ℤ, Bool, true, false, append_assoc}
 use Rattle.std.specs.Prelude.{cond, pos, int_le, take, drop, not, ◌==◌, ◌||◌, ◌&&◌}
 use Rattle.std.proofs.lemmas.Bool.{and_parts, and_from, and_left, and_right, not-true, eqb-true, eq-eqb}
-use Rattle.std.proofs.lemmas.List.{take-append-drop}
+use Rattle.std.proofs.lemmas.List.{take-append-drop, append-nil}
 use Rattle.smil_model.specs.declared.times.TheConstants.{HORIZON}
 use Rattle.smil_model.specs.declared.diary.Entry.{Entry}
 use Rattle.smil_model.specs.declared.diary.LogEntry.{LogEntry}
@@ -12,7 +12,7 @@ use Rattle.smil_model.specs.declared.document.Node.{Node}
 use Rattle.smil_model.specs.diary.Diary.{History, active_after, is_active, paused_after, is_paused, is_alive, with_past, up_to, with_entry}
 use Rattle.smil_model.specs.diary.Lawful.{has_element, may_begin, is_lawful_step, is_rising_from, AllLawful, IsLawful}
 use Rattle.smil_laws.proofs.Lineages.{swap_eqb}
-use Rattle.smil_laws.proofs.LawfulSteps.{pausing, active_push, pausing_push, append_empty}
+use Rattle.smil_laws.proofs.LawfulSteps.{pausing, active_push, pausing_push}
 use Rattle.smil_stretch.specs.Clocks.{ends_pause}
 use Rattle.smil_stretch.specs.Kept.{Turns}
 use Rattle.smil_stretch.specs.Laws.{changes_clocks}
@@ -25,7 +25,7 @@ module _ (nodes : List Node) (log : List LogEntry) where
   by ds = record { nodes = nodes; log = log; diary = ds }
 
   split : (whole other before xs : List Entry) (y : Entry) → AllLawful (by whole) (with_past before (xs ++ y ∷ [])) → AllLawful (by other) (with_past before xs) × (is_lawful_step (by (before ++ xs)) y.step ≡ true)
-  split whole other before [] y all = (tt, ap (λ ds. is_lawful_step (by ds) y.step) (append_empty before) ∙ all.0)
+  split whole other before [] y all = (tt, ap (λ ds. is_lawful_step (by ds) y.step) (append-nil before) ∙ all.0)
   split whole other before (x ∷ xs) y all =
       let rest = split whole other (before ++ x ∷ []) xs y all.1 in
       ((all.0, rest.0), ap (λ ds. is_lawful_step (by ds) y.step) (sym (append_assoc before (x ∷ []) xs)) ∙ rest.1)

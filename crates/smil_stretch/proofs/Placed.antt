@@ -9,7 +9,7 @@ use Rattle.smil_model.specs.declared.document.Node.{Node}
 use Rattle.smil_model.specs.document.Document.{time_parent}
 use Rattle.smil_model.specs.document.Valid.{IsDistinct}
 use Rattle.smil_laws.proofs.Aside.{find_true}
-use Rattle.smil_laws.proofs.Members.{each_member}
+use Rattle.smil_laws.proofs.Lists.{each_weaker}
 use Rattle.smil_stretch.specs.Clocks.{parent_place}
 use Rattle.smil_stretch.proofs.Above.{parent_before}
 
@@ -31,7 +31,7 @@ each_in : (xs : List Node) → AllByRecursion (λ (m : Node). list_any (λ (z : 
 each_in [] = tt
 each_in (x ∷ xs) = (
   ap (λ t. t || list_any (λ (z : Node). z.serial == x.serial) xs) (eq-eqb x.serial x.serial refl),
-  each_member (λ (m : Node). list_any (λ (z : Node). z.serial == m.serial) xs ≡ true) (λ (m : Node). list_any (λ (z : Node). z.serial == m.serial) (x ∷ xs) ≡ true) xs (each_in xs) (λ m q. or_right _ _ q),
+  each_weaker (λ (m : Node). list_any (λ (z : Node). z.serial == m.serial) xs ≡ true) (λ (m : Node). list_any (λ (z : Node). z.serial == m.serial) (x ∷ xs) ≡ true) xs (each_in xs) (λ m q. or_right _ _ q),
 )
 
 -- the node with a serial, at its place

@@ -17,9 +17,10 @@ use Rattle.smil_model.specs.document.Valid.{IsValid, IsNumberedTree, IsTree, IsD
 use Rattle.smil_model.specs.document.Edits.{children, place_in, child_place}
 use Rattle.smil_laws.specs.Edited.{IsOrdered}
 use Rattle.smil_laws.proofs.Numbered.{ordered, all_low}
-use Rattle.smil_laws.proofs.Aside.{each_both, each_weaker, find_true}
+use Rattle.smil_laws.proofs.Aside.{each_both, find_true}
 use Rattle.smil_laws.proofs.Lineages.{swap_eqb}
 use Rattle.smil_laws.proofs.Members.{holds, none_held}
+use Rattle.smil_laws.proofs.Lists.{each_weaker}
 use Rattle.smil_tree.specs.Kept.{bears}
 use Rattle.smil_tree.proofs.Cuts.{sum_inserted}
 use Rattle.smil_tree.proofs.Families.{chain_of}

@@ -11,9 +11,10 @@ use Rattle.smil_model.specs.document.Edits.{children}
 use Rattle.smil_model.specs.document.Valid.{IsDistinct, IsNumberedTree}
 use Rattle.smil_laws.specs.Locality.{NoParent, ParentsBefore}
 use Rattle.smil_laws.specs.Edited.{IsOrdered}
-use Rattle.smil_laws.proofs.Aside.{each_reverse, each_weaker}
+use Rattle.smil_laws.proofs.Aside.{each_reverse}
 use Rattle.smil_laws.proofs.Below.{reverse_twice}
 use Rattle.smil_laws.proofs.Numbered.{all_low}
+use Rattle.smil_laws.proofs.Lists.{each_weaker}
 use Rattle.smil_tree.specs.Held.{cut}
 use Rattle.smil_tree.proofs.Families.{drop_at}
 use Rattle.smil_tree.proofs.KinLists.{filter_none}

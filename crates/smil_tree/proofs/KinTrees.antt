@@ -14,12 +14,12 @@ use Rattle.smil_model.specs.document.Edits.{children}
 use Rattle.smil_model.specs.document.Valid.{IsDistinct}
 use Rattle.smil_laws.specs.Locality.{ParentsBefore}
 use Rattle.smil_laws.specs.Edited.{IsOrdered}
-use Rattle.smil_laws.proofs.Aside.{each_append, each_both, each_reverse, each_filter, each_weaker}
+use Rattle.smil_laws.proofs.Aside.{each_append, each_both, each_reverse, each_filter}
 use Rattle.smil_laws.proofs.Below.{IsChain, ordered_chains, reverse_twice, differ_each}
-use Rattle.smil_laws.proofs.EditsBelow.{each_sub}
 use Rattle.smil_laws.proofs.Kept.{KeepsParents, parent_same, parent_kept}
 use Rattle.smil_laws.proofs.Lineages.{swap_eqb, upwards-rest, upwards-head}
 use Rattle.smil_laws.proofs.Members.{holds, held_each, held_reverse}
+use Rattle.smil_laws.proofs.Lists.{each_weaker, each_kept}
 use Rattle.smil_tree.specs.Held.{cut}
 use Rattle.smil_tree.specs.Kin.{is_serial, IsSubtree, AreListsOf, Separates}
 use Rattle.smil_tree.proofs.Families.{drop_at, node_of_place, chain_of, none_up}
@@ -172,7 +172,7 @@ module _ (nodes : List Node) (o : IsOrdered nodes) (start past : ℕ) (le : star
       (λ m chain k. ap not ((or_parts (m.serial == n.serial) (within m.parent) (sym (ap (holds n.serial) chain) ∙ not_true (within m.serial) k)).1))
 
   rest_closed : AllByRecursion KeepsParent rest
-  rest_closed = subst (λ (ns : List Node). AllByRecursion KeepsParent ns) (sym sub.others) (each_sub KeepsParent (λ (m : Node). stays m.serial) nodes closed)
+  rest_closed = subst (λ (ns : List Node). AllByRecursion KeepsParent ns) (sym sub.others) (each_kept KeepsParent (λ (m : Node). stays m.serial) nodes closed)
 
   part_goes : filter (λ (m : Node). stays m.serial) part ≡ []
   part_goes =

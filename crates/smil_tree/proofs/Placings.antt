@@ -11,7 +11,7 @@ use Rattle.smil_model.specs.document.Valid.{IsValid, depth_of, kind_of, may_hold
 use Rattle.smil_model.specs.document.Edits.{children}
 use Rattle.smil_model.specs.shown.Orders.{is_place}
 use Rattle.smil_laws.specs.Edited.{IsOrdered}
-use Rattle.smil_laws.proofs.Members.{each_member}
+use Rattle.smil_laws.proofs.Lists.{each_weaker}
 use Rattle.smil_tree.specs.Kin.{Families, IsKinOf, list_in}
 use Rattle.smil_tree.specs.declared.fault.TreeFault.TheVariants.{TooDeep, BadPlace}
 use Rattle.smil_tree.specs.Outcomes.{passes, place_outcome, agrees_with_first}
@@ -64,7 +64,7 @@ module _ (nodes : List Node) (next : ℕ) (valid : IsValid (record { nodes = nod
   no_children : children nodes parent ≡ [] → agree_with nodes parent kind ≡ true
   no_children none =
       all_of_each (agrees kind) nodes
-      (each_member (λ (n : Node). n.parent == parent ≡ false) (λ (n : Node). agrees kind n ≡ true) nodes (none_pass (λ (n : Node). n.parent == parent) nodes none)
+      (each_weaker (λ (n : Node). n.parent == parent ≡ false) (λ (n : Node). agrees kind n ≡ true) nodes (none_pass (λ (n : Node). n.parent == parent) nodes none)
       (λ n e. ap (λ t. not t || same_test (is_class_kind n.kind) (is_class_kind kind)) e))
 
   first_child : (c : Node) → slice_get (children nodes parent) 0 ≡ Some c → same_test (is_class_kind c.kind) (is_class_kind kind) ≡ agree_with nodes parent kind
@@ -85,7 +85,7 @@ module _ (nodes : List Node) (next : ℕ) (valid : IsValid (record { nodes = nod
       all_do : same_test (is_class_kind c.kind) (is_class_kind kind) ≡ true → agree_with nodes parent kind ≡ true
       all_do h =
           all_of_each (agrees kind) nodes
-          (each_member (λ (n : Node). agrees c.kind n ≡ true) (λ (n : Node). agrees kind n ≡ true) nodes (each_of_all (agrees c.kind) nodes with_it)
+          (each_weaker (λ (n : Node). agrees c.kind n ≡ true) (λ (n : Node). agrees kind n ≡ true) nodes (each_of_all (agrees c.kind) nodes with_it)
           (λ n e. step (not (n.parent == parent)) n e))
         where
           step : (t : Bool) (n : Node) → (t || same_test (is_class_kind n.kind) (is_class_kind c.kind)) ≡ true → (t || same_test (is_class_kind n.kind) (is_class_kind kind)) ≡ true

@@ -8,7 +8,7 @@ use Rattle.smil_model.specs.document.Document.{node_at}
 use Rattle.smil_model.specs.document.Valid.{IsValid, IsNumberedTree, references, references_among, references_of}
 use Rattle.smil_model.specs.document.Edits.{children}
 use Rattle.smil_laws.proofs.Numbered.{all_low}
-use Rattle.smil_laws.proofs.Aside.{each_weaker}
+use Rattle.smil_laws.proofs.Lists.{each_weaker}
 use Rattle.smil_tree.specs.Held.{cut}
 use Rattle.smil_tree.specs.Kept.{IsTableOf, Keeps}
 use Rattle.smil_tree.specs.Kin.{Families, IsKinOf}

@@ -14,7 +14,8 @@ use Rattle.smil_model.specs.document.Edits.{node_removed, place_in, child_place}
 use Rattle.smil_laws.specs.Edited.{IsOrdered}
 use Rattle.smil_laws.proofs.Numbered.{ordered}
 use Rattle.smil_laws.proofs.Aside.{each_both, find_true}
-use Rattle.smil_laws.proofs.Members.{holds, each_chosen, each_kept, each_member}
+use Rattle.smil_laws.proofs.Members.{holds}
+use Rattle.smil_laws.proofs.Lists.{each_weaker, each_chosen, each_kept}
 use Rattle.smil_tree.specs.Held.{cut}
 use Rattle.smil_tree.specs.Kept.{bears, IsTableOf, Keeps}
 use Rattle.smil_tree.specs.Kin.{Families, IsKinOf, IsSubtree}
@@ -88,7 +89,7 @@ module _ (nodes : List Node) (next : ℕ) (valid : IsValid (record { nodes = nod
       ap not ((or_parts (n.serial == s) (is_within nodes s n.parent) (sym (ap (list_any (λ (m : Node). m.serial == s)) (chain_of nodes o n.serial n known)) ∙ not-true (is_within nodes s n.serial) k)).1)
 
   all_stay : AllByRecursion (λ (n : Node). stays n.serial ≡ true → stays n.parent ≡ true) nodes
-  all_stay = each_member (λ (n : Node). node_at nodes n.serial ≡ Some n) (λ (n : Node). stays n.serial ≡ true → stays n.parent ≡ true) nodes (all_known nodes next valid.numbered) parent_stays
+  all_stay = each_weaker (λ (n : Node). node_at nodes n.serial ≡ Some n) (λ (n : Node). stays n.serial ≡ true → stays n.parent ≡ true) nodes (all_known nodes next valid.numbered) parent_stays
 
   tree_rest : x.parent == 0 ≡ false → IsTree rest
   tree_rest parented = by_front a.front a.before
