@@ -9,18 +9,11 @@ use super::turns::Turns;
 use super::waiting::Waiting;
 use smil_model::{Bytes, Steps, WordList};
 use smil_outside::{MemSink, MemSource, Sink, Source};
-use smil_top::{Status, serve};
+use smil_top::{Call, Status, serve};
 use std::alloc::{AllocError, Global};
 use std::cell::Cell;
 use std::marker::Brand;
 use std::sync::ledger::{Blank, Ledger};
-
-/// A call of the program: where it takes memory, and its words.
-#[derive(Drop)]
-struct Call<'a> {
-    alloc: Global,
-    words: &'a WordList,
-}
 
 /// Serves a session, appends its transcript, and gives its status.
 pub fn serve_session(

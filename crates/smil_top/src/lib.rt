@@ -2,6 +2,7 @@
 #![tactic(auto)]
 
 mod answer;
+mod call;
 mod counts;
 mod fault;
 mod generated;
@@ -16,5 +17,6 @@ mod session;
 mod status;
 mod top;
 
+pub use call::Call;
 pub use status::Status;
 pub use top::serve;

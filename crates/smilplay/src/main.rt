@@ -12,7 +12,7 @@ ghost use Rattle.smil_top.specs.Words.{exit_number_of};
 
 use smil_model::{Bytes, Steps, WordList};
 use smil_outside::{Sink, Source, StdSink, StdSource};
-use smil_top::serve;
+use smil_top::{Call, serve};
 use std::alloc::Global;
 use std::io::ErrorKind;
 use std::marker::Brand;
@@ -27,19 +27,12 @@ const NO_MEMORY: u8 = 5;
 /// The exit number where a word can't be read.
 const UNREADABLE_WORD: u8 = 7;
 
-/// What the program is called with: where it takes memory, and the words after its name.
-#[derive(Drop)]
-struct Call {
-    alloc: Global,
-    words: WordList,
-}
-
 fn main(rt: HostRuntime) -> ExitCode {
     match words(&rt) {
         Ok(words) => {
             let call = Call {
                 alloc: rt.alloc(),
-                words,
+                words: &words,
             };
             let mut source = StdSource::new(rt.reader());
             let mut sink = StdSink::new(io::writer(&rt));
@@ -61,7 +54,7 @@ fn words<R: Env + AllocGlobal>(rt: &R) -> io::Result<WordList> {
 
 // Serves the input, and gives the exit number. Nothing is told of the count of evaluations.
 fn play<S: Source, K: Sink, L: Ledger>(
-    call: &Call,
+    call: &Call<'_>,
     blank: Blank,
     source: &mut S,
     sink: &mut K,
@@ -70,10 +63,10 @@ fn play<S: Source, K: Sink, L: Ledger>(
     requires parts { blank.parts ≡ L.parts }
     requires backed { 0 < blank.parts }
     ensures serves { (status : Status) × (exit_status result ≡ exit_number_of status)
-        × Serves (mode_of call.now.words) status
+        × Serves (mode_of call.now.words.now) status
         (S.rest source.old) (S.rest source.new) (K.taken sink.old) (K.taken sink.new)
         (K.sure_room sink.old) }
-    ensures unread { reads (mode_of call.now.words) ≡ false → source.new ≡ source.old }
+    ensures unread { reads (mode_of call.now.words.now) ≡ false → source.new ≡ source.old }
     ensures read_cause { exit_status result ≡ 3
         → HasRisen (S.faults source.old) (S.faults source.new) }
     ensures write_cause { exit_status result ≡ 4
@@ -81,6 +74,6 @@ fn play<S: Source, K: Sink, L: Ledger>(
     ensures bound { exit_status result ≤ 6 }
 {
     let mut steps = Steps::<L>::new(blank);
-    let status = serve(call.alloc, &call.words, source, sink, &mut steps);
+    let status = serve(call.alloc, call.words, source, sink, &mut steps);
     ExitCode::from(status.exit_number())
 }
