@@ -2,7 +2,7 @@
 //! standard output, or does what else the words ask for.
 #![tactic(auto)]
 
-ghost use Rattle.std.specs.Prelude.{◌≡◌, ◌<◌, ◌≤◌, false};
+ghost use Rattle.std.specs.Prelude.{◌≡◌, ◌≢◌, ◌<◌, ◌≤◌, false};
 ghost use Rattle.std.specs.Process.{exit_status};
 ghost use Rattle.smil_outside.specs.Faults.{HasRisen};
 ghost use Rattle.smil_top.specs.declared.status.Status.{Status};
@@ -71,6 +71,9 @@ fn play<S: Source, K: Sink, L: Ledger>(
         → HasRisen (S.faults source.old) (S.faults source.new) }
     ensures write_cause { exit_status result ≡ 4
         → HasRisen (K.faults sink.old) (K.faults sink.new) }
+    ensures read_count { S.faults source.old ≤ S.faults source.new }
+    ensures write_count { K.faults sink.old ≤ K.faults sink.new }
+    ensures sure { S.never_fails source.old → exit_status result ≢ 3 }
     ensures bound { exit_status result ≤ 6 }
 {
     let mut steps = Steps::<L>::new(blank);
