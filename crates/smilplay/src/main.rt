@@ -2,7 +2,7 @@
 //! standard output, or does what else the words ask for.
 #![tactic(auto)]
 
-ghost use Rattle.std.specs.Prelude.{◌≡◌, ◌≢◌, ◌<◌, ◌≤◌, false};
+ghost use Rattle.std.specs.Prelude.{◌≡◌, ◌≢◌, ◌<◌, ◌≤◌, drop, map, false, string_bytes, IfOk};
 ghost use Rattle.std.specs.Process.{exit_status};
 ghost use Rattle.smil_outside.specs.Faults.{HasRisen};
 ghost use Rattle.smil_top.specs.declared.status.Status.{Status};
@@ -13,7 +13,7 @@ ghost use Rattle.smil_top.specs.Words.{exit_number_of};
 use smil_model::{Bytes, Steps, WordList};
 use smil_outside::{Sink, Source, StdSink, StdSource};
 use smil_top::{Call, serve};
-use std::alloc::Global;
+use std::alloc::{AllocError, Global};
 use std::io::ErrorKind;
 use std::marker::Brand;
 use std::process::ExitCode;
@@ -45,9 +45,20 @@ fn main(rt: HostRuntime) -> ExitCode {
 
 // The words after the program's name.
 fn words<R: Env + AllocGlobal>(rt: &R) -> io::Result<WordList> {
-    let mut words = WordList::new(rt.alloc());
-    for word in env::args(rt)?.skip(1) {
-        words.push(Bytes::of(rt.alloc(), word.as_bytes())?)?;
+    let args: Vec<String> = env::args(rt)?.collect(rt.alloc())?;
+    Ok(word_list(rt.alloc(), &args)?)
+}
+
+// The words behind the first argument, which is the program's name; unless memory runs out.
+fn word_list(alloc: Global, args: &[String]) -> Result<WordList, AllocError>
+    ensures { IfOk result (λ words. words ≡ map string_bytes (drop 1 args.now)) }
+{
+    let mut words = WordList::new(alloc);
+    let Some((_, behind)) = args.split_first() else {
+        return Ok(words);
+    };
+    for word in behind {
+        words.push(Bytes::of(alloc, word.as_bytes())?)?;
     }
     Ok(words)
 }
