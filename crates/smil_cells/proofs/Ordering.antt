@@ -12,8 +12,8 @@ use Rattle.smil_model.specs.declared.document.Kind.{Kind}
 use Rattle.smil_model.specs.document.Document.{elements, is_element, is_class_kind, node_at, serial_of, serials}
 use Rattle.smil_model.specs.document.Closure.{has}
 use Rattle.smil_model.specs.document.Valid.{IsDistinct, kind_of}
-use Rattle.smil_laws.proofs.Below.{differ_each}
 use Rattle.smil_laws.proofs.Lineages.{swap_eqb}
+use Rattle.smil_laws.proofs.Members.{differ_each}
 use Rattle.smil_stretch.proofs.Above.{each_at, node_of}
 use Rattle.smil_past.proofs.Placing.{node_there, none_there}
 use Rattle.smil_cells.specs.Shown.{ArePlaces, is_listed, listed_of}

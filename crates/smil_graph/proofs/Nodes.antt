@@ -3,13 +3,13 @@ use Rattle.std.proofs.Common.{◌≡◌, refl, sym, ◌∙◌, ap, ℕ, suc, zer
 use Rattle.std.specs.Prelude.{cond, ◌==◌, ◌⊎◌, reverse, find, slice_get}
 use Rattle.std.specs.List.{AllByRecursion}
 use Rattle.std.proofs.lemmas.Bool.{eq-eqb}
-use Rattle.std.proofs.lemmas.List.{reverse-append}
+use Rattle.std.proofs.lemmas.List.{reverse-append, reverse-reverse}
 use Rattle.smil_model.specs.declared.document.Node.{Node}
 use Rattle.smil_model.specs.document.Document.{Document, is_element, node_at, upwards, time_parent}
 use Rattle.smil_model.specs.document.Valid.{IsNumberedTree}
 use Rattle.smil_laws.specs.Locality.{NoParent, ParentsBefore}
 use Rattle.smil_laws.proofs.Aside.{each_reverse, find_each}
-use Rattle.smil_laws.proofs.Below.{IsChain, ordered_chains, reverse_twice}
+use Rattle.smil_laws.proofs.Below.{IsChain, ordered_chains}
 use Rattle.smil_laws.proofs.Numbered.{ordered}
 use Rattle.smil_laws.proofs.Rounds.{find-serial}
 use Rattle.smil_graph.specs.Places.{at_place, up, has_element, is_element_at, element_above, parent_by, IsTable, IsIndex}
@@ -94,7 +94,7 @@ move : (P : Node → Type 0) (xs ys : List Node) → xs ≡ ys → AllByRecursio
 move P xs ys e each = rw (← e) each
 
 back : (P : Node → Type 0) (ns : List Node) → AllByRecursion P (reverse ns) → AllByRecursion P ns
-back P ns each = move P (reverse (reverse ns)) ns (reverse_twice ns) (each_reverse P (reverse ns) each)
+back P ns each = move P (reverse (reverse ns)) ns (reverse-reverse ns) (each_reverse P (reverse ns) each)
 
 -- no node's parent is the node itself or stands after it
 abbrev Forward : List Node → Type 0

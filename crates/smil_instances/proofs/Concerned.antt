@@ -24,9 +24,10 @@ use Rattle.smil_model.specs.happening.Queue.{is_child_of}
 use Rattle.smil_instances.specs.Updates.{BasesAreElements, remaining}
 use Rattle.smil_instance_rows.specs.Changes.{HasCell}
 use Rattle.smil_laws.proofs.Aside.{each_reverse}
-use Rattle.smil_laws.proofs.Below.{each_upwards, differ_each}
+use Rattle.smil_laws.proofs.Below.{each_upwards}
 use Rattle.smil_laws.proofs.Lineages.{swap_eqb}
 use Rattle.smil_laws.proofs.Lists.{each_kept}
+use Rattle.smil_laws.proofs.Members.{differ_each}
 use Rattle.smil_stretch.proofs.Above.{each_at}
 use Rattle.smil_graph.proofs.Answered.{element_at, only_element}
 use Rattle.smil_instances.specs.Dependents.{DocumentDependents, AreDependentsOf, cells_in, keys_cell, source_in}

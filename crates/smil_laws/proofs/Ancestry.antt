@@ -10,8 +10,8 @@ use Rattle.smil_model.specs.diary.Lawful.{has_element}
 use Rattle.smil_laws.specs.Edited.{IsOrdered}
 use Rattle.smil_laws.proofs.Lineages.{upwards-rest, upwards-head}
 use Rattle.smil_laws.proofs.Aside.{each_reverse}
-use Rattle.smil_laws.proofs.Below.{each_upwards, differ_each}
-use Rattle.smil_laws.proofs.Members.{holds, none_held, found_held, Differ, differ_all, differ_reverse}
+use Rattle.smil_laws.proofs.Below.{each_upwards}
+use Rattle.smil_laws.proofs.Members.{holds, none_held, found_held, Differ, differ_all, differ_reverse, differ_each}
 use Rattle.smil_laws.proofs.Lists.{each_weaker}
 
 -- no node stands above itself

@@ -1,5 +1,5 @@
 -- What a course comes to, it came to at each earlier moment with the entries up to that moment.
-use Rattle.std.proofs.Common.{◌≡◌, refl, sym, ◌∙◌, ap, ℕ, suc, zero, ◌<◌, ◌≤◌, List, [], ◌∷◌, ◌++◌, Option, Some, None, ℤ, Bool, true, false, arith, inl, inr}
+use Rattle.std.proofs.Common.{◌≡◌, refl, sym, ◌∙◌, ap, ℕ, suc, zero, ◌<◌, ◌≤◌, List, [], ◌∷◌, ◌++◌, Option, Some, None, ℤ, Bool, true, false, arith, inl, inr, append_assoc}
 use Rattle.std.specs.Prelude.{◌⊎◌, cond, pos, int_le, nat_le, nat_lt, slice_get}
 use Rattle.std.specs.Option.{option_map_or}
 use Rattle.std.specs.List.{AllByRecursion}
@@ -51,10 +51,6 @@ until_front m (x ∷ xs) more p q =
     ap (λ t. cond t (x ∷ until (pos m) (xs ++ more)) (until (pos m) (xs ++ more))) p.0 ∙ ap (λ ys. x ∷ ys) (until_front m xs more p.1 q)
 
 -- ---- what steps append
-
-append_assoc : (xs ys zs : List Entry) → (xs ++ ys) ++ zs ≡ xs ++ (ys ++ zs)
-append_assoc [] ys zs = refl
-append_assoc (x ∷ xs) ys zs = ap (λ es. x ∷ es) (append_assoc xs ys zs)
 
 record Grows (q r : Progress) : Type 0 where
   more : List Entry

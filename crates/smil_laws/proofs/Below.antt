@@ -2,26 +2,19 @@
 use Rattle.std.proofs.Common.{◌≡◌, refl, sym, ◌∙◌, ap, ℕ, List, [], ◌∷◌, ◌++◌, Some, Bool, true, false, inl, inr}
 use Rattle.std.specs.Prelude.{cond, ◌==◌, ◌||◌, ◌⊎◌, reverse, drop, find, is_some}
 use Rattle.std.specs.List.{AllByRecursion, list_any}
-use Rattle.std.proofs.lemmas.Bool.{or_parts, or_left, or_right, or_cases, eqb-true, eq-eqb}
-use Rattle.std.proofs.lemmas.List.{reverse-append}
+use Rattle.std.proofs.lemmas.Bool.{or_left, or_right, or_cases, eqb-true, eq-eqb}
+use Rattle.std.proofs.lemmas.List.{reverse-reverse}
 use Rattle.smil_model.specs.declared.document.Node.{Node}
 use Rattle.smil_model.specs.document.Document.{is_element, upwards, lineage, ancestors, time_parent, is_below}
-use Rattle.smil_model.specs.document.Valid.{IsDistinct}
 use Rattle.smil_laws.specs.Locality.{NoParent, ParentsBefore}
 use Rattle.smil_laws.specs.Agreement.{IsPlaced}
 use Rattle.smil_laws.specs.Edited.{IsOrdered}
 use Rattle.smil_laws.proofs.Lineages.{swap_eqb, skip, take_it, upwards-head}
-use Rattle.smil_laws.proofs.Aside.{find_each, find_true, each_append, each_reverse, each_drop}
+use Rattle.smil_laws.proofs.Aside.{find_each, find_true, each_reverse, each_drop}
 use Rattle.smil_laws.proofs.Lists.{each_weaker}
+use Rattle.smil_laws.proofs.Members.{Differ, differ_all, differ_reverse}
 
 -- ---- lists
-
-reverse_push : (ns : List Node) (n : Node) → reverse (ns ++ n ∷ []) ≡ n ∷ reverse ns
-reverse_push ns n = reverse-append ns (n ∷ [])
-
-pub reverse_twice : (ns : List Node) → reverse (reverse ns) ≡ ns
-reverse_twice [] = refl
-reverse_twice (n ∷ ns) = ap reverse (reverse-append (n ∷ []) ns) ∙ reverse_push (reverse ns) n ∙ ap (λ ms. n ∷ ms) (reverse_twice ns)
 
 pub each_upwards : (P : Node → Type 0) (rs : List Node) (s : ℕ) → AllByRecursion P rs → AllByRecursion P (upwards rs s)
 each_upwards P [] s each = tt
@@ -31,34 +24,13 @@ each_upwards P (n ∷ before) s each = step (n.serial == s) (each_upwards P befo
     step true a b = (each.0, a)
     step false a b = b
 
--- ---- no serial is given twice
-
-pub differ_each : (s : ℕ) (ns : List Node) → list_any (λ (m : Node). m.serial == s) ns ≡ false → AllByRecursion (λ (m : Node). m.serial == s ≡ false) ns
-differ_each s [] q = tt
-differ_each s (n ∷ ns) q = let parts = or_parts (n.serial == s) (list_any (λ (m : Node). m.serial == s) ns) q in (parts.0, differ_each s ns parts.1)
-
-abbrev Apart : List Node → Type 0
-Apart [] = Unit {0}
-Apart (n ∷ ns) = AllByRecursion (λ (m : Node). m.serial == n.serial ≡ false) ns × Apart ns
-
-apart_push : (ns : List Node) (n : Node) → Apart ns → AllByRecursion (λ (m : Node). m.serial == n.serial ≡ false) ns → Apart (ns ++ n ∷ [])
-apart_push [] n apart each = (tt, tt)
-apart_push (m ∷ ms) n apart each =
-    (each_append (λ (x : Node). x.serial == m.serial ≡ false) ms (n ∷ []) apart.0 (swap_eqb m.serial n.serial each.0, tt), apart_push ms n apart.1 each.1)
-
-apart_reverse : (ns : List Node) → IsDistinct ns → Apart (reverse ns)
-apart_reverse [] d = tt
-apart_reverse (n ∷ ns) d =
-    rw (reverse-append (n ∷ []) ns)
-    (apart_push (reverse ns) n (apart_reverse ns d.1) (each_reverse (λ (m : Node). m.serial == n.serial ≡ false) ns (differ_each n.serial ns d.0)))
-
 -- ---- the lineage of each node
 
 -- the lineage of a node is the node and the lineage of its parent
 abbrev pub IsChain : List Node → Node → Type 0
 IsChain rs m = upwards rs m.serial ≡ m ∷ upwards rs m.parent
 
-chains : (rs : List Node) → ParentsBefore rs → Apart rs → AllByRecursion (IsChain rs) rs
+chains : (rs : List Node) → ParentsBefore rs → Differ rs → AllByRecursion (IsChain rs) rs
 chains [] first apart = tt
 chains (n ∷ before) first apart = (
   take_it n before n.serial (eq-eqb n.serial n.serial refl) ∙ ap (λ c. n ∷ c) (sym (skip n before n.parent (swap_eqb n.parent n.serial first.0))),
@@ -73,7 +45,7 @@ chains (n ∷ before) first apart = (
     )
 
 pub ordered_chains : (nodes : List Node) → IsOrdered nodes → AllByRecursion (IsChain (reverse nodes)) (reverse nodes)
-ordered_chains nodes o = chains (reverse nodes) o.first (apart_reverse nodes o.distinct)
+ordered_chains nodes o = chains (reverse nodes) o.first (differ_reverse nodes (differ_all nodes o.distinct))
 
 pub no_chain : (rs : List Node) (s : ℕ) → upwards rs s ≡ [] → list_any (λ (n : Node). n.serial == s) rs ≡ false
 no_chain [] s q = refl
@@ -147,7 +119,7 @@ module _ (nodes : List Node) (o : IsOrdered nodes) (x : ℕ) (parent : Node) (un
   pub all_placed : AllByRecursion (IsPlaced (is_below nodes p) p) nodes
   all_placed =
       let back : AllByRecursion (IsPlaced (is_below nodes p) p) (reverse rs) = each_reverse (IsPlaced (is_below nodes p) p) rs (each_weaker (IsChain rs) (IsPlaced (is_below nodes p) p) rs (ordered_chains nodes o) place) in
-      along (reverse rs) nodes (reverse_twice nodes) back
+      along (reverse rs) nodes (reverse-reverse nodes) back
     where
       along : (xs ys : List Node) → xs ≡ ys → AllByRecursion (IsPlaced (is_below nodes p) p) xs → AllByRecursion (IsPlaced (is_below nodes p) p) ys
       along xs ys e each = rw (← e) each

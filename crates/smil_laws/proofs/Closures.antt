@@ -4,6 +4,7 @@ use Rattle.std.specs.Prelude.{cond, ◌==◌, ◌||◌, ◌⊎◌, filter}
 use Rattle.std.specs.List.{list_any}
 use Rattle.std.proofs.lemmas.Bool.{or_left, or_right, or_cases, eqb-true, eq-eqb}
 use Rattle.smil_model.specs.document.Closure.{has, round, rounds, closure}
+use Rattle.smil_laws.proofs.Lists.{filter_shorter}
 
 has_self : (x : ℕ) (xs : List ℕ) → has (x ∷ xs) x ≡ true
 has_self x xs = or_left _ _ (eq-eqb x x refl)
@@ -27,14 +28,6 @@ has_filter p (y ∷ ys) x h q = by_case (or_cases (y == x) (has ys x) h) (has_fi
     by_case : (y == x ≡ true) ⊎ (has ys x ≡ true) → (has ys x ≡ true → p x ≡ true → has (filter p ys) x ≡ true) → has (cond (p y) (y ∷ filter p ys) (filter p ys)) x ≡ true
     by_case (inl e) later = ap (λ t. has (cond t (y ∷ filter p ys) (filter p ys)) x) (ap p (eqb-true y x e) ∙ q) ∙ or_left _ _ e
     by_case (inr r) later = by_pass (p y) (later r q)
-
-pub filter_le : (p : ℕ → Bool) (xs : List ℕ) → length (filter p xs) ≤ length xs
-filter_le p [] = omega arith
-filter_le p (x ∷ xs) = by_pass (p x) (filter_le p xs)
-  where
-    by_pass : (t : Bool) → length (filter p xs) ≤ length xs → length (cond t (x ∷ filter p xs) (filter p xs)) ≤ suc (length xs)
-    by_pass true r = omega (arith, r)
-    by_pass false r = omega (arith, r)
 
 -- a weaker test keeps the same elements, or more of them
 pub more_kept : (p q : ℕ → Bool) (xs : List ℕ) → ((x : ℕ) → has xs x ≡ true → p x ≡ true → q x ≡ true) → (filter q xs ≡ filter p xs) ⊎ (length (filter p xs) < length (filter q xs))
@@ -76,7 +69,7 @@ module _ (link : ℕ → ℕ → Bool) (all set : List ℕ) where
     where
       by_case : (rounds link all (suc (suc (length all))) set ≡ rounds link all (suc (length all)) set) ⊎ (length all < length (rounds link all (suc (suc (length all))) set)) → round link all (closure link all set) ≡ closure link all set
       by_case (inl e) = e
-      by_case (inr m) = absurd (omega (arith, m, filter_le (λ y. has (rounds link all (suc (length all)) set) y || list_any (λ x. link x y) (rounds link all (suc (length all)) set)) all))
+      by_case (inr m) = absurd (omega (arith, m, filter_shorter (λ y. has (rounds link all (suc (length all)) set) y || list_any (λ x. link x y) (rounds link all (suc (length all)) set)) all))
 
   pub is_closed : (x y : ℕ) → has (closure link all set) x ≡ true → link x y ≡ true → has all y ≡ true → has (closure link all set) y ≡ true
   is_closed x y h q i =

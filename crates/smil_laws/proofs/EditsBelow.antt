@@ -4,7 +4,7 @@ use Rattle.std.specs.Prelude.{cond, not, ◌==◌, ◌||◌, ◌⊎◌, reverse,
 use Rattle.std.specs.List.{AllByRecursion, list_any}
 use Rattle.std.proofs.lemmas.Bool.{or_parts, or_from, or_left, or_right, or_cases, eqb-true, eq-eqb}
 use Rattle.std.proofs.lemmas.List.Elements.{filter-append}
-use Rattle.std.proofs.lemmas.List.{reverse-append}
+use Rattle.std.proofs.lemmas.List.{reverse-append, reverse-reverse}
 use Rattle.smil_model.specs.declared.document.Attrs.{Attrs}
 use Rattle.smil_model.specs.declared.document.Node.{Node}
 use Rattle.smil_model.specs.document.Document.{is_element, elements, node_at, upwards, lineage, time_parent, is_below}
@@ -15,7 +15,7 @@ use Rattle.smil_laws.specs.Edited.{KeepsReferences, IsOrdered}
 use Rattle.smil_laws.proofs.Kept.{KeepsParents, upwards_kept, filter_reverse}
 use Rattle.smil_laws.proofs.Lineages.{skip, take_it, upwards-rest, upwards-head}
 use Rattle.smil_laws.proofs.Aside.{find_each, each_append, each_reverse, each_drop, each_filter, find_within, filter_swap, not_aside, other_who}
-use Rattle.smil_laws.proofs.Below.{reverse_twice, IsChain, ordered_chains, under_some, edited_below, all_placed}
+use Rattle.smil_laws.proofs.Below.{IsChain, ordered_chains, under_some, edited_below, all_placed}
 use Rattle.smil_laws.proofs.Lists.{each_weaker, each_kept, each_take}
 
 -- ---- from the parts of an edit
@@ -308,7 +308,7 @@ module _ (ns : List Node) (i : ℕ) (fresh : Node) (parent : Node) (unused : All
   remains s = not (list_any (λ (a : Node). a.serial == fresh.serial) (lineage grown s))
 
   of_grown : (P : Node → Type 0) → AllByRecursion P (reverse grown) → P fresh
-  of_grown P each = middle P (take i ns) fresh (drop i ns) (along_each P (reverse (reverse grown)) grown (reverse_twice grown) (each_reverse P (reverse grown) each))
+  of_grown P each = middle P (take i ns) fresh (drop i ns) (along_each P (reverse (reverse grown)) grown (reverse-reverse grown) (each_reverse P (reverse grown) each))
 
   parents_free : AllByRecursion (λ (m : Node). m.parent == fresh.serial ≡ false) grown
   parents_free =

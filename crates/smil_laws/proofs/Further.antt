@@ -24,7 +24,7 @@ use Rattle.smil_laws.proofs.Aside.{SameLogged, NamesAlike, each_append, find_eac
 use Rattle.smil_laws.proofs.Agreed.{next_alike, next_frees}
 use Rattle.smil_laws.proofs.Numbered.{all_low, ordered}
 use Rattle.smil_laws.proofs.Cutting.{next_on, steps_on}
-use Rattle.smil_laws.proofs.Quiet.{le_later}
+use Rattle.smil_laws.proofs.Quiet.{le_later, not_due}
 use Rattle.smil_laws.proofs.Lists.{each_weaker, each_kept}
 use Rattle.smil_laws.specs.Courses.{IsPast}
 
@@ -143,9 +143,6 @@ module _ (log more : List LogEntry) where
       by_step (Deferred who begin) p = tt
       by_step (Passed who begin) p = tt
 
-not_yet : (x : ℤ) (m n : ℕ) → m < n → int_le (pos n) x ≡ true → int_le x (pos m) ≡ false
-not_yet x m n l q = grind (arith, ints)
-
 module _ (nodes : List Node) (first : ParentsBefore (reverse nodes)) (fresh : ℕ) (unused : AllByRecursion (λ (x : Node). (x.serial == fresh ≡ false) × (x.parent == fresh ≡ false)) nodes) (log more : List LogEntry) (last later : ℕ) (goal : Progress) (after : AllByRecursion (λ (x : LogEntry). int_le (pos goal.moment) x.moment ≡ true) more) (further : last ≤ later) where
   -- nothing has this serial, so the document differs from itself only below it
   abbrev aside : ℕ → Bool
@@ -217,7 +214,7 @@ module _ (nodes : List Node) (first : ParentsBefore (reverse nodes)) (fresh : �
                 let yet : int_le (pos goal.moment) x.moment ≡ true = from_more q.heard log more x (λ (x : LogEntry). int_le (pos goal.moment) x.moment ≡ true) n m after in
                 here ∙ quiets (e ∙ here)
                 ∙ sym (ap (after_settling long q) m
-                ∙ ap (λ b. cond b (Some (record { moment = q.moment; heard = suc q.heard; diary = q.diary ++ record { moment = pos q.moment; step = Logged q.heard } ∷ [] })) (after_quiet long q)) (not_yet x.moment q.moment goal.moment (before_goal (e ∙ here)) yet))
+                ∙ ap (λ b. cond b (Some (record { moment = q.moment; heard = suc q.heard; diary = q.diary ++ record { moment = pos q.moment; step = Logged q.heard } ∷ [] })) (after_quiet long q)) (not_due x.moment q.moment goal.moment (before_goal (e ∙ here)) yet))
         by_entry (Some entry) n = by_test (int_le entry.moment (pos q.moment)) refl
           where
             there : slice_get (log ++ more) q.heard ≡ Some entry

@@ -2,14 +2,13 @@
 use Rattle.std.proofs.Common.{◌≡◌, refl, sym, ◌∙◌, ap, ℕ, List, [], ◌∷◌, ◌++◌, Some, Bool, true, false, inl, inr}
 use Rattle.std.specs.Prelude.{cond, ◌==◌, ◌||◌, ◌⊎◌, reverse, filter, find, is_some}
 use Rattle.std.specs.List.{AllByRecursion, list_any}
-use Rattle.std.proofs.lemmas.Bool.{or_from, or_left, or_right, or_cases, eqb-true}
+use Rattle.std.proofs.lemmas.Bool.{or_from, or_left, or_right, or_cases, eqb-true, or_parts}
 use Rattle.std.proofs.lemmas.List.{reverse-append}
 use Rattle.std.proofs.lemmas.List.Folds.{list_any-append}
 use Rattle.smil_model.specs.declared.document.Node.{Node}
 use Rattle.smil_model.specs.document.Valid.{IsDistinct}
 use Rattle.smil_laws.proofs.Lineages.{swap_eqb}
 use Rattle.smil_laws.proofs.Aside.{each_append, each_reverse}
-use Rattle.smil_laws.proofs.Below.{differ_each}
 use Rattle.smil_laws.proofs.Lists.{each_kept}
 
 -- whether a node with this serial is among these
@@ -67,6 +66,10 @@ found_held t s (n ∷ ns) q = step (t n) q (found_held t s ns)
     step false r later = or_right _ _ (later r)
 
 -- ---- distinct serials
+
+pub differ_each : (s : ℕ) (ns : List Node) → list_any (λ (m : Node). m.serial == s) ns ≡ false → AllByRecursion (λ (m : Node). m.serial == s ≡ false) ns
+differ_each s [] q = tt
+differ_each s (n ∷ ns) q = let parts = or_parts (n.serial == s) (list_any (λ (m : Node). m.serial == s) ns) q in (parts.0, differ_each s ns parts.1)
 
 abbrev pub Differ : List Node → Type 0
 Differ [] = Unit {0}

@@ -11,8 +11,8 @@ use Rattle.smil_model.specs.document.Valid.{IsNumberedTree, IsTree, IsTreeFrom, 
 use Rattle.smil_laws.specs.Locality.{NoParent, ParentsBefore}
 use Rattle.smil_laws.specs.Edited.{IsOrdered}
 use Rattle.smil_laws.proofs.Lineages.{swap_eqb}
-use Rattle.smil_laws.proofs.Below.{differ_each}
 use Rattle.smil_laws.proofs.Lists.{each_weaker}
+use Rattle.smil_laws.proofs.Members.{differ_each}
 
 each_all : (P : Node → Type 0) (ns : List Node) → All P ns → AllByRecursion P ns
 each_all P [] all = tt

@@ -18,6 +18,7 @@ use Rattle.smil_laws.specs.Locality.{ParentsBefore}
 use Rattle.smil_laws.specs.Quiet.{IsSameLater, IsQuietFor, later_by}
 use Rattle.smil_laws.proofs.Chained.{chained}
 use Rattle.smil_laws.proofs.Passing.{table-next, keys-next, views-next}
+use Rattle.smil_laws.proofs.Lists.{filter_shorter}
 
 pub same_later : (h : History) (m : ℕ) → ParentsBefore (reverse h.nodes) → until (pos m) h.diary ≡ h.diary → IsSameLater h m
 same_later h m first settled = record {
@@ -27,14 +28,6 @@ same_later h m first settled = record {
 }
 
 -- ---- entries up to a moment are entries up to the next
-
-pub filter_shorter : (p : Entry → Bool) (xs : List Entry) → length (filter p xs) ≤ length xs
-filter_shorter p [] = omega arith
-filter_shorter p (x ∷ xs) = step (p x) (filter_shorter p xs)
-  where
-    step : (t : Bool) → length (filter p xs) ≤ length xs → length (cond t (x ∷ filter p xs) (filter p xs)) ≤ suc (length xs)
-    step true q = omega (arith, q)
-    step false q = omega (arith, q)
 
 pub le_later : (x : ℤ) (m : ℕ) → int_le x (pos m) ≡ true → int_le x (pos (suc m)) ≡ true
 le_later x m q = grind (arith, ints)
@@ -54,7 +47,7 @@ until_later m (x ∷ xs) q = step (int_le x.moment (pos m)) refl q (until_later 
 
 -- ---- one step
 
-not_due : (v : ℤ) (m n : ℕ) → m < n → int_le (pos n) v ≡ true → int_le v (pos m) ≡ false
+pub not_due : (v : ℤ) (m n : ℕ) → m < n → int_le (pos n) v ≡ true → int_le v (pos m) ≡ false
 not_due v m n l q = grind (arith, ints)
 
 module _ (c : Course) (p : Progress) (n : ℕ) (quiet : IsQuietFor c p (suc n)) where

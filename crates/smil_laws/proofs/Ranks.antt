@@ -9,10 +9,11 @@ use Rattle.smil_laws.specs.Locality.{ParentsBefore}
 use Rattle.smil_model.specs.document.Document.{is_element, elements, node_at, upwards, lineage, time_parent, time_children, is_time_child, just_before, previous_child, previous_in_seq, is_in_seq, has_serial, serials}
 use Rattle.smil_model.specs.document.Dependencies.{all_items, feeds, feeds_node}
 use Rattle.smil_model.specs.document.Closure.{has, rounds, closure}
-use Rattle.smil_laws.proofs.Closures.{has_filter, filter_le, more_kept, is_closed, has_set}
+use Rattle.smil_laws.proofs.Closures.{has_filter, more_kept, is_closed, has_set}
 use Rattle.smil_laws.proofs.Lineages.{upwards-rest, upwards-head}
 use Rattle.smil_laws.specs.Rounds.{IsRank}
 use Rattle.smil_laws.proofs.Reached.{found_any, child_is_all, before_is_all, sync_is_all, own_is_all, any_kept, before_any}
+use Rattle.smil_laws.proofs.Lists.{filter_shorter}
 
 -- ---- lists
 
@@ -47,7 +48,7 @@ filter_lt p (x ∷ xs) y q f = by_case (or_cases (x == y) (has xs y) q) (filter_
     by_case : (x == y ≡ true) ⊎ (has xs y ≡ true) → (has xs y ≡ true → p y ≡ false → length (filter p xs) < length xs) → length (cond (p x) (x ∷ filter p xs) (filter p xs)) < suc (length xs)
     by_case (inl d) later =
         let gone : p x ≡ false = ap p (eqb-true x y d) ∙ f in
-        rw gone (omega (arith, filter_le p xs))
+        rw gone (omega (arith, filter_shorter p xs))
     by_case (inr d) later = keep (p x) (later d f)
 
 lex : (m a b p q : ℕ) → a < b → p < m → a * m + p < b * m + q
@@ -110,7 +111,7 @@ module _ (link : ℕ → ℕ → Bool) (all : List ℕ) where
       by_case (inr s) = s
 
   few : (e : ℕ) → length (closure link all (e ∷ [])) ≤ length all
-  few e = filter_le (λ y. has (rounds link all (length all) (e ∷ [])) y || list_any (λ w. link w y) (rounds link all (length all) (e ∷ []))) all
+  few e = filter_shorter (λ y. has (rounds link all (length all) (e ∷ [])) y || list_any (λ w. link w y) (rounds link all (length all) (e ∷ []))) all
 
 -- ---- places among siblings
 
@@ -155,14 +156,6 @@ upwards_le (n ∷ before) s = step (n.serial == s) (upwards_le before n.parent) 
     step true l r = omega (arith, l)
     step false l r = omega (arith, r)
 
-pub nodes_le : (p : Node → Bool) (ns : List Node) → length (filter p ns) ≤ length ns
-nodes_le p [] = omega arith
-nodes_le p (n ∷ ns) = step (p n) (nodes_le p ns)
-  where
-    step : (t : Bool) → length (filter p ns) ≤ length ns → length (cond t (n ∷ filter p ns) (filter p ns)) ≤ suc (length ns)
-    step true l = omega (arith, l)
-    step false l = omega (arith, l)
-
 module _ (nodes : List Node) (first : ParentsBefore (reverse nodes)) where
   -- how many elements stand above
   depth : ℕ → ℕ
@@ -196,7 +189,7 @@ module _ (nodes : List Node) (first : ParentsBefore (reverse nodes)) where
     where
       by_chain : (chain : List Node) → length chain ≤ length nodes → length (filter is_element (drop 1 chain)) ≤ length nodes
       by_chain [] l = omega arith
-      by_chain (m ∷ rest) l = omega (arith, nodes_le is_element rest, l)
+      by_chain (m ∷ rest) l = omega (arith, filter_shorter is_element rest, l)
 
   place_under : Option Node → ℕ → ℕ
   place_under None s = 0
@@ -211,7 +204,7 @@ module _ (nodes : List Node) (first : ParentsBefore (reverse nodes)) where
     where
       under : (o : Option Node) → place_under o s ≤ length nodes
       under None = omega arith
-      under (Some p) = omega (arith, index_le s (time_children nodes p.serial), nodes_le (is_time_child nodes p.serial) nodes)
+      under (Some p) = omega (arith, index_le s (time_children nodes p.serial), filter_shorter (is_time_child nodes p.serial) nodes)
 
   all : List ℕ
   all = serials (elements nodes)
@@ -323,7 +316,7 @@ module _ (nodes : List Node) (first : ParentsBefore (reverse nodes)) where
 
   pub rank_le : (s : ℕ) → rank s ≤ length (serials (elements nodes))
   unfolding rank
-  rank_le s = filter_le (λ y. ltb (key y) (key s)) (serials (elements nodes))
+  rank_le s = filter_shorter (λ y. ltb (key y) (key s)) (serials (elements nodes))
 
 pub serials_length : (ns : List Node) → length (serials ns) ≡ length ns
 serials_length [] = refl

@@ -16,6 +16,7 @@ use Rattle.smil_model.specs.diary.Lawful.{is_rising_from, IsLawful}
 use Rattle.smil_model.specs.happening.Keys.{Coming, coming, first_coming, is_due}
 use Rattle.smil_model.specs.happening.Groups.{steps_of, at_moment, group}
 use Rattle.smil_model.specs.happening.Resolution.{Course, Progress, outset, history_at, after_quiet, after_settling, after_coming, next_step, after_steps}
+use Rattle.smil_model.proofs.Orders.{le_self, le_both}
 use Rattle.smil_laws.specs.Agreement.{course_on}
 use Rattle.smil_laws.specs.Edited.{IsOrdered}
 use Rattle.smil_laws.specs.Resolved.{history_after}
@@ -25,12 +26,6 @@ use Rattle.smil_laws.proofs.LawfulGroups.{Live, group_sound, same_live, mark}
 use Rattle.smil_laws.proofs.Comings.{first_may}
 
 -- ---- moments
-
-le_self : (a : ℤ) → int_le a a ≡ true
-le_self a = grind (arith, ints)
-
-le_both : (a b c : ℤ) → int_le a b ≡ true → int_le b c ≡ true → int_le a c ≡ true
-le_both a b c p q = grind (arith, ints)
 
 -- moments that do not fall, from the first to the last
 abbrev Rises : ℤ → List Entry → ℤ → Type 0

@@ -2,7 +2,7 @@
 use Rattle.std.proofs.Common.{◌≡◌, refl, sym, ◌∙◌, ap, ℕ, List, [], ◌∷◌, Option, Some, None, Bool, true, false}
 use Rattle.std.specs.Prelude.{cond, ◌==◌, ◌||◌, ◌&&◌, not, reverse, drop, find}
 use Rattle.std.specs.List.{AllByRecursion, list_any}
-use Rattle.std.proofs.lemmas.Bool.{or_parts, or_from, or_right, or_left, and_parts, eqb-true, eq-eqb}
+use Rattle.std.proofs.lemmas.Bool.{or_parts, or_from, or_right, or_left, and_parts, eqb-true, eq-eqb, and_right}
 use Rattle.smil_model.specs.declared.diary.LogEntry.{LogEntry}
 use Rattle.smil_model.specs.declared.diary.Step.{Step}
 use Rattle.smil_model.specs.declared.diary.Step.TheVariants.{Began, Resumed}
@@ -25,10 +25,6 @@ any_drop t (n ∷ ns) q = or_right _ _ q
 weaker_any : (t u : Node → Bool) (ns : List Node) → ((n : Node) → t n ≡ false → u n ≡ false) → list_any t ns ≡ false → list_any u ns ≡ false
 weaker_any t u [] f q = refl
 weaker_any t u (n ∷ ns) f q = let parts = or_parts _ _ q in or_from _ _ (f n parts.0) (weaker_any t u ns f parts.1)
-
-and_false : (a b : Bool) → b ≡ false → (a && b) ≡ false
-and_false true b q = q
-and_false false b q = refl
 
 -- the one before is one of the list
 before_each : (P : Node → Type 0) (s : ℕ) (ns : List Node) (o : Option Node) (b : Node) → AllByRecursion P ns → (o ≡ Some b → P b) → just_before s o ns ≡ Some b → P b
@@ -132,7 +128,7 @@ module _ (nodes : List Node) (first : ParentsBefore (reverse nodes)) where
               record {
                 apart = record {
                   self = parts.0;
-                  above = weaker_any (λ (a : Node). a.serial == x) (λ (a : Node). is_element a && (a.serial == x)) (lineage nodes n.serial) (λ a e. and_false (is_element a) (a.serial == x) e) f.0;
+                  above = weaker_any (λ (a : Node). a.serial == x) (λ (a : Node). is_element a && (a.serial == x)) (lineage nodes n.serial) (λ a e. and_right (is_element a) (a.serial == x) e) f.0;
                 };
                 beside = g.0;
               },
@@ -168,7 +164,7 @@ module _ (nodes : List Node) (first : ParentsBefore (reverse nodes)) where
 
         by_test : (t : Bool) → has_serial p.serial (time_parent nodes who) ≡ t → (not (who == s) && has_serial p.serial (time_parent nodes who)) ≡ false
         by_test true e = absurd (by_parent (time_parent nodes who) refl e)
-        by_test false e = and_false (not (who == s)) (has_serial p.serial (time_parent nodes who)) e
+        by_test false e = and_right (not (who == s)) (has_serial p.serial (time_parent nodes who)) e
 
     -- so does the one before
     no_next : ((is_in_seq nodes x || is_in_excl nodes x) && shares_parent nodes (time_parent nodes x) s) ≡ false → has_serial s (previous_in_seq nodes who) ≡ false

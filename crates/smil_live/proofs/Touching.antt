@@ -10,8 +10,8 @@ use Rattle.smil_model.specs.document.Document.{elements, is_element, node_at, se
 use Rattle.smil_model.specs.document.Valid.{IsDistinct}
 use Rattle.smil_model.specs.shown.Orders.{changed, view_before, view_eq}
 use Rattle.smil_model.specs.shown.Views.{blank}
-use Rattle.smil_laws.proofs.Below.{differ_each}
 use Rattle.smil_laws.proofs.Lineages.{swap_eqb}
+use Rattle.smil_laws.proofs.Members.{differ_each}
 use Rattle.smil_stretch.proofs.Above.{each_at}
 use Rattle.smil_live.specs.ViewTable.{put_in, view_in, has_view, AreOne}
 use Rattle.smil_live.proofs.Through.{same_view}

@@ -3,15 +3,15 @@ use Rattle.std.proofs.Common.{◌≡◌, refl, sym, ◌∙◌, ap, subst, ℕ, z
 use Rattle.std.specs.Prelude.{cond, ◌==◌, ◌&&◌, ◌||◌, ◌⊎◌, take, drop, reverse, filter, find, slice_get, is_some}
 use Rattle.std.specs.List.{AllByRecursion, list_any}
 use Rattle.std.proofs.lemmas.Bool.{and_right, or_parts, or_from, or_cases, eqb-true, eq-eqb}
-use Rattle.std.proofs.lemmas.List.{reverse-append, append_assoc}
+use Rattle.std.proofs.lemmas.List.{reverse-append, append_assoc, reverse-reverse}
 use Rattle.smil_model.specs.declared.document.Node.{Node}
 use Rattle.smil_model.specs.document.Document.{node_at, is_element, upwards, lineage, time_parent}
 use Rattle.smil_model.specs.document.Valid.{IsDistinct, IsTree, IsTreeFrom, open_from}
 use Rattle.smil_laws.specs.Edited.{IsOrdered}
 use Rattle.smil_laws.proofs.Lineages.{swap_eqb, skip, take_it, upwards-rest, upwards-head}
 use Rattle.smil_laws.proofs.Aside.{find_each, each_reverse}
-use Rattle.smil_laws.proofs.Members.{found_held}
-use Rattle.smil_laws.proofs.Below.{IsChain, ordered_chains, reverse_twice, differ_each, each_upwards}
+use Rattle.smil_laws.proofs.Members.{found_held, differ_each}
+use Rattle.smil_laws.proofs.Below.{IsChain, ordered_chains, each_upwards}
 
 -- whether an element that passes is in a lineage
 abbrev pub any_in : (Node → Bool) → List Node → Bool
@@ -106,7 +106,7 @@ parent_before P ns i n p d at each found = find_each P is_element (drop 1 (linea
 module _ (nodes : List Node) (o : IsOrdered nodes) where
   pub chain_of : (n : Node) → node_at nodes n.serial ≡ Some n → lineage nodes n.serial ≡ n ∷ lineage nodes n.parent
   chain_of n at =
-      let each = subst (λ (ns : List Node). AllByRecursion (IsChain (reverse nodes)) ns) (reverse_twice nodes) (each_reverse (IsChain (reverse nodes)) (reverse nodes) (ordered_chains nodes o)) in
+      let each = subst (λ (ns : List Node). AllByRecursion (IsChain (reverse nodes)) ns) (reverse-reverse nodes) (each_reverse (IsChain (reverse nodes)) (reverse nodes) (ordered_chains nodes o)) in
       find_each (IsChain (reverse nodes)) (λ (m : Node). m.serial == n.serial) nodes n each at
 
   any_above : (test : Node → Bool) (s : ℕ) (chain : List Node) → lineage nodes s ≡ chain → any_in test chain ≡ any_under nodes test (find is_element chain)

@@ -5,19 +5,20 @@ use Rattle.std.specs.List.{list_any, list_all, AllByRecursion}
 use Rattle.std.specs.Option.{option_copied}
 use Rattle.std.specs.Borrow.{Bor}
 use Rattle.std.proofs.lemmas.Bool.{or_parts, eqb-true, eq-eqb}
+use Rattle.std.proofs.lemmas.List.{reverse-reverse}
 use Rattle.smil_model.specs.declared.document.Node.{Node}
 use Rattle.smil_model.specs.document.Document.{node_at, lineage, upwards, ancestors, time_parent, has_serial, is_element, is_class_kind, is_time_child}
 use Rattle.smil_model.specs.document.Valid.{IsDistinct}
 use Rattle.smil_laws.specs.Edited.{IsOrdered}
 use Rattle.smil_laws.proofs.Lineages.{skip}
 use Rattle.smil_laws.proofs.Aside.{find_each, find_true, each_reverse}
-use Rattle.smil_laws.proofs.Below.{IsChain, ordered_chains, reverse_twice}
+use Rattle.smil_laws.proofs.Below.{IsChain, ordered_chains}
 use Rattle.smil_laws.proofs.Members.{holds, held_reverse}
 
 -- the lineage of a node is the node, then the lineage of its parent
 pub chain_of : (nodes : List Node) → IsOrdered nodes → (s : ℕ) (n : Node) → node_at nodes s ≡ Some n → lineage nodes s ≡ n ∷ lineage nodes n.parent
 chain_of nodes o s n at =
-    let each = subst (λ (ns : List Node). AllByRecursion (IsChain (reverse nodes)) ns) (reverse_twice nodes) (each_reverse (IsChain (reverse nodes)) (reverse nodes) (ordered_chains nodes o)) in
+    let each = subst (λ (ns : List Node). AllByRecursion (IsChain (reverse nodes)) ns) (reverse-reverse nodes) (each_reverse (IsChain (reverse nodes)) (reverse nodes) (ordered_chains nodes o)) in
     ap (upwards (reverse nodes)) (sym (eqb-true n.serial s (find_true (λ (m : Node). m.serial == s) nodes n at)))
     ∙ find_each (IsChain (reverse nodes)) (λ (m : Node). m.serial == s) nodes n each at
 

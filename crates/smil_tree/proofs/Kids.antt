@@ -3,7 +3,7 @@ use Rattle.std.proofs.Common.{◌≡◌, refl, sym, ◌∙◌, ap, subst, ℕ, z
 use Rattle.std.specs.Prelude.{◌==◌, reverse, slice_get, slice_range, is_some, IsSome, nat_lt}
 use Rattle.std.specs.List.{position, position_or_len, AllByRecursion}
 use Rattle.std.proofs.lemmas.Bool.{eqb-true, lt-ltb}
-use Rattle.std.proofs.lemmas.List.{reverse-append, length-append}
+use Rattle.std.proofs.lemmas.List.{reverse-append, length-append, reverse-reverse}
 use Rattle.std.proofs.lemmas.List.Elements.{filter-append}
 use Rattle.smil_model.specs.declared.document.Node.{Node}
 use Rattle.smil_model.specs.document.Document.{node_at, descendants, is_within, serials}
@@ -13,7 +13,6 @@ use Rattle.smil_laws.specs.Locality.{ParentsBefore}
 use Rattle.smil_laws.specs.Edited.{IsOrdered}
 use Rattle.smil_laws.proofs.Numbered.{ordered}
 use Rattle.smil_laws.proofs.Aside.{each_reverse, find_true}
-use Rattle.smil_laws.proofs.Below.{reverse_twice}
 use Rattle.smil_tree.specs.Kin.{Families, IsKinOf, list_in}
 use Rattle.smil_tree.proofs.Changed.{some_node}
 use Rattle.smil_tree.proofs.Owners.{around}
@@ -101,7 +100,7 @@ module _ (nodes : List Node) (next : ℕ) (numbered : IsNumberedTree (record { n
 
   pub no_child_before : (front : List Node) (x : Node) (back : List Node) → nodes ≡ front ++ x ∷ back → AllByRecursion (λ (n : Node). n.parent == x.serial ≡ false) front
   no_child_before front x back is =
-      subst (λ (ns : List Node). AllByRecursion (λ (n : Node). n.parent == x.serial ≡ false) ns) (reverse_twice front)
+      subst (λ (ns : List Node). AllByRecursion (λ (n : Node). n.parent == x.serial ≡ false) ns) (reverse-reverse front)
       (each_reverse (λ (n : Node). n.parent == x.serial ≡ false) (reverse front) (none_of x.serial (reverse front) ((behind front x back is).1)))
 
   pub children_are : (front : List Node) (x : Node) (back : List Node) → nodes ≡ front ++ x ∷ back → children nodes x.serial ≡ children back x.serial

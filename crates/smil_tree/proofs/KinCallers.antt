@@ -3,7 +3,7 @@ use Rattle.std.proofs.Common.{refl, zero, suc, ◌≤◌, length, insert, add-on
 use Rattle.std.specs.Prelude.{◌==◌, reverse, slice_get}
 use Rattle.std.specs.List.{AllByRecursion, list_any}
 use Rattle.std.proofs.lemmas.Bool.{or_parts, ne_eqb}
-use Rattle.std.proofs.lemmas.List.{take-append-drop, reverse-append}
+use Rattle.std.proofs.lemmas.List.{take-append-drop, reverse-append, reverse-reverse}
 use Rattle.std.proofs.lemmas.List.Folds.{list_any-append}
 use Rattle.smil_model.specs.declared.document.Node.{Node}
 use Rattle.smil_model.specs.document.Document.{Document}
@@ -12,7 +12,6 @@ use Rattle.smil_model.specs.document.Valid.{IsDistinct, IsNumberedTree}
 use Rattle.smil_laws.specs.Locality.{NoParent, ParentsBefore}
 use Rattle.smil_laws.specs.Edited.{IsOrdered}
 use Rattle.smil_laws.proofs.Aside.{each_reverse}
-use Rattle.smil_laws.proofs.Below.{reverse_twice}
 use Rattle.smil_laws.proofs.Numbered.{all_low}
 use Rattle.smil_laws.proofs.Lists.{each_weaker}
 use Rattle.smil_tree.specs.Held.{cut}
@@ -58,7 +57,7 @@ leaf_at nodes i n o at =
     ∙ append_assoc (reverse (drop (i + 1) nodes)) (n ∷ []) (reverse (take i nodes)) in
     let free = (parents_right (reverse (drop (i + 1) nodes)) (n ∷ reverse (take i nodes)) (subst ParentsBefore behind o.first)).1 in
     filter_none (λ (m : Node). m.parent == n.serial) (take i nodes)
-    (subst (λ (ns : List Node). AllByRecursion (λ (m : Node). m.parent == n.serial ≡ false) ns) (reverse_twice (take i nodes))
+    (subst (λ (ns : List Node). AllByRecursion (λ (m : Node). m.parent == n.serial ≡ false) ns) (reverse-reverse (take i nodes))
     (each_reverse (λ (m : Node). m.parent == n.serial ≡ false) (reverse (take i nodes)) (none_of n.serial (reverse (take i nodes)) free)))
 
 -- the nodes without the one that was put in

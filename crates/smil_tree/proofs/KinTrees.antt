@@ -4,7 +4,7 @@ use Rattle.std.proofs.Common.{◌+◌, ◌≡◌, refl, sym, ◌∙◌, ap, subs
 use Rattle.std.specs.Prelude.{◌==◌, ◌&&◌, ◌⊎◌, not, reverse, find, slice_range, slice_get}
 use Rattle.std.specs.List.{AllByRecursion}
 use Rattle.std.proofs.lemmas.Bool.{or_parts, or_from, or_cases, eqb-true, eq-eqb}
-use Rattle.std.proofs.lemmas.List.{take-append-drop, length-append}
+use Rattle.std.proofs.lemmas.List.{take-append-drop, length-append, reverse-reverse}
 use Rattle.std.proofs.lemmas.List.Folds.{list_any-append}
 use Rattle.std.proofs.lemmas.List.Elements.{filter-append}
 use Rattle.std.specs.declared.vec.Vec.{Vec}
@@ -15,10 +15,10 @@ use Rattle.smil_model.specs.document.Valid.{IsDistinct}
 use Rattle.smil_laws.specs.Locality.{ParentsBefore}
 use Rattle.smil_laws.specs.Edited.{IsOrdered}
 use Rattle.smil_laws.proofs.Aside.{each_append, each_both, each_reverse, each_filter}
-use Rattle.smil_laws.proofs.Below.{IsChain, ordered_chains, reverse_twice, differ_each}
+use Rattle.smil_laws.proofs.Below.{IsChain, ordered_chains}
 use Rattle.smil_laws.proofs.Kept.{KeepsParents, parent_same, parent_kept}
 use Rattle.smil_laws.proofs.Lineages.{swap_eqb, upwards-rest, upwards-head}
-use Rattle.smil_laws.proofs.Members.{holds, held_each, held_reverse}
+use Rattle.smil_laws.proofs.Members.{holds, held_each, held_reverse, differ_each}
 use Rattle.smil_laws.proofs.Lists.{each_weaker, each_kept}
 use Rattle.smil_tree.specs.Held.{cut}
 use Rattle.smil_tree.specs.Kin.{is_serial, IsSubtree, AreListsOf, Separates}
@@ -88,7 +88,7 @@ module _ (fs : List Node) (n : Node) (bs : List Node) (o : IsOrdered (fs ++ n �
   own_free : n.parent == n.serial ≡ false
   own_free =
       (each_right (λ (m : Node). m.parent == m.serial ≡ false) fs (n ∷ bs)
-      (subst (λ ns. AllByRecursion (λ (m : Node). m.parent == m.serial ≡ false) ns) (reverse_twice grown) (each_reverse (λ (m : Node). m.parent == m.serial ≡ false) (reverse grown) (own_parents (reverse grown) o.first)))).0
+      (subst (λ ns. AllByRecursion (λ (m : Node). m.parent == m.serial ≡ false) ns) (reverse-reverse grown) (each_reverse (λ (m : Node). m.parent == m.serial ≡ false) (reverse grown) (own_parents (reverse grown) o.first)))).0
 
   parents_remain : AllByRecursion KeepsLeaf (fs ++ bs)
   parents_remain =
@@ -158,7 +158,7 @@ module _ (nodes : List Node) (o : IsOrdered nodes) (start past : ℕ) (le : star
 
   chains : AllByRecursion (IsChain (reverse nodes)) nodes
   chains =
-      subst (λ (ns : List Node). AllByRecursion (IsChain (reverse nodes)) ns) (reverse_twice nodes)
+      subst (λ (ns : List Node). AllByRecursion (IsChain (reverse nodes)) ns) (reverse-reverse nodes)
       (each_reverse (IsChain (reverse nodes)) (reverse nodes) (ordered_chains nodes o))
 
   rest_stays : AllByRecursion (λ (m : Node). stays m.serial ≡ true) rest
