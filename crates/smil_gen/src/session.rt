@@ -1,6 +1,6 @@
 //! The session of a number.
 
-ghost use Rattle.std.specs.Prelude.{◌≡◌, ◌++◌, ◌≤◌, decimal, OnOk, IfOk};
+ghost use Rattle.std.specs.Prelude.{◌≡◌, ◌++◌, decimal, OnOk, IfOk};
 ghost use Rattle.smil_gen.specs.Session.{image_line, lines_to, order_lines, part_lines, session_text, text_line};
 
 use itoa::Buffer;
@@ -18,11 +18,10 @@ pub enum Part {
     Orders,
 }
 
-/// The bytes of the session of a number, from 1 to 900: a seq of so many images, each with a text
-/// that begins half a second after it, and for each a second of time and a click; then all that is
-/// shown. Unless memory runs out.
+/// The bytes of the session of a number: a seq of so many images, each with a text that begins half
+/// a second after it, and for each a second of time and a click; then all that is shown. Unless
+/// memory runs out.
 pub fn session_bytes(alloc: Global, number: u32) -> Result<Bytes, AllocError>
-    requires { number ≤ 900 }
     ensures { IfOk result (λ bytes. bytes ≡ session_text number) }
 {
     let mut out = Bytes::new(alloc);
@@ -38,7 +37,6 @@ pub fn session_bytes(alloc: Global, number: u32) -> Result<Bytes, AllocError>
 
 // Appends the lines of a part, from the first to the last number.
 fn put_lines(out: &mut Bytes, part: Part, number: u32) -> Result<(), AllocError>
-    requires { number ≤ 900 }
     ensures { OnOk result (out.new ≡ out.old ++ lines_to part number) }
 {
     for before in 0..number {
@@ -49,7 +47,6 @@ fn put_lines(out: &mut Bytes, part: Part, number: u32) -> Result<(), AllocError>
 
 // Appends the lines of one number.
 fn put_part(out: &mut Bytes, part: Part, k: u32) -> Result<(), AllocError>
-    requires { k ≤ 900 }
     ensures { OnOk result (out.new ≡ out.old ++ part_lines part k) }
 {
     match part {
@@ -61,7 +58,6 @@ fn put_part(out: &mut Bytes, part: Part, k: u32) -> Result<(), AllocError>
 
 // Appends the line of an image.
 fn put_image(out: &mut Bytes, k: u32) -> Result<(), AllocError>
-    requires { k ≤ 900 }
     ensures { OnOk result (out.new ≡ out.old ++ image_line k) }
 {
     put(out, b"    img id=\"p", k)?;
