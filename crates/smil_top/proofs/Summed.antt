@@ -2,18 +2,12 @@
 use Rattle.std.proofs.Common.{◌≡◌, ℕ, ◌<◌, ◌≤◌, min, length, Bool, true, false, List, [], ◌∷◌, ◌++◌, Option, Some, None, Ok, Err, refl, ap, sym, ◌∙◌, arith, append_assoc, inl, inr}
 use Rattle.std.specs.Prelude.{pos, fold, nat_abs, nat_le, unwrap_or, ◌||◌, ◌&&◌, ◌==◌, codes, bytes_eq, option_map, option_and_then, slice_get, if◌then◌else◌}
 use Rattle.std.specs.Option.{option_map_or}
-use Rattle.std.proofs.lemmas.Bool.{and_parts, leb-true, or_parts}
+use Rattle.std.proofs.lemmas.Bool.{or_parts}
 use Rattle.smil_model.specs.declared.order.Refusal.TheVariants.{Memory}
 use Rattle.smil_model.specs.shown.Orders.{Presentation}
-use Rattle.smil_grammar.specs.Texts.{◌>>=◌, zero_digit}
-use Rattle.smil_grammar.specs.Numbers.{number_of}
 use Rattle.smil_outside.specs.Faults.{last_count}
 use Rattle.smil_house.specs.declared.house.Held.{Held}
 use Rattle.smil_house.specs.House.{place_of, moment_of}
-use Rattle.smil_words.specs.declared.mode.Mode.{Mode}
-use Rattle.smil_words.specs.declared.mode.Mode.TheVariants.{Run, Check, Gen}
-use Rattle.smil_words.specs.declared.mode.TheConstants.{SESSIONS}
-use Rattle.smil_words.specs.Words.{mode_of, session_number, in_range}
 use Rattle.smil_top.specs.Cut.{OrderLines, first_line}
 use Rattle.smil_top.specs.Session.{Session}
 use Rattle.smil_top.specs.Answers.{Answer, at_line}
@@ -69,55 +63,6 @@ moment-held name house session holds =
 
 pub exact : (count n : ℕ) → count ≡ min n last_count → count < last_count → count ≡ n
 exact count n is below = omega arith
-
--- ---- the number of a session
-
-abbrev pub Bounded : Option Mode → Type 0
-Bounded (Some (Gen n)) = n ≤ SESSIONS
-Bounded _ = Unit {0}
-
-abbrev Small : Option ℕ → Type 0
-Small (Some n) = n ≤ SESSIONS
-Small None = Unit {0}
-
-small-by : (b : Bool) (n : ℕ) → (b ≡ true → n ≤ SESSIONS) → Small (if b then Some n else None)
-small-by true n h = h refl
-small-by false n h = tt
-
-in_range-small : (n : ℕ) → Small (in_range n)
-in_range-small n = small-by (nat_le 1 n && nat_le n SESSIONS) n (λ h. leb-true n SESSIONS (and_parts (nat_le 1 n) (nat_le n SESSIONS) h).1)
-
-read-small : (o : Option ℕ) → Small (o >>= in_range)
-read-small None = tt
-read-small (Some n) = in_range-small n
-
-number-small : (digits : List ℕ) → Small (session_number digits)
-number-small [] = tt
-number-small (b ∷ bytes) = go (b == zero_digit) (nat_le (length bytes) 2)
-  where
-    go : (z s : Bool) → Small (if z then None else (if s then number_of (b ∷ bytes) >>= in_range else None))
-    go true s = tt
-    go false true = read-small (number_of (b ∷ bytes))
-    go false false = tt
-
-gen-bounded : (o : Option ℕ) → Small o → Bounded (o >>= λ n. Some (Gen n))
-gen-bounded None h = tt
-gen-bounded (Some n) h = h
-
-two-bounded : (b : Bool) (o : Option ℕ) → Small o → Bounded (if b then o >>= (λ n. Some (Gen n)) else None)
-two-bounded true o h = gen-bounded o h
-two-bounded false o h = tt
-
-one-bounded : (a b : Bool) → Bounded (if a then Some Run else (if b then Some Check else None))
-one-bounded true b = tt
-one-bounded false true = tt
-one-bounded false false = tt
-
-pub mode-bounded : (words : List (List ℕ)) → Bounded (mode_of words)
-mode-bounded [] = tt
-mode-bounded (word ∷ []) = one-bounded (bytes_eq word (codes "run")) (bytes_eq word (codes "check"))
-mode-bounded (word ∷ digits ∷ []) = two-bounded (bytes_eq word (codes "gen")) (session_number digits) (number-small digits)
-mode-bounded (word ∷ digits ∷ more ∷ others) = tt
 
 -- five lines, one behind another
 pub five-lines : (a b c d e : List ℕ) → (((([] ++ a) ++ b) ++ c) ++ d) ++ e ≡ a ++ (b ++ (c ++ (d ++ e)))

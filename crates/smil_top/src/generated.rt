@@ -1,7 +1,6 @@
 //! The session of a number, and what is told of it.
 
 ghost use Rattle.std.specs.Prelude.{◌≡◌, ◌≤◌, ◌++◌, ℕ, List, false, IfOk, OnOk};
-ghost use Rattle.smil_words.specs.declared.mode.TheConstants.{SESSIONS};
 ghost use Rattle.smil_top.specs.Cut.{OrderLines};
 ghost use Rattle.smil_top.specs.Summary.{count_line, count_lines, told_of};
 ghost use Rattle.smil_top.specs.Transcript.{Told};
@@ -37,7 +36,6 @@ pub(crate) fn summary_of<L: Ledger>(
     number: u32,
     steps: &mut Steps<L>,
 ) -> Result<Summary, AllocError>
-    requires { number ≤ SESSIONS }
     ensures summary { IfOk result (IsSummary number) }
     ensures counted { steps.old ≤ steps.new }
 {

@@ -2,7 +2,6 @@
 
 ghost use Rattle.std.specs.Prelude.{◌≡◌, ◌≢◌, ◌≤◌, ◌-◌, ℕ, List, Some, false};
 ghost use Rattle.std.specs.Io.KnownBytes.{Appends};
-ghost use Rattle.smil_words.specs.declared.mode.TheConstants.{SESSIONS};
 ghost use Rattle.smil_outside.specs.Faults.{HasRisen};
 ghost use Rattle.smil_words.specs.Words.{mode_of};
 ghost use Rattle.smil_top.specs.Evaluations.{Evaluates};
@@ -142,7 +141,6 @@ fn generated<K: Sink, L: Ledger>(
     sink: &mut K,
     steps: &mut Steps<L>,
 ) -> Status
-    requires { number ≤ SESSIONS }
     ensures generates { (text : List ℕ) × Appends (K.taken sink.old) (K.taken sink.new) text
         × Generates number result text (K.sure_room sink.old) }
     ensures cause { result ≡ Status.WriteFault → HasRisen (K.faults sink.old) (K.faults sink.new) }
