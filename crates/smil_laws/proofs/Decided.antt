@@ -1,6 +1,6 @@
 -- Each step of a resolution appends an entry or takes the next moment, so it has ended, or has too many entries, after as many
 -- steps as there are entries and moments.
-use Rattle.std.proofs.Common.{◌≡◌, refl, sym, ◌∙◌, ap, ℕ, suc, zero, ◌<◌, ◌≤◌, ◌+◌, [], ◌∷◌, ◌++◌, Option, Some, None, Bool, true, false, arith, inl, inr, length, length-append}
+use Rattle.std.proofs.Common.{◌≡◌, refl, sym, ◌∙◌, ap, ℕ, suc, zero, ◌<◌, ◌≤◌, ◌+◌, List, [], ◌∷◌, ◌++◌, Option, Some, None, Bool, true, false, arith, inl, inr, length, length-append}
 use Rattle.std.specs.Prelude.{◌⊎◌, cond, pos, int_le, nat_lt, nat_le, slice_get}
 use Rattle.std.specs.Option.{option_map_or}
 use Rattle.std.proofs.lemmas.Bool.{ltb-true, le-leb, lt-leb}
@@ -13,14 +13,20 @@ use Rattle.smil_model.specs.happening.Resolution.{Course, Progress, outset, hist
 use Rattle.smil_laws.proofs.Grouped.{group_filled}
 
 -- entries and milliseconds
-abbrev extent : Progress → ℕ
+abbrev pub extent : Progress → ℕ
 extent p = length p.diary + p.moment
 
--- a step goes on by one of them at least, keeps the entries, and does not pass the last moment
-record Advances (c : Course) (q r : Progress) : Type 0 where
-  more : suc (extent q) ≤ extent r
-  longer : length q.diary ≤ length r.diary
-  within : q.moment ≤ c.last → r.moment ≤ c.last
+-- a step goes on by one of them at least, keeps the entries, and passes neither the last moment nor the end of the log
+pub record Advances (c : Course) (q r : Progress) : Type 0 where
+  pub more : suc (extent q) ≤ extent r
+  pub longer : length q.diary ≤ length r.diary
+  pub within : q.moment ≤ c.last → r.moment ≤ c.last
+  pub heard : q.heard ≤ length c.log → r.heard ≤ length c.log
+
+in_log : (i : ℕ) (es : List LogEntry) (x : LogEntry) → slice_get es i ≡ Some x → suc i ≤ length es
+in_log i [] x q = cc
+in_log zero (y ∷ ys) x q = omega arith
+in_log (suc i) (y ∷ ys) x q = let rest = in_log i ys x q in omega (arith, rest)
 
 module _ (c : Course) (q : Progress) where
   quiet_advances : (r : Progress) → after_quiet c q ≡ Some r → Advances c q r
@@ -30,22 +36,22 @@ module _ (c : Course) (q : Progress) where
       by_test true t e =
           let one : record { moment = suc q.moment; heard = q.heard; diary = q.diary } ≡ r = cc in
           let below : q.moment < c.last = ltb-true q.moment c.last t in
-          rw (← one) (record { more = omega arith; longer = omega arith; within = λ w. omega (arith, below) })
+          rw (← one) (record { more = omega arith; longer = omega arith; within = λ w. omega (arith, below); heard = λ w. w })
       by_test false t e = cc
 
-  settling_advances : (o : Option LogEntry) (r : Progress) → after_settling c q o ≡ Some r → Advances c q r
-  settling_advances None r e = quiet_advances r e
-  settling_advances (Some entry) r e = by_test (int_le entry.moment (pos q.moment)) e
+  settling_advances : (o : Option LogEntry) (r : Progress) → slice_get c.log q.heard ≡ o → after_settling c q o ≡ Some r → Advances c q r
+  settling_advances None r f e = quiet_advances r e
+  settling_advances (Some entry) r f e = by_test (int_le entry.moment (pos q.moment)) e
     where
       by_test : (t : Bool) → cond t (Some (record { moment = q.moment; heard = suc q.heard; diary = q.diary ++ record { moment = pos q.moment; step = Logged q.heard } ∷ [] })) (after_quiet c q) ≡ Some r → Advances c q r
       by_test true e =
           let one : record { moment = q.moment; heard = suc q.heard; diary = q.diary ++ record { moment = pos q.moment; step = Logged q.heard } ∷ [] } ≡ r = cc in
           let more = length-append q.diary (record { moment = pos q.moment; step = Logged q.heard } ∷ []) in
-          rw (← one) (record { more = omega (arith, more); longer = omega (arith, more); within = λ w. w })
+          rw (← one) (record { more = omega (arith, more); longer = omega (arith, more); within = λ w. w; heard = λ w. in_log q.heard c.log entry f })
       by_test false e = quiet_advances r e
 
   coming_advances : (o : Option Coming) (r : Progress) → after_coming c q o ≡ Some r → Advances c q r
-  coming_advances None r e = settling_advances (slice_get c.log q.heard) r e
+  coming_advances None r e = settling_advances (slice_get c.log q.heard) r refl e
   coming_advances (Some next) r e = by_test (is_due (pos q.moment) next.key) e
     where
       by_test : (t : Bool) → cond t (Some (record { moment = q.moment; heard = q.heard; diary = q.diary ++ group (history_at c q) (pos q.moment) next.key.serial next.change })) (after_settling c q (slice_get c.log q.heard)) ≡ Some r → Advances c q r
@@ -53,24 +59,25 @@ module _ (c : Course) (q : Progress) where
           let one : record { moment = q.moment; heard = q.heard; diary = q.diary ++ group (history_at c q) (pos q.moment) next.key.serial next.change } ≡ r = cc in
           let more = length-append q.diary (group (history_at c q) (pos q.moment) next.key.serial next.change) in
           let some = group_filled (history_at c q) (pos q.moment) next.key.serial next.change in
-          rw (← one) (record { more = omega (arith, more, some); longer = omega (arith, more); within = λ w. w })
-      by_test false e = settling_advances (slice_get c.log q.heard) r e
+          rw (← one) (record { more = omega (arith, more, some); longer = omega (arith, more); within = λ w. w; heard = λ w. w })
+      by_test false e = settling_advances (slice_get c.log q.heard) r refl e
 
-  next_advances : (r : Progress) → next_step c q ≡ Some r → Advances c q r
+  pub next_advances : (r : Progress) → next_step c q ≡ Some r → Advances c q r
   next_advances r e = coming_advances (first_coming (coming (history_at c q) (pos q.moment))) r e
 
 -- after k steps the resolution has ended, or has come as far
-record Comes (c : Course) (k : ℕ) (q r : Progress) : Type 0 where
-  far : (next_step c r ≡ None) ⊎ (k + extent q ≤ extent r)
-  longer : length q.diary ≤ length r.diary
-  within : q.moment ≤ c.last → r.moment ≤ c.last
+pub record Comes (c : Course) (k : ℕ) (q r : Progress) : Type 0 where
+  pub far : (next_step c r ≡ None) ⊎ (k + extent q ≤ extent r)
+  pub longer : length q.diary ≤ length r.diary
+  pub within : q.moment ≤ c.last → r.moment ≤ c.last
+  pub heard : q.heard ≤ length c.log → r.heard ≤ length c.log
 
-comes : (c : Course) (k : ℕ) (q : Progress) → Comes c k q (after_steps c k q)
-comes c zero q = record { far = inr (omega arith); longer = omega arith; within = λ w. w }
+pub comes : (c : Course) (k : ℕ) (q : Progress) → Comes c k q (after_steps c k q)
+comes c zero q = record { far = inr (omega arith); longer = omega arith; within = λ w. w; heard = λ w. w }
 comes c (suc k) q = by_next (next_step c q) refl (comes c k)
   where
     by_next : (o : Option Progress) → next_step c q ≡ o → ((r : Progress) → Comes c k r (after_steps c k r)) → Comes c (suc k) q (option_map_or (λ r. after_steps c k r) o q)
-    by_next None e later = record { far = inl e; longer = omega arith; within = λ w. w }
+    by_next None e later = record { far = inl e; longer = omega arith; within = λ w. w; heard = λ w. w }
     by_next (Some r) e later =
         let one = next_advances c q r e in
         let rest = later r in
@@ -78,6 +85,7 @@ comes c (suc k) q = by_next (next_step c q) refl (comes c k)
           far = by_far (rest.far) one.more;
           longer = omega (arith, one.longer, rest.longer);
           within = λ w. rest.within (one.within w);
+          heard = λ w. rest.heard (one.heard w);
         }
       where
         by_far : (next_step c (after_steps c k r) ≡ None) ⊎ (k + extent r ≤ extent (after_steps c k r)) → suc (extent q) ≤ extent r → (next_step c (after_steps c k r) ≡ None) ⊎ (suc k + extent q ≤ extent (after_steps c k r))
