@@ -1,5 +1,6 @@
 -- A par with one image that begins b milliseconds after it and lasts d milliseconds.
-use Rattle.std.specs.Prelude.{◌≡◌, ℕ, ◌+◌, ◌<◌, ◌≤◌, pos, List, [], ◌∷◌, nat_lt, if◌then◌else◌, Some}
+use Rattle.std.specs.Prelude.{◌≡◌, ℕ, ◌+◌, ◌<◌, ◌≤ℤ◌, pos, List, [], ◌∷◌, nat_lt, if◌then◌else◌, Some}
+use Rattle.smil_model.specs.declared.times.TheConstants.{HORIZON}
 use Rattle.smil_model.specs.declared.diary.Entry.{Entry}
 use Rattle.smil_model.specs.declared.diary.Step.TheVariants.{Began, Ended}
 use Rattle.smil_model.specs.declared.document.Node.{Node}
@@ -39,5 +40,5 @@ image_diary b d now =
 -- the diary of the document without a log is this one
 abbrev pub ImageHasDiary : Type 0
 ImageHasDiary =
-    (b d now : ℕ) (id : List ℕ) → 0 < d → b + d ≤ 1_000_000_000_000
+    (b d now : ℕ) (id : List ℕ) → 0 < d → pos (b + d) ≤ℤ HORIZON
     → (resolved (record { nodes = image b d id; log = []; last = now })).diary ≡ image_diary b d now
