@@ -30,7 +30,9 @@ without place held = take place held ++ drop (place + 1) held
 
 -- the presentation of this name, where there is one, takes the order
 abbrev pub Takes : {P : Type 0} → (P → Order → Bool) → List ℕ → Order → List (Held P) → Type 0
-Takes {P = P} takes name given held = (place : ℕ) (h : Held P) → place_of name held ≡ Some place → slice_get held place ≡ Some h → takes h.player given ≡ true
+Takes {P = P} takes name given held =
+    (place : ℕ) (h : Held P) → place_of name held ≡ Some place → slice_get held place ≡ Some h
+    → takes h.player given ≡ true
 
 -- the presentation at a place, with its name
 pub record IsAt {P : Type 0} (name : List ℕ) (held : List (Held P)) (place : ℕ) (h : Held P) : Type 0 where
@@ -38,7 +40,8 @@ pub record IsAt {P : Type 0} (name : List ℕ) (held : List (Held P)) (place : �
   pub here : slice_get held place ≡ Some h
 
 -- the player at a place is another one, by this name and with these formats and orders; all others are as before
-pub record IsTurned {P : Type 0} (formats : P → Formats) (takes : P → Order → Bool) (name : List ℕ) (old new : List (Held P)) (place : ℕ) (before after : Held P) : Type 0 where
+pub record IsTurned {P : Type 0} (formats : P → Formats) (takes : P → Order → Bool) (name : List ℕ)
+    (old new : List (Held P)) (place : ℕ) (before after : Held P) : Type 0 where
   pub at : IsAt name old place before
   pub new_is : new ≡ slice_set old place after
   pub name_is : after.name ≡ before.name
@@ -46,7 +49,9 @@ pub record IsTurned {P : Type 0} (formats : P → Formats) (takes : P → Order 
   pub takes_are : takes after.player ≡ takes before.player
 
 -- the presentation of this name has answered an order, by this text and so many evaluations, and is at this moment
-pub record IsAnsweredBy {P : Type 0} (formats : P → Formats) (presentation : P → Presentation) (takes : P → Order → Bool) (least most : P → Order → Option ℕ) (name : List ℕ) (given : Order) (old new : List (Held P)) (text : List ℕ) (rise : ℕ) (moment : ℤ) : Type 0 where
+pub record IsAnsweredBy {P : Type 0} (formats : P → Formats) (presentation : P → Presentation)
+    (takes : P → Order → Bool) (least most : P → Order → Option ℕ) (name : List ℕ) (given : Order)
+    (old new : List (Held P)) (text : List ℕ) (rise : ℕ) (moment : ℤ) : Type 0 where
   pub place : ℕ
   pub before : Held P
   pub after : Held P
@@ -57,18 +62,23 @@ pub record IsAnsweredBy {P : Type 0} (formats : P → Formats) (presentation : P
   pub most_is : AtMost (most before.player given) rise
 
 -- the presentation of this name is as it was
-pub record IsKeptBy {P : Type 0} (formats : P → Formats) (presentation : P → Presentation) (takes : P → Order → Bool) (name : List ℕ) (old new : List (Held P)) : Type 0 where
+pub record IsKeptBy {P : Type 0} (formats : P → Formats) (presentation : P → Presentation)
+    (takes : P → Order → Bool) (name : List ℕ) (old new : List (Held P)) : Type 0 where
   pub place : ℕ
   pub before : Held P
   pub after : Held P
   pub turned : IsTurned formats takes name old new place before after
   pub same : presentation after.player ≡ presentation before.player
 
-abbrev pub AreKept : {P : Type 0} → (P → Formats) → (P → Presentation) → (P → Order → Bool) → List ℕ → List (Held P) → List (Held P) → Type 0
-AreKept formats presentation takes name old new = (new ≡ old) ⊎ IsKeptBy formats presentation takes name old new
+abbrev pub AreKept : {P : Type 0} → (P → Formats) → (P → Presentation) → (P → Order → Bool) → List ℕ
+    → List (Held P) → List (Held P) → Type 0
+AreKept formats presentation takes name old new =
+    (new ≡ old) ⊎ IsKeptBy formats presentation takes name old new
 
 -- it refuses the order
-pub record IsRefusedBy {P : Type 0} (formats : P → Formats) (presentation : P → Presentation) (most : P → Order → Option ℕ) (name : List ℕ) (given : Order) (old : List (Held P)) (rise : ℕ) (refusal : Refusal) : Type 0 where
+pub record IsRefusedBy {P : Type 0} (formats : P → Formats) (presentation : P → Presentation)
+    (most : P → Order → Option ℕ) (name : List ℕ) (given : Order) (old : List (Held P)) (rise : ℕ)
+    (refusal : Refusal) : Type 0 where
   pub place : ℕ
   pub before : Held P
   pub at : IsAt name old place before
@@ -81,6 +91,7 @@ pub record IsAbsent {P : Type 0} (name : List ℕ) (old : List (Held P)) (rise :
   pub refusal_is : refusal ≡ NoPresentation
   pub none : rise ≡ 0
 
-abbrev pub IsRefused : {P : Type 0} → (P → Formats) → (P → Presentation) → (P → Order → Option ℕ) → List ℕ → Order → List (Held P) → ℕ → Refusal → Type 0
+abbrev pub IsRefused : {P : Type 0} → (P → Formats) → (P → Presentation) → (P → Order → Option ℕ) → List ℕ
+    → Order → List (Held P) → ℕ → Refusal → Type 0
 IsRefused formats presentation most name given old rise refusal =
     IsAbsent name old rise refusal ⊎ IsRefusedBy formats presentation most name given old rise refusal
