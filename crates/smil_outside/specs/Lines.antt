@@ -1,5 +1,5 @@
--- The lines of a text that a line feed ends, each without one carriage return before it. All lines, also one behind the last
--- line feed, are std's `lines`.
+-- The lines of a text that a line feed ends, each without one carriage return before it. All lines, one behind the
+-- last line feed too, are std's `lines`.
 use Rattle.std.specs.Prelude.{◌≡◌, ◌≢◌, ℕ, ◌<◌, ◌==◌, List, [], ◌∷◌, ◌++◌, length, slice_index, EachIndex}
 use Rattle.std.specs.List.{slice_split}
 use Rattle.std.specs.Str.Lines.{strip_carriage_return}
