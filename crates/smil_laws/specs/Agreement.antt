@@ -23,7 +23,8 @@ IsPlaced aside p n =
 pub record IsAside (aside : ℕ → Bool) (p : ℕ) (nodes : List Node) : Type 0 where
   pub first : ParentsBefore (reverse nodes)
   pub placed : AllByRecursion (IsPlaced aside p) nodes
-  pub under : (e : Node) → node_at (elements nodes) e.serial ≡ Some e → aside e.serial ≡ true → is_some (time_parent nodes e.serial) ≡ true
+  pub under : (e : Node) → node_at (elements nodes) e.serial ≡ Some e → aside e.serial ≡ true
+      → is_some (time_parent nodes e.serial) ≡ true
 
 abbrev pub without_aside : (ℕ → Bool) → List Node → List Node
 without_aside aside nodes = filter (λ (n : Node). not (aside n.serial)) nodes
@@ -34,8 +35,11 @@ pub record DifferBelow (aside : ℕ → Bool) (p : ℕ) (old new : List Node) : 
   pub same : without_aside aside old ≡ without_aside aside new
   pub in_old : IsAside aside p old
   pub in_new : IsAside aside p new
-  pub ids : (id : List ℕ) → option_map (λ (n : Node). n.serial) (element_named old id) ≡ option_map (λ (n : Node). n.serial) (element_named new id)
-  pub loops : (e : Node) (x : ℕ) → node_at (elements old) e.serial ≡ Some e → aside e.serial ≡ false → list_any (is_sync_with old x) (all_items old e) ≡ true → leads_to old e.serial x ≡ leads_to new e.serial x
+  pub ids : (id : List ℕ) → option_map (λ (n : Node). n.serial) (element_named old id)
+      ≡ option_map (λ (n : Node). n.serial) (element_named new id)
+  pub loops : (e : Node) (x : ℕ) → node_at (elements old) e.serial ≡ Some e → aside e.serial ≡ false
+      → list_any (is_sync_with old x) (all_items old e) ≡ true
+      → leads_to old e.serial x ≡ leads_to new e.serial x
 
 -- whether a step other than Logged is on one of these
 abbrev pub is_on : (ℕ → Bool) → Step → Bool
@@ -68,7 +72,8 @@ AgreesUntilBegun =
 abbrev pub AgreesThroughBegin : Type 0
 AgreesThroughBegin =
     (aside : ℕ → Bool) (p : ℕ) (old new : List Node) (log : List LogEntry) (last k : ℕ) → DifferBelow aside p old new
-    → (r : Progress) × Reaches (course_on new log last) r × (r.diary ≡ through_begin p (after_steps (course_on old log last) k outset).diary)
+    → (r : Progress) × Reaches (course_on new log last) r
+    × (r.diary ≡ through_begin p (after_steps (course_on old log last) k outset).diary)
 
 -- and where p does not begin, the diaries are the same
 abbrev pub SameUnlessBegun : Type 0
@@ -81,12 +86,14 @@ SameUnlessBegun =
 -- aside, the same current intervals to all, and the same next step
 pub record SameStep (aside : ℕ → Bool) (old new : List Node) (log : List LogEntry) (last : ℕ) (at : Progress) : Type 0 where
   pub none : (now : ℤ) (s : ℕ) → aside s ≡ true → current_interval (history_at (course_on old log last) at) now s ≡ None
-  pub same : (now : ℤ) (s : ℕ) → current_interval (history_at (course_on old log last) at) now s ≡ current_interval (history_at (course_on new log last) at) now s
+  pub same : (now : ℤ) (s : ℕ) → current_interval (history_at (course_on old log last) at) now s
+      ≡ current_interval (history_at (course_on new log last) at) now s
   pub next : next_step (course_on old log last) at ≡ next_step (course_on new log last) at
 
 abbrev pub StepsAgree : Type 0
 StepsAgree =
-    (aside : ℕ → Bool) (p : ℕ) (old new : List Node) (log : List LogEntry) (last : ℕ) (at : Progress) → DifferBelow aside p old new
+    (aside : ℕ → Bool) (p : ℕ) (old new : List Node) (log : List LogEntry) (last : ℕ) (at : Progress)
+    → DifferBelow aside p old new
     → IsLawful (history_at (course_on old log last) at)
     → has_begun at.diary p ≡ false
     → SameStep aside old new log last at

@@ -39,4 +39,5 @@ abbrev pub ReachesByItsLog : Type 0
 ReachesByItsLog =
     (document : Document) (log : List LogEntry) (last : ℕ) (q : Progress) → IsNumberedTree document
     → Reaches (course_on document.nodes log last) q
-    → (r : Progress) × (r.diary ≡ q.diary) × (pos r.moment ≡ last_moment r.diary) × Reaches (course_on document.nodes (take (logged r.diary) log) r.moment) r
+    → (r : Progress) × (r.diary ≡ q.diary) × (pos r.moment ≡ last_moment r.diary)
+    × Reaches (course_on document.nodes (take (logged r.diary) log) r.moment) r

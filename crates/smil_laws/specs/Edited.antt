@@ -20,8 +20,12 @@ use Rattle.smil_model.specs.reach.Bounds.{has_begun, through_begin}
 -- an id names the same serial before and after, and each reference of every other element that both documents have is
 -- looped in both or in none
 pub record KeepsReferences (edited : ℕ) (old new : List Node) : Type 0 where
-  pub ids : (id : List ℕ) → option_map (λ (n : Node). n.serial) (element_named old id) ≡ option_map (λ (n : Node). n.serial) (element_named new id)
-  pub loops : (e : Node) (x : ℕ) → node_at (elements old) e.serial ≡ Some e → node_at (elements new) e.serial ≡ Some e → e.serial == edited ≡ false → list_any (is_sync_with old x) (all_items old e) ≡ true → leads_to old e.serial x ≡ leads_to new e.serial x
+  pub ids : (id : List ℕ) → option_map (λ (n : Node). n.serial) (element_named old id)
+      ≡ option_map (λ (n : Node). n.serial) (element_named new id)
+  pub loops : (e : Node) (x : ℕ) → node_at (elements old) e.serial ≡ Some e
+      → node_at (elements new) e.serial ≡ Some e → e.serial == edited ≡ false
+      → list_any (is_sync_with old x) (all_items old e) ≡ true
+      → leads_to old e.serial x ≡ leads_to new e.serial x
 
 -- in the document parents stand before their children, and no serial is given twice
 pub record IsOrdered (nodes : List Node) : Type 0 where
@@ -68,12 +72,15 @@ EditDiffersBelow =
 -- so the old diary, and what is resolved for the new document, agree through the first begin of the time parent
 abbrev pub EditAgreesThroughBegin : Type 0
 EditAgreesThroughBegin =
-    (document : Document) (edit : Edit) (parent : Node) (log : List LogEntry) (last k : ℕ) → IsQuietEdit document edit parent
-    → (r : Progress) × Reaches (course_on (edited document edit).nodes log last) r × (r.diary ≡ through_begin parent.serial (after_steps (course_on document.nodes log last) k outset).diary)
+    (document : Document) (edit : Edit) (parent : Node) (log : List LogEntry) (last k : ℕ)
+    → IsQuietEdit document edit parent
+    → (r : Progress) × Reaches (course_on (edited document edit).nodes log last) r
+    × (r.diary ≡ through_begin parent.serial (after_steps (course_on document.nodes log last) k outset).diary)
 
 -- and wholly where it does not begin
 abbrev pub EditKeepsDiary : Type 0
 EditKeepsDiary =
-    (document : Document) (edit : Edit) (parent : Node) (log : List LogEntry) (last : ℕ) → IsQuietEdit document edit parent
+    (document : Document) (edit : Edit) (parent : Node) (log : List LogEntry) (last : ℕ)
+    → IsQuietEdit document edit parent
     → has_begun (resolved (course_on document.nodes log last)).diary parent.serial ≡ false
     → diary_of (course_on document.nodes log last) ≡ diary_of (course_on (edited document edit).nodes log last)

@@ -23,7 +23,8 @@ QuietChangesNothing =
 -- nothing comes, and nothing is logged, before so many milliseconds have passed
 pub record IsQuietFor (c : Course) (p : Progress) (n : ℕ) : Type 0 where
   pub past : until (pos p.moment) p.diary ≡ p.diary
-  pub coming : (next : Coming) → first_coming (coming (history_at c p) (pos p.moment)) ≡ Some next → int_le (pos (p.moment + n)) next.key.value ≡ true
+  pub coming : (next : Coming) → first_coming (coming (history_at c p) (pos p.moment)) ≡ Some next
+      → int_le (pos (p.moment + n)) next.key.value ≡ true
   pub log : (entry : LogEntry) → slice_get c.log p.heard ≡ Some entry → int_le (pos (p.moment + n)) entry.moment ≡ true
   pub last : p.moment + n ≤ c.last
 

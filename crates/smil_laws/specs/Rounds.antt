@@ -11,9 +11,12 @@ use Rattle.smil_laws.specs.Locality.{ParentsBefore}
 
 -- a rank rises along each dependency of an element that is not looped
 pub record IsRank (nodes : List Node) (rank : ℕ → ℕ) (e : Node) : Type 0 where
-  pub children : (s : ℕ) → has_implicit_duration e ≡ true → list_any (λ (c : Node). (c.serial == s) && is_time_child nodes e.serial c) nodes ≡ true → rank s < rank e.serial
+  pub children : (s : ℕ) → has_implicit_duration e ≡ true
+      → list_any (λ (c : Node). (c.serial == s) && is_time_child nodes e.serial c) nodes ≡ true
+      → rank s < rank e.serial
   pub before : (b : Node) → previous_in_seq nodes e.serial ≡ Some b → rank b.serial < rank e.serial
-  pub named : (x : ℕ) → list_any (is_sync_with nodes x) (all_items nodes e) ≡ true → leads_to nodes e.serial x ≡ false → rank x < rank e.serial
+  pub named : (x : ℕ) → list_any (is_sync_with nodes x) (all_items nodes e) ≡ true
+      → leads_to nodes e.serial x ≡ false → rank x < rank e.serial
 
 -- there is such a rank, so the dependencies that are not looped have no cycle
 abbrev pub DependenciesHaveRank : Type 0
