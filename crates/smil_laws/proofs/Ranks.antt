@@ -1,5 +1,5 @@
 -- The dependencies that are not looped have a rank: by how much follows from an element, then by depth, then by place.
-use Rattle.std.proofs.Common.{◌≡◌, refl, sym, ◌∙◌, ap, ℕ, suc, zero, ◌<◌, ◌≤◌, ◌+◌, ◌-◌, ◌*◌, List, [], ◌∷◌, length, Option, Some, None, Bool, true, false, arith, inl, inr}
+use Rattle.std.proofs.Common.{◌≡◌, refl, sym, ◌∙◌, ap, ℕ, suc, zero, ◌<◌, ◌≤◌, ◌+◌, ◌-◌, ◌*◌, List, [], ◌∷◌, length, Option, Some, None, Bool, true, false, arith, inl, inr, ◌++◌}
 use Rattle.std.specs.Prelude.{cond, ltb, ◌==◌, ◌||◌, ◌&&◌, ◌⊎◌, reverse, filter, find, drop}
 use Rattle.std.specs.List.{list_any}
 use Rattle.std.proofs.lemmas.Bool.{or_left, or_right, or_cases, and_parts, and_from, eqb-true, eq-eqb, ltb-true, lt-ltb, le-ltb}
@@ -321,3 +321,7 @@ module _ (nodes : List Node) (first : ParentsBefore (reverse nodes)) where
 pub serials_length : (ns : List Node) → length (serials ns) ≡ length ns
 serials_length [] = refl
 serials_length (n ∷ ns) = ap suc (serials_length ns)
+
+pub serials_append : (ns : List Node) (n : Node) → serials (ns ++ n ∷ []) ≡ serials ns ++ n.serial ∷ []
+serials_append [] n = refl
+serials_append (m ∷ ms) n = ap (λ others. m.serial ∷ others) (serials_append ms n)
