@@ -18,9 +18,10 @@ use Rattle.smil_laws.specs.Seen.{any_shows, shows_from, shows_in, starts}
 use Rattle.smil_model.specs.document.Edits.{child_place, place_in}
 use Rattle.smil_past.proofs.Listing.{known_place}
 use Rattle.smil_element.proofs.Above.{IsUp}
-use Rattle.smil_element.proofs.Cutting.{part_more, part_none, span_within}
+use Rattle.smil_element.proofs.Cutting.{part_none, span_within}
 use Rattle.smil_cells.specs.Shown.{displaced_in, sequenced}
 use Rattle.smil_cells.proofs.Grown.{known}
+use Rattle.smil_tree.proofs.KinTables.{slice_range-more}
 
 pub or_cases : (a b : Bool) → a || b ≡ true → (a ≡ true) ⊎ (b ≡ true)
 or_cases true b q = inl refl
@@ -299,7 +300,7 @@ more_within nodes start at s before now after le found made pushed = by_node (sl
         ∙ (append_assoc before (serials (slice_range nodes start at)) (s ∷ [])
         ∙ ap (λ (l : List ℕ). before ++ l)
         (ap (λ (k : ℕ). serials (slice_range nodes start at) ++ k ∷ []) (sym (same_Some n.serial s f))
-        ∙ (sym (serials_append (slice_range nodes start at) n) ∙ ap (λ (l : List Node). serials l) (sym (part_more nodes start at n le e))))))
+        ∙ (sym (serials_append (slice_range nodes start at) n) ∙ ap (λ (l : List Node). serials l) (sym (slice_range-more nodes start at n le e))))))
 
 -- of the elements the same are listed
 abbrev pub SameTouched : Document → List ℕ → List ℕ → Type 0

@@ -1,7 +1,7 @@
 -- The time parent of a node is a node.
-use Rattle.std.proofs.Common.{◌≡◌, refl, sym, ◌∙◌, ap, ℕ, zero, suc, List, [], ◌∷◌, Option, Some, None, Bool, true, false, take}
-use Rattle.std.specs.Prelude.{cond, ◌==◌, slice_get, option_map, is_some}
-use Rattle.std.specs.List.{AllByRecursion, position}
+use Rattle.std.proofs.Common.{◌≡◌, refl, sym, ◌∙◌, ap, ℕ, List, Option, Some, None, Bool, true, false}
+use Rattle.std.specs.Prelude.{cond, ◌==◌, option_map, is_some}
+use Rattle.std.specs.List.{position}
 use Rattle.std.proofs.lemmas.Option.{same_Some}
 use Rattle.smil_model.specs.declared.document.Kind.{Kind}
 use Rattle.smil_model.specs.declared.document.Node.{Node}
@@ -11,17 +11,8 @@ use Rattle.smil_stretch.proofs.Above.{node_of, parent_before}
 use Rattle.smil_past.proofs.Listing.{known_place}
 use Rattle.smil_past.proofs.Placing.{node_there}
 use Rattle.smil_element.specs.Parts.{excl_in}
-
-module _ (P : Node → Type 0) where
-  each_place : (xs : List Node) → ((i : ℕ) (n : Node) → slice_get xs i ≡ Some n → P n) → AllByRecursion P xs
-  each_place [] f = tt
-  each_place (x ∷ xs) f = (f 0 x refl, each_place xs (λ i n q. f (suc i) n q))
-
-  each_take : (k : ℕ) (xs : List Node) → AllByRecursion P xs → AllByRecursion P (take k xs)
-  each_take zero [] each = tt
-  each_take zero (x ∷ xs) each = tt
-  each_take (suc k) [] each = tt
-  each_take (suc k) (x ∷ xs) each = (each.0, each_take k xs each.1)
+use Rattle.smil_laws.proofs.Lists.{each_take}
+use Rattle.smil_stretch.proofs.Turned.{each_place}
 
 pub parent_node : (ns : List Node) (who : ℕ) (p : Node) → IsDistinct ns → is_some (node_at ns who) ≡ true → time_parent ns who ≡ Some p → node_at ns p.serial ≡ Some p
 parent_node ns who p d known under = by (position (λ (n : Node). n.serial == who) ns) refl (known_place ns who known)

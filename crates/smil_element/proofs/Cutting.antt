@@ -1,9 +1,9 @@
 -- The cuts of nodes, and the entries of a group, put together.
-use Rattle.std.proofs.Common.{◌≡◌, refl, sym, ◌∙◌, ap, ℕ, zero, suc, ℤ, ◌+◌, ◌-◌, ◌<◌, ◌≤◌, List, [], ◌∷◌, ◌++◌, Some, None, Bool, true, false, length, take, drop, filter, map, arith, append_assoc}
+use Rattle.std.proofs.Common.{◌≡◌, refl, sym, ◌∙◌, ap, ℕ, zero, suc, ℤ, ◌+◌, ◌-◌, ◌≤◌, List, [], ◌∷◌, ◌++◌, Some, None, Bool, true, false, length, take, drop, filter, map, arith, append_assoc}
 use Rattle.std.specs.Prelude.{cond, ◌==◌, nat_lt, reverse, slice_get, slice_range, unwrap_or}
 use Rattle.std.specs.List.{position_or_len}
 use Rattle.std.proofs.lemmas.Bool.{ltb-true}
-use Rattle.std.proofs.lemmas.List.{reverse-append}
+use Rattle.std.proofs.lemmas.List.{reverse-append, append-nil}
 use Rattle.std.proofs.lemmas.List.Elements.{filter-append}
 use Rattle.smil_model.specs.declared.diary.Entry.{Entry}
 use Rattle.smil_model.specs.declared.diary.Step.{Step}
@@ -14,21 +14,15 @@ use Rattle.smil_model.specs.document.Edits.{child_place, place_in}
 use Rattle.smil_model.specs.diary.Diary.{is_active}
 use Rattle.smil_model.specs.happening.Groups.{at_moment}
 use Rattle.smil_element.specs.Parts.{cut_steps}
-
-pub with_none : {A : Type 0} (xs : List A) → xs ++ [] ≡ xs
-with_none [] = refl
-with_none (x ∷ xs) = ap (λ ys. x ∷ ys) (with_none xs)
+use Rattle.smil_laws.proofs.Through.{at_append}
+use Rattle.smil_tree.proofs.KinTables.{slice_range-more}
 
 -- ---- entries at a moment
 
 module _ (m : ℤ) where
-  pub at_append : (xs ys : List Step) → at_moment m (xs ++ ys) ≡ at_moment m xs ++ at_moment m ys
-  at_append [] ys = refl
-  at_append (x ∷ xs) ys = ap (λ es. record { moment = m; step = x } ∷ es) (at_append xs ys)
-
   -- one part after another
   pub joined : (old : List Entry) (xs ys : List Step) → (old ++ at_moment m xs) ++ at_moment m ys ≡ old ++ at_moment m (xs ++ ys)
-  joined old xs ys = append_assoc old (at_moment m xs) (at_moment m ys) ∙ ap (λ es. old ++ es) (sym (at_append xs ys))
+  joined old xs ys = append_assoc old (at_moment m xs) (at_moment m ys) ∙ ap (λ es. old ++ es) (sym (at_append m xs ys))
 
   -- a stop, and what follows
   pub stopped : (old : List Entry) (cs : List Step) (e : Step) (fs : List Step) → (old ++ at_moment m (cs ++ e ∷ [])) ++ at_moment m fs ≡ old ++ at_moment m (cs ++ (e ∷ fs))
@@ -48,7 +42,7 @@ module _ (diary : List Entry) where
     where
       step : (t : Bool) → cut_each (reverse (active xs ++ cond t (n ∷ []) [])) ≡ cut_each (reverse (cond t (n ∷ []) [])) ++ cut_each (reverse (active xs))
       step true = ap cut_each (reverse-append (active xs) (n ∷ []))
-      step false = ap (λ ns. cut_each (reverse ns)) (with_none (active xs))
+      step false = ap (λ ns. cut_each (reverse ns)) (append-nil (active xs))
 
   pub cut_one : (m : ℤ) (n : Node) (t : Bool) → is_active diary n.serial ≡ t → at_moment m (cond t (Cut n.serial ∷ []) []) ≡ at_moment m (cut_steps diary (n ∷ []))
   cut_one m n t is = by t ∙ ap (λ b. at_moment m (cut_each (reverse (cond b (n ∷ []) [])))) (sym is)
@@ -58,29 +52,6 @@ module _ (diary : List Entry) where
       by false = refl
 
 -- ---- a part of the nodes, from one place on up to another
-
-drop_there : {A : Type 0} (xs : List A) (k : ℕ) (x : A) → slice_get xs k ≡ Some x → drop k xs ≡ x ∷ drop (suc k) xs
-drop_there [] k x at = cc
-drop_there (y ∷ ys) zero x at = let one : y ≡ x = cc in ap (λ z. z ∷ ys) one
-drop_there (y ∷ ys) (suc k) x at = drop_there ys k x at
-
-take_last : {A : Type 0} (xs : List A) (k : ℕ) (x : A) → slice_get xs k ≡ Some x → take (suc k) xs ≡ take k xs ++ x ∷ []
-take_last [] k x at = cc
-take_last (y ∷ ys) zero x at = let one : y ≡ x = cc in ap (λ z. z ∷ []) one
-take_last (y ∷ ys) (suc k) x at = ap (λ zs. y ∷ zs) (take_last ys k x at)
-
-get_dropped : {A : Type 0} (xs : List A) (j k : ℕ) → slice_get (drop j xs) k ≡ slice_get xs (j + k)
-get_dropped [] zero k = refl
-get_dropped [] (suc j) k = refl
-get_dropped (x ∷ xs) zero k = let none : k ≡ 0 + k = omega arith in ap (slice_get (x ∷ xs)) none
-get_dropped (x ∷ xs) (suc j) k = let next : suc (j + k) ≡ suc j + k = omega arith in get_dropped xs j k ∙ ap (slice_get (x ∷ xs)) next
-
-pub part_more : (xs : List Node) (first at : ℕ) (x : Node) → first ≤ at → slice_get xs at ≡ Some x → slice_range xs first (at + 1) ≡ slice_range xs first at ++ x ∷ []
-part_more xs first at x le there =
-    let long : (at + 1) - first ≡ suc (at - first) = omega (arith, le) in
-    let place : first + (at - first) ≡ at = omega (arith, le) in
-    ap (λ k. take k (drop first xs)) long
-    ∙ take_last (drop first xs) (at - first) x (get_dropped xs first (at - first) ∙ ap (slice_get xs) place ∙ there)
 
 pub part_none : (xs : List Node) (first at : ℕ) → at ≤ first → slice_range xs first at ≡ []
 part_none xs first at le = let none : at - first ≡ 0 = omega (arith, le) in ap (λ k. take k (drop first xs)) none ∙ nothing (drop first xs)
@@ -92,20 +63,14 @@ part_none xs first at le = let none : at - first ≡ 0 = omega (arith, le) in ap
 -- the last of the nodes that are left is cut
 pub one_less : (m : ℤ) (diary : List Entry) (nodes : List Node) (first at : ℕ) (n : Node) (before after : List Entry) → first ≤ at → slice_get nodes at ≡ Some n → after ≡ before ++ at_moment m (cut_steps diary (n ∷ [])) → before ++ at_moment m (cut_steps diary (slice_range nodes first (at + 1))) ≡ after ++ at_moment m (cut_steps diary (slice_range nodes first at))
 one_less m diary nodes first at n before after le there is =
-    ap (λ ns. before ++ at_moment m (cut_steps diary ns)) (part_more nodes first at n le there)
+    ap (λ ns. before ++ at_moment m (cut_steps diary ns)) (slice_range-more nodes first at n le there)
     ∙ ap (λ ss. before ++ at_moment m ss) (cut_last diary (slice_range nodes first at) n)
     ∙ sym (joined m before (cut_steps diary (n ∷ [])) (cut_steps diary (slice_range nodes first at)))
     ∙ ap (λ es. es ++ at_moment m (cut_steps diary (slice_range nodes first at))) (sym is)
 
 -- none is left
 pub none_left : (m : ℤ) (diary : List Entry) (nodes : List Node) (first at : ℕ) (entries : List Entry) → at ≤ first → entries ++ at_moment m (cut_steps diary (slice_range nodes first at)) ≡ entries
-none_left m diary nodes first at entries le = ap (λ ns. entries ++ at_moment m (cut_steps diary ns)) (part_none nodes first at le) ∙ with_none entries
-
--- the node at a place
-pub node_here : (nodes : List Node) (k : ℕ) → k < length nodes → (n : Node) × (slice_get nodes k ≡ Some n)
-node_here [] k less = absurd (omega (arith, less))
-node_here (n ∷ ns) zero less = (n, refl)
-node_here (n ∷ ns) (suc k) less = node_here ns k (omega (arith, less))
+none_left m diary nodes first at entries le = ap (λ ns. entries ++ at_moment m (cut_steps diary ns)) (part_none nodes first at le) ∙ append-nil entries
 
 -- ---- the end of a span
 

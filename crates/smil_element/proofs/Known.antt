@@ -1,25 +1,16 @@
 -- The elements of a document, by their serials, and the time children of one.
 use Rattle.std.proofs.Common.{◌≡◌, refl, sym, ◌∙◌, ap, subst, ℕ, zero, suc, ◌<◌, ◌-◌, List, [], ◌∷◌, length, get_or, Bool, true, false}
-use Rattle.std.specs.Prelude.{Option, None, Some, is_some, if◌then◌else◌, ◌&&◌, filter, slice_get}
-use Rattle.std.proofs.lemmas.Bool.{eqb-true}
+use Rattle.std.specs.Prelude.{Option, None, Some, if◌then◌else◌, filter, slice_get}
+use Rattle.std.proofs.lemmas.Bool.{eqb-true, and_parts}
 use Rattle.std.proofs.lemmas.Option.{get_or_from_slice_get, slice_get_within}
 use Rattle.smil_model.specs.declared.document.Node.{Node}
 use Rattle.smil_model.specs.declared.document.Kind.{Kind}
 use Rattle.smil_model.specs.document.Document.{Document, elements, has_serial, is_element, is_time_child, node_at, serial_of, serials, time_children, time_parent}
 use Rattle.smil_model.specs.document.Valid.{IsNumberedTree, kind_of}
-use Rattle.smil_model.specs.diary.Lawful.{has_element}
 use Rattle.smil_laws.proofs.Lists.{each_at, each_kept}
 use Rattle.smil_tree.proofs.Spans.{all_known}
 use Rattle.smil_instances.proofs.Begun.{IsAt, at_place, element_at}
 use Rattle.smil_past.proofs.References.{kept_known, stands}
-
--- the element with a serial
-pub known_element : (nodes : List Node) (who : ℕ) → has_element nodes who ≡ true → (e : Node) × (node_at (elements nodes) who ≡ Some e)
-known_element nodes who is =
-    elim (node_at (elements nodes) who) as (λ (o : Option Node). is_some o ≡ true → (e : Node) × (o ≡ Some e)) [
-      | None ↦ λ none. absurd (cc)
-      | Some e ↦ λ _. (e, refl)
-    ] is
 
 -- it is the node with the serial
 pub known_node : (document : Document) → IsNumberedTree document → (who : ℕ) (e : Node) → node_at (elements document.nodes) who ≡ Some e → node_at document.nodes who ≡ Some e
@@ -34,7 +25,7 @@ kind_is nodes who e kind is known =
 
 -- ---- time children
 
-passes : (p : Node → Bool) (ns : List Node) (i : ℕ) (n : Node) → slice_get (filter p ns) i ≡ Some n → p n ≡ true
+pub passes : (p : Node → Bool) (ns : List Node) (i : ℕ) (n : Node) → slice_get (filter p ns) i ≡ Some n → p n ≡ true
 passes p [] i n at = absurd (cc)
 passes p (m ∷ ns) zero n at =
     elim (p m) as (λ (t : Bool). p m ≡ t → slice_get (if t then m ∷ filter p ns else filter p ns) zero ≡ Some n → p n ≡ true) [
@@ -47,12 +38,7 @@ passes p (m ∷ ns) (suc i) n at =
       | false ↦ λ there. passes p ns (suc i) n there
     ] at
 
-both_true : (a b : Bool) → (a && b) ≡ true → (a ≡ true) × (b ≡ true)
-both_true true true q = (refl, refl)
-both_true true false q = absurd (cc)
-both_true false b q = absurd (cc)
-
-serial_is : (who : ℕ) (o : Option Node) → has_serial who o ≡ true → serial_of o ≡ Some who
+pub serial_is : (who : ℕ) (o : Option Node) → has_serial who o ≡ true → serial_of o ≡ Some who
 serial_is who None q = absurd (cc)
 serial_is who (Some n) q = ap Some (eqb-true n.serial who q)
 
@@ -68,7 +54,7 @@ child_at document numbered who k whos are inside =
     let nodes = document.nodes in
     let child = get_or whos k 0 in
     let here : IsAt (time_children nodes who) k child = at_place (time_children nodes who) whos k are inside in
-    let parts = both_true (is_element here.node) (has_serial who (time_parent nodes here.node.serial)) (passes (is_time_child nodes who) nodes k here.node here.at) in
+    let parts = and_parts (is_element here.node) (has_serial who (time_parent nodes here.node.serial)) (passes (is_time_child nodes who) nodes k here.node here.at) in
     let own : node_at nodes here.node.serial ≡ Some here.node =
     each_at (λ (m : Node). node_at nodes m.serial ≡ Some m) (time_children nodes who) k here.node
     (each_kept (λ (m : Node). node_at nodes m.serial ≡ Some m) (is_time_child nodes who) nodes (all_known nodes document.next numbered)) here.at in

@@ -1,28 +1,21 @@
 -- The present moment.
 use Rattle.std.proofs.Common.{◌≡◌, refl, ap, ◌≤◌, ℤ, List, [], ◌∷◌, length, Bool, true, false, arith, w64, FitsSigned}
 use Rattle.std.proofs.lemmas.Int.{ints}
-use Rattle.std.specs.Prelude.{if◌then◌else◌, pos, negsuc, int_le, ◌≤ℤ◌, fold, filter}
+use Rattle.std.specs.Prelude.{if◌then◌else◌, pos, negsuc, int_le, ◌≤ℤ◌, fold}
 use Rattle.smil_model.specs.declared.diary.Entry.{Entry}
 use Rattle.smil_model.specs.Times.{IsNear}
 use Rattle.smil_model.specs.diary.Diary.{last_moment}
 use Rattle.smil_model.specs.diary.Clocks.{until}
-use Rattle.smil_interval.proofs.Orders.{le_from}
+use Rattle.smil_model.proofs.Orders.{le_from}
 use Rattle.smil_past.specs.Past.{Happened, IsPresent}
-
-shorter : (p : Entry → Bool) (xs : List Entry) → length (filter p xs) ≤ length xs
-shorter p [] = omega arith
-shorter p (x ∷ xs) = step (p x) (shorter p xs)
-  where
-    step : (t : Bool) → length (filter p xs) ≤ length xs → length (if t then x ∷ filter p xs else filter p xs) ≤ length (x ∷ xs)
-    step true rest = omega (arith, rest)
-    step false rest = omega (arith, rest)
+use Rattle.smil_laws.proofs.Lists.{filter_shorter}
 
 last_from : (m from : ℤ) (ds : List Entry) → from ≤ℤ m → until m ds ≡ ds → fold (λ (before : ℤ) (x : Entry). x.moment) from ds ≤ℤ m
 last_from m from [] low all = low
 last_from m from (x ∷ xs) low all =
     elim (int_le x.moment m) as (λ (t : Bool). int_le x.moment m ≡ t → (if t then x ∷ until m xs else until m xs) ≡ x ∷ xs → fold (λ (before : ℤ) (y : Entry). y.moment) x.moment xs ≤ℤ m) [
       | true ↦ λ up rest. let tail : until m xs ≡ xs = cc in last_from m x.moment xs (le_from x.moment m up) tail
-      | false ↦ λ past none. let short = shorter (λ (y : Entry). int_le y.moment m) xs in absurd (omega (arith, short, ap (λ (ys : List Entry). length ys) none))
+      | false ↦ λ past none. let short = filter_shorter (λ (y : Entry). int_le y.moment m) xs in absurd (omega (arith, short, ap (λ (ys : List Entry). length ys) none))
     ] refl all
 
 -- no entry is later than the present moment

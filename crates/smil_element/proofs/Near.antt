@@ -1,5 +1,5 @@
 -- How large the shown values of plays are, where the numbers of the diary are near.
-use Rattle.std.proofs.Common.{◌≡◌, subst, ℕ, suc, zero, ◌+◌, ◌≤◌, List, [], ◌∷◌, ◌++◌, ℤ, Bool, true, false, Option, Some, None, arith}
+use Rattle.std.proofs.Common.{◌≡◌, subst, ℕ, ◌+◌, ◌≤◌, List, [], ◌∷◌, ◌++◌, ℤ, Bool, true, false, Option, Some, None, arith}
 use Rattle.std.specs.Prelude.{cond, pos, negsuc, int_le, ◌≤ℤ◌, ◌&&◌, ◌==◌, fold, option_map, option_and_then}
 use Rattle.std.specs.List.{AllByRecursion, last_or}
 use Rattle.std.specs.Option.{ForSome}
@@ -14,12 +14,13 @@ use Rattle.smil_model.specs.Times.{IsMoment, IsNear}
 use Rattle.smil_model.specs.document.Document.{time_parent}
 use Rattle.smil_model.specs.diary.Diary.{History, deferral, deferral_after, is_active, is_alive, since_birth}
 use Rattle.smil_model.specs.diary.Lawful.{is_rising_from, IsLawful}
-use Rattle.smil_model.specs.diary.Clocks.{until, stands_by, elapsed, run, outer, outer_under, to_document}
+use Rattle.smil_model.specs.diary.Clocks.{run, outer, outer_under, to_document}
 use Rattle.smil_model.specs.diary.Plays.{Mark, Finished, Plays, finish_with, play_after, is_birth_under, plays, last_finished}
 use Rattle.smil_model.specs.shown.Views.{document_value, deferred_begin, finished_values, present_begin}
 use Rattle.smil_fill.specs.Numbers.{IsWithin}
 use Rattle.smil_laws.specs.Near.{AllNear, HasNear}
 use Rattle.smil_laws.proofs.Aside.{each_both, each_drop}
+use Rattle.smil_laws.proofs.NearDiary.{elapsed_within}
 
 pub none_for : {A : Type 0} (P : A → Type 0) → ForSome None P
 none_for P = λ x q. cc
@@ -29,19 +30,11 @@ one_for {A} P a is = λ x q. let same : a ≡ x = cc in subst P same is
 
 -- ---- clocks
 
-elapsed_most : (h : History) (s m : ℕ) → elapsed h s m ≤ m
-elapsed_most h s zero = omega arith
-elapsed_most h s (suc m) = one (stands_by h.nodes (until (pos m) h.diary) s) (elapsed h s m) (elapsed_most h s m)
-  where
-    one : (t : Bool) (e : ℕ) → e ≤ m → e + cond t 0 1 ≤ suc m
-    one true e le = omega (arith, le)
-    one false e le = omega (arith, le)
-
 outer_near : (h : History) (s : ℕ) (m : ℤ) → IsMoment m → IsNear (outer h s m)
 outer_near h s m is = under (time_parent h.nodes s)
   where
     at_run : (p : ℕ) (k : ℤ) → IsMoment k → IsNear (run h p k)
-    at_run p (pos k) at = let most = elapsed_most h p k in record { low = omega (arith, ints); high = omega (arith, ints, most, at.high) }
+    at_run p (pos k) at = let most = elapsed_within h p k in record { low = omega (arith, ints); high = omega (arith, ints, most, at.high) }
     at_run p (negsuc k) at = record { low = absurd (omega (arith, ints, at.low)); high = absurd (omega (arith, ints, at.low)) }
 
     under : (o : Option Node) → IsNear (outer_under h o m)

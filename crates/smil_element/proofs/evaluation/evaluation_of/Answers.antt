@@ -12,8 +12,8 @@ use Rattle.smil_model.specs.interval.Intervals.{interval_of}
 use Rattle.smil_instance_rows.specs.Rising.{IsRising}
 use Rattle.smil_past.specs.Past.{history_of}
 use Rattle.smil_element.proofs.Awaited.{begins_rise, ends_rise}
-use Rattle.smil_element.proofs.Known.{known_element}
 use Rattle.smil_element.proofs.Latest.{present_fits}
+use Rattle.smil_instances.proofs.Targets.{element_of}
 use Rattle.smil_element.proofs.evaluation.evaluation_of.Goals as goal
 
 pub evaluate-requires-clause-begins_rise : goal.evaluate-requires-clause-begins_rise
@@ -21,7 +21,7 @@ evaluate-requires-clause-begins_rise g c =
     let h : History = history_of c.args.present.now.past.now in
     let given : ℕ → Option Interval = g.J.Intervals.given c.args.intervals.now in
     let now = c.args.present.now.moment in
-    let found = known_element h.nodes c.args.present.now.who c.requires.element in
+    let found = element_of h.nodes c.args.present.now.who c.requires.element in
     let begins : c.begins_told-begins.result.now ≡ begin_times h given now found.0 =
     c.begins_told-begins.ensures found.0 given now found.1 (λ waits. c.deref.ensures.value ∙ c.in_ok-fill_begins.ensures found.0 found.1 waits ∙ ap (λ m. begin_times h given m found.0) (to_z-of_z w64 now (present_fits c.args.present.now.past.now now c.requires.moment))) in
     subst (λ (xs : List ℤ). IsRising int_le xs) (sym begins) (begins_rise h given now found.0)
@@ -31,7 +31,7 @@ evaluate-requires-clause-ends_rise g c =
     let h : History = history_of c.args.present.now.past.now in
     let given : ℕ → Option Interval = g.J.Intervals.given c.args.intervals.now in
     let now = c.args.present.now.moment in
-    let found = known_element h.nodes c.args.present.now.who c.requires.element in
+    let found = element_of h.nodes c.args.present.now.who c.requires.element in
     let ends : c.ends_told-ends.result.now ≡ end_times h given now found.0 =
     c.ends_told-ends.ensures found.0 given now found.1 (λ waits. c.deref-2.ensures.value ∙ c.in_ok-fill_ends.ensures found.0 found.1 waits ∙ ap (λ m. end_times h given m found.0) (to_z-of_z w64 now (present_fits c.args.present.now.past.now now c.requires.moment))) in
     subst (λ (xs : List Time). IsRising time_le xs) (sym ends) (ends_rise h given now found.0)

@@ -14,13 +14,13 @@ use Rattle.smil_past.proofs.References.{stands}
 use Rattle.smil_past.specs.Past.{history_of}
 use Rattle.smil_element.specs.Pouring.{with_times}
 use Rattle.smil_element.proofs.Awaited.{ends_merged, ends_rise}
-use Rattle.smil_element.proofs.Known.{known_element}
+use Rattle.smil_instances.proofs.Targets.{element_of}
 use Rattle.smil_element.proofs.expected.pour_ends.Goals as goal
 
 pub pour-requires-clause-rising : goal.pour-requires-clause-rising
 pour-requires-clause-rising g c =
     let h : History = history_of c.args.reading.now.past.now in
-    let found = known_element h.nodes c.args.who c.requires.element in
+    let found = element_of h.nodes c.args.who c.requires.element in
     let items : c.extend_from_slice.new.self.items ≡ settled_ends h c.args.reading.now.moment found.0 =
     c.in_ok-extend_from_slice.ensures.items
     ∙ ap (λ (xs : List Time). xs ++ c.ends.result.now) c.clear.ensures.items

@@ -2,8 +2,8 @@ use Rattle.std.proofs.Common.{◌++◌, [], ◌∷◌, sym, ap, ◌∙◌}
 use Rattle.smil_model.specs.happening.Groups.{at_moment, follower}
 use Rattle.smil_model.specs.happening.Queue.{queue_of}
 use Rattle.smil_element.proofs.Appending.{told}
-use Rattle.smil_element.proofs.Cutting.{with_none}
 use Rattle.smil_element.proofs.Following.{first_follows, none_follows}
+use Rattle.std.proofs.lemmas.List.{append-nil}
 use Rattle.smil_element.proofs.happening.follower.Goals as goal
 
 pub returns-in-Some : goal.returns-in-Some
@@ -19,4 +19,4 @@ pub returns-in-None : goal.returns-in-None
 returns-in-None c = λ h parts.
     let m = c.args.parts.now.moment in
     let old = c.args.entries.now.items in
-    sym (ap (λ ss. old ++ at_moment m ss) (sym (none_follows h m (queue_of h c.args.excl) (c.in-None.ensures h parts.queues_are))) ∙ with_none old)
+    sym (ap (λ ss. old ++ at_moment m ss) (sym (none_follows h m (queue_of h c.args.excl) (c.in-None.ensures h parts.queues_are))) ∙ append-nil old)

@@ -6,9 +6,9 @@ use Rattle.smil_model.specs.happening.Groups.{at_moment, follower, followers}
 use Rattle.smil_model.specs.happening.Queue.{queue_of}
 use Rattle.smil_element.proofs.Above.{parent_node}
 use Rattle.smil_element.proofs.Appending.{retold}
-use Rattle.smil_element.proofs.Cutting.{with_none}
 use Rattle.smil_element.proofs.Finding.{left_known}
 use Rattle.smil_element.proofs.Following.{followers_in, no_followers}
+use Rattle.std.proofs.lemmas.List.{append-nil}
 use Rattle.smil_element.proofs.happening.followers.Goals as goal
 
 pub follower-requires-clause-known : goal.follower-requires-clause-known
@@ -33,4 +33,4 @@ pub returns-in-None : goal.returns-in-None
 returns-in-None c = λ h parts.
     let m = c.args.parts.now.moment in
     let old = c.args.entries.now.items in
-    sym (ap (λ ss. old ++ at_moment m ss) (sym (no_followers h m c.args.who (time_parent h.nodes c.args.who) (c.in-None.ensures h parts))) ∙ with_none old)
+    sym (ap (λ ss. old ++ at_moment m ss) (sym (no_followers h m c.args.who (time_parent h.nodes c.args.who) (c.in-None.ensures h parts))) ∙ append-nil old)

@@ -5,11 +5,12 @@ use Rattle.std.proofs.lemmas.List.{length-map}
 use Rattle.smil_model.specs.declared.document.Node.{Node}
 use Rattle.smil_model.specs.document.Document.{elements, serial_of, time_children, time_parent}
 use Rattle.smil_model.specs.diary.Lawful.{has_element}
-use Rattle.smil_element.proofs.Known.{known_element, known_node}
+use Rattle.smil_element.proofs.Known.{known_node}
 use Rattle.smil_element.proofs.Told.{parent_known, tree_node}
 use Rattle.smil_cells.proofs.Taking.{found}
 use Rattle.smil_nodes.specs.Endings.{HasHome}
 use Rattle.smil_nodes.proofs.Housing.{among_children, few_children, is_home, rows_count}
+use Rattle.smil_instances.proofs.Targets.{element_of}
 use Rattle.smil_nodes.proofs.endings.home_of.Goals as goal
 
 pub time_parent-requires : goal.time_parent-requires
@@ -28,7 +29,7 @@ unwrap-container-requires c =
 
 pub place_among-child-requires : goal.place_among-child-requires
 place_among-child-requires c =
-    let e = known_element c.args.tree.now.nodes c.args.who c.requires.element in
+    let e = element_of c.args.tree.now.nodes c.args.who c.requires.element in
     among_children c.args.tree.now c.valid.ensures.numbered c.args.who c.in_ok-parent.parent e.0 c.time_children.result.now e.1 (sym c.time_parent.ensures ∙ c.in_ok-parent.was) c.time_children.ensures
 
 pub returns-clause-home : goal.returns-clause-home
@@ -37,6 +38,6 @@ returns-clause-home c =
     let distinct = c.valid.ensures.numbered.distinct in
     let known = subst (λ (o : Option ℕ). IfSome o (λ p. has_element nodes p ≡ true)) c.in_ok-parent.was (parent_known nodes c.args.who c.time_parent.result distinct c.requires.element c.time_parent.ensures) in
     let above = found nodes c.args.schedule.now c.in_ok-parent.parent distinct c.requires.of_elements known in
-    let e = known_element nodes c.args.who c.requires.element in
+    let e = element_of nodes c.args.who c.requires.element in
     let place : c.unwrap-container.result ≡ above.place = same_Some _ _ (sym c.unwrap-container.ensures ∙ c.place.ensures ∙ above.position_is) in
     is_home c.args.tree.now c.valid.ensures.numbered c.args.schedule.now c.args.who c.in_ok-parent.parent c.unwrap-container.result c.place_among-child.result e.0 c.time_children.result.now e.1 above place c.time_children.ensures c.place_among-child.ensures

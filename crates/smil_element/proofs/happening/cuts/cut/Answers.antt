@@ -8,7 +8,9 @@ use Rattle.smil_model.specs.document.Document.{serial_of}
 use Rattle.smil_model.specs.diary.Diary.{is_active}
 use Rattle.smil_model.specs.happening.Groups.{at_moment}
 use Rattle.smil_element.specs.Parts.{cut_if}
-use Rattle.smil_element.proofs.Cutting.{cut_one, node_here, with_none}
+use Rattle.smil_element.proofs.Cutting.{cut_one}
+use Rattle.std.proofs.lemmas.List.{append-nil}
+use Rattle.smil_graph.proofs.Nodes.{there}
 use Rattle.smil_element.proofs.happening.cuts.cut.Goals as goal
 use Rattle.smil_element.proofs.happening.cuts.cut.Goals.{After-active}
 
@@ -21,11 +23,11 @@ record Here (c : After-active) : Type 0 where
 
 here : (c : After-active) → Here c
 here c =
-    let there = node_here c.args.parts.now.tree.now.nodes c.args.at c.requires in
-    let same : c.unwrap-serial.result ≡ there.0.serial = same_Some c.unwrap-serial.result there.0.serial (sym c.unwrap-serial.ensures ∙ c.serial_at.ensures ∙ ap serial_of there.1) in
+    let found = there c.args.parts.now.tree.now.nodes c.args.at c.requires in
+    let same : c.unwrap-serial.result ≡ found.0.serial = same_Some c.unwrap-serial.result found.0.serial (sym c.unwrap-serial.ensures ∙ c.serial_at.ensures ∙ ap serial_of found.1) in
     record {
-      node = there.0;
-      at = there.1;
+      node = found.0;
+      at = found.1;
       serial = same;
       active = sym (c.active.ensures ∙ ap (is_active c.args.parts.now.book.now) same);
     }
@@ -50,4 +52,4 @@ returns-else-active c =
     let old = c.args.entries.now.items in
     sym
     (ap (λ es. old ++ es) (sym (cut_one diary m n.node false (n.active ∙ c.if-active.false) ∙ ap (λ o. at_moment m (cut_if diary o)) (sym n.at)))
-    ∙ with_none old)
+    ∙ append-nil old)

@@ -4,7 +4,8 @@ use Rattle.smil_model.specs.declared.document.Node.{Node}
 use Rattle.smil_model.specs.happening.Groups.{at_moment}
 use Rattle.smil_model.specs.document.Edits.{child_place, place_in}
 use Rattle.smil_element.specs.Parts.{cut_if, cut_steps}
-use Rattle.smil_element.proofs.Cutting.{node_here, none_left, one_less, placed, span_within}
+use Rattle.smil_element.proofs.Cutting.{none_left, one_less, placed, span_within}
+use Rattle.smil_graph.proofs.Nodes.{there}
 use Rattle.smil_element.proofs.happening.cuts.cut_below.Goals as goal
 
 pub overflow_add-place : goal.overflow_add-place
@@ -29,13 +30,13 @@ loop-at-preserved c =
     let before = c.loop-at.at - 1 in
     let inside : before < length nodes = omega (arith, c.loop-at-test.true, c.loop-at.invariant.within) in
     let more : before + 1 ≡ c.loop-at.at = omega (arith, c.loop-at-test.true) in
-    let there = node_here nodes before inside in
+    let found = there nodes before inside in
     record {
       within = omega (arith, c.loop-at.invariant.within);
       left =
           c.loop-at.invariant.left
           ∙ ap (λ k. c.loop-at.entries.items ++ at_moment m (cut_steps diary (slice_range nodes first k))) (sym more)
-          ∙ one_less m diary nodes first before there.0 c.loop-at.entries.items c.cut.new.entries.items (omega (arith, c.loop-at-test.true)) there.1 (c.in_ok-cut.ensures ∙ ap (λ o. c.loop-at.entries.items ++ at_moment m (cut_if diary o)) there.1);
+          ∙ one_less m diary nodes first before found.0 c.loop-at.entries.items c.cut.new.entries.items (omega (arith, c.loop-at-test.true)) found.1 (c.in_ok-cut.ensures ∙ ap (λ o. c.loop-at.entries.items ++ at_moment m (cut_if diary o)) found.1);
     }
 
 pub returns : goal.returns
