@@ -18,7 +18,7 @@ use smil_outside::MemSource;
 use std::alloc::{AllocError, Global};
 use std::sync::ledger::Ledger;
 
-/// How many bytes of a session that is made are read at a time.
+// How many bytes of a session that is made are read at a time.
 const CHUNK: usize = 4096;
 
 /// The lines that tell of a session, and how it ended.

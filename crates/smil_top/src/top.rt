@@ -17,7 +17,7 @@ use smil_words::{Mode, read_words};
 use std::alloc::Global;
 use std::sync::ledger::Ledger;
 
-/// What faulty words are answered.
+// What faulty words are answered.
 const USAGE: &[u8] = b"usage: smilplay run | smilplay check | smilplay gen N\n";
 
 // What a session begins with: where it takes memory, and whether its loads are only read.
