@@ -21,10 +21,10 @@ use std::rt::Env;
 use std::sync::ledger::{Blank, Ledger};
 use std::{env, io};
 
-/// The exit number where there is no memory for the words.
+// The exit number where there is no memory for the words.
 const NO_MEMORY: u8 = 5;
 
-/// The exit number where a word can't be read.
+// The exit number where a word can't be read.
 const UNREADABLE_WORD: u8 = 7;
 
 fn main(rt: HostRuntime) -> ExitCode {
