@@ -8,7 +8,7 @@ use smil_model::{Bytes, Listed};
 use std::alloc::Global;
 use std::num::NonZeroUsize;
 
-/// How many bytes a read gives at most, where no option says so.
+// How many bytes a read gives at most, where no option says so.
 const CHUNK: usize = 4096;
 
 /// How many bytes may be written, where no option says so.
