@@ -29,7 +29,7 @@ pub fn book(alloc: Global, words: &mut Words<'_>, out: &mut Bytes) -> Result<(),
     Ok(())
 }
 
-/// One step.
+// One step.
 fn take(book: &mut Book, word: &str, out: &mut Bytes) -> Result<(), Fault> {
     if let Some(rest) = word.strip_prefix('?') {
         readings(book, rest, out)
@@ -61,7 +61,7 @@ fn step(kind: &str, who: u32) -> Result<Step, Fault> {
     }
 }
 
-/// Pushes an entry, and tells where the diary is full.
+// Pushes an entry, and tells where the diary is full.
 fn push(book: &mut Book, step: Step, out: &mut Bytes) -> Result<(), Fault> {
     match book.push(Entry { moment: 0, step }) {
         Ok(()) => Ok(()),
@@ -87,8 +87,8 @@ fn fill(book: &mut Book, count: u32, out: &mut Bytes) -> Result<(), Fault> {
     Ok(())
 }
 
-/// The readings of an element: birth, active, paused, deferred, iteration, finished, and the last
-/// place of each kind.
+// The readings of an element: birth, active, paused, deferred, iteration, finished, and the last
+// place of each kind.
 fn readings(book: &Book, word: &str, out: &mut Bytes) -> Result<(), Fault> {
     let mut parts = Words::of_word(word);
     let who = parts.natural()?;

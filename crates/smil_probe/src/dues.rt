@@ -6,7 +6,7 @@ use smil_due::{DueQueue, comes_before, least_scan};
 use smil_model::{Bytes, Duplicate, Key};
 use std::alloc::{AllocError, Global};
 
-/// A key as `VALUE,CLASS,POSITION,SERIAL,REPEAT`.
+// A key as `VALUE,CLASS,POSITION,SERIAL,REPEAT`.
 fn key(word: &str) -> Result<Key, Fault> {
     let mut parts = Words::of_word(word);
     Ok(Key {
@@ -22,7 +22,7 @@ fn class(word: &str) -> Result<u8, Fault> {
     word.parse::<u8>().ok().ok_or(Fault::Refused)
 }
 
-/// The serial of a key and whether it is a repeat, or `-` for none.
+// The serial of a key and whether it is a repeat, or `-` for none.
 fn put_key(out: &mut Bytes, key: Option<Key>) -> Result<(), AllocError> {
     match key {
         Some(key) => {
@@ -62,7 +62,7 @@ pub fn due(alloc: Global, words: &mut Words<'_>, out: &mut Bytes) -> Result<(), 
     Ok(())
 }
 
-/// One step.
+// One step.
 fn take(queue: &mut DueQueue, word: &str, out: &mut Bytes) -> Result<(), Fault> {
     if let Some(rest) = word.strip_prefix('+') {
         Ok(queue.put(key(rest)?)?)

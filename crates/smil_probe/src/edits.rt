@@ -34,7 +34,7 @@ impl Editor {
         }
     }
 
-    /// Edits a node.
+    // Edits a node.
     fn edit_node(&mut self, serial: u32, order: &Order, out: &mut Bytes) -> Result<(), Fault>
         requires { IsSome (node_at self.old.tree.nodes serial) }
     {
@@ -46,7 +46,7 @@ impl Editor {
         }
     }
 
-    /// Gives a node an attribute.
+    // Gives a node an attribute.
     fn set(
         &mut self,
         serial: u32,
@@ -70,7 +70,7 @@ impl Editor {
         }
     }
 
-    /// Takes an attribute of a node away.
+    // Takes an attribute of a node away.
     fn unset(&mut self, serial: u32, attr: &Bytes, out: &mut Bytes) -> Result<(), Fault>
         requires { IsSome (node_at self.old.tree.nodes serial) }
     {
@@ -83,7 +83,7 @@ impl Editor {
         }
     }
 
-    /// Inserts the node of a line into a node, at a place from 1.
+    // Inserts the node of a line into a node, at a place from 1.
     fn insert(
         &mut self,
         parent: u32,
@@ -111,7 +111,7 @@ impl Editor {
     }
 }
 
-/// The node that is edited.
+// The node that is edited.
 fn named(order: &Order) -> Result<&Who, Fault> {
     match order {
         Order::Set { who, .. }
@@ -122,7 +122,7 @@ fn named(order: &Order) -> Result<&Who, Fault> {
     }
 }
 
-/// The kind of a node's parent, and none for the root.
+// The kind of a node's parent, and none for the root.
 fn parent_kind(tree: &Tree, serial: u32) -> Result<Option<Kind>, Fault>
     requires { IsSome (node_at tree.now.nodes serial) }
     ensures { IfOk result (λ parent. (n : AnyNode) → node_at tree.now.nodes serial ≡ Some n → parent
@@ -135,7 +135,7 @@ fn parent_kind(tree: &Tree, serial: u32) -> Result<Option<Kind>, Fault>
     }
 }
 
-/// What an edit of a tree answers.
+// What an edit of a tree answers.
 fn told(out: &mut Bytes, answer: Result<(), TreeFault>) -> Result<(), Fault> {
     let word = match answer {
         Ok(()) => "ok",
@@ -150,7 +150,7 @@ fn told(out: &mut Bytes, answer: Result<(), TreeFault>) -> Result<(), Fault> {
     Ok(put_word(out, word)?)
 }
 
-/// Why an attribute has no reading, and the place in its value, from 0, where there is one.
+// Why an attribute has no reading, and the place in its value, from 0, where there is one.
 fn attr_fault(out: &mut Bytes, fault: AttrFault) -> Result<(), Fault> {
     match fault {
         AttrFault::UnknownAttribute => Ok(put_word(out, "unknown-attribute")?),

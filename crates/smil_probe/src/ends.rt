@@ -28,7 +28,7 @@ pub fn implicit_by(alloc: Global, words: &mut Words<'_>, out: &mut Bytes) -> Res
     Ok(())
 }
 
-/// The kind of a container.
+// The kind of a container.
 fn container(word: &str) -> Result<Kind, Fault> {
     match word {
         "par" => Ok(Kind::Par),
@@ -38,7 +38,7 @@ fn container(word: &str) -> Result<Kind, Fault> {
     }
 }
 
-/// The ends of a child.
+// The ends of a child.
 fn child(word: &str) -> Result<ChildEnd, Fault> {
     let mut parts = Words::of_word(word);
     let named = parts.flag()?;

@@ -37,7 +37,7 @@ fn act(word: &str) -> Result<Act, Fault> {
     }
 }
 
-/// A step of a queue.
+// A step of a queue.
 #[derive(Clone, Copy)]
 enum Move {
     Pause { who: u32, rank: u32 },
@@ -46,8 +46,8 @@ enum Move {
     Leave { who: u32 },
 }
 
-/// `pWHO,RANK` for a paused child, `dWHO,RANK` for a deferred one, `lWHO` for one that leaves, `t`
-/// to take the first.
+// `pWHO,RANK` for a paused child, `dWHO,RANK` for a deferred one, `lWHO` for one that leaves, `t`
+// to take the first.
 fn move_of(word: &str) -> Result<Move, Fault> {
     if word == "t" {
         Ok(Move::First)
@@ -66,7 +66,7 @@ fn move_of(word: &str) -> Result<Move, Fault> {
     }
 }
 
-/// The serial and the rank of a child.
+// The serial and the rank of a child.
 fn child(word: &str) -> Result<(u32, u32), Fault> {
     let mut parts = Words::of_word(word);
     let who = parts.natural()?;
@@ -92,7 +92,7 @@ pub fn queue(alloc: Global, words: &mut Words<'_>, out: &mut Bytes) -> Result<()
     Ok(())
 }
 
-/// One step.
+// One step.
 #[tactic(auto, using(crate::proofs::Lengths::paused_longer, crate::proofs::Lengths::deferred_longer, crate::proofs::Lengths::without_shorter))]
 fn take(queue: &mut Queue, next: Move, out: &mut Bytes) -> Result<(), AllocError>
     requires { length queue.old.held < queue.old.room }
@@ -108,7 +108,7 @@ fn take(queue: &mut Queue, next: Move, out: &mut Bytes) -> Result<(), AllocError
     Ok(())
 }
 
-/// Takes out all children, of which there are so many at most.
+// Takes out all children, of which there are so many at most.
 fn drain(queue: &mut Queue, most: usize, out: &mut Bytes) -> Result<(), AllocError> {
     put_word(out, "/")?;
     for _ in 0..most {

@@ -16,7 +16,7 @@ pub fn graph(alloc: Global, words: &mut Words<'_>, out: &mut Bytes) -> Result<()
     put_graph(alloc, out, &document(alloc, words.rest())?)
 }
 
-/// The graph of a document, node by node.
+// The graph of a document, node by node.
 fn put_graph(alloc: Global, out: &mut Bytes, doc: &Doc) -> Result<(), Fault>
     requires { IsValid doc.now }
 {
@@ -29,7 +29,7 @@ fn put_graph(alloc: Global, out: &mut Bytes, doc: &Doc) -> Result<(), Fault>
     Ok(())
 }
 
-/// The serial of a node, and of an element what the graph says of it.
+// The serial of a node, and of an element what the graph says of it.
 fn put_node(alloc: Global, out: &mut Bytes, graph: &Graph, node: &Node) -> Result<(), AllocError> {
     put_number(out, node.serial)?;
     if node.kind.is_element() {
@@ -44,14 +44,14 @@ fn put_node(alloc: Global, out: &mut Bytes, graph: &Graph, node: &Node) -> Resul
     put_word(out, "/")
 }
 
-/// Which items of an element's begin and end lists are looped.
+// Which items of an element's begin and end lists are looped.
 fn put_loops(out: &mut Bytes, graph: &Graph, node: &Node) -> Result<(), AllocError> {
     put_word(out, ":")?;
     put_looped(out, graph, node, Edge::Begin)?;
     put_looped(out, graph, node, Edge::End)
 }
 
-/// `1` for each item of one of the lists of an element that is looped, and `0` for each other.
+// `1` for each item of one of the lists of an element that is looped, and `0` for each other.
 fn put_looped(out: &mut Bytes, graph: &Graph, node: &Node, side: Edge) -> Result<(), AllocError> {
     if let Some(items) = list_of(node, side) {
         for item in 0..items.len() {
@@ -68,7 +68,7 @@ fn put_looped(out: &mut Bytes, graph: &Graph, node: &Node, side: Edge) -> Result
     Ok(())
 }
 
-/// The list of one side of an element, where it has the attribute.
+// The list of one side of an element, where it has the attribute.
 fn list_of(node: &Node, side: Edge) -> &Option<Items> {
     match side {
         Edge::Begin => &node.attrs.begin,

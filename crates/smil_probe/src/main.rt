@@ -41,7 +41,7 @@ fn main(rt: HostRuntime) -> io::Result<()> {
     out.flush()
 }
 
-/// The line that answers a case, with its line feed.
+// The line that answers a case, with its line feed.
 fn respond(alloc: Global, line: &str) -> Result<Bytes, AllocError> {
     let mut out = Bytes::new(alloc);
     match answer(alloc, &mut Words::of_line(line), &mut out) {
@@ -61,7 +61,7 @@ fn respond(alloc: Global, line: &str) -> Result<Bytes, AllocError> {
     Ok(out)
 }
 
-/// Answers a case by its word.
+// Answers a case by its word.
 fn answer(alloc: Global, words: &mut Words<'_>, out: &mut Bytes) -> Result<(), Fault> {
     match words.word()? {
         "later" => times::later_by(words, out),
@@ -84,7 +84,7 @@ fn answer(alloc: Global, words: &mut Words<'_>, out: &mut Bytes) -> Result<(), F
     }
 }
 
-/// Answers a case on a queue, a diary or a line of a transcript.
+// Answers a case on a queue, a diary or a line of a transcript.
 fn answer_lists(
     alloc: Global,
     word: &str,

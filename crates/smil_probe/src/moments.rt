@@ -27,8 +27,8 @@ pub fn put_clocks(out: &mut Bytes, present: &Present<'_>, whos: &[u32]) -> Resul
     Ok(())
 }
 
-/// The clocks of an element: what its own and its time parent's show, whether they stand, 7 on the
-/// latter in document time, and what that clock shows where that of the element before shows 7.
+// The clocks of an element: what its own and its time parent's show, whether they stand, 7 on the
+// latter in document time, and what that clock shows where that of the element before shows 7.
 fn put_clock(
     out: &mut Bytes,
     present: &Present<'_>,
@@ -64,9 +64,9 @@ pub fn put_instances(
     Ok(())
 }
 
-/// The begins of an element behind `<`, its ends behind `>`; and behind `:` whether it has an end,
-/// and the first times of both sides by two values: what the clock of the time parent shows, and
-/// the first begin, or 0 where there is none.
+// The begins of an element behind `<`, its ends behind `>`; and behind `:` whether it has an end,
+// and the first times of both sides by two values: what the clock of the time parent shows, and
+// the first begin, or 0 where there is none.
 fn put_instance(
     out: &mut Bytes,
     instances: &Instances,
@@ -86,7 +86,7 @@ fn put_instance(
     put_word(out, "/")
 }
 
-/// Begins that rise, each once.
+// Begins that rise, each once.
 fn put_begins(out: &mut Bytes, begins: &[i64]) -> Result<(), AllocError> {
     let mut last = None;
     for begin in begins {
@@ -98,7 +98,7 @@ fn put_begins(out: &mut Bytes, begins: &[i64]) -> Result<(), AllocError> {
     Ok(())
 }
 
-/// Ends that rise, each once.
+// Ends that rise, each once.
 fn put_ends(out: &mut Bytes, ends: &[Time]) -> Result<(), AllocError> {
     let mut last = None;
     for end in ends {
@@ -110,7 +110,7 @@ fn put_ends(out: &mut Bytes, ends: &[Time]) -> Result<(), AllocError> {
     Ok(())
 }
 
-/// The first begin and the first end from a value on, and those after it.
+// The first begin and the first end from a value on, and those after it.
 fn put_first(
     out: &mut Bytes,
     instances: &Instances,

@@ -43,7 +43,7 @@ fn refused(out: &mut Bytes, line: u64, refusal: Refusal) -> Result<(), Fault> {
     Ok(put_fault(out, refusal.word(), refusal.column())?)
 }
 
-/// A document, with `|` behind each line.
+// A document, with `|` behind each line.
 fn put_doc(alloc: Global, out: &mut Bytes, doc: &Doc) -> Result<(), AllocError>
     requires { IsValid doc.now }
 {
@@ -62,7 +62,7 @@ pub fn put_saved(alloc: Global, out: &mut Bytes, doc: &Doc) -> Result<(), AllocE
     put_lines(out, &text)
 }
 
-/// Lines, with `|` in the place of each line feed.
+// Lines, with `|` in the place of each line feed.
 fn put_lines(out: &mut Bytes, text: &Bytes) -> Result<(), AllocError> {
     for byte in text.slice() {
         out.push(if *byte == b'\n' { b'|' } else { *byte })?;

@@ -25,7 +25,7 @@ use std::alloc::{AllocError, Global};
 use std::marker::Brand;
 use std::sync::ledger::{Blank, Ledger};
 
-/// A document, and the script lines by which it is played.
+// A document, and the script lines by which it is played.
 #[derive(Drop)]
 struct Script {
     doc: Doc,
@@ -44,7 +44,7 @@ pub fn play(alloc: Global, words: &mut Words<'_>, out: &mut Bytes) -> Result<(),
     played::<Brand>(alloc, Blank::new(1), &script, out)
 }
 
-/// Plays a document by script lines, whose evaluations are counted.
+// Plays a document by script lines, whose evaluations are counted.
 fn played<L: Ledger>(
     alloc: Global,
     blank: Blank,
@@ -68,7 +68,7 @@ fn played<L: Ledger>(
     tell_times(alloc, out, &cells)
 }
 
-/// One order.
+// One order.
 fn take<L: Ledger>(cells: &mut PlainCells, order: Order, steps: &mut Steps<L>) -> Result<(), Fault>
     requires sound { cells.old.fault ≡ None }
     requires given { IsGiven order }
@@ -93,7 +93,7 @@ fn take<L: Ledger>(cells: &mut PlainCells, order: Order, steps: &mut Steps<L>) -
     }
 }
 
-/// A serial, which need not be a node's, or that of the node with an id.
+// A serial, which need not be a node's, or that of the node with an id.
 fn serial_of(tree: &Tree, who: &Who) -> Result<u32, Fault>
     ensures { IfOk result (λ serial. is_serial serial ≡ true) }
 {
@@ -107,7 +107,7 @@ fn serial_of(tree: &Tree, who: &Who) -> Result<u32, Fault>
     }
 }
 
-/// Plays on to a moment, which is not before the present one.
+// Plays on to a moment, which is not before the present one.
 fn settle<L: Ledger>(cells: &mut PlainCells, until: i64, steps: &mut Steps<L>) -> Result<(), Fault>
     requires { cells.old.fault ≡ None }
     ensures { OnOk result (cells.new.fault ≡ None) }
@@ -121,7 +121,7 @@ fn settle<L: Ledger>(cells: &mut PlainCells, until: i64, steps: &mut Steps<L>) -
     }
 }
 
-/// Hears what came from outside, where nothing is due and the log has room.
+// Hears what came from outside, where nothing is due and the log has room.
 fn hear<L: Ledger>(
     cells: &mut PlainCells,
     what: Happening,
@@ -141,7 +141,7 @@ fn hear<L: Ledger>(
     }
 }
 
-/// Whether something comes at the present moment.
+// Whether something comes at the present moment.
 fn is_due(cells: &PlainCells) -> bool
     requires { cells.now.fault ≡ None }
     ensures { result ≡ false → NothingBefore cells.now (pos cells.now.presentation.now +ℤ pos 1) }
@@ -159,8 +159,8 @@ fn refusal(fault: BookFault) -> Fault {
     }
 }
 
-/// The present moment, the clocks of the elements, and whether those that are made anew are the
-/// same.
+// The present moment, the clocks of the elements, and whether those that are made anew are the
+// same.
 fn tell_clocks(alloc: Global, out: &mut Bytes, cells: &PlainCells) -> Result<(), Fault> {
     let moment = cells.moment();
     if moment < 0 || moment > HORIZON {
@@ -186,14 +186,14 @@ fn tell_clocks(alloc: Global, out: &mut Bytes, cells: &PlainCells) -> Result<(),
     Ok(())
 }
 
-/// The clocks after the entries of the diary, made anew.
+// The clocks after the entries of the diary, made anew.
 fn clocks_anew(alloc: Global, past: &Past) -> Result<Clocks, AllocError> {
     past.possible();
     Clocks::of(alloc, past.tree(), past.book())
 }
 
-/// The instance times of the elements, which are made anew, and whether those that were kept are
-/// the same.
+// The instance times of the elements, which are made anew, and whether those that were kept are
+// the same.
 fn tell_times(alloc: Global, out: &mut Bytes, cells: &PlainCells) -> Result<(), Fault> {
     let moment = cells.moment();
     if moment < 0 || moment > HORIZON {
@@ -214,7 +214,7 @@ fn tell_times(alloc: Global, out: &mut Bytes, cells: &PlainCells) -> Result<(), 
     Ok(())
 }
 
-/// The instance times after the entries of the diary, made anew.
+// The instance times after the entries of the diary, made anew.
 fn instances_anew(alloc: Global, past: &Past) -> Result<Instances, AllocError> {
     past.possible();
     let tree = past.tree();
@@ -223,7 +223,7 @@ fn instances_anew(alloc: Global, past: &Past) -> Result<Instances, AllocError> {
     Ok(instances)
 }
 
-/// Appends a text behind what stands there.
+// Appends a text behind what stands there.
 fn put_text(out: &mut Bytes, text: &Bytes) -> Result<(), AllocError> {
     put_gap(out)?;
     out.append(text.slice())

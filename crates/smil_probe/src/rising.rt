@@ -20,7 +20,7 @@ pub fn times_rise(times: &[Time]) -> bool
     times.is_sorted_by(|a, b| is_at_most(*a, *b))
 }
 
-/// Whether a time is at most another.
+// Whether a time is at most another.
 fn is_at_most(a: Time, b: Time) -> bool
     ensures { result ≡ time_le a b }
 {

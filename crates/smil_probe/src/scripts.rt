@@ -39,7 +39,7 @@ fn put_read(out: &mut Bytes, read: &Read) -> Result<(), AllocError> {
     }
 }
 
-/// A word, and bytes behind it.
+// A word, and bytes behind it.
 fn put_named(out: &mut Bytes, word: &str, bytes: &Bytes) -> Result<(), AllocError> {
     put_word(out, word)?;
     put_bytes(out, bytes)
@@ -50,7 +50,7 @@ fn put_bytes(out: &mut Bytes, bytes: &Bytes) -> Result<(), AllocError> {
     out.append(bytes.slice())
 }
 
-/// A word, and a node as `#SERIAL` or by its id.
+// A word, and a node as `#SERIAL` or by its id.
 fn put_who(out: &mut Bytes, word: &str, who: &Who) -> Result<(), AllocError> {
     put_word(out, word)?;
     match who {
@@ -90,13 +90,13 @@ fn put_order(out: &mut Bytes, order: &Order) -> Result<(), AllocError> {
     }
 }
 
-/// A word, and a number.
+// A word, and a number.
 fn put_valued(out: &mut Bytes, word: &str, value: i64) -> Result<(), AllocError> {
     put_word(out, word)?;
     put_number(out, value)
 }
 
-/// An order that changes attributes or nodes.
+// An order that changes attributes or nodes.
 fn put_edit(out: &mut Bytes, order: &Order) -> Result<(), AllocError> {
     match order {
         Order::Set {

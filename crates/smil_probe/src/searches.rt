@@ -27,7 +27,7 @@ pub fn interval(alloc: Global, words: &mut Words<'_>, out: &mut Bytes) -> Result
     tell(out, &facts, begins.as_slice(), ends.as_slice())
 }
 
-/// The answers of the calls.
+// The answers of the calls.
 fn tell(out: &mut Bytes, facts: &Facts, begins: &[i64], ends: &[Time]) -> Result<(), Fault>
     requires begins_rise { IsRising begins.now }
     requires ends_rise { IsRisingTimes ends.now }
@@ -42,7 +42,7 @@ fn tell(out: &mut Bytes, facts: &Facts, begins: &[i64], ends: &[Time]) -> Result
     Ok(())
 }
 
-/// One evaluation, which is counted.
+// One evaluation, which is counted.
 fn evaluated<L: Ledger>(
     blank: Blank,
     facts: &Facts,
@@ -59,7 +59,7 @@ fn evaluated<L: Ledger>(
     evaluate(begins, ends, facts, &mut steps)
 }
 
-/// Numbers that are separated by commas, or `-` for none.
+// Numbers that are separated by commas, or `-` for none.
 fn begins(alloc: Global, word: &str) -> Result<Vec<i64>, Fault> {
     let mut begins = Vec::new(alloc);
     if word != "-" {
@@ -70,7 +70,7 @@ fn begins(alloc: Global, word: &str) -> Result<Vec<i64>, Fault> {
     Ok(begins)
 }
 
-/// Times that are separated by commas, or `-` for none.
+// Times that are separated by commas, or `-` for none.
 fn ends(alloc: Global, word: &str) -> Result<Vec<Time>, Fault> {
     let mut ends = Vec::new(alloc);
     if word != "-" {
@@ -99,7 +99,7 @@ fn facts(words: &mut Words<'_>) -> Result<Facts, Fault> {
     })
 }
 
-/// A play as `BEGIN,FIRST,START,ITERATION,SHIFT`, or `-` for none.
+// A play as `BEGIN,FIRST,START,ITERATION,SHIFT`, or `-` for none.
 fn play(word: &str) -> Result<Option<Play>, Fault> {
     if word == "-" {
         return Ok(None);
@@ -132,7 +132,7 @@ fn restart(word: &str) -> Result<Restart, Fault> {
     }
 }
 
-/// A repeat count in thousandths, `indefinite`, or `-` for none.
+// A repeat count in thousandths, `indefinite`, or `-` for none.
 fn count(word: &str) -> Result<Option<Count>, Fault> {
     match word {
         "-" => Ok(None),

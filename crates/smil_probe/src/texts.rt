@@ -20,7 +20,7 @@ pub fn clock(words: &mut Words<'_>, out: &mut Bytes) -> Result<(), Fault> {
     }
 }
 
-/// The printed spelling of a clock value.
+// The printed spelling of a clock value.
 fn spelling(value: i64, out: &mut Bytes) -> Result<(), Fault> {
     if value < 0 || value > HORIZON {
         return Err(Fault::Refused);

@@ -30,7 +30,7 @@ pub fn tree(alloc: Global, words: &mut Words<'_>, out: &mut Bytes) -> Result<(),
     put_tree(alloc, out, &editor.tree.copy()?)
 }
 
-/// The document of a tree, and its nodes.
+// The document of a tree, and its nodes.
 fn put_tree(alloc: Global, out: &mut Bytes, tree: &Tree) -> Result<(), Fault> {
     let doc = tree.doc_copy()?;
     put_saved(alloc, out, &doc)?;
@@ -44,9 +44,9 @@ fn put_tree(alloc: Global, out: &mut Bytes, tree: &Tree) -> Result<(), Fault> {
     Ok(())
 }
 
-/// A node: its serial and its place; its parent, its class and its time parent, or `-`; its span;
-/// its children behind `<` and its time children behind `>`; behind `:` the node that its id names,
-/// or `-`, and of an element its restart and its fill. `/` ends it.
+// A node: its serial and its place; its parent, its class and its time parent, or `-`; its span;
+// its children behind `<` and its time children behind `>`; behind `:` the node that its id names,
+// or `-`, and of an element its restart and its fill. `/` ends it.
 fn put_node(out: &mut Bytes, tree: &Tree, serial: u32) -> Result<(), AllocError>
     requires { IsSome (node_at tree.now.nodes serial) }
 {
@@ -68,7 +68,7 @@ fn put_node(out: &mut Bytes, tree: &Tree, serial: u32) -> Result<(), AllocError>
     put_word(out, "/")
 }
 
-/// The time children of a node, the last of them again, and `-` for the one behind it.
+// The time children of a node, the last of them again, and `-` for the one behind it.
 fn put_time_children(out: &mut Bytes, tree: &Tree, serial: u32) -> Result<(), AllocError>
     requires { IsSome (node_at tree.now.nodes serial) }
 {
@@ -81,7 +81,7 @@ fn put_time_children(out: &mut Bytes, tree: &Tree, serial: u32) -> Result<(), Al
     put_maybe(out, tree.time_child(serial, children.len()))
 }
 
-/// The node that the id of a node names, or `-` where it has none.
+// The node that the id of a node names, or `-` where it has none.
 fn put_named(out: &mut Bytes, tree: &Tree, serial: u32) -> Result<(), AllocError>
     requires { IsSome (node_at tree.now.nodes serial) }
 {
@@ -91,7 +91,7 @@ fn put_named(out: &mut Bytes, tree: &Tree, serial: u32) -> Result<(), AllocError
     }
 }
 
-/// The restart and the fill of an element.
+// The restart and the fill of an element.
 fn put_defaults(out: &mut Bytes, tree: &Tree, serial: u32) -> Result<(), AllocError>
     requires { IsSome (node_at tree.now.nodes serial) }
 {

@@ -44,7 +44,7 @@ fn facts(words: &mut Words<'_>) -> Result<ViewFacts, Fault> {
     })
 }
 
-/// Two numbers as `BEGIN,END`, or `-` for none.
+// Two numbers as `BEGIN,END`, or `-` for none.
 fn pair(word: &str) -> Result<Option<(i64, i64)>, Fault> {
     if word == "-" {
         return Ok(None);
@@ -64,14 +64,14 @@ fn fill(word: &str) -> Result<Fill, Fault> {
     }
 }
 
-/// Whether a number is from -10^13 to 10^13.
+// Whether a number is from -10^13 to 10^13.
 fn is_within(number: i64) -> bool
     ensures { result ≡ true → IsWithin number }
 {
     number.unsigned_abs() <= 10_000_000_000_000
 }
 
-/// Whether a time is such a number, or no number.
+// Whether a time is such a number, or no number.
 fn is_time_within(time: Time) -> bool
     ensures { result ≡ true → IsTimeWithin time }
 {
@@ -81,7 +81,7 @@ fn is_time_within(time: Time) -> bool
     }
 }
 
-/// Whether begin and end of an interval are so, where there is one.
+// Whether begin and end of an interval are so, where there is one.
 fn is_interval_within(interval: Option<Interval>) -> bool
     ensures { result ≡ true → ForSome interval
         (λ (i : GivenInterval). IsWithin i.begin × IsTimeWithin i.«end») }
@@ -92,7 +92,7 @@ fn is_interval_within(interval: Option<Interval>) -> bool
     }
 }
 
-/// Whether a number is so, where there is one.
+// Whether a number is so, where there is one.
 fn is_maybe_within(number: Option<i64>) -> bool
     ensures { result ≡ true → ForSome number IsWithin }
 {
@@ -102,7 +102,7 @@ fn is_maybe_within(number: Option<i64>) -> bool
     }
 }
 
-/// Whether two numbers are so, where they are there.
+// Whether two numbers are so, where they are there.
 fn is_pair_within(pair: Option<(i64, i64)>) -> bool
     ensures { result ≡ true → ForSome pair (λ (p : ℤ × ℤ). IsWithin p.0 × IsWithin p.1) }
 {
@@ -112,7 +112,7 @@ fn is_pair_within(pair: Option<(i64, i64)>) -> bool
     }
 }
 
-/// Whether each number among the facts of a view is so.
+// Whether each number among the facts of a view is so.
 fn are_within(facts: &ViewFacts) -> bool
     ensures { result ≡ true → HasNumbersWithin facts.now }
 {
@@ -128,7 +128,7 @@ fn are_within(facts: &ViewFacts) -> bool
     is_pair_within(facts.last) && is_within(facts.shift)
 }
 
-/// A node as `#SERIAL` or by its id.
+// A node as `#SERIAL` or by its id.
 fn who(alloc: Global, word: &str) -> Result<Who, Fault> {
     match word.strip_prefix('#') {
         Some(rest) => Ok(Who::Serial(natural(rest)?)),
@@ -136,7 +136,7 @@ fn who(alloc: Global, word: &str) -> Result<Who, Fault> {
     }
 }
 
-/// A time as it is shown.
+// A time as it is shown.
 fn shown(word: &str) -> Result<Shown, Fault> {
     match word {
         "-" => Ok(Shown::Nothing),
