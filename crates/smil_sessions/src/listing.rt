@@ -49,6 +49,7 @@ impl Listing {
         }
     }
 
+    // Does what a line asks for.
     fn follow(&mut self, alloc: Global, line: &str, told: &mut Bytes) -> Result<(), Fault> {
         if line.is_empty() || line.starts_with('#') {
             return Ok(());
@@ -76,6 +77,7 @@ impl Listing {
         self.finish(told)
     }
 
+    // Takes a session as the one that is being read.
     fn open(&mut self, session: Session) {
         self.open = Some(Open {
             line: self.lines,
@@ -83,6 +85,7 @@ impl Listing {
         });
     }
 
+    // Adds a line to the session that is being read.
     fn add(&mut self, alloc: Global, line: &str) -> Result<(), Fault> {
         let Some(open) = &mut self.open else {
             return Err(Fault::Refused);

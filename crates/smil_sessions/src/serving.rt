@@ -27,6 +27,7 @@ pub fn serve_session(
     }
 }
 
+// Serves a session whose input is read in pieces.
 fn serve_pieces(
     alloc: Global,
     words: &WordList,
@@ -41,6 +42,7 @@ fn serve_pieces(
     Ok(status)
 }
 
+// Serves a session that is read line by line.
 fn serve_turns(
     alloc: Global,
     words: &WordList,
