@@ -46,6 +46,7 @@ fn take(book: &mut Book, word: &str, out: &mut Bytes) -> Result<(), Fault> {
     }
 }
 
+// A step of an element, by the letter of its kind.
 fn step(kind: &str, who: u32) -> Result<Step, Fault> {
     match kind {
         "b" => Ok(Step::Began { who, begin: 0 }),
@@ -70,6 +71,7 @@ fn push(book: &mut Book, step: Step, out: &mut Bytes) -> Result<(), Fault> {
     }
 }
 
+// Leaves the first entries.
 fn cut_back(book: &mut Book, len: u32) -> Result<(), Fault> {
     let len = len as usize;
     if len > book.len() {
@@ -79,6 +81,7 @@ fn cut_back(book: &mut Book, len: u32) -> Result<(), Fault> {
     Ok(())
 }
 
+// Pushes so many begins, of the elements 0 to 999 in turn.
 fn fill(book: &mut Book, count: u32, out: &mut Bytes) -> Result<(), Fault> {
     for place in 0..count {
         let who = place % 1000;
@@ -103,6 +106,7 @@ fn readings(book: &Book, word: &str, out: &mut Bytes) -> Result<(), Fault> {
     Ok(())
 }
 
+// The last place of each kind of an element.
 fn lasts(book: &Book, who: u32, out: &mut Bytes) -> Result<(), AllocError> {
     for kind in KINDS {
         put_maybe(out, book.last(who, kind))?;

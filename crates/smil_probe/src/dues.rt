@@ -18,6 +18,7 @@ fn key(word: &str) -> Result<Key, Fault> {
     })
 }
 
+// The class of a key.
 fn class(word: &str) -> Result<u8, Fault> {
     word.parse::<u8>().ok().ok_or(Fault::Refused)
 }

@@ -27,6 +27,7 @@ pub fn decided(words: &mut Words<'_>, out: &mut Bytes) -> Result<(), Fault> {
     Ok(put_word(out, word)?)
 }
 
+// What a class does with a newcomer, by its word.
 fn act(word: &str) -> Result<Act, Fault> {
     match word {
         "stop" => Ok(Act::Stop),

@@ -38,6 +38,7 @@ pub fn document(alloc: Global, text: &str) -> Result<Doc, Fault>
     Ok(doc)
 }
 
+// A refusal, with the number of its line.
 fn refused(out: &mut Bytes, line: u64, refusal: Refusal) -> Result<(), Fault> {
     put_number(out, line)?;
     Ok(put_fault(out, refusal.word(), refusal.column())?)

@@ -152,6 +152,7 @@ fn is_due(cells: &PlainCells) -> bool
     }
 }
 
+// Why a step of the cells has no answer.
 fn refusal(fault: BookFault) -> Fault {
     match fault {
         BookFault::DiaryFull => Fault::Refused,

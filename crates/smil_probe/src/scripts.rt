@@ -27,6 +27,7 @@ pub fn script(alloc: Global, words: &mut Words<'_>, out: &mut Bytes) -> Result<(
     }
 }
 
+// What a line says.
 fn put_read(out: &mut Bytes, read: &Read) -> Result<(), AllocError> {
     match read {
         Read::Blank => Ok(()),
@@ -45,6 +46,7 @@ fn put_named(out: &mut Bytes, word: &str, bytes: &Bytes) -> Result<(), AllocErro
     put_bytes(out, bytes)
 }
 
+// Bytes behind what stands there.
 fn put_bytes(out: &mut Bytes, bytes: &Bytes) -> Result<(), AllocError> {
     put_gap(out)?;
     out.append(bytes.slice())
@@ -62,6 +64,7 @@ fn put_who(out: &mut Bytes, word: &str, who: &Who) -> Result<(), AllocError> {
     }
 }
 
+// An order to a presentation.
 fn put_order(out: &mut Bytes, order: &Order) -> Result<(), AllocError> {
     match order {
         Order::Advance { by } => put_valued(out, "advance", *by),

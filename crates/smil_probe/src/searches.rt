@@ -81,6 +81,7 @@ fn ends(alloc: Global, word: &str) -> Result<Vec<Time>, Fault> {
     Ok(ends)
 }
 
+// The facts of a search, field by field.
 fn facts(words: &mut Words<'_>) -> Result<Facts, Fault> {
     Ok(Facts {
         alive: words.flag()?,
@@ -114,6 +115,7 @@ fn play(word: &str) -> Result<Option<Play>, Fault> {
     }))
 }
 
+// An end list, by its word.
 fn end_list(word: &str) -> Result<EndList, Fault> {
     match word {
         "absent" => Ok(EndList::Absent),
@@ -123,6 +125,7 @@ fn end_list(word: &str) -> Result<EndList, Fault> {
     }
 }
 
+// A restart, by its word.
 fn restart(word: &str) -> Result<Restart, Fault> {
     match word {
         "always" => Ok(Restart::Always),

@@ -110,6 +110,7 @@ fn put_defaults(out: &mut Bytes, tree: &Tree, serial: u32) -> Result<(), AllocEr
     put_word(out, fill_word(tree.fill_of(serial)))
 }
 
+// The word of a fill.
 fn fill_word(fill: Fill) -> &'static str {
     match fill {
         Fill::Remove => "remove",

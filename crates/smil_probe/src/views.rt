@@ -23,6 +23,7 @@ pub fn viewed(words: &mut Words<'_>, out: &mut Bytes) -> Result<(), Fault> {
     Ok(())
 }
 
+// The facts of a view, field by field.
 fn facts(words: &mut Words<'_>) -> Result<ViewFacts, Fault> {
     Ok(ViewFacts {
         serial: words.natural()?,
@@ -55,6 +56,7 @@ fn pair(word: &str) -> Result<Option<(i64, i64)>, Fault> {
     Ok(Some((begin, end)))
 }
 
+// A fill, by its word.
 fn fill(word: &str) -> Result<Fill, Fault> {
     match word {
         "remove" => Ok(Fill::Remove),
@@ -147,6 +149,7 @@ fn shown(word: &str) -> Result<Shown, Fault> {
     }
 }
 
+// A state, by its word.
 fn state(word: &str) -> Result<State, Fault> {
     match word {
         "idle" => Ok(State::Idle),
@@ -234,6 +237,7 @@ pub fn refused(words: &mut Words<'_>, out: &mut Bytes) -> Result<(), Fault> {
     Ok(())
 }
 
+// A refusal, by its number.
 fn refusal(number: u32, column: u32) -> Result<Refusal, Fault> {
     let refusal = match number {
         1 => Refusal::LongLine,
