@@ -13,7 +13,7 @@ use Rattle.smil_model.specs.shown.Orders.{id_in, is_place}
 use Rattle.smil_tree.specs.declared.fault.TreeFault.{TreeFault}
 use Rattle.smil_tree.specs.declared.fault.TreeFault.TheVariants.{TooDeep, BadPlace, DuplicateId, TooManyElements, TooManyReferences, Root, Memory}
 
--- this fault is the outcome; want of memory may come with any
+-- this fault is the outcome, or memory ran out
 abbrev pub IsFaultOf : {A : Type 0} → Result A TreeFault → TreeFault → Type 0
 IsFaultOf outcome Memory = Unit {0}
 IsFaultOf outcome fault = outcome ≡ Err fault

@@ -6,8 +6,17 @@ use Rattle.std.specs.Char.{is_ascii_digit}
 use Rattle.std.specs.Int.{is_in_range}
 use Rattle.smil_model.specs.declared.limits.TheConstants.{ID_BYTES, EVENT_BYTES, ATTRIBUTE_BYTES}
 
+abbrev pub line_feed : ℕ
+line_feed = 10
+
+abbrev pub space : ℕ
+space = 32
+
 abbrev pub quote : ℕ
 quote = 34
+
+abbrev pub number_sign : ℕ
+number_sign = 35
 
 abbrev pub minus : ℕ
 minus = 45

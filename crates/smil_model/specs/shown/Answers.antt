@@ -126,7 +126,7 @@ pub record Accepts (formats : Formats) (before after : Presentation) (given : Or
   pub state : outcome formats before given ≡ Ok after
   pub answer : text ≡ answer_text formats before after given
 
--- an order is refused for its first fault, or for want of memory
+-- an order is refused for its first fault, or because memory ran out
 abbrev pub Refuses : Formats → Presentation → Order → Refusal → Type 0
 Refuses formats before given refusal = (refusal ≡ Memory) ⊎ (outcome formats before given ≡ Err refusal)
 
@@ -142,7 +142,7 @@ abbrev pub AtMost : Option ℕ → ℕ → Type 0
 AtMost None rise = Unit {0}
 AtMost (Some most) rise = rise ≤ most
 
--- a refusal for another cause than a full diary or want of memory evaluates nothing, where the player tells a bound
+-- a refusal for another cause than a full diary or memory that ran out evaluates nothing, where the player tells a bound
 abbrev pub MayEvaluate : Option ℕ → Refusal → ℕ → Type 0
 MayEvaluate None refusal rise = Unit {0}
 MayEvaluate (Some most) refusal rise = (refusal ≡ DiaryFull) ⊎ ((refusal ≡ Memory) ⊎ (rise ≡ 0))

@@ -18,18 +18,19 @@ use Rattle.smil_model.specs.declared.view.Shown.{Shown}
 use Rattle.smil_model.specs.declared.view.Shown.TheVariants as shown
 use Rattle.smil_model.specs.declared.view.View.{View}
 use Rattle.smil_model.specs.declared.view.How.{How}
+use Rattle.smil_model.specs.document.Words.{line_feed, number_sign, quote, space}
 use Rattle.smil_model.specs.declared.view.How.TheVariants as how
 
--- a line: its words, parted by single spaces, and a line feed
+-- a line: its words, separated by single spaces, and a line feed
 abbrev pub line_of : List (List ℕ) → List ℕ
-line_of [] = 10 ∷ []
-line_of (word ∷ []) = word ++ 10 ∷ []
-line_of (word ∷ next ∷ words) = word ++ 32 ∷ line_of (next ∷ words)
+line_of [] = line_feed ∷ []
+line_of (word ∷ []) = word ++ line_feed ∷ []
+line_of (word ∷ next ∷ words) = word ++ space ∷ line_of (next ∷ words)
 
 -- an element by its id, or by `#` and its serial
 abbrev pub reference_text : Who → List ℕ
 reference_text (Id id) = id
-reference_text (Serial serial) = 35 ∷ decimal serial
+reference_text (Serial serial) = number_sign ∷ decimal serial
 
 abbrev pub name_by : ℕ → Option (List ℕ) → Who
 name_by serial None = Serial serial
@@ -78,7 +79,7 @@ interval_line name begin finish how =
 
 -- an attribute that is set, with its value, and the set that gives it
 abbrev pub quoted : List ℕ → List ℕ
-quoted value = 34 ∷ value ++ 34 ∷ []
+quoted value = quote ∷ value ++ quote ∷ []
 
 abbrev pub value_line : Who → List ℕ → List ℕ → Who → List ℕ
 value_line target name value setter =
