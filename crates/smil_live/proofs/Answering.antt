@@ -18,7 +18,7 @@ use Rattle.smil_model.specs.document.Valid.{IsDistinct}
 use Rattle.smil_model.specs.shown.Answers.{change_text, diary_text, gone_text, history_text, name_in, stack_text, values_on, values_text}
 use Rattle.smil_model.specs.shown.Histories.{intervals_of}
 use Rattle.smil_model.specs.shown.Lines.{entry_line, gone_line, name_of, now_line, outline_end}
-use Rattle.smil_model.specs.shown.Orders.{Formats, Presentation, and_then, at_moment, found, gone, node_of, resolved_history, unless, views_of}
+use Rattle.smil_model.specs.shown.Orders.{Formats, Presentation, and_then, at_moment, found, node_of, resolved_history, unless, views_of, gone_elements}
 use Rattle.smil_model.specs.shown.Sandwich.{layers, stack_of}
 use Rattle.smil_model.specs.shown.Views.{view_of}
 use Rattle.smil_model.specs.interval.Current.{current_table, in_table}
@@ -79,7 +79,7 @@ not_each : (t : Node → Bool) (ns : List Node) → AllByRecursion (λ (n : Node
 not_each t [] each = tt
 not_each t (n ∷ ns) each = (ap not each.0, not_each t ns each.1)
 
-none_gone : (p : Presentation) → gone p p ≡ []
+none_gone : (p : Presentation) → gone_elements p p ≡ []
 none_gone p =
     let known = each_kept (λ (n : Node). IsSome (node_at p.document.nodes n.serial)) is_element p.document.nodes (found_each p.document.nodes) in
     filter_none (λ (n : Node). not (is_some (node_at p.document.nodes n.serial))) (elements p.document.nodes)

@@ -17,7 +17,7 @@ use Rattle.smil_model.specs.document.Values.{is_clock}
 use Rattle.smil_model.specs.shown.Histories.{Told, intervals_of}
 use Rattle.smil_model.specs.shown.Sandwich.{layers, stack_of, names_on}
 use Rattle.smil_model.specs.shown.Lines.{name_of, change_line, gone_line, interval_line, value_line, layer_line, outline_end, entry_line, now_line}
-use Rattle.smil_model.specs.shown.Orders.{Formats, Presentation, resolved_history, views_of, node_of, outcome, changes_of, changes_of_load, gone}
+use Rattle.smil_model.specs.shown.Orders.{Formats, Presentation, resolved_history, views_of, node_of, outcome, changes_of, changes_of_load, gone_elements}
 
 -- ---- the text
 
@@ -33,7 +33,7 @@ abbrev pub load_text : Presentation → List ℕ
 load_text loaded = flat_map (change_text loaded.document.nodes) (changes_of_load loaded)
 
 abbrev pub gone_text : Presentation → Presentation → List ℕ
-gone_text before after = flat_map (λ (n : Node). gone_line (pos after.now) (name_of n)) (gone before after)
+gone_text before after = flat_map (λ (n : Node). gone_line (pos after.now) (name_of n)) (gone_elements before after)
 
 abbrev pub history_text : Presentation → Option Node → List ℕ
 history_text p None = []

@@ -130,8 +130,8 @@ changes_of before after (Stack who name) = []
 changes_of before after _ = changes_between before after
 
 -- the elements that an order removed, in the old document order
-abbrev pub gone : Presentation → Presentation → List Node
-gone before after =
+abbrev pub gone_elements : Presentation → Presentation → List Node
+gone_elements before after =
     filter (λ (n : Node). not (is_some (node_at after.document.nodes n.serial))) (elements before.document.nodes)
 
 -- ---- refusals
