@@ -34,6 +34,7 @@ use Rattle.smil_outline.proofs.Ranging.{ranges}
 use Rattle.smil_tree.specs.declared.fault.TreeFault.{TreeFault}
 use Rattle.smil_tree.specs.Outcomes.{IsFaultOf, and_after, insert_outcome, may_bear, may_take, passes, place_outcome, remove_outcome, room_outcome, set_outcome}
 use Rattle.smil_tree.proofs.Keeping.{fits_at}
+use Rattle.smil_tree.proofs.ParentNodes.{parent_there}
 use Rattle.smil_live.specs.Editing.{IsRefusedBy, at_node}
 use Rattle.smil_live.specs.Refusing.{of_outcome, of_tree}
 use Rattle.smil_live.proofs.Editing.{fault_refuses, place_is, remove_is, room_is, set_is}
@@ -232,16 +233,6 @@ removed_at d s some =
 
 -- ---- the parent of a node
 
-parent_at : (nodes : List Node) (n : Node) (parent : ℕ) (o : Option Node) → node_at nodes n.parent ≡ o → Some parent ≡ serial_of o → node_at nodes parent ≡ o
-parent_at nodes n parent None at is = absurd cc
-parent_at nodes n parent (Some m) at is =
-    let same : parent ≡ m.serial = cc in
-    ap (λ t. node_at nodes t) (same ∙ find-serial n.parent nodes m at) ∙ at
-
-pub parent_there : (nodes : List Node) (s parent : ℕ) (n : Node) → node_at nodes s ≡ Some n → Some parent ≡ serial_of (parent_of nodes (node_at nodes s)) → node_at nodes parent ≡ node_at nodes n.parent
-parent_there nodes s parent n at is =
-    parent_at nodes n parent (node_at nodes n.parent) refl (is ∙ ap (λ (o : Option Node). serial_of (parent_of nodes o)) at)
-
 pub parent_known : (nodes : List Node) (s parent : ℕ) → Some parent ≡ serial_of (parent_of nodes (node_at nodes s)) → IsSome (node_at nodes parent)
 parent_known nodes s parent is = by_parent (parent_of nodes (node_at nodes s)) refl is
   where
@@ -254,10 +245,3 @@ parent_known nodes s parent is = by_parent (parent_of nodes (node_at nodes s)) r
         by_node (Some n) at =
             let there : node_at nodes n.parent ≡ Some m = ap (parent_of nodes) (sym at) ∙ e in
             some_from (node_at nodes parent) m (parent_there nodes s parent n at is ∙ there)
-
-pub no_parent : (nodes : List Node) (s : ℕ) (n : Node) → node_at nodes s ≡ Some n → None ≡ serial_of (parent_of nodes (node_at nodes s)) → None ≡ kind_of (node_at nodes n.parent)
-no_parent nodes s n at is = by_node (node_at nodes n.parent) (is ∙ ap (λ (o : Option Node). serial_of (parent_of nodes o)) at)
-  where
-    by_node : (o : Option Node) → None ≡ serial_of o → None ≡ kind_of o
-    by_node None h = refl
-    by_node (Some m) h = absurd cc

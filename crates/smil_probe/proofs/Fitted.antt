@@ -5,15 +5,13 @@ use Rattle.smil_model.specs.declared.document.Node.{Node}
 use Rattle.smil_model.specs.declared.document.Kind.{Kind}
 use Rattle.smil_model.specs.declared.document.Attr.{Attr}
 use Rattle.smil_model.specs.declared.document.Attrs.{Attrs}
-use Rattle.smil_model.specs.document.Document.{Document, node_at, serial_of}
+use Rattle.smil_model.specs.document.Document.{Document, node_at}
 use Rattle.smil_model.specs.document.Edits.{with_attr}
 use Rattle.smil_model.specs.document.Valid.{IsValid, kind_of}
 use Rattle.smil_model.specs.document.Values.{fit_kind, is_seq_parent}
-use Rattle.smil_model.specs.happening.Queue.{parent_of}
 use Rattle.smil_grammar.specs.Nodes.{attribute_of, node_of}
 use Rattle.smil_attrs.proofs.Kept.{with_stays}
 use Rattle.smil_attrs.proofs.Noded.{attribute_is, node_is}
-use Rattle.smil_laws.proofs.Rounds.{find-serial}
 use Rattle.smil_outline.proofs.Fitting.{fits}
 use Rattle.smil_outline.proofs.Ranging.{ranges}
 use Rattle.smil_tree.specs.Outcomes.{may_bear, may_take, passes}
@@ -57,22 +55,3 @@ may_bear_read nodes s parent kind line attrs some parent_is read =
     ap (λ (o : Option Node). passes (λ (m : Node). fit_kind kind (Some m.kind) attrs) o) p.at
     ∙ ap (λ (k : Kind). fit_kind kind (Some k) attrs) (sym own)
     ∙ ranges kind (Some parent) attrs (node_is (Some parent) line kind attrs read).1
-
--- ---- the parent of a node
-
-parent_at : (nodes : List Node) (n : Node) (parent : ℕ) (o : Option Node) → node_at nodes n.parent ≡ o → Some parent ≡ serial_of o → node_at nodes parent ≡ o
-parent_at nodes n parent None at is = absurd cc
-parent_at nodes n parent (Some m) at is =
-    let same : parent ≡ m.serial = cc in
-    ap (λ t. node_at nodes t) (same ∙ find-serial n.parent nodes m at) ∙ at
-
-pub parent_there : (nodes : List Node) (s parent : ℕ) (n : Node) → node_at nodes s ≡ Some n → Some parent ≡ serial_of (parent_of nodes (node_at nodes s)) → node_at nodes parent ≡ node_at nodes n.parent
-parent_there nodes s parent n at is =
-    parent_at nodes n parent (node_at nodes n.parent) refl (is ∙ ap (λ (o : Option Node). serial_of (parent_of nodes o)) at)
-
-pub no_parent : (nodes : List Node) (s : ℕ) (n : Node) → node_at nodes s ≡ Some n → None ≡ serial_of (parent_of nodes (node_at nodes s)) → None ≡ kind_of (node_at nodes n.parent)
-no_parent nodes s n at is = by_node (node_at nodes n.parent) (is ∙ ap (λ (o : Option Node). serial_of (parent_of nodes o)) at)
-  where
-    by_node : (o : Option Node) → None ≡ serial_of o → None ≡ kind_of o
-    by_node None h = refl
-    by_node (Some m) h = absurd cc

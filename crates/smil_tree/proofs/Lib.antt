@@ -2,6 +2,7 @@ pub mod Holding
 pub mod Results
 pub mod Tables
 pub mod Owners
+pub mod ParentNodes
 pub mod Making
 pub mod Changed
 pub mod Families

@@ -1,6 +1,7 @@
 use Rattle.std.proofs.Common.{ap, ◌∙◌}
 use Rattle.smil_model.specs.document.Valid.{kind_of}
-use Rattle.smil_live.proofs.Copying.{no_parent, parent_known, parent_there}
+use Rattle.smil_tree.proofs.ParentNodes.{no_parent, parent_there}
+use Rattle.smil_live.proofs.Copying.{parent_known}
 use Rattle.smil_live.proofs.copies.named.Goals as goal
 use Rattle.smil_live.proofs.copies.named.Goals.{in-Some, in-None}
 
