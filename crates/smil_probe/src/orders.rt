@@ -11,7 +11,7 @@ use smil_tree::Tree;
 use std::alloc::{AllocError, Global};
 
 /// An outline, and the orders behind its end `|%%|`.
-pub fn parted<'a>(text: &'a str) -> Result<(&'a str, &'a str), Fault> {
+pub fn outline_and_orders<'a>(text: &'a str) -> Result<(&'a str, &'a str), Fault> {
     text.split_once("|%%|").ok_or(Fault::Refused)
 }
 

@@ -8,7 +8,7 @@ ghost use Rattle.smil_model.specs.shown.Answers.{IsGiven};
 
 use super::case::{Fault, Words};
 use super::moments::{Present, put_clocks, put_instances};
-use super::orders::{lines_of, order_of, parted};
+use super::orders::{lines_of, order_of, outline_and_orders};
 use super::outlines::document;
 use super::printed::{put_flag, put_gap, put_number};
 use smil_cells::PlainCells;
@@ -36,7 +36,7 @@ struct Script {
 /// script lines whose orders are `advance`, `seek` to a later moment, `event`, `media` and `key`.
 /// In the end its clocks and its instance times are told.
 pub fn play(alloc: Global, words: &mut Words<'_>, out: &mut Bytes) -> Result<(), Fault> {
-    let (outline, orders) = parted(words.rest())?;
+    let (outline, orders) = outline_and_orders(words.rest())?;
     let script = Script {
         doc: document(alloc, outline)?,
         lines: lines_of(alloc, orders)?,

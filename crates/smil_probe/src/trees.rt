@@ -5,7 +5,7 @@ ghost use Rattle.smil_model.specs.document.Document.{node_at};
 
 use super::case::{Fault, Words};
 use super::edits::Editor;
-use super::orders::{is_known, lines_of, order_of, parted};
+use super::orders::{is_known, lines_of, order_of, outline_and_orders};
 use super::outlines::{document, put_saved};
 use super::printed::{put_maybe, put_number, put_serials, put_word};
 use smil_model::{Bytes, Duplicate, Fill, Restart, Who};
@@ -16,7 +16,7 @@ use std::alloc::{AllocError, Global};
 /// whose orders are `set`, `unset`, `insert` and `remove`. Each answers `ok`, the serial of the new
 /// node, or why it is refused; then comes the document with its serials, and each node.
 pub fn tree(alloc: Global, words: &mut Words<'_>, out: &mut Bytes) -> Result<(), Fault> {
-    let (outline, orders) = parted(words.rest())?;
+    let (outline, orders) = outline_and_orders(words.rest())?;
     let doc = document(alloc, outline)?;
     let mut editor = Editor {
         alloc,
