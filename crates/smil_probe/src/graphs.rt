@@ -21,10 +21,8 @@ fn put_graph(alloc: Global, out: &mut Bytes, doc: &Doc) -> Result<(), Fault>
     requires { IsValid doc.now }
 {
     let graph = Graph::of_doc(alloc, doc)?.copy()?;
-    for place in 0..doc.len() {
-        if let Some(node) = doc.get(place) {
-            put_node(alloc, out, &graph, node)?;
-        }
+    for node in doc.nodes() {
+        put_node(alloc, out, &graph, node)?;
     }
     Ok(())
 }

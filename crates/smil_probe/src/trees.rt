@@ -34,11 +34,9 @@ pub fn tree(alloc: Global, words: &mut Words<'_>, out: &mut Bytes) -> Result<(),
 fn put_tree(alloc: Global, out: &mut Bytes, tree: &Tree) -> Result<(), Fault> {
     let doc = tree.doc_copy()?;
     put_saved(alloc, out, &doc)?;
-    for place in 0..doc.len() {
-        if let Some(serial) = tree.serial_at(place) {
-            if is_known(tree, serial) {
-                put_node(out, tree, serial)?;
-            }
+    for node in doc.nodes() {
+        if is_known(tree, node.serial) {
+            put_node(out, tree, node.serial)?;
         }
     }
     Ok(())
