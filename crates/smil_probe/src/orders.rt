@@ -5,7 +5,7 @@ ghost use Rattle.smil_model.specs.document.Document.{node_at};
 ghost use Rattle.smil_model.specs.shown.Answers.{IsGiven};
 
 use super::case::Fault;
-use smil_model::{Bytes, Order, Who, WordList};
+use smil_model::{Bytes, Order, TEXT_BYTES, Who, WordList};
 use smil_script::{Read, read_line};
 use smil_tree::Tree;
 use std::alloc::{AllocError, Global};
@@ -28,7 +28,7 @@ pub fn lines_of(alloc: Global, orders: &str) -> Result<WordList, AllocError> {
 pub fn order_of(alloc: Global, line: &[u8]) -> Result<Option<Order>, Fault>
     ensures { IfOk result (λ order. IfSome order IsGiven) }
 {
-    if line.len() >= 2_147_483_648 {
+    if line.len() >= TEXT_BYTES {
         return Err(Fault::Refused);
     }
     match read_line(alloc, line)? {

@@ -2,14 +2,14 @@
 
 use super::case::{Fault, Words};
 use super::printed::{put_fault, put_gap, put_number, put_word};
-use smil_model::{Bytes, Order, Who};
+use smil_model::{Bytes, Order, TEXT_BYTES, Who};
 use smil_script::{Read, ends_load, is_blank, opens_load, read_line};
 use std::alloc::{AllocError, Global};
 
 /// `script LINE`: what a script line says.
 pub fn script(alloc: Global, words: &mut Words<'_>, out: &mut Bytes) -> Result<(), Fault> {
     let line = words.rest().as_bytes();
-    if line.len() >= 2_147_483_648 {
+    if line.len() >= TEXT_BYTES {
         return Err(Fault::Refused);
     }
     if is_blank(line) {
