@@ -1,8 +1,7 @@
 -- Printed clock values are read again, as values of attributes.
-use Rattle.std.proofs.Common.{◌≡◌, ℕ, ◌<◌, ◌≤◌, Bool, true, false, not, eqb, ltb, List, [], ◌∷◌, ◌++◌, length, Some, None, option_map, refl, ap, arith, decimal}
+use Rattle.std.proofs.Common.{◌≡◌, ℕ, ◌<◌, ◌≤◌, Bool, true, false, not, eqb, List, [], ◌∷◌, ◌++◌, length, Some, None, option_map, refl, ap, arith, decimal}
 use Rattle.std.specs.Prelude.{pos, codes, bytes_eq}
 use Rattle.std.specs.Char.{is_ascii_digit}
-use Rattle.std.proofs.lemmas.Bool.{le-ltb}
 use Rattle.std.proofs.lemmas.Bool.Decides.{nat_tests}
 use Rattle.std.proofs.lemmas.Fmt.{decimal_nonempty}
 use Rattle.smil_model.specs.declared.document.Dur.TheVariants as dur
@@ -14,7 +13,7 @@ use Rattle.smil_grammar.specs.Values.{above_zero, dur_of, time_of, repeat_dur_of
 use Rattle.smil_lexis.proofs.Fronts.{Passes, passes_weaker, passes_on}
 use Rattle.smil_lexis.proofs.Decimals.{decimal_passes}
 use Rattle.smil_lexis.proofs.Trims.{is_inked, untrimmed}
-use Rattle.smil_clock_value.proofs.Again.{written}
+use Rattle.smil_time_list.proofs.Spelled.{clock_read}
 
 other_byte : (b w : ℕ) → is_ascii_digit b ≡ true → is_ascii_digit w ≡ false → eqb b w ≡ false
 other_byte b w h k = grind (arith, nat_tests)
@@ -32,9 +31,6 @@ trimmed n le = untrimmed (clock_text n) (passes_on is_inked (decimal n) (codes "
 
 pub no_keyword : (n w : ℕ) (word : List ℕ) → n ≤ 1_000_000_000_000 → is_ascii_digit w ≡ false → bytes_eq (clock_text n) (w ∷ word) ≡ false
 no_keyword n w word le k = no_word (decimal n) (codes "ms") w word (decimal_nonempty n (omega arith)) (decimal_passes n (omega arith)) k
-
-pub clock_read : (n : ℕ) → n ≤ 1_000_000_000_000 → clock_within (clock_text n) ≡ Some n
-clock_read n le = let t : ltb 1_000_000_000_000 n ≡ false = le-ltb _ _ le in rw (written n le, t) refl
 
 pub dur_read : (n : ℕ) → n ≤ 1_000_000_000_000 → dur_of (clock_text n) ≡ Some (dur.Clock (pos n))
 dur_read n le = rw (no_keyword n 109 (codes "edia") le refl, no_keyword n 105 (codes "ndefinite") le refl, clock_read n le) refl

@@ -14,8 +14,9 @@ use Rattle.smil_grammar.specs.Values.{above_zero, short_number_of, thousandths, 
 use Rattle.smil_grammar.specs.Spellings.{decimals, count_text}
 use Rattle.smil_lexis.proofs.Fronts.{Passes, passes_weaker, passes_on, uncut, cut_front}
 use Rattle.smil_lexis.proofs.Decimals.{decimal_passes, number_of_decimal}
-use Rattle.smil_lexis.proofs.Digits.{nine_below}
+use Rattle.smil_lexis.proofs.Digits.{digit_below, nine_below}
 use Rattle.smil_lexis.proofs.Trims.{is_inked, untrimmed}
+use Rattle.smil_clock_value.proofs.Again.{no_point}
 use Rattle.smil_attrs.proofs.Clocks.{no_word, digit_inked}
 
 -- a number of thousandths that can be read: above 0, with at most 9 digits before the point
@@ -24,9 +25,6 @@ pub record IsCount (n : ℕ) : Type 0 where
   pub few : n < 1_000_000_000_000
 
 -- what is read
-
-digit_below : (b : ℕ) → is_ascii_digit b ≡ true → b - 48 ≤ 9
-digit_below b e = grind (arith, nat_tests)
 
 digits_of : (n : ℕ) (digits : List ℕ) → IfSome (number_after n digits) (λ m. Passes is_ascii_digit digits)
 digits_of n [] = tt
@@ -91,9 +89,6 @@ number_below text = all (with_fraction short_number_of 100 text) (parts_below te
 
 pub digit_printed : (a : ℕ) → a ≤ 9 → is_ascii_digit (48 + a) ≡ true
 digit_printed a le = grind (arith, nat_tests)
-
-no_point : (b : ℕ) → is_ascii_digit b ≡ true → not (eqb b point) ≡ true
-no_point b h = grind (arith, nat_tests)
 
 no_points : (n : ℕ) → n < 1_000_000_000 → Passes (λ b. not (eqb b point)) (decimal n)
 no_points n few = passes_weaker is_ascii_digit (λ b. not (eqb b point)) no_point (decimal n) (decimal_passes n (omega arith))

@@ -22,10 +22,10 @@ use Rattle.smil_grammar.specs.Values.{above_zero, dur_of, time_of, repeat_dur_of
 use Rattle.smil_grammar.specs.Spellings.{CanWrite, attr_at}
 use Rattle.smil_grammar.specs.Attributes.{has}
 use Rattle.smil_grammar.specs.Allowed.{name_of, IsAttr, IsAttrs}
-use Rattle.smil_time_list.proofs.Printable.{item_printable, can_write}
+use Rattle.smil_time_list.proofs.Printable.{item_printable, can_write, clock_small}
 use Rattle.smil_time_list.proofs.Listed.{list_is}
 use Rattle.smil_attrs.specs.Fits.{FitsClock, FitsDur, FitsTime, FitsAttr}
-use Rattle.smil_attrs.proofs.Readings.{clock_small, length_small, IsLength, number, both, word, value, any_value, listed}
+use Rattle.smil_attrs.proofs.Readings.{length_small, IsLength, number, both, word, value, any_value, listed}
 
 abbrev IsSmall : ℕ → Type 0
 IsSmall n = n ≤ 1_000_000_000_000

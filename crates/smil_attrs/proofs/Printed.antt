@@ -4,7 +4,7 @@ use Rattle.std.specs.Prelude.{codes, decimal, bytes_eq, option_and_then, IfSome}
 use Rattle.std.specs.Char.{is_ascii_digit}
 use Rattle.std.specs.List.{AllByRecursion, prefix_len, slice_split, list_all, list_any}
 use Rattle.std.specs.Str.{is_utf8, chars}
-use Rattle.std.proofs.lemmas.Bool.{and_parts}
+use Rattle.std.proofs.lemmas.Bool.{and_parts, or_parts, not-true}
 use Rattle.std.proofs.lemmas.List.{take_at, drop_at}
 use Rattle.std.proofs.lemmas.List.Elements.{All-from_recursion}
 use Rattle.std.proofs.lemmas.List.Splits.{slice_split_at}
@@ -82,11 +82,7 @@ lead_read place value name.To = refl
 -- pieces
 
 no_quote : (b : ℕ) → is_unquoted b ≡ true → eqb b quote ≡ false
-no_quote b h = clear (eqb b quote) h
-  where
-    clear : (t : Bool) → not t ≡ true → t ≡ false
-    clear false h = refl
-    clear true h = absurd cc
+no_quote b h = not-true (eqb b quote) h
 
 piece : (front rest : List ℕ) → Unquoted front → pieces_of (front ++ quote ∷ rest) ≡ front ∷ pieces_of rest
 piece front rest h = slice_split_at (λ b. eqb b quote) front quote rest (All-from_recursion (λ b. eqb b quote ≡ false) front (each front h)) refl
@@ -134,14 +130,6 @@ abbrev distinct : List AttrName → Bool
 distinct [] = true
 distinct (n ∷ ns) = not (list_any (same n) ns) && distinct ns
 
-or_parts : (a b : Bool) → (a || b) ≡ false → (a ≡ false) × (b ≡ false)
-or_parts false b e = (refl, e)
-or_parts true b e = absurd cc
-
-not_true : (a : Bool) → not a ≡ true → a ≡ false
-not_true false e = refl
-not_true true e = absurd cc
-
 absent : (values : AttrName → Option (List ℕ)) (n : AttrName) (place : ℕ) (ns : List AttrName) → list_any (same n) ns ≡ false → list_any (λ (other : Written). bytes_eq other.name (name_text n)) (written_from place values ns) ≡ false
 absent values n place [] e = refl
 absent values n place (m ∷ ns) e = one values n place m ns (values m) (or_parts (same n m) (list_any (same n) ns) e).0 (λ place. absent values n place ns (or_parts (same n m) (list_any (same n) ns) e).1)
@@ -154,7 +142,7 @@ absent values n place (m ∷ ns) e = one values n place m ns (values m) (or_part
 
 no_repeats : (values : AttrName → Option (List ℕ)) (place : ℕ) (ns : List AttrName) → distinct ns ≡ true → repeats (written_from place values ns) ≡ false
 no_repeats values place [] e = refl
-no_repeats values place (n ∷ ns) e = one values place n ns (values n) (not_true _ (and_parts _ _ e).0) (λ place. no_repeats values place ns (and_parts (not (list_any (same n) ns)) (distinct ns) e).1)
+no_repeats values place (n ∷ ns) e = one values place n ns (values n) (not-true _ (and_parts _ _ e).0) (λ place. no_repeats values place ns (and_parts (not (list_any (same n) ns)) (distinct ns) e).1)
   where
     one : (values : AttrName → Option (List ℕ)) (place : ℕ) (n : AttrName) (ns : List AttrName) (o : Option (List ℕ)) → list_any (same n) ns ≡ false
         → ((place : ℕ) → repeats (written_from place values ns) ≡ false)

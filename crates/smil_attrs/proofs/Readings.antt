@@ -1,22 +1,15 @@
 -- What holds of all that a text can be read as, part by part.
 use Rattle.std.proofs.Common.{◌≡◌, ℕ, ◌≤◌, Bool, true, false, cond, eqb, ltb, Option, Some, None, option_map, List, Result, Ok, Err, refl}
 use Rattle.std.specs.Prelude.{ℤ, pos, IfOk, IfSome}
-use Rattle.std.proofs.lemmas.Bool.{cond_both, ltb-false}
+use Rattle.std.proofs.lemmas.Bool.{cond_both}
 use Rattle.smil_model.specs.declared.document.Attr.{Attr}
 use Rattle.smil_model.specs.declared.document.Item.{Item}
 use Rattle.smil_grammar.specs.declared.fault.ListFault.{ListFault}
 use Rattle.smil_grammar.specs.declared.fault.ListFault.TheVariants as list
 use Rattle.smil_grammar.specs.Texts.{◌>>=◌}
-use Rattle.smil_grammar.specs.Clock.{clock_of}
-use Rattle.smil_grammar.specs.Clock.{within, clock_within}
+use Rattle.smil_grammar.specs.Clock.{clock_within}
 use Rattle.smil_grammar.specs.Values.{either, of_value, of_list, above_zero}
-
-small : (o : Option ℕ) → IfSome (o >>= within) (λ n. n ≤ 1_000_000_000_000)
-small None = tt
-small (Some n) = cond_both (ltb 1_000_000_000_000 n) None (Some n) (λ o. IfSome o (λ n. n ≤ 1_000_000_000_000)) (λ e. tt) (λ e. ltb-false _ _ e)
-
-pub clock_small : (text : List ℕ) → IfSome (clock_within text) (λ n. n ≤ 1_000_000_000_000)
-clock_small text = small (clock_of text)
+use Rattle.smil_time_list.proofs.Printable.{clock_small}
 
 -- a clock value above 0
 pub record IsLength (n : ℕ) : Type 0 where

@@ -48,10 +48,10 @@ use Rattle.smil_grammar.specs.Allowed.{name_of, IsAttr}
 use Rattle.smil_lexis.proofs.Fronts.{Passes, passes_weaker, passes_on}
 use Rattle.smil_lexis.proofs.Decimals.{decimal_passes}
 use Rattle.smil_lexis.proofs.Words.{IsWord, all_of_id}
-use Rattle.smil_time_list.proofs.Printable.{IsWho, Printable, item_printable}
+use Rattle.smil_time_list.proofs.Printable.{IsWho, Printable, item_printable, clock_small}
 use Rattle.smil_time_list.proofs.Spelled.{all_of_name, escaped_passes}
 use Rattle.smil_time_list.proofs.Listed.{list_is}
-use Rattle.smil_attrs.proofs.Readings.{clock_small, length_small, IsLength, number, both, word, value, any_value, listed}
+use Rattle.smil_attrs.proofs.Readings.{length_small, IsLength, number, both, word, value, any_value, listed}
 use Rattle.smil_attrs.proofs.Counts.{IsCount, number_below, digit_printed}
 use Rattle.smil_attrs.proofs.Words.{id_passes, is_of_attribute, attribute_name_passes}
 

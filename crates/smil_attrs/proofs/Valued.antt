@@ -35,10 +35,13 @@ use Rattle.smil_grammar.specs.Lists.{list_of, IsList}
 use Rattle.smil_grammar.specs.Values.{either, above_zero, short_number_of, thousandths, id_of, attribute_name_of, restart_default_of, fill_default_of, kept_of, dur_of, time_of, repeat_dur_of, count_of, restart_of, fill_of, endsync_of, peers_of, higher_of, lower_of, is_other_value, plain_value_of, value_of}
 use Rattle.smil_grammar.specs.Spellings.{attr_text, dur_text, time_text, count_text, endsync_text, act_text}
 use Rattle.smil_grammar.specs.Allowed.{name_of, IsAttr}
-use Rattle.smil_time_list.proofs.Listed.{list_is, list_read}
-use Rattle.smil_attrs.proofs.Readings.{clock_small, length_small, IsLength, number, both, word, value, any_value, listed}
-use Rattle.smil_attrs.proofs.Clocks.{trimmed, no_keyword, clock_read, dur_read, time_read, repeat_read}
+use Rattle.smil_time_list.proofs.Printable.{clock_small}
+use Rattle.smil_time_list.proofs.Spelled.{clock_read}
+use Rattle.smil_time_list.proofs.Listed.{list_read}
+use Rattle.smil_attrs.proofs.Readings.{length_small, IsLength, number, both, word, value, any_value, listed}
+use Rattle.smil_attrs.proofs.Clocks.{trimmed, no_keyword, dur_read, time_read, repeat_read}
 use Rattle.smil_attrs.proofs.Counts.{IsCount, number_below, count_read}
+use Rattle.smil_attrs.proofs.Kept.{lists}
 use Rattle.smil_attrs.proofs.Words.{id_whole, attribute_name_whole, kept_whole}
 
 -- a value is read again
@@ -84,12 +87,6 @@ count_again text = both CountAgain _ _ (word CountAgain (bytes_eq text (codes "i
     counted : (o : Option ℕ) → IfSome o IsCount → IfSome (option_map count.Thousandths o) CountAgain
     counted None h = tt
     counted (Some n) h = count_read n h
-
--- lists
-
-list_again : (in_seq : Bool) (text : List ℕ) (r : Result (List Item) ListFault) → list_of in_seq text ≡ r → IfOk r (IsList in_seq)
-list_again in_seq text (Ok items) e = list_is in_seq text items e
-list_again in_seq text (Err fault) e = tt
 
 -- words
 
@@ -158,9 +155,9 @@ endsync_again in_seq text media =
 
 plain_again : (in_seq : Bool) (n : AttrName) (text : List ℕ) → is_other_value n (trim text) ≡ false → IfOk (plain_value_of in_seq n text) (Again in_seq)
 plain_again in_seq name.Id text e = value attr.Id (λ id. (id_of id ≡ Some id) × (trim id ≡ id)) (Again in_seq) (λ id h. rw (h.0) refl) (id_of text) (id_whole text)
-plain_again in_seq name.Begin text e = listed attr.Begin (IsList in_seq) (Again in_seq) (λ items h. rw (list_read in_seq items h) refl) (list_of in_seq text) (list_again in_seq text _ refl)
+plain_again in_seq name.Begin text e = listed attr.Begin (IsList in_seq) (Again in_seq) (λ items h. rw (list_read in_seq items h) refl) (list_of in_seq text) (lists in_seq text _ refl)
 plain_again in_seq name.Dur text e = value attr.Dur DurAgain (Again in_seq) (λ d h. rw h refl) (dur_of (trim text)) (dur_again (trim text))
-plain_again in_seq name.End text e = listed attr.End (IsList false) (Again in_seq) (λ items h. rw (list_read false items h) refl) (list_of false text) (list_again false text _ refl)
+plain_again in_seq name.End text e = listed attr.End (IsList false) (Again in_seq) (λ items h. rw (list_read false items h) refl) (list_of false text) (lists false text _ refl)
 plain_again in_seq name.Min text e = value (λ n. attr.Min (pos n)) IsSmall (Again in_seq) (min_again in_seq) (clock_within (trim text)) (clock_small (trim text))
 plain_again in_seq name.Max text e = value attr.Max (MaxAgain in_seq) (Again in_seq) (λ t h. h) (time_of (trim text)) (max_again in_seq (trim text))
 plain_again in_seq name.RepeatCount text e = value attr.RepeatCount CountAgain (Again in_seq) (λ c h. rw h refl) (count_of (trim text)) (count_again (trim text))

@@ -10,7 +10,7 @@ use Rattle.smil_model.specs.declared.limits.TheConstants.{ID_BYTES}
 use Rattle.smil_grammar.specs.Words.{is_initial, is_of_id, is_of_name, word_len, short_len, id_len}
 use Rattle.smil_model.specs.document.Words.{is_word, is_attribute_name}
 use Rattle.smil_grammar.specs.Values.{id_of, kept_of, attribute_name_of}
-use Rattle.smil_lexis.proofs.Fronts.{Passes, passes_weaker}
+use Rattle.smil_lexis.proofs.Fronts.{Passes, tested, passes_weaker}
 use Rattle.smil_lexis.proofs.Words.{passes_taken, initial_of_id}
 use Rattle.smil_lexis.proofs.Trims.{is_inked, untrimmed}
 
@@ -50,15 +50,11 @@ initial_of_attribute b h = grind (arith, nat_tests)
 attribute_inked : (b : ℕ) → is_of_attribute b ≡ true → is_inked b ≡ true
 attribute_inked b h = grind (arith, nat_tests)
 
-all_of : (p : ℕ → Bool) (text : List ℕ) → list_all p text ≡ true → Passes p text
-all_of p [] e = tt
-all_of p (b ∷ text) e = let parts = and_parts (p b) (list_all p text) e in (parts.0, all_of p text parts.1)
-
 name_of_attribute : (text : List ℕ) → is_attribute_name text ≡ true → Passes is_of_attribute text
 name_of_attribute [] e = tt
 name_of_attribute (b ∷ text) e =
     let parts = and_parts (is_initial b) (list_all is_of_attribute text) (and_parts (is_word is_of_attribute (b ∷ text)) _ e).0 in
-    (initial_of_attribute b parts.0, all_of is_of_attribute text parts.1)
+    (initial_of_attribute b parts.0, tested is_of_attribute text parts.1)
 
 pub attribute_name_passes : (text : List ℕ) → IfSome (attribute_name_of text) (Passes is_of_attribute)
 attribute_name_passes text = cond_both (is_attribute_name text) (Some text) None (λ o. IfSome o (Passes is_of_attribute)) (λ e. name_of_attribute text e) (λ e. tt)

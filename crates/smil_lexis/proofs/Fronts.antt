@@ -1,6 +1,6 @@
 -- Texts whose bytes all pass a test, at the front of longer ones.
 use Rattle.std.proofs.Common.{◌≡◌, ℕ, ◌+◌, Bool, true, false, not, eqb, ltb, List, [], ◌∷◌, ◌++◌, length, drop, Some, None, refl, sym, ap, ◌∙◌, arith, length-append, append_assoc}
-use Rattle.std.specs.List.{AllByRecursion, prefix_len}
+use Rattle.std.specs.List.{AllByRecursion, prefix_len, list_all}
 use Rattle.std.specs.Char.{is_ascii_digit}
 use Rattle.std.specs.Str.{all_ascii_digits}
 use Rattle.std.proofs.lemmas.Bool.{le-ltb, lt-ltb, eq-eqb, not_from_true, and_parts}
@@ -10,6 +10,15 @@ use Rattle.smil_grammar.specs.Texts.{cut_at}
 -- each byte passes
 abbrev pub Passes : (ℕ → Bool) → List ℕ → Type 0
 Passes p text = AllByRecursion (λ b. p b ≡ true) text
+
+-- a text is tested byte by byte
+pub tested : (p : ℕ → Bool) (text : List ℕ) → list_all p text ≡ true → Passes p text
+tested p [] e = tt
+tested p (b ∷ text) e = let parts = and_parts (p b) (list_all p text) e in (parts.0, tested p text parts.1)
+
+pub tests_pass : (p : ℕ → Bool) (text : List ℕ) → Passes p text → list_all p text ≡ true
+tests_pass p [] h = refl
+tests_pass p (b ∷ text) h = rw (h.0, tests_pass p text h.1) refl
 
 pub passes_weaker : (p q : ℕ → Bool) → ((b : ℕ) → p b ≡ true → q b ≡ true) → (text : List ℕ) → Passes p text → Passes q text
 passes_weaker p q imply [] h = tt

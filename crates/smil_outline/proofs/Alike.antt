@@ -4,13 +4,14 @@ use mathlib.Core.Bool.{beq}
 use Rattle.std.specs.List.{slice_get}
 use Rattle.std.specs.Prelude.{OnOk, is_err}
 use Rattle.std.specs.List.{list_any}
-use Rattle.std.proofs.lemmas.Bool.{or_parts, ne_eqb}
+use Rattle.std.proofs.lemmas.Bool.{or_parts, or_left, or_right, ne_eqb}
 use Rattle.std.proofs.lemmas.List.Folds.{list_any-append}
 use Rattle.smil_model.specs.declared.document.Kind.{Kind}
 use Rattle.smil_model.specs.declared.document.Node.{Node}
 use Rattle.smil_grammar.specs.Results.{◌>>=◌}
 use Rattle.smil_grammar.specs.Outlines.{Outline, no_lines, differ, last_of, mixes, with_line, with_lines, with_node}
 use Rattle.smil_model.specs.declared.limits.TheConstants.{NODES}
+use Rattle.smil_laws.proofs.Lineages.{swap_eqb}
 use Rattle.smil_outline.specs.Kept.{differs, serial_of, is_known, AreAlike, AreKnown, IsKept, IsPlaced}
 use Rattle.smil_model.specs.declared.order.Refusal.{Refusal}
 use Rattle.smil_model.specs.document.Document.{is_class_kind}
@@ -73,17 +74,6 @@ one_child nodes n node last kind parent alike unmixed =
 pub other_serial : (nodes : List Node) (a b : ℕ) → is_known nodes a ≡ false → is_known nodes b ≡ true → eqb a b ≡ false
 other_serial nodes a b h k = ne_eqb _ _ (λ e. let same : is_known nodes a ≡ true = ap (is_known nodes) e ∙ k in cc)
 
-turned : (a b : ℕ) → eqb a b ≡ false → eqb b a ≡ false
-turned a b e = grind arith
-
-or_left : (a b : Bool) → a ≡ true → (a || b) ≡ true
-or_left true b h = refl
-or_left false b h = absurd cc
-
-or_right : (a b : Bool) → b ≡ true → (a || b) ≡ true
-or_right true b h = refl
-or_right false b h = h
-
 known_either : (a b c : Bool) → (a || b) ≡ true → (b ≡ true → c ≡ true) → (a || c) ≡ true
 known_either true b c h k = refl
 known_either false b c h k = k h
@@ -110,7 +100,7 @@ new_is_alike nodes n earlier parent serial = (
   record {
     known = known_self nodes n;
     once = refl;
-    alike = λ kind. no_child nodes n (n.serial, n.kind) kind false (turned n.serial n.parent (other_serial nodes n.serial n.parent serial parent)) (earlier n.serial kind n.kind serial);
+    alike = λ kind. no_child nodes n (n.serial, n.kind) kind false (swap_eqb n.serial n.parent (other_serial nodes n.serial n.parent serial parent)) (earlier n.serial kind n.kind serial);
   },
   tt,
 )
@@ -166,7 +156,7 @@ parent_known nodes (node ∷ below) (suc d) h = ap (λ (o : Option (ℕ × Kind)
 pub known_with : (nodes : List Node) (n : Node) → AreKnown nodes → is_known nodes n.parent ≡ true → AreKnown (nodes ++ n ∷ [])
 known_with nodes n earlier parent serial kind other unknown =
     let before : is_known nodes serial ≡ false = unknown_before nodes n serial unknown in
-    no_child nodes n (serial, other) kind false (turned serial n.parent (other_serial nodes serial n.parent before parent)) (earlier serial kind other before)
+    no_child nodes n (serial, other) kind false (swap_eqb serial n.parent (other_serial nodes serial n.parent before parent)) (earlier serial kind other before)
 
 pub alike_with : (nodes : List Node) (branch : List (ℕ × Kind)) (d : ℕ) (n : Node) → AreKnown nodes → AreAlike nodes branch → d ≤ length branch
     → is_known nodes n.serial ≡ false → n.parent ≡ serial_of (last_of (take d branch)) → is_known nodes n.parent ≡ true → mixes nodes (last_of (take d branch)) n.kind ≡ false

@@ -46,12 +46,12 @@ use Rattle.smil_lexis.proofs.Fronts.{passes_all, passes_weaker}
 use Rattle.smil_lexis.proofs.Trims.{is_inked, untrimmed}
 use Rattle.smil_lexis.proofs.Words.{IsWord, all_of_id}
 use Rattle.smil_time_list.proofs.Printable.{IsEventName, IsWho, Printable}
-use Rattle.smil_time_list.proofs.Spelled.{item_read}
+use Rattle.smil_time_list.proofs.Spelled.{item_read, clock_read}
 use Rattle.smil_time_list.proofs.Listed.{list_read}
-use Rattle.smil_attrs.proofs.Clocks.{trimmed, no_keyword, clock_read, dur_read, time_read, repeat_read}
+use Rattle.smil_attrs.proofs.Clocks.{trimmed, no_keyword, dur_read, time_read, repeat_read}
 use Rattle.smil_attrs.proofs.Counts.{count_read}
 use Rattle.smil_attrs.proofs.Unquoted.{tested}
-use Rattle.smil_attrs.proofs.Words.{attribute_name_whole}
+use Rattle.smil_attrs.proofs.Words.{id_inked, attribute_name_whole}
 
 -- words
 
@@ -235,9 +235,6 @@ lower_fits in_seq act.Never h = (codes "never", refl)
 
 id_fits : (in_seq : Bool) (text : List ℕ) → is_id text ≡ true → IsAttr in_seq (attr.Id text)
 id_fits in_seq text h = (text, rw (id_read text h) refl)
-
-id_inked : (b : ℕ) → is_of_id b ≡ true → is_inked b ≡ true
-id_inked b h = grind (arith, nat_tests)
 
 endsync_fits : (in_seq : Bool) (e : Endsync) → is_endsync e ≡ true → IsAttr in_seq (attr.Endsync e)
 endsync_fits in_seq endsync.Last h = (codes "last", refl)

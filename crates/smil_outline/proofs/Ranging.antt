@@ -4,7 +4,6 @@ use Rattle.std.specs.Prelude.{ℤ, pos, negsuc, codes, bytes_eq, IfOk, IfSome, I
 use Rattle.std.specs.List.{AllByRecursion, prefix_len, list_all}
 use Rattle.std.proofs.lemmas.Bool.{and_parts, not-true, not_from_true, le-leb, lt-ltb, ltb-false, eqb-true, cond_both}
 use Rattle.std.proofs.lemmas.Bool.Decides.{nat_tests}
-use Rattle.std.proofs.lemmas.List.{take_all}
 use Rattle.std.proofs.lemmas.List.Elements.{recursion_from_All}
 use Rattle.smil_model.specs.declared.document.Kind.{Kind}
 use Rattle.smil_model.specs.declared.document.Kind.TheVariants as kind
@@ -29,7 +28,6 @@ use Rattle.smil_model.specs.document.Document.{is_class_kind, is_set_kind}
 use Rattle.smil_model.specs.document.Words.{is_initial, is_of_name, is_of_id, is_word, is_id, is_event_name, is_attribute_name, is_kept_text}
 use Rattle.smil_model.specs.document.Values.{absent_or, is_clock, is_offset, is_item, is_list, is_plain_begin, is_begin, is_dur, is_bound, is_positive_bound, is_count, is_endsync, is_higher, is_lower, has_endsync, has_class_attrs, has_set_attrs, has_media_attrs, has_element_attrs, are_element_values, is_seq_parent, fit_kind}
 use Rattle.smil_grammar.specs.declared.fault.AttrFault.{AttrFault}
-use Rattle.smil_grammar.specs.declared.fault.ListFault.{ListFault}
 use Rattle.smil_grammar.specs.Texts.{◌>>=◌, trim}
 use Rattle.smil_model.specs.declared.limits.TheConstants.{ID_BYTES}
 use Rattle.smil_grammar.specs.Words.{short_len, id_len}
@@ -40,19 +38,16 @@ use Rattle.smil_grammar.specs.Lists.{is_plain, list_of, IsList}
 use Rattle.smil_grammar.specs.Values.{either, above_zero, short_number_of, thousandths, id_of, attribute_name_of, restart_default_of, fill_default_of, kept_of, dur_of, time_of, repeat_dur_of, count_of, restart_of, fill_of, endsync_of, peers_of, higher_of, lower_of, is_other_value, plain_value_of, value_of}
 use Rattle.smil_grammar.specs.Spellings.{IsWithin}
 use Rattle.smil_grammar.specs.Allowed.{name_of, IsAttr, IsAttrs}
-use Rattle.smil_lexis.proofs.Fronts.{Passes}
-use Rattle.smil_lexis.proofs.Words.{IsWord, passes_taken}
-use Rattle.smil_time_list.proofs.Printable.{IsEventName, IsWho, Printable, item_printable}
-use Rattle.smil_time_list.proofs.Listed.{list_is}
-use Rattle.smil_attrs.proofs.Readings.{clock_small, length_small, IsLength, number, both, word, value, any_value, listed}
+use Rattle.smil_lexis.proofs.Fronts.{tests_pass}
+use Rattle.smil_lexis.proofs.Words.{IsWord}
+use Rattle.smil_time_list.proofs.Printable.{IsEventName, IsWho, Printable, item_printable, clock_small}
+use Rattle.smil_attrs.proofs.Readings.{length_small, IsLength, number, both, word, value, any_value, listed}
 use Rattle.smil_attrs.proofs.Counts.{IsCount, number_below}
+use Rattle.smil_attrs.proofs.Kept.{lists}
+use Rattle.smil_attrs.proofs.Words.{all_passes}
 use Rattle.smil_outline.proofs.Fitting.{IsInRange}
 
 -- words
-
-tests_pass : (p : ℕ → Bool) (text : List ℕ) → Passes p text → list_all p text ≡ true
-tests_pass p [] h = refl
-tests_pass p (b ∷ text) h = rw (h.0, tests_pass p text h.1) refl
 
 word_ranged : (p : ℕ → Bool) (text : List ℕ) → IsWord p text → (is_word p text && leb (length text) 64) ≡ true
 word_ranged p [] h = absurd h
@@ -61,15 +56,12 @@ word_ranged p (b ∷ bytes) h = let short : leb (length (b ∷ bytes)) 64 ≡ tr
 event_ranged : (text : List ℕ) → IsEventName text → is_event_name text ≡ true
 event_ranged text h = rw (word_ranged is_of_name text h.word, h.not_begin, h.not_end, h.not_repeat, h.not_indefinite) refl
 
-all_pass : (p : ℕ → Bool) (text : List ℕ) → prefix_len p text ≡ length text → Passes p text
-all_pass p text e = let all : take (prefix_len p text) text ≡ text = take_all (prefix_len p text) text (omega arith) in subst (Passes p) all (passes_taken p text)
-
 whole_ranged : (text : List ℕ) → eqb (length text) 0 ≡ false → id_len false text ≡ length text → is_id text ≡ true
 whole_ranged [] some e = absurd cc
 whole_ranged (b ∷ bytes) some e =
     cond_both (is_initial b) (1 + prefix_len is_of_id bytes) 0 (λ n. short_len ID_BYTES n n ≡ length (b ∷ bytes) → is_id (b ∷ bytes) ≡ true)
     (λ i k. cond_both (ltb 64 (1 + prefix_len is_of_id bytes)) 0 (1 + prefix_len is_of_id bytes) (λ n. n ≡ length (b ∷ bytes) → is_id (b ∷ bytes) ≡ true)
-    (λ t m. absurd (omega arith)) (λ t m. word_ranged is_of_id (b ∷ bytes) (i, all_pass is_of_id bytes (omega arith), omega (arith, ltb-false _ _ t))) k)
+    (λ t m. absurd (omega arith)) (λ t m. word_ranged is_of_id (b ∷ bytes) (i, all_passes is_of_id bytes (omega arith), omega (arith, ltb-false _ _ t))) k)
     (λ i k. absurd (none b bytes k)) e
   where
     none : (b : ℕ) (bytes : List ℕ) → short_len ID_BYTES 0 0 ≡ length (b ∷ bytes) → ⊥
@@ -139,10 +131,6 @@ plain_ranged (Indefinite ∷ items) h = absurd cc
 begin_ranged : (in_seq : Bool) (items : List Item) → IsList in_seq items → is_begin in_seq items ≡ true
 begin_ranged false items h = rw (list_ranged false items h) refl
 begin_ranged true items h = rw (list_ranged true items h, plain_ranged items (h.plain refl)) refl
-
-lists_are : (in_seq : Bool) (text : List ℕ) (r : Result (List Item) ListFault) → list_of in_seq text ≡ r → IfOk r (IsList in_seq)
-lists_are in_seq text (Ok items) e = list_is in_seq text items e
-lists_are in_seq text (Err fault) e = tt
 
 -- clock values and times
 
@@ -231,9 +219,9 @@ endsync_ranged text media =
 
 any : (in_seq : Bool) (n : AttrName) (text : List ℕ) → is_other_value n (trim text) ≡ false → IfOk (plain_value_of in_seq n text) (IsInRange in_seq)
 any in_seq name.Id text e = value attr.Id IsId (IsInRange in_seq) (λ x h. h) (id_of text) (id_ranged text)
-any in_seq name.Begin text e = listed attr.Begin (IsList in_seq) (IsInRange in_seq) (begin_ranged in_seq) (list_of in_seq text) (lists_are in_seq text _ refl)
+any in_seq name.Begin text e = listed attr.Begin (IsList in_seq) (IsInRange in_seq) (begin_ranged in_seq) (list_of in_seq text) (lists in_seq text _ refl)
 any in_seq name.Dur text e = value attr.Dur DurIs (IsInRange in_seq) (λ x h. h) (dur_of (trim text)) (dur_ranged (trim text))
-any in_seq name.End text e = listed attr.End (IsList false) (IsInRange in_seq) (list_ranged false) (list_of false text) (lists_are false text _ refl)
+any in_seq name.End text e = listed attr.End (IsList false) (IsInRange in_seq) (list_ranged false) (list_of false text) (lists false text _ refl)
 any in_seq name.Min text e = value (λ n. attr.Min (pos n)) IsSmall (IsInRange in_seq) clock_ranged (clock_within (trim text)) (clock_small (trim text))
 any in_seq name.Max text e = value attr.Max TimeIs (IsInRange in_seq) (λ x h. h) (time_of (trim text)) (time_ranged (trim text))
 any in_seq name.RepeatCount text e = value attr.RepeatCount CountIs (IsInRange in_seq) (λ x h. h) (count_of (trim text)) (count_ranged (trim text))

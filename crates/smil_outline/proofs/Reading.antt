@@ -2,7 +2,7 @@
 use Rattle.std.proofs.Common.{◌≡◌, ℕ, zero, suc, ◌+◌, ◌*◌, ◌<◌, ◌≤◌, Bool, true, false, not, eqb, ltb, leb, ◌&&◌, ◌||◌, List, [], ◌∷◌, ◌++◌, length, take, drop, replicate, flat_map, Option, Some, None, option_map, is_some, Result, Ok, Err, refl, ap, ◌∙◌, arith, append_assoc}
 use Rattle.std.specs.Prelude.{◌/◌, ◌%◌, unwrap_or, sum_by, codes, bytes_eq}
 use Rattle.std.specs.List.{prefix_len}
-use Rattle.std.proofs.lemmas.Bool.{le-ltb, lt-leb, ne_eqb}
+use Rattle.std.proofs.lemmas.Bool.{and_right, le-ltb, lt-leb, ne_eqb}
 use Rattle.smil_model.specs.declared.limits.TheConstants.{NODES, DEPTH, REFERENCES, LINE_BYTES}
 use Rattle.smil_model.specs.declared.document.Kind.{Kind}
 use Rattle.smil_model.specs.declared.document.Kind.TheVariants as kind
@@ -95,14 +95,10 @@ no_header kind.TextStream text = other_word 116 (codes "extstream" ++ text) refl
 no_header kind.Ref text = other_word 114 (codes "ef" ++ text) refl refl
 no_header kind.Set text = other_word 115 (codes "et" ++ text) refl refl
 
-and_none : (a b : Bool) → b ≡ false → (a && b) ≡ false
-and_none true b e = e
-and_none false b e = refl
-
 pub plain_opens_none : (outline : Outline) (depth : ℕ) (k : Kind) (attrs : Attrs) → opens_saved outline (node_text depth k attrs) ≡ false
 plain_opens_none outline depth k attrs =
     let text : List ℕ = flat_map (λ n. attribute_text n (value_text attrs n)) names in
-    and_none (not (is_some outline.next) && eqb (length outline.nodes) 0) _
+    and_right (not (is_some outline.next) && eqb (length outline.nodes) 0) _
     (ap (λ (n : ℕ). bytes_eq (take (prefix_len is_no_space (drop n (node_text depth k attrs))) (drop n (node_text depth k attrs))) (codes "outline")) (line_spaces depth k attrs)
     ∙ ap (λ (rest : List ℕ). bytes_eq (take (prefix_len is_no_space rest) rest) (codes "outline")) (line_text depth k attrs) ∙ no_header k text)
 

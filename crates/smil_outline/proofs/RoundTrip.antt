@@ -3,7 +3,7 @@ use Rattle.std.proofs.Common.{◌≡◌, ℕ, zero, suc, ◌+◌, ◌<◌, ◌�
 use Rattle.std.specs.Prelude.{decimal, unwrap_or, sum_by, bytes_eq, filter, All, slice_get}
 use Rattle.std.specs.List.{list_any, list_all, AllByRecursion}
 use Rattle.std.proofs.lemmas.Bool.{and_parts, or_parts, eqb-true, eq-eqb, ltb-true, lt-ltb, le-ltb, ne_eqb, cond_both}
-use Rattle.std.proofs.lemmas.List.{reverse-append, length-reverse, take_all, take-append-le, append-nil}
+use Rattle.std.proofs.lemmas.List.{reverse-append, reverse-reverse, length-reverse, take_all, take-append-le, append-nil}
 use Rattle.std.proofs.lemmas.List.Sums.{sum_by-cons}
 use Rattle.std.proofs.lemmas.List.Folds.{list_any-append}
 use Rattle.std.proofs.lemmas.List.Elements.{recursion_from_All}
@@ -28,10 +28,11 @@ use Rattle.smil_grammar.specs.Items.{count_of}
 use Rattle.smil_grammar.specs.Nodes.{Shape, shape_of, saved_shape_of}
 use Rattle.smil_model.specs.declared.limits.TheConstants.{LINE_BYTES}
 use Rattle.smil_grammar.specs.Outlines.{Outline, mixes, differ, has_id as has_id_among, counted, references, last_of, depth_among, lines_from, saved_lines_from, no_lines, with_header, with_line, with_lines, ended, outline_of}
+use Rattle.smil_laws.proofs.Reached.{any_reverse}
 use Rattle.smil_outline.specs.Numbered.{number_of, renumbered}
 use Rattle.smil_outline.specs.Written.{saved_lines}
 use Rattle.smil_outline.proofs.Depths.{map_on, length_map, get_or_behind}
-use Rattle.smil_outline.proofs.Walks.{depths_back, IsWalked, next_depth, walk_on, walk_starts, depth_is}
+use Rattle.smil_outline.proofs.Walks.{depths_back, all_at, IsWalked, next_depth, walk_on, walk_starts, depth_is}
 use Rattle.smil_outline.proofs.Fitting.{fits}
 use Rattle.smil_attrs.proofs.Noded.{shape_from, shape_is, plain_shape, saved_shape}
 use Rattle.smil_outline.proofs.Reading.{IsRoom, made, IsShaped, line_spaces, line_text, saved_spaces, saved_line_text, plain_opens_none, line_read}
@@ -52,10 +53,6 @@ none_at p (m ∷ front) n rest e = none_at p front n rest (or_parts (p m) (list_
 pub all_front : (p : Node → Bool) (front back : List Node) → list_all p (front ++ back) ≡ true → list_all p front ≡ true
 all_front p [] back e = refl
 all_front p (m ∷ front) back e = let parts = and_parts (p m) (list_all p (front ++ back)) e in rw (parts.0, all_front p front back parts.1) refl
-
-all_at : (p : Node → Bool) (front : List Node) (n : Node) (rest : List Node) → list_all p (front ++ n ∷ rest) ≡ true → p n ≡ true
-all_at p [] n rest e = (and_parts (p n) (list_all p rest) e).0
-all_at p (m ∷ front) n rest e = all_at p front n rest (and_parts (p m) (list_all p (front ++ n ∷ rest)) e).1
 
 some_front : (p : Node → Bool) (front back : List Node) → list_any p front ≡ true → list_any p (front ++ back) ≡ true
 some_front p front back e = list_any-append p front back ∙ rw e refl
@@ -276,16 +273,6 @@ among_some (m ∷ before) serial depth e = by m before serial depth (has_serial 
     by m before serial depth true t e other = rw t refl
     by m before serial depth false t e other = let rest : depth_among (depths_back before) serial ≡ suc depth = rw t at e in rw t (other rest)
 
-some_back : (p : Node → Bool) (before : List Node) → list_any p before ≡ true → list_any p (reverse before) ≡ true
-some_back p [] e = absurd cc
-some_back p (m ∷ before) e =
-    ap (list_any p) (reverse-append (m ∷ []) before) ∙ list_any-append p (reverse before) (m ∷ []) ∙ by (p m) (list_any p before) (list_any p (reverse before)) e (some_back p before)
-  where
-    by : (t others back : Bool) → (t || others) ≡ true → (others ≡ true → back ≡ true) → (back || (t || false)) ≡ true
-    by true others false e other = refl
-    by true others true e other = refl
-    by false others back e other = rw (other e) refl
-
 no_zero : (nodes : List Node) (next : ℕ) → AllByRecursion (λ (n : Node). (0 < n.serial) × (n.serial < next)) nodes → list_any (has_serial 0) nodes ≡ false
 no_zero [] next h = refl
 no_zero (n ∷ nodes) next h = let some : eqb n.serial 0 ≡ false = ne_eqb _ _ (λ e. omega (arith, h.0.0)) in rw (some, no_zero nodes next h.1) refl
@@ -298,7 +285,7 @@ below number nodes is before (s ∷ above) n rest walked all none agree =
     let kept = opens (s ∷ above) n.parent walked.tree.0 in
     let depth : depth_among (depths_back before) n.parent ≡ suc (length kept.0) = next_depth before (s ∷ above) n rest walked ∙ ap (λ (xs : List ℕ). length xs) kept.1 in
     let there : list_any (has_serial n.parent) nodes ≡ true =
-    subst (λ (xs : List Node). list_any (has_serial n.parent) xs ≡ true) (sym all) (some_front (has_serial n.parent) (reverse before) (n ∷ rest) (some_back (has_serial n.parent) before (among_some before n.parent (length kept.0) depth))) in
+    subst (λ (xs : List Node). list_any (has_serial n.parent) xs ≡ true) (sym all) (some_front (has_serial n.parent) (reverse before) (n ∷ rest) (any_reverse (has_serial n.parent) before (among_some before n.parent (length kept.0) depth))) in
     let front = all_front (λ (m : Node). not (eqb m.parent n.parent) || same_test (is_class_kind m.kind) (is_class_kind n.kind)) (reverse before) (n ∷ rest)
     (subst (λ (xs : List Node). list_all (λ (m : Node). not (eqb m.parent n.parent) || same_test (is_class_kind m.kind) (is_class_kind n.kind)) xs ≡ true) all agree) in
     subst (λ (opened : List ℕ). IsBelow number nodes (map (new number) (reverse before)) n (branch_of number nodes opened)) (sym kept.1) (child_below number nodes is (reverse before) n kept.0 there front)
@@ -364,10 +351,6 @@ saved_shaped nodes branch next depth serial k attrs short some under few new h =
       fresh = rw (below, new) refl;
     }
 
-turned_twice : (nodes : List Node) → reverse (reverse nodes) ≡ nodes
-turned_twice [] = refl
-turned_twice (n ∷ nodes) = ap (λ (xs : List Node). reverse xs) (reverse-append (n ∷ []) nodes) ∙ reverse-append (reverse nodes) (n ∷ []) ∙ ap (λ (xs : List Node). n ∷ xs) (turned_twice nodes)
-
 -- what a valid document says of a node behind others
 record IsSound (nodes before : List Node) (n : Node) : Type 0 where
   flat : depth_among (depths_back before) n.parent < 32
@@ -385,7 +368,7 @@ sound document valid before n rest all distinct =
     let deep = and_parts (ltb (depth_of nodes n.serial) 32) (may_stand (kind_of (node_with nodes n.parent)) n.kind) last.0 in
     let low : depth_of nodes n.serial < 32 = ltb-true _ _ deep.0 in
     let depth : depth_of nodes n.serial ≡ depth_among (depths_back before) n.parent =
-    ap (λ (xs : List Node). depth_of xs n.serial) all ∙ depth_is (reverse before) n rest distinct ∙ ap (λ (xs : List Node). depth_among (depths_back xs) n.parent) (turned_twice before) in
+    ap (λ (xs : List Node). depth_of xs n.serial) all ∙ depth_is (reverse before) n rest distinct ∙ ap (λ (xs : List Node). depth_among (depths_back xs) n.parent) (reverse-reverse before) in
     record {
       flat = omega arith;
       stand = deep.1;

@@ -3,6 +3,7 @@ use Rattle.std.proofs.Common.{◌≡◌, ℕ, zero, suc, ◌+◌, ◌<◌, ◌||
 use Rattle.std.specs.List.{slice_get, sum_by, list_any}
 use Rattle.smil_model.specs.declared.document.Node.{Node}
 use Rattle.smil_model.specs.document.Document.{Document, with_node, serials}
+use Rattle.smil_laws.proofs.Ranks.{serials_length}
 use Rattle.std.proofs.lemmas.List.{take_more, take_at}
 use Rattle.std.proofs.lemmas.List.Sums.{sum_by_push}
 use Rattle.std.proofs.lemmas.Option.{slice_get_within, get_or_from_slice_get}
@@ -35,9 +36,5 @@ pub serials_on : (nodes : List Node) (node : Node) → serials (nodes ++ node �
 serials_on [] node = refl
 serials_on (n ∷ nodes) node = ap (λ (others : List ℕ). n.serial ∷ others) (serials_on nodes node)
 
-serials_len : (nodes : List Node) → length (serials nodes) ≡ length nodes
-serials_len [] = refl
-serials_len (n ∷ nodes) = omega (arith, serials_len nodes)
-
 pub serials_back : (nodes : List Node) (own : List ℕ) (serial : ℕ) → own ≡ serials nodes → take (length nodes) (own ++ serial ∷ []) ≡ serials nodes
-serials_back nodes own serial e = ap (λ (xs : List ℕ). take (length nodes) (xs ++ serial ∷ [])) e ∙ take_at (serials nodes) (serial ∷ []) (length nodes) (serials_len nodes)
+serials_back nodes own serial e = ap (λ (xs : List ℕ). take (length nodes) (xs ++ serial ∷ [])) e ∙ take_at (serials nodes) (serial ∷ []) (length nodes) (serials_length nodes)

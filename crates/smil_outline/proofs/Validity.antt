@@ -4,7 +4,7 @@ use Rattle.std.specs.Prelude.{◌/◌, ◌%◌, unwrap_or, option_and_then, sum_
 use Rattle.std.specs.Bool.{nat_eq}
 use Rattle.std.specs.Char.{is_ascii_digit}
 use Rattle.std.specs.List.{prefix_len, list_any, list_all, starts_with, AllByRecursion}
-use Rattle.std.proofs.lemmas.Bool.{and_parts, or_parts, eq-eqb, eqb-true, lt-ltb, ltb-true, leb-false, ltb-false, not-false, ne_eqb, cond_both}
+use Rattle.std.proofs.lemmas.Bool.{and_parts, and_right, or_parts, or_right, eq-eqb, eqb-true, lt-ltb, ltb-true, leb-false, ltb-false, not-false, ne_eqb, cond_both}
 use Rattle.std.proofs.lemmas.Bool.Decides.{nat_tests}
 use Rattle.std.proofs.lemmas.List.{reverse-append, take-append-drop}
 use Rattle.std.proofs.lemmas.List.Elements.{All-from_recursion}
@@ -28,6 +28,7 @@ use Rattle.smil_grammar.specs.Nodes.{Shape, is_space, is_of_kind, shape_of, with
 use Rattle.smil_model.specs.declared.limits.TheConstants.{NODES, DEPTH, REFERENCES, SERIALS, LINE_BYTES}
 use Rattle.smil_model.specs.document.Limits.{limits}
 use Rattle.smil_time_list.proofs.Printable.{IsCounted, count_small}
+use Rattle.smil_laws.proofs.Lineages.{swap_eqb}
 use Rattle.smil_outline.specs.Kept.{is_known, IsRead}
 use Rattle.smil_outline.proofs.Alike.{other_serial, known_on, known_self}
 use Rattle.smil_grammar.specs.Outlines.{Outline, unless, in_line, mixes, differ, has_id as has_id_among, references, attrs_in, last_of, no_lines, shape_in, is_bad_serial, is_misplaced, opens_saved, header_of, with_header, node_within, shape_within, read_within, with_line, with_lines, ended, outline_of}
@@ -178,13 +179,10 @@ find_on : (nodes : List Node) (x : Node) (serial : ℕ) → eqb x.serial serial 
 find_on [] x serial e = rw e refl
 find_on (m ∷ nodes) x serial e = ap (cond (eqb m.serial serial) (Some m)) (find_on nodes x serial e)
 
-turned_on : (nodes : List Node) (x : Node) → reverse (nodes ++ x ∷ []) ≡ x ∷ reverse nodes
-turned_on nodes x = reverse-append nodes (x ∷ [])
-
 depth_on : (nodes : List Node) (x : Node) (serial : ℕ) → eqb x.serial serial ≡ false → depth_of (nodes ++ x ∷ []) serial ≡ depth_of nodes serial
 depth_on nodes x serial e =
     let skipped : lineage_up (x ∷ reverse nodes) serial ≡ lineage_up (reverse nodes) serial = rw e refl in
-    ap (λ (back : List Node). length (drop 1 (lineage_up back serial))) (turned_on nodes x) ∙ ap (λ (line : List Node). length (drop 1 line)) skipped
+    ap (λ (back : List Node). length (drop 1 (lineage_up back serial))) (reverse-append nodes (x ∷ [])) ∙ ap (λ (line : List Node). length (drop 1 line)) skipped
 
 all_on : (p : Node → Bool) (nodes : List Node) (x : Node) → list_all p nodes ≡ true → p x ≡ true → list_all p (nodes ++ x ∷ []) ≡ true
 all_on p [] x h k = rw k refl
@@ -193,9 +191,6 @@ all_on p (m ∷ nodes) x h k = let parts = and_parts (p m) (list_all p nodes) h 
 none_on : (p : Node → Bool) (nodes : List Node) (x : Node) → list_any p nodes ≡ false → p x ≡ false → list_any p (nodes ++ x ∷ []) ≡ false
 none_on p [] x h k = rw k refl
 none_on p (m ∷ nodes) x h k = let parts = or_parts (p m) (list_any p nodes) h in rw (parts.0, none_on p nodes x parts.1 k) refl
-
-eqb_turned : (a b : ℕ) → eqb a b ≡ false → eqb b a ≡ false
-eqb_turned a b e = grind (arith, nat_tests)
 
 all_snoc : {A : Type 0} (P : A → Type 0) (xs : List A) (x : A) → AllByRecursion P xs → P x → AllByRecursion P (xs ++ x ∷ [])
 all_snoc P [] x h k = (k, tt)
@@ -211,7 +206,7 @@ distinct_on : (nodes : List Node) (x : Node) → IsDistinct nodes → list_any (
 distinct_on [] x h e = (refl, tt)
 distinct_on (n ∷ nodes) x h e =
     let parts = or_parts (eqb n.serial x.serial) (list_any (λ (m : Node). eqb m.serial x.serial) nodes) e in
-    (none_on (λ (m : Node). eqb m.serial n.serial) nodes x h.0 (eqb_turned n.serial x.serial parts.0), distinct_on nodes x h.1 parts.1)
+    (none_on (λ (m : Node). eqb m.serial n.serial) nodes x h.0 (swap_eqb n.serial x.serial parts.0), distinct_on nodes x h.1 parts.1)
 
 abbrev pub next_of : Outline → ℕ
 next_of outline = unwrap_or outline.next (length outline.nodes + 1)
@@ -296,10 +291,6 @@ other_id : (id : List ℕ) (own : Option (List ℕ)) → ((x : List ℕ) → own
 other_id id None h = refl
 other_id id (Some own) h = bytes_turned id own (h own refl)
 
-and_none : (a b : Bool) → b ≡ false → (a && b) ≡ false
-and_none true b e = e
-and_none false b e = refl
-
 -- the id of a new node is none of the others'
 abbrev IsFree : List Node → Option (List ℕ) → Type 0
 IsFree nodes own = has_id_among nodes own ≡ false
@@ -315,7 +306,7 @@ new_free nodes serial (Some own) h = each nodes serial own h
     each [] serial own h = refl
     each (m ∷ nodes) serial own h =
         let parts = or_parts (bytes_eq (unwrap_or m.attrs.id []) own) (list_any (λ (n : Node). bytes_eq (unwrap_or n.attrs.id []) own) nodes) h in
-        rw (and_none (not (eqb m.serial serial)) (has_id own m.attrs.id) (no_id_of own m parts.0), each nodes serial own parts.1) refl
+        rw (and_right (not (eqb m.serial serial)) (has_id own m.attrs.id) (no_id_of own m parts.0), each nodes serial own parts.1) refl
 
 taken_on : (nodes : List Node) (x : Node) (serial : ℕ) (own : Option (List ℕ)) → is_id_taken nodes serial own ≡ false → ((id : List ℕ) → own ≡ Some id → is_other_with serial id x ≡ false) → is_id_taken (nodes ++ x ∷ []) serial own ≡ false
 taken_on nodes x serial None h k = refl
@@ -330,7 +321,7 @@ record IsNext (nodes : List Node) (x : Node) (m : Node) : Type 0 where
 
 id_apart : (nodes : List Node) (x m : Node) → IsNext nodes x m → (id : List ℕ) → m.attrs.id ≡ Some id → is_other_with m.serial id x ≡ false
 id_apart nodes x m next id e =
-    and_none (not (eqb x.serial m.serial)) (has_id id x.attrs.id)
+    and_right (not (eqb x.serial m.serial)) (has_id id x.attrs.id)
     (other_id id x.attrs.id (λ own k. subst (λ (o : Option (List ℕ)). bytes_eq (unwrap_or o []) own ≡ false) e (next.free own k)))
 
 stays : (nodes : List Node) (x m : Node) → IsNext nodes x m → IsSettled nodes m → IsSettled (nodes ++ x ∷ []) m
@@ -392,7 +383,7 @@ not_among s c (d ∷ closed_nodes) above e = not_among s c closed_nodes above (o
 opens_at : (nodes : List Node) (s : ℕ) (closed_nodes above : List ℕ) → AreOnce nodes (closed_nodes ++ s ∷ above) → open_from s (closed_nodes ++ s ∷ above) ≡ s ∷ above
 opens_at nodes s [] above h = let own : eqb s s ≡ true = eq-eqb _ _ refl in rw own refl
 opens_at nodes s (c ∷ closed_nodes) above h =
-    let other : eqb c s ≡ false = eqb_turned s c (not_among s c closed_nodes above h.1) in
+    let other : eqb c s ≡ false = swap_eqb s c (not_among s c closed_nodes above h.1) in
     rw other (opens_at nodes s closed_nodes above h.2)
 
 stands_in : (s : ℕ) (closed_nodes above : List ℕ) → list_any (λ t. eqb t s) (closed_nodes ++ s ∷ above) ≡ true
@@ -409,7 +400,7 @@ fresh_for nodes x (s ∷ above) new h = let other : eqb x.serial s ≡ false = o
 
 none_open : (nodes : List Node) (serial : ℕ) (xs : List ℕ) → is_known nodes serial ≡ false → AreOnce nodes xs → list_any (λ t. eqb t serial) xs ≡ false
 none_open nodes serial [] new h = refl
-none_open nodes serial (s ∷ above) new h = let other : eqb s serial ≡ false = eqb_turned serial s (other_serial nodes serial s new h.0) in rw (other, none_open nodes serial above new h.2) refl
+none_open nodes serial (s ∷ above) new h = let other : eqb s serial ≡ false = swap_eqb serial s (other_serial nodes serial s new h.0) in rw (other, none_open nodes serial above new h.2) refl
 
 none_yet : (nodes : List Node) (serial : ℕ) → is_known nodes serial ≡ false → list_any (λ (m : Node). eqb m.serial serial) nodes ≡ false
 none_yet nodes serial h = (or_parts (eqb serial 0) (list_any (λ (m : Node). eqb m.serial serial) nodes) h).1
@@ -434,109 +425,6 @@ same_of false false h = refl
 same_self : (a : Bool) → same_test a a ≡ true
 same_self true = refl
 same_self false = refl
-
-or_true : (a b : Bool) → b ≡ true → (a || b) ≡ true
-or_true true b e = refl
-or_true false b e = e
-
-record AreAlike (nodes : List Node) (parent : ℕ) (k : Kind) : Type 0 where
-  before : list_all (λ (m : Node). not (eqb m.parent parent) || same_test (is_class_kind m.kind) (is_class_kind k)) nodes ≡ true
-  behind : list_all (λ (m : Node). not (eqb parent m.parent) || same_test (is_class_kind k) (is_class_kind m.kind)) nodes ≡ true
-
-all_alike : (nodes : List Node) (parent : ℕ) (k : Kind) → list_any (λ (m : Node). eqb m.parent parent && differ (is_class_kind m.kind) (is_class_kind k)) nodes ≡ false → AreAlike nodes parent k
-all_alike [] parent k h = record { before = refl; behind = refl }
-all_alike (m ∷ nodes) parent k h =
-    let parts = or_parts (eqb m.parent parent && differ (is_class_kind m.kind) (is_class_kind k)) (list_any (λ (m : Node). eqb m.parent parent && differ (is_class_kind m.kind) (is_class_kind k)) nodes) h in
-    let one = each m parent k (eqb m.parent parent) refl parts.0 in
-    let others = all_alike nodes parent k parts.1 in
-    record { before = rw (one.0, others.before) refl; behind = rw (one.1, others.behind) refl }
-  where
-    each : (m : Node) (parent : ℕ) (k : Kind) (t : Bool) → eqb m.parent parent ≡ t → (eqb m.parent parent && differ (is_class_kind m.kind) (is_class_kind k)) ≡ false
-        → ((not (eqb m.parent parent) || same_test (is_class_kind m.kind) (is_class_kind k)) ≡ true) × ((not (eqb parent m.parent) || same_test (is_class_kind k) (is_class_kind m.kind)) ≡ true)
-    each m parent k true t h =
-        let same : differ (is_class_kind m.kind) (is_class_kind k) ≡ false = rw t at h in
-        (or_true (not (eqb m.parent parent)) _ (same_of (is_class_kind m.kind) (is_class_kind k) same), or_true (not (eqb parent m.parent)) _ (same_turned (is_class_kind m.kind) (is_class_kind k) same))
-    each m parent k false t h = let back : eqb parent m.parent ≡ false = eqb_turned m.parent parent t in (rw t refl, rw back refl)
-
-rest_of : (before : List Node) (open_nodes : List ℕ) (x : Node) → list_any (λ s. eqb s x.parent) open_nodes ≡ true → IsRest before open_nodes (x ∷ [])
-rest_of before [] x e = absurd cc
-rest_of before (s ∷ above) x e = (e, tt)
-
-limit_on : (nodes : List Node) (x : Node) (next : Option ℕ) → unwrap_or next (length nodes + 1) ≤ SERIALS → length nodes < NODES → unwrap_or next (length (nodes ++ x ∷ []) + 1) ≤ SERIALS
-limit_on nodes x None h few = omega (arith, length-append nodes (x ∷ []))
-limit_on nodes x (Some next) h few = h
-
-tree_grows : (nodes : List Node) (open_nodes kept : List ℕ) (x : Node) → IsTreeTo nodes open_nodes → list_any (λ s. eqb s x.parent) open_nodes ≡ true → kept ≡ open_from x.parent open_nodes → IsTreeTo (nodes ++ x ∷ []) (x.serial ∷ kept)
-tree_grows [] open_nodes kept x h e k = let none : list_any (λ s. eqb s x.parent) [] ≡ true = subst (λ (xs : List ℕ). list_any (λ s. eqb s x.parent) xs ≡ true) h e in absurd cc
-tree_grows (root ∷ nodes) open_nodes kept x h e k =
-    let there : list_any (λ s. eqb s x.parent) (after (root.serial ∷ []) nodes) ≡ true = subst (λ (xs : List ℕ). list_any (λ s. eqb s x.parent) xs ≡ true) h.2 e in
-    (h.0, tree_on (root.serial ∷ []) nodes x h.1 there, ap (λ (xs : List ℕ). x.serial ∷ xs) (k ∙ ap (open_from x.parent) h.2) ∙ sym (after_on (root.serial ∷ []) nodes x))
-
-got : {A : Type 0} (P : A → Type 0) (xs : List A) (i : ℕ) (p : A) → AllByRecursion P xs → slice_get xs i ≡ Some p → P p
-got P [] i p h e = absurd cc
-got P (x ∷ xs) zero p h e = let same : x ≡ p = cc in subst P same h.0
-got P (x ∷ xs) (suc i) p h e = got P xs i p h.1 e
-
-all_taken : {A : Type 0} (P : A → Type 0) (n : ℕ) (xs : List A) → AllByRecursion P xs → AllByRecursion P (take n xs)
-all_taken P zero xs h = tt
-all_taken P (suc n) [] h = tt
-all_taken P (suc n) (x ∷ xs) h = (h.0, all_taken P n xs h.1)
-
-apart : (branch : List (ℕ × Kind)) (depth : ℕ) → upwards branch ≡ upwards (drop depth branch) ++ upwards (take depth branch)
-apart branch depth =
-    ap upwards (sym (take-append-drop depth branch)) ∙ ap (λ (xs : List ℕ). reverse xs) (map_on (λ (m : ℕ × Kind). m.0) (take depth branch) (drop depth branch)) ∙ reverse-append (map (λ (m : ℕ × Kind). m.0) (take depth branch)) (map (λ (m : ℕ × Kind). m.0) (drop depth branch))
-
-put_at : (nodes : List Node) (branch : List (ℕ × Kind)) (next : Option ℕ) (depth serial : ℕ) (k : Kind) (attrs : Attrs) → IsReadable (record { nodes = nodes; branch = branch; next = next }) → is_known nodes serial ≡ false → depth ≤ length branch → IsRoom nodes (take depth branch) k attrs
-    → IsPut nodes branch (take depth branch) (made serial (take depth branch) k attrs)
-put_at [] branch next zero serial k attrs r new near room = record {
-  serial = new;
-  parent = refl;
-  kept = sym (ap (open_from 0) r.tree);
-  rest = subst (λ (xs : List ℕ). IsRest [] xs (made serial [] k attrs ∷ [])) (sym r.tree) (refl, (refl, tt));
-  tree = (refl, tt, refl);
-  kind = refl;
-  alike_before = refl;
-  alike_behind = refl;
-}
-put_at (n ∷ nodes) branch next zero serial k attrs r new near room = let few : length (n ∷ nodes) ≤ 0 = ltb-false _ _ room.single_root in absurd (omega arith)
-put_at nodes branch next (suc d) serial k attrs r new near room =
-    let above = take (suc d) branch in
-    let here = level branch (suc d) (omega arith) near in
-    let p : ℕ × Kind = here.node in
-    let tail = upwards (take (suc d - 1) branch) in
-    let x = made serial above k attrs in
-    let parent : x.parent ≡ p.0 = ap (λ (o : Option (ℕ × Kind)). unwrap_or (option_map (λ (n : ℕ × Kind). n.0) o) 0) here.last in
-    let all : upwards branch ≡ upwards (drop (suc d) branch) ++ p.0 ∷ tail = apart branch (suc d) ∙ ap (λ (xs : List ℕ). upwards (drop (suc d) branch) ++ xs) here.up in
-    let once = subst (AreOnce nodes) all r.once in
-    let there : list_any (λ s. eqb s x.parent) (upwards branch) ≡ true = subst (λ (q : ℕ). list_any (λ s. eqb s q) (upwards branch) ≡ true) (sym parent) (subst (λ (xs : List ℕ). list_any (λ s. eqb s p.0) xs ≡ true) (sym all) (stands_in p.0 (upwards (drop (suc d) branch)) tail)) in
-    let kept : upwards above ≡ open_from x.parent (upwards branch) =
-    here.up ∙ sym (opens_at nodes p.0 (upwards (drop (suc d) branch)) tail once) ∙ ap (open_from p.0) (sym all) ∙ ap (λ (q : ℕ). open_from q (upwards branch)) (sym parent) in
-    let known : kind_of (node_with nodes p.0) ≡ Some p.1 =
-    got (λ (b : ℕ × Kind). kind_of (node_with nodes b.0) ≡ Some b.1) above (length above - 1) p (all_taken (λ (b : ℕ × Kind). kind_of (node_with nodes b.0) ≡ Some b.1) (suc d) branch r.kinds) here.last in
-    let unmixed : mixes nodes (Some p) k ≡ false = subst (λ (o : Option (ℕ × Kind)). mixes nodes o k ≡ false) here.last room.unmixed in
-    let alike_all = subst (λ (q : ℕ). AreAlike nodes q k) (sym parent) (all_alike nodes p.0 k unmixed) in
-    record {
-      serial = new;
-      parent = ap (is_known nodes) parent ∙ once_to nodes p.0 (upwards (drop (suc d) branch)) tail once;
-      kept = kept;
-      rest = rest_of (reverse nodes) (upwards branch) x there;
-      tree = tree_grows nodes (upwards branch) (upwards above) x r.tree there kept;
-      kind = ap (option_map (λ (n : ℕ × Kind). n.1)) here.last ∙ sym known ∙ ap (λ (q : ℕ). kind_of (node_with nodes q)) (sym parent);
-      alike_before = alike_all.before;
-      alike_behind = alike_all.behind;
-    }
-
--- ---- one line more
-
-all_stay : (nodes : List Node) (x : Node) → is_known nodes x.serial ≡ false → (own : List Node) → AllByRecursion (IsSettled nodes) own
-    → list_all (λ (m : Node). not (eqb x.parent m.parent) || same_test (is_class_kind x.kind) (is_class_kind m.kind)) own ≡ true
-    → ((id : List ℕ) → x.attrs.id ≡ Some id → list_any (λ (n : Node). bytes_eq (unwrap_or n.attrs.id []) id) own ≡ false) → AllByRecursion (IsSettled (nodes ++ x ∷ [])) own
-all_stay nodes x serial [] h agree free = tt
-all_stay nodes x serial (m ∷ own) h agree free =
-    let parts = and_parts (not (eqb x.parent m.parent) || same_test (is_class_kind x.kind) (is_class_kind m.kind)) (list_all (λ (m : Node). not (eqb x.parent m.parent) || same_test (is_class_kind x.kind) (is_class_kind m.kind)) own) agree in (
-      stays nodes x m (record { serial = serial; agree = parts.0; free = λ id e. (or_parts (bytes_eq (unwrap_or m.attrs.id []) id) (list_any (λ (n : Node). bytes_eq (unwrap_or n.attrs.id []) id) own) (free id e)).0 }) h.0,
-      all_stay nodes x serial own h.1 parts.1 (λ id e. (or_parts (bytes_eq (unwrap_or m.attrs.id []) id) (list_any (λ (n : Node). bytes_eq (unwrap_or n.attrs.id []) id) own) (free id e)).1),
-    )
 
 same_sums : (nodes : List Node) → sum_by (λ (n : Node). references n.attrs) nodes ≡ sum_by references_of nodes
 same_sums [] = refl
@@ -563,7 +451,7 @@ new_settled nodes branch above x walked put fit =
       parent = known_on nodes x x.parent put.parent;
       flat = lt-ltb _ _ (omega (arith, fit.flat));
       stand = ap (λ (parent : Option Kind). may_stand parent x.kind) same ∙ fit.fits;
-      agree = all_on (λ (m : Node). not (eqb m.parent x.parent) || same_test (is_class_kind m.kind) (is_class_kind x.kind)) nodes x put.alike_before (or_true (not (eqb x.parent x.parent)) _ (same_self (is_class_kind x.kind)));
+      agree = all_on (λ (m : Node). not (eqb m.parent x.parent) || same_test (is_class_kind m.kind) (is_class_kind x.kind)) nodes x put.alike_before (or_right (not (eqb x.parent x.parent)) _ (same_self (is_class_kind x.kind)));
       fit = ranges x.kind (kind_of (node_with (nodes ++ x ∷ []) x.parent)) x.attrs (subst (λ (parent : Option Kind). IsAttrs (is_seq_parent parent) x.kind x.attrs) (sym same) fit.allowed);
       free = taken_on nodes x x.serial x.attrs.id (new_free nodes x.serial x.attrs.id fit.free) (λ id e. rw own refl);
     }
@@ -591,7 +479,7 @@ grows nodes branch next depth x r is put fit =
       below = below_on nodes x next r.below is;
       limit = limit_on nodes x next r.limit fit.few;
       tree = subst (IsTreeTo nodes_now) (sym up) put.tree;
-      levels = subst (λ (back : List Node). Levels back (upwards (above ++ (x.serial, x.kind) ∷ []))) (sym (turned_on nodes x)) (subst (Levels (x ∷ reverse nodes)) open_now levels);
+      levels = subst (λ (back : List Node). Levels back (upwards (above ++ (x.serial, x.kind) ∷ []))) (sym (reverse-append nodes (x ∷ []))) (subst (Levels (x ∷ reverse nodes)) open_now levels);
       once = subst (AreOnce nodes_now) (sym up) once;
       kinds = all_snoc (λ (b : ℕ × Kind). kind_of (node_with nodes_now b.0) ≡ Some b.1) above (x.serial, x.kind)
           (all_weaker (λ (b : ℕ × Kind). kind_of (node_with nodes b.0) ≡ Some b.1) (λ (b : ℕ × Kind). kind_of (node_with nodes_now b.0) ≡ Some b.1) (λ b h. kind_kept nodes x b.0 b.1 h) above

@@ -13,6 +13,7 @@ use Rattle.smil_model.specs.document.Document.{Document, upwards, node_at as nod
 use Rattle.smil_model.specs.document.Valid.{open_from, IsTreeFrom, IsTree, IsDistinct, IsValid, depth_of, kind_of, may_stand, agree_with, is_well_placed, has_fitting_attrs}
 use Rattle.smil_model.specs.document.Values.{is_seq_parent}
 use Rattle.smil_grammar.specs.Spellings.{Begins}
+use Rattle.smil_laws.proofs.Unreached.{absent_reverse}
 use Rattle.smil_outline.specs.Written.{line_text, lines_behind}
 use Rattle.smil_grammar.specs.Allowed.{IsAttrs}
 use Rattle.smil_grammar.specs.Outlines.{depth_among}
@@ -112,12 +113,6 @@ skip (n ∷ front) back serial e =
     let parts = or_parts (eqb n.serial serial) (list_any (λ (m : Node). eqb m.serial serial) front) e in
     rw parts.0 (skip front back serial parts.1)
 
-none_back : (p : Node → Bool) (nodes : List Node) → list_any p nodes ≡ false → list_any p (reverse nodes) ≡ false
-none_back p [] e = refl
-none_back p (n ∷ nodes) e =
-    let parts = or_parts (p n) (list_any p nodes) e in
-    subst (λ (all : List Node). list_any p all ≡ false) (sym (reverse-append (n ∷ []) nodes)) (list_any-append p (reverse nodes) (n ∷ []) ∙ rw (none_back p nodes parts.1, parts.0) refl)
-
 turned : (front : List Node) (n : Node) (rest : List Node) → reverse (front ++ n ∷ rest) ≡ reverse rest ++ n ∷ reverse front
 turned front n rest = reverse-append front (n ∷ rest) ∙ ap (λ (xs : List Node). xs ++ reverse front) (reverse-append (n ∷ []) rest) ∙ append_assoc (reverse rest) (n ∷ []) (reverse front)
 
@@ -127,7 +122,7 @@ depth_is front n rest h =
     let own : eqb n.serial n.serial ≡ true = eq-eqb _ _ refl in
     let here : upwards (n ∷ reverse front) n.serial ≡ n ∷ upwards (reverse front) n.parent = rw own refl in
     let up : upwards (reverse (front ++ n ∷ rest)) n.serial ≡ n ∷ upwards (reverse front) n.parent =
-    ap (λ (nodes : List Node). upwards nodes n.serial) (turned front n rest) ∙ skip (reverse rest) (n ∷ reverse front) n.serial (none_back (λ (m : Node). eqb m.serial n.serial) rest h.0) ∙ here in
+    ap (λ (nodes : List Node). upwards nodes n.serial) (turned front n rest) ∙ skip (reverse rest) (n ∷ reverse front) n.serial (absent_reverse (λ (m : Node). eqb m.serial n.serial) rest h.0) ∙ here in
     ap (λ (nodes : List Node). length (drop 1 nodes)) up ∙ sym (depth_up (reverse front) n.parent)
 
 -- ---- places in the list
@@ -195,7 +190,7 @@ text_goes_on saved nodes place opened n out new all e h so_far step =
 
 -- ---- what a valid document says of the node
 
-all_at : (p : Node → Bool) (front : List Node) (n : Node) (back : List Node) → list_all p (front ++ n ∷ back) ≡ true → p n ≡ true
+pub all_at : (p : Node → Bool) (front : List Node) (n : Node) (back : List Node) → list_all p (front ++ n ∷ back) ≡ true → p n ≡ true
 all_at p [] n back h = (and_parts (p n) (list_all p back) h).0
 all_at p (m ∷ front) n back h = all_at p front n back (and_parts (p m) (list_all p (front ++ n ∷ back)) h).1
 
@@ -221,12 +216,6 @@ pub can_write_at : (document : Document) (place : ℕ) (n : Node) → IsValid do
 can_write_at document place n valid e =
     let parent : Option Kind = kind_of (node_with document.nodes n.parent) in
     attrs_anywhere (is_seq_parent parent) n.kind n.attrs (fits n.kind parent n.attrs (passes_at (has_fitting_attrs document.nodes) document.nodes place n e valid.fitting))
-
-pub none_left : (nodes : List Node) (place : ℕ) → slice_get nodes place ≡ None → place < length nodes → ⊥
-none_left nodes place e lt = elim (slice_get_cases nodes place).1 [
-  | inl found ↦ absurd cc
-  | inr past ↦ omega arith
-]
 
 -- ---- what stands at the front
 

@@ -8,17 +8,13 @@ use Rattle.smil_model.specs.declared.order.Refusal.{Refusal}
 use Rattle.smil_model.specs.document.Words.{is_word, is_list_word, is_event_name, is_raised_name}
 use Rattle.smil_grammar.specs.Words.{is_initial, is_of_name, name_len}
 use Rattle.smil_grammar.specs.Scripts.{event_of}
-use Rattle.smil_lexis.proofs.Fronts.{Passes}
+use Rattle.smil_lexis.proofs.Fronts.{Passes, tests_pass}
 use Rattle.smil_lexis.proofs.Words.{IsWord, name_word, word_short}
 use Rattle.smil_script.specs.Gives.{other_names}
 
-all_pass : (p : ℕ → Bool) (text : List ℕ) → Passes p text → list_all p text ≡ true
-all_pass p [] h = refl
-all_pass p (b ∷ text) h = simp (h.0, all_pass p text h.1)
-
 word_is : (p : ℕ → Bool) (text : List ℕ) → IsWord p text → is_word p text ≡ true
 word_is p [] h = absurd h
-word_is p (b ∷ text) h = simp (h.0, all_pass p text h.1)
+word_is p (b ∷ text) h = simp (h.0, tests_pass p text h.1)
 
 take_whole : (text : List ℕ) (n : ℕ) → n ≡ length text → take n text ≡ text
 take_whole text n e = take_all n text (omega arith)

@@ -6,7 +6,8 @@ use Rattle.smil_model.specs.document.Valid.{open_from}
 use Rattle.smil_grammar.specs.Spellings.{Begins}
 use Rattle.smil_outline.specs.Written.{line_text, nodes_text}
 use Rattle.smil_outline.specs.Open.{upwards}
-use Rattle.smil_outline.proofs.Walks.{IsWalkedTo, text_behind, text_ends, walk_starts, walk_goes_on, text_goes_on, is_shallow, can_write_at, none_left, begins_by, begins_more, begins_itself}
+use Rattle.smil_outline.proofs.Walks.{IsWalkedTo, text_behind, text_ends, walk_starts, walk_goes_on, text_goes_on, is_shallow, can_write_at, begins_by, begins_more, begins_itself}
+use Rattle.smil_outline.proofs.Taken.{none_left}
 use Rattle.smil_outline.proofs.writer.put_nodes.Goals as goal
 use Rattle.smil_outline.proofs.writer.put_nodes.Goals.{in-Some+in_ok-put_next, in_default}
 
