@@ -25,25 +25,20 @@ use Rattle.smil_grammar.specs.Allowed.{name_of, IsAttr, IsAttrs}
 use Rattle.smil_time_list.proofs.Printable.{item_printable, can_write, clock_small}
 use Rattle.smil_time_list.proofs.Listed.{list_is}
 use Rattle.smil_attrs.specs.Fits.{FitsClock, FitsDur, FitsTime, FitsAttr}
-use Rattle.smil_attrs.proofs.Readings.{length_small, IsLength, number, both, word, value, any_value, listed}
+use Rattle.smil_attrs.proofs.Readings.{IsSmall, value, any_value, listed}
+use Rattle.smil_attrs.proofs.Cases.{dur_reads, time_reads, repeat_reads}
 
-abbrev IsSmall : ℕ → Type 0
-IsSmall n = n ≤ 1_000_000_000_000
-
-is_clock : (n : ℕ) → n ≤ 1_000_000_000_000 → FitsClock (pos n)
+is_clock : (n : ℕ) → IsSmall n → FitsClock (pos n)
 is_clock n h = (omega (arith, ints), omega (arith, ints))
 
 dur_fits : (text : List ℕ) → IfSome (dur_of text) FitsDur
-dur_fits text = both FitsDur _ _ (word FitsDur (bytes_eq text (codes "media")) dur.Media _ tt (word FitsDur (bytes_eq text (codes "indefinite")) dur.Indefinite None tt tt))
-    (number dur.Clock IsSmall FitsDur is_clock (clock_within text) (clock_small text))
+dur_fits text = dur_reads FitsDur tt tt is_clock text
 
 time_fits : (text : List ℕ) → IfSome (time_of text) FitsTime
-time_fits text = both FitsTime _ _ (word FitsTime (bytes_eq text (codes "indefinite")) time.Indefinite None tt tt)
-    (number time.At IsSmall FitsTime is_clock (clock_within text) (clock_small text))
+time_fits text = time_reads FitsTime tt is_clock text
 
 repeat_fits : (text : List ℕ) → IfSome (repeat_dur_of text) FitsTime
-repeat_fits text = both FitsTime _ _ (word FitsTime (bytes_eq text (codes "indefinite")) time.Indefinite None tt tt)
-    (number time.At IsLength FitsTime (λ n h. is_clock n h.small) (clock_within text >>= above_zero) (length_small text))
+repeat_fits text = repeat_reads FitsTime tt (λ n h. is_clock n h.small) text
 
 list_fits : (in_seq : Bool) (text : List ℕ) (r : Result (List Item) ListFault) → list_of in_seq text ≡ r → IfOk r (All CanWrite)
 list_fits in_seq text (Ok items) e = All-weaker IsItem CanWrite (λ item h. can_write item (item_printable item h)) items (list_is in_seq text items e).each

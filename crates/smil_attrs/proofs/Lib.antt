@@ -5,8 +5,9 @@ pub mod Joins
 pub mod Clocks
 pub mod Words
 pub mod Counts
+pub mod Cases
 pub mod Valued
-pub mod Unquoted
+pub mod ValueBytes
 pub mod Kept
 pub mod Printed
 pub mod Filled

@@ -25,7 +25,7 @@ use Rattle.smil_grammar.specs.Spellings.{attr_at, attr_text, value_text, node_te
 use Rattle.smil_grammar.specs.Allowed.{name_of, IsAttr, IsAttrs}
 use Rattle.smil_attrs.proofs.Readings.{any_value, listed}
 use Rattle.smil_attrs.proofs.Valued.{attr_again}
-use Rattle.smil_attrs.proofs.Unquoted.{Unquoted, attr_unquoted}
+use Rattle.smil_attrs.proofs.ValueBytes.{Unquoted, attr_unquoted}
 use Rattle.smil_attrs.proofs.Kept.{IsHad, with_stays, attrs_anywhere}
 use Rattle.smil_attrs.proofs.Printed.{written_at, written_from, names_once, kind_known, shape_read, saved_parts, saved_read, lead}
 use Rattle.smil_attrs.proofs.Filled.{named, put, filled, filled_all}

@@ -21,8 +21,8 @@ use Rattle.smil_grammar.specs.Items.{count_of}
 use Rattle.smil_lexis.proofs.Decimals.{decimal_passes}
 use Rattle.smil_time_list.proofs.Spelled.{count_read}
 use Rattle.smil_grammar.specs.Spellings.{value_text, attribute_text, node_text}
-use Rattle.smil_lexis.proofs.Fronts.{Passes, passes_front, passes_weaker}
-use Rattle.smil_attrs.proofs.Unquoted.{is_unquoted, Unquoted, tested}
+use Rattle.smil_lexis.proofs.Fronts.{Passes, tested, passes_front, passes_weaker}
+use Rattle.smil_attrs.proofs.ValueBytes.{is_unquoted, Unquoted}
 
 -- what stands before the opening quote
 abbrev pub lead : AttrName → List ℕ

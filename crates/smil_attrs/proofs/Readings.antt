@@ -11,12 +11,16 @@ use Rattle.smil_grammar.specs.Clock.{clock_within}
 use Rattle.smil_grammar.specs.Values.{either, of_value, of_list, above_zero}
 use Rattle.smil_time_list.proofs.Printable.{clock_small}
 
+-- a number up to the horizon
+abbrev pub IsSmall : ℕ → Type 0
+IsSmall n = n ≤ 1_000_000_000_000
+
 -- a clock value above 0
 pub record IsLength (n : ℕ) : Type 0 where
-  pub small : n ≤ 1_000_000_000_000
+  pub small : IsSmall n
   pub some : above_zero n ≡ Some n
 
-above : (o : Option ℕ) → IfSome o (λ n. n ≤ 1_000_000_000_000) → IfSome (o >>= above_zero) IsLength
+above : (o : Option ℕ) → IfSome o IsSmall → IfSome (o >>= above_zero) IsLength
 above None h = tt
 above (Some n) h = cond_both (eqb n 0) None (Some n) (λ o. IfSome o IsLength) (λ e. tt) (λ e. record { small = h; some = rw e refl })
 

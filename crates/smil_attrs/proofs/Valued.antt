@@ -38,9 +38,10 @@ use Rattle.smil_grammar.specs.Allowed.{name_of, IsAttr}
 use Rattle.smil_time_list.proofs.Printable.{clock_small}
 use Rattle.smil_time_list.proofs.Spelled.{clock_read}
 use Rattle.smil_time_list.proofs.Listed.{list_read}
-use Rattle.smil_attrs.proofs.Readings.{length_small, IsLength, number, both, word, value, any_value, listed}
+use Rattle.smil_attrs.proofs.Readings.{IsSmall, value, any_value, listed}
+use Rattle.smil_attrs.proofs.Cases.{dur_reads, time_reads, repeat_reads, count_reads, higher_reads, lower_reads, endsync_reads}
 use Rattle.smil_attrs.proofs.Clocks.{trimmed, no_keyword, dur_read, time_read, repeat_read}
-use Rattle.smil_attrs.proofs.Counts.{IsCount, number_below, count_read}
+use Rattle.smil_attrs.proofs.Counts.{count_read}
 use Rattle.smil_attrs.proofs.Kept.{lists}
 use Rattle.smil_attrs.proofs.Words.{id_whole, attribute_name_whole, kept_whole}
 
@@ -48,17 +49,13 @@ use Rattle.smil_attrs.proofs.Words.{id_whole, attribute_name_whole, kept_whole}
 abbrev Again : Bool → Attr → Type 0
 Again in_seq given = value_of in_seq (name_of given) (attr_text given) ≡ Ok given
 
-abbrev IsSmall : ℕ → Type 0
-IsSmall n = n ≤ 1_000_000_000_000
-
 -- clock values and times
 
 abbrev DurAgain : Dur → Type 0
 DurAgain d = dur_of (trim (dur_text d)) ≡ Some d
 
 dur_again : (text : List ℕ) → IfSome (dur_of text) DurAgain
-dur_again text = both DurAgain _ _ (word DurAgain (bytes_eq text (codes "media")) dur.Media _ refl (word DurAgain (bytes_eq text (codes "indefinite")) dur.Indefinite None refl tt))
-    (number dur.Clock IsSmall DurAgain (λ n le. rw (trimmed n le) (dur_read n le)) (clock_within text) (clock_small text))
+dur_again text = dur_reads DurAgain refl refl (λ n le. rw (trimmed n le) (dur_read n le)) text
 
 min_again : (in_seq : Bool) (n : ℕ) → IsSmall n → Again in_seq (attr.Min (pos n))
 min_again in_seq n le = rw (trimmed n le, no_keyword n 109 (codes "edia") le refl, clock_read n le) refl
@@ -67,26 +64,19 @@ abbrev MaxAgain : Bool → Time → Type 0
 MaxAgain in_seq t = Again in_seq (attr.Max t)
 
 max_again : (in_seq : Bool) (text : List ℕ) → IfSome (time_of text) (MaxAgain in_seq)
-max_again in_seq text = both (MaxAgain in_seq) _ _ (word (MaxAgain in_seq) (bytes_eq text (codes "indefinite")) time.Indefinite None refl tt)
-    (number time.At IsSmall (MaxAgain in_seq) (λ n le. rw (trimmed n le, no_keyword n 109 (codes "edia") le refl, time_read n le) refl) (clock_within text) (clock_small text))
+max_again in_seq text = time_reads (MaxAgain in_seq) refl (λ n le. rw (trimmed n le, no_keyword n 109 (codes "edia") le refl, time_read n le) refl) text
 
 abbrev RepeatAgain : Time → Type 0
 RepeatAgain t = repeat_dur_of (trim (time_text t)) ≡ Some t
 
 repeat_again : (text : List ℕ) → IfSome (repeat_dur_of text) RepeatAgain
-repeat_again text = both RepeatAgain _ _ (word RepeatAgain (bytes_eq text (codes "indefinite")) time.Indefinite None refl tt)
-    (number time.At IsLength RepeatAgain (λ n h. rw (trimmed n h.small) (repeat_read n h.small h.some)) (clock_within text >>= above_zero) (length_small text))
+repeat_again text = repeat_reads RepeatAgain refl (λ n h. rw (trimmed n h.small) (repeat_read n h.small h.some)) text
 
 abbrev CountAgain : Count → Type 0
 CountAgain c = count_of (trim (count_text c)) ≡ Some c
 
 count_again : (text : List ℕ) → IfSome (count_of text) CountAgain
-count_again text = both CountAgain _ _ (word CountAgain (bytes_eq text (codes "indefinite")) count.Indefinite None refl tt)
-    (counted (option_map thousandths (with_fraction short_number_of 100 text) >>= above_zero) (number_below text))
-  where
-    counted : (o : Option ℕ) → IfSome o IsCount → IfSome (option_map count.Thousandths o) CountAgain
-    counted None h = tt
-    counted (Some n) h = count_read n h
+count_again text = count_reads CountAgain refl count_read text
 
 -- words
 
@@ -126,25 +116,20 @@ abbrev HigherAgain : Act → Type 0
 HigherAgain a = higher_of (trim (act_text a)) ≡ Some a
 
 higher_again : (text : List ℕ) → IfSome (higher_of text) HigherAgain
-higher_again text = word HigherAgain (bytes_eq text (codes "stop")) act.Stop _ refl (word HigherAgain (bytes_eq text (codes "pause")) act.Pause None refl tt)
+higher_again text = higher_reads HigherAgain refl refl text
 
 abbrev LowerAgain : Act → Type 0
 LowerAgain a = lower_of (trim (act_text a)) ≡ Some a
 
 lower_again : (text : List ℕ) → IfSome (lower_of text) LowerAgain
-lower_again text = word LowerAgain (bytes_eq text (codes "defer")) act.Defer _ refl (word LowerAgain (bytes_eq text (codes "never")) act.Never None refl tt)
+lower_again text = lower_reads LowerAgain refl refl text
 
 -- an id that is no keyword stays one
 abbrev EndsyncAgain : Bool → Endsync → Type 0
 EndsyncAgain in_seq e = Again in_seq (attr.Endsync e)
 
 endsync_again : (in_seq : Bool) (text : List ℕ) → bytes_eq text (codes "media") ≡ false → IfSome (endsync_of text) (EndsyncAgain in_seq)
-endsync_again in_seq text media =
-    cond_both (bytes_eq text (codes "last")) (Some endsync.Last) _ (λ o. IfSome (either o (option_map endsync.Child (id_of text))) (EndsyncAgain in_seq)) (λ e. refl) (λ last.
-    cond_both (bytes_eq text (codes "first")) (Some endsync.First) _ (λ o. IfSome (either o (option_map endsync.Child (id_of text))) (EndsyncAgain in_seq)) (λ e. refl) (λ first.
-    cond_both (bytes_eq text (codes "all")) (Some endsync.All) None (λ o. IfSome (either o (option_map endsync.Child (id_of text))) (EndsyncAgain in_seq)) (λ e. refl) (λ all.
-    cond_both (not (eqb (length text) 0) && eqb (id_len false text) (length text)) (Some text) None (λ o. IfSome (option_map endsync.Child o) (EndsyncAgain in_seq)) (λ e.
-    child in_seq text media last first all (rw e refl)) (λ e. tt))))
+endsync_again in_seq text media = endsync_reads (EndsyncAgain in_seq) refl refl refl text (child in_seq text media)
   where
     child : (in_seq : Bool) (text : List ℕ) → bytes_eq text (codes "media") ≡ false → bytes_eq text (codes "last") ≡ false → bytes_eq text (codes "first") ≡ false → bytes_eq text (codes "all") ≡ false → id_of text ≡ Some text → EndsyncAgain in_seq (endsync.Child text)
     child in_seq text media last first all id =

@@ -42,7 +42,7 @@ use Rattle.smil_grammar.specs.Attributes.{has}
 use Rattle.smil_grammar.specs.Spellings.{IsWithin, item_text, list_text, count_text, attr_at}
 use Rattle.smil_grammar.specs.Clock.{clock_text}
 use Rattle.smil_grammar.specs.Allowed.{IsAttr, IsAttrs}
-use Rattle.smil_lexis.proofs.Fronts.{passes_all, passes_weaker}
+use Rattle.smil_lexis.proofs.Fronts.{tested, passes_all, passes_weaker}
 use Rattle.smil_lexis.proofs.Trims.{is_inked, untrimmed}
 use Rattle.smil_lexis.proofs.Words.{IsWord, all_of_id}
 use Rattle.smil_time_list.proofs.Printable.{IsEventName, IsWho, Printable}
@@ -50,7 +50,6 @@ use Rattle.smil_time_list.proofs.Spelled.{item_read, clock_read}
 use Rattle.smil_time_list.proofs.Listed.{list_read}
 use Rattle.smil_attrs.proofs.Clocks.{trimmed, no_keyword, dur_read, time_read, repeat_read}
 use Rattle.smil_attrs.proofs.Counts.{count_read}
-use Rattle.smil_attrs.proofs.Unquoted.{tested}
 use Rattle.smil_attrs.proofs.Words.{id_inked, attribute_name_whole}
 
 -- words
@@ -303,7 +302,7 @@ IsInRange in_seq (attr.TargetElement text) = is_id text ≡ true
 IsInRange in_seq (attr.AttributeName text) = is_attribute_name text ≡ true
 IsInRange in_seq (attr.To text) = is_kept_text text ≡ true
 
-is_attr : (in_seq : Bool) (given : Attr) → IsInRange in_seq given → IsAttr in_seq given
+pub is_attr : (in_seq : Bool) (given : Attr) → IsInRange in_seq given → IsAttr in_seq given
 is_attr in_seq (attr.Id text) h = id_fits in_seq text h
 is_attr in_seq (attr.Begin items) h = begin_fits in_seq items h
 is_attr in_seq (attr.Dur d) h = dur_fits in_seq d h

@@ -41,8 +41,9 @@ use Rattle.smil_grammar.specs.Allowed.{name_of, IsAttr, IsAttrs}
 use Rattle.smil_lexis.proofs.Fronts.{tests_pass}
 use Rattle.smil_lexis.proofs.Words.{IsWord}
 use Rattle.smil_time_list.proofs.Printable.{IsEventName, IsWho, Printable, item_printable, clock_small}
-use Rattle.smil_attrs.proofs.Readings.{length_small, IsLength, number, both, word, value, any_value, listed}
-use Rattle.smil_attrs.proofs.Counts.{IsCount, number_below}
+use Rattle.smil_attrs.proofs.Readings.{IsSmall, IsLength, value, any_value, listed}
+use Rattle.smil_attrs.proofs.Cases.{dur_reads, time_reads, repeat_reads, count_reads, higher_reads, lower_reads, endsync_reads}
+use Rattle.smil_attrs.proofs.Counts.{IsCount}
 use Rattle.smil_attrs.proofs.Kept.{lists}
 use Rattle.smil_attrs.proofs.Words.{all_passes}
 use Rattle.smil_outline.proofs.Fitting.{IsInRange}
@@ -134,9 +135,6 @@ begin_ranged true items h = rw (list_ranged true items h, plain_ranged items (h.
 
 -- clock values and times
 
-abbrev IsSmall : ℕ → Type 0
-IsSmall n = n ≤ 1_000_000_000_000
-
 clock_ranged : (n : ℕ) → IsSmall n → is_clock (pos n) ≡ true
 clock_ranged n le =
     let low : leb 0 n ≡ true = le-leb _ _ (omega arith) in
@@ -147,15 +145,13 @@ abbrev DurIs : Dur → Type 0
 DurIs d = is_dur d ≡ true
 
 dur_ranged : (text : List ℕ) → IfSome (dur_of text) DurIs
-dur_ranged text = both DurIs _ _ (word DurIs (bytes_eq text (codes "media")) dur.Media _ refl (word DurIs (bytes_eq text (codes "indefinite")) dur.Indefinite None refl tt))
-    (number dur.Clock IsSmall DurIs clock_ranged (clock_within text) (clock_small text))
+dur_ranged text = dur_reads DurIs refl refl clock_ranged text
 
 abbrev TimeIs : Time → Type 0
 TimeIs t = is_bound t ≡ true
 
 time_ranged : (text : List ℕ) → IfSome (time_of text) TimeIs
-time_ranged text = both TimeIs _ _ (word TimeIs (bytes_eq text (codes "indefinite")) time.Indefinite None refl tt)
-    (number time.At IsSmall TimeIs clock_ranged (clock_within text) (clock_small text))
+time_ranged text = time_reads TimeIs refl clock_ranged text
 
 positive : (n : ℕ) → above_zero n ≡ Some n → 0 < n
 positive n e = cond_both (eqb n 0) None (Some n) (λ o. o ≡ Some n → 0 < n) (λ z e. absurd cc) (λ z e. some n z) e
@@ -167,8 +163,7 @@ abbrev LengthIs : Time → Type 0
 LengthIs t = is_positive_bound t ≡ true
 
 repeat_ranged : (text : List ℕ) → IfSome (repeat_dur_of text) LengthIs
-repeat_ranged text = both LengthIs _ _ (word LengthIs (bytes_eq text (codes "indefinite")) time.Indefinite None refl tt)
-    (number time.At IsLength LengthIs (λ n h. one n h) (clock_within text >>= above_zero) (length_small text))
+repeat_ranged text = repeat_reads LengthIs refl one text
   where
     one : (n : ℕ) → IsLength n → is_positive_bound (time.At (pos n)) ≡ true
     one n h = let some : ltb 0 n ≡ true = lt-ltb _ _ (positive n h.some) in rw (some, clock_ranged n h.small) refl
@@ -177,12 +172,10 @@ abbrev CountIs : Count → Type 0
 CountIs c = is_count c ≡ true
 
 count_ranged : (text : List ℕ) → IfSome (count_of text) CountIs
-count_ranged text = both CountIs _ _ (word CountIs (bytes_eq text (codes "indefinite")) count.Indefinite None refl tt)
-    (counted (option_map thousandths (with_fraction short_number_of 100 text) >>= above_zero) (number_below text))
+count_ranged text = count_reads CountIs refl counted text
   where
-    counted : (o : Option ℕ) → IfSome o IsCount → IfSome (option_map count.Thousandths o) CountIs
-    counted None h = tt
-    counted (Some n) h =
+    counted : (n : ℕ) → IsCount n → CountIs (count.Thousandths n)
+    counted n h =
         let some : ltb 0 n ≡ true = lt-ltb _ _ (positive n h.some) in
         let few : leb n 999_999_999_999 ≡ true = le-leb _ _ (omega (arith, h.few)) in
         rw (some, few) refl
@@ -193,27 +186,24 @@ abbrev HigherIs : Act → Type 0
 HigherIs a = is_higher a ≡ true
 
 higher_ranged : (text : List ℕ) → IfSome (higher_of text) HigherIs
-higher_ranged text = word HigherIs (bytes_eq text (codes "stop")) act.Stop _ refl (word HigherIs (bytes_eq text (codes "pause")) act.Pause None refl tt)
+higher_ranged text = higher_reads HigherIs refl refl text
 
 abbrev LowerIs : Act → Type 0
 LowerIs a = is_lower a ≡ true
 
 lower_ranged : (text : List ℕ) → IfSome (lower_of text) LowerIs
-lower_ranged text = word LowerIs (bytes_eq text (codes "defer")) act.Defer _ refl (word LowerIs (bytes_eq text (codes "never")) act.Never None refl tt)
+lower_ranged text = lower_reads LowerIs refl refl text
 
 abbrev EndsyncIs : Endsync → Type 0
 EndsyncIs e = is_endsync e ≡ true
 
 endsync_ranged : (text : List ℕ) → bytes_eq text (codes "media") ≡ false → IfSome (endsync_of text) EndsyncIs
-endsync_ranged text media =
-    cond_both (bytes_eq text (codes "last")) (Some endsync.Last) _ (λ o. IfSome (either o (option_map endsync.Child (id_of text))) EndsyncIs) (λ e. refl) (λ last.
-    cond_both (bytes_eq text (codes "first")) (Some endsync.First) _ (λ o. IfSome (either o (option_map endsync.Child (id_of text))) EndsyncIs) (λ e. refl) (λ first.
-    cond_both (bytes_eq text (codes "all")) (Some endsync.All) None (λ o. IfSome (either o (option_map endsync.Child (id_of text))) EndsyncIs) (λ e. refl) (λ all.
-    child text media last first all)))
+endsync_ranged text media = endsync_reads EndsyncIs refl refl refl text (child text media)
   where
-    child : (text : List ℕ) → bytes_eq text (codes "media") ≡ false → bytes_eq text (codes "last") ≡ false → bytes_eq text (codes "first") ≡ false → bytes_eq text (codes "all") ≡ false → IfSome (option_map endsync.Child (id_of text)) EndsyncIs
-    child text media last first all = cond_both (not (eqb (length text) 0) && eqb (id_len false text) (length text)) (Some text) None (λ o. IfSome (option_map endsync.Child o) EndsyncIs)
-        (λ e. let parts = and_parts (not (eqb (length text) 0)) (eqb (id_len false text) (length text)) e in rw (whole_ranged text (not-true _ parts.0) (eqb-true _ _ parts.1), last, first, all, media) refl) (λ e. tt)
+    child : (text : List ℕ) → bytes_eq text (codes "media") ≡ false → bytes_eq text (codes "last") ≡ false → bytes_eq text (codes "first") ≡ false → bytes_eq text (codes "all") ≡ false → id_of text ≡ Some text → EndsyncIs (endsync.Child text)
+    child text media last first all id =
+        let own : IsId text = subst (λ (o : Option (List ℕ)). IfSome o IsId) id (id_ranged text) in
+        rw (own, last, first, all, media) refl
 
 -- attributes
 

@@ -1,0 +1,263 @@
+-- Each byte of a printed value is one of a text that is kept: neither a quote nor a control character.
+use Rattle.std.proofs.Common.{◌≡◌, ℕ, ◌+◌, ◌/◌, ◌%◌, ◌<◌, ◌≤◌, Bool, true, false, not, eqb, ◌||◌, ◌&&◌, List, [], ◌∷◌, ◌++◌, length, Option, Some, None, option_map, Result, Ok, Err, refl, subst, arith, decimal, append_assoc}
+use Rattle.std.specs.Prelude.{ℤ, pos, negsuc, zero, suc, codes, bytes_eq, IfOk, IfSome, All}
+use Rattle.std.specs.List.{list_all, AllByRecursion}
+use Rattle.std.specs.Char.{is_ascii_digit}
+use Rattle.std.specs.Str.{is_utf8}
+use Rattle.std.proofs.lemmas.Bool.{cond_both, and_parts}
+use Rattle.std.proofs.lemmas.Bool.Decides.{nat_tests}
+use Rattle.std.proofs.lemmas.List.Elements.{All-weaker, recursion_from_All}
+use Rattle.smil_model.specs.declared.document.Attr.{Attr}
+use Rattle.smil_model.specs.declared.document.Attr.TheVariants as attr
+use Rattle.smil_model.specs.declared.document.AttrName.{AttrName}
+use Rattle.smil_model.specs.declared.document.AttrName.TheVariants as name
+use Rattle.smil_model.specs.declared.document.Dur.{Dur}
+use Rattle.smil_model.specs.declared.document.Dur.TheVariants as dur
+use Rattle.smil_model.specs.declared.document.Count.{Count}
+use Rattle.smil_model.specs.declared.document.Count.TheVariants as count
+use Rattle.smil_model.specs.declared.document.Restart.{Restart}
+use Rattle.smil_model.specs.declared.document.Restart.TheVariants as restart
+use Rattle.smil_model.specs.declared.document.Fill.{Fill}
+use Rattle.smil_model.specs.declared.document.Fill.TheVariants as fill
+use Rattle.smil_model.specs.declared.document.RestartDefault.{RestartDefault}
+use Rattle.smil_model.specs.declared.document.RestartDefault.TheVariants as restart_default
+use Rattle.smil_model.specs.declared.document.FillDefault.{FillDefault}
+use Rattle.smil_model.specs.declared.document.FillDefault.TheVariants as fill_default
+use Rattle.smil_model.specs.declared.document.Endsync.{Endsync}
+use Rattle.smil_model.specs.declared.document.Endsync.TheVariants as endsync
+use Rattle.smil_model.specs.declared.document.Act.{Act}
+use Rattle.smil_model.specs.declared.document.Act.TheVariants as act
+use Rattle.smil_model.specs.declared.document.Item.{Item}
+use Rattle.smil_model.specs.declared.document.Item.TheVariants.{Offset, Sync, Event, Repeat, Key, Indefinite}
+use Rattle.smil_model.specs.declared.document.Edge.TheVariants.{Begin, End}
+use Rattle.smil_model.specs.declared.times.Time.{Time}
+use Rattle.smil_model.specs.declared.times.Time.TheVariants as time
+use Rattle.smil_grammar.specs.declared.fault.AttrFault.{AttrFault}
+use Rattle.smil_grammar.specs.declared.fault.ListFault.{ListFault}
+use Rattle.smil_grammar.specs.Texts.{◌>>=◌, trim, quote}
+use Rattle.smil_model.specs.document.Words.{is_key}
+use Rattle.smil_grammar.specs.Words.{is_of_id, is_of_name, id_len}
+use Rattle.smil_grammar.specs.Clock.{clock_text}
+use Rattle.smil_grammar.specs.Numbers.{with_fraction}
+use Rattle.smil_grammar.specs.Clock.{clock_within}
+use Rattle.smil_grammar.specs.Items.{IsItem}
+use Rattle.smil_grammar.specs.Lists.{list_of, IsList}
+use Rattle.smil_grammar.specs.Values.{either, above_zero, short_number_of, thousandths, id_of, attribute_name_of, restart_default_of, fill_default_of, is_kept, kept_of, dur_of, time_of, repeat_dur_of, count_of, restart_of, fill_of, endsync_of, peers_of, higher_of, lower_of, is_other_value, plain_value_of, value_of}
+use Rattle.smil_grammar.specs.Spellings.{IsWithin, escaped, of_who, tail_text, item_text, list_text, attr_text, dur_text, time_text, decimals, count_text, endsync_text, act_text}
+use Rattle.smil_grammar.specs.Allowed.{name_of, IsAttr}
+use Rattle.smil_lexis.proofs.Fronts.{Passes, tested, passes_weaker, passes_on}
+use Rattle.smil_lexis.proofs.Decimals.{decimal_passes}
+use Rattle.smil_lexis.proofs.Words.{IsWord, all_of_id}
+use Rattle.smil_time_list.proofs.Printable.{IsWho, Printable, item_printable, clock_small}
+use Rattle.smil_time_list.proofs.Spelled.{all_of_name, escaped_passes}
+use Rattle.smil_time_list.proofs.Listed.{list_is}
+use Rattle.smil_attrs.proofs.Readings.{IsSmall, value, any_value, listed}
+use Rattle.smil_attrs.proofs.Cases.{dur_reads, time_reads, repeat_reads, count_reads, endsync_reads}
+use Rattle.smil_attrs.proofs.Counts.{IsCount, digit_printed}
+use Rattle.smil_attrs.proofs.Words.{id_passes, is_of_attribute, attribute_name_passes}
+
+abbrev pub AreKept : List ℕ → Type 0
+AreKept text = Passes is_kept text
+
+-- items
+
+id_byte : (b : ℕ) → is_of_id b ≡ true → is_kept b ≡ true
+id_byte b h = grind (arith, nat_tests)
+
+name_byte : (b : ℕ) → is_of_name b ≡ true → is_kept b ≡ true
+name_byte b h = grind (arith, nat_tests)
+
+key_byte : (b : ℕ) → is_key b ≡ true → is_kept b ≡ true
+key_byte b h = grind (arith, nat_tests)
+
+digit_byte : (b : ℕ) → is_ascii_digit b ≡ true → is_kept b ≡ true
+digit_byte b h = grind (arith, nat_tests)
+
+number_kept : (n : ℕ) → IsSmall n → AreKept (decimal n)
+number_kept n le = passes_weaker is_ascii_digit is_kept digit_byte (decimal n) (decimal_passes n (omega arith))
+
+clock_kept : (n : ℕ) → IsSmall n → AreKept (clock_text n)
+clock_kept n le = passes_on is_kept (decimal n) (codes "ms") (number_kept n le) (refl, (refl, tt))
+
+tail_kept : (offset : ℤ) → IsWithin offset → AreKept (tail_text offset)
+tail_kept (pos zero) h = tt
+tail_kept (pos (suc n)) h = (refl, clock_kept (suc n) h)
+tail_kept (negsuc n) h = (refl, clock_kept (suc n) h)
+
+behind_id : (id text : List ℕ) → IsWord is_of_id id → AreKept text → AreKept (escaped id ++ text)
+behind_id id text h k = passes_on is_kept (escaped id) text (escaped_passes is_kept id_byte refl id (all_of_id id h)) k
+
+behind_who : (who : Option (List ℕ)) (text : List ℕ) → IsWho who → AreKept text → AreKept (of_who who ++ text)
+behind_who None text h k = k
+behind_who (Some id) text h k = rw (append_assoc (escaped id) (46 ∷ []) text) (behind_id id (46 ∷ text) h (refl, k))
+
+item_kept : (item : Item) → Printable item → AreKept (item_text item)
+item_kept (Offset (pos n)) h = clock_kept n h
+item_kept (Offset (negsuc n)) h = (refl, clock_kept (suc n) h)
+item_kept (Sync who Begin offset) h = behind_id who _ h.0 (refl, passes_on is_kept (codes "begin") (tail_text offset) (tested is_kept (codes "begin") refl) (tail_kept offset h.1))
+item_kept (Sync who End offset) h = behind_id who _ h.0 (refl, passes_on is_kept (codes "end") (tail_text offset) (tested is_kept (codes "end") refl) (tail_kept offset h.1))
+item_kept (Event who name offset) h = behind_who who _ h.0 (passes_on is_kept name _ (passes_weaker is_of_name is_kept name_byte name (all_of_name name h.1.word)) (tail_kept offset h.2))
+item_kept (Repeat who n offset) h = behind_who who _ h.0 (passes_on is_kept (codes "repeat(" ++ decimal n ++ codes ")") (tail_text offset) (passes_on is_kept (codes "repeat(" ++ decimal n) (codes ")") (passes_on is_kept (codes "repeat(") (decimal n) (tested is_kept (codes "repeat(") refl) (number_kept n (omega arith))) (refl, tt)) (tail_kept offset h.3))
+item_kept (Key key offset) h = passes_on is_kept (codes "accesskey(") (key ∷ (41 ∷ tail_text offset)) (tested is_kept (codes "accesskey(") refl) (key_byte key h.0, (refl, tail_kept offset h.1))
+item_kept Indefinite h = tested is_kept (codes "indefinite") refl
+
+list_kept : (items : List Item) → All Printable items → AreKept (list_text items)
+list_kept items h = all items (recursion_from_All Printable items h)
+  where
+    all : (items : List Item) → AllByRecursion Printable items → AreKept (list_text items)
+    all [] h = tt
+    all (x ∷ []) h = item_kept x h.0
+    all (x ∷ y ∷ items) h = passes_on is_kept (item_text x) (59 ∷ list_text (y ∷ items)) (item_kept x h.0) (refl, all (y ∷ items) h.1)
+
+lists_kept : (in_seq : Bool) (text : List ℕ) (r : Result (List Item) ListFault) → list_of in_seq text ≡ r → IfOk r (λ items. AreKept (list_text items))
+lists_kept in_seq text (Ok items) e = list_kept items (All-weaker IsItem Printable item_printable items (list_is in_seq text items e).each)
+lists_kept in_seq text (Err fault) e = tt
+
+-- clock values and times
+
+abbrev DurKept : Dur → Type 0
+DurKept d = AreKept (dur_text d)
+
+dur_kept : (text : List ℕ) → IfSome (dur_of text) DurKept
+dur_kept text = dur_reads DurKept (tested is_kept (codes "media") refl) (tested is_kept (codes "indefinite") refl) clock_kept text
+
+abbrev TimeKept : Time → Type 0
+TimeKept t = AreKept (time_text t)
+
+time_kept : (text : List ℕ) → IfSome (time_of text) TimeKept
+time_kept text = time_reads TimeKept (tested is_kept (codes "indefinite") refl) clock_kept text
+
+repeat_kept : (text : List ℕ) → IfSome (repeat_dur_of text) TimeKept
+repeat_kept text = repeat_reads TimeKept (tested is_kept (codes "indefinite") refl) (λ n h. clock_kept n h.small) text
+
+digit_kept : (a : ℕ) → a ≤ 9 → is_kept (48 + a) ≡ true
+digit_kept a le = digit_byte (48 + a) (digit_printed a le)
+
+decimals_kept : (r : ℕ) → r < 1000 → AreKept (decimals r)
+decimals_kept r small =
+    let a = digit_kept (r / 100) (omega arith) in
+    let b = digit_kept (r / 10 % 10) (omega arith) in
+    let c = digit_kept (r % 10) (omega arith) in
+    cond_both (eqb r 0) [] _ AreKept (λ z. tt) (λ nz.
+    cond_both (eqb (r % 100) 0) _ _ AreKept (λ z. (refl, (a, tt))) (λ nz.
+    cond_both (eqb (r % 10) 0) _ _ AreKept (λ z. (refl, (a, (b, tt)))) (λ nz. (refl, (a, (b, (c, tt)))))))
+
+abbrev CountKept : Count → Type 0
+CountKept c = AreKept (count_text c)
+
+count_kept : (text : List ℕ) → IfSome (count_of text) CountKept
+count_kept text = count_reads CountKept (tested is_kept (codes "indefinite") refl) counted text
+  where
+    counted : (n : ℕ) → IsCount n → CountKept (count.Thousandths n)
+    counted n h = passes_on is_kept (decimal (n / 1000)) (decimals (n % 1000)) (number_kept (n / 1000) (omega (arith, h.few))) (decimals_kept (n % 1000) (omega arith))
+
+-- words
+
+restart_kept : (r : Restart) → AreKept (attr_text (attr.Restart r))
+restart_kept restart.Always = tested is_kept (codes "always") refl
+restart_kept restart.WhenNotActive = tested is_kept (codes "whenNotActive") refl
+restart_kept restart.Never = tested is_kept (codes "never") refl
+restart_kept restart.ByDefault = tested is_kept (codes "default") refl
+
+fill_kept : (f : Fill) → AreKept (attr_text (attr.Fill f))
+fill_kept fill.Remove = tested is_kept (codes "remove") refl
+fill_kept fill.Freeze = tested is_kept (codes "freeze") refl
+fill_kept fill.Hold = tested is_kept (codes "hold") refl
+fill_kept fill.Auto = tested is_kept (codes "auto") refl
+fill_kept fill.ByDefault = tested is_kept (codes "default") refl
+
+restart_default_kept : (d : RestartDefault) → AreKept (attr_text (attr.RestartDefault d))
+restart_default_kept restart_default.Always = tested is_kept (codes "always") refl
+restart_default_kept restart_default.WhenNotActive = tested is_kept (codes "whenNotActive") refl
+restart_default_kept restart_default.Never = tested is_kept (codes "never") refl
+restart_default_kept restart_default.Inherit = tested is_kept (codes "inherit") refl
+
+fill_default_kept : (d : FillDefault) → AreKept (attr_text (attr.FillDefault d))
+fill_default_kept fill_default.Remove = tested is_kept (codes "remove") refl
+fill_default_kept fill_default.Freeze = tested is_kept (codes "freeze") refl
+fill_default_kept fill_default.Hold = tested is_kept (codes "hold") refl
+fill_default_kept fill_default.Auto = tested is_kept (codes "auto") refl
+fill_default_kept fill_default.Inherit = tested is_kept (codes "inherit") refl
+
+act_kept : (a : Act) → AreKept (act_text a)
+act_kept act.Stop = tested is_kept (codes "stop") refl
+act_kept act.Pause = tested is_kept (codes "pause") refl
+act_kept act.Defer = tested is_kept (codes "defer") refl
+act_kept act.Never = tested is_kept (codes "never") refl
+
+id_kept : (text : List ℕ) → IfSome (id_of text) AreKept
+id_kept text = weaker (id_of text) (id_passes text)
+  where
+    weaker : (o : Option (List ℕ)) → IfSome o (Passes is_of_id) → IfSome o AreKept
+    weaker None h = tt
+    weaker (Some id) h = passes_weaker is_of_id is_kept id_byte id h
+
+attribute_byte : (b : ℕ) → is_of_attribute b ≡ true → is_kept b ≡ true
+attribute_byte b h = grind (arith, nat_tests)
+
+attribute_name_kept : (text : List ℕ) → IfSome (attribute_name_of text) AreKept
+attribute_name_kept text = weaker (attribute_name_of text) (attribute_name_passes text)
+  where
+    weaker : (o : Option (List ℕ)) → IfSome o (Passes is_of_attribute) → IfSome o AreKept
+    weaker None h = tt
+    weaker (Some name) h = passes_weaker is_of_attribute is_kept attribute_byte name h
+
+abbrev EndsyncKept : Endsync → Type 0
+EndsyncKept e = AreKept (endsync_text e)
+
+endsync_kept : (text : List ℕ) → IfSome (endsync_of text) EndsyncKept
+endsync_kept text = endsync_reads EndsyncKept (tested is_kept (codes "last") refl) (tested is_kept (codes "first") refl) (tested is_kept (codes "all") refl) text
+    (λ last first all id. subst (λ (o : Option (List ℕ)). IfSome o AreKept) id (id_kept text))
+
+text_kept : (text : List ℕ) → IfSome (kept_of text) AreKept
+text_kept text = cond_both (is_utf8 text && list_all is_kept text) (Some text) None (λ o. IfSome o AreKept) (λ e. tested is_kept text (and_parts _ _ e).1) (λ e. tt)
+
+-- attributes
+
+abbrev Q : Attr → Type 0
+Q given = AreKept (attr_text given)
+
+plain_kept : (in_seq : Bool) (n : AttrName) (text : List ℕ) → IfOk (plain_value_of in_seq n text) Q
+plain_kept in_seq name.Id text = value attr.Id AreKept Q (λ id h. h) (id_of text) (id_kept text)
+plain_kept in_seq name.Begin text = listed attr.Begin (λ items. AreKept (list_text items)) Q (λ items h. h) (list_of in_seq text) (lists_kept in_seq text _ refl)
+plain_kept in_seq name.Dur text = value attr.Dur DurKept Q (λ d h. h) (dur_of (trim text)) (dur_kept (trim text))
+plain_kept in_seq name.End text = listed attr.End (λ items. AreKept (list_text items)) Q (λ items h. h) (list_of false text) (lists_kept false text _ refl)
+plain_kept in_seq name.Min text = value (λ n. attr.Min (pos n)) IsSmall Q clock_kept (clock_within (trim text)) (clock_small (trim text))
+plain_kept in_seq name.Max text = value attr.Max TimeKept Q (λ t h. h) (time_of (trim text)) (time_kept (trim text))
+plain_kept in_seq name.RepeatCount text = value attr.RepeatCount CountKept Q (λ c h. h) (count_of (trim text)) (count_kept (trim text))
+plain_kept in_seq name.RepeatDur text = value attr.RepeatDur TimeKept Q (λ t h. h) (repeat_dur_of (trim text)) (repeat_kept (trim text))
+plain_kept in_seq name.Restart text = any_value attr.Restart Q restart_kept (restart_of (trim text))
+plain_kept in_seq name.Fill text = any_value attr.Fill Q fill_kept (fill_of (trim text))
+plain_kept in_seq name.RestartDefault text = any_value attr.RestartDefault Q restart_default_kept (restart_default_of (trim text))
+plain_kept in_seq name.FillDefault text = any_value attr.FillDefault Q fill_default_kept (fill_default_of (trim text))
+plain_kept in_seq name.Endsync text = value attr.Endsync EndsyncKept Q (λ x h. h) (endsync_of (trim text)) (endsync_kept (trim text))
+plain_kept in_seq name.Peers text = any_value attr.Peers Q act_kept (peers_of (trim text))
+plain_kept in_seq name.Higher text = any_value attr.Higher Q act_kept (higher_of (trim text))
+plain_kept in_seq name.Lower text = any_value attr.Lower Q act_kept (lower_of (trim text))
+plain_kept in_seq name.Src text = value attr.Src AreKept Q (λ kept h. h) (kept_of text) (text_kept text)
+plain_kept in_seq name.Region text = value attr.Region AreKept Q (λ kept h. h) (kept_of text) (text_kept text)
+plain_kept in_seq name.Alt text = value attr.Alt AreKept Q (λ kept h. h) (kept_of text) (text_kept text)
+plain_kept in_seq name.Title text = value attr.Title AreKept Q (λ kept h. h) (kept_of text) (text_kept text)
+plain_kept in_seq name.TargetElement text = value attr.TargetElement AreKept Q (λ id h. h) (id_of (trim text)) (id_kept (trim text))
+plain_kept in_seq name.AttributeName text = value attr.AttributeName AreKept Q (λ name h. h) (attribute_name_of (trim text)) (attribute_name_kept (trim text))
+plain_kept in_seq name.To text = value attr.To AreKept Q (λ kept h. h) (kept_of text) (text_kept text)
+
+value_kept : (in_seq : Bool) (n : AttrName) (text : List ℕ) → IfOk (value_of in_seq n text) Q
+value_kept in_seq n text = cond_both (is_other_value n (trim text)) _ (plain_value_of in_seq n text) (λ r. IfOk r Q) (λ e. tt) (λ e. plain_kept in_seq n text)
+
+pub attr_kept : (in_seq : Bool) (given : Attr) → IsAttr in_seq given → AreKept (attr_text given)
+attr_kept in_seq given h = subst (λ (r : Result Attr AttrFault). IfOk r Q) h.1 (value_kept in_seq (name_of given) h.0)
+
+-- so it has no quote
+
+abbrev pub is_unquoted : ℕ → Bool
+is_unquoted b = not (eqb b quote)
+
+abbrev pub Unquoted : List ℕ → Type 0
+Unquoted text = Passes is_unquoted text
+
+no_quote : (b : ℕ) → is_kept b ≡ true → is_unquoted b ≡ true
+no_quote b h = (and_parts _ _ h).1
+
+pub attr_unquoted : (in_seq : Bool) (given : Attr) → IsAttr in_seq given → Unquoted (attr_text given)
+attr_unquoted in_seq given h = passes_weaker is_kept is_unquoted no_quote (attr_text given) (attr_kept in_seq given h)
