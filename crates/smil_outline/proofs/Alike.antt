@@ -12,7 +12,7 @@ use Rattle.smil_grammar.specs.Results.{◌>>=◌}
 use Rattle.smil_grammar.specs.Outlines.{Outline, no_lines, differ, last_of, mixes, with_line, with_lines, with_node}
 use Rattle.smil_model.specs.declared.limits.TheConstants.{NODES}
 use Rattle.smil_laws.proofs.Lineages.{swap_eqb}
-use Rattle.smil_outline.specs.Kept.{differs, serial_of, is_known, AreAlike, AreKnown, IsKept, IsPlaced}
+use Rattle.smil_outline.specs.Branches.{differs, serial_of, is_known, AreAlike, AreKnown, IsKept, IsPlaced}
 use Rattle.smil_model.specs.declared.order.Refusal.{Refusal}
 use Rattle.smil_model.specs.document.Document.{is_class_kind}
 

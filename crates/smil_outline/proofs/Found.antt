@@ -10,7 +10,7 @@ use Rattle.std.specs.BTreeMap.{is_at}
 use Rattle.std.specs.BTreeSet.{insert_key}
 use Rattle.std.proofs.lemmas.Map.Text.{is_eq-slice_cmp}
 use Rattle.std.proofs.lemmas.Map.Lookups.{exact_bytes}
-use Rattle.smil_outline.specs.Kept.{has}
+use Rattle.smil_outline.specs.Branches.{has}
 
 swapped : (xs ys : List ℕ) → bytes_eq xs ys ≡ bytes_eq ys xs
 swapped [] [] = refl

@@ -29,7 +29,7 @@ use Rattle.smil_model.specs.declared.limits.TheConstants.{NODES, DEPTH, REFERENC
 use Rattle.smil_model.specs.document.Limits.{limits}
 use Rattle.smil_time_list.proofs.Printable.{IsCounted, count_small}
 use Rattle.smil_laws.proofs.Lineages.{swap_eqb}
-use Rattle.smil_outline.specs.Kept.{is_known, IsRead}
+use Rattle.smil_outline.specs.Branches.{is_known, IsRead}
 use Rattle.smil_outline.proofs.Alike.{other_serial, known_on, known_self}
 use Rattle.smil_grammar.specs.Outlines.{Outline, unless, in_line, mixes, differ, has_id as has_id_among, references, attrs_in, last_of, no_lines, shape_in, is_bad_serial, is_misplaced, opens_saved, header_of, with_header, node_within, shape_within, read_within, with_line, with_lines, ended, outline_of}
 use Rattle.smil_grammar.specs.Outlines.{with_node as outline_with}

@@ -1,7 +1,7 @@
 pub mod Numbered
 pub mod Open
 pub mod Gives
-pub mod Kept
+pub mod Branches
 pub mod Steps
 pub mod Migration
 pub mod Written

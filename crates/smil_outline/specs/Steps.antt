@@ -12,7 +12,7 @@ use Rattle.smil_grammar.specs.declared.fault.NodeFault.TheVariants.{Unsupported,
 use Rattle.smil_grammar.specs.Results.{◌>>=◌}
 use Rattle.smil_grammar.specs.Nodes.{Written, Shape, is_space, kind_of_shape}
 use Rattle.smil_grammar.specs.Outlines.{Outline, unless, in_line, is_misplaced, is_bad_serial, has_id, references, attrs_in, last_of, with_node}
-use Rattle.smil_outline.specs.Kept.{all_references}
+use Rattle.smil_outline.specs.Branches.{all_references}
 
 -- a line without its leading spaces
 abbrev pub text_of : List ℕ → List ℕ

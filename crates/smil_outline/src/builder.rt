@@ -8,7 +8,7 @@ ghost use Rattle.smil_model.specs.document.Valid.{IsValid};
 ghost use Rattle.smil_grammar.specs.Outlines.{no_lines, with_line, with_header, header_of, opens_saved, shape_in, shape_within, version_of, is_bad_serial as is_bad_serial_in, is_misplaced as is_misplaced_in, ended, last_of, in_line, attrs_in, mixes as mixes_among, references as references_of};
 ghost use Rattle.smil_grammar.specs.Gives.{GivesReading};
 ghost use Rattle.smil_outline.specs.Gives.{GivesRefusal, GivesDocument};
-ghost use Rattle.smil_outline.specs.Kept.{all_references, serial_of, is_known, IsPlaced};
+ghost use Rattle.smil_outline.specs.Branches.{all_references, serial_of, is_known, IsPlaced};
 ghost use Rattle.smil_outline.specs.Steps.{kind_at, attrs_at, node_with as node_with_attrs, node_kept, text_of, IsInLine};
 
 use super::branch::Branch;
@@ -44,7 +44,7 @@ impl Drop for Builder {
 
 impl Model for Builder {
     ghost use Rattle.smil_grammar.specs.Outlines.{Outline};
-    ghost use Rattle.smil_outline.specs.Kept.{IsKept};
+    ghost use Rattle.smil_outline.specs.Branches.{IsKept};
 
     ghost Value = { Outline };
 

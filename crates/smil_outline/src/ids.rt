@@ -1,7 +1,7 @@
 //! The ids of an outline's nodes.
 
 ghost use Rattle.std.specs.Prelude.{◌≡◌, ℕ, List, [], ◌||◌, bytes_eq, OnOk, OnErr};
-ghost use Rattle.smil_outline.specs.Kept.{has};
+ghost use Rattle.smil_outline.specs.Branches.{has};
 
 use std::alloc::{AllocError, Global};
 use std::collections::BTreeSet;

@@ -4,7 +4,7 @@ ghost use Rattle.std.specs.Prelude.{◌≡◌, ◌≤◌, ◌+◌, [], ◌∷◌
 ghost use Rattle.std.specs.List.{list_any};
 ghost use Rattle.smil_model.specs.declared.document.Node.{Node};
 ghost use Rattle.smil_grammar.specs.Outlines.{has_id as has_id_among, references as references_of};
-ghost use Rattle.smil_outline.specs.Kept.{all_references};
+ghost use Rattle.smil_outline.specs.Branches.{all_references};
 
 use super::ids::Ids;
 use super::references::{in_list, references};
@@ -28,7 +28,7 @@ impl Model for Nodes {
     ghost use Rattle.smil_model.specs.declared.limits.TheConstants.{REFERENCES};
     ghost use Rattle.smil_model.specs.declared.document.Node.{Node};
     ghost use Rattle.smil_model.specs.document.Document.{serials as serials_of};
-    ghost use Rattle.smil_outline.specs.Kept.{all_references, has, is_taken};
+    ghost use Rattle.smil_outline.specs.Branches.{all_references, has, is_taken};
 
     ghost Value = { List Node };
 

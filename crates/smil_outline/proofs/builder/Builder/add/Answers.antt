@@ -3,7 +3,7 @@ use Rattle.std.proofs.lemmas.Bool.{le-ltb}
 use Rattle.smil_model.specs.declared.limits.TheConstants.{LINE_BYTES}
 use Rattle.smil_model.specs.document.Limits.{limits}
 use Rattle.smil_grammar.specs.Outlines.{Outline, with_line, with_node, shape_in, shape_within}
-use Rattle.smil_outline.specs.Kept.{is_known, IsKept, IsPlaced}
+use Rattle.smil_outline.specs.Branches.{is_known, IsKept, IsPlaced}
 use Rattle.smil_outline.proofs.Alike.{kept_with, kept_put, where_ok}
 use Rattle.smil_outline.proofs.Parts.{as_node}
 use Rattle.smil_outline.proofs.Validity.{serial_is_new}

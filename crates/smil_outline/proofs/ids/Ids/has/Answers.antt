@@ -1,5 +1,5 @@
 use Rattle.std.proofs.Common.{ap, ◌∙◌}
-use Rattle.smil_outline.specs.Kept.{has}
+use Rattle.smil_outline.specs.Branches.{has}
 use Rattle.smil_outline.proofs.Found.{found}
 use Rattle.smil_outline.proofs.ids.Ids.has.Goals as goal
 

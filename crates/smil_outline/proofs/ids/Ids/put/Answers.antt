@@ -1,6 +1,6 @@
 use Rattle.std.proofs.Common.{ap, ◌∙◌, map, ◌||◌}
 use Rattle.std.specs.Str.{bytes_eq}
-use Rattle.smil_outline.specs.Kept.{has}
+use Rattle.smil_outline.specs.Branches.{has}
 use Rattle.smil_outline.proofs.Found.{inserted}
 use Rattle.smil_outline.proofs.ids.Ids.put.Goals as goal
 
