@@ -100,14 +100,14 @@ impl Components {
         Ok(())
     }
 
-    /// The position of the last place on the path, whose links are followed.
+    // The position of the last place on the path, whose links are followed.
     fn last_on_path(&self) -> Option<usize>
         ensures { result ≡ slice_get self.now.path 0 }
     {
         self.path.top()
     }
 
-    /// Follows a link of the last place on the path, or leaves the place where it has no more.
+    // Follows a link of the last place on the path, or leaves the place where it has no more.
     fn step(&mut self, rows: &[Row<usize>], position: usize) -> Result<(), AllocError>
         requires below { StayBelow (length rows.now) rows.now }
         requires grouping { IsGrouping rows.now self.old }
@@ -124,7 +124,7 @@ impl Components {
         }
     }
 
-    /// The open place at a position.
+    // The open place at a position.
     fn place_at(&self, position: usize) -> usize
         requires { position < length self.now.members }
         ensures { result ≡ slice_index self.now.members position }
@@ -132,7 +132,7 @@ impl Components {
         self.members[position]
     }
 
-    /// How many links of a place were followed.
+    // How many links of a place were followed.
     fn followed_of(&self, place: usize) -> usize
         requires { place < length self.now.next }
         ensures { result ≡ slice_index self.now.next place }
@@ -140,7 +140,7 @@ impl Components {
         self.next[place]
     }
 
-    /// Follows the next link of a place, which leads to the target.
+    // Follows the next link of a place, which leads to the target.
     fn follow_link(&mut self, place: usize, target: usize) -> Result<(), AllocError>
         requires place { place < length self.old.next }
         requires more { slice_index self.old.next place + 1 < 2 ^ 64 }
@@ -157,15 +157,15 @@ impl Components {
         Ok(())
     }
 
-    /// Makes one group of that of the position and the later ones.
+    // Makes one group of that of the position and the later ones.
     fn merge_from(&mut self, position: usize)
         ensures { self.new ≡ model.merged self.old position }
     {
         pop_above(&mut self.starts, position);
     }
 
-    /// Leaves the last place of the path, which stands at the position, and closes its group where
-    /// the place starts it.
+    // Leaves the last place of the path, which stands at the position, and closes its group where
+    // the place starts it.
     fn leave(&mut self, position: usize)
         requires position { position < length self.old.members }
         requires below { AreBelow (length self.old.marks) self.old.members }
@@ -179,7 +179,7 @@ impl Components {
         }
     }
 
-    /// Closes the last open group, whose first place stands at the start.
+    // Closes the last open group, whose first place stands at the start.
     fn close(&mut self, start: usize)
         requires start { start < length self.old.members }
         requires below { AreBelow (length self.old.marks) self.old.members }
@@ -210,7 +210,7 @@ impl Components {
     }
 }
 
-/// The level of a place by its mark, where so many groups are done.
+// The level of a place by its mark, where so many groups are done.
 fn level(closed: usize, mark: Mark) -> usize
     ensures { result ≡ level_of closed mark }
 {
@@ -220,7 +220,7 @@ fn level(closed: usize, mark: Mark) -> usize
     }
 }
 
-/// Takes the numbers above the position off the stack.
+// Takes the numbers above the position off the stack.
 fn pop_above(starts: &mut Stack, position: usize)
     ensures { starts.new ≡ without_above position starts.old }
 {
@@ -232,7 +232,7 @@ fn pop_above(starts: &mut Stack, position: usize)
     }
 }
 
-/// Puts the mark at each of the places.
+// Puts the mark at each of the places.
 fn mark_all(marks: &mut Vec<Mark>, places: &[usize], mark: Mark)
     requires { AreBelow (length marks.old.items) places.now }
     ensures { marks.new.items ≡ marked_all mark places.now marks.old.items }

@@ -18,8 +18,8 @@ use smil_model::{Attrs, Bytes, Doc, Item, Items, Node};
 use std::alloc::{AllocError, Global};
 use std::collections::HashMap;
 
-/// Where those are found from which the times of an element follow: the time children of each node,
-/// the child before each node in a seq, and the elements by their ids.
+// Where those are found from which the times of an element follow: the time children of each node,
+// the child before each node in a seq, and the elements by their ids.
 #[derive(Drop)]
 struct Index<'a, 'b> {
     children: &'a [Row<usize>],
@@ -53,7 +53,7 @@ pub fn feeders(
     feeder_rows(alloc, tree.doc, &index)
 }
 
-/// The same rows by an index.
+// The same rows by an index.
 fn feeder_rows(
     alloc: Global,
     doc: &Doc,
@@ -102,8 +102,8 @@ pub fn sources(
     Ok(rows)
 }
 
-/// Appends the places of those from which the times of the element at a place follow; nothing for a
-/// priorityClass.
+// Appends the places of those from which the times of the element at a place follow; nothing for a
+// priorityClass.
 fn push_feeders(
     row: &mut Row<usize>,
     index: &Index<'_, '_>,
@@ -125,7 +125,7 @@ fn push_feeders(
     push_named(row, &node.attrs.end, index.ids)
 }
 
-/// Appends the time children where the simple duration is implicit.
+// Appends the time children where the simple duration is implicit.
 fn push_children(
     row: &mut Row<usize>,
     attrs: &Attrs,
@@ -142,7 +142,7 @@ fn push_children(
     }
 }
 
-/// Appends the places of those whose events an element hears; nothing for a priorityClass.
+// Appends the places of those whose events an element hears; nothing for a priorityClass.
 fn push_heard_by(
     row: &mut Row<usize>,
     node: &Node,
@@ -161,7 +161,7 @@ fn push_heard_by(
     push_heard(row, &node.attrs.end, ids, place)
 }
 
-/// Appends the places of the elements to whose begins or ends the items refer.
+// Appends the places of the elements to whose begins or ends the items refer.
 fn push_named(
     row: &mut Row<usize>,
     items: &Option<Items>,
@@ -193,8 +193,8 @@ pub fn named_by(ids: &HashMap<&[u8], usize>, item: &Item) -> Option<usize>
     }
 }
 
-/// Appends the places of the elements whose events or repeats the items of the element at a place
-/// mean.
+// Appends the places of the elements whose events or repeats the items of the element at a place
+// mean.
 fn push_heard(
     row: &mut Row<usize>,
     items: &Option<Items>,
@@ -217,7 +217,7 @@ fn push_heard(
     Ok(())
 }
 
-/// The place of the element whose event or repeat an item of the element at a place means.
+// The place of the element whose event or repeat an item of the element at a place means.
 fn source_of(ids: &HashMap<&[u8], usize>, item: &Item, place: usize) -> Option<usize>
     ensures { result ≡ places.source_of (λ id. get_by (λ k. bytes_eq id k.now) ids.now) place
         item.now }
@@ -229,7 +229,7 @@ fn source_of(ids: &HashMap<&[u8], usize>, item: &Item, place: usize) -> Option<u
     }
 }
 
-/// The place of the element with this id, or the place itself where there is no id.
+// The place of the element with this id, or the place itself where there is no id.
 fn target(ids: &HashMap<&[u8], usize>, who: &Option<Bytes>, place: usize) -> Option<usize>
     ensures { result ≡ places.target_place (λ id. get_by (λ k. bytes_eq id k.now) ids.now) place
         who.now }

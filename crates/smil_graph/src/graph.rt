@@ -84,7 +84,7 @@ impl Graph {
         Graph::over(alloc, doc.copy()?)
     }
 
-    /// The graph of a document that it keeps.
+    // The graph of a document that it keeps.
     fn over(alloc: Global, doc: Doc) -> Result<Graph, AllocError>
         requires { IsNumberedTree doc }
         ensures { IfOk result (λ graph. graph.nodes ≡ doc.nodes) }
@@ -164,7 +164,7 @@ impl Graph {
     }
 }
 
-/// The reach of the element at a place, in document order.
+// The reach of the element at a place, in document order.
 fn reach_at(alloc: Global, doc: &Doc, tables: &Tables, place: usize) -> Result<Row<u32>, AllocError>
     requires tree { IsNumberedTree doc.now }
     requires tables { AreTables doc.now tables.now }
@@ -181,7 +181,7 @@ fn reach_at(alloc: Global, doc: &Doc, tables: &Tables, place: usize) -> Result<R
     reach_from(alloc, doc, tables, starts.as_slice())
 }
 
-/// What is reached from the elements at these places, in document order.
+// What is reached from the elements at these places, in document order.
 fn reach_from(
     alloc: Global,
     doc: &Doc,
@@ -199,7 +199,7 @@ fn reach_from(
     serials_at(alloc, doc, found.as_slice())
 }
 
-/// The place of a serial that is an element's.
+// The place of a serial that is an element's.
 fn element_place(doc: &Doc, places: &HashMap<u32, usize>, serial: u32) -> Option<usize>
     ensures { result ≡ element_place doc.now.nodes (get nat_eq places.now serial) }
 {
@@ -209,7 +209,7 @@ fn element_place(doc: &Doc, places: &HashMap<u32, usize>, serial: u32) -> Option
     }
 }
 
-/// Appends these serials. Where memory runs out the list is as before.
+// Appends these serials. Where memory runs out the list is as before.
 fn append(out: &mut Serials, serials: &[u32]) -> Result<(), AllocError>
     ensures ok { OnOk result (out.new ≡ out.old ++ serials.now) }
     ensures err { OnErr result (out.new ≡ out.old) }
@@ -222,7 +222,7 @@ fn append(out: &mut Serials, serials: &[u32]) -> Result<(), AllocError>
     pushed
 }
 
-/// Appends these serials, or some of them where memory runs out.
+// Appends these serials, or some of them where memory runs out.
 fn push_all(out: &mut Serials, serials: &[u32]) -> Result<(), AllocError>
     ensures ok { OnOk result (out.new ≡ out.old ++ serials.now) }
     ensures err { OnErr result ((k : ℕ) × (out.new ≡ out.old ++ take k serials.now)) }
@@ -233,14 +233,14 @@ fn push_all(out: &mut Serials, serials: &[u32]) -> Result<(), AllocError>
     Ok(())
 }
 
-/// The place of a serial.
+// The place of a serial.
 fn place_of(places: &HashMap<u32, usize>, serial: u32) -> Option<usize>
     ensures { result ≡ get nat_eq places.now serial }
 {
     places.get(&serial).copied()
 }
 
-/// The row at a place; it is empty where there is none.
+// The row at a place; it is empty where there is none.
 fn row_of(rows: &[Row<u32>], place: Option<usize>) -> &[u32]
     ensures { result.now ≡ row_of rows.now place }
 {
@@ -253,7 +253,7 @@ fn row_of(rows: &[Row<u32>], place: Option<usize>) -> &[u32]
     }
 }
 
-/// Whether there is a mark at an item of the row at a place.
+// Whether there is a mark at an item of the row at a place.
 fn is_marked(rows: &[Row<bool>], place: Option<usize>, item: usize) -> bool
     ensures { result ≡ marked_at rows.now place item }
 {

@@ -51,7 +51,7 @@ pub fn looped_marks(
     Ok(rows)
 }
 
-/// The items of one side of an element, where it has the attribute.
+// The items of one side of an element, where it has the attribute.
 fn side_of(node: &Node, side: Edge) -> &Option<Items>
     ensures { result.now ≡ side_of side node.now }
 {
@@ -61,8 +61,8 @@ fn side_of(node: &Node, side: Edge) -> &Option<Items>
     }
 }
 
-/// Appends for each item whether it is a reference of the element at a place to one of the same
-/// level.
+// Appends for each item whether it is a reference of the element at a place to one of the same
+// level.
 fn push_marks(
     row: &mut Row<bool>,
     items: &Option<Items>,
@@ -85,7 +85,7 @@ fn push_marks(
     Ok(())
 }
 
-/// Whether there is another place, and on the level of this one.
+// Whether there is another place, and on the level of this one.
 fn is_on_level(levels: &[usize], place: usize, other: Option<usize>) -> bool
     ensures { result ≡ is_on_level levels.now place other }
 {

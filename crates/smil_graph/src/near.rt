@@ -34,7 +34,7 @@ pub fn near(alloc: Global, tree: &TimeTree<'_>, place: usize) -> Result<IndexSet
     Ok(found)
 }
 
-/// The time parent where that is a seq or an excl, and else the element itself.
+// The time parent where that is a seq or an excl, and else the element itself.
 fn top_of(doc: &Doc, parent: Option<usize>, place: usize) -> usize
     ensures { result ≡ top_of doc.now.nodes parent place }
 {
@@ -50,7 +50,7 @@ fn top_of(doc: &Doc, parent: Option<usize>, place: usize) -> usize
     }
 }
 
-/// Whether the node at a place is a seq or an excl.
+// Whether the node at a place is a seq or an excl.
 fn takes_turns(doc: &Doc, place: usize) -> bool
     ensures { result ≡ takes_turns (slice_get doc.now.nodes place) }
 {

@@ -15,8 +15,8 @@ use super::tables::serials_at;
 use smil_model::Doc;
 use std::alloc::{AllocError, Global};
 
-/// What an element is sorted by: first by level, then by height, the lower first, and then by
-/// place.
+// What an element is sorted by: first by level, then by height, the lower first, and then by
+// place.
 #[derive(Clone, Copy, Debug, PartialEq, Eq, PartialOrd, Ord)]
 struct Rank {
     level: usize,
@@ -45,7 +45,7 @@ pub fn ordered(
     serials_at(alloc, doc, places.as_slice())
 }
 
-/// How high each node stands: the root highest, and every other node one below its time parent.
+// How high each node stands: the root highest, and every other node one below its time parent.
 fn heights(alloc: Global, time_parents: &[Option<usize>]) -> Result<Vec<usize>, AllocError>
     requires { (p q : ℕ) → up time_parents.now p ≡ Some q → q < p }
     ensures { IfOk result (λ heights. AreHeights time_parents.now heights.items) }
@@ -59,7 +59,7 @@ fn heights(alloc: Global, time_parents: &[Option<usize>]) -> Result<Vec<usize>, 
     Ok(heights)
 }
 
-/// One below the parent's height, or the top where there is no parent.
+// One below the parent's height, or the top where there is no parent.
 fn height_under(heights: &[usize], parent: Option<usize>, top: usize) -> usize
     ensures { result ≡ height_under heights.now top parent }
 {
@@ -69,7 +69,7 @@ fn height_under(heights: &[usize], parent: Option<usize>, top: usize) -> usize
     }
 }
 
-/// The ranks of the elements, in document order.
+// The ranks of the elements, in document order.
 fn ranks(
     alloc: Global,
     doc: &Doc,
@@ -95,7 +95,7 @@ fn ranks(
     Ok(ranks)
 }
 
-/// The places of ranks.
+// The places of ranks.
 fn places(alloc: Global, ranks: &[Rank]) -> Result<Vec<usize>, AllocError>
     ensures { IfOk result (λ places. places.items ≡ map (λ rank. rank.place) ranks.now) }
 {

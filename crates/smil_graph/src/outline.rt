@@ -47,7 +47,7 @@ pub fn parents(
     Ok(parents)
 }
 
-/// The place of the parent of the node at a place.
+// The place of the parent of the node at a place.
 fn parent_of(doc: &Doc, places: &HashMap<u32, usize>, place: usize) -> Option<usize>
     ensures { result ≡ parent_by (get nat_eq places.now) (slice_get doc.now.nodes place) }
 {
@@ -76,7 +76,7 @@ pub fn time_parents(
     Ok(above)
 }
 
-/// The parent, or its time parent where it is a priorityClass.
+// The parent, or its time parent where it is a priorityClass.
 fn element_above(doc: &Doc, parent: Option<usize>, above: &[Option<usize>]) -> Option<usize>
     ensures { result ≡ element_above doc.now.nodes above.now parent }
 {
@@ -128,8 +128,8 @@ pub fn time_children(
     turned(alloc, under.as_slice())
 }
 
-/// For each element a row with the place of its time parent, if it has one; the row of a
-/// priorityClass is empty.
+// For each element a row with the place of its time parent, if it has one; the row of a
+// priorityClass is empty.
 fn parent_rows(
     alloc: Global,
     doc: &Doc,
@@ -171,7 +171,7 @@ pub fn previous_in_seqs(
     Ok(table)
 }
 
-/// Under a parent that is a seq, the place of the child before this one.
+// Under a parent that is a seq, the place of the child before this one.
 fn previous_of(
     doc: &Doc,
     parent: Option<usize>,
@@ -193,7 +193,7 @@ fn previous_of(
     }
 }
 
-/// Whether the node at a place is a seq.
+// Whether the node at a place is a seq.
 fn is_seq(doc: &Doc, place: usize) -> bool
     ensures { result ≡ model.has_kind model.is_seq_kind (slice_get doc.now.nodes place) }
 {
@@ -206,8 +206,8 @@ fn is_seq(doc: &Doc, place: usize) -> bool
     }
 }
 
-/// The one before a place in a rising row; None for the first, and where the row does not have the
-/// place.
+// The one before a place in a rising row; None for the first, and where the row does not have the
+// place.
 fn one_before(row: &[usize], place: usize) -> Option<usize>
     requires { IsRising row.now }
     ensures { result ≡ before place None row.now }

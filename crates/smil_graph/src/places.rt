@@ -40,7 +40,7 @@ pub fn id_places<'a>(alloc: Global, doc: &'a Doc) -> Result<HashMap<&'a [u8], us
     Ok(places)
 }
 
-/// Notes the place of an element for its id, if it has one.
+// Notes the place of an element for its id, if it has one.
 fn note_id<'a>(
     places: &mut HashMap<&'a [u8], usize>,
     node: &'a Node,

@@ -30,7 +30,7 @@ pub fn search(
     Ok(found)
 }
 
-/// Puts in each of these places.
+// Puts in each of these places.
 fn insert_all(found: &mut IndexSet<usize>, places: &[usize]) -> Result<(), AllocError>
     ensures { OnOk result (found.new.keys ≡ with_places found.old.keys places.now) }
 {

@@ -108,7 +108,7 @@ pub fn tables_like(alloc: Global, doc: &Doc, other: &Tables) -> Result<Tables, A
     Ok(tables)
 }
 
-/// A level for each node, from the rows of what each element's times follow from.
+// A level for each node, from the rows of what each element's times follow from.
 fn element_levels(alloc: Global, feeders: &[Row<usize>]) -> Result<Vec<usize>, AllocError>
     requires { StayBelow (length feeders.now) feeders.now }
     ensures { IfOk result (λ levels. (nodes : List Node) → IsDistinct nodes
@@ -119,7 +119,7 @@ fn element_levels(alloc: Global, feeders: &[Row<usize>]) -> Result<Vec<usize>, A
     levels(alloc, fed.as_slice())
 }
 
-/// For each node the places of the elements that read it, in document order.
+// For each node the places of the elements that read it, in document order.
 fn heads(
     alloc: Global,
     doc: &Doc,
@@ -136,7 +136,7 @@ fn heads(
     turned(alloc, sources.as_slice())
 }
 
-/// For each element the serials of those that read it, in document order.
+// For each element the serials of those that read it, in document order.
 fn readers(alloc: Global, doc: &Doc, heads: &[Row<usize>]) -> Result<Vec<Row<u32>>, AllocError>
     requires distinct { IsDistinct doc.now.nodes }
     requires heads { AreHeads doc.now.nodes heads.now }

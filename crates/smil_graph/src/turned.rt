@@ -20,8 +20,8 @@ pub fn turned(alloc: Global, rows: &[Row<usize>]) -> Result<Vec<Row<usize>>, All
     Ok(heads)
 }
 
-/// Appends a place to each of the rows that are listed, and once to a row that is listed twice.
-/// What is said of a row holds where it does not have the place before.
+// Appends a place to each of the rows that are listed, and once to a row that is listed twice.
+// What is said of a row holds where it does not have the place before.
 fn push_in_each(
     rows: &mut Vec<Row<usize>>,
     listed: &[usize],
@@ -38,7 +38,7 @@ fn push_in_each(
     Ok(())
 }
 
-/// Whether the last place is this one.
+// Whether the last place is this one.
 fn ends_with(places: &[usize], place: usize) -> bool
     ensures { result ≡ is_last places.now place }
 {

@@ -12,7 +12,7 @@ use super::row::{Row, empty_rows, push_at};
 use smil_model::{Doc, Item, Items, Node};
 use std::alloc::{AllocError, Global};
 
-/// How many keys there are: one for each byte.
+// How many keys there are: one for each byte.
 const KEYS: usize = 256;
 
 /// For each key a row of the places of the elements that have an item for it.
@@ -28,8 +28,8 @@ pub fn waiting(alloc: Global, doc: &Doc) -> Result<Vec<Row<usize>>, AllocError>
     Ok(rows)
 }
 
-/// Puts the place of an element into the row of each key for which it has an item; that of a
-/// priorityClass into none.
+// Puts the place of an element into the row of each key for which it has an item; that of a
+// priorityClass into none.
 fn push_waits(rows: &mut Vec<Row<usize>>, node: &Node, place: usize) -> Result<(), AllocError>
     requires { 256 ≤ length rows.old.items }
     ensures { OnOk result (AreWithPlace (λ key. is_element node.now && has_key_item key node.now)
@@ -42,7 +42,7 @@ fn push_waits(rows: &mut Vec<Row<usize>>, node: &Node, place: usize) -> Result<(
     push_keys(rows, &node.attrs.end, place)
 }
 
-/// Puts a place into the row of each key for which there is an item.
+// Puts a place into the row of each key for which there is an item.
 fn push_keys(
     rows: &mut Vec<Row<usize>>,
     items: &Option<Items>,
@@ -63,7 +63,7 @@ fn push_keys(
     Ok(())
 }
 
-/// The key that an item waits for.
+// The key that an item waits for.
 fn key_of(item: &Item) -> Option<u8>
     ensures { result ≡ key_of item.now }
 {
@@ -73,7 +73,7 @@ fn key_of(item: &Item) -> Option<u8>
     }
 }
 
-/// Puts a place into the row of a key, if there is one.
+// Puts a place into the row of a key, if there is one.
 fn push_key(rows: &mut Vec<Row<usize>>, key: Option<u8>, place: usize) -> Result<(), AllocError>
     requires { 256 ≤ length rows.old.items }
     ensures { OnOk result (AreWithPlace (λ i. is_place i key) place rows.old.items rows.new.items) }
