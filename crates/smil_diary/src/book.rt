@@ -197,7 +197,7 @@ impl Book {
         self.element(who).first(kind)
     }
 
-    /// What the index has of an element.
+    // What the index has of an element.
     fn element(&self, who: u32) -> &ElementPlaces
         ensures places { result.now ≡ element_of self.now who }
         ensures few { length self.now ≤ limits.DIARY_ENTRIES }
@@ -205,7 +205,7 @@ impl Book {
         self.index.element(who)
     }
 
-    /// Whether a time parent is active, or absent.
+    // Whether a time parent is active, or absent.
     fn lives_under(&self, parent: Option<u32>) -> bool
         ensures { (node : Option Node) → serial_of node ≡ parent
             → result ≡ lives_under node self.now }
@@ -216,7 +216,7 @@ impl Book {
         }
     }
 
-    /// The place of the last begin or repeat of the element.
+    // The place of the last begin or repeat of the element.
     fn last_birth(&self, who: u32) -> Option<usize>
         ensures value { result ≡ last_place (λ (x : GivenEntry). gives_birth who x.step) self.now }
         ensures within { IfSome result (λ place. place < length self.now) }
@@ -225,8 +225,8 @@ impl Book {
         self.element(who).last_birth()
     }
 
-    /// How many entries there are up to and with the last begin or repeat of a time parent; 0 where
-    /// there is none.
+    // How many entries there are up to and with the last begin or repeat of a time parent; 0 where
+    // there is none.
     fn births_end(&self, parent: Option<u32>) -> usize
         ensures { result ≡ births_end parent self.now }
     {
@@ -239,7 +239,7 @@ impl Book {
         }
     }
 
-    /// Appends an entry where there is room for one. Where memory runs out the diary is as before.
+    // Appends an entry where there is room for one. Where memory runs out the diary is as before.
     fn append(&mut self, entry: Entry) -> Result<(), AllocError>
         requires { length self.old < limits.DIARY_ENTRIES }
         ensures ok { OnOk result (self.new ≡ self.old ++ entry ∷ []) }
@@ -258,7 +258,7 @@ impl Book {
         noted
     }
 
-    /// Takes away the last entry, where there is one.
+    // Takes away the last entry, where there is one.
     fn drop_last(&mut self)
         ensures { self.new ≡ take (length self.old - 1) self.old }
     {

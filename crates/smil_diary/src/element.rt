@@ -77,7 +77,7 @@ impl ElementPlaces {
             && self.finished.is_empty()
     }
 
-    /// The places of one kind.
+    // The places of one kind.
     fn places(&self, kind: StepKind) -> &Places
         ensures { result.now ≡ places_of self.now kind }
     {
@@ -144,7 +144,7 @@ impl ElementPlaces {
         is_from(birth, deferred) && is_later(deferred, self.last_decision())
     }
 
-    /// The place of the last begin, pass, end or cut.
+    // The place of the last begin, pass, end or cut.
     fn last_decision(&self) -> Option<usize>
         ensures { result ≡ decision_by self.now }
     {
@@ -201,7 +201,7 @@ impl ElementPlaces {
         }
     }
 
-    /// Adds a place to those of its kind.
+    // Adds a place to those of its kind.
     fn add(&mut self, kind: StepKind, place: usize) -> Result<(), AllocError>
         requires { place < limits.DIARY_ENTRIES }
         ensures ok { OnOk result (self.new ≡ with_place kind place self.old) }
@@ -219,7 +219,7 @@ impl ElementPlaces {
         }
     }
 
-    /// Takes away the last place of a kind.
+    // Takes away the last place of a kind.
     fn take(&mut self, kind: StepKind)
         ensures { self.new ≡ without_last kind self.old }
     {
