@@ -179,7 +179,7 @@ impl Clocks {
         self.outer(to, moment) + (value - self.outer(from, moment))
     }
 
-    /// The clocks of a document to which nothing has happened yet.
+    // The clocks of a document to which nothing has happened yet.
     fn new(alloc: Global, tree: &Tree) -> Result<Self, AllocError>
         requires { IsNumberedTree tree.now }
         ensures { IfOk result (λ clocks. clocks ≡ map (idle_clock tree.now.nodes) tree.now.nodes) }
@@ -187,7 +187,7 @@ impl Clocks {
         Clocks::indexed(alloc, idle_clocks(alloc, tree)?)
     }
 
-    /// These clocks, with the table of their places.
+    // These clocks, with the table of their places.
     fn indexed(alloc: Global, clocks: Vec<NodeClock>) -> Result<Self, AllocError>
         requires { AllFit clocks.items }
         ensures { IfOk result (λ made. made ≡ clocks.items) }
@@ -198,7 +198,7 @@ impl Clocks {
         })
     }
 
-    /// The clock of a node.
+    // The clock of a node.
     fn clock(&self, who: u32) -> Option<NodeClock>
         ensures value { result ≡ clock_at self.now who }
         ensures fits { IfSome result (λ n. Fits n.clock) }
@@ -207,7 +207,7 @@ impl Clocks {
         self.clocks.get(*place).copied()
     }
 
-    /// The clock of the time parent of a node.
+    // The clock of the time parent of a node.
     fn parent(&self, who: u32) -> Option<NodeClock>
         ensures value { result ≡ parent_at self.now who }
         ensures fits { IfSome result (λ n. Fits n.clock) }
@@ -216,7 +216,7 @@ impl Clocks {
         self.clocks.get(place).copied()
     }
 
-    /// Whether the node is an element that is itself paused.
+    // Whether the node is an element that is itself paused.
     fn is_paused(&self, who: u32) -> bool
         ensures { (h : History) → AreClocksOf self.now h → has_element h.nodes who ≡ true
             → result ≡ paused_in h.diary who }
@@ -227,7 +227,7 @@ impl Clocks {
         }
     }
 
-    /// Takes in that an element of the document is paused, or no longer is, from this moment on.
+    // Takes in that an element of the document is paused, or no longer is, from this moment on.
     fn turn(&mut self, who: u32, paused: bool, moment: i64)
         requires { MayTurn self.old who paused moment }
         ensures { (h : History) (y : AnyEntry) → AreClocksOf self.old h → IsLawful (with_entry h y)
@@ -239,8 +239,8 @@ impl Clocks {
     }
 }
 
-/// The clocks of the nodes of a document to which nothing has happened yet: all run, and lost
-/// nothing.
+// The clocks of the nodes of a document to which nothing has happened yet: all run, and lost
+// nothing.
 fn idle_clocks(alloc: Global, tree: &Tree) -> Result<Vec<NodeClock>, AllocError>
     requires { IsNumberedTree tree.now }
     ensures { IfOk result (λ clocks. clocks.items ≡ map (idle_clock tree.now.nodes) tree.now.nodes) }
@@ -257,7 +257,7 @@ fn idle_clocks(alloc: Global, tree: &Tree) -> Result<Vec<NodeClock>, AllocError>
     Ok(clocks)
 }
 
-/// The place of the time parent of a node.
+// The place of the time parent of a node.
 fn parent_place(tree: &Tree, serial: u32) -> Option<usize>
     requires { IsSome (node_at tree.now.nodes serial) }
     ensures { result ≡ parent_place tree.now.nodes serial }
@@ -265,7 +265,7 @@ fn parent_place(tree: &Tree, serial: u32) -> Option<usize>
     tree.position(tree.time_parent(serial)?)
 }
 
-/// A table from serials to places, in which the first place of a serial counts.
+// A table from serials to places, in which the first place of a serial counts.
 fn places_of(alloc: Global, clocks: &[NodeClock]) -> Result<HashMap<u32, usize>, AllocError>
     ensures { IfOk result (λ places. ArePlacesOf (get nat_eq places) clocks.now) }
 {
@@ -276,7 +276,7 @@ fn places_of(alloc: Global, clocks: &[NodeClock]) -> Result<HashMap<u32, usize>,
     Ok(places)
 }
 
-/// Notes the place of a serial, where it has none yet.
+// Notes the place of a serial, where it has none yet.
 fn note_place(places: &mut HashMap<u32, usize>, serial: u32, place: usize) -> Result<(), AllocError>
     ensures { OnOk result ((s : ℕ)
         → get nat_eq places.new s ≡ option_or (get nat_eq places.old s)

@@ -26,7 +26,7 @@ pub(crate) fn refresh(clocks: &mut [NodeClock], first: usize, moment: i64)
     }
 }
 
-/// Whether a time parent stands before the place `first`, or is absent.
+// Whether a time parent stands before the place `first`, or is absent.
 fn is_outside(first: usize, parent: Option<usize>) -> bool
     ensures { result ≡ not (is_from first parent) }
 {
@@ -36,14 +36,14 @@ fn is_outside(first: usize, parent: Option<usize>) -> bool
     }
 }
 
-/// Whether a node is paused or the clock of its time parent stands.
+// Whether a node is paused or the clock of its time parent stands.
 fn is_held(clocks: &[NodeClock], node: NodeClock) -> bool
     ensures { result ≡ (node.paused || stands_by (at_place clocks.now node.parent)) }
 {
     node.paused || stands_at(clocks, node.parent)
 }
 
-/// Whether the clock of a time parent stands; where there is none, it is document time, which runs.
+// Whether the clock of a time parent stands; where there is none, it is document time, which runs.
 fn stands_at(clocks: &[NodeClock], parent: Option<usize>) -> bool
     ensures { result ≡ stands_by (at_place clocks.now parent) }
 {
