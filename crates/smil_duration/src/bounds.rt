@@ -121,7 +121,7 @@ impl Bounds {
         repeated_end(self.count, self.repeat_dur, simple, play)
     }
 
-    /// A time between `min` and `max` after `start`.
+    // A time between `min` and `max` after `start`.
     fn within(&self, start: i64, time: Time) -> Time
         ensures { result ≡ within_bounds self.now start time }
     {
@@ -133,7 +133,7 @@ impl Bounds {
     }
 }
 
-/// Where the iterations or the repeat duration of a play end, of a simple duration that may repeat.
+// Where the iterations or the repeat duration of a play end, of a simple duration that may repeat.
 fn repeated_end(count: Option<Count>, repeat_dur: Option<Time>, simple: Time, play: &Play) -> Time
     ensures { result ≡ Durations.repeated_end count repeat_dur simple play.now.first play.now.start
         play.now.iteration }
@@ -153,7 +153,7 @@ fn repeated_end(count: Option<Count>, repeat_dur: Option<Time>, simple: Time, pl
     }
 }
 
-/// The time of the iterations of a count after so many that are done, rounded down.
+// The time of the iterations of a count after so many that are done, rounded down.
 fn iterated(count: Count, done: u32, simple: Time) -> Time
     ensures { result ≡ Durations.iterated count done simple }
 {
@@ -172,8 +172,8 @@ fn iterated(count: Count, done: u32, simple: Time) -> Time
     }
 }
 
-/// So many thousandths of a number, rounded down. They are at most a count's, and at least the
-/// negative of those done.
+// So many thousandths of a number, rounded down. They are at most a count's, and at least the
+// negative of those done.
 fn thousandths(count: i128, length: i64) -> Time
     requires low { negsuc (2 ^ 48) ≤ℤ count }
     requires high { count <ℤ pos (2 ^ 64) }
