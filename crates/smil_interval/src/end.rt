@@ -21,8 +21,8 @@ pub fn interval_at(facts: &Facts, begins: &[i64], ends: &[Time], begin: i64) -> 
     Some(Interval { begin, end })
 }
 
-/// The end of an interval that begins at `begin`: the least of the end by the duration, the limit
-/// of the end list and the next begin. None where no interval begins there.
+// The end of an interval that begins at `begin`: the least of the end by the duration, the limit
+// of the end list and the next begin. None where no interval begins there.
 fn interval_end(facts: &Facts, begins: &[i64], ends: &[Time], begin: i64) -> Option<Time>
     requires begins_rise { IsRising begins.now }
     requires ends_rise { IsRisingTimes ends.now }
@@ -33,7 +33,7 @@ fn interval_end(facts: &Facts, begins: &[i64], ends: &[Time], begin: i64) -> Opt
     Some(least(duration_end(facts, begin), least(limit, next)))
 }
 
-/// The end by the duration. Of an active element it is unresolved while the element is paused.
+// The end by the duration. Of an active element it is unresolved while the element is paused.
 fn duration_end(facts: &Facts, begin: i64) -> Time
     ensures { result ≡ Intervals.duration_end facts.now facts.now.play begin }
 {
@@ -47,8 +47,8 @@ fn duration_end(facts: &Facts, begin: i64) -> Time
     }
 }
 
-/// The limit that the end list sets, unresolved where it sets none. None where no end instance
-/// counts and the list gives no other end, so that no interval begins there.
+// The limit that the end list sets, unresolved where it sets none. None where no end instance
+// counts and the list gives no other end, so that no interval begins there.
 fn end_limit(facts: &Facts, ends: &[Time], begin: i64) -> Option<Time>
     requires { IsRisingTimes ends.now }
     ensures { result ≡ Intervals.end_limit facts.now ends.now begin }
@@ -59,8 +59,8 @@ fn end_limit(facts: &Facts, ends: &[Time], begin: i64) -> Option<Time>
     }
 }
 
-/// The limit of an end list that is there: the least end instance that counts, or `begin` plus
-/// `min` if that is greater.
+// The limit of an end list that is there: the least end instance that counts, or `begin` plus
+// `min` if that is greater.
 fn given_limit(facts: &Facts, ends: &[Time], begin: i64) -> Option<Time>
     requires { IsRisingTimes ends.now }
     ensures { result ≡ limit_of facts.now begin ends.now
@@ -72,8 +72,8 @@ fn given_limit(facts: &Facts, ends: &[Time], begin: i64) -> Option<Time>
     }
 }
 
-/// The limit where no end instance counts: none for an active element, for one whose list has an
-/// event or repeat item, and where the list gives no instance at all.
+// The limit where no end instance counts: none for an active element, for one whose list has an
+// event or repeat item, and where the list gives no instance at all.
 fn no_end_counts(facts: &Facts, ends: &[Time]) -> Option<Time>
     ensures { result ≡ limit_of facts.now (pos 0) ends.now [] }
 {
@@ -84,7 +84,7 @@ fn no_end_counts(facts: &Facts, ends: &[Time]) -> Option<Time>
     }
 }
 
-/// The next begin, which ends an interval where the element may always restart.
+// The next begin, which ends an interval where the element may always restart.
 fn next_begin(restart: Restart, begins: &[i64], begin: i64) -> Time
     requires { IsRising begins.now }
     ensures { result ≡ Intervals.next_begin restart begins.now begin }
@@ -95,7 +95,7 @@ fn next_begin(restart: Restart, begins: &[i64], begin: i64) -> Time
     }
 }
 
-/// The least begin after a number, unresolved where there is none.
+// The least begin after a number, unresolved where there is none.
 fn first_after(begins: &[i64], value: i64) -> Time
     requires { IsRising begins.now }
     ensures { result ≡ Intervals.first_after value begins.now }

@@ -35,7 +35,7 @@ pub fn evaluate<L: Ledger>(
     current(begins, ends, facts)
 }
 
-/// The interval of an element.
+// The interval of an element.
 fn current(begins: &[i64], ends: &[Time], facts: &Facts) -> Option<Interval>
     requires begins_rise { IsRising begins.now }
     requires ends_rise { IsRisingTimes ends.now }
@@ -53,7 +53,7 @@ fn current(begins: &[i64], ends: &[Time], facts: &Facts) -> Option<Interval>
     }
 }
 
-/// The first interval where none has finished since birth, and else the next one.
+// The first interval where none has finished since birth, and else the next one.
 fn coming(begins: &[i64], ends: &[Time], facts: &Facts) -> Option<Interval>
     requires begins_rise { IsRising begins.now }
     requires ends_rise { IsRisingTimes ends.now }

@@ -41,8 +41,8 @@ pub fn from_end(begins: &[i64], interval: Interval) -> &[i64]
     &begins[place..]
 }
 
-/// Whether a begin stands from the end of an interval on, or strictly after it where the interval
-/// has length 0.
+// Whether a begin stands from the end of an interval on, or strictly after it where the interval
+// has length 0.
 fn follows(interval: Interval, begin: i64) -> bool
     ensures { result ≡ is_from (Some (after_end interval.begin interval.end)) begin }
 {
@@ -68,8 +68,8 @@ pub fn counting(ends: &[Time], last: Option<Interval>, begin: i64) -> &[Time]
     &ends[place..]
 }
 
-/// Whether an end instance counts for an interval that begins at `begin`: it is not before it, and
-/// not equal to it where the last interval ended there.
+// Whether an end instance counts for an interval that begins at `begin`: it is not before it, and
+// not equal to it where the last interval ended there.
 fn counts(last: Option<Interval>, begin: i64, end: Time) -> bool
     ensures { result ≡ counts_from last begin end }
 {
@@ -79,7 +79,7 @@ fn counts(last: Option<Interval>, begin: i64, end: Time) -> bool
     }
 }
 
-/// Whether the last finished interval ended at this time.
+// Whether the last finished interval ended at this time.
 fn ended_at(last: Option<Interval>, time: Time) -> bool
     ensures { result ≡ Intervals.ended_at last time }
 {

@@ -48,7 +48,7 @@ pub fn next_interval(begins: &[i64], ends: &[Time], facts: &Facts) -> Option<Int
     }
 }
 
-/// The interval that begins at the least begin from the end of an interval on.
+// The interval that begins at the least begin from the end of an interval on.
 fn interval_from(begins: &[i64], ends: &[Time], facts: &Facts, last: Interval) -> Option<Interval>
     requires begins_rise { IsRising begins.now }
     requires ends_rise { IsRisingTimes ends.now }
@@ -62,8 +62,8 @@ fn interval_from(begins: &[i64], ends: &[Time], facts: &Facts, last: Interval) -
     }
 }
 
-/// Whether a first interval is accepted: it ends after the parent's play start, or begins and ends
-/// there.
+// Whether a first interval is accepted: it ends after the parent's play start, or begins and ends
+// there.
 fn is_accepted(parent_start: i64, interval: Interval) -> bool
     ensures { result ≡ Intervals.is_accepted parent_start interval.begin interval.end }
 {
