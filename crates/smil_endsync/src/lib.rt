@@ -30,7 +30,7 @@ pub fn implicit(kind: Kind, endsync: &Endsync, start: i64, ends: &[ChildEnd]) ->
     )
 }
 
-/// How long after `start` a time is.
+// How long after `start` a time is.
 fn since(start: i64, time: Time) -> Time
     ensures { result ≡ later_time time (neg_ℤ start) }
 {
@@ -40,7 +40,7 @@ fn since(start: i64, time: Time) -> Time
     }
 }
 
-/// Where the children of a container end. A seq ends with its last child, whatever its `endsync`.
+// Where the children of a container end. A seq ends with its last child, whatever its `endsync`.
 fn children_end(kind: Kind, endsync: &Endsync, start: i64, ends: &[ChildEnd]) -> Time
     ensures { result ≡ Durations.children_end kind endsync.now start ends.now }
 {
@@ -50,7 +50,7 @@ fn children_end(kind: Kind, endsync: &Endsync, start: i64, ends: &[ChildEnd]) ->
     }
 }
 
-/// Where the children of a par or excl end.
+// Where the children of a par or excl end.
 fn endsync_end(endsync: &Endsync, start: i64, ends: &[ChildEnd]) -> Time
     ensures { result ≡ Durations.endsync_end endsync.now start ends.now }
 {
@@ -62,15 +62,15 @@ fn endsync_end(endsync: &Endsync, start: i64, ends: &[ChildEnd]) -> Time
     }
 }
 
-/// The greatest of the latest ends. Children without one do not count, and `start` is it where none
-/// counts.
+// The greatest of the latest ends. Children without one do not count, and `start` is it where none
+// counts.
 fn last_end(start: i64, ends: &[ChildEnd]) -> Time
     ensures { result ≡ Durations.last_end start ends.now }
 {
     greatest_latest(ends).unwrap_or(Time::At(start))
 }
 
-/// The greatest of the latest ends, where a child has one.
+// The greatest of the latest ends, where a child has one.
 fn greatest_latest(ends: &[ChildEnd]) -> Option<Time>
     ensures { result ≡ fold Known.greatest_known None (map (λ c. c.latest) ends.now) }
 {
@@ -79,7 +79,7 @@ fn greatest_latest(ends: &[ChildEnd]) -> Option<Time>
         .fold(None, |end, latest| greatest_known(end, latest))
 }
 
-/// The greater of two times of which either may be absent.
+// The greater of two times of which either may be absent.
 fn greatest_known(a: Option<Time>, b: Option<Time>) -> Option<Time>
     ensures { result ≡ Known.greatest_known a b }
 {
@@ -92,7 +92,7 @@ fn greatest_known(a: Option<Time>, b: Option<Time>) -> Option<Time>
     }
 }
 
-/// The greatest of the latest ends, none counting as unresolved.
+// The greatest of the latest ends, none counting as unresolved.
 fn all_end(ends: &[ChildEnd]) -> Time
     ensures { result ≡ Durations.all_end ends.now }
 {
@@ -102,7 +102,7 @@ fn all_end(ends: &[ChildEnd]) -> Time
     }
 }
 
-/// The greatest of a time and the latest ends, none counting as unresolved.
+// The greatest of a time and the latest ends, none counting as unresolved.
 fn greatest_with(time: Time, ends: &[ChildEnd]) -> Time
     ensures { result ≡ fold greatest_time time
         (map (λ c. unwrap_or c.latest Time.Unresolved) ends.now) }
@@ -112,7 +112,7 @@ fn greatest_with(time: Time, ends: &[ChildEnd]) -> Time
         .fold(time, |a, b| greatest(a, b))
 }
 
-/// The least of the first ends, none counting as unresolved.
+// The least of the first ends, none counting as unresolved.
 fn first_end(ends: &[ChildEnd]) -> Time
     ensures { result ≡ Durations.first_end ends.now }
 {
@@ -121,8 +121,8 @@ fn first_end(ends: &[ChildEnd]) -> Time
         .fold(Time::Unresolved, |a, b| least(a, b))
 }
 
-/// The first end of the named child, none counting as unresolved. Where no child is named, the last
-/// end.
+// The first end of the named child, none counting as unresolved. Where no child is named, the last
+// end.
 fn named_end(start: i64, ends: &[ChildEnd]) -> Time
     ensures { result ≡ Durations.named_end start ends.now (find (λ c. c.named) ends.now) }
 {
@@ -132,14 +132,14 @@ fn named_end(start: i64, ends: &[ChildEnd]) -> Time
     }
 }
 
-/// The named child.
+// The named child.
 fn named_child(ends: &[ChildEnd]) -> Option<ChildEnd>
     ensures { result ≡ find (λ c. c.named) ends.now }
 {
     ends.iter().copied().find(|child| child.named)
 }
 
-/// The first end of the last child, none counting as unresolved.
+// The first end of the last child, none counting as unresolved.
 fn seq_end(ends: &[ChildEnd]) -> Time
     ensures { result ≡ Durations.seq_end ends.now }
 {
