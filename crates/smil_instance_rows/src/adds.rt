@@ -27,7 +27,7 @@ pub fn add_each(rows: &mut Rows, adds: &[Add]) -> Result<(), AllocError>
     Ok(())
 }
 
-/// Takes out what the first adds added.
+// Takes out what the first adds added.
 fn undo_each(rows: &mut Rows, adds: &[Add], made: usize)
     requires made { made ≤ length adds.now }
     requires some { SomeMade rows.old adds.now made }

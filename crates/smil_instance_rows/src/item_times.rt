@@ -160,7 +160,7 @@ pub fn undo<T: Instant>(kept: &mut ItemTimes, sorted: &mut Sorted<T>)
     }
 }
 
-/// Takes out the value that a time gave, if any.
+// Takes out the value that a time gave, if any.
 fn let_go<T: Instant>(sorted: &mut Sorted<T>, time: Time)
     ensures { sorted.new ≡ without_value T.at_most (T.choose time) sorted.old }
 {

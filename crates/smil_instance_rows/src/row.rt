@@ -177,7 +177,7 @@ impl InstanceRow {
     }
 }
 
-/// The time of a begin; unresolved where there is none.
+// The time of a begin; unresolved where there is none.
 fn at_or_unresolved(begin: Option<i64>) -> Time
     ensures { result ≡ option_map_or At begin Unresolved }
 {

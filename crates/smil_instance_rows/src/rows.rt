@@ -197,7 +197,7 @@ impl Rows {
         Some(self.at(place)?.serial())
     }
 
-    /// The row of an element, if it has one.
+    // The row of an element, if it has one.
     fn row(&self, who: u32) -> Option<&InstanceRow>
         ensures { option_copied result ≡ row_in self.now who }
     {
@@ -207,7 +207,7 @@ impl Rows {
         }
     }
 
-    /// The row at a place from 0; None exactly where the place is not below the number of rows.
+    // The row at a place from 0; None exactly where the place is not below the number of rows.
     fn at(&self, place: usize) -> Option<&InstanceRow>
         ensures { option_copied result ≡ slice_get self.now place }
     {

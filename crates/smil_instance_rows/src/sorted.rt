@@ -8,7 +8,7 @@ use smil_model::Duplicate;
 use std::alloc::{AllocError, Global};
 use std::marker::Model;
 
-/// How many of the rising values are less than the value.
+// How many of the rising values are less than the value.
 fn place_from<T: Instant>(values: &[T], value: T) -> usize
     requires { IsRising T.at_most values.now }
     ensures { IsPlaceFrom T.at_most values.now value result }
@@ -99,7 +99,7 @@ impl<T: Instant> Sorted<T> {
         self.at(place)
     }
 
-    /// The value at a place from 0; None exactly where the place is not below the length.
+    // The value at a place from 0; None exactly where the place is not below the length.
     fn at(&self, place: usize) -> Option<T>
         ensures { result ≡ slice_get self.now place }
     {
