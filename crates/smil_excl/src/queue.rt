@@ -110,7 +110,7 @@ impl Queue {
         was
     }
 
-    /// Whether the queue holds this child.
+    // Whether the queue holds this child.
     fn holds(&self, who: u32) -> bool
         ensures { result ≡ list_any (λ other. other.who == who) self.now.held }
     {
@@ -118,7 +118,7 @@ impl Queue {
     }
 }
 
-/// The place of the first child of this rank or a later one.
+// The place of the first child of this rank or a later one.
 fn first_not_above(held: &[Held], rank: u32) -> Option<usize>
     ensures place { result ≡ position (λ other. nat_le rank other.rank) held.now }
     ensures bound { IfSome result (λ place. place < length held.now) }
@@ -126,7 +126,7 @@ fn first_not_above(held: &[Held], rank: u32) -> Option<usize>
     held.iter().position(|other| rank <= other.rank)
 }
 
-/// The place of the first child of a rank later than this one.
+// The place of the first child of a rank later than this one.
 fn first_below(held: &[Held], rank: u32) -> Option<usize>
     ensures place { result ≡ position (λ other. nat_lt rank other.rank) held.now }
     ensures bound { IfSome result (λ place. place < length held.now) }
