@@ -8,7 +8,7 @@ ghost use Rattle.smil_due.specs.Order.{happening_cmp};
 use smil_model::Key;
 use std::cmp::Ordering;
 
-/// The class of a begin.
+// The class of a begin.
 const BEGIN: u8 = 2;
 
 /// Whether the first key happens before the second: by moment, then by class, then by place. Among
@@ -31,8 +31,8 @@ pub fn order_of(a: Key, b: Key) -> Ordering
         .then(a.repeat.cmp(&b.repeat))
 }
 
-/// The turn of a key among those of its moment and class: begins in document order, all others
-/// against it.
+// The turn of a key among those of its moment and class: begins in document order, all others
+// against it.
 fn turn(key: Key) -> i64
     ensures { result ≡ Order.turn key }
 {

@@ -17,7 +17,7 @@ pub fn least_scan(keys: &[Key]) -> Option<Key>
         .fold(None, |least, key| earlier(least, key))
 }
 
-/// The earlier of two keys, of which the first may be absent; of equal ones the first.
+// The earlier of two keys, of which the first may be absent; of equal ones the first.
 fn earlier(least: Option<Key>, key: Key) -> Option<Key>
     ensures { result ≡ Keys.earlier_key least key }
 {
