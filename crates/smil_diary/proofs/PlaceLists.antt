@@ -7,6 +7,7 @@ use Rattle.std.proofs.lemmas.Iterator.Adapters.{position_from-zero}
 use Rattle.std.specs.List.Sorted.{IsNonDecreasing}
 use Rattle.std.proofs.lemmas.List.Sorted.{IsNonDecreasingBy-from_default}
 use Rattle.std.proofs.Math.Seq.{take-append_seam}
+use Rattle.std.proofs.lemmas.Bool.{ltb-true}
 use Rattle.smil_model.specs.declared.diary.Entry.{Entry}
 use Rattle.smil_model.specs.diary.Diary.{last_place, later_place, with_past}
 use Rattle.smil_diary.specs.Kept.{places_from, led, grown, but_last}
@@ -106,9 +107,6 @@ first-places_from from test (x ∷ xs) =
 pub first-places : {A : Type 0} (test : A → Bool) (xs : List A) → slice_get (places_from 0 test xs) 0 ≡ position test xs
 first-places test xs = first-places_from 0 test xs ∙ sym (position_from-zero test xs)
 
-is-below : (a b : ℕ) → nat_lt a b ≡ true → a < b
-is-below a b is = grind arith
-
 within-found : (found : Bool) (k n : ℕ) → (found ≡ true → k < n) → IfSome (cond found (Some k) None) (λ place. place < n)
 within-found true k n is = is refl
 within-found false k n is = tt
@@ -116,7 +114,7 @@ within-found false k n is = tt
 pub first-within : {A : Type 0} (test : A → Bool) (xs : List A) → IfSome (position test xs) (λ place. place < length xs)
 first-within test xs =
     within-found (nat_lt (position_or_len test xs) (length xs)) (position_or_len test xs) (length xs)
-    (is-below (position_or_len test xs) (length xs))
+    (ltb-true (position_or_len test xs) (length xs))
 
 -- ---- they rise
 
