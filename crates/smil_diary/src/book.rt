@@ -115,6 +115,13 @@ impl Book {
         self.entries.get(place).copied()
     }
 
+    /// All entries, in order. It takes no memory.
+    pub fn entries(&self) -> &[Entry]
+        ensures { result.now ≡ self.now }
+    {
+        self.entries.as_slice()
+    }
+
     /// How many entries there are up to and with the birth of the time children of `parent`, its
     /// last begin or repeat: 0 for None, which stands for the root's lack of a time parent, and all
     /// of them where `parent` never began. It takes no memory.
