@@ -1,52 +1,25 @@
 -- The row of an element stays right while the intervals that feed it without a loop stay.
-use Rattle.std.proofs.Common.{◌≡◌, refl, ◌∙◌, ap, sym, ℕ, ◌<◌, ◌≤◌, List, [], ◌∷◌, length, Option, Some, None, ℤ, Bool, true, false, get_or, arith}
-use Rattle.std.specs.Prelude.{◌&&◌, ◌||◌, ◌==◌, map, filter, cond, not}
-use Rattle.std.specs.List.{list_any}
+use Rattle.std.proofs.Common.{◌≡◌, refl, ◌∙◌, ap, ℕ, ◌<◌, ◌≤◌, List, length, Option, Some, ℤ, Bool, true, false, get_or, arith}
+use Rattle.std.specs.Prelude.{◌==◌}
 use Rattle.std.proofs.lemmas.Bool.{or_left, or_right, and_from, eq-eqb, eqb-true, not_from_false}
 use Rattle.smil_model.specs.declared.interval.Interval.{Interval}
 use Rattle.smil_model.specs.declared.document.Node.{Node}
-use Rattle.smil_model.specs.declared.document.Kind.{Kind}
 use Rattle.smil_model.specs.declared.document.Kind.TheVariants as kind
-use Rattle.smil_model.specs.document.Document.{elements, node_at, has_serial, previous_in_seq, is_time_child}
-use Rattle.smil_model.specs.document.Dependencies.{has_implicit_duration, is_sync_with, all_items, leads_to}
+use Rattle.smil_model.specs.document.Document.{elements, node_at, has_serial}
+use Rattle.smil_model.specs.document.Dependencies.{has_implicit_duration}
 use Rattle.smil_model.specs.diary.Diary.{History}
-use Rattle.smil_model.specs.interval.Durations.{stated_duration}
-use Rattle.smil_model.specs.interval.Current.{child_end, container_implicit, implicit_of, implicit_duration, simple_of}
-use Rattle.smil_laws.proofs.Locality.{AgreeFor, same_interval}
+use Rattle.smil_model.specs.interval.Current.{simple_of}
+use Rattle.smil_laws.proofs.Locality.{AgreeFor, same_interval, same_implicit, same_stated}
 use Rattle.smil_graph.specs.Graph.{follows_unlooped, IsOrder}
 use Rattle.smil_element.specs.Element.{coming_by}
 use Rattle.smil_cells.specs.declared.plain.known.Row.{Row}
 use Rattle.smil_cells.specs.Round.{IsRowOf}
 
 module _ (h : History) (J K : ℕ → Option Interval) (now : ℤ) (e : Node) where
-  same_child : (c : Node) → J c.serial ≡ K c.serial → child_end h J e c ≡ child_end h K e c
-  same_child c p = rw p
-
-  same_children_in : (test : Node → Bool) (ns : List Node) → ((s : ℕ) → list_any (λ (c : Node). (c.serial == s) && test c) ns ≡ true → J s ≡ K s) → map (child_end h J e) (filter test ns) ≡ map (child_end h K e) (filter test ns)
-  same_children_in test [] f = refl
-  same_children_in test (n ∷ ns) f = step (test n) (λ t. f n.serial (or_left _ _ (and_from _ _ (eq-eqb n.serial n.serial refl) t))) (same_children_in test ns (λ s t. f s (or_right _ _ t)))
-    where
-      step : (t : Bool) → (t ≡ true → J n.serial ≡ K n.serial) → map (child_end h J e) (filter test ns) ≡ map (child_end h K e) (filter test ns) → map (child_end h J e) (cond t (n ∷ filter test ns) (filter test ns)) ≡ map (child_end h K e) (cond t (n ∷ filter test ns) (filter test ns))
-      step true p q = ap (λ x. x ∷ map (child_end h J e) (filter test ns)) (same_child n (p refl)) ∙ ap (λ xs. child_end h K e n ∷ xs) q
-      step false p q = q
-
-  same_container : ((s : ℕ) → list_any (λ (c : Node). (c.serial == s) && is_time_child h.nodes e.serial c) h.nodes ≡ true → J s ≡ K s) → container_implicit h J e ≡ container_implicit h K e
-  same_container f = rw (same_children_in (is_time_child h.nodes e.serial) h.nodes f)
-
-  same_implicit : (k : Kind) → ((s : ℕ) → list_any (λ (c : Node). (c.serial == s) && is_time_child h.nodes e.serial c) h.nodes ≡ true → J s ≡ K s) → implicit_of h J e k ≡ implicit_of h K e k
-  same_implicit kind.Par f = same_container f
-  same_implicit kind.Seq f = same_container f
-  same_implicit kind.Excl f = same_container f
-  same_implicit _ f = refl
-
-  same_stated : (t : Bool) → (t ≡ true → implicit_duration h J e ≡ implicit_duration h K e) → cond t (implicit_duration h J e) (stated_duration e.attrs.dur) ≡ cond t (implicit_duration h K e) (stated_duration e.attrs.dur)
-  same_stated true f = f refl
-  same_stated false f = refl
-
   -- its simple duration stays
   pub same_simple : AgreeFor h J K e → simple_of h J e ≡ simple_of h K e
   same_simple agree =
-      same_stated (has_implicit_duration e) (λ t. same_implicit e.kind (λ c q. agree.children c t q))
+      same_stated h J K now e (has_implicit_duration e) (λ t. same_implicit h J K now e e.kind (λ c q. agree.children c t q))
 
   -- and so does its row
   pub row_stays : (place : ℕ) (row : Row) → AgreeFor h J K e → IsRowOf h J now place e row → IsRowOf h K now place e row

@@ -1,6 +1,6 @@
 -- Cells of what has happened, at a moment up to which it is what a resolution comes to.
 use Rattle.std.proofs.Common.{◌≡◌, refl, sym, ◌∙◌, ap, subst, ℕ, zero, suc, ◌-◌, ◌≤◌, List, [], ◌∷◌, Option, None, Some, ℤ, Bool, true, false, arith, length, take}
-use Rattle.std.specs.Prelude.{pos, negsuc, nat_abs, int_le, ◌≤ℤ◌, is_some, min, Result, Ok, Err, IfOk}
+use Rattle.std.specs.Prelude.{pos, nat_abs, int_le, ◌≤ℤ◌, is_some, min}
 use Rattle.std.proofs.lemmas.Int.{ints}
 use Rattle.std.proofs.lemmas.List.{length-take}
 use Rattle.smil_model.specs.declared.times.TheConstants.{HORIZON}
@@ -26,16 +26,8 @@ use Rattle.smil_cells.specs.Standing.{Standing, IsRebuilt, MayRebuild, cut_log}
 use Rattle.smil_diary.specs.declared.fault.BookFault.{BookFault}
 use Rattle.smil_cells.specs.Standings.{IsKept, MayBegin, begun, marked_by}
 use Rattle.smil_cells.proofs.Heeded.{first_is_log, heeded}
-
-positive : (v : ℤ) → pos 0 ≤ℤ v → v ≡ pos (nat_abs v)
-positive (pos k) l = refl
-positive (negsuc k) l = absurd (omega (arith, ints, l))
-
-no_more : (x y : ℤ) → int_le x y ≡ true → x ≤ℤ y
-no_more x y q = grind (arith, ints)
-
-no_less : (x y : ℤ) → x ≤ℤ y → int_le x y ≡ true
-no_less x y l = grind (arith, ints)
+use Rattle.smil_cells.proofs.Grown.{positive}
+use Rattle.smil_model.proofs.Orders.{le_from}
 
 module _ (past : Happened) (moment : ℤ) (may : MayBegin past moment) where
   pub is_present : ReachedIsPast → IsPresent past moment
@@ -43,7 +35,7 @@ module _ (past : Happened) (moment : ℤ) (may : MayBegin past moment) where
     past_is = subst (λ (z : ℤ). until z past.diary ≡ past.diary) (sym (positive moment may.from))
         (law past.document past.log (nat_abs moment) (record { moment = nat_abs moment; heard = length past.log; diary = past.diary }) may.reached).entries;
     from = may.from;
-    within = subst (λ (z : ℤ). z ≤ℤ HORIZON) (sym (positive moment may.from)) (no_more (pos (nat_abs moment)) HORIZON may.state.now);
+    within = subst (λ (z : ℤ). z ≤ℤ HORIZON) (sym (positive moment may.from)) (le_from (pos (nat_abs moment)) HORIZON may.state.now);
   }
 
   module _ (is_current is_marked : History → ℤ → Type 0) (has_mark : Bool) where
@@ -125,10 +117,10 @@ module _ (s : Standing) (document : Document) (len : ℕ) (may : MayRebuild s do
       valid = may.valid;
       lawful =
           subst (λ (x : Progress). IsLawful (history_at course x)) (reached.1 ∙ at_it law)
-          (resolved_lawful document part may.at.moment reached.0 may.valid.numbered (no_more (pos may.at.moment) HORIZON (within log lawful)));
+          (resolved_lawful document part may.at.moment reached.0 may.valid.numbered (le_from (pos may.at.moment) HORIZON (within log lawful)));
       near =
           subst (λ (x : Progress). AllNear x.diary) (reached.1 ∙ at_it law)
-          (near document part may.at.moment reached.0 (no_more (pos may.at.moment) HORIZON (within log lawful)));
+          (near document part may.at.moment reached.0 (le_from (pos may.at.moment) HORIZON (within log lawful)));
       named =
           subst (λ (n : ℕ). NamesBelow n (take len s.diary)) (heard_is law)
           (subst (λ (d : List Entry). NamesBelow may.at.heard d) may.diary_is (law document part may.at.moment may.at reached).named);
@@ -165,10 +157,6 @@ module _ (s : Standing) (document : Document) (len : ℕ) (may : MayRebuild s do
   rebuilt_is past z cells is at made =
       subst (λ (x : Standing). IsRebuilt s document len x) (sym (made ∙ (ap (λ (p : Happened). begun p z) is ∙ ap (λ (v : ℤ). begun rebuilt_past v) at)))
       (record { document_is = refl; diary_is = refl; log_is = refl; moment_is = moment_is s document len may; sound = refl; unmarked = refl })
-
-pub where_made : {A E : Type 0} (r : Result A E) (P Q : A → Type 0) → ((x : A) → P x → Q x) → IfOk r P → IfOk r Q
-where_made (Ok x) P Q f p = f x p
-where_made (Err e) P Q f p = tt
 
 -- ---- a copy
 

@@ -3,8 +3,7 @@ use Rattle.std.proofs.Common.{◌≡◌, refl, sym, ◌∙◌, ap, subst, ℕ, s
 use Rattle.std.proofs.Math.Seq.{drop-append_seam, take-append_seam}
 use Rattle.std.proofs.lemmas.List.{take-append-le}
 use Rattle.std.proofs.lemmas.List.Elements.{filter-append}
-use Rattle.std.specs.Prelude.{pos, negsuc, nat_abs, ◌≤ℤ◌, int_le, cond, is_some, slice_get, find, fold, ◌==◌}
-use Rattle.std.specs.Option.{option_map_or}
+use Rattle.std.specs.Prelude.{pos, negsuc, nat_abs, ◌≤ℤ◌, int_le, cond, is_some, slice_get}
 use Rattle.std.specs.List.{AllByRecursion}
 use Rattle.std.proofs.lemmas.Int.{ints}
 use Rattle.smil_model.specs.declared.diary.Entry.{Entry}
@@ -13,14 +12,14 @@ use Rattle.smil_model.specs.declared.diary.Step.{Step}
 use Rattle.smil_model.specs.declared.document.Node.{Node}
 use Rattle.smil_model.specs.declared.times.TheConstants.{HORIZON}
 use Rattle.smil_model.specs.declared.limits.TheConstants.{DIARY_ENTRIES}
-use Rattle.smil_model.specs.document.Document.{Document, elements, is_element, node_at}
+use Rattle.smil_model.specs.document.Document.{Document, elements, node_at}
 use Rattle.smil_model.specs.document.Valid.{IsDistinct, IsNumberedTree, IsValid}
 use Rattle.smil_model.specs.diary.Diary.{History, last_moment}
 use Rattle.smil_model.specs.diary.Lawful.{IsLawful, has_element}
 use Rattle.smil_model.specs.diary.Clocks.{until}
 use Rattle.smil_model.specs.happening.Keys.{Change, Coming, coming, first_coming, is_due}
 use Rattle.smil_model.specs.happening.Groups.{at_moment, group, steps_of}
-use Rattle.smil_model.specs.happening.Resolution.{Course, Progress, Reaches, next_step, after_steps, after_coming, after_settling, history_at, outset}
+use Rattle.smil_model.specs.happening.Resolution.{Progress, Reaches, next_step, after_coming, after_settling, history_at, outset}
 use Rattle.smil_model.specs.shown.Orders.{Presentation}
 use Rattle.smil_laws.specs.Agreement.{course_on}
 use Rattle.smil_laws.specs.Cut.{IsNamedBelow, NamesBelow}
@@ -44,17 +43,18 @@ use Rattle.smil_past.specs.Queues.{kept_queues}
 use Rattle.smil_element.specs.declared.happening.parts.Parts.{Parts}
 use Rattle.smil_element.specs.Parts.{ArePartsOf}
 use Rattle.smil_cells.specs.Standings.{IsKept, IsSound, WhereMarked, at_mark, marked_by, standing_of}
+use Rattle.smil_model.proofs.Orders.{le_self, is_le}
+use Rattle.smil_instances.proofs.Targets.{known_node}
+use Rattle.smil_laws.proofs.Cutting.{one_more}
+use Rattle.smil_element.proofs.Latest.{last_from}
 
 pub fits : (z : ℤ) → pos 0 ≤ℤ z → z ≤ℤ HORIZON → FitsSigned w64 z
 fits (pos k) from within = record { sfits = omega (arith, ints, from, within) }
 fits (negsuc k) from within = absurd (omega (arith, ints, from))
 
-no_less : (x : ℤ) → int_le x x ≡ true
-no_less x = grind (arith, ints)
-
 pub until_moment : (m : ℤ) (steps : List Step) → until m (at_moment m steps) ≡ at_moment m steps
 until_moment m [] = refl
-until_moment m (x ∷ xs) = rw (no_less m) (ap (λ (k : List Entry). record { moment = m; step = x } ∷ k) (until_moment m xs))
+until_moment m (x ∷ xs) = rw (le_self m) (ap (λ (k : List Entry). record { moment = m; step = x } ∷ k) (until_moment m xs))
 
 -- the entries of a moment leave it the moment
 pub present_with : (past : Happened) (m : ℤ) (steps : List Step) → IsPresent past m → IsPresent (with_diary past (past.diary ++ at_moment m steps)) m
@@ -111,14 +111,6 @@ pub of_element : FirstIsOfElement → (h : History) (now : ℤ) (c : Coming) →
 of_element law h now c distinct first = ap (λ (x : Option Node). is_some x) (law h now c distinct first).here
 
 -- ---- one step further
-
-pub one_more : (c : Course) (i : ℕ) (x q r : Progress) → after_steps c i x ≡ q → next_step c q ≡ Some r → after_steps c (suc i) x ≡ r
-one_more c zero x q r e n = ap (λ o. option_map_or (λ s. s) o x) (ap (next_step c) e ∙ n)
-one_more c (suc i) x q r e n = by_next (next_step c x) refl e (λ y. one_more c i y q r)
-  where
-    by_next : (o : Option Progress) → next_step c x ≡ o → option_map_or (λ s. after_steps c i s) o x ≡ q → ((y : Progress) → after_steps c i y ≡ q → next_step c q ≡ Some r → after_steps c (suc i) y ≡ r) → option_map_or (λ s. after_steps c (suc i) s) o x ≡ r
-    by_next None d f later = let never : None ≡ Some r = sym d ∙ ap (next_step c) f ∙ n in cc
-    by_next (Some y) d f later = later y f n
 
 module _ (document : Document) (log : List LogEntry) (now : ℕ) (diary : List Entry) (next : Coming) where
   abbrev h : History
@@ -184,27 +176,7 @@ all_may past m (x ∷ xs) lawful near named =
 -- ---- what the group is told by
 
 pub is_late : (m : ℤ) (diary : List Entry) → pos 0 ≤ℤ m → until m diary ≡ diary → last_moment diary ≤ℤ m
-is_late m diary from is = over (pos 0) diary from is
-  where
-    shorter : (ds : List Entry) → length (until m ds) ≤ length ds
-    shorter [] = omega arith
-    shorter (x ∷ xs) = by_test (int_le x.moment m) (shorter xs)
-      where
-        by_test : (b : Bool) → length (until m xs) ≤ length xs → length (cond b (x ∷ until m xs) (until m xs)) ≤ suc (length xs)
-        by_test true s = omega (arith, s)
-        by_test false s = omega (arith, s)
-
-    no_later : (x : ℤ) → int_le x m ≡ true → x ≤ℤ m
-    no_later x q = grind (arith, ints)
-
-    over : (a : ℤ) (ds : List Entry) → a ≤ℤ m → until m ds ≡ ds → fold (λ before (x : Entry). x.moment) a ds ≤ℤ m
-    over a [] l e = l
-    over a (x ∷ xs) l e = by_test (int_le x.moment m) refl e (shorter xs) (no_later x.moment) (λ q r. over x.moment xs q r)
-      where
-        by_test : (b : Bool) → int_le x.moment m ≡ b → cond b (x ∷ until m xs) (until m xs) ≡ x ∷ xs → length (until m xs) ≤ length xs → (int_le x.moment m ≡ true → x.moment ≤ℤ m)
-            → (x.moment ≤ℤ m → until m xs ≡ xs → fold (λ before (y : Entry). y.moment) x.moment xs ≤ℤ m) → fold (λ before (y : Entry). y.moment) x.moment xs ≤ℤ m
-        by_test true t f s late goes = let rest : until m xs ≡ xs = cc in goes (late t) rest
-        by_test false t f s late goes = let n : length (until m xs) ≡ suc (length xs) = ap (λ (l : List Entry). length l) f in absurd (omega (arith, s, n))
+is_late m diary from is = last_from m (pos 0) diary from is
 
 pub parts : (past : Happened) (m : ℤ) (given : Parts) → given.moment ≡ m → IsPresent past m
     → given.tree.now ≡ past.document → given.book.now ≡ past.diary → AreClocksOf given.clocks.now (past_of.history_of past) → given.queues.now ≡ kept_queues (past_of.history_of past)
@@ -218,18 +190,8 @@ parts past m given whole present d b c q = record {
   late = subst (λ (v : ℤ). last_moment past.diary ≤ℤ v) (sym whole) (is_late m past.diary present.from present.past_is);
 }
 
--- an element is a node
-pub known : (nodes : List Node) (s : ℕ) → has_element nodes s ≡ true → is_some (node_at nodes s) ≡ true
-known [] s q = q
-known (n ∷ ns) s q = by_test (n.serial == s) refl (is_element n) q (known ns s)
-  where
-    by_test : (t : Bool) → (n.serial == s) ≡ t → (b : Bool) → is_some (find (λ (x : Node). x.serial == s) (cond b (n ∷ elements ns) (elements ns))) ≡ true → (has_element ns s ≡ true → is_some (node_at ns s) ≡ true) → is_some (cond t (Some n) (node_at ns s)) ≡ true
-    by_test true e b p below = refl
-    by_test false e false p below = below p
-    by_test false e true p below = below (subst (λ (t : Bool). is_some (cond t (Some n) (node_at (elements ns) s)) ≡ true) e p)
-
 pub known_in : (past : Happened) (document : Document) (s : ℕ) → document ≡ past.document → has_element past.document.nodes s ≡ true → is_some (node_at document.nodes s) ≡ true
-known_in past document s is q = subst (λ (d : Document). is_some (node_at d.nodes s) ≡ true) (sym is) (known past.document.nodes s q)
+known_in past document s is q = subst (λ (d : Document). is_some (node_at d.nodes s) ≡ true) (sym is) (known_node past.document.nodes s q)
 
 take_at : (m : ℤ) (k : ℕ) (steps : List Step) → take k (at_moment m steps) ≡ at_moment m (take k steps)
 take_at m zero steps = refl
@@ -263,9 +225,6 @@ pub positive : (v : ℤ) → pos 0 ≤ℤ v → v ≡ pos (nat_abs v)
 positive (pos k) l = refl
 positive (negsuc k) l = absurd (omega (arith, ints, l))
 
-less_eq : (x y : ℤ) → x ≤ℤ y → int_le x y ≡ true
-less_eq x y l = grind (arith, ints)
-
 split_at : (m : ℤ) (k : ℕ) (steps : List Step) → (rest : List Entry) × (at_moment m steps ≡ at_moment m (take k steps) ++ rest)
 split_at m zero steps = (at_moment m steps, refl)
 split_at m (suc k) [] = ([], refl)
@@ -273,7 +232,7 @@ split_at m (suc k) (x ∷ xs) = let r = split_at m k xs in (r.0, ap (λ (l : Lis
 
 module _ (past : Happened) (m : ℤ) (steps : List Step) (next : Coming) (valid : IsValid past.document) (present : IsPresent past m) (reached : Reaches (course_on past.document.nodes past.log (nat_abs m)) (record { moment = nat_abs m; heard = length past.log; diary = past.diary })) (first : first_coming (coming (record { nodes = past.document.nodes; log = past.log; diary = past.diary }) (pos (nat_abs m))) ≡ Some next) (due : next.key.value ≤ℤ pos (nat_abs m)) (made : steps ≡ steps_of (record { nodes = past.document.nodes; log = past.log; diary = past.diary }) m next.key.serial next.change) where
   is_due_now : is_due (pos (nat_abs m)) next.key ≡ true
-  is_due_now = less_eq next.key.value (pos (nat_abs m)) due
+  is_due_now = is_le next.key.value (pos (nat_abs m)) due
 
   whole : m ≡ pos (nat_abs m)
   whole = positive m present.from

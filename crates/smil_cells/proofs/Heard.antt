@@ -12,7 +12,7 @@ use Rattle.smil_model.specs.happening.Groups.{group}
 use Rattle.smil_model.specs.happening.Resolution.{Course, Progress, Reaches, after_coming, after_settling, after_quiet, history_at, outset}
 use Rattle.smil_laws.specs.Agreement.{course_on}
 use Rattle.smil_laws.specs.Courses.{ReachesFurther}
-use Rattle.smil_cells.proofs.Grown.{one_more}
+use Rattle.smil_laws.proofs.Cutting.{one_more}
 
 seen : (log : List LogEntry) (entry : LogEntry) → slice_get (log ++ entry ∷ []) (length log) ≡ Some entry
 seen [] entry = refl

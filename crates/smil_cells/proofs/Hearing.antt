@@ -33,19 +33,11 @@ use Rattle.smil_past.specs.Past as past_of
 use Rattle.smil_past.specs.Past.{Happened, IsPresent, MayHear, logged_entry, with_heard}
 use Rattle.smil_cells.specs.Standing.{Standing, IsFront, IsHeard, IsRefusing, NothingBefore, WhereTold, fresh, fresh_since, with_logged, is_same_interval}
 use Rattle.smil_cells.specs.Standings.{IsKept, IsSound, WhereMarked, marked_by, standing_of}
-use Rattle.smil_cells.proofs.Coming.{coming_stays}
 use Rattle.smil_cells.proofs.Heard.{reached_heard}
 use Rattle.smil_cells.proofs.Heeded.{log_with, logged_one}
 use Rattle.smil_cells.proofs.OnWay.{untouched}
-
-no_less : (x : ℤ) → int_le x x ≡ true
-no_less x = grind (arith, ints)
-
-less_eq : (x y : ℤ) → x ≤ℤ y → int_le x y ≡ true
-less_eq x y l = grind (arith, ints)
-
-no_more : (x y : ℤ) → int_le x y ≡ true → x ≤ℤ y
-no_more x y q = grind (arith, ints)
+use Rattle.smil_model.proofs.Orders.{le_self, le_from}
+use Rattle.smil_element.specs.Comings.{coming_stays}
 
 not_due : (x y : ℤ) → (x +ℤ pos 1) ≤ℤ y → int_le y x ≡ false
 not_due x y q = grind (arith, ints)
@@ -124,7 +116,7 @@ module _ (past : Happened) (m : ℤ) (entry : LogEntry) (fault : Option BookFaul
     past_is =
         filter-append (λ (x : Entry). int_le x.moment m) past.diary (line ∷ [])
         ∙ (ap (λ (k : List Entry). k ++ until m (line ∷ [])) present.past_is
-        ∙ ap (λ (k : List Entry). past.diary ++ k) (by_test (int_le entry.moment m) (ap (λ (z : ℤ). int_le z m) (here ∙ sym whole) ∙ no_less m)));
+        ∙ ap (λ (k : List Entry). past.diary ++ k) (by_test (int_le entry.moment m) (ap (λ (z : ℤ). int_le z m) (here ∙ sym whole) ∙ le_self m)));
     from = present.from;
     within = present.within;
   }
@@ -135,7 +127,7 @@ module _ (past : Happened) (m : ℤ) (entry : LogEntry) (fault : Option BookFaul
 
   module _ (state : IsState was.presentation) (reached : Reaches (course_of was.presentation) (record { moment = now; heard = length past.log; diary = past.diary })) (here : entry.moment ≡ pos now) where
     near_now : pos now ≤ℤ HORIZON
-    near_now = no_more (pos now) HORIZON state.now
+    near_now = le_from (pos now) HORIZON state.now
 
     pub named : ReachedIsPast → NamesBelow (length past.log) past.diary
     named law = (law past.document past.log now (record { moment = now; heard = length past.log; diary = past.diary }) reached).named
@@ -153,7 +145,7 @@ module _ (past : Happened) (m : ℤ) (entry : LogEntry) (fault : Option BookFaul
     state_heard may = record {
       document = state.document;
       log = log_heard may;
-      logged = logged_one (pos now) past.log entry state.logged (ap (λ (z : ℤ). int_le z (pos now)) here ∙ no_less (pos now));
+      logged = logged_one (pos now) past.log entry state.logged (ap (λ (z : ℤ). int_le z (pos now)) here ∙ le_self (pos now));
       now = state.now;
     }
 
@@ -165,7 +157,7 @@ module _ (past : Happened) (m : ℤ) (entry : LogEntry) (fault : Option BookFaul
       reached_with =
           subst (λ (n : ℕ). Reaches (course_of (with_logged was.presentation entry)) (record { moment = now; heard = n; diary = later.diary })) (one_longer (length past.log) (length (past.log ++ entry ∷ [])) (length-append past.log (entry ∷ [])))
           (subst (λ (z : ℤ). Reaches (course_of (with_logged was.presentation entry)) (record { moment = now; heard = suc (length past.log); diary = past.diary ++ logged_entry (length past.log) z ∷ [] })) (sym here)
-          (reached_heard past.document past.log now past.diary entry here further state.document.numbered (ap (λ (z : ℤ). int_le (pos now) z) here ∙ no_less (pos now)) still reached))
+          (reached_heard past.document past.log now past.diary entry here further state.document.numbered (ap (λ (z : ℤ). int_le (pos now) z) here ∙ le_self (pos now)) still reached))
         where
           one_longer : (a b : ℕ) → b ≡ a + 1 → suc a ≡ b
           one_longer a b e = omega (arith, e)

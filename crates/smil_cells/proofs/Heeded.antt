@@ -1,6 +1,6 @@
 -- Of what a course comes to, the log entries that were heard are of its log, and none is later than its moment.
-use Rattle.std.proofs.Common.{◌≡◌, refl, sym, ◌∙◌, ap, subst, ℕ, zero, suc, ◌+◌, ◌≤◌, List, [], ◌∷◌, ◌++◌, Option, None, Some, ℤ, Bool, true, false, arith, length, take}
-use Rattle.std.specs.Prelude.{pos, int_le, cond, ◌&&◌, nat_lt, slice_get}
+use Rattle.std.proofs.Common.{◌≡◌, refl, sym, subst, ℕ, zero, suc, ◌+◌, ◌≤◌, List, [], ◌∷◌, ◌++◌, Option, None, Some, ℤ, Bool, true, false, arith, length, take}
+use Rattle.std.specs.Prelude.{pos, int_le, cond, nat_lt, slice_get}
 use Rattle.std.specs.List.{list_all}
 use Rattle.std.specs.Option.{option_map_or}
 use Rattle.std.proofs.lemmas.Int.{ints}
@@ -10,17 +10,7 @@ use Rattle.smil_model.specs.diary.Logs.{is_log, is_logged_by, moments_rise, may_
 use Rattle.smil_model.specs.happening.Keys.{Coming, coming, first_coming, is_due}
 use Rattle.smil_model.specs.happening.Groups.{group}
 use Rattle.smil_model.specs.happening.Resolution.{Course, Progress, Reaches, next_step, after_steps, after_coming, after_settling, after_quiet, history_at, outset}
-
-pub both : (s t : Bool) → s ≡ true → t ≡ true → s && t ≡ true
-both s t p q = ap (λ a. a && t) p ∙ q
-
-pub left : (s t : Bool) → s && t ≡ true → s ≡ true
-left true t p = refl
-left false t p = p
-
-pub right : (s t : Bool) → s && t ≡ true → t ≡ true
-right true t p = p
-right false t p = cc
+use Rattle.std.proofs.lemmas.Bool.{and_from, and_parts}
 
 -- ---- logs
 
@@ -30,15 +20,15 @@ later a x q = grind (arith, ints)
 logged_later : (a : ℕ) (log : List LogEntry) → is_logged_by (pos a) log ≡ true → is_logged_by (pos (suc a)) log ≡ true
 logged_later a [] q = q
 logged_later a (x ∷ xs) q =
-    both (int_le x.moment (pos (suc a))) (is_logged_by (pos (suc a)) xs)
-    (later a x.moment (left (int_le x.moment (pos a)) (is_logged_by (pos a) xs) q))
-    (logged_later a xs (right (int_le x.moment (pos a)) (is_logged_by (pos a) xs) q))
+    and_from (int_le x.moment (pos (suc a))) (is_logged_by (pos (suc a)) xs)
+    (later a x.moment (and_parts (int_le x.moment (pos a)) (is_logged_by (pos a) xs) q).0)
+    (logged_later a xs (and_parts (int_le x.moment (pos a)) (is_logged_by (pos a) xs) q).1)
 
 pub logged_one : (m : ℤ) (log : List LogEntry) (entry : LogEntry) → is_logged_by m log ≡ true → int_le entry.moment m ≡ true → is_logged_by m (log ++ entry ∷ []) ≡ true
-logged_one m [] entry q t = both (int_le entry.moment m) true t refl
+logged_one m [] entry q t = and_from (int_le entry.moment m) true t refl
 logged_one m (x ∷ xs) entry q t =
-    both (int_le x.moment m) (is_logged_by m (xs ++ entry ∷ [])) (left (int_le x.moment m) (is_logged_by m xs) q)
-    (logged_one m xs entry (right (int_le x.moment m) (is_logged_by m xs) q) t)
+    and_from (int_le x.moment m) (is_logged_by m (xs ++ entry ∷ [])) (and_parts (int_le x.moment m) (is_logged_by m xs) q).0
+    (logged_one m xs entry (and_parts (int_le x.moment m) (is_logged_by m xs) q).1 t)
 
 -- one more of the log
 record OneMore (m : ℤ) (log : List LogEntry) (k : ℕ) : Type 0 where
@@ -49,11 +39,11 @@ one_more : (m : ℤ) (log : List LogEntry) (k : ℕ) (entry : LogEntry) → slic
 one_more m [] k entry q t b = cc
 one_more m (x ∷ xs) zero entry q t b =
     let same : x ≡ entry = cc in
-    record { by = both (int_le x.moment m) true (subst (λ (y : LogEntry). int_le y.moment m ≡ true) (sym same) t) refl; within = omega arith }
+    record { by = and_from (int_le x.moment m) true (subst (λ (y : LogEntry). int_le y.moment m ≡ true) (sym same) t) refl; within = omega arith }
 one_more m (x ∷ xs) (suc k) entry q t b =
-    let rest = one_more m xs k entry q t (right (int_le x.moment m) (is_logged_by m (take k xs)) b) in
+    let rest = one_more m xs k entry q t (and_parts (int_le x.moment m) (is_logged_by m (take k xs)) b).1 in
     let far = rest.within in
-    record { by = both (int_le x.moment m) (is_logged_by m (take (suc k) xs)) (left (int_le x.moment m) (is_logged_by m (take k xs)) b) rest.by; within = omega (arith, far) }
+    record { by = and_from (int_le x.moment m) (is_logged_by m (take (suc k) xs)) (and_parts (int_le x.moment m) (is_logged_by m (take k xs)) b).0 rest.by; within = omega (arith, far) }
 
 -- ---- courses
 
@@ -109,33 +99,33 @@ rises : (n : ℕ) (from : ℤ) (log : List LogEntry) → moments_rise from log �
 rises zero from log q = refl
 rises (suc n) from [] q = q
 rises (suc n) from (x ∷ xs) q =
-    both (int_le from x.moment) (moments_rise x.moment (take n xs)) (left (int_le from x.moment) (moments_rise x.moment xs) q)
-    (rises n x.moment xs (right (int_le from x.moment) (moments_rise x.moment xs) q))
+    and_from (int_le from x.moment) (moments_rise x.moment (take n xs)) (and_parts (int_le from x.moment) (moments_rise x.moment xs) q).0
+    (rises n x.moment xs (and_parts (int_le from x.moment) (moments_rise x.moment xs) q).1)
 
 pub all_first : (test : LogEntry → Bool) (n : ℕ) (log : List LogEntry) → list_all test log ≡ true → list_all test (take n log) ≡ true
 all_first test zero log q = refl
 all_first test (suc n) [] q = q
-all_first test (suc n) (x ∷ xs) q = both (test x) (list_all test (take n xs)) (left (test x) (list_all test xs) q) (all_first test n xs (right (test x) (list_all test xs) q))
+all_first test (suc n) (x ∷ xs) q = and_from (test x) (list_all test (take n xs)) (and_parts (test x) (list_all test xs) q).0 (all_first test n xs (and_parts (test x) (list_all test xs) q).1)
 
 pub first_is_log : (n : ℕ) (log : List LogEntry) → is_log log ≡ true → is_log (take n log) ≡ true
 first_is_log n log q =
-    both (moments_rise (pos 0) (take n log)) (list_all (λ (x : LogEntry). may_happen x.what) (take n log))
-    (rises n (pos 0) log (left (moments_rise (pos 0) log) (list_all (λ (x : LogEntry). may_happen x.what) log) q))
-    (all_first (λ (x : LogEntry). may_happen x.what) n log (right (moments_rise (pos 0) log) (list_all (λ (x : LogEntry). may_happen x.what) log) q))
+    and_from (moments_rise (pos 0) (take n log)) (list_all (λ (x : LogEntry). may_happen x.what) (take n log))
+    (rises n (pos 0) log (and_parts (moments_rise (pos 0) log) (list_all (λ (x : LogEntry). may_happen x.what) log) q).0)
+    (all_first (λ (x : LogEntry). may_happen x.what) n log (and_parts (moments_rise (pos 0) log) (list_all (λ (x : LogEntry). may_happen x.what) log) q).1)
 
 rises_one : (from : ℤ) (log : List LogEntry) (entry : LogEntry) → moments_rise from log ≡ true → int_le from entry.moment ≡ true → is_logged_by entry.moment log ≡ true → moments_rise from (log ++ entry ∷ []) ≡ true
-rises_one from [] entry q l b = both (int_le from entry.moment) true l refl
+rises_one from [] entry q l b = and_from (int_le from entry.moment) true l refl
 rises_one from (x ∷ xs) entry q l b =
-    both (int_le from x.moment) (moments_rise x.moment (xs ++ entry ∷ [])) (left (int_le from x.moment) (moments_rise x.moment xs) q)
-    (rises_one x.moment xs entry (right (int_le from x.moment) (moments_rise x.moment xs) q)
-    (left (int_le x.moment entry.moment) (is_logged_by entry.moment xs) b) (right (int_le x.moment entry.moment) (is_logged_by entry.moment xs) b))
+    and_from (int_le from x.moment) (moments_rise x.moment (xs ++ entry ∷ [])) (and_parts (int_le from x.moment) (moments_rise x.moment xs) q).0
+    (rises_one x.moment xs entry (and_parts (int_le from x.moment) (moments_rise x.moment xs) q).1
+    (and_parts (int_le x.moment entry.moment) (is_logged_by entry.moment xs) b).0 (and_parts (int_le x.moment entry.moment) (is_logged_by entry.moment xs) b).1)
 
 pub all_one : (test : LogEntry → Bool) (log : List LogEntry) (entry : LogEntry) → list_all test log ≡ true → test entry ≡ true → list_all test (log ++ entry ∷ []) ≡ true
-all_one test [] entry q t = both (test entry) true t refl
-all_one test (x ∷ xs) entry q t = both (test x) (list_all test (xs ++ entry ∷ [])) (left (test x) (list_all test xs) q) (all_one test xs entry (right (test x) (list_all test xs) q) t)
+all_one test [] entry q t = and_from (test entry) true t refl
+all_one test (x ∷ xs) entry q t = and_from (test x) (list_all test (xs ++ entry ∷ [])) (and_parts (test x) (list_all test xs) q).0 (all_one test xs entry (and_parts (test x) (list_all test xs) q).1 t)
 
 pub log_with : (log : List LogEntry) (entry : LogEntry) → is_log log ≡ true → is_logged_by entry.moment log ≡ true → int_le (pos 0) entry.moment ≡ true → may_happen entry.what ≡ true → is_log (log ++ entry ∷ []) ≡ true
 log_with log entry q b l m =
-    both (moments_rise (pos 0) (log ++ entry ∷ [])) (list_all (λ (x : LogEntry). may_happen x.what) (log ++ entry ∷ []))
-    (rises_one (pos 0) log entry (left (moments_rise (pos 0) log) (list_all (λ (x : LogEntry). may_happen x.what) log) q) l b)
-    (all_one (λ (x : LogEntry). may_happen x.what) log entry (right (moments_rise (pos 0) log) (list_all (λ (x : LogEntry). may_happen x.what) log) q) m)
+    and_from (moments_rise (pos 0) (log ++ entry ∷ [])) (list_all (λ (x : LogEntry). may_happen x.what) (log ++ entry ∷ []))
+    (rises_one (pos 0) log entry (and_parts (moments_rise (pos 0) log) (list_all (λ (x : LogEntry). may_happen x.what) log) q).0 l b)
+    (all_one (λ (x : LogEntry). may_happen x.what) log entry (and_parts (moments_rise (pos 0) log) (list_all (λ (x : LogEntry). may_happen x.what) log) q).1 m)

@@ -1,4 +1,3 @@
-pub mod Coming
 pub mod Passing
 pub mod Undoing
 pub mod Refusals

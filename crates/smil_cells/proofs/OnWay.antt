@@ -30,6 +30,8 @@ use Rattle.smil_past.specs.Past.{Happened}
 use Rattle.smil_cells.specs.Standings.{IsKept, WhereMarked, marked_by, standing_of}
 use Rattle.smil_laws.specs.Same.{IsSame}
 use Rattle.smil_cells.specs.Standing.{Standing, is_same_interval, fresh, IsOnWay, IsPassed, IsNext, IsFront, GoesOn, StayTouched, WhereTold, moved_to, history_of, reached_since, fresh_since, interval_at}
+use Rattle.std.proofs.lemmas.Bool.{and_parts}
+use Rattle.smil_model.proofs.Orders.{le_exact, time_exact}
 
 -- what was there at first
 pub begun : (s : Standing) (until : ℤ) → s.fault ≡ None → pos s.presentation.now ≤ℤ until → IsOnWay s s until
@@ -58,28 +60,6 @@ joined x y z m n e f = f ∙ ap (λ (k : List Entry). k ++ n) e ∙ append_assoc
 
 -- ---- intervals that differ
 
-same_number : (x y : ℤ) → int_le x y ≡ true → int_le y x ≡ true → x ≡ y
-same_number x y p q = grind (arith, ints)
-
-left : (s t : Bool) → s && t ≡ true → s ≡ true
-left true t p = refl
-left false t p = p
-
-right : (s t : Bool) → s && t ≡ true → t ≡ true
-right true t p = p
-right false t p = absurd (not_true false refl p)
-
-same_time : (s t : Time) → time_le s t ≡ true → time_le t s ≡ true → s ≡ t
-same_time (At x) (At y) p q = ap At (same_number x y p q)
-same_time Indefinite Indefinite p q = refl
-same_time Unresolved Unresolved p q = refl
-same_time (At x) Indefinite p q = cc
-same_time (At x) Unresolved p q = cc
-same_time Indefinite (At x) p q = cc
-same_time Indefinite Unresolved p q = cc
-same_time Unresolved (At x) p q = cc
-same_time Unresolved Indefinite p q = cc
-
 same_one : (i j : Interval) → i.begin ≡ j.begin → i.«end» ≡ j.«end» → i ≡ j
 same_one i j p q = subst (λ (f : Time). i ≡ record { begin = j.begin; «end» = f }) q (subst (λ (b : ℤ). i ≡ record { begin = b; «end» = i.«end» }) p refl)
 
@@ -88,11 +68,11 @@ same_is None None e = refl
 same_is None (Some j) e = absurd (not_true false refl e)
 same_is (Some i) None e = absurd (not_true false refl e)
 same_is (Some i) (Some j) e =
-    let l = right (int_le i.begin j.begin && int_le j.begin i.begin) (time_eq i.«end» j.«end») e in
-    let b = left (int_le i.begin j.begin && int_le j.begin i.begin) (time_eq i.«end» j.«end») e in
+    let l = (and_parts (int_le i.begin j.begin && int_le j.begin i.begin) (time_eq i.«end» j.«end») e).1 in
+    let b = (and_parts (int_le i.begin j.begin && int_le j.begin i.begin) (time_eq i.«end» j.«end») e).0 in
     ap Some (same_one i j
-    (same_number i.begin j.begin (left (int_le i.begin j.begin) (int_le j.begin i.begin) b) (right (int_le i.begin j.begin) (int_le j.begin i.begin) b))
-    (same_time i.«end» j.«end» (left (time_le i.«end» j.«end») (time_le j.«end» i.«end») l) (right (time_le i.«end» j.«end») (time_le j.«end» i.«end») l)))
+    (le_exact i.begin j.begin (and_parts (int_le i.begin j.begin) (int_le j.begin i.begin) b).0 (and_parts (int_le i.begin j.begin) (int_le j.begin i.begin) b).1)
+    (time_exact i.«end» j.«end» (and_parts (time_le i.«end» j.«end») (time_le j.«end» i.«end») l).0 (and_parts (time_le i.«end» j.«end») (time_le j.«end» i.«end») l).1))
 
 abbrev is_fresh : Option Interval → Option Interval → Bool
 is_fresh x y = is_some y && not (is_same_interval x y)

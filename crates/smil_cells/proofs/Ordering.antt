@@ -1,6 +1,6 @@
 -- Listed elements put in document order by their places.
 use Rattle.std.proofs.Common.{◌≡◌, refl, sym, ◌∙◌, ap, subst, ℕ, zero, suc, ◌+◌, ◌-◌, ◌<◌, ◌≤◌, List, [], ◌∷◌, ◌++◌, Option, Some, None, Bool, true, false, arith, length, take, drop, filter, get_or, Fits, w64, append-nil, eqb-true, eq-eqb}
-use Rattle.std.specs.Prelude.{◌||◌, ◌==◌, not, cond, is_some, slice_get, Result, Ok, Err, IfOk}
+use Rattle.std.specs.Prelude.{◌||◌, ◌==◌, not, cond, is_some, slice_get}
 use Rattle.std.specs.List.{AllByRecursion, position}
 use Rattle.std.specs.List.Sorted.{IsNonDecreasing, IsPermutation}
 use Rattle.std.proofs.lemmas.List.Sorted.{list_any-IsPermutation}
@@ -17,7 +17,10 @@ use Rattle.smil_laws.proofs.Members.{differ_each}
 use Rattle.smil_stretch.proofs.Above.{each_at, node_of}
 use Rattle.smil_past.proofs.Placing.{node_there, none_there}
 use Rattle.smil_cells.specs.Shown.{ArePlaces, is_listed, listed_of}
-use Rattle.smil_cells.proofs.Showing.{or_left, or_right}
+use Rattle.std.proofs.lemmas.Bool.{or_left}
+use Rattle.smil_laws.proofs.Closures.{has_filter}
+use Rattle.smil_graph.proofs.Within.{filter_members}
+use Rattle.smil_graph.proofs.Nodes.{there_below}
 
 -- ---- lists
 
@@ -38,18 +41,6 @@ elements_append (x ∷ xs) ys = by_test (is_element x) (elements_append xs ys)
     by_test true q = ap (λ l. x.serial ∷ l) q
     by_test false q = q
 
-inside : (t : ℕ → Bool) (xs : List ℕ) (x : ℕ) → has xs x ≡ true → t x ≡ true → has (filter t xs) x ≡ true
-inside t [] x h q = h
-inside t (y ∷ ys) x h q = by_here (y == x) refl h (inside t ys x)
-  where
-    by_here : (b : Bool) → y == x ≡ b → b || has ys x ≡ true → (has ys x ≡ true → t x ≡ true → has (filter t ys) x ≡ true) → has (cond (t y) (y ∷ filter t ys) (filter t ys)) x ≡ true
-    by_here true e p below = subst (λ (c : Bool). has (cond c (y ∷ filter t ys) (filter t ys)) x ≡ true) (sym (ap t (eqb-true y x e) ∙ q)) (or_left (y == x) (has (filter t ys) x) e)
-    by_here false e p below = by_own (t y) (below p q)
-      where
-        by_own : (c : Bool) → has (filter t ys) x ≡ true → has (cond c (y ∷ filter t ys) (filter t ys)) x ≡ true
-        by_own true r = or_right (y == x) (has (filter t ys) x) r
-        by_own false r = r
-
 outside : (t : ℕ → Bool) (xs : List ℕ) (x : ℕ) → t x ≡ false → has (filter t xs) x ≡ false
 outside t [] x q = refl
 outside t (y ∷ ys) x q = by_own (t y) refl (outside t ys x q)
@@ -66,20 +57,14 @@ in_filter : (t : ℕ → Bool) (xs : List ℕ) (x : ℕ) → has xs x ≡ true �
 in_filter t xs x h = by_test (t x) refl
   where
     by_test : (b : Bool) → t x ≡ b → has (filter t xs) x ≡ b
-    by_test true e = inside t xs x h e
+    by_test true e = has_filter t xs x h e
     by_test false e = outside t xs x e
-
-same_filter : (t u : ℕ → Bool) (xs : List ℕ) → ((x : ℕ) → has xs x ≡ true → t x ≡ u x) → filter t xs ≡ filter u xs
-same_filter t u [] same = refl
-same_filter t u (x ∷ xs) same =
-    ap (λ (b : Bool). cond b (x ∷ filter t xs) (filter t xs)) (same x (or_left (x == x) (has xs x) (eq-eqb x x refl)))
-    ∙ ap (λ (l : List ℕ). cond (u x) (x ∷ l) l) (same_filter t u xs (λ y h. same y (or_right (x == y) (has xs y) h)))
 
 -- what passes a test is what is in it, in order
 pub in_order : (nodes : List Node) (touched list : List ℕ) → list ≡ listed_of nodes touched → list ≡ filter (has list) (serials (elements nodes))
 in_order nodes touched list is =
     is
-    ∙ (same_filter (has touched) (has (listed_of nodes touched)) (serials (elements nodes)) (λ x h. sym (in_filter (has touched) (serials (elements nodes)) x h))
+    ∙ (filter_members (has touched) (has (listed_of nodes touched)) (serials (elements nodes)) (λ x h. sym (in_filter (has touched) (serials (elements nodes)) x h))
     ∙ ap (λ (l : List ℕ). filter (has l) (serials (elements nodes))) (sym is))
 
 found_there : (ns : List Node) (s : ℕ) → is_some (node_at ns s) ≡ true → has (serials ns) s ≡ true
@@ -314,10 +299,6 @@ no_places nodes places e i = ap (λ (l : List ℕ). has l i) e ∙ none (slice_g
 pub pushed_place : (places : List ℕ) (p i : ℕ) → has (places ++ p ∷ []) i ≡ (has places i || has (p ∷ []) i)
 pushed_place places p i = list_any-append (λ (y : ℕ). y == i) places (p ∷ [])
 
-pub none_pushed : (b : Bool) → b ≡ (b || false)
-none_pushed true = refl
-none_pushed false = refl
-
 -- ---- the node at a place
 
 pub record IsNodeAt (nodes : List Node) (place s : ℕ) : Type 0 where
@@ -343,13 +324,8 @@ element_is nodes place s found n kind b at of_kind is =
       ap (λ (m : Node). m.serial) (sym same) ∙ found.serial,
     )
 
-within_nodes : (ns : List Node) (i : ℕ) (n : Node) → slice_get ns i ≡ Some n → i < length ns
-within_nodes [] i n e = cc
-within_nodes (x ∷ xs) zero n e = omega arith
-within_nodes (x ∷ xs) (suc i) n e = let l = within_nodes xs i n e in omega (arith, l)
-
 pub fits_next : (nodes : List Node) (p : ℕ) (n : Node) → slice_get nodes p ≡ Some n → length nodes ≤ NODES → Fits w64 (p + 1)
-fits_next nodes p n at few = let l = within_nodes nodes p n at in record { fits = omega (arith, l, few) }
+fits_next nodes p n at few = let l = there_below nodes p n at in record { fits = omega (arith, l, few) }
 
 pub dropped : (xs : List ℕ) (i : ℕ) → i < length xs → drop i xs ≡ get_or xs i 0 ∷ drop (i + 1) xs
 dropped xs i l = by_list xs i l ∙ ap (λ (n : ℕ). get_or xs i 0 ∷ drop n xs) (next i)
@@ -371,10 +347,3 @@ all_gone (x ∷ xs) (suc i) l = all_gone xs i (omega (arith, l))
 
 pub same_places : (nodes : List Node) (touched xs ys : List ℕ) → IsPermutation xs ys → ArePlaces nodes touched xs → ArePlaces nodes touched ys
 same_places nodes touched xs ys moved are i = sym (list_any-IsPermutation (λ (y : ℕ). y == i) xs ys moved) ∙ are i
-
-pub where_listed : {A E : Type 0} (r : Result A E) (P Q : A → Type 0) → ((x : A) → P x → Q x) → IfOk r P → IfOk r Q
-where_listed (Ok x) P Q f p = f x p
-where_listed (Err e) P Q f p = tt
-
-pub nothing_more : (xs : List ℕ) → xs ≡ xs ++ []
-nothing_more xs = sym (append-nil xs)

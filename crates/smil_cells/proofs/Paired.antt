@@ -1,27 +1,22 @@
 -- Rows and elements side by side.
-use Rattle.std.proofs.Common.{◌≡◌, refl, ◌∙◌, ap, sym, ℕ, suc, zero, ◌+◌, ◌<◌, List, [], ◌∷◌, length, Option, Some, None, ℤ, Bool, true, false, get_or, set, arith, inl, inr, map}
-use Rattle.std.specs.Prelude.{◌&&◌, ◌||◌, ◌==◌, ◌⊎◌, find, cond, not, option_and_then, slice_get}
-use Rattle.std.specs.List.{AllByRecursion, list_any}
+use Rattle.std.proofs.Common.{◌≡◌, refl, ◌∙◌, ap, sym, ℕ, suc, zero, ◌<◌, List, [], ◌∷◌, length, Option, Some, None, Bool, true, false, get_or, set, arith, inl, inr, map}
+use Rattle.std.specs.Prelude.{◌==◌, ◌⊎◌, cond, option_and_then, slice_get}
 use Rattle.std.proofs.lemmas.Bool.{or_left, or_right, or_cases, eq-eqb, eqb-true}
 use Rattle.smil_model.specs.declared.interval.Interval.{Interval}
 use Rattle.smil_model.specs.declared.document.Node.{Node}
-use Rattle.smil_model.specs.document.Document.{elements, node_at, serials}
+use Rattle.smil_model.specs.document.Document.{node_at, serials}
 use Rattle.smil_model.specs.document.Closure.{has}
 use Rattle.smil_laws.proofs.Lineages.{swap_eqb}
 use Rattle.smil_laws.proofs.Members.{Differ}
 use Rattle.smil_cells.specs.declared.plain.known.Row.{Row}
 use Rattle.smil_cells.specs.Plain.{interval_in}
 use Rattle.smil_cells.proofs.Rows.{IsFirst, cons_interval}
+use Rattle.smil_laws.proofs.Lists.{each_at}
 
 abbrev pub serials_in : List Row → List ℕ
 serials_in rows = map (λ (r : Row). r.serial) rows
 
 -- ---- an element at its place
-
-each_at : (P : Node → Type 0) (ns : List Node) (k : ℕ) (e : Node) → AllByRecursion P ns → slice_get ns k ≡ Some e → P e
-each_at P [] k e each q = cc
-each_at P (n ∷ ns) zero e each q = let one : n ≡ e = cc in rw (← one) each.0
-each_at P (n ∷ ns) (suc k) e each q = each_at P ns k e each.1 q
 
 pub listed_at : (ns : List Node) (k : ℕ) (e : Node) → slice_get ns k ≡ Some e → has (serials ns) e.serial ≡ true
 listed_at [] k e q = cc

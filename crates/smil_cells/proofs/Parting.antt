@@ -3,15 +3,7 @@ use Rattle.std.proofs.Common.{◌≡◌, ◌∙◌, ap, ℕ, zero, suc, ◌+◌,
 use Rattle.std.specs.Prelude.{cond, fold, slice_get}
 use Rattle.smil_model.specs.declared.diary.Entry.{Entry}
 use Rattle.smil_laws.specs.Cut.{is_logged, logged}
-
-pub take_last : {A : Type 0} (xs : List A) (k : ℕ) (x : A) → slice_get xs k ≡ Some x → take (k + 1) xs ≡ take k xs ++ x ∷ []
-take_last xs k x at = let same : k + 1 ≡ suc k = omega arith in ap (λ (n : ℕ). take n xs) same ∙ by_list xs k x at
-  where
-    by_list : {A : Type 0} (xs : List A) (k : ℕ) (x : A) → slice_get xs k ≡ Some x → take (suc k) xs ≡ take k xs ++ x ∷ []
-    by_list [] k x at = cc
-    by_list (y ∷ []) zero x at = let one : y ≡ x = cc in ap (λ z. z ∷ []) one
-    by_list (y ∷ (z ∷ zs)) zero x at = let one : y ≡ x = cc in ap (λ w. w ∷ []) one
-    by_list (y ∷ ys) (suc k) x at = ap (λ zs. y ∷ zs) (by_list ys k x at)
+use Rattle.smil_laws.proofs.Lists.{take-more_at}
 
 pub no_gap : {A : Type 0} (xs : List A) (k : ℕ) → None ≡ slice_get xs k → length xs ≤ k
 no_gap [] k e = omega arith
@@ -34,7 +26,7 @@ logged_with (y ∷ ys) x b e = by_test (is_logged y.step) (logged_with ys x b e)
     by_test false q = q
 
 pub logged_more : (diary : List Entry) (k : ℕ) (x : Entry) (b : Bool) → slice_get diary k ≡ Some x → is_logged x.step ≡ b → logged (take (k + 1) diary) ≡ logged (take k diary) + cond b 1 0
-logged_more diary k x b at e = ap (λ (l : List Entry). logged l) (take_last diary k x at) ∙ logged_with (take k diary) x b e
+logged_more diary k x b at e = ap (λ (l : List Entry). logged l) (take-more_at diary k x at) ∙ logged_with (take k diary) x b e
 
 -- ---- the last entry
 

@@ -1,6 +1,6 @@
 -- Cells at a later moment, before which nothing comes.
 use Rattle.std.proofs.Common.{◌≡◌, refl, sym, ◌∙◌, ap, subst, ℕ, suc, ◌+◌, ◌-◌, ◌≤◌, List, [], ◌∷◌, ◌++◌, Option, None, Some, ℤ, Bool, true, false, arith, length}
-use Rattle.std.specs.Prelude.{pos, negsuc, nat_abs, int_le, ◌≤ℤ◌, cond, ◌&&◌, ◌+ℤ◌, nat_lt, slice_get}
+use Rattle.std.specs.Prelude.{pos, negsuc, nat_abs, int_le, ◌≤ℤ◌, cond, ◌+ℤ◌, nat_lt, slice_get}
 use Rattle.std.proofs.lemmas.Int.{ints}
 use Rattle.smil_model.specs.declared.times.TheConstants.{HORIZON}
 use Rattle.smil_model.specs.declared.diary.LogEntry.{LogEntry}
@@ -19,39 +19,27 @@ use Rattle.smil_laws.specs.Same.{IsSame, TimePassesQuietly}
 use Rattle.smil_laws.specs.Courses.{ReachedIsPast}
 use Rattle.smil_laws.specs.Courses.{ReachesOverQuiet}
 use Rattle.smil_past.specs.Past.{Happened}
-use Rattle.smil_cells.proofs.Coming.{coming_stays}
 use Rattle.smil_cells.specs.Standing.{IsSettled, NothingBefore, first_at, history_of}
 use Rattle.smil_cells.specs.Standings.{IsKept, standing_of}
+use Rattle.std.proofs.lemmas.Bool.{and_from, and_parts}
+use Rattle.smil_model.proofs.Orders.{is_le}
+use Rattle.smil_element.specs.Comings.{coming_stays}
 
 -- ---- numbers
 
 later : (a n : ℕ) (x : ℤ) → int_le x (pos a) ≡ true → int_le x (pos (a + n)) ≡ true
 later a n x q = grind (arith, ints)
 
-no_less : (x y : ℤ) → x ≤ℤ y → int_le x y ≡ true
-no_less x y l = grind (arith, ints)
-
 pub over : (a : ℕ) (v : ℤ) → pos a ≤ℤ v → (n : ℕ) × (v ≡ pos (a + n))
 over a (pos k) l = (k - a, ap pos (omega (arith, ints, l)))
 over a (negsuc k) l = absurd (omega (arith, ints, l))
 
-both : (s t : Bool) → s ≡ true → t ≡ true → s && t ≡ true
-both s t p q = ap (λ a. a && t) p ∙ q
-
-left : (s t : Bool) → s && t ≡ true → s ≡ true
-left true t p = cc
-left false t p = p
-
-right : (s t : Bool) → s && t ≡ true → t ≡ true
-right true t p = p
-right false t p = cc
-
 logged_later : (a n : ℕ) (log : List LogEntry) → is_logged_by (pos a) log ≡ true → is_logged_by (pos (a + n)) log ≡ true
 logged_later a n [] q = q
 logged_later a n (x ∷ xs) q =
-    both (int_le x.moment (pos (a + n))) (is_logged_by (pos (a + n)) xs)
-    (later a n x.moment (left (int_le x.moment (pos a)) (is_logged_by (pos a) xs) q))
-    (logged_later a n xs (right (int_le x.moment (pos a)) (is_logged_by (pos a) xs) q))
+    and_from (int_le x.moment (pos (a + n))) (is_logged_by (pos (a + n)) xs)
+    (later a n x.moment (and_parts (int_le x.moment (pos a)) (is_logged_by (pos a) xs) q).0)
+    (logged_later a n xs (and_parts (int_le x.moment (pos a)) (is_logged_by (pos a) xs) q).1)
 
 -- ---- a resolution that rests
 
@@ -95,7 +83,7 @@ module _ (is_current is_marked : History → ℤ → Type 0) (has_mark : Bool) (
         let was = kept.sound sound in
         let numbered = was.state.document.numbered in
         let h : History = record { nodes = past.document.nodes; log = past.log; diary = past.diary } in
-        let reached = jump past.document past.log a n past.diary numbered was.reached (λ c e. no_less (pos (a + n)) c.key.value (quiet c e)) in
+        let reached = jump past.document past.log a n past.diary numbered was.reached (λ c e. is_le (pos (a + n)) c.key.value (quiet c e)) in
         record {
           present = record {
             past_is = (is_past past.document past.log (a + n) (record { moment = a + n; heard = length past.log; diary = past.diary }) reached).entries;
@@ -108,7 +96,7 @@ module _ (is_current is_marked : History → ℤ → Type 0) (has_mark : Bool) (
               document = was.state.document;
               log = was.state.log;
               logged = logged_later a n past.log was.state.logged;
-              now = no_less (pos (a + n)) HORIZON within;
+              now = is_le (pos (a + n)) HORIZON within;
             };
             reached = reached;
             current = stays h h (pos a) (pos (a + n)) (quietly h a n (ordered past.document numbered).first kept.present.past_is) was.current;

@@ -20,20 +20,13 @@ use Rattle.smil_past.proofs.Listing.{known_place}
 use Rattle.smil_element.proofs.Above.{IsUp}
 use Rattle.smil_element.proofs.Cutting.{part_none, span_within}
 use Rattle.smil_cells.specs.Shown.{displaced_in, sequenced}
-use Rattle.smil_cells.proofs.Grown.{known}
 use Rattle.smil_tree.proofs.KinTables.{slice_range-more}
+use Rattle.std.proofs.lemmas.Bool.{or_left, or_right}
+use Rattle.smil_instances.proofs.Targets.{known_node}
 
 pub or_cases : (a b : Bool) → a || b ≡ true → (a ≡ true) ⊎ (b ≡ true)
 or_cases true b q = inl refl
 or_cases false b q = inr q
-
-pub or_left : (a b : Bool) → a ≡ true → a || b ≡ true
-or_left true b q = refl
-or_left false b q = cc
-
-pub or_right : (a b : Bool) → b ≡ true → a || b ≡ true
-or_right true b q = refl
-or_right false b q = q
 
 or_none : (a b : Bool) → a ≡ false → b ≡ false → a || b ≡ false
 or_none true b p q = cc
@@ -68,7 +61,7 @@ there test (n ∷ ns) s q t = by_test (n.serial == s) refl q (there test ns s)
 -- an element within a node is among the nodes within it
 pub within_there : (nodes : List Node) (x : ℕ) (e : Node) → node_at (elements nodes) e.serial ≡ Some e → is_within nodes x e.serial ≡ true
     → has (serials (filter (λ (n : Node). is_within nodes x n.serial) nodes)) e.serial ≡ true
-within_there nodes x e here q = there (λ (s : ℕ). is_within nodes x s) nodes e.serial (known nodes e.serial (ap (λ (o : Option Node). is_some o) here)) q
+within_there nodes x e here q = there (λ (s : ℕ). is_within nodes x s) nodes e.serial (known_node nodes e.serial (ap (λ (o : Option Node). is_some o) here)) q
 
 -- ---- a serial that no node has
 

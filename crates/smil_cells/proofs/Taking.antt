@@ -1,9 +1,8 @@
 -- One element is evaluated, and its row put in its place.
-use Rattle.std.proofs.Common.{◌≡◌, refl, ◌∙◌, ap, sym, subst, ℕ, suc, zero, ◌+◌, ◌<◌, ◌≤◌, List, [], ◌∷◌, ◌++◌, length, Option, Some, None, ℤ, Bool, true, false, get_or, set, arith, inl, inr, map}
-use Rattle.std.specs.Prelude.{◌&&◌, ◌||◌, ◌==◌, ◌⊎◌, find, cond, not, nat_eq, nat_lt, slice_get, is_some, filter, IfSome}
-use Rattle.std.specs.List.{list_any, position, position_or_len}
-use Rattle.std.proofs.lemmas.Bool.{or_left, or_right, or_parts, or_cases, eq-eqb, eqb-true, eqb-false, lt-ltb}
-use Rattle.std.proofs.lemmas.List.{length-map}
+use Rattle.std.proofs.Common.{◌≡◌, refl, ◌∙◌, ap, sym, subst, ℕ, suc, zero, ◌+◌, ◌<◌, ◌≤◌, List, [], ◌∷◌, ◌++◌, length, Option, Some, None, ℤ, Bool, true, false, get_or, set, arith}
+use Rattle.std.specs.Prelude.{◌==◌, cond, not, nat_eq, nat_lt, slice_get, is_some, IfSome}
+use Rattle.std.specs.List.{position, position_or_len}
+use Rattle.std.proofs.lemmas.Bool.{or_left, or_parts, eq-eqb, eqb-true, eqb-false, lt-ltb}
 use Rattle.std.proofs.lemmas.List.Folds.{list_any-append}
 use Rattle.std.proofs.lemmas.Option.{slice_get_within}
 use Rattle.smil_model.specs.declared.interval.Interval.{Interval}
@@ -23,6 +22,7 @@ use Rattle.smil_cells.specs.Round.{AreTaken, IsRowOf, IsTaken, StayUnchanged}
 use Rattle.smil_cells.proofs.Rows.{IsFirst, set_serials, set_others, set_own}
 use Rattle.smil_cells.proofs.Paired.{serials_in, there_at, apart_at, first_at, set_at, set_elsewhere}
 use Rattle.smil_cells.proofs.Agreeing.{row_stays, agree_by_order}
+use Rattle.smil_instances.proofs.Targets.{some_of}
 
 pub elements_differ : (nodes : List Node) → IsDistinct nodes → Differ (elements nodes)
 elements_differ nodes distinct = differ_kept is_element nodes (differ_all nodes distinct)
@@ -48,10 +48,6 @@ node_place who (n ∷ ns) e q = by_test (n.serial == who) refl q (node_place who
     by_test : (t : Bool) → n.serial == who ≡ t → cond t (Some n) (node_at ns who) ≡ Some e → (node_at ns who ≡ Some e → (k : ℕ) × (slice_get ns k ≡ Some e) × (e.serial ≡ who)) → (k : ℕ) × (slice_get (n ∷ ns) k ≡ Some e) × (e.serial ≡ who)
     by_test true t r later = let one : n ≡ e = cc in (0, r, sym (ap (λ (m : Node). m.serial) one) ∙ eqb-true n.serial who t)
     by_test false t r later = let found = later r in (suc found.0, found.1, found.2)
-
-some_of : (o : Option Node) → is_some o ≡ true → (e : Node) × (o ≡ Some e)
-some_of None q = cc
-some_of (Some e) q = (e, refl)
 
 -- an element of a document whose elements have these rows, and where its row stands
 pub record IsFound (nodes : List Node) (rows : List Row) (who : ℕ) : Type 0 where

@@ -1,7 +1,6 @@
 -- Cells that went back to their mark.
-use Rattle.std.proofs.Common.{◌≡◌, refl, sym, subst, ℕ, List, Option, None, Some, ℤ, Bool, true, false, arith, length, take}
-use Rattle.std.specs.Prelude.{pos, negsuc, nat_abs, int_le, ◌≤ℤ◌, is_some, unwrap_or}
-use Rattle.std.proofs.lemmas.Int.{ints}
+use Rattle.std.proofs.Common.{◌≡◌, refl, sym, subst, ℕ, List, Option, None, Some, ℤ, Bool, true, false, length, take}
+use Rattle.std.specs.Prelude.{pos, nat_abs, ◌≤ℤ◌, is_some, unwrap_or}
 use Rattle.smil_model.specs.declared.times.TheConstants.{HORIZON}
 use Rattle.smil_model.specs.diary.Diary.{History}
 use Rattle.smil_model.specs.diary.Clocks.{until}
@@ -9,13 +8,8 @@ use Rattle.smil_laws.specs.Courses.{ReachedIsPast}
 use Rattle.smil_past.specs.Past as past_of
 use Rattle.smil_past.specs.Past.{Happened}
 use Rattle.smil_cells.specs.Standings.{IsKept, IsSound, WhereMarked, at_mark, marked_by}
-
-positive : (v : ℤ) → pos 0 ≤ℤ v → v ≡ pos (nat_abs v)
-positive (pos k) l = refl
-positive (negsuc k) l = absurd (omega (arith, ints, l))
-
-no_more : (x y : ℤ) → int_le x y ≡ true → x ≤ℤ y
-no_more x y q = grind (arith, ints)
+use Rattle.smil_cells.proofs.Grown.{positive}
+use Rattle.smil_model.proofs.Orders.{le_from}
 
 module _ (is_marked is_current is_next : History → ℤ → Type 0) (has_mark : Bool) (past : Happened) (touched : List ℕ) where
   module _ (is_past : ReachedIsPast) (given : (h : History) (now : ℤ) → is_marked h now → is_current h now) (none : has_mark ≡ false) where
@@ -28,7 +22,7 @@ module _ (is_marked is_current is_next : History → ℤ → Type 0) (has_mark :
             past_is = subst (λ (z : ℤ). until z (take lens.1 past.diary) ≡ take lens.1 past.diary) whole
                 (is_past past.document (take lens.0 past.log) (nat_abs m) (record { moment = nat_abs m; heard = length (take lens.0 past.log); diary = take lens.1 past.diary }) was.reached).entries;
             from = from;
-            within = subst (λ (z : ℤ). z ≤ℤ HORIZON) whole (no_more (pos (nat_abs m)) HORIZON was.state.now);
+            within = subst (λ (z : ℤ). z ≤ℤ HORIZON) whole (le_from (pos (nat_abs m)) HORIZON was.state.now);
           };
           log = was.state.log;
           sound = λ e. record {

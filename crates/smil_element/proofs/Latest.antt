@@ -10,7 +10,8 @@ use Rattle.smil_model.proofs.Orders.{le_from}
 use Rattle.smil_past.specs.Past.{Happened, IsPresent}
 use Rattle.smil_laws.proofs.Lists.{filter_shorter}
 
-last_from : (m from : ℤ) (ds : List Entry) → from ≤ℤ m → until m ds ≡ ds → fold (λ (before : ℤ) (x : Entry). x.moment) from ds ≤ℤ m
+-- the last moment of entries of which none is later than a moment
+pub last_from : (m from : ℤ) (ds : List Entry) → from ≤ℤ m → until m ds ≡ ds → fold (λ (before : ℤ) (x : Entry). x.moment) from ds ≤ℤ m
 last_from m from [] low all = low
 last_from m from (x ∷ xs) low all =
     elim (int_le x.moment m) as (λ (t : Bool). int_le x.moment m ≡ t → (if t then x ∷ until m xs else until m xs) ≡ x ∷ xs → fold (λ (before : ℤ) (y : Entry). y.moment) x.moment xs ≤ℤ m) [

@@ -4,10 +4,11 @@ use Rattle.std.proofs.lemmas.Int.{to_z-of_z}
 use Rattle.smil_model.specs.declared.diary.Entry.{Entry}
 use Rattle.smil_model.specs.declared.times.TheConstants.{HORIZON}
 use Rattle.smil_model.specs.diary.Diary.{last_moment}
-use Rattle.smil_stretch.proofs.Moments.{le_from, timed_of}
+use Rattle.smil_stretch.proofs.Moments.{timed_of}
 use Rattle.smil_past.specs.Past.{history_of}
 use Rattle.smil_cells.proofs.Grown.{fits}
 use Rattle.smil_cells.proofs.Parting.{last_at, no_gap}
+use Rattle.smil_model.proofs.Orders.{le_from}
 use Rattle.smil_cells.proofs.named.last_moment.Goals as goal
 
 pub returns-in-Some : goal.returns-in-Some

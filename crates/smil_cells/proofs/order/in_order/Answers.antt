@@ -5,7 +5,8 @@ use Rattle.smil_model.specs.declared.document.Node.{Node}
 use Rattle.smil_model.specs.document.Document.{elements, node_at, serials}
 use Rattle.smil_model.specs.document.Closure.{has}
 use Rattle.smil_cells.specs.Shown.{ArePlaces, listed_of}
-use Rattle.smil_cells.proofs.Ordering.{in_order, same_listed, same_places, where_listed}
+use Rattle.smil_cells.proofs.Ordering.{in_order, same_listed, same_places}
+use Rattle.std.proofs.lemmas.Result.{IfOk-weaker}
 use Rattle.smil_cells.proofs.order.in_order.Goals as goal
 
 pub listed-requires-clause-sorted : goal.listed-requires-clause-sorted
@@ -19,11 +20,11 @@ listed-requires-clause-placed c =
 
 pub returns-clause-order : goal.returns-clause-order
 returns-clause-order c =
-    where_listed c.listed.result (λ (l : List ℕ). l ≡ listed_of c.args.tree.now.nodes c.args.touched.now) (λ (l : List ℕ). l ≡ filter (has l) (serials (elements c.args.tree.now.nodes)))
+    IfOk-weaker c.listed.result (λ (l : List ℕ). l ≡ listed_of c.args.tree.now.nodes c.args.touched.now) (λ (l : List ℕ). l ≡ filter (has l) (serials (elements c.args.tree.now.nodes)))
     (λ l is. in_order c.args.tree.now.nodes c.args.touched.now l is) c.listed.ensures
 
 pub returns-clause-same : goal.returns-clause-same
 returns-clause-same c =
-    where_listed c.listed.result (λ (l : List ℕ). l ≡ listed_of c.args.tree.now.nodes c.args.touched.now)
+    IfOk-weaker c.listed.result (λ (l : List ℕ). l ≡ listed_of c.args.tree.now.nodes c.args.touched.now)
     (λ (l : List ℕ). (e : Node) → node_at (elements c.args.tree.now.nodes) e.serial ≡ Some e → has l e.serial ≡ has c.args.touched.now e.serial)
     (λ l is e here. same_listed c.args.tree.now.nodes c.args.touched.now l is e here) c.listed.ensures

@@ -3,7 +3,8 @@ use Rattle.std.specs.Prelude.{◌||◌, slice_get}
 use Rattle.smil_model.specs.document.Closure.{has}
 use Rattle.smil_cells.specs.Shown.{is_listed}
 use Rattle.smil_cells.proofs.Refusals.{where_ok}
-use Rattle.smil_cells.proofs.Ordering.{place_is, place_none, pushed_place, none_pushed}
+use Rattle.smil_cells.proofs.Ordering.{place_is, place_none, pushed_place}
+use Rattle.smil_graph.proofs.Keyed.{right}
 use Rattle.smil_cells.proofs.order.note_place.Goals as goal
 
 pub returns-in-Some : goal.returns-in-Some
@@ -19,5 +20,5 @@ returns-in-Some c =
 pub returns-in-None : goal.returns-in-None
 returns-in-None c =
     λ i.
-    none_pushed (has c.args.places.now.items i)
+    right (has c.args.places.now.items i)
     ∙ ap (λ (b : Bool). has c.args.places.now.items i || b) (place_none c.args.tree.now.nodes c.valid.ensures.numbered.distinct c.args.serial i c.in-None.ensures)

@@ -9,7 +9,8 @@ use Rattle.smil_stretch.proofs.Diaries.{lawful_first}
 use Rattle.smil_past.specs.Past.{Happened, IsPossible, history_of}
 use Rattle.smil_cells.specs.Standing.{Standing, IsRebuilt, MayRebuild, cut_log}
 use Rattle.smil_cells.specs.Standings.{MayBegin, begun, standing_of}
-use Rattle.smil_cells.proofs.Begun.{moment_is, possible_part, may_part, rebuilt_is, where_made}
+use Rattle.smil_cells.proofs.Begun.{moment_is, possible_part, may_part, rebuilt_is}
+use Rattle.std.proofs.lemmas.Result.{IfOk-weaker}
 use Rattle.smil_cells.proofs.cells.Cells.rebuilt.Goals as goal
 
 pub of-requires-clause-possible : goal.of-requires-clause-possible
@@ -65,5 +66,5 @@ returns-clause-rebuilt g c =
     let z = to_z w64 (of_z w64 c.last_moment-moment.result) in
     let at = to_z-of_z w64 c.last_moment-moment.result (record { sfits = c.last_moment-moment.type_inv }) ∙ c.last_moment-moment.ensures ∙ (ap (λ (p : Happened). last_moment p.diary) past_is ∙ sym (moment_is s doc len may)) in
     subst (λ (x : Standing). IfOk c.over.result (IsRebuilt x doc len)) c.self.view_is
-    (where_made c.over.result (λ (cells : Standing). cells ≡ begun c.in_ok-past.past z) (IsRebuilt s doc len)
+    (IfOk-weaker c.over.result (λ (cells : Standing). cells ≡ begun c.in_ok-past.past z) (IsRebuilt s doc len)
     (λ cells made. rebuilt_is s doc len may c.in_ok-past.past z cells past_is at made) c.over.ensures.begun)
