@@ -29,15 +29,13 @@ pub(crate) struct Window {
 }
 
 impl Model for Window {
-    ghost use Rattle.std.specs.Prelude.{◌≡◌, ◌≤◌, slice_range, vec_len};
-    ghost use Rattle.smil_outside.specs.Window.{Held};
-    ghost use Rattle.smil_outside.specs.declared.window.TheConstants.{WINDOW_BYTES};
+    ghost use Rattle.smil_outside.specs.Window.{held_in, Held, IsWindow};
 
     ghost Value = { Held };
 
-    ghost view = { λ w. record { line = slice_range w.buffer.items w.line w.line_end; bytes = slice_range w.buffer.items w.start w.end } };
+    ghost view = { held_in };
 
-    ghost invariant = { λ w. (w.line ≤ w.line_end) × (w.line_end ≤ w.start) × (w.start ≤ w.end) × (w.end ≤ vec_len w.buffer) × (vec_len w.buffer ≡ WINDOW_BYTES) };
+    ghost invariant = { IsWindow };
 }
 
 impl Window {
