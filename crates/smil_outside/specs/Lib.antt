@@ -2,6 +2,7 @@ pub mod Faults
 pub mod Memory
 pub mod Lines
 pub mod Reading
+pub mod Reader
 pub mod History
 pub mod Scan
 pub mod Std

@@ -26,16 +26,14 @@ pub struct LineReader {
 }
 
 impl Model for LineReader {
-    ghost use Rattle.std.specs.Prelude.{◌+◌, ◌-◌, ◌≤◌, length};
+    ghost use Rattle.smil_outside.specs.Reader.{reading_in, IsReader};
     ghost use Rattle.smil_outside.specs.Reading.{Reading};
-    ghost use Rattle.smil_outside.specs.declared.line.TheConstants.{INPUT_BYTES};
-    ghost use Rattle.smil_outside.specs.declared.window.TheConstants.{WINDOW_BYTES};
 
     ghost Value = { Reading };
 
-    ghost view = { λ r. record { pending = r.window.bytes; taken = r.taken; line = r.window.line; number = r.number; closed = r.closed } };
+    ghost view = { reading_in };
 
-    ghost invariant = { λ r. (r.taken ≤ INPUT_BYTES + WINDOW_BYTES) × (r.number + length r.window.bytes + (INPUT_BYTES - r.taken) ≤ INPUT_BYTES) };
+    ghost invariant = { IsReader };
 }
 
 impl LineReader {

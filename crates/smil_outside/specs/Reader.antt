@@ -1,0 +1,22 @@
+-- What a line reader keeps.
+use Rattle.std.specs.Prelude.{◌+◌, ◌-◌, ◌≤◌, length}
+use Rattle.smil_outside.specs.declared.line.TheConstants.{INPUT_BYTES}
+use Rattle.smil_outside.specs.declared.window.TheConstants.{WINDOW_BYTES}
+use Rattle.smil_outside.specs.declared.line_reader.LineReader.TheInside.{Inside}
+use Rattle.smil_outside.specs.Reading.{Reading}
+
+-- what is known of it between calls
+abbrev pub reading_in : Inside → Reading
+reading_in r = record {
+  pending = r.window.bytes;
+  taken = r.taken;
+  line = r.window.line;
+  number = r.number;
+  closed = r.closed;
+}
+
+-- it took no more than the limit and a window, and the bytes that are left have room for fewer lines than may be numbered
+abbrev pub IsReader : Inside → Type 0
+IsReader r =
+    (r.taken ≤ INPUT_BYTES + WINDOW_BYTES)
+    × (r.number + length r.window.bytes + (INPUT_BYTES - r.taken) ≤ INPUT_BYTES)
