@@ -1,14 +1,13 @@
 -- Intervals that agree but for one element, from which another does not follow without a loop.
-use Rattle.std.proofs.Common.{◌≡◌, refl, sym, ◌∙◌, ap, ℕ, ◌<◌, List, [], ◌∷◌, get_or, length, Option, Some, None, Bool, true, false, inl, inr}
-use Rattle.std.specs.Prelude.{◌&&◌, ◌||◌, ◌==◌, ◌⊎◌, nat_eq, nat_lt, not}
+use Rattle.std.proofs.Common.{◌≡◌, refl, sym, ◌∙◌, ap, ℕ, ◌<◌, List, get_or, length, Option, Some, Bool, true, false}
+use Rattle.std.specs.Prelude.{◌&&◌, ◌||◌, ◌==◌, nat_eq, nat_lt, not}
 use Rattle.std.specs.List.{IsDistinct, list_any, position}
-use Rattle.std.proofs.lemmas.Bool.{or_left, or_right, or_cases, and_from, and_parts, eq-eqb, eqb-true, lt-ltb, ltb-true, not_from_false}
+use Rattle.std.proofs.lemmas.Bool.{or_left, or_right, and_from, and_parts, eq-eqb, eqb-true, lt-ltb, ltb-true, not_from_false}
 use Rattle.std.proofs.lemmas.List.Quantifiers.{position-Some}
 use Rattle.smil_model.specs.declared.interval.Interval.{Interval}
 use Rattle.smil_model.specs.declared.document.Node.{Node}
 use Rattle.smil_model.specs.document.Document.{elements, node_at, has_serial, previous_in_seq, is_time_child, serials}
 use Rattle.smil_model.specs.document.Dependencies.{has_implicit_duration, is_sync_with, all_items, leads_to, feeds_node}
-use Rattle.smil_model.specs.document.Closure.{has}
 use Rattle.smil_model.specs.diary.Diary.{History}
 use Rattle.smil_model.specs.reach.Reach.{reads, reads_node, is_event_of, is_option}
 use Rattle.smil_laws.proofs.Locality.{AgreeFor}
@@ -18,6 +17,8 @@ use Rattle.smil_graph.specs.Graph.{follows_unlooped, readers_of}
 use Rattle.smil_graph.proofs.Fed.{filter_parts}
 use Rattle.smil_nodes.specs.Work.{has_rank_above, is_later_reader}
 use Rattle.smil_nodes.proofs.Ranked.{found_place}
+use Rattle.smil_laws.proofs.Ranks.{any_elem}
+use Rattle.smil_past.proofs.References.{only_own}
 
 -- they agree for an element that does not follow from that one
 pub agree_apart : (h : History) (J K : ℕ → Option Interval) (e : Node) (who : ℕ) → follows_unlooped h.nodes who e ≡ false → ((x : ℕ) → who == x ≡ false → J x ≡ K x) → AgreeFor h J K e
@@ -72,28 +73,16 @@ not_following nodes order who rank j e distinct lt at above here none = by_test 
 
 -- ---- a later reader is one that reads, behind the element in the order
 
-is_rank : (j : ℕ) (o : Option ℕ) → is_option j o ≡ true → o ≡ Some j
-is_rank j None q = cc
-is_rank j (Some k) q = ap Some (sym (eqb-true j k q))
-
 pub record IsLaterReader (nodes : List Node) (order : List ℕ) (rank who j : ℕ) : Type 0 where
   pub above : rank < j
   pub within : j < length order
   pub reading : reads nodes who (get_or order j 0) ≡ true
 
-one_of : (p : ℕ → Bool) (xs : List ℕ) → list_any p xs ≡ true → (x : ℕ) × (has xs x ≡ true) × (p x ≡ true)
-one_of p [] q = cc
-one_of p (x ∷ xs) q = by_case (or_cases (p x) (list_any p xs) q) (one_of p xs)
-  where
-    by_case : (p x ≡ true) ⊎ (list_any p xs ≡ true) → (list_any p xs ≡ true → (y : ℕ) × (has xs y ≡ true) × (p y ≡ true)) → (y : ℕ) × (has (x ∷ xs) y ≡ true) × (p y ≡ true)
-    by_case (inl here) later = (x, or_left _ _ (eq-eqb x x refl), here)
-    by_case (inr there) later = let found = later there in (found.0, or_right _ _ found.1, found.2)
-
 pub is_reader : (nodes : List Node) (order : List ℕ) (rank who j : ℕ) → is_later_reader nodes order rank who j ≡ true → IsLaterReader nodes order rank who j
 is_reader nodes order rank who j q =
-    let one = one_of (has_rank_above order rank j) (readers_of nodes who) q in
+    let one = any_elem (has_rank_above order rank j) (readers_of nodes who) q in
     let parts = and_parts (nat_lt rank j) (is_option j (position (λ s. s == one.0) order)) one.2 in
-    let there = position-Some (λ s. s == one.0) order j 0 (is_rank j (position (λ s. s == one.0) order) parts.1) in
+    let there = position-Some (λ s. s == one.0) order j 0 (only_own j (position (λ s. s == one.0) order) parts.1) in
     record {
       above = ltb-true rank j parts.0;
       within = there.0;

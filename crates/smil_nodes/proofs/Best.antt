@@ -13,13 +13,8 @@ use Rattle.std.proofs.lemmas.List.Sums.{fold-append}
 use Rattle.smil_model.specs.declared.happening.Key.{Key}
 use Rattle.smil_model.specs.happening.Keys.{comes_before, earlier_key, least_key}
 use Rattle.smil_due.specs.Order.{happening_cmp, happening_cmp_total}
-use Rattle.smil_due.proofs.Before.{before_is_less, transitive}
+use Rattle.smil_due.proofs.Before.{before_is_less, transitive, less_from}
 use Rattle.smil_nodes.specs.Slots.{keys_in, earlier_of, at_place, IsWon, IsTournament}
-
-less_from : (o : Ordering) → is_lt o ≡ true → o ≡ Less
-less_from Less e = refl
-less_from Equal e = absurd (cc)
-less_from Greater e = absurd (cc)
 
 -- a key that comes before a second one, which a third doesn't come before either, comes before the third
 not_after : (a b c : Key) → comes_before c a ≡ true → comes_before b a ≡ false → comes_before c b ≡ true

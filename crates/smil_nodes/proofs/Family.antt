@@ -1,12 +1,12 @@
 -- The time children of an element, by their places, and the ranks of elements.
-use Rattle.std.proofs.Common.{◌≡◌, refl, sym, ◌∙◌, ap, subst, ℕ, zero, suc, ◌<◌, List, [], ◌∷◌, length, get_or, Option, Some, None, Bool, true, false}
-use Rattle.std.specs.Prelude.{◌&&◌, ◌||◌, ◌==◌, cond, filter, slice_get}
+use Rattle.std.proofs.Common.{◌≡◌, refl, sym, ◌∙◌, ap, ℕ, zero, suc, ◌<◌, List, [], ◌∷◌, length, get_or, Some, Bool, true, false}
+use Rattle.std.specs.Prelude.{◌&&◌, ◌==◌, cond, filter, slice_get}
 use Rattle.std.specs.List.{list_any}
-use Rattle.std.proofs.lemmas.Bool.{and_from, and_parts, eq-eqb, eqb-true, or_left, or_right}
+use Rattle.std.proofs.lemmas.Bool.{and_from, and_parts, eq-eqb, or_left, or_right}
 use Rattle.std.proofs.lemmas.List.Sorted.{list_any-IsPermutation}
 use Rattle.smil_model.specs.declared.document.Node.{Node}
-use Rattle.smil_model.specs.document.Document.{elements, has_serial, is_element, is_time_child, node_at, previous_in_seq, serial_of, serials, time_children, time_parent}
-use Rattle.smil_model.specs.document.Dependencies.{all_items, has_implicit_duration, is_sync_with, leads_to}
+use Rattle.smil_model.specs.document.Document.{elements, has_serial, is_element, is_time_child, node_at, serial_of, serials, time_children, time_parent}
+use Rattle.smil_model.specs.document.Dependencies.{has_implicit_duration}
 use Rattle.smil_model.specs.document.Valid.{IsDistinct}
 use Rattle.smil_model.specs.document.Closure.{has}
 use Rattle.smil_laws.proofs.Members.{differ_all, differ_kept}
@@ -15,17 +15,9 @@ use Rattle.smil_graph.specs.Graph.{IsOrder, follows_unlooped}
 use Rattle.smil_cells.proofs.Paired.{apart_at, place_of_member, there_at}
 use Rattle.smil_cells.proofs.Taking.{elements_differ}
 use Rattle.smil_nodes.specs.Work.{IsBelow}
+use Rattle.smil_element.proofs.Known.{passes, serial_is}
 
 -- ---- members of a list by a test
-
-passes : (p : Node → Bool) (ns : List Node) (i : ℕ) (c : Node) → slice_get (filter p ns) i ≡ Some c → p c ≡ true
-passes p [] i c at = absurd (cc)
-passes p (n ∷ ns) i c at = by_test (p n) refl i at
-  where
-    by_test : (t : Bool) → p n ≡ t → (j : ℕ) → slice_get (cond t (n ∷ filter p ns) (filter p ns)) j ≡ Some c → p c ≡ true
-    by_test true q zero a = let one : n ≡ c = cc in ap p (sym one) ∙ q
-    by_test true q (suc j) a = passes p ns j c a
-    by_test false q j a = passes p ns j c a
 
 member_any : (p : Node → Bool) (ns : List Node) (i : ℕ) (c : Node) → slice_get (filter p ns) i ≡ Some c → list_any (λ (n : Node). (n.serial == c.serial) && p n) ns ≡ true
 member_any p [] i c at = absurd (cc)
@@ -53,10 +45,6 @@ kept_in p q implies (n ∷ ns) i c at = by_test (p n) refl i at
     by_test false e j a = behind (q n) refl (kept_in p q implies ns j c a)
 
 -- ---- time children
-
-serial_is : (who : ℕ) (o : Option Node) → has_serial who o ≡ true → serial_of o ≡ Some who
-serial_is who None q = absurd (cc)
-serial_is who (Some n) q = ap Some (eqb-true n.serial who q)
 
 -- a time child of the element with this serial
 pub record IsFamily (nodes : List Node) (parent : ℕ) (c : Node) : Type 0 where

@@ -1,6 +1,6 @@
 -- Nothing is listed any more.
-use Rattle.std.proofs.Common.{◌≡◌, refl, ◌∙◌, ap, sym, ℕ, ◌+◌, ◌-◌, ◌≤◌, List, [], ◌∷◌, ◌++◌, length, filter, Option, Some, None, ℤ, Bool, true, false, arith}
-use Rattle.std.specs.Prelude.{◌&&◌, ◌==◌, not, cond, int_le, is_some}
+use Rattle.std.proofs.Common.{◌≡◌, refl, ◌∙◌, ap, sym, ℕ, ◌+◌, ◌-◌, ◌≤◌, List, [], ◌∷◌, ◌++◌, length, Option, Some, None, ℤ, Bool, true, false, arith}
+use Rattle.std.specs.Prelude.{◌&&◌, ◌==◌, not, int_le, is_some}
 use Rattle.std.proofs.lemmas.Bool.{eqb-true, or_left, or_parts}
 use Rattle.std.proofs.lemmas.Int.{ints}
 use Rattle.std.proofs.lemmas.List.Folds.{list_any-append}
@@ -28,6 +28,7 @@ use Rattle.smil_nodes.specs.Schedule.{AreCurrent}
 use Rattle.smil_nodes.specs.Work.{AreSettled, IsCounted}
 use Rattle.smil_nodes.proofs.Counting.{passing_within, within_reaches}
 use Rattle.smil_nodes.proofs.Fixed.{current_intervals}
+use Rattle.smil_laws.proofs.Lists.{filter_shorter}
 
 -- rows that are as the intervals of all give them are current
 pub taken_current : (h : History) (now : ℤ) (order : List ℕ) (rows : List Row) → IsOrdered h.nodes → IsOrder h.nodes order → AreTaken h now order (length order) rows → AreCurrent rows h now
@@ -107,16 +108,7 @@ module _ (nodes : List Node) (log : List LogEntry) (entries : List Entry) (order
           let never : false ≡ true = sym (same_self (after s)) ∙ ap (λ x. is_some (after s) && not (is_same_interval x (after s))) same ∙ passes in
           cc
 
--- at most as many elements have an interval as there are
-any_most : (test : Node → Bool) (es : List Node) → length (filter test es) ≤ length es
-any_most test [] = omega arith
-any_most test (e ∷ es) = by_test (test e) (any_most test es)
-  where
-    by_test : (t : Bool) → length (filter test es) ≤ length es → length (cond t (e ∷ filter test es) (filter test es)) ≤ length (e ∷ es)
-    by_test true l = omega (arith, l)
-    by_test false l = omega (arith, l)
-
 pub any_least : (nodes : List Node) (intervals : ℕ → Option Interval) (start steps : ℕ) → steps ≡ start + length (elements nodes) → any_interval nodes intervals ≤ steps - start
 any_least nodes intervals start steps are =
-    let few : any_interval nodes intervals ≤ length (elements nodes) = any_most (λ (e : Node). is_some (intervals e.serial)) (elements nodes) in
+    let few : any_interval nodes intervals ≤ length (elements nodes) = filter_shorter (λ (e : Node). is_some (intervals e.serial)) (elements nodes) in
     omega (arith, are, few)

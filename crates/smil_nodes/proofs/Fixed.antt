@@ -11,8 +11,7 @@ use Rattle.smil_laws.specs.Edited.{IsOrdered}
 use Rattle.smil_laws.specs.Locality.{ParentsBefore}
 use Rattle.smil_laws.proofs.Rounds.{after_rounds, after_rounds-suc}
 use Rattle.smil_laws.proofs.Settled.{come_to_rest}
-use Rattle.smil_element.specs.Element.{both, coming_by}
-use Rattle.smil_element.specs.Comings.{HaveComings}
+use Rattle.smil_element.specs.Element.{coming_by}
 use Rattle.smil_cells.specs.declared.plain.known.Row.{Row}
 use Rattle.smil_cells.specs.Plain as plain
 use Rattle.smil_cells.specs.Plain.{interval_in}
@@ -24,6 +23,7 @@ use Rattle.smil_cells.proofs.Taking.{elements_differ}
 use Rattle.std.specs.FinSet as set
 use Rattle.smil_model.specs.happening.Keys.{keys}
 use Rattle.smil_nodes.specs.Schedule.{AreCurrent}
+use Rattle.smil_cells.proofs.First.{comings_at}
 
 -- ---- current rows
 
@@ -57,18 +57,6 @@ first_serial who (x ∷ xs) zero row is got =
     let one : x ≡ row = cc in
     ap (λ (r : Row). r.serial) (sym one) ∙ eqb-true x.serial who is
 first_serial who (x ∷ xs) (suc k) row is got = first_serial who xs k row is.1 got
-
-comings_at : (h : History) (now : ℤ) (place : ℕ) (es : List Node) (rows : List Row) (k n : ℕ) (e : Node) (r : Row) → HaveComings h now place es (map (λ (r : Row). r.comings) rows) → n ≡ place + k → slice_get es k ≡ Some e → slice_get rows k ≡ Some r → both r.comings.moved r.comings.repeat ≡ coming_of h (current_interval h now) now n e
-comings_at h now place [] rows k n e r is eq p q = absurd (cc)
-comings_at h now place (d ∷ ds) [] k n e r is eq p q = absurd is
-comings_at h now place (d ∷ ds) (x ∷ xs) zero n e r is eq p q =
-    let node : d ≡ e = cc in
-    let row : x ≡ r = cc in
-    let same : place ≡ n = omega (arith, eq) in
-    ap (λ (y : Row). both y.comings.moved y.comings.repeat) (sym row) ∙ is.0
-    ∙ ap (λ m. coming_of h (current_interval h now) now m d) same
-    ∙ ap (λ y. coming_of h (current_interval h now) now n y) node
-comings_at h now place (d ∷ ds) (x ∷ xs) (suc k) n e r is eq p q = comings_at h now (suc place) ds xs k n e r is.1 (omega (arith, eq)) p q
 
 -- it is as the intervals of all rows give it
 pub row_of_current : (rows : List Row) (h : History) (now : ℤ) (place : ℕ) (e : Node) (row : Row) → IsOrdered h.nodes → AreCurrent rows h now → slice_get (elements h.nodes) place ≡ Some e → slice_get rows place ≡ Some row → IsRowOf h (interval_in rows) now place e row

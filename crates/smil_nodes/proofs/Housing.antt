@@ -1,7 +1,7 @@
 -- Where the endings of elements stand, and the ends of their time children at first.
 use Rattle.std.proofs.Common.{◌≡◌, refl, sym, ◌∙◌, ap, subst, ℕ, zero, suc, ◌+◌, ◌<◌, ◌≤◌, List, [], ◌∷◌, ◌++◌, length, get_or, take, map, arith, Option, Some, None, Bool, true, false}
 use Rattle.std.proofs.Math.ListN.{length-set}
-use Rattle.std.specs.Prelude.{◌&&◌, ◌||◌, ◌==◌, cond, filter, nat_lt, not, set, slice_get, slice_index_or}
+use Rattle.std.specs.Prelude.{◌||◌, ◌==◌, cond, filter, nat_lt, not, set, slice_get, slice_index_or}
 use Rattle.std.specs.List.{position, position_or_len}
 use Rattle.std.proofs.lemmas.Bool.{and_from, eq-eqb, eqb-true, lt-ltb, or_left, or_right}
 use Rattle.std.proofs.lemmas.List.{length-map, map-append, take_more}
@@ -13,16 +13,17 @@ use Rattle.smil_model.specs.document.Valid.{IsDistinct, IsNumberedTree}
 use Rattle.smil_model.specs.document.Closure.{has}
 use Rattle.smil_laws.proofs.Rounds.{find-serial}
 use Rattle.smil_past.proofs.References.{stands}
-use Rattle.smil_element.proofs.Known.{IsChild, child_at, known_node}
+use Rattle.smil_element.proofs.Known.{IsChild, child_at, known_node, passes}
 use Rattle.smil_cells.specs.declared.plain.known.Row.{Row}
 use Rattle.smil_cells.specs.Round.{AreOfElements}
-use Rattle.smil_cells.proofs.Paired.{element_at, first_at, serials_in, there_at}
+use Rattle.smil_cells.proofs.Paired.{element_at, first_at, there_at}
 use Rattle.smil_cells.proofs.Taking.{IsFound, elements_differ}
 use Rattle.smil_nodes.specs.declared.endings.Home.{Home}
 use Rattle.smil_endsync.specs.Ends.{set_ends}
 use Rattle.smil_element.specs.declared.endings.Ending.{Ending}
 use Rattle.smil_nodes.specs.Endings.{AreHomes, AreHoused, HasHome, HaveHomes, IsHome, home_at, named_end, named_ends, put_among}
 use Rattle.smil_nodes.proofs.Fixed.{first_serial}
+use Rattle.smil_laws.proofs.Lists.{filter_shorter}
 
 -- ---- homes one after another
 
@@ -48,7 +49,7 @@ home_of_place nodes (e ∷ es) [] k home have at = absurd have
 home_of_place nodes (e ∷ es) (o ∷ os) zero home have at = (e, subst (HasHome nodes e.serial) at have.0)
 home_of_place nodes (e ∷ es) (o ∷ os) (suc k) home have at = home_of_place nodes es os k home have.1 at
 
-ends_at : (f : Node → List ChildEnd) (ns : List Node) (k : ℕ) (n : Node) → slice_get ns k ≡ Some n → slice_index_or (map f ns) k [] ≡ f n
+pub ends_at : (f : Node → List ChildEnd) (ns : List Node) (k : ℕ) (n : Node) → slice_get ns k ≡ Some n → slice_index_or (map f ns) k [] ≡ f n
 ends_at f [] k n at = absurd (cc)
 ends_at f (m ∷ ns) zero n at = let one : m ≡ n = cc in ap f one
 ends_at f (m ∷ ns) (suc k) n at = ends_at f ns k n at
@@ -123,15 +124,6 @@ kept_has t (n ∷ ns) (suc i) e at q = by_test (t n) refl (kept_has t ns i e at 
     by_test true r later = ap (λ c. has (serials (cond c (n ∷ filter t ns) (filter t ns))) e.serial) r ∙ or_right _ _ later
     by_test false r later = ap (λ c. has (serials (cond c (n ∷ filter t ns) (filter t ns))) e.serial) r ∙ later
 
-is_kept : (ns : List Node) (i : ℕ) (e : Node) → slice_get (filter is_element ns) i ≡ Some e → is_element e ≡ true
-is_kept [] i e at = absurd (cc)
-is_kept (n ∷ ns) i e at = by_test (is_element n) refl i at
-  where
-    by_test : (b : Bool) → is_element n ≡ b → (j : ℕ) → slice_get (cond b (n ∷ filter is_element ns) (filter is_element ns)) j ≡ Some e → is_element e ≡ true
-    by_test true q zero a = let one : n ≡ e = cc in ap is_element (sym one) ∙ q
-    by_test true q (suc j) a = is_kept ns j e a
-    by_test false q j a = is_kept ns j e a
-
 has_parent : (parent : ℕ) (o : Option Node) → serial_of o ≡ Some parent → has_serial parent o ≡ true
 has_parent parent None q = absurd (cc)
 has_parent parent (Some n) q = let one : n.serial ≡ parent = cc in eq-eqb n.serial parent one
@@ -142,7 +134,7 @@ among_children document numbered who parent e whos known under are =
     let nodes = document.nodes in
     let at = stands nodes who e (known_node document numbered who e known) in
     let own : e.serial ≡ who = find-serial who (elements nodes) e known in
-    let is = is_kept nodes (stands (elements nodes) who e known).place e (stands (elements nodes) who e known).at in
+    let is = passes is_element nodes (stands (elements nodes) who e known).place e (stands (elements nodes) who e known).at in
     let child : is_time_child nodes parent e ≡ true = and_from _ _ is (has_parent parent (time_parent nodes e.serial) (ap (λ s. serial_of (time_parent nodes s)) own ∙ under)) in
     ap (λ ws. has ws who) are
     ∙ ap (has (serials (time_children nodes parent))) (sym own)
@@ -192,17 +184,9 @@ among_set [] p k x own new is lt made = absurd (omega (arith, lt))
 among_set (e ∷ es) zero k x own new is lt made = ap (λ row. row ∷ es) (made ∙ ap (λ row. set_ends row k x.first x.latest) is)
 among_set (e ∷ es) (suc p) k x own new is lt made = ap (λ rest. e ∷ rest) (among_set es p k x own new is (omega (arith, lt)) made)
 
-few_kept : (t : Node → Bool) (ns : List Node) → length (filter t ns) ≤ length ns
-few_kept t [] = omega arith
-few_kept t (n ∷ ns) = by_test (t n) (few_kept t ns)
-  where
-    by_test : (b : Bool) → length (filter t ns) ≤ length ns → length (cond b (n ∷ filter t ns) (filter t ns)) ≤ length (n ∷ ns)
-    by_test true l = omega (arith, l)
-    by_test false l = omega (arith, l)
-
 -- at most as many as there are nodes
 pub few_children : (nodes : List Node) (parent : ℕ) → length (time_children nodes parent) ≤ length nodes
-few_children nodes parent = few_kept (is_time_child nodes parent) nodes
+few_children nodes parent = filter_shorter (is_time_child nodes parent) nodes
 
 -- ---- a serial among others
 

@@ -4,7 +4,6 @@ use Rattle.std.specs.Prelude.{◌==◌, ◌++◌, ◌+◌, nat_eq, slice_get, sl
 use Rattle.std.specs.List.{IsDistinct as IsApart, position}
 use Rattle.std.proofs.lemmas.Bool.{eq-eqb, eqb-true, eqb-false}
 use Rattle.std.proofs.lemmas.List.{length-map, take-append-drop}
-use Rattle.smil_model.specs.declared.diary.Entry.{Entry}
 use Rattle.smil_model.specs.declared.interval.ChildEnd.{ChildEnd}
 use Rattle.smil_model.specs.declared.interval.Interval.{Interval}
 use Rattle.smil_model.specs.declared.document.Node.{Node}
@@ -13,7 +12,7 @@ use Rattle.smil_model.specs.document.Dependencies.{has_implicit_duration}
 use Rattle.smil_model.specs.document.Valid.{IsDistinct}
 use Rattle.smil_model.specs.document.Closure.{has}
 use Rattle.smil_model.specs.diary.Diary.{History, up_to}
-use Rattle.smil_model.specs.interval.Current.{child_end, is_named_child}
+use Rattle.smil_model.specs.interval.Current.{child_end}
 use Rattle.smil_laws.specs.Edited.{IsOrdered}
 use Rattle.smil_laws.proofs.Rounds.{find-serial}
 use Rattle.smil_graph.specs.Graph.{IsOrder}
@@ -27,16 +26,15 @@ use Rattle.smil_cells.proofs.Paired.{apart_at, there_at}
 use Rattle.smil_cells.proofs.Taking.{elements_differ}
 use Rattle.smil_nodes.specs.declared.endings.Home.{Home}
 use Rattle.smil_nodes.specs.Agenda.{IsTaken}
-use Rattle.smil_nodes.specs.Endings.{KeptEnds, AreHomes, AreKnown, HasHome, IsEnded, IsHome, KnowsEnds, anyone, home_at, named_end, named_ends, names_of, nobody, put_among, put_ending, put_home}
+use Rattle.smil_nodes.specs.Endings.{KeptEnds, AreHomes, AreKnown, HasHome, IsEnded, KnowsEnds, anyone, home_at, named_end, named_ends, names_of, nobody, put_among, put_ending, put_home}
 use Rattle.smil_nodes.specs.Noted.{is_noted_by}
 use Rattle.smil_nodes.specs.Work.{IsBelow, IsUnlisted}
-use Rattle.smil_nodes.proofs.Among.{among_names, among_own, among_stays, ended, names_in, set_own}
+use Rattle.smil_nodes.proofs.Among.{among_names, among_own, among_stays, names_in, set_own}
 use Rattle.smil_nodes.proofs.Family.{child_below, family, one_child, rank_of}
-use Rattle.smil_nodes.proofs.Housing.{home_each}
+use Rattle.smil_nodes.proofs.Housing.{home_each, ends_at}
 use Rattle.smil_nodes.proofs.Noted.{untouched}
 use Rattle.smil_nodes.proofs.Ranked.{found_place}
 use Rattle.smil_nodes.proofs.Staying.{all_done, end_by_interval, same_end}
-use Rattle.smil_nodes.proofs.Working.{left_out}
 
 -- ---- lists of ends
 
@@ -44,11 +42,6 @@ names_row : (xs : List (List ChildEnd)) (k : ℕ) → names_in (slice_index_or x
 names_row [] k = refl
 names_row (x ∷ xs) zero = refl
 names_row (x ∷ xs) (suc k) = names_row xs k
-
-row_of_map : (f : Node → List ChildEnd) (ns : List Node) (k : ℕ) (n : Node) → slice_get ns k ≡ Some n → slice_index_or (map f ns) k [] ≡ f n
-row_of_map f [] k n at = absurd (cc)
-row_of_map f (m ∷ ns) zero n at = let one : m ≡ n = cc in ap f one
-row_of_map f (m ∷ ns) (suc k) n at = row_of_map f ns k n at
 
 -- ends that are by each child those that f gives
 ends_same : (f : Node → ChildEnd) (xs : List ChildEnd) (cs : List Node) → length xs ≡ length cs → ((k : ℕ) (c : Node) → slice_get cs k ≡ Some c → slice_get xs k ≡ Some (f c)) → xs ≡ map f cs
@@ -78,7 +71,7 @@ module _ (h : History) (kept : KeptEnds) (names : names_of kept.ends ≡ names_o
       names_row kept.ends place
       ∙ ap (λ ns. slice_index_or ns place []) names
       ∙ sym (names_row (map (named_ends h.nodes) (elements h.nodes)) place)
-      ∙ ap names_in (row_of_map (named_ends h.nodes) (elements h.nodes) place e here)
+      ∙ ap names_in (ends_at (named_ends h.nodes) (elements h.nodes) place e here)
 
   count_at : (place : ℕ) (e : Node) → slice_get (elements h.nodes) place ≡ Some e → length (slice_index_or kept.ends place []) ≡ length (time_children h.nodes e.serial)
   count_at place e here =

@@ -1,6 +1,6 @@
 -- What std says of the keys of a set, said of listed ranks.
-use Rattle.std.proofs.Common.{◌≡◌, refl, ◌∙◌, ap, sym, ℕ, ◌<◌, List, [], ◌∷◌, length, Bool, true, false, Option, Some, None, arith}
-use Rattle.std.specs.Prelude.{cond, not, ◌&&◌, ◌||◌, ◌==◌, is_some, IsTrue, IsSome, IfSome, MatchOption}
+use Rattle.std.proofs.Common.{◌≡◌, refl, ◌∙◌, ap, sym, ℕ, ◌<◌, List, [], ◌∷◌, length, true, false, Option, Some, None, arith}
+use Rattle.std.specs.Prelude.{not, ◌&&◌, ◌||◌, ◌==◌, is_some, IsTrue, IsSome, IfSome, MatchOption}
 use Rattle.std.specs.Ordering.{nat_cmp, is_eq}
 use Rattle.std.specs.List.{list_any}
 use Rattle.std.specs.BTreeSet.{BTreeSet, contains, IsLowerBound, Updates}
@@ -8,20 +8,13 @@ use Rattle.std.proofs.lemmas.Bool.Decides.{nat_tests}
 use Rattle.std.proofs.lemmas.Map.Keys.{le_from_not_gt}
 use Rattle.smil_model.specs.document.Closure.{has}
 use Rattle.smil_nodes.specs.Agenda.{IsTaken}
+use Rattle.smil_due.proofs.Sets.{or_cond, and_cond}
 
 same_rank : (a b : ℕ) → is_eq (nat_cmp a b) ≡ (b == a)
 same_rank a b = grind (arith, nat_tests)
 
 listed : (keys : List ℕ) (r : ℕ) → list_any (λ k. is_eq (nat_cmp r k)) keys ≡ has keys r
 listed keys r = λ i. list_any (λ k. same_rank r k i) keys
-
-or_cond : (a b : Bool) → cond a true b ≡ (a || b)
-or_cond true b = grind arith
-or_cond false b = grind arith
-
-and_cond : (a b : Bool) → cond a false b ≡ (not a && b)
-and_cond true b = grind arith
-and_cond false b = grind arith
 
 -- a rank is put in
 pub put_in : (old new : BTreeSet ℕ) (rank : ℕ) → Updates nat_cmp old new rank true → (r : ℕ) → has new.keys r ≡ ((r == rank) || has old.keys r)

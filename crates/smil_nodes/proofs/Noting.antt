@@ -3,7 +3,6 @@ use Rattle.std.proofs.Common.{◌≡◌, refl, sym, ◌∙◌, ap, subst, ℕ, z
 use Rattle.std.specs.Prelude.{◌⊎◌, ◌==◌, ◌||◌, ◌&&◌, cond, filter, is_some, option_map, slice_get, slice_range}
 use Rattle.std.specs.List.{list_any, position}
 use Rattle.std.proofs.lemmas.Bool.{and_from, and_parts, or_cases, or_left, or_right, eqb-true, eq-eqb}
-use Rattle.std.proofs.lemmas.Grind.{common_steps}
 use Rattle.std.proofs.lemmas.List.{get_or-drop, length-drop}
 use Rattle.std.proofs.lemmas.List.Folds.{list_any_more}
 use Rattle.std.proofs.Math.Seq.{take-nil}
@@ -26,6 +25,10 @@ use Rattle.smil_stretch.proofs.Idle.{node_found}
 use Rattle.smil_past.proofs.Listing.{known_node}
 use Rattle.smil_element.proofs.Cutting.{part_none}
 use Rattle.smil_nodes.specs.Noted.{AreNoted, is_noted_at, is_noted_by, is_noted_through, is_self_or_reader}
+use Rattle.smil_graph.proofs.Positions.{position_step}
+use Rattle.smil_graph.proofs.Keyed.{right}
+use Rattle.smil_graph.proofs.Rows.{assoc}
+use Rattle.smil_tree.proofs.Placings.{both_ways}
 
 -- ---- a rank in an order
 
@@ -35,9 +38,6 @@ at_rank order s r at = let found = position-Some (λ t. t == s) order r 0 at in 
 
 below : (order : List ℕ) (s r : ℕ) → position (λ t. t == s) order ≡ Some r → r < length order
 below order s r at = let found = position-Some (λ t. t == s) order r 0 at in found.0
-
-position_step : (t : ℕ → Bool) (x : ℕ) (xs : List ℕ) → position t (x ∷ xs) ≡ cond (t x) (Some 0) (option_map suc (position t xs))
-position_step t x xs = grind (arith, common_steps)
 
 -- what is in an order has a rank in it
 has_rank : (xs : List ℕ) (s : ℕ) → is_some (position (λ t. t == s) xs) ≡ has xs s
@@ -66,14 +66,6 @@ ranked nodes order s is =
 
 -- ---- lists that grow
 
-or_none : (b : Bool) → b ≡ (b || false)
-or_none true = refl
-or_none false = refl
-
-or_grouped : (a b c : Bool) → ((a || b) || c) ≡ (a || (b || c))
-or_grouped true b c = refl
-or_grouped false b c = refl
-
 take_none : {A : Type 0} (xs : List A) → take 0 xs ≡ []
 take_none [] = refl
 take_none (x ∷ xs) = refl
@@ -87,7 +79,7 @@ module _ (order : List ℕ) where
   -- nothing more is listed
   pub none_noted : (test : ℕ → Bool) (old : List ℕ) → ((s r : ℕ) → position (λ t. t == s) order ≡ Some r → test s ≡ false) → AreNoted order test old old
   none_noted test old none = record {
-    listed = λ s r at. or_none (has old r) ∙ ap (λ b. has old r || b) (sym (none s r at));
+    listed = λ s r at. right (has old r) ∙ ap (λ b. has old r || b) (sym (none s r at));
     ranks = λ r q. inl q;
   }
 
@@ -131,7 +123,7 @@ module _ (order : List ℕ) where
   -- more and more is listed
   pub noted_then : (p q : ℕ → Bool) (old mid new : List ℕ) → AreNoted order p old mid → AreNoted order q mid new → AreNoted order (λ s. p s || q s) old new
   noted_then p q old mid new first second = record {
-    listed = λ s r at. second.listed s r at ∙ ap (λ b. b || q s) (first.listed s r at) ∙ or_grouped (has old r) (p s) (q s);
+    listed = λ s r at. second.listed s r at ∙ ap (λ b. b || q s) (first.listed s r at) ∙ assoc (has old r) (p s) (q s);
     ranks = λ r is. by_case r (second.ranks r is);
   }
     where
@@ -207,12 +199,6 @@ module _ (nodes : List Node) (order : List ℕ) (is : IsOrder nodes order) where
 
 -- ---- the nodes of a part of a document, one after another
 
-same_truth : (a b : Bool) → (a ≡ true → b ≡ true) → (b ≡ true → a ≡ true) → a ≡ b
-same_truth true true f g = refl
-same_truth true false f g = sym (f refl)
-same_truth false true f g = g refl
-same_truth false false f g = refl
-
 -- a test of what a part has, with one more at its end
 pub any_part_more : {A : Type 0} (p : A → Bool) (xs : List A) (first at : ℕ) (x : A) → first ≤ at → slice_get xs at ≡ Some x → list_any p (slice_range xs first (at + 1)) ≡ (list_any p (slice_range xs first at) || p x)
 any_part_more {A} p xs first at x le there =
@@ -282,7 +268,7 @@ module _ (nodes : List Node) (distinct : IsDistinct nodes) (x s : ℕ) where
   part_is : is_some (node_at (elements nodes) s) ≡ true → list_any (λ (n : Node). is_self_or_reader nodes n.serial s) (filter (λ (n : Node). is_within nodes x n.serial) nodes) ≡ is_touched nodes x s
   part_is known_s =
       any_filter (λ (n : Node). is_within nodes x n.serial) (λ (n : Node). is_self_or_reader nodes n.serial s) nodes
-      ∙ same_truth (list_any of_node nodes) (is_touched nodes x s) to_touched (from_touched known_s)
+      ∙ both_ways (list_any of_node nodes) (is_touched nodes x s) to_touched (from_touched known_s)
 
 module _ (nodes : List Node) (order : List ℕ) where
   abbrev pub part_test : ℕ → ℕ → ℕ → Bool

@@ -1,6 +1,6 @@
 -- Ranks of the elements in an order: each element has one.
-use Rattle.std.proofs.Common.{◌≡◌, refl, sym, ◌∙◌, ap, subst, ℕ, zero, suc, ◌+◌, ◌<◌, List, [], ◌∷◌, length, get_or, Option, Some, None, true, false, arith}
-use Rattle.std.specs.Prelude.{cond, not, nat_eq, nat_lt, is_some, ◌==◌}
+use Rattle.std.proofs.Common.{◌≡◌, refl, sym, ◌∙◌, ap, subst, ℕ, zero, suc, ◌+◌, ◌<◌, List, [], ◌∷◌, length, get_or, Some, None, true, false, arith}
+use Rattle.std.specs.Prelude.{cond, not, nat_eq, nat_lt, ◌==◌}
 use Rattle.std.specs.List.{AllByRecursion, IsDistinct, position, position_or_len}
 use Rattle.std.proofs.lemmas.Bool.{eq-eqb, lt-ltb}
 use Rattle.std.proofs.lemmas.Cmp.{nat_eq_equiv}
@@ -12,6 +12,7 @@ use Rattle.smil_model.specs.document.Document.{elements, node_at, serials}
 use Rattle.smil_laws.proofs.Rounds.{find-serial}
 use Rattle.smil_graph.specs.Graph.{IsOrder}
 use Rattle.smil_cells.proofs.Current.{ordered_element}
+use Rattle.smil_instances.proofs.Targets.{some_of}
 
 -- ---- lists of different numbers
 
@@ -60,13 +61,9 @@ pub order_length : (nodes : List Node) (order : List ℕ) → IsOrder nodes orde
 order_length nodes order is =
     length_permutation (serials (elements nodes)) order is.all ∙ length-map (elements nodes) (λ (n : Node). n.serial)
 
-some_node : (o : Option Node) → is_some o ≡ true → (e : Node) × (o ≡ Some e)
-some_node None q = cc
-some_node (Some e) q = (e, refl)
-
 -- each rank is that of an element
 pub element_of : (nodes : List Node) (order : List ℕ) (rank : ℕ) → IsOrder nodes order → rank < length order → (e : Node) × (e.serial ≡ get_or order rank 0) × (node_at (elements nodes) e.serial ≡ Some e)
 element_of nodes order rank is within =
-    let some = some_node (node_at (elements nodes) (get_or order rank 0)) (ordered_element nodes order rank is within) in
+    let some = some_of (node_at (elements nodes) (get_or order rank 0)) (ordered_element nodes order rank is within) in
     let same : (some.0).serial ≡ get_or order rank 0 = find-serial (get_or order rank 0) (elements nodes) some.0 some.1 in
     (some.0, same, ap (node_at (elements nodes)) same ∙ some.1)
