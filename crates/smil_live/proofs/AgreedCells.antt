@@ -1,10 +1,11 @@
 -- Cells that go on with an edited document from the part of the diary that stays, and how often edits and backward seeks have
 -- intervals evaluated.
 use Rattle.std.proofs.Common.{◌≡◌, refl, sym, ◌∙◌, ap, subst, ℕ, ◌+◌, ◌≤◌, List, length, take, ℤ, negsuc, Bool, true, false, Result, Ok, Err, arith}
-use Rattle.std.specs.Prelude.{OnOk, filter, int_le, nat_abs, nat_lt, pos, ◌<ℤ◌, ◌≤ℤ◌}
+use Rattle.std.specs.Prelude.{IfErr, OnOk, filter, int_le, nat_abs, nat_lt, pos, ◌<ℤ◌, ◌≤ℤ◌}
 use Rattle.std.specs.List.{list_all}
 use Rattle.std.proofs.lemmas.Bool.{and_parts, lt-ltb}
 use Rattle.std.proofs.lemmas.Int.{ints}
+use Rattle.std.proofs.lemmas.Result.{IfErr-weaker}
 use Rattle.smil_model.specs.declared.diary.LogEntry.{LogEntry}
 use Rattle.smil_model.specs.declared.order.Order.{Order}
 use Rattle.smil_model.specs.declared.order.Order.TheVariants as order
@@ -17,17 +18,17 @@ use Rattle.smil_model.specs.shown.Answers.{Accepts}
 use Rattle.smil_model.specs.shown.Orders.{IsState, Presentation, course_of}
 use Rattle.smil_grammar.specs.Formats.{formats}
 use Rattle.smil_cells.specs.Standing.{IsRebuilt, MayRebuild, Standing, WhereTold}
-use Rattle.smil_live.specs.Counted.{IsAtLeast, IsAtMost}
-use Rattle.smil_live.specs.Counts.{diary_at, least_between, least_seeking, most_between, most_seeking, reached_behind}
+use Rattle.smil_live.specs.Counted.{IsAtLeast, IsAtMost, IsBounded, IsFree}
+use Rattle.smil_live.specs.Counts.{diary_at, least_between, least_seeking, most_between, most_number, most_seeking, reached_behind, told_where}
 use Rattle.smil_live.specs.Editing.{IsEdited, edit_of}
 use Rattle.smil_live.specs.ShownViews.{IsPlaying}
-use Rattle.smil_live.specs.Moves.{IsReplayed, IsUnderWay, edited_to, sought_of}
+use Rattle.smil_live.specs.Moves.{IsReplayed, IsTooFull, IsUnderWay, edited_to, sought_of}
 use Rattle.smil_live.specs.ViewTable.{Shown}
 use Rattle.smil_live.specs.Sites.{IsMade, most_resolving, site_of, staying}
 use Rattle.smil_live.specs.Telling.{is_edit}
 use Rattle.smil_live.specs.declared.edits.Site.{Site}
 use Rattle.smil_live.proofs.AgreedParts.{staying_part, staying_within}
-use Rattle.smil_live.proofs.CountedOrders.{at_least, at_most}
+use Rattle.smil_live.proofs.CountedOrders.{at_least, at_most, free_too_full}
 use Rattle.smil_live.proofs.Edited.{edited_accepted, edited_state}
 use Rattle.smil_live.proofs.Ended.{diary_is}
 use Rattle.smil_live.proofs.Outcomes.{clock_from, sought_state}
@@ -90,14 +91,14 @@ least_is p q (order.Insert who place line column) edits = refl
 least_is p q (order.Remove who) edits = refl
 least_is p q _ edits = absurd cc
 
-pub edited_most : (r : Result (Unit {0}) Refusal) (counts : Bool) (p q : Presentation) (o : Order) (d : Document) (at : Site) (old new : List ℕ) (rise : ℕ) → is_edit o ≡ true → edit_of p o ≡ Ok d → at ≡ site_of p.document o
+edited_most : (r : Result (Unit {0}) Refusal) (counts : Bool) (p q : Presentation) (o : Order) (d : Document) (at : Site) (old new : List ℕ) (rise : ℕ) → is_edit o ≡ true → edit_of p o ≡ Ok d → at ≡ site_of p.document o
     → OnOk r (IsEdited p d q old new) → OnOk r (WhereTold counts (rise ≤ most_resolving p at d)) → OnOk r (IsAtMost counts p o rise)
 edited_most (Err e) counts p q o d at old new rise edits edited here is most = tt
 edited_most (Ok x) counts p q o d at old new rise edits edited here is most =
     at_most counts p q o rise (edited_accepted p q o d old new edits edited is).state
     (subst (λ (n : ℕ). WhereTold counts (rise ≤ n)) (ap (λ (x : Site). most_resolving p x d) here ∙ (most_is p o d edits ∙ ap (most_between p o) (sym is.state))) most)
 
-pub edited_least : (r : Result (Unit {0}) Refusal) (counts : Bool) (p q : Presentation) (o : Order) (d : Document) (old new : List ℕ) (rise : ℕ) → is_edit o ≡ true → edit_of p o ≡ Ok d
+edited_least : (r : Result (Unit {0}) Refusal) (counts : Bool) (p q : Presentation) (o : Order) (d : Document) (old new : List ℕ) (rise : ℕ) → is_edit o ≡ true → edit_of p o ≡ Ok d
     → OnOk r (IsEdited p d q old new) → OnOk r (IsAtLeast counts p o rise)
 edited_least (Err e) counts p q o d old new rise edits edited is = tt
 edited_least (Ok x) counts p q o d old new rise edits edited is =
@@ -106,6 +107,16 @@ edited_least (Ok x) counts p q o d old new rise edits edited is =
     none : (t : Bool) → WhereTold t (0 ≤ rise)
     none true = omega arith
     none false = tt
+
+pub edited_bounded : (r : Result (Unit {0}) Refusal) (counts : Bool) (p q : Presentation) (o : Order) (d : Document) (at : Site) (old new : List ℕ) (rise : ℕ) → is_edit o ≡ true → edit_of p o ≡ Ok d → at ≡ site_of p.document o
+    → OnOk r (IsEdited p d q old new) → OnOk r (WhereTold counts (rise ≤ most_resolving p at d)) → IfErr r (IsTooFull (edited_to p d)) → IsBounded counts p o r rise
+edited_bounded r counts p q o d at old new rise edits edited here is most refused = record {
+  most = edited_most r counts p q o d at old new rise edits edited here is most;
+  least = edited_least r counts p q o d old new rise edits edited is;
+  free =
+      IfErr-weaker r (IsTooFull (edited_to p d)) (λ (e : Refusal). IsFree counts p o e rise)
+      (λ e full. free_too_full (told_where counts (most_number p o)) (edited_to p d) e rise full) refused;
+}
 
 -- ---- a seek back
 

@@ -1,5 +1,5 @@
 -- How often an order had intervals evaluated, against the numbers that bound it.
-use Rattle.std.specs.Prelude.{ℕ, ◌≤◌, Bool}
+use Rattle.std.specs.Prelude.{ℕ, ◌≤◌, Bool, Result, OnOk, IfErr}
 use Rattle.smil_model.specs.declared.order.Order.{Order}
 use Rattle.smil_model.specs.declared.order.Refusal.{Refusal}
 use Rattle.smil_model.specs.shown.Answers.{MayEvaluate}
@@ -18,3 +18,10 @@ IsAtLeast counts before given rise = WhereTold counts (least_number before given
 -- never, where it was refused for another cause than a full diary or out of memory
 abbrev pub IsFree : Bool → Presentation → Order → Refusal → ℕ → Type 0
 IsFree counts before given refusal rise = MayEvaluate (told_where counts (most_number before given)) refusal rise
+
+-- by what came of it
+pub record IsBounded (counts : Bool) (before : Presentation) (given : Order)
+    (answer : Result (Unit {0}) Refusal) (rise : ℕ) : Type 0 where
+  pub most : OnOk answer (IsAtMost counts before given rise)
+  pub least : OnOk answer (IsAtLeast counts before given rise)
+  pub free : IfErr answer (λ refusal. IsFree counts before given refusal rise)

@@ -9,7 +9,7 @@ ghost use Rattle.smil_model.specs.shown.Orders.{IsState, changes_between, node_o
 ghost use Rattle.smil_grammar.specs.Formats.{formats};
 ghost use Rattle.smil_report.specs.Words.{Begins};
 ghost use Rattle.smil_cells.specs.Standing.{WhereTold};
-ghost use Rattle.smil_live.specs.Counted.{IsAtLeast, IsAtMost, IsFree};
+ghost use Rattle.smil_live.specs.Counted.{IsBounded};
 ghost use Rattle.smil_live.specs.Counts.{agreed_under, serial_or_0};
 ghost use Rattle.smil_live.specs.Editing.{IsEdited, IsRefusedBy, edit_of};
 ghost use Rattle.smil_live.specs.ShownViews.{IsPlaying};
@@ -62,16 +62,9 @@ impl<T: Table> Playing<T> {
         ensures kept { OnErr result (self.new ≡ self.old) }
         ensures text { OnErr result (out.new ≡ out.old) }
         ensures counted { steps.old ≤ steps.new }
-        ensures most { OnOk result (IsAtMost T.counts self.old
-            (order.Set who.now setting.entry.attr.text.now setting.entry.value.text.now
-            setting.entry.attr.column setting.entry.value.column) (steps.new - steps.old)) }
-        ensures least { OnOk result (IsAtLeast T.counts self.old
-            (order.Set who.now setting.entry.attr.text.now setting.entry.value.text.now
-            setting.entry.attr.column setting.entry.value.column) (steps.new - steps.old)) }
-        ensures free { IfErr result (λ refusal. IsFree T.counts self.old
-            (order.Set who.now setting.entry.attr.text.now setting.entry.value.text.now
-            setting.entry.attr.column setting.entry.value.column) refusal
-            (steps.new - steps.old)) }
+        ensures bounded { IsBounded T.counts self.old (order.Set who.now setting.entry.attr.text.now
+            setting.entry.value.text.now setting.entry.attr.column setting.entry.value.column)
+            result (steps.new - steps.old) }
     {
         match self.set_copy(who, setting) {
             Ok(edited) => {
@@ -101,13 +94,9 @@ impl<T: Table> Playing<T> {
         ensures kept { OnErr result (self.new ≡ self.old) }
         ensures text { OnErr result (out.new ≡ out.old) }
         ensures counted { steps.old ≤ steps.new }
-        ensures most { OnOk result (IsAtMost T.counts self.old
-            (order.Unset who.now attr.entry.text.now attr.entry.column) (steps.new - steps.old)) }
-        ensures least { OnOk result (IsAtLeast T.counts self.old
-            (order.Unset who.now attr.entry.text.now attr.entry.column) (steps.new - steps.old)) }
-        ensures free { IfErr result (λ refusal. IsFree T.counts self.old
-            (order.Unset who.now attr.entry.text.now attr.entry.column) refusal
-            (steps.new - steps.old)) }
+        ensures bounded { IsBounded T.counts self.old
+            (order.Unset who.now attr.entry.text.now attr.entry.column) result
+            (steps.new - steps.old) }
     {
         match self.unset_copy(who, attr) {
             Ok(edited) => {
@@ -138,15 +127,8 @@ impl<T: Table> Playing<T> {
         ensures kept { OnErr result (self.new ≡ self.old) }
         ensures text { OnErr result (out.new ≡ out.old) }
         ensures counted { steps.old ≤ steps.new }
-        ensures most { OnOk result (IsAtMost T.counts self.old
-            (order.Insert who.now child.entry.place child.entry.line.text.now
-            child.entry.line.column) (steps.new - steps.old)) }
-        ensures least { OnOk result (IsAtLeast T.counts self.old
-            (order.Insert who.now child.entry.place child.entry.line.text.now
-            child.entry.line.column) (steps.new - steps.old)) }
-        ensures free { IfErr result (λ refusal. IsFree T.counts self.old
-            (order.Insert who.now child.entry.place child.entry.line.text.now
-            child.entry.line.column) refusal (steps.new - steps.old)) }
+        ensures bounded { IsBounded T.counts self.old (order.Insert who.now child.entry.place
+            child.entry.line.text.now child.entry.line.column) result (steps.new - steps.old) }
     {
         match self.insert_copy(who, child) {
             Ok(edited) => self.take_edited(&edited, Site::New, out, steps),
@@ -170,12 +152,8 @@ impl<T: Table> Playing<T> {
         ensures kept { OnErr result (self.new ≡ self.old) }
         ensures text { OnErr result (out.new ≡ out.old) }
         ensures counted { steps.old ≤ steps.new }
-        ensures most { OnOk result (IsAtMost T.counts self.old (order.Remove who.now)
-            (steps.new - steps.old)) }
-        ensures least { OnOk result (IsAtLeast T.counts self.old (order.Remove who.now)
-            (steps.new - steps.old)) }
-        ensures free { IfErr result (λ refusal. IsFree T.counts self.old (order.Remove who.now)
-            refusal (steps.new - steps.old)) }
+        ensures bounded { IsBounded T.counts self.old (order.Remove who.now) result
+            (steps.new - steps.old) }
     {
         match self.remove_copy(who) {
             Ok(edited) => {

@@ -9,7 +9,7 @@ ghost use Rattle.smil_model.specs.shown.Answers.{Accepts, IsGiven, MayEvaluate, 
 ghost use Rattle.smil_model.specs.shown.Orders.{IsState};
 ghost use Rattle.smil_grammar.specs.Formats.{formats};
 ghost use Rattle.smil_cells.specs.Standing.{WhereTold};
-ghost use Rattle.smil_live.specs.Counted.{IsAtLeast, IsAtMost, IsFree};
+ghost use Rattle.smil_live.specs.Counted.{IsBounded};
 ghost use Rattle.smil_live.specs.Counts.{least_onward, most_onward};
 ghost use Rattle.smil_live.specs.Moves.{IsHeardBy, IsNotHeard, IsReplayed, IsTooFull, MayMove, changes_by, made, sought_of, text_of};
 
@@ -49,12 +49,8 @@ impl<T: Table> Playing<T> {
         ensures kept { OnErr result (self.new ≡ self.old) }
         ensures text { OnErr result (out.new ≡ out.old) }
         ensures counted { steps.old ≤ steps.new }
-        ensures most { OnOk result (IsAtMost T.counts self.old (order.Advance by)
-            (steps.new - steps.old)) }
-        ensures least { OnOk result (IsAtLeast T.counts self.old (order.Advance by)
-            (steps.new - steps.old)) }
-        ensures free { IfErr result (λ refusal. IsFree T.counts self.old (order.Advance by) refusal
-            (steps.new - steps.old)) }
+        ensures bounded { IsBounded T.counts self.old (order.Advance by) result
+            (steps.new - steps.old) }
     {
         let to = self.watched.cells.moment() + by;
         if to > HORIZON {
@@ -83,12 +79,8 @@ impl<T: Table> Playing<T> {
         ensures kept { OnErr result (self.new ≡ self.old) }
         ensures text { OnErr result (out.new ≡ out.old) }
         ensures counted { steps.old ≤ steps.new }
-        ensures most { OnOk result (IsAtMost T.counts self.old (order.Seek to)
-            (steps.new - steps.old)) }
-        ensures least { OnOk result (IsAtLeast T.counts self.old (order.Seek to)
-            (steps.new - steps.old)) }
-        ensures free { IfErr result (λ refusal. IsFree T.counts self.old (order.Seek to) refusal
-            (steps.new - steps.old)) }
+        ensures bounded { IsBounded T.counts self.old (order.Seek to) result
+            (steps.new - steps.old) }
     {
         if to < self.watched.cells.moment() {
             return self.seek_back(to, out, steps);
@@ -117,12 +109,8 @@ impl<T: Table> Playing<T> {
         ensures kept { OnErr result (self.new ≡ self.old) }
         ensures text { OnErr result (out.new ≡ out.old) }
         ensures counted { steps.old ≤ steps.new }
-        ensures most { OnOk result (IsAtMost T.counts self.old (order.Seek to)
-            (steps.new - steps.old)) }
-        ensures least { OnOk result (IsAtLeast T.counts self.old (order.Seek to)
-            (steps.new - steps.old)) }
-        ensures free { IfErr result (λ refusal. IsFree T.counts self.old (order.Seek to) refusal
-            (steps.new - steps.old)) }
+        ensures bounded { IsBounded T.counts self.old (order.Seek to) result
+            (steps.new - steps.old) }
     {
         self.settled();
         match self.made_at(to, steps) {
@@ -162,12 +150,8 @@ impl<T: Table> Playing<T> {
         ensures kept { OnErr result (self.new ≡ self.old) }
         ensures text { OnErr result (out.new ≡ out.old) }
         ensures counted { steps.old ≤ steps.new }
-        ensures most { OnOk result (IsAtMost T.counts self.old (order.Event who.now name.now)
-            (steps.new - steps.old)) }
-        ensures least { OnOk result (IsAtLeast T.counts self.old (order.Event who.now name.now)
-            (steps.new - steps.old)) }
-        ensures free { IfErr result (λ refusal. IsFree T.counts self.old
-            (order.Event who.now name.now) refusal (steps.new - steps.old)) }
+        ensures bounded { IsBounded T.counts self.old (order.Event who.now name.now) result
+            (steps.new - steps.old) }
     {
         self.settled();
         let serial = self.element(who)?;
@@ -192,12 +176,8 @@ impl<T: Table> Playing<T> {
         ensures kept { OnErr result (self.new ≡ self.old) }
         ensures text { OnErr result (out.new ≡ out.old) }
         ensures counted { steps.old ≤ steps.new }
-        ensures most { OnOk result (IsAtMost T.counts self.old (order.Media who.now length)
-            (steps.new - steps.old)) }
-        ensures least { OnOk result (IsAtLeast T.counts self.old (order.Media who.now length)
-            (steps.new - steps.old)) }
-        ensures free { IfErr result (λ refusal. IsFree T.counts self.old
-            (order.Media who.now length) refusal (steps.new - steps.old)) }
+        ensures bounded { IsBounded T.counts self.old (order.Media who.now length) result
+            (steps.new - steps.old) }
     {
         let serial = self.node(who)?;
         if !is_continuous(self.watched.cells.tree().kind(serial)) {

@@ -11,7 +11,7 @@ ghost use Rattle.smil_model.specs.shown.Orders.{IsState, course_of, found, node_
 ghost use Rattle.smil_model.specs.shown.Answers.{Accepts, IsGiven, Refuses, load_text};
 ghost use Rattle.smil_grammar.specs.Formats.{formats};
 ghost use Rattle.smil_cells.specs.Standing.{WhereTold};
-ghost use Rattle.smil_live.specs.Counted.{IsAtLeast, IsAtMost, IsFree};
+ghost use Rattle.smil_live.specs.Counted.{IsBounded};
 ghost use Rattle.smil_live.specs.Counts.{least_loading, most_loading};
 ghost use Rattle.smil_live.specs.ShownViews.{IsPlaying};
 ghost use Rattle.smil_live.specs.Moves.{IsReplayed};
@@ -169,12 +169,8 @@ impl<T: Table> Playing<T> {
         ensures kept { OnErr result (self.new ≡ self.old) }
         ensures text { OnErr result (out.new ≡ out.old) }
         ensures counted { steps.old ≤ steps.new }
-        ensures most { OnOk result (IsAtMost T.counts self.old (order.Key key)
-            (steps.new - steps.old)) }
-        ensures least { OnOk result (IsAtLeast T.counts self.old (order.Key key)
-            (steps.new - steps.old)) }
-        ensures free { IfErr result (λ refusal. IsFree T.counts self.old (order.Key key) refusal
-            (steps.new - steps.old)) }
+        ensures bounded { IsBounded T.counts self.old (order.Key key) result
+            (steps.new - steps.old) }
     {
         self.settled();
         self.hear(Happening::Key { key }, out, steps)
@@ -196,10 +192,7 @@ impl<T: Table> Playing<T> {
         ensures kept { OnErr result (self.new ≡ self.old) }
         ensures text { OnErr result (out.new ≡ out.old) }
         ensures counted { steps.old ≤ steps.new }
-        ensures most { OnOk result (IsAtMost T.counts self.old order.now (steps.new - steps.old)) }
-        ensures least { OnOk result (IsAtLeast T.counts self.old order.now (steps.new - steps.old)) }
-        ensures free { IfErr result (λ refusal. IsFree T.counts self.old order.now refusal
-            (steps.new - steps.old)) }
+        ensures bounded { IsBounded T.counts self.old order.now result (steps.new - steps.old) }
     {
         match order {
             Order::Set {

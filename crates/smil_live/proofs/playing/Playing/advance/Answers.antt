@@ -1,10 +1,10 @@
-use Rattle.std.proofs.Common.{◌≡◌, sym, subst, ◌-◌, ◌≤◌, ◌+ℤ◌, to_z, of_z, w64, arith, pos}
+use Rattle.std.proofs.Common.{Err, refl, nat_abs, ◌≡◌, sym, subst, ◌-◌, ◌≤◌, ◌+ℤ◌, to_z, of_z, w64, arith, pos}
 use Rattle.std.proofs.lemmas.Int.{ints}
 use Rattle.smil_model.specs.declared.order.Order.TheVariants as order
 use Rattle.smil_model.specs.shown.Orders.{IsState, Presentation}
-use Rattle.smil_cells.specs.Standing.{WhereTold}
+use Rattle.smil_cells.specs.Standing.{WhereTold, moved_to}
 use Rattle.smil_live.specs.Counts.{least_onward, most_onward}
-use Rattle.smil_live.proofs.CountedOrders.{at_least, at_most}
+use Rattle.smil_live.proofs.CountedOrders.{bounded_accepted, bounded_too_full}
 use Rattle.smil_live.proofs.Outcomes.{advanced_to, clock_from}
 use Rattle.smil_live.proofs.States.{within_horizon}
 use Rattle.smil_live.proofs.playing.Playing.advance.Goals as goal
@@ -19,16 +19,15 @@ returns-clause-ok g c =
     let sum : to_z w64 (of_z w64 (to_z w64 (of_z w64 c.moment.result) +ℤ to_z w64 (of_z w64 c.args.by))) ≡ pos p.now +ℤ c.args.by = omega (arith, ints, given.0, given.1, most, now) in
     advanced_to p c.go.new.self c.args.by _ c.args.out.now c.go.new.out state given.0 sum c.in_default.ensures.state c.settled.ensures.state c.settled.ensures.diary c.in_default.ensures.told
 
-pub returns-clause-most : goal.returns-clause-most
-returns-clause-most g c =
+pub returns-clause-bounded : goal.returns-clause-bounded
+returns-clause-bounded g c =
     let p = c.args.self.now in
     let rise = c.go.new.steps - c.args.steps.now in
-    at_most g.T.Table.counts p c.go.new.self (order.Advance c.args.by) rise (returns-clause-ok g c).state
+    bounded_accepted g.T.Table.counts p c.go.new.self (order.Advance c.args.by) rise (returns-clause-ok g c).state
     (subst (λ (q : Presentation). WhereTold g.T.Table.counts (rise ≤ most_onward p q)) (sym c.in_default.ensures.state) c.in_default.ensures.most)
-
-pub returns-clause-least : goal.returns-clause-least
-returns-clause-least g c =
-    let p = c.args.self.now in
-    let rise = c.go.new.steps - c.args.steps.now in
-    at_least g.T.Table.counts p c.go.new.self (order.Advance c.args.by) rise (returns-clause-ok g c).state
     (subst (λ (q : Presentation). WhereTold g.T.Table.counts (least_onward p q ≤ rise)) (sym c.in_default.ensures.state) c.in_default.ensures.least)
+
+pub returns-in-Err-clause-bounded : goal.returns-in-Err-clause-bounded
+returns-in-Err-clause-bounded g c =
+    let to = to_z w64 (of_z w64 (to_z w64 (of_z w64 c.moment.result) +ℤ to_z w64 (of_z w64 c.args.by))) in
+    bounded_too_full (Err c.in-Err.refusal) g.T.Table.counts c.args.self.now (moved_to c.args.self.now (nat_abs to)) (order.Advance c.args.by) (c.go.new.steps - c.args.steps.now) refl c.in-Err.ensures.refused

@@ -5,9 +5,10 @@ use Rattle.smil_model.specs.declared.order.Order.TheVariants as order
 use Rattle.smil_model.specs.shown.Answers.{Refuses}
 use Rattle.smil_grammar.specs.Formats.{formats}
 use Rattle.smil_live.specs.Moves.{IsNotHeard}
-use Rattle.smil_live.proofs.CountedOrders.{at_least_then, at_most_then}
+use Rattle.smil_live.proofs.CountedOrders.{bounded_then}
 use Rattle.smil_live.proofs.Keyed.{key_heard, key_not_heard}
 use Rattle.smil_live.proofs.playing.Playing.press.Goals as goal
+use Rattle.smil_live.specs.Counts.{most_number, told_where}
 
 pub returns-clause-ok : goal.returns-clause-ok
 returns-clause-ok g c =
@@ -17,13 +18,7 @@ pub returns-clause-refused : goal.returns-clause-refused
 returns-clause-refused g c =
     IfErr-weaker c.hear.result (IsNotHeard c.args.self.now (happening.Key c.args.key)) (Refuses formats c.args.self.now (order.Key c.args.key))
     (key_not_heard c.args.self.now c.args.key) c.hear.ensures.refused
-
-pub returns-clause-most : goal.returns-clause-most
-returns-clause-most g c =
-    at_most_then c.hear.result g.T.Table.counts c.args.self.now c.hear.new.self (order.Key c.args.key) (drop (length c.args.out.now) c.hear.new.out) (c.hear.new.steps - c.args.steps.now) (returns-clause-ok g c)
-    c.hear.ensures.most
-
-pub returns-clause-least : goal.returns-clause-least
-returns-clause-least g c =
-    at_least_then c.hear.result g.T.Table.counts c.args.self.now c.hear.new.self (order.Key c.args.key) (drop (length c.args.out.now) c.hear.new.out) (c.hear.new.steps - c.args.steps.now) (returns-clause-ok g c)
-    c.hear.ensures.least
+pub returns-clause-bounded : goal.returns-clause-bounded
+returns-clause-bounded g c =
+    bounded_then c.hear.result g.T.Table.counts c.args.self.now c.hear.new.self (order.Key c.args.key) (drop (length c.args.out.now) c.hear.new.out) (c.hear.new.steps - c.args.steps.now) (returns-clause-ok g c)
+    c.hear.ensures.most c.hear.ensures.least (c.hear.ensures.free (told_where g.T.Table.counts (most_number c.args.self.now (order.Key c.args.key))))

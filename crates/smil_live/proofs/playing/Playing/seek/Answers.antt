@@ -1,11 +1,12 @@
-use Rattle.std.proofs.Common.{◌≡◌, ◌∙◌, ◌++◌, ◌-◌, ◌≤◌, arith, refl, sym, ap, subst, ℤ, pos, nat_abs, to_z, of_z, w64}
+use Rattle.std.proofs.Common.{Err, ◌≡◌, ◌∙◌, ◌++◌, ◌-◌, ◌≤◌, arith, refl, sym, ap, subst, ℤ, pos, nat_abs, to_z, of_z, w64}
 use Rattle.std.specs.Prelude.{◌≤ℤ◌, int_lt, false}
 use Rattle.std.proofs.lemmas.Int.{ints, to_z-of_z}
+use Rattle.smil_model.specs.declared.order.Order.TheVariants as order
 use Rattle.smil_model.specs.shown.Orders.{IsState, Presentation, changes_between}
 use Rattle.smil_cells.specs.Standing.{WhereTold, moved_to}
 use Rattle.smil_live.specs.Counts.{least_onward, most_onward}
 use Rattle.smil_live.specs.Moves.{IsTooFull, text_of}
-use Rattle.smil_live.proofs.CountedOrders.{seek_at_least, seek_at_most}
+use Rattle.smil_live.proofs.CountedOrders.{bounded_too_full, seek_bounded}
 use Rattle.smil_live.proofs.Outcomes.{clock_from, not_above, moved_as_sought, not_sought, sought, within_sought}
 use Rattle.smil_live.proofs.Standings.{state_then}
 use Rattle.smil_live.proofs.States.{within_horizon}
@@ -49,16 +50,14 @@ from g c =
     onward c.args.self.now c.args.to c.moment.result (subst IsState c.self.view_is c.self.invariant.shown_is.state) (to_z-of_z w64 c.args.to c.ranges.to)
     (subst (λ (q : Presentation). c.moment.result ≡ pos q.now) c.self.view_is c.moment.ensures) c.if-to-moment.false
 
-pub returns-clause-most : goal.returns-clause-most
-returns-clause-most g c =
+pub returns-clause-bounded : goal.returns-clause-bounded
+returns-clause-bounded g c =
     let p = c.args.self.now in
     let rise = c.go.new.steps - c.args.steps.now in
-    seek_at_most g.T.Table.counts p c.go.new.self c.args.to rise (from g c) (returns-clause-ok g c).state
+    seek_bounded g.T.Table.counts p c.go.new.self c.args.to rise (from g c) (returns-clause-ok g c).state
     (subst (λ (q : Presentation). WhereTold g.T.Table.counts (rise ≤ most_onward p q)) (sym c.in_default.ensures.state) c.in_default.ensures.most)
-
-pub returns-clause-least : goal.returns-clause-least
-returns-clause-least g c =
-    let p = c.args.self.now in
-    let rise = c.go.new.steps - c.args.steps.now in
-    seek_at_least g.T.Table.counts p c.go.new.self c.args.to rise (from g c) (returns-clause-ok g c).state
     (subst (λ (q : Presentation). WhereTold g.T.Table.counts (least_onward p q ≤ rise)) (sym c.in_default.ensures.state) c.in_default.ensures.least)
+
+pub returns-in-Err-clause-bounded : goal.returns-in-Err-clause-bounded
+returns-in-Err-clause-bounded g c =
+    bounded_too_full (Err c.in-Err.refusal) g.T.Table.counts c.args.self.now (moved_to c.args.self.now (nat_abs (to_z w64 (of_z w64 c.args.to)))) (order.Seek c.args.to) (c.go.new.steps - c.args.steps.now) refl c.in-Err.ensures.refused

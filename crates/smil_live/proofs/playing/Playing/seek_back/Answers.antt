@@ -1,4 +1,4 @@
-use Rattle.std.proofs.Common.{◌≡◌, ◌-◌, inl, refl, sym, subst, ℤ, to_z, of_z, w64, drop, length}
+use Rattle.std.proofs.Common.{Err, ◌≡◌, ◌-◌, inl, refl, sym, subst, ℤ, to_z, of_z, w64, drop, length}
 use Rattle.std.proofs.lemmas.Int.{to_z-of_z}
 use Rattle.std.proofs.lemmas.Result.{IfErr-weaker}
 use Rattle.smil_model.specs.declared.order.Order.TheVariants as order
@@ -10,7 +10,7 @@ use Rattle.smil_live.specs.Moves.{IsReplayed, IsTooFull, sought_of, text_of}
 use Rattle.smil_live.specs.Counted.{IsFree}
 use Rattle.smil_live.specs.Counts.{most_number, told_where}
 use Rattle.smil_live.proofs.AgreedCells.{sought_least, sought_most}
-use Rattle.smil_live.proofs.CountedOrders.{free_too_full}
+use Rattle.smil_live.proofs.CountedOrders.{bounded_too_full, free_too_full}
 use Rattle.smil_live.proofs.Edited.{replayed_own}
 use Rattle.smil_live.proofs.Outcomes.{appended_both, not_sought, on_both, sought_anew, within_sought}
 use Rattle.smil_live.proofs.playing.Playing.seek_back.Goals as goal
@@ -45,26 +45,26 @@ returns-in-Err-clause-refused g c =
     not_sought p (sought_of p c.args.to) c.args.to c.in-Err.refusal refl (within_sought c.args.to c.requires.clock)
     (subst (λ (z : ℤ). IsTooFull (sought_of p z) c.in-Err.refusal) there c.in-Err.ensures.refused)
 
-pub returns-in-Ok-clause-most : goal.returns-in-Ok-clause-most
-returns-in-Ok-clause-most g c =
+pub returns-in-Ok-clause-bounded : goal.returns-in-Ok-clause-bounded
+returns-in-Ok-clause-bounded g c =
     let p = c.args.self.now in
+    let text = drop (length c.args.out.now) c.take_over.new.out in
+    let rise = c.made_at.new.steps - c.args.steps.now in
     let there : to_z w64 (of_z w64 c.args.to) ≡ c.args.to = to_z-of_z w64 c.args.to c.ranges.to in
     let is : IsReplayed (sought_of p c.args.to) c.in-Ok.cells = subst (λ (z : ℤ). IsReplayed (sought_of p z) c.in-Ok.cells) there c.in-Ok.ensures.ok in
-    sought_most c.take_over.result g.T.Table.counts p c.take_over.new.self c.in-Ok.cells c.args.to (drop (length c.args.out.now) c.take_over.new.out) (c.made_at.new.steps - c.args.steps.now) c.requires.clock c.requires.back is c.take_over.ensures.state
-    (returns-in-Ok-clause-ok g c) c.in-Ok.ensures.most
+    record {
+      most =
+          sought_most c.take_over.result g.T.Table.counts p c.take_over.new.self c.in-Ok.cells c.args.to text rise c.requires.clock c.requires.back is c.take_over.ensures.state
+          (returns-in-Ok-clause-ok g c) c.in-Ok.ensures.most;
+      least = sought_least c.take_over.result g.T.Table.counts p c.take_over.new.self c.args.to text rise c.requires.clock c.requires.back (returns-in-Ok-clause-ok g c);
+      free =
+          IfErr-weaker c.take_over.result (λ e. e ≡ refusal.Memory) (λ e. IsFree g.T.Table.counts p (order.Seek c.args.to) e rise)
+          (λ e h. free_too_full (told_where g.T.Table.counts (most_number p (order.Seek c.args.to))) (sought_of p c.args.to) e rise (inl h)) c.take_over.ensures.refused;
+    }
 
-pub returns-in-Ok-clause-least : goal.returns-in-Ok-clause-least
-returns-in-Ok-clause-least g c =
-    sought_least c.take_over.result g.T.Table.counts c.args.self.now c.take_over.new.self c.args.to (drop (length c.args.out.now) c.take_over.new.out) (c.made_at.new.steps - c.args.steps.now) c.requires.clock c.requires.back (returns-in-Ok-clause-ok g c)
-
-pub returns-in-Ok-clause-free : goal.returns-in-Ok-clause-free
-returns-in-Ok-clause-free g c =
-    IfErr-weaker c.take_over.result (λ e. e ≡ refusal.Memory) (λ e. IsFree g.T.Table.counts c.args.self.now (order.Seek c.args.to) e (c.made_at.new.steps - c.args.steps.now))
-    (λ e h. free_too_full (told_where g.T.Table.counts (most_number c.args.self.now (order.Seek c.args.to))) (sought_of c.args.self.now c.args.to) e (c.made_at.new.steps - c.args.steps.now) (inl h)) c.take_over.ensures.refused
-
-pub returns-in-Err-clause-free : goal.returns-in-Err-clause-free
-returns-in-Err-clause-free g c =
+pub returns-in-Err-clause-bounded : goal.returns-in-Err-clause-bounded
+returns-in-Err-clause-bounded g c =
     let p = c.args.self.now in
     let there : to_z w64 (of_z w64 c.args.to) ≡ c.args.to = to_z-of_z w64 c.args.to c.ranges.to in
-    free_too_full (told_where g.T.Table.counts (most_number p (order.Seek c.args.to))) (sought_of p c.args.to) c.in-Err.refusal (c.made_at.new.steps - c.args.steps.now)
+    bounded_too_full (Err c.in-Err.refusal) g.T.Table.counts p (sought_of p c.args.to) (order.Seek c.args.to) (c.made_at.new.steps - c.args.steps.now) refl
     (subst (λ (z : ℤ). IsTooFull (sought_of p z) c.in-Err.refusal) there c.in-Err.ensures.refused)

@@ -1,16 +1,14 @@
-use Rattle.std.proofs.Common.{refl, sym, subst, ◌-◌}
+use Rattle.std.proofs.Common.{Err, refl, sym, subst, ◌-◌}
 use Rattle.std.proofs.lemmas.Result.{IfErr-weaker, on_ok_weaker}
 use Rattle.smil_model.specs.declared.order.Order.TheVariants as order
 use Rattle.smil_model.specs.shown.Answers.{Refuses}
 use Rattle.smil_grammar.specs.Formats.{formats}
 use Rattle.smil_live.specs.Moves.{IsTooFull, edited_to}
-use Rattle.smil_live.specs.Counted.{IsFree}
 use Rattle.smil_live.specs.Sites.{IsMade}
 use Rattle.smil_live.specs.declared.edits.Site.{Site}
-use Rattle.smil_live.proofs.AgreedCells.{edited_least, edited_most}
+use Rattle.smil_live.proofs.AgreedCells.{edited_bounded}
 use Rattle.smil_live.proofs.AgreedEdits.{edit_made}
-use Rattle.smil_live.proofs.CountedOrders.{free_at_once, free_too_full}
-use Rattle.smil_live.specs.Counts.{most_number, told_where}
+use Rattle.smil_live.proofs.CountedOrders.{bounded_at_once}
 use Rattle.smil_live.proofs.Edited.{edited_accepted, edited_appended, not_edited}
 use Rattle.smil_live.proofs.Editing.{edit_refused}
 use Rattle.smil_live.proofs.playing.Playing.set.Goals as goal
@@ -38,22 +36,10 @@ returns-in-Err-clause-refused g c = edit_refused c.args.self.now (order.Set c.ar
 
 pub take_edited-requires : goal.take_edited-requires
 take_edited-requires g c = subst (λ (x : Site). IsMade c.args.self.now.document x c.in-Ok.edited) (sym c.site-site.ensures) (edit_made c.args.self.now (order.Set c.args.who.now c.args.setting.attr.text.now c.args.setting.value.text.now c.args.setting.attr.column c.args.setting.value.column) c.in-Ok.edited refl c.in-Ok.ensures.ok)
+pub returns-in-Ok-clause-bounded : goal.returns-in-Ok-clause-bounded
+returns-in-Ok-clause-bounded g c =
+    edited_bounded c.take_edited.result g.T.Table.counts c.args.self.now c.take_edited.new.self (order.Set c.args.who.now c.args.setting.attr.text.now c.args.setting.value.text.now c.args.setting.attr.column c.args.setting.value.column) c.in-Ok.edited c.site-site.result c.args.out.now c.take_edited.new.out (c.take_edited.new.steps - c.args.steps.now) refl c.in-Ok.ensures.ok c.site-site.ensures
+    c.take_edited.ensures.ok c.take_edited.ensures.most c.take_edited.ensures.refused
 
-pub returns-in-Ok-clause-most : goal.returns-in-Ok-clause-most
-returns-in-Ok-clause-most g c =
-    edited_most c.take_edited.result g.T.Table.counts c.args.self.now c.take_edited.new.self (order.Set c.args.who.now c.args.setting.attr.text.now c.args.setting.value.text.now c.args.setting.attr.column c.args.setting.value.column) c.in-Ok.edited c.site-site.result c.args.out.now c.take_edited.new.out (c.take_edited.new.steps - c.args.steps.now) refl c.in-Ok.ensures.ok c.site-site.ensures
-    c.take_edited.ensures.ok c.take_edited.ensures.most
-
-pub returns-in-Ok-clause-least : goal.returns-in-Ok-clause-least
-returns-in-Ok-clause-least g c =
-    edited_least c.take_edited.result g.T.Table.counts c.args.self.now c.take_edited.new.self (order.Set c.args.who.now c.args.setting.attr.text.now c.args.setting.value.text.now c.args.setting.attr.column c.args.setting.value.column) c.in-Ok.edited c.args.out.now c.take_edited.new.out (c.take_edited.new.steps - c.args.steps.now) refl c.in-Ok.ensures.ok c.take_edited.ensures.ok
-
-pub returns-in-Ok-clause-free : goal.returns-in-Ok-clause-free
-returns-in-Ok-clause-free g c =
-    let o = (order.Set c.args.who.now c.args.setting.attr.text.now c.args.setting.value.text.now c.args.setting.attr.column c.args.setting.value.column) in
-    IfErr-weaker c.take_edited.result (IsTooFull (edited_to c.args.self.now c.in-Ok.edited)) (λ e. IsFree g.T.Table.counts c.args.self.now o e (c.take_edited.new.steps - c.args.steps.now))
-    (λ e h. free_too_full (told_where g.T.Table.counts (most_number c.args.self.now o)) (edited_to c.args.self.now c.in-Ok.edited) e (c.take_edited.new.steps - c.args.steps.now) h)
-    c.take_edited.ensures.refused
-
-pub returns-in-Err-clause-free : goal.returns-in-Err-clause-free
-returns-in-Err-clause-free g c = free_at_once (told_where g.T.Table.counts (most_number c.args.self.now (order.Set c.args.who.now c.args.setting.attr.text.now c.args.setting.value.text.now c.args.setting.attr.column c.args.setting.value.column))) c.in-Err.refusal c.args.steps.now
+pub returns-in-Err-clause-bounded : goal.returns-in-Err-clause-bounded
+returns-in-Err-clause-bounded g c = bounded_at_once (Err c.in-Err.refusal) g.T.Table.counts c.args.self.now (order.Set c.args.who.now c.args.setting.attr.text.now c.args.setting.value.text.now c.args.setting.attr.column c.args.setting.value.column) c.args.steps.now refl
