@@ -25,7 +25,7 @@ use Rattle.smil_top.specs.Transcript.{Told, IsTranscriptBy, untold}
 use Rattle.smil_top.specs.Words.{is_told}
 use Rattle.smil_top.specs.Serving.{counted_bytes, status_by, status_of, IsWhole, IsPart, AreFirst, IsBroken, Runs, Explains, Generates, Serves, reads}
 use Rattle.smil_top.specs.Evaluations.{AreEvaluated, Evaluates, EvaluatesBy}
-use Rattle.smil_top.specs.Running.{answering, asked_by, ended_by, IsAll, IsRunning, IsShown, Tells, WritesAll, WritesPart, Goes, Answers, AnswersOrders, Ends, Ran, RanCounted, RunsBy}
+use Rattle.smil_top.specs.Running.{answering, asked_by, ended_by, IsAll, IsRunning, IsLine, Tells, WritesAll, WritesPart, Goes, Answers, AnswersOrders, Ends, Ran, RanCounted, RunsBy}
 use Rattle.smil_top.proofs.Cuts.{cut_of-one_more, count-cut_of, whole-first, orders-first}
 
 -- the reader has not ended, or only at the end of the input
@@ -101,7 +101,7 @@ unbroken_by text line new after (inr last) = inr (last.3, last.1.0)
 
 module _ (old new : Reading) (before rest after : Option (List ℕ)) (came : List ℕ) (answered : List (List ℕ)) (has : HasRead old before rest came answered) where
   -- a line that the reader shows
-  pub next-bytes : Nexts old new Bytes rest after → (came' : List ℕ) × HasRead new before after came' (answered ++ new.line ∷ []) × IsShown (Some new.line) new.line × (new.number ≡ suc (cut_of answered).count)
+  pub next-bytes : Nexts old new Bytes rest after → (came' : List ℕ) × HasRead new before after came' (answered ++ new.line ∷ []) × IsLine (Some new.line) new.line × (new.number ≡ suc (cut_of answered).count)
   next-bytes (inr h) = cc
   next-bytes (inl (is_open, reads)) =
       let next = HasAnswered-next old new Bytes rest after came answered has.has is_open reads in
@@ -118,7 +118,7 @@ module _ (old new : Reading) (before rest after : Option (List ℕ)) (came : Lis
       )
 
   -- a line that is too long
-  pub next-long : Nexts old new LongLine rest after → (came' : List ℕ) × (line : List ℕ) × HasRead new before after came' (answered ++ line ∷ []) × IsShown None line × (new.number ≡ suc (cut_of answered).count)
+  pub next-long : Nexts old new LongLine rest after → (came' : List ℕ) × (line : List ℕ) × HasRead new before after came' (answered ++ line ∷ []) × IsLine None line × (new.number ≡ suc (cut_of answered).count)
   next-long (inr h) = cc
   next-long (inl (is_open, reads)) =
       let next = HasAnswered-next old new LongLine rest after came answered has.has is_open reads in
@@ -140,13 +140,13 @@ module _ (old new : Reading) (before rest after : Option (List ℕ)) (came : Lis
   Hands answer text = ((answer ≡ Bytes) × (text ≡ Some new.line)) ⊎ ((answer ≡ LongLine) × (text ≡ None))
 
   pub next-line : (answer : Line) (text : Option (List ℕ)) → Nexts old new answer rest after → Hands answer text →
-      (came' : List ℕ) × (line : List ℕ) × HasRead new before after came' (answered ++ line ∷ []) × IsShown text line × (new.number ≡ suc (cut_of answered).count)
+      (came' : List ℕ) × (line : List ℕ) × HasRead new before after came' (answered ++ line ∷ []) × IsLine text line × (new.number ≡ suc (cut_of answered).count)
   next-line answer text nexts (inl (shown, is)) =
       let n = next-bytes (subst (λ a. Nexts old new a rest after) shown nexts) in
-      (n.0, new.line, n.1, subst (λ o. IsShown o new.line) (sym is) n.2, n.3)
+      (n.0, new.line, n.1, subst (λ o. IsLine o new.line) (sym is) n.2, n.3)
   next-line answer text nexts (inr (long, is)) =
       let n = next-long (subst (λ a. Nexts old new a rest after) long nexts) in
-      (n.0, n.1, n.2, subst (λ o. IsShown o n.1) (sym is) n.3, n.4)
+      (n.0, n.1, n.2, subst (λ o. IsLine o n.1) (sym is) n.3, n.4)
 
   -- the end of the input: these are all its lines
   pub next-end : Nexts old new End rest after → (came' : List ℕ) × Consumes before after came' × IsAtEnd after × (lines came' ≡ answered) × (length came' ≤ INPUT_BYTES)

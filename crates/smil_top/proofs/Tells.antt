@@ -26,7 +26,7 @@ use Rattle.smil_top.specs.Answers.{Refused, Answer, Given, at_line, said_within,
 use Rattle.smil_top.specs.Transcript.{Told, and_then, is_memory, with_answer}
 use Rattle.smil_top.specs.Summary.{line_count}
 use Rattle.smil_top.specs.Houses.{Presentations, Holds}
-use Rattle.smil_top.specs.Running.{answering, with_order, counted_on, fault_at, given_of, line_by, load_by, refused_by, said, text_of, AreCounted, Answers, AnswersOrders, Gives, Goes, IsOpen, IsRead, IsRunning, IsShown, Makes, MakesAnswer, Tells, Writes, WritesAll}
+use Rattle.smil_top.specs.Running.{answering, with_order, counted_on, fault_at, given_of, line_by, load_by, refused_by, said, text_of, AreCounted, Answers, AnswersOrders, Gives, Goes, IsOpen, IsRead, IsRunning, IsLine, Makes, MakesAnswer, Tells, Writes, WritesAll}
 use Rattle.smil_top.proofs.CutLines.{is_short-true, is_short-false}
 
 -- the answer that was made
@@ -204,9 +204,9 @@ unfinished-made false text house session lines line same holds = (holds, inl (ap
 
 -- ---- the load that stands open
 
--- the line that a reader hands on, as `IsShown` says it
+-- the line that a reader hands on, as `IsLine` says it
 abbrev pub Shows : Option (Bor (List ℕ)) → List ℕ → Type 0
-Shows text line = IsShown (option_map {T = Bor (List ℕ)} {U = List ℕ} (λ t. t.now) text) line
+Shows text line = IsLine (option_map {T = Bor (List ℕ)} {U = List ℕ} (λ t. t.now) text) line
 
 open-some : (load : Load) (at : Option LoadLines) → IsOpen (Some load) at → (lines : LoadLines) × (at ≡ Some lines) × IsRead load lines
 open-some load None h = absurd h

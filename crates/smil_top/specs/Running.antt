@@ -220,9 +220,9 @@ pub record IsRunning (checks : Bool) (run : Run) (cut : Cut) (told : Told) : Typ
   pub load : IsOpen run.load cut.«open»
 
 -- the line that a reader shows, or one that is too long to be shown
-abbrev pub IsShown : Option (List ℕ) → List ℕ → Type 0
-IsShown (Some text) line = (line ≡ text) × (length text ≤ LINE_BYTES)
-IsShown None line = LINE_BYTES < length line
+abbrev pub IsLine : Option (List ℕ) → List ℕ → Type 0
+IsLine (Some text) line = (line ≡ text) × (length text ≤ LINE_BYTES)
+IsLine None line = LINE_BYTES < length line
 
 -- a text was written
 abbrev pub WritesAll : Option (List ℕ) → Option (List ℕ) → ℕ → ℕ → List ℕ → Type 0

@@ -5,7 +5,7 @@ ghost use Rattle.smil_model.specs.document.Limits.{limits};
 ghost use Rattle.smil_model.specs.document.Valid.{IsValid};
 ghost use Rattle.smil_top.specs.Cut.{LoadLines};
 ghost use Rattle.smil_top.specs.Answers.{given_within};
-ghost use Rattle.smil_top.specs.Running.{Gives, IsRead, IsShown, Reads, ReadsTitle, given_at, with_node};
+ghost use Rattle.smil_top.specs.Running.{Gives, IsRead, IsLine, Reads, ReadsTitle, given_at, with_node};
 
 use super::fault::Fault;
 use super::given::{Given, Titled};
@@ -40,7 +40,7 @@ impl Load {
     /// Reads one more line, or one that is too long.
     pub fn push(self, line: u32, text: Option<&[u8]>) -> Load
         ensures { (lines : LoadLines) (node : List ℕ) → IsRead self lines
-            → IsShown (option_map (λ t. t.now) text.entry) node
+            → IsLine (option_map (λ t. t.now) text.entry) node
             → IsRead result (record lines {
               nodes = lines.nodes
                   ++ record { number = line; text = node } ∷ [];
@@ -95,7 +95,7 @@ fn push_node(
     line: u32,
     text: Option<&[u8]>,
 ) -> Result<Titled, Fault>
-    ensures { (node : List ℕ) → IsShown (option_map (λ t. t.now) text.entry) node
+    ensures { (node : List ℕ) → IsLine (option_map (λ t. t.now) text.entry) node
         → Reads result (with_node so_far.name so_far.outline
         (record { number = line; text = node }))
         ⊎ (result ≡ Err (record { line = first; refusal = Refusal.Memory })) }

@@ -8,7 +8,7 @@ ghost use Rattle.smil_top.specs.Summary.{line_count};
 ghost use Rattle.smil_top.specs.Transcript.{Told, untold};
 ghost use Rattle.smil_top.specs.Houses.{Holds};
 ghost use Rattle.smil_top.specs.Evaluations.{Bound, number_of};
-ghost use Rattle.smil_top.specs.Running.{answering, with_order, said, Answers, AnswersOrders, EvaluatesOn, IsOrderCounted, IsRead, IsRunning, IsShown, MakesAnswer, Tells, Writes};
+ghost use Rattle.smil_top.specs.Running.{answering, with_order, said, Answers, AnswersOrders, EvaluatesOn, IsOrderCounted, IsRead, IsRunning, IsLine, MakesAnswer, Tells, Writes};
 
 use super::answer::Answer;
 use super::counts::Counts;
@@ -62,7 +62,7 @@ impl Run {
         requires short { IfSome next.now.text (λ t. length t.now ≤ LINE_BYTES) }
         ensures answers { (checks : Bool) (cut : Cut) (told : Told) (line : List ℕ)
             → IsRunning checks self.old cut told
-            → next.now.number ≡ suc cut.count → IsShown (option_map (λ t. t.now) next.now.text) line
+            → next.now.number ≡ suc cut.count → IsLine (option_map (λ t. t.now) next.now.text) line
             → Answers checks result self.new (with_line cut line) told (K.taken sink.old)
             (K.taken sink.new) (K.sure_room sink.old) (K.sure_room sink.new) }
         ensures cause { OnErr result (HasRisen (K.faults sink.old) (K.faults sink.new)) }
@@ -70,7 +70,7 @@ impl Run {
         ensures counted { steps.old ≤ steps.new }
         ensures evaluated { (cut : Cut) (told : Told) (line : List ℕ)
             → IsRunning false self.old cut told
-            → next.now.number ≡ suc cut.count → IsShown (option_map (λ t. t.now) next.now.text) line
+            → next.now.number ≡ suc cut.count → IsLine (option_map (λ t. t.now) next.now.text) line
             → EvaluatesOn self.old.counts self.new.counts cut.whole (with_line cut line).whole
             steps.old steps.new }
     {
@@ -93,7 +93,7 @@ impl Run {
         ensures answers { (checks : Bool) (cut : Cut) (lines : LoadLines) (told : Told)
             (line : List ℕ) → cut.«open» ≡ Some lines → IsRead load lines
             → Tells checks self.old cut.whole told → next.now.number ≡ suc cut.count
-            → IsShown (option_map (λ t. t.now) next.now.text) line
+            → IsLine (option_map (λ t. t.now) next.now.text) line
             → Answers checks result self.new (with_line cut line) told (K.taken sink.old)
             (K.taken sink.new) (K.sure_room sink.old) (K.sure_room sink.new) }
         ensures cause { OnErr result (HasRisen (K.faults sink.old) (K.faults sink.new)) }
@@ -102,7 +102,7 @@ impl Run {
         ensures evaluated { (cut : Cut) (lines : LoadLines) (told : Told) (line : List ℕ)
             → cut.«open» ≡ Some lines
             → IsRead load lines → Tells false self.old cut.whole told
-            → next.now.number ≡ suc cut.count → IsShown (option_map (λ t. t.now) next.now.text) line
+            → next.now.number ≡ suc cut.count → IsLine (option_map (λ t. t.now) next.now.text) line
             → EvaluatesOn self.old.counts self.new.counts cut.whole (with_line cut line).whole
             steps.old steps.new }
     {
@@ -131,7 +131,7 @@ impl Run {
         ensures answers { (checks : Bool) (cut : Cut) (told : Told) (line : List ℕ)
             → cut.«open» ≡ None
             → Tells checks self.old cut.whole told → next.now.number ≡ suc cut.count
-            → IsShown (option_map (λ t. t.now) next.now.text) line
+            → IsLine (option_map (λ t. t.now) next.now.text) line
             → Answers checks result self.new (with_line cut line) told (K.taken sink.old)
             (K.taken sink.new) (K.sure_room sink.old) (K.sure_room sink.new) }
         ensures cause { OnErr result (HasRisen (K.faults sink.old) (K.faults sink.new)) }
@@ -139,7 +139,7 @@ impl Run {
         ensures counted { steps.old ≤ steps.new }
         ensures evaluated { (cut : Cut) (told : Told) (line : List ℕ) → cut.«open» ≡ None
             → Tells false self.old cut.whole told
-            → next.now.number ≡ suc cut.count → IsShown (option_map (λ t. t.now) next.now.text) line
+            → next.now.number ≡ suc cut.count → IsLine (option_map (λ t. t.now) next.now.text) line
             → EvaluatesOn self.old.counts self.new.counts cut.whole (with_line cut line).whole
             steps.old steps.new }
     {

@@ -5,7 +5,7 @@ use Rattle.smil_grammar.specs.Scripts.{is_blank}
 use Rattle.smil_script.specs.Loads.{ends_load}
 use Rattle.smil_top.specs.declared.run.Run.{Run}
 use Rattle.smil_top.specs.Cut.{Numbered, LoadLines, load, with_line}
-use Rattle.smil_top.specs.Running.{IsShown}
+use Rattle.smil_top.specs.Running.{IsLine}
 use Rattle.smil_top.proofs.CutLines.{cut-ends, cut-long_node, cut-node}
 use Rattle.smil_top.proofs.Tells.{Shows, running-order, running-load, tells-on}
 use Rattle.smil_top.proofs.run.Run.line_inside.Goals as goal
@@ -14,7 +14,7 @@ use Rattle.smil_top.proofs.run.Run.line_inside.Goals.{in_default-via-in-Some-2+e
 pub returns-in-Some-clause-answers : goal.returns-in-Some-clause-answers
 returns-in-Some-clause-answers g c checks cut lines told line within read tells number shows =
     let count : ℕ = c.args.next.now.number in
-    let is : IsShown (Some c.in-Some.text.now) line = subst (λ o. Shows o line) c.in-Some.is shows in
+    let is : IsLine (Some c.in-Some.text.now) line = subst (λ o. Shows o line) c.in-Some.is shows in
     let same : line ≡ c.in-Some.text.now = is.0 in
     let short : length line ≤ LINE_BYTES = subst (λ zs. length zs ≤ LINE_BYTES) (sym same) is.1 in
     let ended : ends_load line ≡ true = ap ends_load same ∙ sym c.ends_load.ensures ∙ c.if-ends_load.true in
@@ -43,9 +43,9 @@ returns-in_default-clause-answers g c checks cut lines told line within read tel
     let new : Run = record run { load = Some c.push.result } in
     let read_on : with_line cut line ≡ record { count = count; whole = cut.whole; «open» = Some more } = elim c.in_default.branch [
       | in_default-via-in-Some-2+else-is_blank w ↦
-          (let is : IsShown (Some w.in-Some.text.now) line = subst (λ o. Shows o line) w.in-Some.is shows in
+          (let is : IsLine (Some w.in-Some.text.now) line = subst (λ o. Shows o line) w.in-Some.is shows in
           let same : line ≡ w.in-Some.text.now = is.0 in
-          let is2 : IsShown (Some w.in-Some-2.text.now) line = subst (λ o. Shows o line) w.in-Some-2.is shows in
+          let is2 : IsLine (Some w.in-Some-2.text.now) line = subst (λ o. Shows o line) w.in-Some-2.is shows in
           let same2 : line ≡ w.in-Some-2.text.now = is2.0 in
           let short : length line ≤ LINE_BYTES = subst (λ zs. length zs ≤ LINE_BYTES) (sym same) is.1 in
           let ended : ends_load line ≡ false = ap ends_load same ∙ sym w.ends_load.ensures ∙ w.if-ends_load.false in

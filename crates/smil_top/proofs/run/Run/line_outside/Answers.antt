@@ -8,7 +8,7 @@ use Rattle.smil_top.specs.declared.run.Run.{Run}
 use Rattle.smil_top.specs.declared.session.Session.{Session}
 use Rattle.smil_top.specs.Cut.{OrderLines, Numbered, LoadLines, single, with_line}
 use Rattle.smil_top.specs.Evaluations.{number_of}
-use Rattle.smil_top.specs.Running.{IsRead, IsShown, MakesAnswer, answering}
+use Rattle.smil_top.specs.Running.{IsRead, IsLine, MakesAnswer, answering}
 use Rattle.smil_top.proofs.CutLines.{cut-long, cut-opens}
 use Rattle.smil_top.proofs.Evaluated.{counted-fault, evaluated-cut, evaluated-more}
 use Rattle.smil_top.proofs.Tells.{Shows, long-made, told-order, running-order, running-load, tells-on}
@@ -70,7 +70,7 @@ pub returns-in-Some-clause-answers : goal.returns-in-Some-clause-answers
 returns-in-Some-clause-answers g c checks cut told line out tells number shows =
     let run : Run = c.args.self.now in
     let count : ℕ = c.args.next.now.number in
-    let is : IsShown (Some c.in-Some.text.now) line = subst (λ o. Shows o line) c.in-Some.is shows in
+    let is : IsLine (Some c.in-Some.text.now) line = subst (λ o. Shows o line) c.in-Some.is shows in
     let same : line ≡ c.in-Some.text.now = is.0 in
     let short : length line ≤ LINE_BYTES = subst (λ zs. length zs ≤ LINE_BYTES) (sym same) is.1 in
     let opened : opens_load line ≡ true = ap opens_load same ∙ sym c.opens_load.ensures ∙ c.if-opens_load.true in
