@@ -10,3 +10,4 @@ mod subject;
 
 pub use book::Book;
 pub use fault::BookFault;
+pub use places::{is_from, later_of};

@@ -103,8 +103,8 @@ pub(crate) fn is_later(first: Option<usize>, second: Option<usize>) -> bool
     }
 }
 
-/// The later of two places.
-pub(crate) fn later_of(first: Option<usize>, second: Option<usize>) -> Option<usize>
+/// The later of two places, each of which may be absent. It takes no memory.
+pub fn later_of(first: Option<usize>, second: Option<usize>) -> Option<usize>
     ensures { result ≡ later_of first second }
 {
     match (first, second) {
@@ -114,8 +114,8 @@ pub(crate) fn later_of(first: Option<usize>, second: Option<usize>) -> Option<us
     }
 }
 
-/// Whether there is a place, and it is not before `from`.
-pub(crate) fn is_from(from: usize, place: Option<usize>) -> bool
+/// Whether there is a place, and it is not before `from`. It takes no memory.
+pub fn is_from(from: usize, place: Option<usize>) -> bool
     ensures { result ≡ is_from from place }
 {
     match place {
