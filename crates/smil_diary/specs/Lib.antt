@@ -1,3 +1,4 @@
 pub mod Readings
 pub mod Places
 pub mod Kept
+pub mod Refusals

@@ -3,6 +3,7 @@
 ghost use Rattle.std.specs.Prelude.{◌≡◌};
 ghost use Rattle.smil_diary.specs.declared.fault.BookFault.TheVariants as book_fault;
 
+use smil_model::Refusal;
 use std::alloc::AllocError;
 use thiserror::Error;
 
@@ -22,5 +23,18 @@ impl From<AllocError> for BookFault {
 
     fn from(_: AllocError) -> BookFault {
         BookFault::Memory
+    }
+}
+
+impl From<BookFault> for Refusal {
+    ghost use Rattle.smil_diary.specs.Refusals.{of_book};
+
+    ghost from_gives = { λ fault refusal. refusal ≡ of_book fault };
+
+    fn from(fault: BookFault) -> Self {
+        match fault {
+            BookFault::DiaryFull => Refusal::DiaryFull,
+            BookFault::Memory => Refusal::Memory,
+        }
     }
 }

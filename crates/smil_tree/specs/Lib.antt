@@ -3,3 +3,4 @@ pub mod Inherited
 pub mod Kept
 pub mod Kin
 pub mod Outcomes
+pub mod Refusals

@@ -3,6 +3,7 @@
 ghost use Rattle.std.specs.Prelude.{◌≡◌};
 ghost use Rattle.smil_tree.specs.declared.fault.TreeFault.TheVariants as tree_fault;
 
+use smil_model::Refusal;
 use std::alloc::AllocError;
 use thiserror::Error;
 
@@ -38,5 +39,23 @@ impl From<AllocError> for TreeFault {
 
     fn from(_: AllocError) -> TreeFault {
         TreeFault::Memory
+    }
+}
+
+impl From<TreeFault> for Refusal {
+    ghost use Rattle.smil_tree.specs.Refusals.{of_tree};
+
+    ghost from_gives = { λ fault refusal. refusal ≡ of_tree fault };
+
+    fn from(fault: TreeFault) -> Self {
+        match fault {
+            TreeFault::TooDeep => Refusal::TooDeep,
+            TreeFault::BadPlace => Refusal::BadPlace,
+            TreeFault::DuplicateId => Refusal::DuplicateId,
+            TreeFault::TooManyElements => Refusal::TooManyElements,
+            TreeFault::TooManyReferences => Refusal::TooManyReferences,
+            TreeFault::Root => Refusal::Root,
+            TreeFault::Memory => Refusal::Memory,
+        }
     }
 }
