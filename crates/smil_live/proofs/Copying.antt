@@ -33,10 +33,11 @@ use Rattle.smil_outline.proofs.Fitting.{fits}
 use Rattle.smil_outline.proofs.Ranging.{ranges}
 use Rattle.smil_tree.specs.declared.fault.TreeFault.{TreeFault}
 use Rattle.smil_tree.specs.Outcomes.{IsFaultOf, and_after, insert_outcome, may_bear, may_take, passes, place_outcome, remove_outcome, room_outcome, set_outcome}
+use Rattle.smil_tree.specs.Refusals.{of_tree}
 use Rattle.smil_tree.proofs.Keeping.{fits_at}
 use Rattle.smil_tree.proofs.ParentNodes.{parent_there}
 use Rattle.smil_live.specs.Editing.{IsRefusedBy, at_node}
-use Rattle.smil_live.specs.Refusing.{of_outcome, of_tree}
+use Rattle.smil_live.specs.Refusing.{of_outcome}
 use Rattle.smil_live.proofs.Editing.{fault_refuses, place_is, remove_is, room_is, set_is}
 
 -- ---- the node of a serial

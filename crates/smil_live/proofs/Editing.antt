@@ -23,9 +23,10 @@ use Rattle.smil_laws.proofs.Aside.{find_each}
 use Rattle.smil_tree.specs.declared.fault.TreeFault.{TreeFault}
 use Rattle.smil_tree.specs.declared.fault.TreeFault.TheVariants as fault
 use Rattle.smil_tree.specs.Outcomes.{IsFaultOf, is_root, place_outcome, remove_outcome, room_outcome, set_outcome}
+use Rattle.smil_tree.specs.Refusals.{of_tree}
 use Rattle.smil_tree.proofs.Spans.{all_known}
 use Rattle.smil_live.specs.Editing.{edit_of, IsRefusedBy}
-use Rattle.smil_live.specs.Refusing.{of_outcome, of_tree}
+use Rattle.smil_live.specs.Refusing.{of_outcome}
 use Rattle.smil_live.specs.Telling.{is_edit}
 
 -- ---- the order's outcome is that of its edit, resolved

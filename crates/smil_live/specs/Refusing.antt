@@ -6,25 +6,8 @@ use Rattle.smil_grammar.specs.declared.fault.AttrFault.{AttrFault}
 use Rattle.smil_grammar.specs.declared.fault.AttrFault.TheVariants as attr_fault
 use Rattle.smil_grammar.specs.declared.fault.NodeFault.{NodeFault}
 use Rattle.smil_grammar.specs.declared.fault.NodeFault.TheVariants as node_fault
-use Rattle.smil_diary.specs.declared.fault.BookFault.{BookFault}
-use Rattle.smil_diary.specs.declared.fault.BookFault.TheVariants as book_fault
 use Rattle.smil_tree.specs.declared.fault.TreeFault.{TreeFault}
-use Rattle.smil_tree.specs.declared.fault.TreeFault.TheVariants as tree_fault
-
--- the fault of a diary
-abbrev pub of_book : BookFault → Refusal
-of_book book_fault.DiaryFull = refusal.DiaryFull
-of_book book_fault.Memory = refusal.Memory
-
--- the fault of an edit
-abbrev pub of_tree : TreeFault → Refusal
-of_tree tree_fault.TooDeep = refusal.TooDeep
-of_tree tree_fault.BadPlace = refusal.BadPlace
-of_tree tree_fault.DuplicateId = refusal.DuplicateId
-of_tree tree_fault.TooManyElements = refusal.TooManyElements
-of_tree tree_fault.TooManyReferences = refusal.TooManyReferences
-of_tree tree_fault.Root = refusal.Root
-of_tree tree_fault.Memory = refusal.Memory
+use Rattle.smil_tree.specs.Refusals.{of_tree}
 
 -- an outcome, with its fault as the refusal
 abbrev pub of_outcome : {A : Type 0} → Result A TreeFault → Result A Refusal

@@ -1,7 +1,8 @@
 //! Faults, as refusals of orders.
 
 ghost use Rattle.std.specs.Prelude.{◌≡◌};
-ghost use Rattle.smil_live.specs.Refusing.{of_book, of_tree};
+ghost use Rattle.smil_diary.specs.Refusals.{of_book};
+ghost use Rattle.smil_tree.specs.Refusals.{of_tree};
 
 use smil_diary::BookFault;
 use smil_model::Refusal;
