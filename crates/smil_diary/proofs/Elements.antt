@@ -10,7 +10,7 @@ use Rattle.smil_model.specs.declared.diary.StepKind.TheVariants as kind
 use Rattle.smil_model.specs.diary.Diary.{is_step, is_active, last_step, with_past}
 use Rattle.smil_diary.specs.declared.element.ElementPlaces.{ElementPlaces}
 use Rattle.smil_diary.specs.Places.{is_later, later_of, is_end}
-use Rattle.smil_diary.specs.Kept.{element_of, nothing, steps, finishing, finishes, grown, shrunk, but_last, noted, forgotten, noted_at, forgotten_at, subject, active_by, places_of, last_of, places_from}
+use Rattle.smil_diary.specs.ElementPlaces.{element_of, nothing, steps, finishing, finishes, grown, shrunk, but_last, noted, forgotten, noted_at, forgotten_at, subject, active_by, places_of, last_of, places_from}
 use Rattle.smil_diary.proofs.PlaceLists.{first-places, places-push, but_last-push, past-push, past-length, last-places}
 use Rattle.smil_diary.proofs.LastPlaces.{active-last}
 

@@ -14,7 +14,7 @@ use Rattle.smil_model.specs.diary.Diary.{History, gives_birth, last_place, later
 use Rattle.smil_model.specs.diary.Plays.{plays}
 use Rattle.smil_diary.specs.Places.{is_end}
 use Rattle.smil_diary.specs.Readings.{IsOf, births_end}
-use Rattle.smil_diary.specs.Kept.{element_of, finishing, finishes, grown, places_from}
+use Rattle.smil_diary.specs.ElementPlaces.{element_of, finishing, finishes, grown, places_from}
 use Rattle.smil_diary.proofs.PlaceLists.{past-length, places-rise, length-places, count-places}
 use Rattle.smil_diary.proofs.Elements.{finishing-push}
 use Rattle.smil_diary.proofs.Counts.{Tally, is_birth, play_ends, tally_on, tally_after, finished-tally}

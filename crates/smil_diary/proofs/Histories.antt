@@ -11,7 +11,7 @@ use Rattle.smil_model.specs.document.Document.{time_parent, serial_of}
 use Rattle.smil_model.specs.diary.Diary.{History, last_place, gives_birth, birth_under, lives_under, is_active, is_paused, deferral_after, is_deferred, iteration, iteration_from, is_step, last_step}
 use Rattle.smil_diary.specs.Places.{is_later, later_of, is_from}
 use Rattle.smil_diary.specs.Readings.{IsOf}
-use Rattle.smil_diary.specs.Kept.{element_of, paused_by, birth_by, decision_by, deferred_by, last_of}
+use Rattle.smil_diary.specs.ElementPlaces.{element_of, paused_by, birth_by, decision_by, deferred_by, last_of}
 use Rattle.smil_diary.proofs.LastPlaces.{birth-last, paused-last, deferral-last, decision-last}
 use Rattle.smil_diary.proofs.Elements.{last-of, playing}
 use Rattle.smil_diary.proofs.PlaceLists.{places-rise, length-places, count-places}

@@ -10,7 +10,7 @@ use Rattle.std.proofs.Math.Seq.{take-append_seam}
 use Rattle.std.proofs.lemmas.Bool.{ltb-true}
 use Rattle.smil_model.specs.declared.diary.Entry.{Entry}
 use Rattle.smil_model.specs.diary.Diary.{last_place, later_place, with_past}
-use Rattle.smil_diary.specs.Kept.{places_from, led, grown, but_last}
+use Rattle.smil_diary.specs.ElementPlaces.{places_from, led, grown, but_last}
 use Rattle.smil_diary.proofs.Rising.{count-cons}
 
 -- ---- one more element at the end

@@ -1,4 +1,4 @@
 pub mod Readings
 pub mod Places
-pub mod Kept
+pub mod ElementPlaces
 pub mod Refusals

@@ -9,7 +9,7 @@ ghost use Rattle.smil_model.specs.diary.Plays.{plays};
 ghost use Rattle.smil_model.specs.declared.diary.Entry.{Entry as GivenEntry};
 ghost use Rattle.smil_diary.specs.Readings.{IsOf, births_end};
 ghost use Rattle.smil_model.specs.document.Document.{serial_of};
-ghost use Rattle.smil_diary.specs.Kept.{element_of};
+ghost use Rattle.smil_diary.specs.ElementPlaces.{element_of};
 ghost use Rattle.smil_diary.specs.declared.fault.BookFault.TheVariants as book_fault;
 
 use super::element::ElementPlaces;
@@ -42,7 +42,7 @@ impl Model for Book {
     ghost use Rattle.std.specs.Prelude.{List, ℕ, ◌≡◌, ◌≤◌, length};
     ghost use Rattle.smil_model.specs.declared.limits.TheConstants as limits;
     ghost use Rattle.smil_model.specs.declared.diary.Entry.{Entry as GivenEntry};
-    ghost use Rattle.smil_diary.specs.Kept.{element_of, kept};
+    ghost use Rattle.smil_diary.specs.ElementPlaces.{element_of, kept};
 
     ghost Value = { List GivenEntry };
 

@@ -5,7 +5,7 @@ ghost use Rattle.std.specs.List.{count_by};
 ghost use Rattle.std.specs.List.Sorted.{IsNonDecreasing};
 ghost use Rattle.smil_model.specs.declared.limits.TheConstants as limits;
 ghost use Rattle.smil_model.specs.declared.diary.StepKind.TheVariants as kind;
-ghost use Rattle.smil_diary.specs.Kept.{nothing, places_of, last_of, with_place, without_last, active_by, paused_by, birth_by, decision_by, deferred_by, noted, forgotten};
+ghost use Rattle.smil_diary.specs.ElementPlaces.{nothing, places_of, last_of, with_place, without_last, active_by, paused_by, birth_by, decision_by, deferred_by, noted, forgotten};
 
 use super::places::{Places, is_from, is_later, later_of};
 use super::subject::ends;

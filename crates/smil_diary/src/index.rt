@@ -2,7 +2,7 @@
 
 ghost use Rattle.std.specs.Prelude.{◌≡◌, ℕ, ◌<◌, OnOk, OnErr};
 ghost use Rattle.smil_model.specs.declared.limits.TheConstants as limits;
-ghost use Rattle.smil_diary.specs.Kept.{nothing, kept, noted_at, forgotten_at};
+ghost use Rattle.smil_diary.specs.ElementPlaces.{nothing, kept, noted_at, forgotten_at};
 
 use super::element::ElementPlaces;
 use smil_model::StepKind;
@@ -20,7 +20,7 @@ pub(crate) struct Index {
 impl Model for Index {
     ghost use Rattle.std.specs.Prelude.{◌≡◌, ℕ, List};
     ghost use Rattle.smil_diary.specs.declared.element.ElementPlaces.{ElementPlaces as GivenPlaces};
-    ghost use Rattle.smil_diary.specs.Kept.{nothing};
+    ghost use Rattle.smil_diary.specs.ElementPlaces.{nothing};
 
     ghost Value = { List (ℕ × GivenPlaces) };
 

@@ -4,7 +4,7 @@ ghost use Rattle.std.specs.Prelude.{◌≡◌, ℕ, ◌<◌, ◌≤◌, ◌-◌,
 ghost use Rattle.std.specs.List.{count_by};
 ghost use Rattle.std.specs.List.Sorted.{IsNonDecreasing};
 ghost use Rattle.smil_model.specs.declared.limits.TheConstants as limits;
-ghost use Rattle.smil_diary.specs.Kept.{last_of};
+ghost use Rattle.smil_diary.specs.ElementPlaces.{last_of};
 ghost use Rattle.smil_diary.specs.Places.{is_later, later_of, is_from};
 
 use std::alloc::{AllocError, Global};

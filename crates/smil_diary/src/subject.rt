@@ -1,7 +1,7 @@
 //! Which element a step is on.
 
 ghost use Rattle.std.specs.Prelude.{◌≡◌};
-ghost use Rattle.smil_diary.specs.Kept.{subject, ends};
+ghost use Rattle.smil_diary.specs.ElementPlaces.{subject, ends};
 
 use smil_model::{Step, StepKind};
 

@@ -1,5 +1,5 @@
 use Rattle.std.proofs.Common.{◌∙◌, ap}
-use Rattle.smil_diary.specs.Kept.{active_by}
+use Rattle.smil_diary.specs.ElementPlaces.{active_by}
 use Rattle.smil_diary.proofs.Elements.{playing}
 use Rattle.smil_diary.proofs.book.Book.active.Goals as goal
 

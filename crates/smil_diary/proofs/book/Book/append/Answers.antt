@@ -1,6 +1,6 @@
 use Rattle.std.proofs.Common.{◌≡◌, true, length, ap, sym, ◌∙◌, arith, length-append, ◌∷◌, []}
 use Rattle.std.specs.Prelude.{Result, Ok, Err, OnOk, is_ok}
-use Rattle.smil_diary.specs.Kept.{element_of, noted_at}
+use Rattle.smil_diary.specs.ElementPlaces.{element_of, noted_at}
 use Rattle.smil_diary.proofs.Elements.{pushed-on, pushed-off}
 use Rattle.smil_diary.proofs.book.Book.append.Goals as goal
 

@@ -1,5 +1,5 @@
 use Rattle.std.proofs.Common.{◌&&◌, sym, ap, ◌∙◌}
-use Rattle.smil_diary.specs.Kept.{element_of, deferred_by}
+use Rattle.smil_diary.specs.ElementPlaces.{element_of, deferred_by}
 use Rattle.smil_diary.proofs.Histories.{deferred-of}
 use Rattle.smil_diary.proofs.book.Book.deferred.Goals as goal
 

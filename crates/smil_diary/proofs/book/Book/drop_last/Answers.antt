@@ -1,5 +1,5 @@
 use Rattle.std.proofs.Common.{length, ap, ◌∙◌, arith, length-append, ◌∷◌, []}
-use Rattle.smil_diary.specs.Kept.{element_of, forgotten_at}
+use Rattle.smil_diary.specs.ElementPlaces.{element_of, forgotten_at}
 use Rattle.smil_diary.proofs.Elements.{popped-on, pushed-off}
 use Rattle.smil_diary.proofs.book.Book.drop_last.Goals as goal
 

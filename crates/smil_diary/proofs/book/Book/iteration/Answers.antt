@@ -3,7 +3,7 @@ use Rattle.std.specs.List.{count_by}
 use Rattle.std.specs.List.Sorted.{IsNonDecreasing}
 use Rattle.smil_model.specs.declared.diary.StepKind.TheVariants as kind
 use Rattle.smil_diary.specs.declared.element.ElementPlaces.{ElementPlaces}
-use Rattle.smil_diary.specs.Kept.{last_of}
+use Rattle.smil_diary.specs.ElementPlaces.{last_of}
 use Rattle.smil_diary.proofs.Elements.{last-of}
 use Rattle.smil_diary.proofs.Histories.{repeats-rise, repeats-few, repeats-from, iteration-of, iteration-within, iteration-before, iteration-none}
 use Rattle.smil_diary.proofs.book.Book.iteration.Goals as goal

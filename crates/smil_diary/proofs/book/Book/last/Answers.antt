@@ -3,7 +3,7 @@ use Rattle.std.specs.Prelude.{IfSome}
 use Rattle.smil_model.specs.declared.diary.Entry.{Entry}
 use Rattle.smil_model.specs.diary.Diary.{is_step, last_step}
 use Rattle.smil_diary.specs.declared.element.ElementPlaces.{ElementPlaces}
-use Rattle.smil_diary.specs.Kept.{last_of, places_of}
+use Rattle.smil_diary.specs.ElementPlaces.{last_of, places_of}
 use Rattle.smil_diary.proofs.Elements.{last-of}
 use Rattle.smil_diary.proofs.Finished.{last-within}
 use Rattle.smil_diary.proofs.book.Book.last.Goals as goal

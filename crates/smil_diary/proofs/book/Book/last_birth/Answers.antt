@@ -2,7 +2,7 @@ use Rattle.std.proofs.Common.{◌≡◌, ◌<◌, length, ap, sym, subst, ◌∙
 use Rattle.std.specs.Prelude.{IfSome}
 use Rattle.smil_model.specs.declared.diary.Entry.{Entry}
 use Rattle.smil_model.specs.diary.Diary.{last_place, gives_birth}
-use Rattle.smil_diary.specs.Kept.{birth_by}
+use Rattle.smil_diary.specs.ElementPlaces.{birth_by}
 use Rattle.smil_diary.proofs.Histories.{birth-of}
 use Rattle.smil_diary.proofs.Finished.{last-within}
 use Rattle.smil_diary.proofs.book.Book.last_birth.Goals as goal

@@ -1,5 +1,5 @@
 use Rattle.std.proofs.Common.{length, ap, sym, ◌∙◌, arith}
-use Rattle.smil_diary.specs.Kept.{element_of}
+use Rattle.smil_diary.specs.ElementPlaces.{element_of}
 use Rattle.smil_diary.proofs.Elements.{no-entries}
 use Rattle.smil_diary.proofs.book.Book.new.Goals as goal
 

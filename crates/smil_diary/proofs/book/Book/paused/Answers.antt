@@ -1,5 +1,5 @@
 use Rattle.std.proofs.Common.{◌∙◌, ap}
-use Rattle.smil_diary.specs.Kept.{paused_by}
+use Rattle.smil_diary.specs.ElementPlaces.{paused_by}
 use Rattle.smil_diary.proofs.Histories.{paused-of}
 use Rattle.smil_diary.proofs.book.Book.paused.Goals as goal
 
