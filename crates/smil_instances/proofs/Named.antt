@@ -11,7 +11,7 @@ use Rattle.smil_model.specs.document.Valid.{IsNumberedTree, IsValid, kind_of}
 use Rattle.smil_model.specs.shown.Orders.{node_of}
 use Rattle.smil_laws.proofs.Aside.{each_drop, each_reverse, find_each}
 use Rattle.smil_laws.proofs.Below.{each_upwards}
-use Rattle.smil_tree.specs.Kept.{bears}
+use Rattle.smil_tree.specs.TreeFields.{bears}
 use Rattle.smil_tree.proofs.Families.{no_chain}
 use Rattle.smil_tree.proofs.Making.{once_of}
 use Rattle.smil_tree.proofs.Spans.{all_known}

@@ -15,7 +15,7 @@ use Rattle.smil_laws.proofs.Lineages.{swap_eqb}
 use Rattle.smil_laws.proofs.Aside.{find_each, find_true, find_within}
 use Rattle.smil_laws.proofs.Lists.{each_weaker, each_kept}
 use Rattle.smil_laws.proofs.Members.{differ_each}
-use Rattle.smil_tree.specs.Kept.{bears}
+use Rattle.smil_tree.specs.TreeFields.{bears}
 use Rattle.smil_tree.proofs.Owners.{count-cons}
 use Rattle.smil_tree.proofs.Making.{once_of}
 use Rattle.smil_instances.specs.Occurrence.{target_of}

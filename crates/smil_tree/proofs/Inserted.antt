@@ -21,7 +21,7 @@ use Rattle.smil_laws.proofs.Aside.{each_both, find_true}
 use Rattle.smil_laws.proofs.Lineages.{swap_eqb}
 use Rattle.smil_laws.proofs.Members.{holds, none_held}
 use Rattle.smil_laws.proofs.Lists.{each_weaker}
-use Rattle.smil_tree.specs.Kept.{bears}
+use Rattle.smil_tree.specs.TreeFields.{bears}
 use Rattle.smil_tree.proofs.Cuts.{sum_inserted}
 use Rattle.smil_tree.proofs.Families.{chain_of}
 use Rattle.smil_tree.proofs.KinLists.{filter_all}

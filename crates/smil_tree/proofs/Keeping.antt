@@ -12,7 +12,7 @@ use Rattle.smil_model.specs.document.Values.{fit_kind}
 use Rattle.smil_model.specs.document.Valid.{IsValid, kind_of, has_fitting_attrs, references}
 use Rattle.smil_model.specs.document.Edits.{changed_at, with_attr, without_attr}
 use Rattle.smil_laws.proofs.Aside.{find_each}
-use Rattle.smil_tree.specs.Kept.{bears, IsTableOf, Keeps}
+use Rattle.smil_tree.specs.TreeFields.{bears, IsTableOf, Keeps}
 use Rattle.smil_tree.specs.Kin.{Families, IsKinOf}
 use Rattle.smil_tree.specs.Outcomes.{passes, may_take}
 use Rattle.smil_tree.proofs.Changed.{numbered_stays, once_stays, some_node, fewer_ids, fewer_references, references_change}

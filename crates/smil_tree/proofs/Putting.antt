@@ -10,7 +10,7 @@ use Rattle.smil_model.specs.document.Edits.{children}
 use Rattle.smil_laws.proofs.Numbered.{all_low}
 use Rattle.smil_laws.proofs.Lists.{each_weaker}
 use Rattle.smil_tree.specs.Held.{cut}
-use Rattle.smil_tree.specs.Kept.{IsTableOf, Keeps}
+use Rattle.smil_tree.specs.TreeFields.{IsTableOf, Keeps}
 use Rattle.smil_tree.specs.Kin.{Families, IsKinOf}
 use Rattle.smil_tree.proofs.Cuts.{get_inserted, sum_inserted}
 use Rattle.smil_tree.proofs.KinCallers.{next_leaf, cut-insert}

@@ -17,7 +17,7 @@ use Rattle.smil_laws.proofs.Aside.{each_both, find_true}
 use Rattle.smil_laws.proofs.Members.{holds}
 use Rattle.smil_laws.proofs.Lists.{each_weaker, each_chosen, each_kept}
 use Rattle.smil_tree.specs.Held.{cut}
-use Rattle.smil_tree.specs.Kept.{bears, IsTableOf, Keeps}
+use Rattle.smil_tree.specs.TreeFields.{bears, IsTableOf, Keeps}
 use Rattle.smil_tree.specs.Kin.{Families, IsKinOf, IsSubtree}
 use Rattle.smil_tree.proofs.Families.{chain_of, above_of}
 use Rattle.smil_tree.proofs.Kids.{node_of_place}

@@ -18,7 +18,7 @@ use Rattle.smil_laws.proofs.Kept.{upwards_kept, filter_reverse}
 use Rattle.smil_laws.proofs.Aside.{find_within}
 use Rattle.smil_laws.proofs.Lineages.{skip, take_it}
 use Rattle.smil_laws.proofs.Lists.{each_chosen}
-use Rattle.smil_tree.specs.Kept.{bears, owner, is_other}
+use Rattle.smil_tree.specs.TreeFields.{bears, owner, is_other}
 use Rattle.smil_tree.proofs.Changed.{serial_stays, parent_stays}
 use Rattle.smil_tree.proofs.Holding.{with_attrs}
 use Rattle.smil_tree.proofs.KinTrees.{keeps_reversed}

@@ -1,6 +1,6 @@
 pub mod Held
 pub mod Inherited
-pub mod Kept
+pub mod TreeFields
 pub mod Kin
 pub mod Outcomes
 pub mod Refusals

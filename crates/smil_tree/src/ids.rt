@@ -3,7 +3,7 @@
 ghost use Rattle.std.specs.Prelude.{◌≡◌, ℕ, List, [], None, Some, OnOk, OnErr, if◌then◌else◌};
 ghost use Rattle.std.specs.Str.{bytes_eq};
 ghost use Rattle.std.specs.Map.{lookup};
-ghost use Rattle.smil_tree.specs.Kept.{bears};
+ghost use Rattle.smil_tree.specs.TreeFields.{bears};
 
 use indexmap::IndexMap;
 use smil_model::Node;

@@ -14,7 +14,7 @@ ghost use Rattle.smil_model.specs.declared.document.Node.{Node as AnyNode};
 ghost use Rattle.smil_model.specs.document.Document.{Document, node_at, serial_of, time_parent as time_parent_of, time_children};
 ghost use Rattle.smil_model.specs.document.Valid.{IsValid, kind_of, references, references_of};
 ghost use Rattle.smil_model.specs.shown.Orders.{node_of};
-ghost use Rattle.smil_tree.specs.Kept.{IsTableOf, Keeps};
+ghost use Rattle.smil_tree.specs.TreeFields.{IsTableOf, Keeps};
 ghost use Rattle.smil_tree.specs.Kin.{IsKinOf};
 
 use self::family::element_from;
@@ -52,7 +52,7 @@ impl Drop for Tree {
 
 impl Model for Tree {
     ghost use Rattle.smil_model.specs.document.Document.{Document};
-    ghost use Rattle.smil_tree.specs.Kept.{Keeps};
+    ghost use Rattle.smil_tree.specs.TreeFields.{Keeps};
 
     ghost Value = { Document };
 

@@ -7,7 +7,7 @@ ghost use Rattle.smil_model.specs.document.Document.{node_at, has_id};
 ghost use Rattle.smil_model.specs.document.Edits.{attr_set, attr_unset, changed_at, with_attr, without_attr};
 ghost use Rattle.smil_model.specs.document.Valid.{IsDistinct, is_id_taken, references};
 ghost use Rattle.smil_model.specs.shown.Orders.{id_in};
-ghost use Rattle.smil_tree.specs.Kept.{bears, is_other, IsTableOf};
+ghost use Rattle.smil_tree.specs.TreeFields.{bears, is_other, IsTableOf};
 ghost use Rattle.smil_tree.specs.Outcomes.{IsFaultOf, may_take, set_outcome};
 
 use super::Tree;

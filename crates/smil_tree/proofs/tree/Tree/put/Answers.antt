@@ -3,7 +3,7 @@ use Rattle.smil_model.specs.document.Document.{Document}
 use Rattle.smil_model.specs.document.Valid.{IsValid}
 use Rattle.smil_laws.specs.Edited.{IsOrdered}
 use Rattle.smil_laws.proofs.Numbered.{ordered}
-use Rattle.smil_tree.specs.Kept.{IsTableOf}
+use Rattle.smil_tree.specs.TreeFields.{IsTableOf}
 use Rattle.smil_tree.specs.Kin.{IsKinOf}
 use Rattle.smil_tree.proofs.Making.{once_of}
 use Rattle.smil_tree.proofs.Putting.{next_fresh, back, leaf, keeps_back, keeps_put}

@@ -1,7 +1,7 @@
 use Rattle.std.proofs.Common.{◌≡◌, sym, ap, ◌∙◌, Some, None, cond}
 use Rattle.std.specs.Prelude.{slice_get}
 use Rattle.std.specs.Option.{option_copied}
-use Rattle.smil_tree.specs.Kept.{bears}
+use Rattle.smil_tree.specs.TreeFields.{bears}
 use Rattle.smil_tree.proofs.Cuts.{owner_cut}
 use Rattle.smil_tree.proofs.tree.removing.forget_nodes.Goals as goal
 
