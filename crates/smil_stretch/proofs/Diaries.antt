@@ -14,7 +14,7 @@ use Rattle.smil_model.specs.diary.Lawful.{has_element, may_begin, is_lawful_step
 use Rattle.smil_laws.proofs.Lineages.{swap_eqb}
 use Rattle.smil_laws.proofs.LawfulSteps.{pausing, active_push, pausing_push}
 use Rattle.smil_stretch.specs.Clocks.{ends_pause}
-use Rattle.smil_stretch.specs.Kept.{Turns}
+use Rattle.smil_stretch.specs.NodeClocks.{Turns}
 use Rattle.smil_stretch.specs.Laws.{changes_clocks}
 use Rattle.smil_stretch.proofs.Moments.{rising_push}
 

@@ -13,7 +13,7 @@ use Rattle.smil_model.specs.diary.Diary.{History, is_paused, up_to, with_entry}
 use Rattle.smil_laws.proofs.Unpaused.{not_held}
 use Rattle.smil_stretch.specs.declared.clock.NodeClock.{NodeClock}
 use Rattle.smil_stretch.specs.Clocks.{clock_by, clock_of, node_clock, IsHistoryOf, AreClocksOf}
-use Rattle.smil_stretch.specs.Kept.{Fits, AllFit, idle_clock}
+use Rattle.smil_stretch.specs.NodeClocks.{Fits, AllFit, idle_clock}
 use Rattle.smil_stretch.proofs.Above.{node_of}
 use Rattle.smil_stretch.proofs.Diaries.{lawful_first}
 use Rattle.smil_stretch.proofs.Left.{map_same}

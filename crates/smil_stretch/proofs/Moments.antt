@@ -14,7 +14,7 @@ use Rattle.smil_model.specs.diary.Lawful.{is_rising_from, IsLawful}
 use Rattle.smil_model.specs.diary.Clocks.{until, stands_by, elapsed, run, stands}
 use Rattle.smil_stretch.specs.declared.clock.Clock.TheVariants.{Runs}
 use Rattle.smil_stretch.specs.Clocks.{shown, clock_by, clock_of}
-use Rattle.smil_stretch.specs.Kept.{Fits}
+use Rattle.smil_stretch.specs.NodeClocks.{Fits}
 
 -- ---- orders
 

@@ -7,7 +7,7 @@ use Rattle.smil_diary.specs.Places.{is_from}
 use Rattle.smil_stretch.specs.declared.clock.Clock.{Clock}
 use Rattle.smil_stretch.specs.declared.clock.NodeClock.{NodeClock}
 use Rattle.smil_stretch.specs.Clocks.{shown, clock_by}
-use Rattle.smil_stretch.specs.Kept.{at_place, stands_by, IsTurned}
+use Rattle.smil_stretch.specs.NodeClocks.{at_place, stands_by, IsTurned}
 
 at_front : (xs : List NodeClock) (p k : ℕ) → k < p → slice_get (take p xs) k ≡ slice_get xs k
 at_front xs zero k l = absurd (omega (arith, l))

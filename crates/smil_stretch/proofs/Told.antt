@@ -17,7 +17,7 @@ use Rattle.smil_laws.proofs.Aside.{find_true}
 use Rattle.smil_laws.proofs.Members.{holds, held_reverse, found_held}
 use Rattle.smil_stretch.specs.declared.clock.NodeClock.{NodeClock}
 use Rattle.smil_stretch.specs.Clocks.{shown, is_standing, clock_by, clock_of, node_clock, parent_place, AreClocksOf}
-use Rattle.smil_stretch.specs.Kept.{clock_at, at_place, parent_at, shown_by, stands_by, paused_by}
+use Rattle.smil_stretch.specs.NodeClocks.{clock_at, at_place, parent_at, shown_by, stands_by, paused_by}
 use Rattle.smil_stretch.proofs.Moments.{run_later}
 use Rattle.smil_stretch.proofs.Above.{known_element}
 use Rattle.smil_stretch.proofs.Placed.{place, IsParentAt, parent_at_place, no_parent_place}

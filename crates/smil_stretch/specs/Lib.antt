@@ -1,3 +1,3 @@
 pub mod Clocks
-pub mod Kept
+pub mod NodeClocks
 pub mod Laws

@@ -3,7 +3,7 @@
 ghost use Rattle.std.specs.Prelude.{◌≡◌, IfSome};
 ghost use Rattle.smil_stretch.specs.Clocks.{clock_by, shown, is_standing};
 ghost use Rattle.smil_model.specs.Times.{IsMoment, IsNear};
-ghost use Rattle.smil_stretch.specs.Kept.{Fits, shown_by, stands_by};
+ghost use Rattle.smil_stretch.specs.NodeClocks.{Fits, shown_by, stands_by};
 
 /// A clock, in milliseconds.
 #[derive(Clone, Copy, Debug)]

@@ -13,7 +13,7 @@ ghost use Rattle.smil_model.specs.declared.diary.Step.{Step as AnyStep};
 ghost use Rattle.smil_model.specs.declared.diary.Step.TheVariants as step;
 ghost use Rattle.smil_stretch.specs.Clocks.{AreClocksOf, IsHistoryOf, IsLawfulFor, MayEndPause, MayFollow, ends_pause, parent_place};
 ghost use Rattle.smil_model.specs.Times.{IsCarried, IsMoment, IsNear};
-ghost use Rattle.smil_stretch.specs.Kept.{AllFit, ArePlacesOf, Fits, MayTurn, Turns, clock_at, idle_clock, parent_at};
+ghost use Rattle.smil_stretch.specs.NodeClocks.{AllFit, ArePlacesOf, Fits, MayTurn, Turns, clock_at, idle_clock, parent_at};
 
 use super::clock::{Clock, NodeClock, shown_by, stands_by};
 use super::refresh::refresh;
@@ -48,7 +48,7 @@ impl Model for Clocks {
     ghost use Rattle.std.specs.Prelude.{List, nat_eq};
     ghost use Rattle.std.specs.HashMap.{get};
     ghost use Rattle.smil_stretch.specs.declared.clock.NodeClock.{NodeClock as AnyClock};
-    ghost use Rattle.smil_stretch.specs.Kept.{AllFit, ArePlacesOf};
+    ghost use Rattle.smil_stretch.specs.NodeClocks.{AllFit, ArePlacesOf};
 
     ghost Value = { List AnyClock };
 

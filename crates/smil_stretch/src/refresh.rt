@@ -4,7 +4,7 @@ ghost use Rattle.std.specs.Prelude.{◌≡◌, ◌||◌, List, not};
 ghost use Rattle.smil_diary.specs.Places.{is_from};
 ghost use Rattle.smil_stretch.specs.declared.clock.NodeClock.{NodeClock as AnyClock};
 ghost use Rattle.smil_model.specs.Times.{IsMoment};
-ghost use Rattle.smil_stretch.specs.Kept.{AllFit, IsTurned, at_place, stands_by};
+ghost use Rattle.smil_stretch.specs.NodeClocks.{AllFit, IsTurned, at_place, stands_by};
 
 use super::clock::{NodeClock, stands_by};
 

@@ -5,7 +5,7 @@ use Rattle.std.proofs.lemmas.List.{take_all, length-map, length_push}
 use Rattle.smil_model.specs.declared.document.Node.{Node}
 use Rattle.smil_stretch.specs.declared.clock.NodeClock.{NodeClock}
 use Rattle.smil_stretch.specs.Clocks.{parent_place}
-use Rattle.smil_stretch.specs.Kept.{idle_clock}
+use Rattle.smil_stretch.specs.NodeClocks.{idle_clock}
 use Rattle.smil_stretch.proofs.Idle.{node_known, node_inside, none_left, idle_more}
 use Rattle.smil_stretch.proofs.clocks.idle_clocks.Goals as goal
 

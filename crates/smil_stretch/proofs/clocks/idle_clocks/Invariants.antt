@@ -1,5 +1,5 @@
 use Rattle.std.proofs.Common.{◌≡◌, ◌-◌, length, take, map}
-use Rattle.smil_stretch.specs.Kept.{idle_clock}
+use Rattle.smil_stretch.specs.NodeClocks.{idle_clock}
 use Rattle.smil_stretch.proofs.clocks.idle_clocks.Given as goal
 
 -- the clocks of the first nodes

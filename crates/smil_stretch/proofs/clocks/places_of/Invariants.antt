@@ -1,6 +1,6 @@
 use Rattle.std.proofs.Common.{take, nat_eq}
 use Rattle.std.specs.HashMap.{get}
-use Rattle.smil_stretch.specs.Kept.{ArePlacesOf}
+use Rattle.smil_stretch.specs.NodeClocks.{ArePlacesOf}
 use Rattle.smil_stretch.proofs.clocks.places_of.Given as goal
 
 -- the places of the first nodes

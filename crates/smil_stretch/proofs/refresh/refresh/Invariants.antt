@@ -1,6 +1,6 @@
 use Rattle.std.proofs.Common.{◌≡◌, ℕ, ℤ, List, take, drop}
 use Rattle.smil_stretch.specs.declared.clock.NodeClock.{NodeClock}
-use Rattle.smil_stretch.specs.Kept.{IsTurned}
+use Rattle.smil_stretch.specs.NodeClocks.{IsTurned}
 use Rattle.smil_stretch.proofs.refresh.refresh.Given as goal
 
 -- the clocks before this place are turned, and the others are as they were

@@ -1,5 +1,5 @@
 use Rattle.std.proofs.Common.{sym, subst}
-use Rattle.smil_stretch.specs.Kept.{AllFit}
+use Rattle.smil_stretch.specs.NodeClocks.{AllFit}
 use Rattle.smil_stretch.proofs.Idle.{idle_fit}
 use Rattle.smil_stretch.proofs.clocks.Clocks.new.Goals as goal
 

@@ -2,7 +2,7 @@ use Rattle.std.proofs.Common.{rules, ap, ◌∙◌}
 use mir.Syntax.{w64}
 use mir.Val.{SFits}
 use Rattle.std.proofs.lemmas.Int.{to_z-of_z}
-use Rattle.smil_stretch.specs.Kept.{shown_by}
+use Rattle.smil_stretch.specs.NodeClocks.{shown_by}
 use Rattle.smil_stretch.proofs.Told.{outer_told}
 use Rattle.smil_stretch.proofs.clocks.Clocks.outer.Goals as goal
 
