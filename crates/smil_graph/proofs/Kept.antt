@@ -15,7 +15,7 @@ use Rattle.smil_model.specs.document.Valid.{IsDistinct}
 use Rattle.smil_model.specs.reach.Reach.{reads, reads_node}
 use Rattle.smil_graph.specs.Links.{lists, row, links, that_have, IsRising, AreRows, AreLevels, StayBelow}
 use Rattle.smil_graph.specs.Places.{at_place, is_place, up, is_element_at, named_by, target_place, source_of, leads_to_place, follows, hears, element_follows, element_hears, feeds_from, reads_from, feeds_place, reads_place, IsTable, IsIndex, AreTimeChildren}
-use Rattle.smil_graph.specs.Kept.{AreElementLevels, AreHeads, AreReaders, with_serial, serials_of_places}
+use Rattle.smil_graph.specs.Tables.{AreElementLevels, AreHeads, AreReaders, with_serial, serials_of_places}
 use Rattle.smil_graph.proofs.Lists.{from_place}
 use Rattle.smil_graph.proofs.Nodes.{there, there_below}
 use Rattle.smil_graph.proofs.Ranges.{filter_rising, filter_below, filter_same, filter_none, lists_filter}

@@ -17,7 +17,7 @@ use Rattle.smil_model.specs.document.Valid.{IsDistinct}
 use Rattle.smil_model.specs.reach.Reach.{is_key_item, waiters}
 use Rattle.smil_graph.specs.Links.{lists, row, links, AreRows}
 use Rattle.smil_graph.specs.Places.{is_place, has_element, is_element_at}
-use Rattle.smil_graph.specs.Kept.{has_key_item, key_of, waits, AreWaiting, AreWithPlace, AreElements, AreOf}
+use Rattle.smil_graph.specs.Tables.{has_key_item, key_of, waits, AreWaiting, AreWithPlace, AreElements, AreOf}
 use Rattle.smil_graph.proofs.Follow.{all_any}
 use Rattle.smil_graph.proofs.Fed.{any_alike, element_one, has_serials}
 use Rattle.smil_graph.proofs.Lists.{lists_push}

@@ -15,7 +15,7 @@ use Rattle.smil_model.specs.document.Dependencies.{feeds_node, is_looped, is_loo
 use Rattle.smil_model.specs.document.Valid.{IsDistinct}
 use Rattle.smil_graph.specs.Places.{at_place, IsIndex, named_by, is_on_level, side_of, marks_of, HaveMarks}
 use Rattle.smil_graph.specs.Graph.{is_looped_item}
-use Rattle.smil_graph.specs.Kept.{AreMarks, AreElementLevels}
+use Rattle.smil_graph.specs.Tables.{AreMarks, AreElementLevels}
 use Rattle.smil_graph.proofs.Nodes.{there, there_below}
 use Rattle.smil_graph.proofs.Fed.{feeds_is, there_any_item}
 

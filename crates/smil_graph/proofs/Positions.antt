@@ -3,7 +3,7 @@ use Rattle.std.proofs.Common.{◌≡◌, refl, sym, ◌∙◌, ap, ℕ, suc, zer
 use Rattle.std.specs.Prelude.{cond, ◌==◌, slice_get, option_map}
 use Rattle.std.specs.List.{position}
 use Rattle.std.proofs.lemmas.Grind.{common_steps}
-use Rattle.smil_graph.specs.Kept.{AreRanks}
+use Rattle.smil_graph.specs.Tables.{AreRanks}
 use Rattle.smil_graph.proofs.Nodes.{drop_there}
 
 pub position_step : (t : ℕ → Bool) (x : ℕ) (xs : List ℕ) → position t (x ∷ xs) ≡ cond (t x) (Some 0) (option_map suc (position t xs))

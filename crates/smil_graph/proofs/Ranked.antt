@@ -19,7 +19,7 @@ use Rattle.smil_model.specs.document.Dependencies.{feeds, feeds_node, has_implic
 use Rattle.smil_model.specs.document.Valid.{IsDistinct}
 use Rattle.smil_graph.specs.declared.ordered.Rank.{Rank}
 use Rattle.smil_graph.specs.Graph.{follows_unlooped, GoesForward, IsOrder}
-use Rattle.smil_graph.specs.Kept.{AreElementLevels, with_serial, serials_of_places}
+use Rattle.smil_graph.specs.Tables.{AreElementLevels, with_serial, serials_of_places}
 use Rattle.smil_graph.specs.Links.{lists, row}
 use Rattle.smil_graph.specs.Places.{is_place, up, has_element, is_element_at, before, previous_of, IsTable, AreTimeChildren}
 use Rattle.smil_graph.specs.Ranks.{rank_of, rank_cmp, height_under, AreHeights}

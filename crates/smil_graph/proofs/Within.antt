@@ -14,7 +14,7 @@ use Rattle.smil_laws.proofs.Closures.{is_closed, has_set, has_filter}
 use Rattle.smil_laws.proofs.Rounds.{find-serial}
 use Rattle.smil_graph.specs.Links.{lists, links, with_place, IsKept, IsReached, IsRising}
 use Rattle.smil_graph.specs.Places.{at_place, is_place, up, has_element, is_element_at, reads_place, reads_from, IsTable, IsIndex, AreTimeChildren}
-use Rattle.smil_graph.specs.Kept.{AreHeads, AreElements, AreNear, AreOf, reach_of, takes_turns, top_of, serials_of_places}
+use Rattle.smil_graph.specs.Tables.{AreHeads, AreElements, AreNear, AreOf, reach_of, takes_turns, top_of, serials_of_places}
 use Rattle.smil_graph.proofs.Lists.{lists_one}
 use Rattle.smil_graph.proofs.Nodes.{there, there_below, each_at, none_each, upwards_none, parent_place, chain_of, above, by_parent}
 use Rattle.smil_graph.proofs.Ranges.{filter_below, lists_filter, rising_is}

@@ -1,6 +1,6 @@
 pub mod Components
 pub mod Graph
-pub mod Kept
+pub mod Tables
 pub mod Links
 pub mod Places
 pub mod Ranks

@@ -7,7 +7,7 @@ ghost use Rattle.smil_model.specs.document.Valid.{IsNumberedTree};
 ghost use Rattle.smil_model.specs.reach.Reach as model;
 ghost use Rattle.smil_graph.specs.Graph.{looped_at, readers_of, IsOrder};
 ghost use Rattle.smil_model.specs.declared.document.Node.{Node as AnyNode};
-ghost use Rattle.smil_graph.specs.Kept.{marked_at, row_of, element_place, reach_of, AreElements, AreOf, AreTables};
+ghost use Rattle.smil_graph.specs.Tables.{marked_at, row_of, element_place, reach_of, AreElements, AreOf, AreTables};
 ghost use Rattle.smil_graph.specs.Places.{is_element_at};
 
 use super::near::near;
@@ -44,7 +44,7 @@ impl Drop for Graph {
 impl Model for Graph {
     ghost use Rattle.smil_model.specs.document.Valid.{IsNumberedTree};
     ghost use Rattle.smil_graph.specs.Graph.{OrderedNodes};
-    ghost use Rattle.smil_graph.specs.Kept.{AreTables};
+    ghost use Rattle.smil_graph.specs.Tables.{AreTables};
 
     ghost Value = { OrderedNodes };
 

@@ -5,7 +5,7 @@ ghost use Rattle.std.specs.HashMap.{get_by};
 ghost use Rattle.smil_model.specs.document.Defaults as defaults;
 ghost use Rattle.smil_graph.specs.Places as places;
 ghost use Rattle.smil_graph.specs.Places.{is_on_level, side_of, IsIndex};
-ghost use Rattle.smil_graph.specs.Kept.{AreElementLevels, AreMarks};
+ghost use Rattle.smil_graph.specs.Tables.{AreElementLevels, AreMarks};
 ghost use Rattle.smil_model.specs.document.Document as model;
 ghost use Rattle.smil_model.specs.document.Valid.{IsDistinct};
 

@@ -5,7 +5,7 @@ ghost use Rattle.std.specs.Prelude.{◌≡◌, ◌||◌, length, Some, nat_eq, t
 ghost use Rattle.std.specs.HashMap.{get};
 ghost use Rattle.smil_model.specs.document.Document as model;
 ghost use Rattle.smil_model.specs.document.Valid.{IsNumberedTree};
-ghost use Rattle.smil_graph.specs.Kept.{AreNear, top_of, takes_turns};
+ghost use Rattle.smil_graph.specs.Tables.{AreNear, top_of, takes_turns};
 ghost use Rattle.smil_graph.specs.Places.{up, is_element_at, IsTable, AreTimeChildren};
 
 use super::outline::{TimeTree, place_at};

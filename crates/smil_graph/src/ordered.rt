@@ -5,7 +5,7 @@ ghost use Rattle.std.specs.List.{range_with_len};
 ghost use Rattle.smil_model.specs.document.Document.{time_parent};
 ghost use Rattle.smil_model.specs.document.Valid.{IsDistinct};
 ghost use Rattle.smil_graph.specs.Graph.{IsOrder};
-ghost use Rattle.smil_graph.specs.Kept.{AreElementLevels};
+ghost use Rattle.smil_graph.specs.Tables.{AreElementLevels};
 ghost use Rattle.smil_graph.specs.Places.{up, is_element_at, IsTable};
 ghost use Rattle.smil_graph.specs.Ranks.{rank_of, height_under, AreHeights};
 

@@ -2,7 +2,7 @@
 
 ghost use Rattle.std.specs.Prelude.{◌≡◌, ◌==◌, ℕ, nat_eq, IfOk};
 ghost use Rattle.std.specs.HashMap.{get};
-ghost use Rattle.smil_graph.specs.Kept.{AreRanks};
+ghost use Rattle.smil_graph.specs.Tables.{AreRanks};
 
 use std::alloc::{AllocError, Global};
 use std::collections::HashMap;

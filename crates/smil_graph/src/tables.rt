@@ -8,7 +8,7 @@ ghost use Rattle.smil_model.specs.declared.document.Node.{Node};
 ghost use Rattle.smil_graph.specs.Links.{AreRows, StayBelow};
 ghost use Rattle.smil_graph.specs.Places.{IsIndex, feeds_place};
 ghost use Rattle.smil_graph.specs.Graph.{IsOrder};
-ghost use Rattle.smil_graph.specs.Kept.{AreElementLevels, AreHeads, AreReaders, AreTables, serials_of_places};
+ghost use Rattle.smil_graph.specs.Tables.{AreElementLevels, AreHeads, AreReaders, AreTables, serials_of_places};
 
 use super::feeders::{feeders, sources};
 use super::levels::levels;

@@ -5,7 +5,7 @@ ghost use Rattle.std.specs.List.{list_any};
 ghost use Rattle.smil_model.specs.document.Defaults.{items_or};
 ghost use Rattle.smil_model.specs.document.Document.{is_element};
 ghost use Rattle.smil_model.specs.reach.Reach.{is_key_item};
-ghost use Rattle.smil_graph.specs.Kept.{has_key_item, key_of, AreWaiting, AreWithPlace};
+ghost use Rattle.smil_graph.specs.Tables.{has_key_item, key_of, AreWaiting, AreWithPlace};
 ghost use Rattle.smil_graph.specs.Places.{is_place};
 
 use super::row::{Row, empty_rows, push_at};

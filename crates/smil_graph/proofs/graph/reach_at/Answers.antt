@@ -3,7 +3,7 @@ use Rattle.std.specs.Prelude.{slice_get}
 use Rattle.std.proofs.lemmas.Result.{IfOk-weaker}
 use Rattle.smil_model.specs.declared.document.Node.{Node}
 use Rattle.smil_model.specs.reach.Reach.{near, down}
-use Rattle.smil_graph.specs.Kept.{reach_of, AreNear, AreOf}
+use Rattle.smil_graph.specs.Tables.{reach_of, AreNear, AreOf}
 use Rattle.smil_graph.proofs.Within.{near_are}
 use Rattle.smil_graph.proofs.graph.reach_at.Goals as goal
 

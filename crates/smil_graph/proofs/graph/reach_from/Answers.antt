@@ -1,7 +1,7 @@
 use Rattle.std.proofs.Common.{◌≡◌, sym, ◌∙◌, ap, ◌<◌, arith, length, ℕ, List, nat_eq}
 use Rattle.std.specs.HashMap.{get}
 use Rattle.std.proofs.lemmas.Result.{IfOk-weaker}
-use Rattle.smil_graph.specs.Kept.{serials_of_places, reach_of, AreOf}
+use Rattle.smil_graph.specs.Tables.{serials_of_places, reach_of, AreOf}
 use Rattle.smil_graph.proofs.Kept.{heads_stay}
 use Rattle.smil_graph.proofs.Ranges.{sorted_rising}
 use Rattle.smil_graph.proofs.Within.{starts_low, reach_is}

@@ -1,6 +1,6 @@
 use Rattle.std.proofs.Common.{◌≡◌, sym, ◌∙◌, ap, ◌<◌, arith, length}
 use Rattle.smil_graph.specs.Places.{up}
-use Rattle.smil_graph.specs.Kept.{top_of}
+use Rattle.smil_graph.specs.Tables.{top_of}
 use Rattle.smil_graph.proofs.Lists.{only}
 use Rattle.smil_graph.proofs.Kept.{children_stay}
 use Rattle.smil_graph.proofs.Within.{near_some, near_none, top_below}

@@ -2,7 +2,7 @@ use Rattle.std.proofs.Common.{◌≡◌, ◌∙◌, ap, map}
 use Rattle.std.proofs.lemmas.Result.{IfOk-weaker}
 use Rattle.smil_graph.specs.declared.ordered.Rank.{Rank}
 use Rattle.smil_graph.specs.Graph.{IsOrder}
-use Rattle.smil_graph.specs.Kept.{serials_of_places}
+use Rattle.smil_graph.specs.Tables.{serials_of_places}
 use Rattle.smil_graph.proofs.Ranked.{order_is}
 use Rattle.smil_graph.proofs.ordered.ordered.Goals as goal
 

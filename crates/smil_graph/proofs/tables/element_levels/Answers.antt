@@ -4,7 +4,7 @@ use Rattle.smil_model.specs.declared.document.Node.{Node}
 use Rattle.smil_model.specs.document.Valid.{IsDistinct}
 use Rattle.smil_graph.specs.Links.{AreRows, AreLevels}
 use Rattle.smil_graph.specs.Places.{feeds_place}
-use Rattle.smil_graph.specs.Kept.{AreElementLevels}
+use Rattle.smil_graph.specs.Tables.{AreElementLevels}
 use Rattle.smil_graph.proofs.Kept.{fed_stay, levels_are}
 use Rattle.smil_graph.proofs.tables.element_levels.Goals as goal
 

@@ -2,7 +2,7 @@ use Rattle.std.proofs.Common.{◌≡◌, ℕ, ◌<◌, length}
 use Rattle.std.proofs.lemmas.Result.{IfOk-weaker}
 use Rattle.smil_graph.specs.Links.{row, that_have}
 use Rattle.smil_graph.specs.Places.{reads_place}
-use Rattle.smil_graph.specs.Kept.{AreHeads}
+use Rattle.smil_graph.specs.Tables.{AreHeads}
 use Rattle.smil_graph.proofs.Kept.{both_ok, rows_stay, reads_low, heads_are}
 use Rattle.smil_graph.proofs.tables.heads.Goals as goal
 

@@ -1,6 +1,6 @@
 use Rattle.std.proofs.Common.{◌≡◌, take}
 use Rattle.std.specs.Prelude.{map}
-use Rattle.smil_graph.specs.Kept.{serials_of_places}
+use Rattle.smil_graph.specs.Tables.{serials_of_places}
 use Rattle.smil_graph.proofs.tables.readers.Given as goal
 
 abbrev pub invariant-loop-row : goal.invariant-loop-row

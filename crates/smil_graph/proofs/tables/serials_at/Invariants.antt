@@ -1,5 +1,5 @@
 use Rattle.std.proofs.Common.{◌≡◌, ◌++◌, drop}
-use Rattle.smil_graph.specs.Kept.{serials_of_places}
+use Rattle.smil_graph.specs.Tables.{serials_of_places}
 use Rattle.smil_graph.proofs.tables.serials_at.Given as goal
 
 abbrev pub invariant-loop-place : goal.invariant-loop-place

@@ -1,7 +1,7 @@
 use Rattle.std.proofs.Common.{take}
 use Rattle.std.specs.List.{list_any}
 use Rattle.smil_model.specs.reach.Reach.{is_key_item}
-use Rattle.smil_graph.specs.Kept.{AreWithPlace}
+use Rattle.smil_graph.specs.Tables.{AreWithPlace}
 use Rattle.smil_graph.proofs.waiting.push_keys.Given as goal
 
 abbrev pub invariant-loop-k : goal.invariant-loop-k

@@ -1,7 +1,7 @@
 use Rattle.std.proofs.Common.{◌≡◌, sym, ◌∙◌, arith, Some, None}
 use Rattle.std.specs.Prelude.{◌&&◌}
 use Rattle.smil_model.specs.document.Document.{is_element}
-use Rattle.smil_graph.specs.Kept.{has_key_item}
+use Rattle.smil_graph.specs.Tables.{has_key_item}
 use Rattle.smil_graph.proofs.Nodes.{there}
 use Rattle.smil_graph.proofs.Keyed.{none_waits, more_waits, waits_is, all_wait}
 use Rattle.smil_graph.proofs.waiting.waiting.Goals as goal

@@ -2,7 +2,7 @@ use Rattle.std.proofs.Common.{sym, ◌∙◌, ap, nat_eq}
 use Rattle.std.specs.HashMap.{get}
 use Rattle.smil_model.specs.declared.document.Edge.TheVariants.{Begin, End}
 use Rattle.smil_graph.specs.Graph.{looped_at, OrderedNodes}
-use Rattle.smil_graph.specs.Kept.{marked_at}
+use Rattle.smil_graph.specs.Tables.{marked_at}
 use Rattle.smil_graph.proofs.Answered.{marks_answer}
 use Rattle.smil_graph.proofs.graph.Graph.looped.Goals as goal
 

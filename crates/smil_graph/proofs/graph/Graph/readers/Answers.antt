@@ -1,7 +1,7 @@
 use Rattle.std.proofs.Common.{◌∙◌, ap, nat_eq}
 use Rattle.std.specs.HashMap.{get}
 use Rattle.smil_graph.specs.Graph.{readers_of, OrderedNodes}
-use Rattle.smil_graph.specs.Kept.{row_of}
+use Rattle.smil_graph.specs.Tables.{row_of}
 use Rattle.smil_graph.proofs.Answered.{readers_answer}
 use Rattle.smil_graph.proofs.graph.Graph.readers.Goals as goal
 
