@@ -1,6 +1,6 @@
 //! What was before the last entry of a book, by the book with it.
 
-ghost use Rattle.std.specs.Prelude.{◌≡◌, ◌<◌, ℕ, ℤ, List, [], ◌∷◌, ◌++◌, length, suc, true};
+ghost use Rattle.std.specs.Prelude.{◌≡◌, ◌<◌, ℤ, List, [], ◌∷◌, ◌++◌, length, suc, true};
 ghost use Rattle.smil_model.specs.declared.diary.Entry.{Entry as AnyEntry};
 ghost use Rattle.smil_model.specs.declared.diary.Step.TheVariants.{Repeated};
 ghost use Rattle.smil_model.specs.diary.Diary.{History, is_active as active_in, is_alive as alive_in, iteration as iteration_in};

@@ -1,6 +1,6 @@
 //! What the times of the items of an element follow from, and which items an entry on it concerns.
 
-ghost use Rattle.std.specs.Prelude.{◌≡◌, List, [], ◌∷◌, ◌++◌, length, slice_get, OnOk, IfOk, if◌then◌else◌};
+ghost use Rattle.std.specs.Prelude.{◌≡◌, slice_get, OnOk};
 ghost use Rattle.smil_instances.specs.Dependents.{cells_of, source_or, sources_of};
 ghost use Rattle.smil_instances.specs.Spread.{with_one, without_cells};
 

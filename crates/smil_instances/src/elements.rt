@@ -1,9 +1,9 @@
 //! The elements of a document, in document order.
 
-ghost use Rattle.std.specs.Prelude.{◌≡◌, ℕ, if◌then◌else◌, Some, option_and_then, IfOk, OnOk, IsSome, nat_eq, map};
+ghost use Rattle.std.specs.Prelude.{◌≡◌, ℕ, if◌then◌else◌, Some, option_and_then, IfOk, OnOk, nat_eq, map};
 ghost use Rattle.std.specs.HashMap.{get};
 ghost use Rattle.smil_model.specs.declared.document.Node.{Node as AnyNode};
-ghost use Rattle.smil_model.specs.document.Document.{elements, node_at, previous_child, time_parent, serials, serial_of};
+ghost use Rattle.smil_model.specs.document.Document.{elements, previous_child, time_parent, serials, serial_of};
 ghost use Rattle.smil_model.specs.reach.Reach.{is_option};
 ghost use Rattle.smil_instances.specs.Spread.{IsIndex};
 

@@ -1,12 +1,11 @@
 //! Each cell is noted with the elements whose entries can concern it.
 
-ghost use Rattle.std.specs.Prelude.{◌≡◌, ℕ, ◌<◌, ◌&&◌, ◌||◌, not, true, length, nat_eq, map, slice_get, OnOk, IsSome};
+ghost use Rattle.std.specs.Prelude.{◌≡◌, ℕ, ◌<◌, ◌&&◌, ◌||◌, not, true, length, nat_eq, slice_get, OnOk};
 ghost use Rattle.std.specs.HashMap.{get};
-ghost use Rattle.smil_model.specs.document.Document.{elements, has_serial, node_at, serials};
+ghost use Rattle.smil_model.specs.document.Document.{elements, has_serial, serials};
 ghost use Rattle.smil_model.specs.reach.Reach.{is_option};
-ghost use Rattle.smil_instances.specs.Sources.{base_of, is_reset_with, source_at};
-ghost use Rattle.smil_instances.specs.Dependents.{source_in};
-ghost use Rattle.smil_instances.specs.Spread.{AreSourcesOf, IsIndex, Takes, first_rows, goes_to, goes_to_all, row_items, side_items};
+ghost use Rattle.smil_instances.specs.Sources.{base_of, is_reset_with};
+ghost use Rattle.smil_instances.specs.Spread.{AreSourcesOf, IsIndex, Takes, first_rows, goes_to, goes_to_all, side_items};
 
 use super::dependents_row::DependentsRow;
 use super::source::Source;

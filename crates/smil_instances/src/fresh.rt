@@ -1,6 +1,6 @@
 //! The rows of a document's elements before any cell is noted.
 
-ghost use Rattle.std.specs.Prelude.{◌≡◌, Some, IfOk, IsSome, map, option_map, if◌then◌else◌, length};
+ghost use Rattle.std.specs.Prelude.{◌≡◌, Some, IfOk, IsSome, map, option_map, if◌then◌else◌};
 ghost use Rattle.smil_model.specs.declared.document.Node.{Node as AnyNode};
 ghost use Rattle.smil_model.specs.declared.document.Edge.TheVariants.{End};
 ghost use Rattle.smil_model.specs.document.Document.{elements, is_in_excl, node_at, previous_child, previous_in_seq, time_parent, serials, serial_of};

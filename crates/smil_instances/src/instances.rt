@@ -1,6 +1,6 @@
 //! The instance times that a diary alone gives, kept while entries are appended.
 
-ghost use Rattle.std.specs.Prelude.{◌≡◌, ℤ, List, [], ◌∷◌, ◌++◌, OnOk, OnErr, IfOk, Some, map};
+ghost use Rattle.std.specs.Prelude.{◌≡◌, ℤ, List, [], ◌∷◌, ◌++◌, OnOk, OnErr, IfOk, Some};
 ghost use Rattle.smil_model.specs.declared.diary.Entry.{Entry as AnyEntry};
 ghost use Rattle.smil_model.specs.declared.diary.LogEntry.{LogEntry as AnyLogEntry};
 ghost use Rattle.smil_model.specs.declared.document.Node.{Node as AnyNode};
@@ -10,7 +10,6 @@ ghost use Rattle.smil_instance_rows.specs.Readings.{begins_in, ends_in, first_af
 ghost use Rattle.smil_model.specs.interval.Intervals.{has_any};
 ghost use Rattle.smil_instances.specs.SettledTimes.{settled_rows};
 ghost use Rattle.smil_stretch.specs.Clocks.{IsLawfulFor};
-ghost use Rattle.smil_graph.specs.Graph.{OrderedNodes};
 ghost use Rattle.smil_instances.specs.Entry.{IsAtHand};
 ghost use Rattle.smil_instances.specs.Dependents.{AreDependentsOf};
 ghost use Rattle.smil_instances.specs.Instances.{IsSettled, settled_times};

@@ -1,17 +1,15 @@
 //! The sources of items, from the tree of a document.
 
-ghost use Rattle.std.specs.Prelude.{◌≡◌, not, Some, IfOk, IsSome, List, map, option_map};
-ghost use Rattle.smil_model.specs.declared.document.Node.{Node as AnyNode};
+ghost use Rattle.std.specs.Prelude.{◌≡◌, Some, IfOk, IsSome, map};
 ghost use Rattle.smil_model.specs.declared.document.Edge.TheVariants.{End};
-ghost use Rattle.smil_model.specs.document.Document.{is_class_kind, node_at, element_named, previous_in_seq, target, time_parent, serial_of};
-ghost use Rattle.smil_model.specs.document.Defaults.{begin_list, end_list, items_or};
+ghost use Rattle.smil_model.specs.document.Document.{node_at, element_named, previous_in_seq, target, time_parent, serial_of};
 ghost use Rattle.smil_model.specs.document.Valid.{kind_of};
 ghost use Rattle.smil_instances.specs.Sources.{source_of, syncbase_or, eventbase};
 ghost use Rattle.smil_instances.specs.declared.source.Source.TheVariants as source;
 ghost use Rattle.smil_instances.specs.Spread.{element_of};
 
 use super::source::Source;
-use smil_model::{Bytes, Duplicate, Edge, Item, Items, Kind, Who};
+use smil_model::{Bytes, Duplicate, Item, Items, Kind, Who};
 use smil_tree::Tree;
 use std::alloc::{AllocError, Global};
 

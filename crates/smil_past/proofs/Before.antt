@@ -1,16 +1,14 @@
--- What is known of an entry by the history before it: its moment, that its step is lawful, and the clocks.
-use Rattle.std.proofs.Common.{◌≡◌, List, true}
+-- What is known of an entry by the history before it: its moment, and the clocks.
+use Rattle.std.proofs.Common.{List}
 use Rattle.std.specs.Prelude.{pos}
 use Rattle.smil_model.specs.Times.{IsMoment}
 use Rattle.smil_model.specs.declared.diary.Entry.{Entry}
 use Rattle.smil_model.specs.declared.diary.LogEntry.{LogEntry}
 use Rattle.smil_model.specs.document.Document.{Document}
 use Rattle.smil_model.specs.diary.Diary.{History, last_moment}
-use Rattle.smil_model.specs.diary.Lawful.{is_lawful_step}
 use Rattle.smil_stretch.specs.declared.clock.NodeClock.{NodeClock}
 use Rattle.smil_stretch.proofs.Moments.{le_from, rising_push}
 use Rattle.smil_stretch.proofs.Turning.{entry_moment}
-use Rattle.smil_stretch.proofs.Diaries.{lawful_last}
 use Rattle.smil_instances.specs.Contribution.{AreClocksAt}
 use Rattle.smil_past.specs.Followed.{IsEntryAfter}
 
@@ -20,6 +18,3 @@ module _ (h : History) (y : Entry) (document : Document) (clocks : List NodeCloc
 
   pub moment_at : IsMoment y.moment
   moment_at = entry_moment h y is.lawful
-
-  pub lawful_at : is_lawful_step h y.step ≡ true
-  lawful_at = lawful_last h y is.lawful

@@ -1,17 +1,16 @@
 -- Lists of rows: what they have for an element, and one row put in the place of another.
-use Rattle.std.proofs.Common.{◌≡◌, refl, sym, ◌∙◌, ap, ℕ, suc, zero, ◌<◌, List, [], ◌∷◌, length, Option, Some, None, Bool, true, false, get_or, set, arith}
-use Rattle.std.specs.Prelude.{cond, not, ◌+◌, ◌==◌, ◌||◌, map, filter, find, option_map, is_some, nat_lt, slice_get}
-use Rattle.std.specs.List.{list_any, position, position_or_len}
-use Rattle.std.proofs.lemmas.Bool.{eqb-true, eq-eqb, ltb-false, or_parts}
-use Rattle.std.proofs.lemmas.List.{length-map}
-use Rattle.std.proofs.lemmas.List.Folds.{find_at}
-use Rattle.std.proofs.lemmas.List.Quantifiers.{position-Some}
-use Rattle.std.proofs.lemmas.Option.{slice_get_past, get_or_from_slice_get}
+use Rattle.std.proofs.Common.{◌≡◌, refl, sym, ◌∙◌, ap, subst, ℕ, suc, zero, ◌<◌, List, [], ◌∷◌, length, Option, Some, None, Bool, true, false, get_or, set, arith}
+use Rattle.std.specs.Prelude.{cond, ◌==◌, ◌||◌, map, filter, find, option_map, is_some, slice_get}
+use Rattle.std.specs.List.{list_any}
+use Rattle.std.proofs.lemmas.Bool.{eqb-true, eq-eqb, or_parts}
 use Rattle.smil_model.specs.declared.document.Node.{Node}
 use Rattle.smil_model.specs.document.Document.{is_element}
 use Rattle.smil_model.specs.document.Valid.{IsDistinct}
+use Rattle.smil_model.specs.reach.Reach.{is_option}
+use Rattle.smil_tree.proofs.Holding.{same_test}
+use Rattle.smil_instances.specs.Spread.{IsIndex}
 use Rattle.smil_past.specs.declared.plays.played.Played.{Played}
-use Rattle.smil_past.specs.Rows.{row_of, keys_of, IsPut, ArePlaces}
+use Rattle.smil_past.specs.Rows.{row_of, keys_of, IsPut}
 
 abbrev pub Row : Type 0
 Row = ℕ × Played
@@ -26,27 +25,15 @@ IsFirst who [] k = ⊥
 IsFirst who (x ∷ xs) zero = x.0 == who ≡ true
 IsFirst who (x ∷ xs) (suc k) = (x.0 == who ≡ false) × IsFirst who xs k
 
-first_by : (who : ℕ) (xs : List Row) (k : ℕ) (d : Row) → k < length xs → is_of who (get_or xs k d) ≡ true → ((j : ℕ) → j < k → is_of who (get_or xs j d) ≡ false) → IsFirst who xs k
-first_by who [] k d lt here before = omega (arith, lt)
-first_by who (x ∷ xs) zero d lt here before = here
-first_by who (x ∷ xs) (suc k) d lt here before = (before 0 (omega arith), first_by who xs k d (omega (arith, lt)) here (λ j less. before (suc j) (omega (arith, less))))
-
-pub first_of_position : (who : ℕ) (xs : List Row) (k : ℕ) (d : Row) → position (λ (row : Row). row.0 == who) xs ≡ Some k → IsFirst who xs k
-first_of_position who xs k d q = let at = position-Some (λ (row : Row). row.0 == who) xs k d q in first_by who xs k d at.0 at.1 at.2
+pub first_below : (who : ℕ) (xs : List Row) (k : ℕ) → IsFirst who xs k → k < length xs
+first_below who [] k is = elim is [ ]
+first_below who (x ∷ xs) zero is = omega arith
+first_below who (x ∷ xs) (suc k) is = omega (arith, first_below who xs k is.1)
 
 pub row_first : (who : ℕ) (xs : List Row) (k : ℕ) (d : Row) → IsFirst who xs k → row_of xs who ≡ Some (get_or xs k d).1
 row_first who [] k d is = elim is [ ]
 row_first who (x ∷ xs) zero d is = ap (λ t. option_map (λ (row : Row). row.1) (cond t (Some x) (find (λ (row : Row). row.0 == who) xs))) is
 row_first who (x ∷ xs) (suc k) d is = ap (λ t. option_map (λ (row : Row). row.1) (cond t (Some x) (find (λ (row : Row). row.0 == who) xs))) is.0 ∙ row_first who xs k d is.1
-
-pub row_none : (who : ℕ) (xs : List Row) → position (λ (row : Row). row.0 == who) xs ≡ None → row_of xs who ≡ None
-row_none who xs q = by_test (nat_lt (position_or_len (λ (row : Row). row.0 == who) xs) (length xs)) refl q
-  where
-    by_test : (t : Bool) → nat_lt (position_or_len (λ (row : Row). row.0 == who) xs) (length xs) ≡ t → cond t (Some (position_or_len (λ (row : Row). row.0 == who) xs)) None ≡ None → row_of xs who ≡ None
-    by_test true e r = cc
-    by_test false e r =
-        ap (option_map (λ (row : Row). row.1))
-        (find_at (λ (row : Row). row.0 == who) xs ∙ slice_get_past xs _ (ltb-false (position_or_len (λ (row : Row). row.0 == who) xs) (length xs) e))
 
 -- ---- a row put in its place
 
@@ -87,11 +74,37 @@ set_row who r (x ∷ xs) (suc k) s is =
     by_test true false e f more = refl
     by_test false u e f more = more
 
--- ---- places by keys
+-- ---- rows by an index
 
-place_key : (s : ℕ) (xs : List Row) → position_or_len (λ (row : Row). row.0 == s) xs ≡ position_or_len (λ n. n == s) (keys_of xs)
-place_key s [] = refl
-place_key s (x ∷ xs) = ap (λ k. cond (not (x.0 == s)) (1 + k) 0) (place_key s xs)
+-- the k-th row alone is of the element
+alone_first : (who : ℕ) (xs : List Row) (k : ℕ) → ((j : ℕ) → is_option j (Some k) ≡ is_option who (slice_get (keys_of xs) j)) → IsFirst who xs k
+alone_first who [] k alone = let never : true ≡ false = sym (eq-eqb k k refl) ∙ alone k in cc
+alone_first who (x ∷ xs) zero alone = same_test x.0 who ∙ sym (alone zero) ∙ eq-eqb zero zero refl
+alone_first who (x ∷ xs) (suc k) alone =
+    (same_test x.0 who ∙ sym (alone zero) ∙ apart k, alone_first who xs k (λ j. next j k ∙ alone (suc j)))
+  where
+    apart : (i : ℕ) → zero == suc i ≡ false
+    apart i = grind arith
+
+    next : (i j : ℕ) → (i == j) ≡ (suc i == suc j)
+    next i j = grind arith
+
+-- no row is of the element
+none_first : (who : ℕ) (xs : List Row) → ((j : ℕ) → false ≡ is_option who (slice_get (keys_of xs) j)) → row_of xs who ≡ None
+none_first who [] none = refl
+none_first who (x ∷ xs) none =
+    cons_row who x xs ∙ ap (λ t. cond t (Some x.1) (row_of xs who)) (same_test x.0 who ∙ sym (none zero))
+    ∙ none_first who xs (λ j. none (suc j))
+
+module _ (who : ℕ) (xs : List Row) (index : ℕ → Option ℕ) (is : IsIndex (keys_of xs) index) where
+  pub first_indexed : (k : ℕ) → index who ≡ Some k → IsFirst who xs k
+  first_indexed k at = alone_first who xs k (λ j. ap (is_option j) (sym at) ∙ is j who)
+
+  pub none_indexed : index who ≡ None → row_of xs who ≡ None
+  none_indexed at = none_first who xs (λ j. ap (is_option j) (sym at) ∙ is j who)
+
+pub keys_indexed : (old new : List Row) (index : ℕ → Option ℕ) → keys_of new ≡ keys_of old → IsIndex (keys_of old) index → IsIndex (keys_of new) index
+keys_indexed old new index same is = subst (λ (keys : List ℕ). IsIndex keys index) (sym same) is
 
 -- ---- rows of nodes
 
@@ -187,24 +200,5 @@ put_none who r rows none = record { same_keys = refl; rows = λ s. by_test s (wh
         gone ∙ sym (ap (option_map (λ (q : Played). r)) gone)
     by_test s false e = refl
 
-pub put_set : (who : ℕ) (r : Played) (rows : List Row) (k : ℕ) → position (λ (row : Row). row.0 == who) rows ≡ Some k → IsPut who r rows (set rows k (who, r))
-put_set who r rows k q =
-    let is = first_of_position who rows k (who, r) q in
-    record { same_keys = set_keys who r rows k is; rows = λ s. set_row who r rows k s is }
-
-pub places_same : (found : ℕ → Option ℕ) (old new : List Row) → keys_of new ≡ keys_of old → ArePlaces found old → ArePlaces found new
-places_same found old new same are = λ s.
-    are s ∙ by_key s old ∙ sym (ap (λ ks. placed s ks) same) ∙ sym (by_key s new)
-  where
-    placed : ℕ → List ℕ → Option ℕ
-    placed s ks = cond (nat_lt (position_or_len (λ n. n == s) ks) (length ks)) (Some (position_or_len (λ n. n == s) ks)) None
-
-    by_key : (s : ℕ) (rows : List Row) → position (λ (row : Row). row.0 == s) rows ≡ placed s (keys_of rows)
-    by_key s rows =
-        ap (λ k. cond (nat_lt k (length rows)) (Some k) None) (place_key s rows)
-        ∙ ap (λ l. cond (nat_lt (position_or_len (λ n. n == s) (keys_of rows)) l) (Some (position_or_len (λ n. n == s) (keys_of rows))) None) (sym (length-map rows (λ (row : Row). row.0)))
-
-pub row_found : (who : ℕ) (rows : List Row) (k : ℕ) (e : Row) → position (λ (row : Row). row.0 == who) rows ≡ Some k → slice_get rows k ≡ Some e → row_of rows who ≡ Some e.1
-row_found who rows k e at got =
-    row_first who rows k e (first_of_position who rows k e at)
-    ∙ ap (λ (r : Row). Some r.1) (get_or_from_slice_get rows k e e got)
+pub put_set : (who : ℕ) (r : Played) (rows : List Row) (k : ℕ) → IsFirst who rows k → IsPut who r rows (set rows k (who, r))
+put_set who r rows k is = record { same_keys = set_keys who r rows k is; rows = λ s. set_row who r rows k s is }

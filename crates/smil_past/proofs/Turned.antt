@@ -32,10 +32,3 @@ turned_more kids k serial b old cur new n at is less are turn = record {
     by_both true false o = refl
     by_both false true o = refl
     by_both false false o = refl
-
-pub turned_next : (kids : List Node) (k serial : ℕ) (b : Bool) (old cur new : List (ℕ × Played)) (o : Option Node) → slice_get kids k ≡ o → Some serial ≡ option_map (λ (n : Node). n.serial) (slice_get kids k) → k < length kids → AreTurned (take k kids) b old cur → IsTurned serial b cur new → AreTurned (take (k + 1) kids) b old new
-turned_next kids k serial b old cur new None at is less are turn = let never : Some serial ≡ None = is ∙ ap (option_map (λ (n : Node). n.serial)) at in cc
-turned_next kids k serial b old cur new (Some n) at is less are turn =
-    let one : Some serial ≡ Some n.serial = is ∙ ap (option_map (λ (n : Node). n.serial)) at in
-    let same : n.serial ≡ serial = cc in
-    turned_more kids k serial b old cur new n at same less are turn

@@ -1,6 +1,6 @@
 -- Lists of rows, one for each element, and rows that are put in the place of others.
 use Rattle.std.specs.Prelude.{◌≡◌, ℕ, List, Bool, true, not, ◌==◌, if◌then◌else◌, Option, option_map, find, map}
-use Rattle.std.specs.List.{list_any, position}
+use Rattle.std.specs.List.{list_any}
 use Rattle.smil_model.specs.declared.diary.Entry.{Entry}
 use Rattle.smil_model.specs.declared.diary.Step.{Step}
 use Rattle.smil_model.specs.declared.document.Node.{Node}
@@ -11,8 +11,8 @@ use Rattle.smil_past.specs.declared.plays.TheConstants.{IDLE}
 use Rattle.smil_past.specs.Followed.{own_after, child_after, child_step}
 
 -- the row of an element to which nothing has happened yet
-abbrev pub idle_row : Node → ℕ × Played
-idle_row e = (e.serial, IDLE)
+abbrev pub idle_row : ℕ → ℕ × Played
+idle_row s = (s, IDLE)
 
 -- what a list of rows has for an element
 abbrev pub row_of : List (ℕ × Played) → ℕ → Option Played
@@ -52,7 +52,3 @@ pub record AreChildrenTaken (nodes : List Node) (step : Step) (before after : Li
   pub same_keys : keys_of after ≡ keys_of before
   pub rows : (s : ℕ) → has_element nodes s ≡ true
       → row_of after s ≡ option_map (child_step nodes step s) (row_of before s)
-
--- a table from serials to places
-abbrev pub ArePlaces : (ℕ → Option ℕ) → List (ℕ × Played) → Type 0
-ArePlaces found rows = (s : ℕ) → found s ≡ position (λ (row : ℕ × Played). row.0 == s) rows

@@ -1,16 +1,14 @@
 //! The plays of all elements of a document.
 
-ghost use Rattle.std.specs.Prelude.{◌≡◌, ℕ, List, [], ◌∷◌, ◌++◌, Some, None, IfOk, OnOk, true, nat_eq, map, option_map, ◌==◌, if◌then◌else◌};
-ghost use Rattle.std.specs.Option.{option_or};
+ghost use Rattle.std.specs.Prelude.{◌≡◌, ℕ, List, [], Some, None, IfOk, nat_eq, map};
 ghost use Rattle.std.specs.HashMap.{get};
-ghost use Rattle.smil_model.specs.document.Document.{elements, is_class_kind, time_children};
+ghost use Rattle.smil_model.specs.document.Document.{time_children};
 ghost use Rattle.smil_model.specs.diary.Diary.{History, up_to};
 ghost use Rattle.smil_past.specs.declared.plays.TheConstants.{IDLE};
-ghost use Rattle.smil_model.specs.diary.Lawful.{has_element, is_lawful_step};
 ghost use Rattle.smil_model.specs.Times.{IsMoment};
 ghost use Rattle.smil_laws.specs.Near.{HasNear};
 ghost use Rattle.smil_past.specs.Played.{TakesIn, all_played, played_at};
-ghost use Rattle.smil_past.specs.Rows.{AreChildrenTaken, ArePlaces, AreTurned, IsOwnTaken, IsPut, IsTurned, idle_row, row_of};
+ghost use Rattle.smil_past.specs.Rows.{AreChildrenTaken, AreTurned, IsOwnTaken, IsPut, IsTurned, idle_row, row_of};
 ghost use Rattle.smil_instances.specs.Contribution.{AreClocksAt};
 ghost use Rattle.smil_past.specs.Followed.{IsEntryAfter, MayBeTaken};
 
@@ -19,8 +17,9 @@ mod row;
 
 pub use played::{PastInterval, Played};
 use row::{OwnEntry, child, own_row};
+use smil_instances::elements::{elements, places_of};
 use smil_instances::subject;
-use smil_model::{Duplicate, Entry, Kind, Log, Step, Time};
+use smil_model::{Duplicate, Entry, Log, Step, Time};
 use smil_stretch::Clocks;
 use smil_tree::Tree;
 use std::alloc::{AllocError, Global};
@@ -59,20 +58,23 @@ impl Drop for Plays {
 impl Model for Plays {
     ghost use Rattle.std.specs.Prelude.{List, ℕ, nat_eq};
     ghost use Rattle.std.specs.HashMap.{get};
-    ghost use Rattle.smil_past.specs.Rows.{ArePlaces};
+    ghost use Rattle.smil_instances.specs.Spread.{IsIndex};
+    ghost use Rattle.smil_past.specs.Rows.{keys_of};
     ghost use Rattle.smil_past.specs.declared.plays.played.Played.{Played as AnyPlayed};
 
     ghost Value = { List (ℕ × AnyPlayed) };
 
     ghost view = { λ a. a.rows.items };
 
-    ghost invariant = { λ a. ArePlaces (get nat_eq a.places) a.rows.items };
+    ghost invariant = { λ a. IsIndex (keys_of a.rows.items) (get nat_eq a.places) };
 }
 
 impl Duplicate for Plays {
     fn copy(&self) -> Result<Self, AllocError> {
-        let alloc = *self.rows.allocator();
-        Plays::indexed(alloc, Vec::from_slice(alloc, &self.rows)?)
+        Ok(Plays {
+            places: self.places.clone()?,
+            rows: Vec::from_slice(*self.rows.allocator(), &self.rows)?,
+        })
     }
 }
 
@@ -83,7 +85,10 @@ impl Plays {
         ensures { (h : History) → h.nodes ≡ tree.now.nodes
             → IfOk result (λ plays. plays ≡ all_played (up_to h [])) }
     {
-        Plays::indexed(alloc, idle_rows(alloc, tree)?)
+        let whos = elements(alloc, tree)?;
+        let places = places_of(alloc, tree, &whos)?;
+        let rows = idle_rows(alloc, &whos)?;
+        Ok(Plays { places, rows })
     }
 
     /// Takes in an entry that may follow what has happened so far, by the document, the clocks
@@ -106,16 +111,6 @@ impl Plays {
         ensures { (h : History) → self.now ≡ all_played h → result ≡ played_at h who }
     {
         self.row(who)
-    }
-
-    // The rows, with the table of their places.
-    fn indexed(alloc: Global, rows: Vec<(u32, Played)>) -> Result<Plays, AllocError>
-        ensures { IfOk result (λ plays. plays ≡ rows.items) }
-    {
-        Ok(Plays {
-            places: places_of(alloc, &rows)?,
-            rows,
-        })
     }
 
     // The row of an element.
@@ -160,8 +155,6 @@ impl Plays {
 
     // Takes in what a step makes of the time children of its element.
     fn take_children(&mut self, tree: &Tree, step: Step)
-        requires { (past : History) × (past.nodes ≡ tree.now.nodes)
-            × (is_lawful_step past step ≡ true) }
         ensures { AreChildrenTaken tree.now.nodes step self.old self.new }
     {
         match step {
@@ -179,14 +172,10 @@ impl Plays {
 
     // Takes in a birth, or else an end, of the time children of an element.
     fn turn_children(&mut self, tree: &Tree, who: u32, birth: bool)
-        requires { has_element tree.now.nodes who ≡ true }
         ensures { AreTurned (time_children tree.now.nodes who) birth self.old self.new }
     {
-        tree.valid();
-        let mut place = 0;
-        while let Some(serial) = tree.time_child(who, place) {
-            self.turn(serial, birth);
-            place += 1;
+        for child in tree.time_children(who) {
+            self.turn(*child, birth);
         }
     }
 
@@ -201,50 +190,13 @@ impl Plays {
     }
 }
 
-// The rows of the elements of a document to which nothing has happened yet.
-fn idle_rows(alloc: Global, tree: &Tree) -> Result<Vec<(u32, Played)>, AllocError>
-    ensures { IfOk result (λ rows. rows.items ≡ map idle_row (elements tree.now.nodes)) }
+// The rows of elements to which nothing has happened yet.
+fn idle_rows(alloc: Global, whos: &[u32]) -> Result<Vec<(u32, Played)>, AllocError>
+    ensures { IfOk result (λ rows. rows.items ≡ map idle_row whos.now) }
 {
-    tree.valid();
-    let mut rows = Vec::new(alloc);
-    let mut place = 0;
-    while let Some(serial) = tree.serial_at(place) {
-        push_idle(&mut rows, serial, tree.kind(serial))?;
-        place += 1;
+    let mut rows = Vec::with_capacity(alloc, whos.len())?;
+    for who in whos {
+        rows.push((*who, IDLE))?;
     }
     Ok(rows)
-}
-
-// Puts the row of a node at the end, where it is an element.
-fn push_idle(rows: &mut Vec<(u32, Played)>, serial: u32, kind: Kind) -> Result<(), AllocError>
-    ensures { OnOk result (rows.new.items ≡ rows.old.items
-        ++ (if is_class_kind kind then [] else (serial, IDLE) ∷ [])) }
-{
-    if kind.is_element() {
-        rows.push((serial, IDLE))?;
-    }
-    Ok(())
-}
-
-// A table from serials to places, in which the first place of a serial counts.
-fn places_of(alloc: Global, rows: &[(u32, Played)]) -> Result<HashMap<u32, usize>, AllocError>
-    ensures { IfOk result (λ places. ArePlaces (get nat_eq places) rows.now) }
-{
-    let mut places = HashMap::new(alloc);
-    for place in 0..rows.len() {
-        note_place(&mut places, rows[place].0, place)?;
-    }
-    Ok(places)
-}
-
-// Notes the place of a serial, where it has none yet.
-fn note_place(places: &mut HashMap<u32, usize>, serial: u32, place: usize) -> Result<(), AllocError>
-    ensures { OnOk result ((s : ℕ) → get nat_eq places.new s
-        ≡ option_or (get nat_eq places.old s) (if serial == s then Some place else None)) }
-{
-    if places.contains_key(&serial) {
-        return Ok(());
-    }
-    places.insert(serial, place)?;
-    Ok(())
 }

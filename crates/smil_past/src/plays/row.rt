@@ -1,7 +1,6 @@
 //! What an entry makes of what is kept of its own element, and of a time child.
 
-ghost use Rattle.std.specs.Prelude.{◌≡◌, ◌+ℤ◌, ◌-ℤ◌, ℕ, ℤ, Some, not, slice_get};
-ghost use Rattle.std.specs.Option.{option_or};
+ghost use Rattle.std.specs.Prelude.{◌≡◌, ℕ, ℤ, Some, not, slice_get};
 ghost use Rattle.smil_model.specs.diary.Diary.{History};
 ghost use Rattle.smil_model.specs.diary.Clocks.{start_of, to_document as document_time};
 ghost use Rattle.smil_model.specs.diary.Plays.{greater_begin};

@@ -1,14 +1,10 @@
-use Rattle.smil_past.proofs.Before.{clocks_at, moment_at, lawful_at}
+use Rattle.smil_past.proofs.Before.{clocks_at, moment_at}
 use Rattle.smil_past.proofs.Taken.{taken}
 use Rattle.smil_past.proofs.plays.Plays.follow.Goals as goal
 
 pub take_own-requires-clause-moment : goal.take_own-requires-clause-moment
 take_own-requires-clause-moment c =
     let known = c.requires.follows in moment_at known.past _ _ _ _ known.before
-
-pub take_children-requires : goal.take_children-requires
-take_children-requires c =
-    let known = c.requires.follows in (known.past, known.before.same_nodes, lawful_at known.past _ _ _ _ known.before)
 
 pub returns : goal.returns
 returns c = λ h is before.

@@ -1,40 +1,27 @@
-use Rattle.std.proofs.Common.{refl, arith, ◌≤◌, length, subst}
-use Rattle.smil_model.specs.document.Document.{time_children, is_time_child}
+use Rattle.std.proofs.Common.{◌≡◌, refl, sym, ◌∙◌, ap, subst, length, get_or, arith}
+use Rattle.std.proofs.lemmas.List.{length-map, take_all}
+use Rattle.std.proofs.lemmas.Option.{slice_get_within}
+use Rattle.smil_model.specs.declared.document.Node.{Node}
+use Rattle.smil_model.specs.document.Document.{time_children}
+use Rattle.smil_instances.proofs.Begun.{at_place}
 use Rattle.smil_past.specs.Rows.{AreTurned}
-use Rattle.std.proofs.lemmas.List.{take_all}
-use Rattle.smil_stretch.proofs.Idle.{node_inside, none_left}
-use Rattle.smil_instances.proofs.Targets.{known_node}
-use Rattle.smil_past.proofs.Turned.{turned_next}
-use Rattle.std.specs.Prelude.{slice_get}
-use Rattle.smil_model.specs.declared.limits.TheConstants.{NODES}
-use Rattle.smil_laws.proofs.Lists.{filter_shorter}
+use Rattle.smil_past.proofs.Turned.{turned_more}
 use Rattle.smil_past.proofs.plays.Plays.turn_children.Goals as goal
 
-pub loop-serial-init : goal.loop-serial-init
-loop-serial-init c = (record { same_keys = refl; rows = λ s. refl }, omega arith)
+pub loop-child-init : goal.loop-child-init
+loop-child-init c = record { same_keys = refl; rows = λ s. refl }
 
-pub time_child-requires : goal.time_child-requires
-time_child-requires c = known_node c.args.tree.now.nodes c.args.who c.requires
-
-pub overflow_add-place : goal.overflow_add-place
-overflow_add-place c =
-    let inside = node_inside (time_children c.args.tree.now.nodes c.args.who) c.in-Some.serial c.loop-serial.place c.in-Some.ensures in
-    let most = filter_shorter (is_time_child c.args.tree.now.nodes c.args.who) c.args.tree.now.nodes in
-    let few : length c.args.tree.now.nodes ≤ NODES = c.valid.ensures.nodes in
-    omega (arith, inside, most, few)
-
-pub loop-serial-smaller : goal.loop-serial-smaller
-loop-serial-smaller c =
-    let inside = node_inside (time_children c.args.tree.now.nodes c.args.who) c.in-Some.serial c.loop-serial.place c.in-Some.ensures in
-    omega (arith, inside)
-
-pub loop-serial-preserved : goal.loop-serial-preserved
-loop-serial-preserved c =
-    let kids = time_children c.args.tree.now.nodes c.args.who in
-    let inside = node_inside kids c.in-Some.serial c.loop-serial.place c.in-Some.ensures in
-    (turned_next kids c.loop-serial.place c.in-Some.serial c.args.birth c.args.self.now c.loop-serial.self c.turn.new.self (slice_get kids c.loop-serial.place) refl c.in-Some.ensures inside c.loop-serial.invariant.0 c.turn.ensures, omega (arith, inside))
+pub loop-child-preserved : goal.loop-child-preserved
+loop-child-preserved c =
+    let children = time_children c.args.tree.now.nodes c.args.who in
+    let serials = c.time_children-child-items.result.now in
+    let i = c.loop-child.child-index in
+    let here = at_place children serials i c.time_children-child-items.ensures c.loop-child-test.true in
+    turned_more children i (get_or serials i 0) c.args.birth c.args.self.now c.loop-child.self c.turn.new.self here.node here.at (sym here.serial)
+    (slice_get_within children i here.node here.at) c.loop-child.invariant c.turn.ensures
 
 pub returns : goal.returns
 returns c =
-    let left : length (time_children c.args.tree.now.nodes c.args.who) ≤ c.loop-serial.place = none_left (time_children c.args.tree.now.nodes c.args.who) c.loop-serial.place c.in_default.ensures in
-    subst (λ ns. AreTurned ns c.args.birth c.args.self.now c.loop-serial.self) (take_all c.loop-serial.place (time_children c.args.tree.now.nodes c.args.who) left) c.loop-serial.invariant.0
+    let children = time_children c.args.tree.now.nodes c.args.who in
+    let many : length c.time_children-child-items.result.now ≡ length children = ap length c.time_children-child-items.ensures ∙ length-map children (λ (n : Node). n.serial) in
+    subst (λ ns. AreTurned ns c.args.birth c.args.self.now c.loop-child.self) (take_all c.loop-child.child-index children (omega (arith, many, c.loop-child-test.false))) c.loop-child.invariant
