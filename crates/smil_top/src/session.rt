@@ -35,7 +35,7 @@ pub(crate) struct Session {
 
 // An order, with the name of the presentation that it is for.
 #[derive(Clone, Copy)]
-struct Addressed<'a> {
+struct NamedOrder<'a> {
     name: &'a Bytes,
     order: &'a Order,
 }
@@ -109,8 +109,8 @@ impl Session {
             Read::Load { .. } => Err(Refusal::NotACommand),
             Read::Close { name } => self.close(number, name, answer),
             Read::To { name, order } => {
-                let addressed = Addressed { name, order };
-                self.answer_to(number, &addressed, answer, steps)
+                let named = NamedOrder { name, order };
+                self.answer_to(number, &named, answer, steps)
             }
         }
     }
@@ -119,27 +119,27 @@ impl Session {
     fn answer_to<L: Ledger>(
         &mut self,
         number: u32,
-        addressed: &Addressed<'_>,
+        named: &NamedOrder<'_>,
         answer: &mut Answer,
         steps: &mut Steps<L>,
     ) -> Result<(), Refusal>
-        requires given { IsGiven addressed.now.order.now }
-        requires title { length addressed.now.name.now ≤ NAME_BYTES }
+        requires given { IsGiven named.now.order.now }
+        requires title { length named.now.name.now ≤ NAME_BYTES }
         requires empty { answer.old ≡ no_text }
         ensures answer { (session : Presentations) → Holds self.old.house session
             → Makes result answer.new self.new.house session
-            (ordered_within limits session number addressed.now.name.now addressed.now.order.now) }
+            (ordered_within limits session number named.now.name.now named.now.order.now) }
         ensures checks { self.new.checks ≡ self.old.checks }
         ensures counted { steps.old ≤ steps.new }
         ensures evaluated { (session : Presentations) → Holds self.old.house session
             → IsCounted result (λ (bound : Bound). ordered_number bound session
-            addressed.now.name.now addressed.now.order.now)
+            named.now.name.now named.now.order.now)
             (steps.new - steps.old) }
     {
-        let name = addressed.name.slice();
+        let name = named.name.slice();
         match self
             .house
-            .answer(name, addressed.order, &mut answer.told, steps)
+            .answer(name, named.order, &mut answer.told, steps)
         {
             Ok(now) => {
                 answer.last = LastLine::ok(number, name, now);

@@ -16,7 +16,7 @@ returns-in-Ok-clause-answer g c session holds =
     let new = c.answer.new.self in
     let number : ℕ = c.args.number in
     let name : List ℕ = c.slice-name.result.now in
-    let order = c.args.addressed.now.order.now in
+    let order = c.args.named.now.order.now in
     let told : List ℕ = c.answer.new.out in
     let text : List ℕ = drop (length c.args.answer.now.told) told in
     let is : told ≡ text = c.in-Ok.ensures.appended ∙ ap (λ (a : AnswerText). a.told ++ text) c.requires.empty in
@@ -34,7 +34,7 @@ returns-in-Err-clause-answer g c session holds =
     let new = c.answer.new.self in
     let number : ℕ = c.args.number in
     let name : List ℕ = c.slice-name.result.now in
-    let order = c.args.addressed.now.order.now in
+    let order = c.args.named.now.order.now in
     let text : AnswerText = c.args.answer.now in
     let unmade = unmade-ordered name order house new session number holds text (c.answer.new.steps - c.args.steps.now) c.in-Err.refusal c.in-Err.ensures.refused c.in-Err.ensures.kept in
     subst (λ n. Makes (Err c.in-Err.refusal) text new session (ordered_within limits session number n order)) c.slice-name.ensures unmade
@@ -42,7 +42,7 @@ returns-in-Err-clause-answer g c session holds =
 pub returns-in-Ok-clause-evaluated : goal.returns-in-Ok-clause-evaluated
 returns-in-Ok-clause-evaluated g c session holds =
     let house = c.args.self.now.house in
-    let order = c.args.addressed.now.order.now in
+    let order = c.args.named.now.order.now in
     let text : List ℕ = drop (length c.args.answer.now.told) c.answer.new.out in
     let rise : ℕ = c.answer.new.steps - c.args.steps.now in
     subst (λ n. IsCounted (Ok tt) (λ bound. ordered_number bound session n order) rise) c.slice-name.ensures
@@ -51,7 +51,7 @@ returns-in-Ok-clause-evaluated g c session holds =
 pub returns-in-Err-clause-evaluated : goal.returns-in-Err-clause-evaluated
 returns-in-Err-clause-evaluated g c session holds =
     let house = c.args.self.now.house in
-    let order = c.args.addressed.now.order.now in
+    let order = c.args.named.now.order.now in
     let rise : ℕ = c.answer.new.steps - c.args.steps.now in
     subst (λ n. IsCounted (Err c.in-Err.refusal) (λ bound. ordered_number bound session n order) rise) c.slice-name.ensures
     (counted-unordered c.slice-name.result.now order house c.answer.new.self session holds rise c.in-Err.refusal c.in-Err.ensures.refused)
