@@ -1,7 +1,8 @@
 -- What a diary's index keeps: where the entries on each element stand.
-use Rattle.std.specs.Prelude.{ℕ, suc, ◌-◌, List, [], ◌∷◌, ◌++◌, length, take, Bool, true, false, ◌&&◌, ◌==◌, if◌then◌else◌, nat_eq, Option, Some, None, unwrap_or}
+use Rattle.std.specs.Prelude.{◌≡◌, ℕ, suc, ◌-◌, ◌≤◌, List, [], ◌∷◌, ◌++◌, length, take, Bool, true, false, ◌&&◌, ◌==◌, if◌then◌else◌, nat_eq, Option, Some, None, unwrap_or}
 use Rattle.std.specs.List.{last_or}
 use Rattle.std.specs.Map.{lookup}
+use Rattle.smil_model.specs.declared.limits.TheConstants.{DIARY_ENTRIES}
 use Rattle.smil_model.specs.declared.diary.Entry.{Entry}
 use Rattle.smil_model.specs.declared.diary.Step.{Step}
 use Rattle.smil_model.specs.declared.diary.Step.TheVariants.{Began, Repeated, Ended, Cut, Paused, Resumed, Deferred, Passed, Logged}
@@ -172,3 +173,7 @@ element_of diary serial = record {
   passed = steps diary kind.Passed serial;
   finished = finishing diary serial;
 }
+
+-- a diary that isn't too long, and an index that has of each element what it keeps
+abbrev pub IsBook : List Entry → List (ℕ × ElementPlaces) → Type 0
+IsBook diary index = (length diary ≤ DIARY_ENTRIES) × ((serial : ℕ) → kept index serial ≡ element_of diary serial)

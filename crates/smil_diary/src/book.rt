@@ -39,16 +39,15 @@ impl Drop for Book {
 }
 
 impl Model for Book {
-    ghost use Rattle.std.specs.Prelude.{List, ℕ, ◌≡◌, ◌≤◌, length};
-    ghost use Rattle.smil_model.specs.declared.limits.TheConstants as limits;
+    ghost use Rattle.std.specs.Prelude.{List};
     ghost use Rattle.smil_model.specs.declared.diary.Entry.{Entry as GivenEntry};
-    ghost use Rattle.smil_diary.specs.ElementPlaces.{element_of, kept};
+    ghost use Rattle.smil_diary.specs.ElementPlaces.{IsBook};
 
     ghost Value = { List GivenEntry };
 
     ghost view = { λ b. b.entries.items };
 
-    ghost invariant = { λ b. (length b.entries.items ≤ limits.DIARY_ENTRIES) × ((serial : ℕ) → kept b.index serial ≡ element_of b.entries.items serial) };
+    ghost invariant = { λ b. IsBook b.entries.items b.index };
 }
 
 impl Duplicate for Book {
