@@ -10,9 +10,9 @@ use Rattle.smil_model.specs.declared.diary.LogEntry.{LogEntry}
 use Rattle.smil_model.specs.document.Document.{Document}
 use Rattle.smil_model.specs.diary.Diary.{History}
 use Rattle.smil_model.specs.diary.Lawful.{is_rising_from}
+use Rattle.smil_model.proofs.Orders.{le_both}
 use Rattle.smil_instances.specs.Laws.{IsUpTo}
 use Rattle.smil_stretch.specs.declared.clock.NodeClock.{NodeClock}
-use Rattle.smil_stretch.proofs.Moments.{le_both}
 use Rattle.smil_instances.specs.Entry.{IsAtHand, IsEntryOf}
 use Rattle.smil_instances.specs.Intake.{history_of}
 

@@ -7,7 +7,8 @@ use Rattle.smil_model.specs.document.Document.{Document}
 use Rattle.smil_model.specs.diary.Diary.{History, last_moment}
 use Rattle.smil_stretch.specs.declared.clock.NodeClock.{NodeClock}
 use Rattle.smil_model.specs.Times.{IsMoment}
-use Rattle.smil_stretch.proofs.Moments.{le_from, rising_push}
+use Rattle.smil_model.proofs.Orders.{le_from}
+use Rattle.smil_stretch.proofs.Moments.{rising_push}
 use Rattle.smil_stretch.proofs.Turning.{entry_moment}
 use Rattle.smil_instances.specs.Entry.{IsEntryOf}
 use Rattle.smil_instances.specs.Contribution.{AreClocksAt}

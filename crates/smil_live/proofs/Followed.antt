@@ -17,10 +17,11 @@ use Rattle.smil_model.specs.diary.Lawful.{IsLawful}
 use Rattle.smil_model.specs.diary.Plays.{Finished, Mark, Plays, finish_with, play_after}
 use Rattle.smil_model.specs.shown.Histories.{Told as ToldInterval, all_plays, told_finished}
 use Rattle.smil_model.specs.shown.Views.{document_value}
+use Rattle.smil_model.proofs.Orders.{le_self, le_from}
 use Rattle.smil_laws.specs.Near.{AllNear, HasNear}
 use Rattle.smil_stretch.specs.Clocks.{AreClocksOf}
 use Rattle.smil_stretch.specs.declared.clock.NodeClock.{NodeClock}
-use Rattle.smil_stretch.proofs.Moments.{EachUntil, le_from, le_self, rising_push}
+use Rattle.smil_stretch.proofs.Moments.{EachUntil, rising_push}
 use Rattle.smil_past.proofs.Clocked.{each_until, fold_with}
 use Rattle.smil_past.specs.Followed.{shown_begun_after}
 use Rattle.smil_past.proofs.Shown.{AreUntil, IsMarked, IsUntil, mark_with, until_after, after_same}

@@ -11,10 +11,10 @@ use Rattle.smil_model.specs.document.Document.{Document}
 use Rattle.smil_model.specs.document.Valid.{IsNumberedTree}
 use Rattle.smil_model.specs.diary.Logs.{moments_rise}
 use Rattle.smil_model.specs.happening.Resolution.{Course, Progress, resolved, diary_of}
+use Rattle.smil_model.proofs.Orders.{le_self}
 use Rattle.smil_laws.specs.Agreement.{course_on}
 use Rattle.smil_laws.proofs.Decided.{too_long_is_full}
 use Rattle.smil_laws.proofs.Further.{reaches_further}
-use Rattle.smil_stretch.proofs.Moments.{le_self}
 use Rattle.smil_live.proofs.Ended.{comes_within}
 
 many_entries : (r : Progress) (most : ℕ) → cond (nat_le (length r.diary) most) (Some r.diary) None ≡ None → most < length r.diary

@@ -6,7 +6,7 @@ use Rattle.std.specs.List.Sorted.{IsPartitionPoint, IsPartitionedBy}
 use Rattle.std.proofs.lemmas.Bool.{and_parts}
 use Rattle.smil_model.specs.declared.diary.LogEntry.{LogEntry}
 use Rattle.smil_model.specs.diary.Logs.{moments_rise}
-use Rattle.smil_stretch.proofs.Moments.{le_both}
+use Rattle.smil_model.proofs.Orders.{le_both}
 
 -- ---- what a binary search parts
 

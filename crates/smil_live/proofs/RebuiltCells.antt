@@ -11,8 +11,8 @@ use Rattle.smil_model.specs.declared.times.TheConstants.{HORIZON}
 use Rattle.smil_model.specs.document.Document.{Document}
 use Rattle.smil_model.specs.document.Valid.{IsValid}
 use Rattle.smil_model.specs.shown.Orders.{IsState, Presentation}
+use Rattle.smil_model.proofs.Orders.{le_from}
 use Rattle.smil_laws.specs.Cut.{logged}
-use Rattle.smil_stretch.proofs.Moments.{le_from}
 use Rattle.smil_cells.specs.Standing.{IsRebuilt, MayRebuild, Standing}
 use Rattle.smil_live.specs.Moves.{IsReplayed, IsUnderWay, edited_to, replay_of}
 use Rattle.smil_live.proofs.RebuiltParts.{IsPart}

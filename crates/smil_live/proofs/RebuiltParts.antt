@@ -18,13 +18,13 @@ use Rattle.smil_model.specs.diary.Diary.{is_step, last_moment}
 use Rattle.smil_model.specs.diary.Logs.{is_log, is_logged_by, may_happen, moments_rise}
 use Rattle.smil_model.specs.happening.Resolution.{Course, Progress, outset, Reaches, diary_of}
 use Rattle.smil_model.specs.reach.Bounds.{is_begin_of, through_begin}
+use Rattle.smil_model.proofs.Orders.{le_both}
 use Rattle.smil_laws.specs.Agreement.{course_on}
 use Rattle.smil_laws.specs.Courses.{heard_by}
 use Rattle.smil_laws.specs.Cut.{is_logged, logged}
 use Rattle.smil_laws.proofs.Back.{reaches_back}
 use Rattle.smil_laws.proofs.Cutting.{reaches_at_last}
 use Rattle.smil_laws.proofs.Further.{is_past}
-use Rattle.smil_stretch.proofs.Moments.{le_both}
 use Rattle.smil_cells.proofs.Hearing.{from_first}
 use Rattle.smil_live.proofs.Ended.{comes_to}
 use Rattle.smil_live.proofs.RebuiltLogs.{has_heard, heard_moments, log_moments}

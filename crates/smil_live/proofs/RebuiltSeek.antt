@@ -14,11 +14,11 @@ use Rattle.smil_model.specs.document.Valid.{IsValid}
 use Rattle.smil_model.specs.happening.Resolution.{diary_of}
 use Rattle.smil_model.specs.reach.Bounds.{reaches}
 use Rattle.smil_model.specs.shown.Orders.{IsState, Presentation, course_of}
+use Rattle.smil_model.proofs.Orders.{le_from}
 use Rattle.smil_diary.specs.declared.fault.BookFault.{BookFault}
 use Rattle.smil_diary.specs.Refusals.{of_book}
 use Rattle.smil_diary.specs.declared.fault.BookFault.TheVariants as book_fault
 use Rattle.smil_laws.specs.Cut.{logged}
-use Rattle.smil_stretch.proofs.Moments.{le_from}
 use Rattle.smil_cells.specs.Standing.{GoesOn, IsRebuilt, IsSettled, MayRebuild, Standing, WhereTold, moved_to, reached_since}
 use Rattle.smil_live.specs.Moves.{IsReplayed, IsTooFull, sought_of}
 use Rattle.smil_live.proofs.RebuiltCells.{may_rebuild, not_later}

@@ -12,12 +12,12 @@ use Rattle.smil_model.specs.document.Valid.{IsNumberedTree}
 use Rattle.smil_model.specs.diary.Logs.{may_happen, moments_rise}
 use Rattle.smil_model.specs.happening.Resolution.{diary_of}
 use Rattle.smil_model.specs.shown.Orders.{IsState, Presentation, course_of}
+use Rattle.smil_model.proofs.Orders.{le_self, le_both, le_from}
 use Rattle.smil_diary.specs.declared.fault.BookFault.{BookFault}
 use Rattle.smil_diary.specs.Refusals.{of_book}
 use Rattle.smil_diary.specs.declared.fault.BookFault.TheVariants as book_fault
 use Rattle.smil_laws.specs.Agreement.{course_on}
 use Rattle.smil_laws.proofs.Further.{le_same}
-use Rattle.smil_stretch.proofs.Moments.{le_from, le_self, le_both}
 use Rattle.smil_cells.specs.Standing.{GoesOn, IsSettled, Standing, moved_to, with_logged}
 use Rattle.smil_live.specs.Moves.{IsReplayed, IsTooFull, IsUnderWay, heard_at}
 use Rattle.smil_live.proofs.Full.{full_further, full_by_first}

@@ -8,7 +8,7 @@ use Rattle.smil_model.specs.declared.diary.LogEntry.{LogEntry}
 use Rattle.smil_model.specs.declared.times.TheConstants.{HORIZON}
 use Rattle.smil_model.specs.diary.Logs.{is_logged_by, may_happen, moments_rise}
 use Rattle.smil_model.specs.shown.Orders.{IsState, Presentation, as_of}
-use Rattle.smil_stretch.proofs.Moments.{le_from, is_le}
+use Rattle.smil_model.proofs.Orders.{le_from, is_le}
 use Rattle.smil_cells.proofs.Heeded.{all_first, all_one}
 use Rattle.smil_cells.proofs.Hearing.{from_first}
 use Rattle.smil_live.proofs.Quiet.{logged_later}

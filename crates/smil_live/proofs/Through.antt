@@ -15,7 +15,7 @@ use Rattle.smil_model.specs.diary.Diary.{History}
 use Rattle.smil_model.specs.interval.Current.{current_table, in_table}
 use Rattle.smil_model.specs.shown.Orders.{Presentation, as_of, views_of, view_eq, state_code, shown_eq, view_before, changed, at_moment, changes_through, changes_between, resolved_history}
 use Rattle.smil_model.specs.shown.Views.{views, view_of, blank}
-use Rattle.smil_stretch.proofs.Moments.{le_self}
+use Rattle.smil_model.proofs.Orders.{le_self}
 use Rattle.smil_live.proofs.Quiet.{HasDiary, IsQuiet, views_stay}
 
 -- ---- one advance after another

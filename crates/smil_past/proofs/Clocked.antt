@@ -9,7 +9,8 @@ use Rattle.smil_model.specs.document.Document.{time_parent}
 use Rattle.smil_model.specs.diary.Diary.{History, last_moment, with_entry}
 use Rattle.smil_model.specs.diary.Lawful.{IsLawful}
 use Rattle.smil_model.specs.diary.Clocks.{until, stands_by, elapsed, run, outer_under, outer, to_document, start_of}
-use Rattle.smil_stretch.proofs.Moments.{EachUntil, timed_of, IsTimed, le_self, until_before}
+use Rattle.smil_model.proofs.Orders.{le_self}
+use Rattle.smil_stretch.proofs.Moments.{EachUntil, timed_of, IsTimed, until_before}
 
 module _ (h : History) (y : Entry) (s : ℕ) where
   elapsed_with : (m : ℕ) → int_le (pos m) y.moment ≡ true → elapsed (with_entry h y) s m ≡ elapsed h s m

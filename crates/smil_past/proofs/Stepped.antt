@@ -20,8 +20,9 @@ use Rattle.smil_model.specs.diary.Clocks.{outer, to_document, play_start, play_s
 use Rattle.smil_model.specs.diary.Plays.{Mark, Finished, Plays, finish_with, play_after, is_birth_under, plays, first_of, passed, passed_after}
 use Rattle.smil_model.specs.interval.Current.{logged_length, length_of, length_after, media_length}
 use Rattle.smil_model.specs.shown.Views.{document_value, deferred_begin, present_begin}
+use Rattle.smil_model.proofs.Orders.{le_self}
 use Rattle.smil_laws.proofs.LawfulSteps.{active_push}
-use Rattle.smil_stretch.proofs.Moments.{EachUntil, le_self}
+use Rattle.smil_stretch.proofs.Moments.{EachUntil}
 use Rattle.smil_stretch.proofs.Diaries.{lawful_last}
 use Rattle.smil_past.specs.declared.plays.played.PastInterval.{PastInterval}
 use Rattle.smil_past.specs.Played.{past_interval, played}

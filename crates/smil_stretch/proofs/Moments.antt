@@ -12,23 +12,10 @@ use Rattle.smil_model.specs.declared.times.TheConstants.{HORIZON}
 use Rattle.smil_model.specs.diary.Diary.{History, with_entry, last_moment}
 use Rattle.smil_model.specs.diary.Lawful.{is_rising_from, IsLawful}
 use Rattle.smil_model.specs.diary.Clocks.{until, stands_by, elapsed, run, stands}
+use Rattle.smil_model.proofs.Orders.{le_self, le_both, le_from, is_le}
 use Rattle.smil_stretch.specs.declared.clock.Clock.TheVariants.{Runs}
 use Rattle.smil_stretch.specs.Clocks.{shown, clock_by, clock_of}
 use Rattle.smil_stretch.specs.NodeClocks.{Fits}
-
--- ---- orders
-
-pub le_self : (a : ℤ) → int_le a a ≡ true
-le_self a = grind (arith, ints)
-
-pub le_both : (a b c : ℤ) → int_le a b ≡ true → int_le b c ≡ true → int_le a c ≡ true
-le_both a b c p q = grind (arith, ints)
-
-pub le_from : (a b : ℤ) → int_le a b ≡ true → a ≤ℤ b
-le_from a b q = grind (arith, ints, q)
-
-pub is_le : (a b : ℤ) → a ≤ℤ b → int_le a b ≡ true
-is_le a b q = grind (arith, ints, q)
 
 -- ---- moments that do not fall
 

@@ -20,8 +20,9 @@ use Rattle.smil_laws.proofs.Members.{found_held}
 use Rattle.smil_stretch.specs.declared.clock.NodeClock.{NodeClock}
 use Rattle.smil_stretch.specs.Clocks.{node_clock, clocks_of, AreClocksOf}
 use Rattle.smil_model.specs.Times.{IsMoment}
+use Rattle.smil_model.proofs.Orders.{le_from}
 use Rattle.smil_stretch.specs.NodeClocks.{Fits, AllFit, ArePlacesOf, IsTurned, Turns}
-use Rattle.smil_stretch.proofs.Moments.{IsTimed, timed_of, le_from, clock_fits}
+use Rattle.smil_stretch.proofs.Moments.{IsTimed, timed_of, clock_fits}
 use Rattle.smil_stretch.proofs.Placed.{place, IsFound, found_at}
 use Rattle.smil_stretch.proofs.Turned.{set_flag, is_turned}
 

@@ -7,8 +7,8 @@ use Rattle.smil_model.specs.declared.order.Refusal.{Refusal}
 use Rattle.smil_model.specs.declared.times.TheConstants.{HORIZON}
 use Rattle.smil_model.specs.happening.Resolution.{diary_of}
 use Rattle.smil_model.specs.shown.Orders.{Presentation, course_of}
+use Rattle.smil_model.proofs.Orders.{le_from}
 use Rattle.smil_diary.specs.declared.fault.BookFault.TheVariants.{DiaryFull}
-use Rattle.smil_stretch.proofs.Moments.{le_from}
 use Rattle.smil_cells.specs.Standing.{moved_to}
 use Rattle.smil_live.specs.Moves.{IsTooFull, IsUnderWay, replay_of}
 use Rattle.smil_live.proofs.Counted.{counted_first}
