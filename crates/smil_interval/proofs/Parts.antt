@@ -8,9 +8,10 @@ use Rattle.smil_model.specs.declared.times.Time.TheVariants.{At}
 use Rattle.smil_model.specs.declared.interval.Interval.{Interval}
 use Rattle.smil_model.specs.Times.{time_le}
 use Rattle.smil_model.specs.interval.Intervals.{counts_from, counts_after}
+use Rattle.smil_model.proofs.Orders.{le_both}
 use Rattle.smil_interval.specs.Rising.{IsOrderedBy, IsRising, IsRisingTimes}
 use Rattle.smil_interval.proofs.Ordered.{drop_ordered, drop_is_filter, filter_all, parted, not_before}
-use Rattle.smil_interval.proofs.Orders.{le_trans, from_up, counts_up}
+use Rattle.smil_interval.proofs.Orders.{from_up, counts_up}
 
 -- ---- a part of a slice
 
@@ -23,7 +24,7 @@ part_ordered {A} le k xs up = subst (λ (ys : List A). IsOrderedBy le ys) (sym (
 -- ---- the tests
 
 pub up_to_parted : (v : ℤ) (xs : List ℤ) → IsRising xs → IsPartitionedBy (λ b. int_le b v) xs
-up_to_parted v xs up = parted int_le (λ b. int_le b v) (λ x y q r. le_trans x y v q r) xs up
+up_to_parted v xs up = parted int_le (λ b. int_le b v) (λ x y q r. le_both x y v q r) xs up
 
 pub before_parted : (from : Time) (xs : List ℤ) → IsRising xs → IsPartitionedBy (λ b. not (time_le from (At b))) xs
 before_parted from xs up =

@@ -3,9 +3,9 @@ use Rattle.std.proofs.Common.{◌≡◌, refl, ap, subst, ℕ, suc, zero, ◌<�
 use Rattle.std.specs.Prelude.{cond, int_le}
 use Rattle.smil_model.specs.declared.times.Time.{Time}
 use Rattle.smil_model.specs.Times.{time_le, insert_in_order, rising, insert_time, rising_times}
+use Rattle.smil_model.proofs.Orders.{le_self, le_both, le_total, time_self, time_total, time_both}
 use Rattle.smil_interval.specs.Rising.{IsOrderedBy, IsRising, IsRisingTimes}
 use Rattle.smil_interval.proofs.Ordered.{rest_ordered}
-use Rattle.smil_interval.proofs.Orders.{le_refl, le_trans, le_total, time_refl, time_trans, time_total}
 
 -- ---- insertion by any order
 
@@ -66,7 +66,7 @@ number_inserted x (y ∷ ys) = ap (λ zs. cond (int_le x y) (x ∷ y ∷ ys) (y 
 pub rising_rises : (xs : List ℤ) → IsRising (rising xs)
 rising_rises [] = λ i j d q inside. absurd (omega (arith, inside))
 rising_rises (x ∷ xs) =
-    let order : IsOrder int_le = record { same = le_refl; total = le_total; trans = le_trans } in
+    let order : IsOrder int_le = record { same = le_self; total = le_total; trans = le_both } in
     subst (λ (zs : List ℤ). IsRising zs) (number_inserted x (rising xs)) (ordered_inserted int_le order x (rising xs) (rising_rises xs))
 
 time_inserted : (t : Time) (us : List Time) → inserted time_le t us ≡ insert_time t us
@@ -76,5 +76,5 @@ time_inserted t (u ∷ us) = ap (λ zs. cond (time_le t u) (t ∷ u ∷ us) (u �
 pub rising_times_rise : (ts : List Time) → IsRisingTimes (rising_times ts)
 rising_times_rise [] = λ i j d q inside. absurd (omega (arith, inside))
 rising_times_rise (t ∷ ts) =
-    let order : IsOrder time_le = record { same = time_refl; total = time_total; trans = time_trans } in
+    let order : IsOrder time_le = record { same = time_self; total = time_total; trans = time_both } in
     subst (λ (zs : List Time). IsRisingTimes zs) (time_inserted t (rising_times ts)) (ordered_inserted time_le order t (rising_times ts) (rising_times_rise ts))

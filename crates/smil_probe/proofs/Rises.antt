@@ -5,8 +5,8 @@ use Rattle.std.specs.List.{IsAllAdjacentAnswer}
 use Rattle.std.proofs.lemmas.Bool.{MatchBool-at_true}
 use Rattle.smil_model.specs.declared.times.Time.{Time}
 use Rattle.smil_model.specs.Times.{time_le}
+use Rattle.smil_model.proofs.Orders.{le_self, le_both, time_self, time_both}
 use Rattle.smil_interval.specs.Rising.{IsOrderedBy, IsRising, IsRisingTimes}
-use Rattle.smil_interval.proofs.Orders.{le_refl, le_trans, time_refl, time_trans}
 
 -- each element is at most the next
 Climbs : {A : Type 0} → (A → A → Bool) → List A → Type 0
@@ -36,8 +36,8 @@ ordered le same trans xs up = λ i j d q inside.
 
 -- numbers rise where each is at most the next
 pub numbers_rise : (xs : List ℤ) (b : Bool) → IsAllAdjacentAnswer (λ x y r. r ≡ int_le x y) xs b → b ≡ true → IsRising xs
-numbers_rise xs b all holds = ordered int_le le_refl le_trans xs (climbs int_le xs b holds all)
+numbers_rise xs b all holds = ordered int_le le_self le_both xs (climbs int_le xs b holds all)
 
 -- times rise where each is at most the next
 pub times_rise : (ts : List Time) (b : Bool) → IsAllAdjacentAnswer (λ s t r. r ≡ time_le s t) ts b → b ≡ true → IsRisingTimes ts
-times_rise ts b all holds = ordered time_le time_refl time_trans ts (climbs time_le ts b holds all)
+times_rise ts b all holds = ordered time_le time_self time_both ts (climbs time_le ts b holds all)
