@@ -1,52 +1,25 @@
--- The first of a list that passes, and the child of an excl that plays.
-use Rattle.std.proofs.Common.{◌≡◌, refl, sym, ◌∙◌, ap, subst, ℕ, zero, suc, ◌+◌, ◌≤◌, List, [], ◌∷◌, Option, Some, None, Bool, true, false, length, take, filter, arith}
-use Rattle.std.specs.Prelude.{cond, ◌==◌, ◌&&◌, find, is_some, not, slice_get}
-use Rattle.std.specs.List.{AllByRecursion}
+-- The child of an excl that plays.
+use Rattle.std.proofs.Common.{◌≡◌, refl, sym, ◌∙◌, ap, ℕ, List, [], ◌∷◌, Option, Some, None, Bool, true, false, filter}
+use Rattle.std.specs.Prelude.{cond, ◌==◌, ◌&&◌, find, is_some}
 use Rattle.std.proofs.lemmas.Bool.{eq-eqb}
 use Rattle.std.proofs.lemmas.Option.{same_Some}
 use Rattle.smil_model.specs.declared.document.Node.{Node}
 use Rattle.smil_model.specs.declared.diary.Entry.{Entry}
 use Rattle.smil_model.specs.document.Document.{has_serial, is_excl_kind, is_time_child, node_at, serial_of, serials, time_children}
-use Rattle.smil_model.specs.diary.Diary.{History, is_active, is_paused}
+use Rattle.smil_model.specs.diary.Diary.{History}
 use Rattle.smil_model.specs.happening.Queue.{is_playing, playing_child}
-use Rattle.smil_element.specs.Parts.{excl_in, is_it, left_excl, rival}
+use Rattle.smil_element.specs.Parts.{excl_in, is_it, left_excl, rival, is_playing_by}
 
-module _ {A : Type 0} (t : A → Bool) where
-  abbrev pub Fails : List A → Type 0
-  Fails xs = AllByRecursion (λ x. t x ≡ false) xs
-
-  pub found_first : (xs : List A) (k : ℕ) (x : A) → Fails (take k xs) → slice_get xs k ≡ Some x → t x ≡ true → find t xs ≡ Some x
-  found_first [] k x each at is = cc
-  found_first (y ∷ ys) zero x each at is = let one : y ≡ x = cc in ap (λ b. cond b (Some y) (find t ys)) (ap t one ∙ is) ∙ ap Some one
-  found_first (y ∷ ys) (suc k) x each at is = ap (λ b. cond b (Some y) (find t ys)) each.0 ∙ found_first ys k x each.1 at is
-
-  pub found_none : (xs : List A) (k : ℕ) → Fails (take k xs) → length xs ≤ k → find t xs ≡ None
-  found_none [] k each most = refl
-  found_none (y ∷ ys) zero each most = absurd (omega (arith, most))
-  found_none (y ∷ ys) (suc k) each most = ap (λ b. cond b (Some y) (find t ys)) each.0 ∙ found_none ys k each.1 (omega (arith, most))
-
-  go : (xs : List A) (k : ℕ) (x : A) → Fails (take k xs) → slice_get xs k ≡ Some x → t x ≡ false → Fails (take (suc k) xs)
-  go [] k x each at is = cc
-  go (y ∷ ys) zero x each at is = let one : y ≡ x = cc in (ap t one ∙ is, tt)
-  go (y ∷ ys) (suc k) x each at is = (each.0, go ys k x each.1 at is)
-
-  pub one_fails : (xs : List A) (k : ℕ) (x : A) → Fails (take k xs) → slice_get xs k ≡ Some x → t x ≡ false → Fails (take (k + 1) xs)
-  one_fails xs k x each at is = let next : suc k ≡ k + 1 = omega arith in subst (λ j. Fails (take j xs)) next (go xs k x each at is)
-
--- whether the child with this serial plays
-abbrev pub plays : List Entry → ℕ → Bool
-plays diary s = is_active diary s && not (is_paused diary s)
-
-playing_serial : (diary : List Entry) (ns : List Node) → find (plays diary) (serials ns) ≡ serial_of (find (is_playing diary) ns)
+playing_serial : (diary : List Entry) (ns : List Node) → find (is_playing_by diary) (serials ns) ≡ serial_of (find (is_playing diary) ns)
 playing_serial diary [] = refl
-playing_serial diary (n ∷ ns) = ap (λ o. cond (plays diary n.serial) (Some n.serial) o) (playing_serial diary ns) ∙ step (plays diary n.serial)
+playing_serial diary (n ∷ ns) = ap (λ o. cond (is_playing_by diary n.serial) (Some n.serial) o) (playing_serial diary ns) ∙ step (is_playing_by diary n.serial)
   where
     step : (t : Bool) → cond t (Some n.serial) (serial_of (find (is_playing diary) ns)) ≡ serial_of (cond t (Some n) (find (is_playing diary) ns))
     step true = refl
     step false = refl
 
 -- the playing child by nodes and diary
-pub playing_is : (h : History) (nodes : List Node) (diary : List Entry) (excl : ℕ) → h.nodes ≡ nodes → h.diary ≡ diary → find (plays diary) (serials (time_children nodes excl)) ≡ serial_of (playing_child h excl)
+pub playing_is : (h : History) (nodes : List Node) (diary : List Entry) (excl : ℕ) → h.nodes ≡ nodes → h.diary ≡ diary → find (is_playing_by diary) (serials (time_children nodes excl)) ≡ serial_of (playing_child h excl)
 playing_is h nodes diary excl same past =
     playing_serial diary (time_children nodes excl)
     ∙ ap (λ (ns : List Node). serial_of (find (is_playing diary) (time_children ns excl))) (sym same)

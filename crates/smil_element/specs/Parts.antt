@@ -1,5 +1,5 @@
 -- What happens to an element, and the parts of a presentation by which its group is told.
-use Rattle.std.specs.Prelude.{◌≡◌, ◌≤ℤ◌, ℕ, ℤ, List, [], ◌∷◌, ◌++◌, reverse, map, filter, Bool, false, ◌&&◌, ◌==◌, Option, Some, None, slice_get, if◌then◌else◌}
+use Rattle.std.specs.Prelude.{◌≡◌, ◌≤ℤ◌, ℕ, ℤ, List, [], ◌∷◌, ◌++◌, reverse, map, filter, Bool, false, not, ◌&&◌, ◌==◌, Option, Some, None, slice_get, if◌then◌else◌}
 use Rattle.std.specs.declared.vec.Vec.{Vec}
 use Rattle.std.specs.declared.alloc.Global.{Global}
 use Rattle.smil_model.specs.declared.diary.Entry.{Entry}
@@ -72,6 +72,10 @@ cuts_below parts who = cut_steps parts.book.now (descendants parts.tree.now.node
 abbrev pub next_of : History → ℤ → ℕ → Step
 next_of h moment first =
     if is_paused h.diary first then Resumed first else Began first (outer h first moment)
+
+-- whether the element with this serial is active and not paused
+abbrev pub is_playing_by : List Entry → ℕ → Bool
+is_playing_by diary serial = is_active diary serial && not (is_paused diary serial)
 
 -- ---- of the time parent of an element
 

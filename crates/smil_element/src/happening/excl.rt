@@ -1,10 +1,10 @@
 //! The excl of an element, and the child that plays in it.
 
-ghost use Rattle.std.specs.Prelude.{◌≡◌, ◌&&◌, not, IsSome};
+ghost use Rattle.std.specs.Prelude.{◌≡◌, IsSome, find};
 ghost use Rattle.smil_model.specs.document.Document.{is_excl_kind, node_at, serial_of, time_parent};
-ghost use Rattle.smil_model.specs.diary.Diary.{History, is_active, is_paused};
+ghost use Rattle.smil_model.specs.diary.Diary.{History};
 ghost use Rattle.smil_model.specs.happening.Queue.{playing_child as playing_child_of};
-ghost use Rattle.smil_element.specs.Parts.{ArePartsOf, excl_in, is_it, left_excl, rival as rival_in};
+ghost use Rattle.smil_element.specs.Parts.{ArePartsOf, excl_in, is_it, is_playing_by, left_excl, rival as rival_in};
 
 use super::parts::Parts;
 use smil_diary::Book;
@@ -71,19 +71,22 @@ fn playing_child(parts: &Parts<'_>, excl: u32) -> Option<u32>
     ensures { (h : History) → ArePartsOf parts.now h
         → result ≡ serial_of (playing_child_of h excl) }
 {
-    let children = parts.tree.time_children(excl);
-    for place in 0..children.len() {
-        let child = children[place];
-        if is_playing(parts.book, child) {
-            return Some(child);
-        }
-    }
-    None
+    first_playing(parts.book, parts.tree.time_children(excl))
+}
+
+// The first of these children that plays.
+fn first_playing(book: &Book, children: &[u32]) -> Option<u32>
+    ensures { result ≡ find (is_playing_by book.now) children.now }
+{
+    children
+        .iter()
+        .copied()
+        .find(|child| is_playing(book, *child))
 }
 
 // Whether an element is active and not paused.
 fn is_playing(book: &Book, who: u32) -> bool
-    ensures { result ≡ (is_active book.now who && not (is_paused book.now who)) }
+    ensures { result ≡ is_playing_by book.now who }
 {
     book.active(who) && !book.paused(who)
 }
