@@ -277,10 +277,11 @@ fn put_back(schedule: &mut Schedule, endings: &mut Endings, noted: Noted)
     ensures rows { schedule.new ≡ row_back schedule.old noted.row }
     ensures ends { endings.new ≡ ending_back schedule.old endings.old noted }
 {
-    if let Some(place) = schedule.place(noted.row.serial) {
-        endings.put(place, noted.ending);
-    }
-    schedule.put_back(noted.row);
+    let Some(place) = schedule.place(noted.row.serial) else {
+        return;
+    };
+    schedule.put(place, noted.row);
+    endings.put(place, noted.ending);
 }
 
 // Whether two intervals, which may be absent, differ.

@@ -7,7 +7,6 @@ ghost use Rattle.smil_laws.specs.Near.{IsIntervalNear};
 ghost use Rattle.smil_cells.specs.declared.plain.known.Row.{Row as AnyRow};
 ghost use Rattle.smil_cells.specs.Rows.{empty_row};
 ghost use Rattle.smil_nodes.specs.Schedule.{ComesFirst, slot_of};
-ghost use Rattle.smil_nodes.specs.Undo.{row_back};
 
 use super::due_tree::DueTree;
 use smil_cells::plain::known::{Known, Row};
@@ -112,17 +111,6 @@ impl Schedule {
         self.known.put(place, row);
         self.due.set(2 * place, key_of(row.comings.moved));
         self.due.set(2 * place + 1, key_of(row.comings.repeat));
-    }
-
-    /// Puts a row in the place of the one that its element has; where it has none nothing changes.
-    /// It takes no memory, and log n steps for n elements.
-    pub fn put_back(&mut self, row: Row)
-        requires { IfSome row.interval IsIntervalNear }
-        ensures { self.new ≡ row_back self.old row }
-    {
-        if let Some(place) = self.place(row.serial) {
-            self.put(place, row);
-        }
     }
 
     /// What comes first by the rows; where they are current, None exactly where nothing comes. It

@@ -1,0 +1,26 @@
+use Rattle.std.proofs.Common.{◌≡◌, ◌∙◌, ap, sym, None, Some}
+use Rattle.std.specs.Prelude.{◌==◌}
+use Rattle.std.specs.List.{position}
+use Rattle.smil_cells.specs.declared.plain.known.Row.{Row}
+use Rattle.smil_nodes.specs.Undo.{ending_put, row_put}
+use Rattle.smil_nodes.proofs.live.put_back.Goals as goal
+
+pub returns-in_default-clause-rows : goal.returns-in_default-clause-rows
+returns-in_default-clause-rows c =
+    let rows = c.args.schedule.now in
+    let none : position (λ (r : Row). r.serial == c.args.noted.row.serial) rows ≡ None = sym c.place.ensures ∙ c.in_default.is in
+    ap (row_put rows c.args.noted.row) (sym none)
+
+pub returns-in_default-clause-ends : goal.returns-in_default-clause-ends
+returns-in_default-clause-ends c =
+    let none : position (λ (r : Row). r.serial == c.args.noted.row.serial) c.args.schedule.now ≡ None = sym c.place.ensures ∙ c.in_default.is in
+    ap (ending_put c.args.endings.now c.args.noted.ending) (sym none)
+
+pub put-requires-clause-place : goal.put-requires-clause-place
+put-requires-clause-place c = sym c.in-Some.ensures
+
+pub returns-clause-rows : goal.returns-clause-rows
+returns-clause-rows c = c.put.ensures ∙ ap (row_put c.args.schedule.now c.args.noted.row) c.in-Some.ensures
+
+pub returns-clause-ends : goal.returns-clause-ends
+returns-clause-ends c = c.put-2.ensures ∙ ap (ending_put c.args.endings.now c.args.noted.ending) c.in-Some.ensures
