@@ -10,11 +10,11 @@ use Rattle.smil_model.specs.declared.document.Kind.{Kind}
 use Rattle.smil_model.specs.declared.document.Node.{Node}
 use Rattle.smil_model.specs.document.Document.{elements, is_class_kind, is_element, node_at, serials}
 use Rattle.smil_model.specs.document.Valid.{IsDistinct, kind_of}
-use Rattle.smil_stretch.proofs.Above.{node_of}
 use Rattle.smil_stretch.proofs.Idle.{node_found}
 use Rattle.smil_stretch.proofs.Tabled.{position_push}
 use Rattle.smil_cells.specs.declared.plain.known.Row.{Row}
 use Rattle.smil_cells.specs.Rows.{AreNear, empty_row, row_without}
+use Rattle.smil_tree.proofs.Families.{node_of_place}
 
 abbrev last_row : ℕ → Kind → List Row
 last_row s kind = cond (is_class_kind kind) [] (row_without s ∷ [])
@@ -28,7 +28,7 @@ pub empty_next : (nodes : List Node) (s : ℕ) (kind : Kind) (k : ℕ) (old new 
 empty_next nodes s kind k old new distinct at is so_far now =
     let found = node_found nodes s k at in
     let n = found.node in
-    let same : kind ≡ n.kind = same_Some kind n.kind (is ∙ ap (λ x. kind_of (node_at nodes x)) (sym found.serial) ∙ ap kind_of (node_of nodes k n distinct found.at)) in
+    let same : kind ≡ n.kind = same_Some kind n.kind (is ∙ ap (λ x. kind_of (node_at nodes x)) (sym found.serial) ∙ ap kind_of (node_of_place nodes k n distinct found.at)) in
     now
     ∙ ap (λ rows. rows ++ last_row s kind) so_far
     ∙ ap (λ x. map empty_row (elements (take k nodes)) ++ last_row x kind) (sym found.serial)

@@ -14,11 +14,12 @@ use Rattle.smil_model.specs.document.Closure.{has}
 use Rattle.smil_model.specs.document.Valid.{IsDistinct, kind_of}
 use Rattle.smil_laws.proofs.Lineages.{swap_eqb}
 use Rattle.smil_laws.proofs.Members.{differ_each}
-use Rattle.smil_stretch.proofs.Above.{each_at, node_of}
+use Rattle.smil_tree.proofs.Families.{node_of_place as node_of}
 use Rattle.smil_past.proofs.Placing.{node_there, none_there}
 use Rattle.smil_cells.specs.Shown.{ArePlaces, is_listed, listed_of}
 use Rattle.std.proofs.lemmas.Bool.{or_left}
 use Rattle.smil_laws.proofs.Closures.{has_filter}
+use Rattle.smil_laws.proofs.Lists.{each_at}
 use Rattle.smil_graph.proofs.Within.{filter_members}
 use Rattle.smil_graph.proofs.Nodes.{there_below}
 

@@ -7,12 +7,13 @@ use Rattle.smil_model.specs.declared.document.Kind.{Kind}
 use Rattle.smil_model.specs.declared.document.Node.{Node}
 use Rattle.smil_model.specs.document.Document.{is_excl_kind, node_at, time_parent}
 use Rattle.smil_model.specs.document.Valid.{IsDistinct, kind_of}
-use Rattle.smil_stretch.proofs.Above.{node_of, parent_before}
+use Rattle.smil_stretch.proofs.Above.{parent_before}
 use Rattle.smil_past.proofs.Listing.{known_place}
 use Rattle.smil_past.proofs.Placing.{node_there}
 use Rattle.smil_element.specs.Parts.{excl_in}
 use Rattle.smil_laws.proofs.Lists.{each_take}
 use Rattle.smil_stretch.proofs.Turned.{each_place}
+use Rattle.smil_tree.proofs.Families.{node_of_place}
 
 pub parent_node : (ns : List Node) (who : ℕ) (p : Node) → IsDistinct ns → is_some (node_at ns who) ≡ true → time_parent ns who ≡ Some p → node_at ns p.serial ≡ Some p
 parent_node ns who p d known under = by (position (λ (n : Node). n.serial == who) ns) refl (known_place ns who known)
@@ -22,7 +23,7 @@ parent_node ns who p d known under = by (position (λ (n : Node). n.serial == wh
     by (Some k) e r =
         let found = node_there ns k who (sym e) in
         parent_before (λ (m : Node). node_at ns m.serial ≡ Some m) ns k found.node p d found.at
-        (each_take (λ (m : Node). node_at ns m.serial ≡ Some m) k ns (each_place (λ (m : Node). node_at ns m.serial ≡ Some m) ns (λ i n q. node_of ns i n d q)))
+        (each_take (λ (m : Node). node_at ns m.serial ≡ Some m) k ns (each_place (λ (m : Node). node_at ns m.serial ≡ Some m) ns (λ i n q. node_of_place ns i n d q)))
         (ap (time_parent ns) found.serial ∙ under)
 
 pub record IsUp (nodes : List Node) (who parent : ℕ) : Type 0 where

@@ -26,9 +26,8 @@ use Rattle.smil_instance_rows.specs.Changes.{HasCell}
 use Rattle.smil_laws.proofs.Aside.{each_reverse}
 use Rattle.smil_laws.proofs.Below.{each_upwards}
 use Rattle.smil_laws.proofs.Lineages.{swap_eqb}
-use Rattle.smil_laws.proofs.Lists.{each_kept}
+use Rattle.smil_laws.proofs.Lists.{each_kept, each_at}
 use Rattle.smil_laws.proofs.Members.{differ_each}
-use Rattle.smil_stretch.proofs.Above.{each_at}
 use Rattle.smil_graph.proofs.Answered.{element_at, only_element}
 use Rattle.smil_instances.specs.Dependents.{DocumentDependents, AreDependentsOf, cells_in, keys_cell, source_in}
 use Rattle.smil_instances.specs.Intake.{Shape, shape_of, shape_in, AreRowsOf, IsCellOf, HasItem, is_concerned_cell, concerned_under, keyed_by, remaining_at, remaining_under}

@@ -20,7 +20,7 @@ use Rattle.smil_laws.specs.Touched.{is_touched, is_touched_from}
 use Rattle.smil_graph.specs.Graph.{IsOrder, readers_of}
 use Rattle.smil_graph.proofs.Answered.{element_at, only_element}
 use Rattle.smil_graph.proofs.Fed.{any_filter, any_there, there_any_item}
-use Rattle.smil_stretch.proofs.Above.{known_element, node_of}
+use Rattle.smil_stretch.proofs.Above.{known_element}
 use Rattle.smil_stretch.proofs.Idle.{node_found}
 use Rattle.smil_past.proofs.Listing.{known_node}
 use Rattle.smil_element.proofs.Cutting.{part_none}
@@ -29,6 +29,7 @@ use Rattle.smil_graph.proofs.Positions.{position_step}
 use Rattle.smil_graph.proofs.Keyed.{right}
 use Rattle.smil_graph.proofs.Rows.{assoc}
 use Rattle.smil_tree.proofs.Placings.{both_ways}
+use Rattle.smil_tree.proofs.Families.{node_of_place}
 
 -- ---- a rank in an order
 
@@ -257,7 +258,7 @@ module _ (nodes : List Node) (distinct : IsDistinct nodes) (x s : ℕ) where
           let parts = and_parts (is_element n) (of_reader n) at.3 in
           let both = and_parts (is_within nodes x n.serial) (reads nodes n.serial s) parts.1 in
           let is : is_some (node_at (elements nodes) n.serial) ≡ true =
-          ap is_some (element_at nodes n.serial distinct ∙ ap only_element (node_of nodes at.0 n distinct at.2)) ∙ ap (λ t. is_some (cond t (Some n) None)) parts.0 in
+          ap is_some (element_at nodes n.serial distinct ∙ ap only_element (node_of_place nodes at.0 n distinct at.2)) ∙ ap (λ t. is_some (cond t (Some n) None)) parts.0 in
           there_any_item of_node nodes at.0 n at.2 (and_from _ _ both.0 (and_from _ _ is (or_right _ _ both.1)))
 
       by_case : (is_within nodes x s ≡ true) ⊎ (list_any of_reader (elements nodes) ≡ true) → list_any of_node nodes ≡ true

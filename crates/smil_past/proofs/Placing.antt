@@ -12,9 +12,9 @@ use Rattle.smil_model.specs.happening.Queue.{is_child_of}
 use Rattle.smil_laws.proofs.Lineages.{swap_eqb}
 use Rattle.smil_laws.proofs.Aside.{map_all}
 use Rattle.smil_laws.proofs.Members.{differ_each}
+use Rattle.smil_laws.proofs.Lists.{each_at}
 use Rattle.smil_excl.specs.Line.{Line}
 use Rattle.smil_stretch.specs.Clocks.{parent_place}
-use Rattle.smil_stretch.proofs.Above.{each_at}
 use Rattle.smil_stretch.proofs.Placed.{place, IsFound, found_at}
 use Rattle.smil_past.specs.Queues.{line_in, lines}
 

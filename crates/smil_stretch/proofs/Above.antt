@@ -12,6 +12,8 @@ use Rattle.smil_laws.proofs.Lineages.{swap_eqb, skip, take_it, upwards-rest, upw
 use Rattle.smil_laws.proofs.Aside.{find_each, each_reverse}
 use Rattle.smil_laws.proofs.Members.{found_held, differ_each}
 use Rattle.smil_laws.proofs.Below.{IsChain, ordered_chains, each_upwards}
+use Rattle.smil_laws.proofs.Lists.{each_at}
+use Rattle.smil_tree.proofs.Families.{node_of_place}
 
 -- whether an element that passes is in a lineage
 abbrev pub any_in : (Node → Bool) → List Node → Bool
@@ -27,24 +29,6 @@ none_in x [] each = refl
 none_in x (n ∷ ns) each = or_from _ _ (and_right (is_element n) (n.serial == x) each.0) (none_in x ns each.1)
 
 -- ---- nodes by their places
-
-pub node_of : (ns : List Node) (i : ℕ) (n : Node) → IsDistinct ns → slice_get ns i ≡ Some n → node_at ns n.serial ≡ Some n
-node_of [] i n d at = cc
-node_of (m ∷ ns) zero n d at =
-    let one : m ≡ n = cc in
-    ap (λ (x : Node). node_at (m ∷ ns) x.serial) (sym one) ∙ ap (λ t. cond t (Some m) (node_at ns m.serial)) (eq-eqb m.serial m.serial refl) ∙ ap Some one
-node_of (m ∷ ns) (suc i) n d at =
-    ap (λ t. cond t (Some m) (node_at ns n.serial)) (swap_eqb n.serial m.serial (other_at ns i (differ_each m.serial ns d.0) at)) ∙ node_of ns i n d.1 at
-  where
-    other_at : (xs : List Node) (k : ℕ) → AllByRecursion (λ (x : Node). x.serial == m.serial ≡ false) xs → slice_get xs k ≡ Some n → n.serial == m.serial ≡ false
-    other_at [] k each here = cc
-    other_at (x ∷ xs) zero each here = let one : x ≡ n = cc in subst (λ (y : Node). y.serial == m.serial ≡ false) one each.0
-    other_at (x ∷ xs) (suc k) each here = other_at xs k each.1 here
-
-pub each_at : (P : Node → Type 0) (ns : List Node) (i : ℕ) (n : Node) → AllByRecursion P ns → slice_get ns i ≡ Some n → P n
-each_at P [] i n each at = cc
-each_at P (m ∷ ns) zero n each at = let one : m ≡ n = cc in subst P one each.0
-each_at P (m ∷ ns) (suc i) n each at = each_at P ns i n each.1 at
 
 -- no other node has the serial
 pub others_before : (ns : List Node) (i : ℕ) (n : Node) → IsDistinct ns → slice_get ns i ≡ Some n → AllByRecursion (λ (m : Node). m.serial == n.serial ≡ false) (take i ns)

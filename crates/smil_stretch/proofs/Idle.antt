@@ -14,10 +14,10 @@ use Rattle.smil_laws.proofs.Unpaused.{not_held}
 use Rattle.smil_stretch.specs.declared.clock.NodeClock.{NodeClock}
 use Rattle.smil_stretch.specs.Clocks.{clock_by, clock_of, node_clock, IsHistoryOf, AreClocksOf}
 use Rattle.smil_stretch.specs.NodeClocks.{Fits, AllFit, idle_clock}
-use Rattle.smil_stretch.proofs.Above.{node_of}
 use Rattle.smil_stretch.proofs.Diaries.{lawful_first}
 use Rattle.smil_stretch.proofs.Left.{map_same}
 use Rattle.smil_stretch.proofs.Placed.{IsFound}
+use Rattle.smil_tree.proofs.Families.{node_of_place}
 
 -- ---- one node more
 
@@ -31,7 +31,7 @@ node_found ns s k q = by_node (slice_get ns k) refl q
 pub node_known : (ns : List Node) (s k : ℕ) → IsDistinct ns → Some s ≡ option_map (λ (n : Node). n.serial) (slice_get ns k) → is_some (node_at ns s) ≡ true
 node_known ns s k d q =
     let found = node_found ns s k q in
-    ap (λ x. is_some (node_at ns x)) (sym found.serial) ∙ ap is_some (node_of ns k found.node d found.at)
+    ap (λ x. is_some (node_at ns x)) (sym found.serial) ∙ ap is_some (node_of_place ns k found.node d found.at)
 
 pub node_inside : (ns : List Node) (s k : ℕ) → Some s ≡ option_map (λ (n : Node). n.serial) (slice_get ns k) → k < length ns
 node_inside ns s k q = let found = node_found ns s k q in slice_get_within ns k found.node found.at

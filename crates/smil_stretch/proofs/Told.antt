@@ -1,43 +1,28 @@
 -- What the calls that read clocks tell.
 use Rattle.std.proofs.Common.{◌≡◌, refl, sym, ◌∙◌, ap, ℕ, zero, suc, ◌+◌, List, [], ◌∷◌, ℤ, Option, Some, None, Bool, true, false, length, get_or, add-one}
-use Rattle.std.specs.Prelude.{cond, nat_lt, pos, negsuc, ◌==◌, ◌&&◌, ◌||◌, ◌≤ℤ◌, drop, reverse, map, find, slice_get, option_map, option_and_then, is_some, IfSome}
+use Rattle.std.specs.Prelude.{cond, nat_lt, pos, negsuc, ◌==◌, ◌&&◌, ◌||◌, ◌≤ℤ◌, drop, map, find, slice_get, option_map, option_and_then, is_some, IfSome}
 use Rattle.std.specs.Option.{option_copied}
 use Rattle.std.specs.Borrow.{Bor}
 use Rattle.std.specs.List.{list_any, position, position_or_len}
-use Rattle.std.proofs.lemmas.Bool.{or_parts, eqb-true, ltb-true, ltb-false}
+use Rattle.std.proofs.lemmas.Bool.{eqb-true, ltb-true, ltb-false}
 use Rattle.std.proofs.lemmas.List.Folds.{find_at}
 use Rattle.std.proofs.lemmas.Option.{slice_get-map, slice_get_past, slice_get_read}
 use Rattle.smil_model.specs.declared.document.Node.{Node}
-use Rattle.smil_model.specs.document.Document.{node_at, lineage, upwards, is_element, elements, time_parent}
+use Rattle.smil_model.specs.document.Document.{node_at, lineage, is_element, elements, time_parent}
 use Rattle.smil_model.specs.diary.Diary.{History, is_paused, last_moment}
 use Rattle.smil_model.specs.diary.Lawful.{has_element}
 use Rattle.smil_model.specs.diary.Clocks.{until, elapsed, run, outer, outer_under, stands, stands_under, outer_stands}
-use Rattle.smil_laws.proofs.Lineages.{skip}
 use Rattle.smil_laws.proofs.Aside.{find_true}
-use Rattle.smil_laws.proofs.Members.{holds, held_reverse, found_held}
+use Rattle.smil_laws.proofs.Members.{found_held}
 use Rattle.smil_stretch.specs.declared.clock.NodeClock.{NodeClock}
 use Rattle.smil_stretch.specs.Clocks.{shown, is_standing, clock_by, clock_of, node_clock, parent_place, AreClocksOf}
 use Rattle.smil_stretch.specs.NodeClocks.{clock_at, at_place, parent_at, shown_by, stands_by, paused_by}
 use Rattle.smil_stretch.proofs.Moments.{run_later}
 use Rattle.smil_stretch.proofs.Above.{known_element}
 use Rattle.smil_stretch.proofs.Placed.{place, IsParentAt, parent_at_place, no_parent_place}
+use Rattle.smil_tree.proofs.Families.{no_chain}
 
 -- ---- what is no node
-
-none_up : (s : ℕ) (rs : List Node) → holds s rs ≡ false → upwards rs s ≡ []
-none_up s [] none = refl
-none_up s (n ∷ before) none = let parts = or_parts (n.serial == s) (holds s before) none in skip n before s parts.0 ∙ none_up s before parts.1
-
-none_held : (s : ℕ) (ns : List Node) → node_at ns s ≡ None → holds s ns ≡ false
-none_held s [] q = refl
-none_held s (n ∷ ns) q = step (n.serial == s) q (none_held s ns)
-  where
-    step : (t : Bool) → cond t (Some n) (node_at ns s) ≡ None → (node_at ns s ≡ None → holds s ns ≡ false) → (t || holds s ns) ≡ false
-    step true r rest = cc
-    step false r rest = rest r
-
-no_lineage : (nodes : List Node) (s : ℕ) → node_at nodes s ≡ None → lineage nodes s ≡ []
-no_lineage nodes s q = none_up s (reverse nodes) (held_reverse s nodes ∙ none_held s nodes q)
 
 module _ (h : History) (s : ℕ) (none : lineage h.nodes s ≡ []) where
   free_elapsed : (m : ℕ) → elapsed h s m ≡ m
@@ -93,14 +78,14 @@ module _ (clocks : List NodeClock) (h : History) (are : AreClocksOf clocks h) wh
   run_told s m le = ap (λ c. shown_by c m) (clock_is s) ∙ by_node (node_at h.nodes s) refl
     where
       by_node : (o : Option Node) → node_at h.nodes s ≡ o → shown_by (option_map (node_clock h) o) m ≡ run h s m
-      by_node None q = sym (free_run h s (no_lineage h.nodes s q) m)
+      by_node None q = sym (free_run h s (no_chain h.nodes s q) m)
       by_node (Some n) q = ap (λ x. shown (clock_of h x) m) (serial_is s n q) ∙ sym (run_later h s m are.lawful le)
 
   pub stands_told : (s : ℕ) → stands_by (clock_at clocks s) ≡ stands h s
   stands_told s = ap stands_by (clock_is s) ∙ by_node (node_at h.nodes s) refl
     where
       by_node : (o : Option Node) → node_at h.nodes s ≡ o → stands_by (option_map (node_clock h) o) ≡ stands h s
-      by_node None q = sym (free_stands h s (no_lineage h.nodes s q))
+      by_node None q = sym (free_stands h s (no_chain h.nodes s q))
       by_node (Some n) q = standing (stands h n.serial) (run h n.serial (last_moment h.diary)) (last_moment h.diary) ∙ ap (stands h) (serial_is s n q)
 
   pub paused_told : (s : ℕ) → has_element h.nodes s ≡ true → paused_by (clock_at clocks s) ≡ is_paused h.diary s
@@ -131,7 +116,7 @@ module _ (clocks : List NodeClock) (h : History) (are : AreClocksOf clocks h) wh
           ∙ some found.found.node p found.found.serial
 
       by_node : (o : Option Node) → node_at h.nodes s ≡ o → f (option_and_then (λ (n : NodeClock). at_place clocks n.parent) (option_map (node_clock h) o)) ≡ g (time_parent h.nodes s)
-      by_node None q = none ∙ ap (λ c. g (find is_element (drop 1 c))) (sym (no_lineage h.nodes s q))
+      by_node None q = none ∙ ap (λ c. g (find is_element (drop 1 c))) (sym (no_chain h.nodes s q))
       by_node (Some n) q =
           by_parent n (sym (find_at (λ (m : Node). m.serial == s) h.nodes) ∙ q) (time_parent h.nodes n.serial) refl
           ∙ ap (λ x. g (time_parent h.nodes x)) (serial_is s n q)

@@ -16,14 +16,16 @@ use Rattle.smil_laws.specs.Edited.{IsOrdered}
 use Rattle.smil_laws.proofs.Lineages.{swap_eqb}
 use Rattle.smil_laws.proofs.Aside.{map_all, each_drop, each_reverse}
 use Rattle.smil_laws.proofs.Below.{each_upwards}
+use Rattle.smil_laws.proofs.Lists.{each_at}
 use Rattle.smil_diary.specs.Places.{is_from}
 use Rattle.smil_stretch.specs.declared.clock.NodeClock.{NodeClock}
 use Rattle.smil_stretch.specs.Clocks.{shown, clock_by, clock_of, node_clock, clocks_of, parent_place}
 use Rattle.smil_stretch.specs.NodeClocks.{at_place, stands_by, IsTurned, Turns}
 use Rattle.smil_stretch.proofs.Moments.{clock_with, clock_same}
-use Rattle.smil_stretch.proofs.Above.{any_in, any_under, none_in, node_of, each_at, others_before, others_after, lineage_before, any_node, known_element, Clear, Known, clear_after}
+use Rattle.smil_stretch.proofs.Above.{any_in, any_under, none_in, others_before, others_after, lineage_before, any_node, known_element, Clear, Known, clear_after}
 use Rattle.smil_stretch.proofs.Placed.{IsParentAt, parent_at_place, no_parent_place}
 use Rattle.smil_stretch.proofs.Told.{standing}
+use Rattle.smil_tree.proofs.Families.{node_of_place}
 
 -- ---- lists by places
 
@@ -86,7 +88,7 @@ module _ (h : History) (y : Entry) (i : ℕ) (n : Node) (paused : Bool) (o : IsO
   IsClear s = Clear h.nodes o n.serial s
 
   known : Known h.nodes o n.serial h.nodes
-  known = each_place (λ (m : Node). node_at h.nodes m.serial ≡ Some m) h.nodes (λ j m q. node_of h.nodes j m o.distinct q)
+  known = each_place (λ (m : Node). node_at h.nodes m.serial ≡ Some m) h.nodes (λ j m q. node_of_place h.nodes j m o.distinct q)
 
   clear_stands : (s : ℕ) → IsClear s → stands after s ≡ stands h s
   clear_stands s clear =
@@ -134,7 +136,7 @@ module _ (h : History) (y : Entry) (i : ℕ) (n : Node) (paused : Bool) (o : IsO
 
   stands_by_parent : (j : ℕ) (m : Node) → slice_get h.nodes j ≡ Some m → stands after m.serial ≡ ((flagged m).paused || stands_by (at_place (clocks_of after) (parent_place h.nodes m.serial)))
   stands_by_parent j m q =
-      any_node h.nodes o (λ (k : Node). is_paused (h.diary ++ y ∷ []) k.serial) m (node_of h.nodes j m o.distinct q)
+      any_node h.nodes o (λ (k : Node). is_paused (h.diary ++ y ∷ []) k.serial) m (node_of_place h.nodes j m o.distinct q)
       ∙ ap (λ t. (flagged m).paused || t) (parent_stands j m q)
 
   -- ---- from the first node behind it that is not below it, all are clear
@@ -152,7 +154,7 @@ module _ (h : History) (y : Entry) (i : ℕ) (n : Node) (paused : Bool) (o : IsO
   outside_clear : (j : ℕ) (m : Node) → i < j → slice_get h.nodes j ≡ Some m → is_from i (parent_place h.nodes m.serial) ≡ false → AllByRecursion (λ (k : Node). IsClear k.serial) (drop j h.nodes)
   outside_clear j m less q outside =
       clear_after h.nodes o n.serial j m tree known behind (omega (arith, less)) q
-      (any_node h.nodes o (λ (k : Node). k.serial == n.serial) m (node_of h.nodes j m o.distinct q)
+      (any_node h.nodes o (λ (k : Node). k.serial == n.serial) m (node_of_place h.nodes j m o.distinct q)
       ∙ or_from _ _ (and_right (is_element m) (m.serial == n.serial) other) (outside_under j m q outside))
     where
       other : m.serial == n.serial ≡ false

@@ -4,7 +4,7 @@ use Rattle.smil_model.specs.declared.document.Node.{Node}
 use Rattle.smil_model.specs.document.Document.{elements, node_at}
 use Rattle.smil_model.specs.document.Valid.{IsDistinct}
 use Rattle.smil_tree.proofs.Making.{fresh_at}
-use Rattle.smil_stretch.proofs.Above.{node_of}
+use Rattle.smil_tree.proofs.Families.{node_of_place}
 use Rattle.smil_stretch.proofs.Idle.{node_found, node_inside, node_known, none_left}
 use Rattle.smil_stretch.proofs.Placed.{IsFound}
 use Rattle.smil_instance_rows.specs.Readings.{place_in}
@@ -16,7 +16,7 @@ use Rattle.smil_instances.proofs.idle.idle_rows.Goals as goal
 use Rattle.smil_instances.proofs.idle.idle_rows.Goals.{then-is_element+in_ok-row+in_ok-push, else-is_element}
 
 known : (ns : List Node) (s k : ℕ) (found : IsFound ns s k) → IsDistinct ns → node_at ns s ≡ Some found.node
-known ns s k found distinct = ap (node_at ns) (sym found.serial) ∙ node_of ns k found.node distinct found.at
+known ns s k found distinct = ap (node_at ns) (sym found.serial) ∙ node_of_place ns k found.node distinct found.at
 
 pub is_element-requires : goal.is_element-requires
 is_element-requires c = node_known c.args.tree.now.nodes c.in-Some.serial _ c.valid.ensures.numbered.distinct c.in-Some.ensures

@@ -1,9 +1,9 @@
 use Rattle.std.proofs.Common.{refl, sym, ◌∙◌, ap, ◌≤◌, length, arith}
 use Rattle.smil_model.specs.document.Document.{node_at}
-use Rattle.smil_stretch.proofs.Above.{node_of}
 use Rattle.smil_stretch.proofs.Idle.{node_found, node_known, node_inside, none_left}
 use Rattle.smil_outline.proofs.Walks.{begins_by}
 use Rattle.smil_live.proofs.LinesTold.{all_gone, gone_on}
+use Rattle.smil_tree.proofs.Families.{node_of_place}
 use Rattle.smil_live.proofs.lines.put_all_gone.Goals as goal
 
 pub put_where_gone-requires : goal.put_where_gone-requires
@@ -20,7 +20,7 @@ loop-serial-preserved c =
     let nodes = c.args.scene.tree.now.nodes in
     let k = c.loop-serial.place in
     let found = node_found nodes c.in-Some.serial k c.in-Some.ensures in
-    let there = ap (node_at nodes) (sym found.serial) ∙ node_of nodes k found.node c.valid.ensures.numbered.distinct found.at in
+    let there = ap (node_at nodes) (sym found.serial) ∙ node_of_place nodes k found.node c.valid.ensures.numbered.distinct found.at in
     record {
       told =
           gone_on c.args.after.now.nodes _ nodes k found.node _ c.loop-serial.out _ found.at c.loop-serial.invariant.told

@@ -2,10 +2,10 @@ use Rattle.std.proofs.Common.{◌≡◌, refl, sym, ◌∙◌, ap, subst, ℕ, �
 use Rattle.std.specs.Prelude.{IsSome, map}
 use Rattle.smil_model.specs.declared.view.View.{View}
 use Rattle.smil_model.specs.document.Document.{Document, elements, node_at}
-use Rattle.smil_stretch.proofs.Above.{node_of}
 use Rattle.smil_stretch.proofs.Idle.{node_found, node_known, node_inside, none_left}
 use Rattle.smil_live.specs.ViewTable.{has_view, view_now}
 use Rattle.smil_live.proofs.AllViews.{none_yet, views_all, views_next}
+use Rattle.smil_tree.proofs.Families.{node_of_place}
 use Rattle.smil_live.proofs.view_table.ViewTable.of.Goals as goal
 
 pub push_node-requires-clause-known : goal.push_node-requires-clause-known
@@ -34,7 +34,7 @@ loop-serial-preserved g c =
     let nodes = c.tree-tree.result.now.nodes in
     let k = c.loop-serial.place in
     let found = node_found nodes c.in-Some.serial k c.in-Some.ensures in
-    let there = ap (node_at nodes) (sym found.serial) ∙ node_of nodes k found.node c.valid.ensures.numbered.distinct found.at in
+    let there = ap (node_at nodes) (sym found.serial) ∙ node_of_place nodes k found.node c.valid.ensures.numbered.distinct found.at in
     let at = sym (ap (λ (d : Document). node_at d.nodes c.in-Some.serial) c.tree-tree.ensures) ∙ there in
     c.in_ok-push_node.ensures found.node at
     ∙ (ap (λ (vs : List View). vs ++ map (view_now c.args.cells.now) (elements (found.node ∷ []))) c.loop-serial.invariant
