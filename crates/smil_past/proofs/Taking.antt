@@ -15,7 +15,7 @@ use Rattle.smil_model.specs.happening.Queue.{is_child_of, put_paused, put_deferr
 use Rattle.smil_excl.specs.declared.held.Held.{Held}
 use Rattle.smil_excl.specs.Line.{Line, ranked}
 use Rattle.smil_model.specs.diary.Diary.{with_entry}
-use Rattle.smil_past.specs.Queues.{HasRoom, MayTakeIn, deferred, emptied, left, lines, paused, queues_after}
+use Rattle.smil_past.specs.Queues.{HasRoom, MayTakeIn, with_deferred, without_children, without_child, lines, with_paused, queues_after}
 use Rattle.smil_past.proofs.Listing.{known_node}
 use Rattle.smil_past.proofs.Placing.{lines_same}
 use Rattle.smil_past.proofs.Waiting.{left_is, has_room}
@@ -67,33 +67,33 @@ module _ (kept : List Line) (nodes : List Node) (step : Step) (h : History) (may
 
   -- ---- what a leave leaves
 
-  pub all_left : (who e : ℕ) → left nodes who (queue_of h) e ≡ without who (queue_of h e)
-  all_left who e = subst (λ (ns : List Node). left ns who (queue_of h) e ≡ without who (queue_of h e)) may.same_nodes (left_is h e who may.lawful)
+  pub all_left : (who e : ℕ) → without_child nodes who (queue_of h) e ≡ without who (queue_of h e)
+  all_left who e = subst (λ (ns : List Node). without_child ns who (queue_of h) e ≡ without who (queue_of h e)) may.same_nodes (left_is h e who may.lawful)
 
-  room_for : (who : ℕ) → has_element h.nodes who ≡ true → (e : ℕ) → is_child_of nodes e who ≡ true → length (left nodes who (queue_of h) e) < length (time_children nodes e)
+  room_for : (who : ℕ) → has_element h.nodes who ≡ true → (e : ℕ) → is_child_of nodes e who ≡ true → length (without_child nodes who (queue_of h) e) < length (time_children nodes e)
   room_for who known e child =
       subst (λ q. length q < length (time_children nodes e)) (sym (all_left who e))
       (subst (λ (ns : List Node). is_child_of ns e who ≡ true → length (without who (queue_of h e)) < length (time_children ns e)) may.same_nodes (has_room h e who may.lawful known) child)
 
-  pub paused_room : (who : ℕ) (now : List Line) → step ≡ Paused who → now ≡ lines nodes (left nodes who (queue_of h)) → HasRoom now nodes who
-  paused_room who now is value = record { queue = left nodes who (queue_of h); value = value; room = room_for who (paused_element who is) }
+  pub paused_room : (who : ℕ) (now : List Line) → step ≡ Paused who → now ≡ lines nodes (without_child nodes who (queue_of h)) → HasRoom now nodes who
+  paused_room who now is value = record { queue = without_child nodes who (queue_of h); value = value; room = room_for who (paused_element who is) }
 
-  pub deferred_room : (who : ℕ) (begin : ℤ) (now : List Line) → step ≡ Deferred who begin → now ≡ lines nodes (left nodes who (queue_of h)) → HasRoom now nodes who
-  deferred_room who begin now is value = record { queue = left nodes who (queue_of h); value = value; room = room_for who (deferred_element who begin is) }
+  pub deferred_room : (who : ℕ) (begin : ℤ) (now : List Line) → step ≡ Deferred who begin → now ≡ lines nodes (without_child nodes who (queue_of h)) → HasRoom now nodes who
+  deferred_room who begin now is value = record { queue = without_child nodes who (queue_of h); value = value; room = room_for who (deferred_element who begin is) }
 
   -- ---- what each step makes
 
   after_as : (other : Step) (queue : ℕ → List ℕ) → step ≡ other → ((e : ℕ) → queue e ≡ queue_after nodes e (queue_of h e) other) → lines nodes queue ≡ lines nodes (queues_after nodes (queue_of h) step)
   after_as other queue is same = lines_same nodes queue (queues_after nodes (queue_of h) step) (λ e. same e ∙ ap (queue_after nodes e (queue_of h e)) (sym is))
 
-  pub after_began : (who : ℕ) (begin : ℤ) → step ≡ Began who begin → lines nodes (left nodes who (emptied who (queue_of h))) ≡ lines nodes (queues_after nodes (queue_of h) step)
-  after_began who begin is = after_as (Began who begin) (left nodes who (emptied who (queue_of h))) is (λ e. by e (who == e) (all_left who e))
+  pub after_began : (who : ℕ) (begin : ℤ) → step ≡ Began who begin → lines nodes (without_child nodes who (without_children who (queue_of h))) ≡ lines nodes (queues_after nodes (queue_of h) step)
+  after_began who begin is = after_as (Began who begin) (without_child nodes who (without_children who (queue_of h))) is (λ e. by e (who == e) (all_left who e))
     where
       none : (t : Bool) → cond t (without who []) [] ≡ []
       none true = refl
       none false = refl
 
-      by : (e : ℕ) (t : Bool) → left nodes who (queue_of h) e ≡ without who (queue_of h e) → cond (is_child_of nodes e who) (without who (cond t [] (queue_of h e))) (cond t [] (queue_of h e)) ≡ cond t [] (without who (queue_of h e))
+      by : (e : ℕ) (t : Bool) → without_child nodes who (queue_of h) e ≡ without who (queue_of h e) → cond (is_child_of nodes e who) (without who (cond t [] (queue_of h e))) (cond t [] (queue_of h e)) ≡ cond t [] (without who (queue_of h e))
       by e true q = none (is_child_of nodes e who)
       by e false q = q
 
@@ -101,16 +101,16 @@ module _ (kept : List Line) (nodes : List Node) (step : Step) (h : History) (may
   either true put gone queue = refl
   either false put gone queue = refl
 
-  pub after_paused : (who : ℕ) → step ≡ Paused who → lines nodes (paused nodes who (left nodes who (queue_of h))) ≡ lines nodes (queues_after nodes (queue_of h) step)
-  after_paused who is = after_as (Paused who) (paused nodes who (left nodes who (queue_of h))) is (λ e. either (is_child_of nodes e who) (put_paused nodes who) (without who (queue_of h e)) (queue_of h e))
+  pub after_paused : (who : ℕ) → step ≡ Paused who → lines nodes (with_paused nodes who (without_child nodes who (queue_of h))) ≡ lines nodes (queues_after nodes (queue_of h) step)
+  after_paused who is = after_as (Paused who) (with_paused nodes who (without_child nodes who (queue_of h))) is (λ e. either (is_child_of nodes e who) (put_paused nodes who) (without who (queue_of h e)) (queue_of h e))
 
-  pub after_deferred : (who : ℕ) (begin : ℤ) → step ≡ Deferred who begin → lines nodes (deferred nodes who (left nodes who (queue_of h))) ≡ lines nodes (queues_after nodes (queue_of h) step)
-  after_deferred who begin is = after_as (Deferred who begin) (deferred nodes who (left nodes who (queue_of h))) is (λ e. either (is_child_of nodes e who) (put_deferred nodes who) (without who (queue_of h e)) (queue_of h e))
+  pub after_deferred : (who : ℕ) (begin : ℤ) → step ≡ Deferred who begin → lines nodes (with_deferred nodes who (without_child nodes who (queue_of h))) ≡ lines nodes (queues_after nodes (queue_of h) step)
+  after_deferred who begin is = after_as (Deferred who begin) (with_deferred nodes who (without_child nodes who (queue_of h))) is (λ e. either (is_child_of nodes e who) (put_deferred nodes who) (without who (queue_of h e)) (queue_of h e))
 
-  pub after_leaving : (who : ℕ) → Leaves who step → lines nodes (left nodes who (queue_of h)) ≡ lines nodes (queues_after nodes (queue_of h) step)
-  after_leaving who (inl is) = after_as (Resumed who) (left nodes who (queue_of h)) is (all_left who)
-  after_leaving who (inr (inl w)) = after_as (Ended who w.0) (left nodes who (queue_of h)) w.1 (all_left who)
-  after_leaving who (inr (inr is)) = after_as (Cut who) (left nodes who (queue_of h)) is (all_left who)
+  pub after_leaving : (who : ℕ) → Leaves who step → lines nodes (without_child nodes who (queue_of h)) ≡ lines nodes (queues_after nodes (queue_of h) step)
+  after_leaving who (inl is) = after_as (Resumed who) (without_child nodes who (queue_of h)) is (all_left who)
+  after_leaving who (inr (inl w)) = after_as (Ended who w.0) (without_child nodes who (queue_of h)) w.1 (all_left who)
+  after_leaving who (inr (inr is)) = after_as (Cut who) (without_child nodes who (queue_of h)) is (all_left who)
 
   pub after_other : Stays step → lines nodes (queue_of h) ≡ lines nodes (queues_after nodes (queue_of h) step)
   after_other (inl w) = after_as (Passed w.0 w.1) (queue_of h) w.2 (λ e. refl)

@@ -53,20 +53,20 @@ abbrev pub AreTurned : List Line → List Line → List Node → ((ℕ → List 
 AreTurned old new nodes change = (queue : ℕ → List ℕ) → old ≡ lines nodes queue → new ≡ lines nodes (change queue)
 
 -- the queue of this element is emptied
-abbrev pub emptied : ℕ → (ℕ → List ℕ) → ℕ → List ℕ
-emptied who queue serial = if who == serial then [] else queue serial
+abbrev pub without_children : ℕ → (ℕ → List ℕ) → ℕ → List ℕ
+without_children who queue serial = if who == serial then [] else queue serial
 
 -- the element leaves the queue of its time parent
-abbrev pub left : List Node → ℕ → (ℕ → List ℕ) → ℕ → List ℕ
-left nodes who queue serial = if is_child_of nodes serial who then without who (queue serial) else queue serial
+abbrev pub without_child : List Node → ℕ → (ℕ → List ℕ) → ℕ → List ℕ
+without_child nodes who queue serial = if is_child_of nodes serial who then without who (queue serial) else queue serial
 
 -- the element is put in the queue of its time parent
-abbrev pub paused : List Node → ℕ → (ℕ → List ℕ) → ℕ → List ℕ
-paused nodes who queue serial = if is_child_of nodes serial who then put_paused nodes who
+abbrev pub with_paused : List Node → ℕ → (ℕ → List ℕ) → ℕ → List ℕ
+with_paused nodes who queue serial = if is_child_of nodes serial who then put_paused nodes who
     (queue serial) else queue serial
 
-abbrev pub deferred : List Node → ℕ → (ℕ → List ℕ) → ℕ → List ℕ
-deferred nodes who queue serial = if is_child_of nodes serial who then put_deferred nodes who
+abbrev pub with_deferred : List Node → ℕ → (ℕ → List ℕ) → ℕ → List ℕ
+with_deferred nodes who queue serial = if is_child_of nodes serial who then put_deferred nodes who
     (queue serial) else queue serial
 
 -- the queues of a document in which there is room for the element

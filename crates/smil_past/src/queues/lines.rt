@@ -5,7 +5,7 @@ ghost use Rattle.smil_model.specs.document.Document.{node_at, time_children};
 ghost use Rattle.smil_stretch.specs.Clocks.{parent_place as place_above};
 ghost use Rattle.smil_model.specs.diary.Diary.{History};
 ghost use Rattle.smil_model.specs.happening.Queue.{queue_of, rank as rank_in};
-ghost use Rattle.smil_past.specs.Queues.{AreTurned, HasRoom, MayTakeIn, classes_in, deferred, emptied, left, lines, paused, queues_after};
+ghost use Rattle.smil_past.specs.Queues.{AreTurned, HasRoom, MayTakeIn, classes_in, with_deferred, without_children, without_child, lines, with_paused, queues_after};
 
 use super::classes::class_at;
 use smil_excl::Queue;
@@ -87,7 +87,7 @@ pub fn take_in(queues: &mut [Queue], classes: &[Class], tree: &Tree, step: Step)
 // Takes all children out of the queue of an element.
 fn empty(queues: &mut [Queue], tree: &Tree, who: u32)
     requires all { length queues.old ≡ length tree.now.nodes }
-    ensures { AreTurned queues.old queues.new tree.now.nodes (emptied who) }
+    ensures { AreTurned queues.old queues.new tree.now.nodes (without_children who) }
 {
     tree.valid();
     if let Some(place) = tree.position(who) {
@@ -99,7 +99,7 @@ fn empty(queues: &mut [Queue], tree: &Tree, who: u32)
 fn leave(queues: &mut [Queue], tree: &Tree, who: u32)
     requires all { length queues.old ≡ length tree.now.nodes }
     requires known { IsSome (node_at tree.now.nodes who) }
-    ensures { AreTurned queues.old queues.new tree.now.nodes (left tree.now.nodes who) }
+    ensures { AreTurned queues.old queues.new tree.now.nodes (without_child tree.now.nodes who) }
 {
     tree.valid();
     if let Some(place) = parent_place(tree, who) {
@@ -112,7 +112,7 @@ fn pause(queues: &mut [Queue], tree: &Tree, who: u32, rank: u32)
     requires known { IsSome (node_at tree.now.nodes who) }
     requires rank { rank ≡ rank_in tree.now.nodes who }
     requires room { HasRoom queues.old tree.now.nodes who }
-    ensures { AreTurned queues.old queues.new tree.now.nodes (paused tree.now.nodes who) }
+    ensures { AreTurned queues.old queues.new tree.now.nodes (with_paused tree.now.nodes who) }
 {
     tree.valid();
     if let Some(place) = parent_place(tree, who) {
@@ -125,7 +125,7 @@ fn defer(queues: &mut [Queue], tree: &Tree, who: u32, rank: u32)
     requires known { IsSome (node_at tree.now.nodes who) }
     requires rank { rank ≡ rank_in tree.now.nodes who }
     requires room { HasRoom queues.old tree.now.nodes who }
-    ensures { AreTurned queues.old queues.new tree.now.nodes (deferred tree.now.nodes who) }
+    ensures { AreTurned queues.old queues.new tree.now.nodes (with_deferred tree.now.nodes who) }
 {
     tree.valid();
     if let Some(place) = parent_place(tree, who) {

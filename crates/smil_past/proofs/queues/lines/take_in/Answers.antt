@@ -1,6 +1,6 @@
 use Rattle.std.proofs.Common.{◌∙◌}
 use Rattle.smil_model.specs.happening.Queue.{queue_of}
-use Rattle.smil_past.specs.Queues.{emptied, left}
+use Rattle.smil_past.specs.Queues.{without_children, without_child}
 use Rattle.smil_past.proofs.Taking.{began_known, paused_known, deferred_known, leaving_known, paused_room, deferred_room, after_began, after_paused, after_deferred, after_leaving, after_other}
 use Rattle.smil_past.proofs.queues.lines.take_in.Goals as goal
 
@@ -36,15 +36,15 @@ leave-requires-in-Resumed-clause-known c = leaving_known _ _ _ c.requires.may.0 
 
 pub returns-in-Began : goal.returns-in-Began
 returns-in-Began c = λ h may.
-    c.leave.ensures (emptied c.in-Began.who (queue_of h)) (c.empty.ensures (queue_of h) may.value) ∙ after_began _ _ _ h may c.in-Began.who c.in-Began.begin c.in-Began.is
+    c.leave.ensures (without_children c.in-Began.who (queue_of h)) (c.empty.ensures (queue_of h) may.value) ∙ after_began _ _ _ h may c.in-Began.who c.in-Began.begin c.in-Began.is
 
 pub returns-in-Paused : goal.returns-in-Paused
 returns-in-Paused c = λ h may.
-    c.pause.ensures (left c.args.tree.now.nodes c.in-Paused.who (queue_of h)) (c.leave-in-Paused.ensures (queue_of h) may.value) ∙ after_paused _ _ _ h may c.in-Paused.who c.in-Paused.is
+    c.pause.ensures (without_child c.args.tree.now.nodes c.in-Paused.who (queue_of h)) (c.leave-in-Paused.ensures (queue_of h) may.value) ∙ after_paused _ _ _ h may c.in-Paused.who c.in-Paused.is
 
 pub returns-in-Deferred : goal.returns-in-Deferred
 returns-in-Deferred c = λ h may.
-    c.defer.ensures (left c.args.tree.now.nodes c.in-Deferred.who (queue_of h)) (c.leave-in-Deferred.ensures (queue_of h) may.value) ∙ after_deferred _ _ _ h may c.in-Deferred.who c.in-Deferred.begin c.in-Deferred.is
+    c.defer.ensures (without_child c.args.tree.now.nodes c.in-Deferred.who (queue_of h)) (c.leave-in-Deferred.ensures (queue_of h) may.value) ∙ after_deferred _ _ _ h may c.in-Deferred.who c.in-Deferred.begin c.in-Deferred.is
 
 pub returns-in-Resumed : goal.returns-in-Resumed
 returns-in-Resumed c = λ h may.
