@@ -12,8 +12,9 @@ mod classes;
 mod lines;
 
 use classes::{class_at, classes_of};
-use lines::{copied, empty_queues, first_at, take_in};
+use lines::{empty_queues, first_at, take_in};
 use smil_excl::Queue;
+use smil_instance_rows::copy_each;
 use smil_model::{Class, Duplicate, Entry};
 use smil_tree::Tree;
 use std::alloc::{AllocError, Global};
@@ -49,7 +50,7 @@ impl Duplicate for Queues {
     fn copy(&self) -> Result<Self, AllocError> {
         let alloc = *self.classes.allocator();
         Ok(Queues {
-            queues: copied(alloc, &self.queues)?,
+            queues: copy_each(alloc, &self.queues)?,
             classes: Vec::from_slice(alloc, &self.classes)?,
         })
     }

@@ -9,7 +9,7 @@ ghost use Rattle.smil_past.specs.Queues.{AreTurned, HasRoom, MayTakeIn, classes_
 
 use super::classes::class_at;
 use smil_excl::Queue;
-use smil_model::{Class, Duplicate, Step};
+use smil_model::{Class, Step};
 use smil_tree::Tree;
 use std::alloc::{AllocError, Global};
 
@@ -30,17 +30,6 @@ fn time_children_of(tree: &Tree, serial: u32) -> usize
     ensures { result ≡ length (time_children tree.now.nodes serial) }
 {
     tree.time_children(serial).len()
-}
-
-/// A copy of these queues.
-pub fn copied(alloc: Global, queues: &[Queue]) -> Result<Vec<Queue>, AllocError>
-    ensures { IfOk result (λ made. made.items ≡ queues.now) }
-{
-    let mut made = Vec::new(alloc);
-    for place in 0..queues.len() {
-        made.push(queues[place].copy()?)?;
-    }
-    Ok(made)
 }
 
 /// The next child of the queue of a node.
