@@ -49,7 +49,7 @@ fn note_key(keys: &mut Vec<Listed<Cell>>, source: Source, cell: Cell) -> Result<
     match source {
         Source::Key { key } => {
             let place = usize::from(key);
-            make_room(keys, place)?;
+            make_room(keys, key)?;
             keys[place].push(cell)
         }
         _ => Ok(()),
@@ -57,13 +57,13 @@ fn note_key(keys: &mut Vec<Listed<Cell>>, source: Source, cell: Cell) -> Result<
 }
 
 // Makes an empty list for each key up to this one that has none.
-fn make_room(keys: &mut Vec<Listed<Cell>>, key: usize) -> Result<(), AllocError>
-    requires { key < 256 }
+fn make_room(keys: &mut Vec<Listed<Cell>>, key: u8) -> Result<(), AllocError>
     ensures room { OnOk result (key < length keys.new.items) }
     ensures same { OnOk result ((k : ℕ) → keyed_in keys.new.items k ≡ keyed_in keys.old.items k) }
 {
     let alloc = *keys.allocator();
-    while keys.len() <= key {
+    let place = usize::from(key);
+    while keys.len() <= place {
         keys.push(Listed::new(alloc))?;
     }
     Ok(())

@@ -1,4 +1,4 @@
-use Rattle.std.proofs.Common.{◌≡◌, sym, ◌∙◌, ap, subst, List}
+use Rattle.std.proofs.Common.{◌≡◌, ◌<◌, sym, ◌∙◌, ap, subst, List, length}
 use Rattle.std.specs.Prelude.{slice_set}
 use Rattle.std.proofs.lemmas.Result.{on_ok_weaker}
 use Rattle.smil_instances.specs.declared.source.Source.{Source}
@@ -14,7 +14,7 @@ returns-in_ok-make_room-in-Key c =
     let keys = c.make_room.new.keys.items in
     let place = c.from-place.result in
     let same : c.args.source ≡ source.Key place = c.in-Key.is ∙ ap source.Key (sym c.from-place.ensures) in
-    let pushed = key_pushed old keys place c.index_mut.result.now c.args.cell c.in_ok-make_room-in-Key.ensures.same c.in_ok-make_room-in-Key.ensures.room c.index_mut.ensures.value in
+    let pushed = key_pushed old keys place c.index_mut.result.now c.args.cell c.in_ok-make_room-in-Key.ensures.same (subst (λ n. n < length keys) (sym c.from-place.ensures) c.in_ok-make_room-in-Key.ensures.room) c.index_mut.ensures.value in
     on_ok_weaker c.push.result
     (λ is.
     subst (λ (s : Source). TakesKeys (goes_to_key s c.args.cell) old (slice_set keys place c.push.new.self)) (sym same)
