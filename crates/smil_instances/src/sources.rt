@@ -111,8 +111,7 @@ pub fn sources_of(
         ≡ map (source_of element.now.tree.now.nodes element.now.who) items.now) }
 {
     let mut sources = Vec::with_capacity(alloc, items.len())?;
-    for place in 0..items.len() {
-        let item = items.get(place).unwrap();
+    for item in items.slice() {
         sources.push(source_of(element, item)?)?;
     }
     Ok(sources)
