@@ -94,8 +94,8 @@ fn is_doubled(tree: &Tree, own: &ListItem<'_>, of: Option<u32>) -> bool
     let Some(begin) = &tree.attrs(own.who).begin else {
         return false;
     };
-    for place in 0..begin.len() {
-        if is_same_event(tree, own, of, begin.get(place).unwrap()) {
+    for other in begin.slice() {
+        if is_same_event(tree, own, of, other) {
             return true;
         }
     }
