@@ -23,12 +23,7 @@ pub fn last_moment(past: &Past) -> i64
     ensures { result ≡ model_last_moment past.now.diary }
 {
     past.possible();
-    let book = past.book();
-    let len = book.len();
-    if len == 0 {
-        return 0;
-    }
-    match book.entry(len - 1) {
+    match past.book().entries().last() {
         Some(entry) => entry.moment,
         None => 0,
     }
