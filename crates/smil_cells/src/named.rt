@@ -34,13 +34,8 @@ fn logged_among(book: &Book, len: usize) -> usize
     requires { len ≤ length book.now }
     ensures { result ≡ logged (take len book.now) }
 {
-    let mut count = 0;
-    for place in 0..len {
-        if is_logged(book.entry(place).unwrap().step) {
-            count += 1;
-        }
-    }
-    count
+    let first = &book.entries()[..len];
+    first.iter().filter(|entry| is_logged(entry.step)).count()
 }
 
 // Whether a step names a log entry.
