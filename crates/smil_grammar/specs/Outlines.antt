@@ -1,5 +1,5 @@
 -- Outlines: node lines, two spaces deeper for each level, give a document, or the first fault.
-use Rattle.std.specs.Prelude.{ℕ, ◌+◌, ◌-◌, ◌/◌, ◌%◌, Bool, true, false, not, ◌&&◌, ◌||◌, List, [], ◌∷◌, ◌++◌, length, take, drop, Option, Some, None, option_map, unwrap_or, is_some, Result, Ok, Err, nat_lt, nat_le, ◌==◌, if◌then◌else◌, bytes_eq, codes, sum_by, flat_map, slice_get}
+use Rattle.std.specs.Prelude.{ℕ, ◌+◌, ◌-◌, ◌/◌, ◌%◌, Bool, true, false, not, ◌&&◌, ◌||◌, List, [], ◌∷◌, ◌++◌, length, take, drop, Option, Some, None, option_map, unwrap_or, is_some, Result, Ok, Err, nat_lt, nat_le, ◌==◌, if◌then◌else◌, bytes_eq, codes, flat_map, slice_get}
 use Rattle.std.specs.List.{prefix_len, list_any, starts_with}
 use Rattle.std.specs.Bool.{nat_eq}
 use Rattle.smil_model.specs.declared.limits.TheConstants.{DEPTH, LINE_BYTES}
@@ -7,8 +7,6 @@ use Rattle.smil_model.specs.document.Limits.{Limits, limits}
 use Rattle.smil_model.specs.declared.document.Kind.{Kind}
 use Rattle.smil_model.specs.declared.document.Node.{Node}
 use Rattle.smil_model.specs.declared.document.Attrs.{Attrs}
-use Rattle.smil_model.specs.declared.document.Item.{Item}
-use Rattle.smil_model.specs.declared.document.Item.TheVariants.{Offset, Indefinite}
 use Rattle.smil_model.specs.declared.order.Refusal.{Refusal}
 use Rattle.smil_model.specs.declared.order.Refusal.TheVariants as refusal
 use Rattle.smil_model.specs.document.Document.{Document, is_class_kind}
@@ -19,7 +17,7 @@ use Rattle.smil_grammar.specs.Nodes.{Shape, is_space, is_no_space, shape_of, sav
 use Rattle.smil_grammar.specs.Items.{count_of}
 use Rattle.smil_model.specs.document.Edits.{no_attrs}
 use Rattle.smil_model.specs.document.Values.{is_seq_parent}
-use Rattle.smil_model.specs.document.Valid.{may_stand}
+use Rattle.smil_model.specs.document.Valid.{may_stand, references, references_among}
 use Rattle.smil_grammar.specs.Spellings.{node_text, saved_node_text, header_text}
 
 -- the nodes so far, the serials and kinds of the last node and those above it, from the root down, and the next serial
@@ -68,16 +66,6 @@ abbrev pub has_id : List Node → Option (List ℕ) → Bool
 has_id nodes None = false
 has_id nodes (Some id) = list_any (λ (n : Node). bytes_eq (unwrap_or n.attrs.id []) id) nodes
 
--- each item but an offset and `indefinite` is a reference
-abbrev pub counted : Item → ℕ
-counted (Offset offset) = 0
-counted Indefinite = 0
-counted _ = 1
-
--- the references of an element
-abbrev pub references : Attrs → ℕ
-references attrs = sum_by counted (unwrap_or attrs.begin []) + sum_by counted (unwrap_or attrs.end [])
-
 -- the last of a list
 abbrev pub last_of : {A : Type 0} → List A → Option A
 last_of items = slice_get items (length items - 1)
@@ -111,7 +99,7 @@ node_within allowed outline spaces above kind serial shape = do
   attrs ← in_line spaces (attrs_in (last_of above) kind shape)
   single ← unless (has_id outline.nodes attrs.id) refusal.DuplicateId
   few ← unless (nat_le allowed.nodes (length outline.nodes)) refusal.TooManyElements
-  light ← unless (nat_lt allowed.references (sum_by (λ (n : Node). references n.attrs) outline.nodes + references attrs)) refusal.TooManyReferences
+  light ← unless (nat_lt allowed.references (references outline.nodes + references_among attrs)) refusal.TooManyReferences
   Ok (record { serial = serial; kind = kind; parent = unwrap_or (option_map (λ (n : ℕ × Kind). n.0) (last_of above)) 0; attrs = attrs })
 
 -- the header of an outline that gives serials: the next serial

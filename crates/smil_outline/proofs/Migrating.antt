@@ -10,9 +10,10 @@ use Rattle.smil_model.specs.declared.document.Attrs.{Attrs}
 use Rattle.smil_model.specs.declared.order.Refusal.{Refusal}
 use Rattle.smil_model.specs.declared.order.Refusal.TheVariants as refusal
 use Rattle.smil_model.specs.document.Limits.{Limits}
+use Rattle.smil_model.specs.document.Valid.{references as all_references, references_among}
 use Rattle.smil_grammar.specs.Results.{◌>>=◌}
 use Rattle.smil_grammar.specs.Nodes.{Shape, is_space, kind_of_shape}
-use Rattle.smil_grammar.specs.Outlines.{Outline, no_lines, unless, in_line, has_id, references, attrs_in, last_of, is_misplaced, is_bad_serial, opens_saved, shape_in, with_node, node_within, shape_within, read_within, line_within, lines_within, ended, outline_within}
+use Rattle.smil_grammar.specs.Outlines.{Outline, no_lines, unless, in_line, has_id, attrs_in, last_of, is_misplaced, is_bad_serial, opens_saved, shape_in, with_node, node_within, shape_within, read_within, line_within, lines_within, ended, outline_within}
 use Rattle.smil_laws.specs.Migration.{AreBelow, is_for_limit, meets_no_limit}
 use Rattle.smil_outline.specs.Steps.{text_of}
 use Rattle.smil_outline.proofs.Reading.{made as node_made}
@@ -35,7 +36,7 @@ check_same false t cause limit fewer m = ap (λ b. unless b cause) (fewer refl)
 abbrev counted : Outline → Limits → Attrs → Node → Result Node Refusal
 counted outline allowed attrs node = do
   few ← unless (leb allowed.nodes (length outline.nodes)) refusal.TooManyElements
-  light ← unless (ltb allowed.references (sum_by (λ (n : Node). references n.attrs) outline.nodes + references attrs)) refusal.TooManyReferences
+  light ← unless (ltb allowed.references (all_references outline.nodes + references_among attrs)) refusal.TooManyReferences
   Ok node
 
 -- the steps of a node, from its attributes and from its id on
@@ -75,7 +76,7 @@ module _ (small large : Limits) (below : AreBelow small large) where
 
   counted_same : (outline : Outline) (attrs : Attrs) (node : Node) → meets_no_limit (counted outline small attrs node) ≡ true → counted outline large attrs node ≡ counted outline small attrs node
   counted_same outline attrs node m =
-      let sum = sum_by (λ (n : Node). references n.attrs) outline.nodes + references attrs in
+      let sum = all_references outline.nodes + references_among attrs in
       then_same (unless (leb small.nodes (length outline.nodes)) refusal.TooManyElements) (unless (leb large.nodes (length outline.nodes)) refusal.TooManyElements)
       (λ _. unless (ltb small.references sum) refusal.TooManyReferences >>= λ _. Ok node) (λ _. unless (ltb large.references sum) refusal.TooManyReferences >>= λ _. Ok node) m
       (λ v. check_same (leb small.nodes (length outline.nodes)) (leb large.nodes (length outline.nodes)) refusal.TooManyElements refl (few (length outline.nodes)) v)

@@ -12,12 +12,12 @@ use Rattle.smil_model.specs.declared.order.Refusal.{Refusal}
 use Rattle.smil_model.specs.declared.order.Refusal.TheVariants as refusal
 use Rattle.smil_model.specs.document.Limits.{limits}
 use Rattle.smil_model.specs.document.Values.{is_seq_parent}
-use Rattle.smil_model.specs.document.Valid.{may_stand}
+use Rattle.smil_model.specs.document.Valid.{may_stand, references_of, references_among}
 use Rattle.smil_grammar.specs.Results.{◌>>=◌}
 use Rattle.smil_grammar.specs.Attributes.{kind_text, names}
 use Rattle.smil_grammar.specs.Spellings.{value_text, attribute_text, node_text, saved_node_text}
 use Rattle.smil_grammar.specs.Nodes.{Shape, is_space, is_no_space, kind_of_shape}
-use Rattle.smil_grammar.specs.Outlines.{Outline, unless, in_line, mixes, has_id, references, attrs_in, last_of, is_bad_serial, opens_saved, shape_in, node_within, shape_within, with_node, with_line}
+use Rattle.smil_grammar.specs.Outlines.{Outline, unless, in_line, mixes, has_id, attrs_in, last_of, is_bad_serial, opens_saved, shape_in, node_within, shape_within, with_node, with_line}
 use Rattle.smil_attrs.proofs.Noded.{IsShape}
 use Rattle.smil_attrs.proofs.Printed.{behind_kind, saved_parts}
 use Rattle.smil_outline.proofs.Parts.{as_node}
@@ -114,13 +114,13 @@ pub record IsRoom (nodes : List Node) (above : List (ℕ × Kind)) (k : Kind) (a
   pub unmixed : mixes nodes (last_of above) k ≡ false
   pub own_id : has_id nodes attrs.id ≡ false
   pub few : length nodes < NODES
-  pub light : sum_by (λ (n : Node). references n.attrs) nodes + references attrs ≤ REFERENCES
+  pub light : sum_by references_of nodes + references_among attrs ≤ REFERENCES
 
 node_is : (outline : Outline) (spaces serial : ℕ) (above : List (ℕ × Kind)) (k : Kind) (attrs : Attrs) (shape : Shape) → IsRoom outline.nodes above k attrs → attrs_in (last_of above) k shape ≡ Ok attrs
     → node_within limits outline spaces above k serial shape ≡ Ok (made serial above k attrs)
 node_is outline spaces serial above k attrs shape room read =
     let few : leb NODES (length outline.nodes) ≡ false = lt-leb _ _ room.few in
-    let light : ltb REFERENCES (sum_by (λ (n : Node). references n.attrs) outline.nodes + references attrs) ≡ false = le-ltb _ _ room.light in
+    let light : ltb REFERENCES (sum_by references_of outline.nodes + references_among attrs) ≡ false = le-ltb _ _ room.light in
     rw (room.fits, room.single_root, room.unmixed, read, room.own_id, few, light) refl
 
 -- the steps of a line

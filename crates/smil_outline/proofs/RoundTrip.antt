@@ -1,6 +1,6 @@
 -- A valid document's canonical outline is read as the same nodes, each with its place as its serial.
 use Rattle.std.proofs.Common.{◌≡◌, ℕ, zero, suc, ◌+◌, ◌<◌, ◌≤◌, Bool, true, false, not, cond, eqb, ltb, ◌&&◌, ◌||◌, List, [], ◌∷◌, ◌++◌, ◌-◌, length, take, map, reverse, Option, Some, None, option_map, Result, Ok, refl, sym, ap, subst, ◌∙◌, arith, length-append, append_assoc, add-one}
-use Rattle.std.specs.Prelude.{decimal, unwrap_or, sum_by, bytes_eq, filter, All, slice_get}
+use Rattle.std.specs.Prelude.{decimal, unwrap_or, bytes_eq, filter, All, slice_get}
 use Rattle.std.specs.List.{list_any, list_all, AllByRecursion}
 use Rattle.std.proofs.lemmas.Bool.{and_parts, or_parts, eqb-true, eq-eqb, ltb-true, lt-ltb, le-ltb, ne_eqb, cond_both}
 use Rattle.std.proofs.lemmas.List.{reverse-append, reverse-reverse, length-reverse, take_all, take-append-le, append-nil}
@@ -12,14 +12,11 @@ use Rattle.smil_model.specs.declared.document.Kind.{Kind}
 use Rattle.smil_model.specs.declared.document.Kind.TheVariants as kind
 use Rattle.smil_model.specs.declared.document.Node.{Node}
 use Rattle.smil_model.specs.declared.document.Attrs.{Attrs}
-use Rattle.smil_model.specs.declared.document.Item.{Item}
-use Rattle.smil_model.specs.declared.document.Item.TheVariants.{Offset, Sync, Event, Repeat, Key, Indefinite}
 use Rattle.smil_model.specs.declared.order.Refusal.{Refusal}
 use Rattle.smil_model.specs.document.Document.{Document, is_class_kind, has_id, node_at as node_with}
 use Rattle.smil_model.specs.document.Words.{is_id}
 use Rattle.smil_model.specs.document.Values.{absent_or, is_seq_parent}
-use Rattle.smil_model.specs.document.Defaults.{items_or}
-use Rattle.smil_model.specs.document.Valid.{open_from, IsDistinct, IsTree, IsValid, depth_of, kind_of, may_stand, same_test, agree_with, is_well_placed, has_fitting_attrs, is_other_with, is_id_taken, is_reference, references_of, references as all_references}
+use Rattle.smil_model.specs.document.Valid.{open_from, IsDistinct, IsTree, IsValid, depth_of, kind_of, may_stand, same_test, agree_with, is_well_placed, has_fitting_attrs, is_other_with, is_id_taken, references_among, references_of, references as all_references}
 use Rattle.smil_grammar.specs.Results.{◌>>=◌}
 use Rattle.smil_grammar.specs.Spellings.{node_text, saved_node_text, header_text}
 use Rattle.smil_grammar.specs.Allowed.{IsAttrs}
@@ -27,7 +24,7 @@ use Rattle.smil_grammar.specs.Attributes.{kind_text}
 use Rattle.smil_grammar.specs.Items.{count_of}
 use Rattle.smil_grammar.specs.Nodes.{Shape, shape_of, saved_shape_of}
 use Rattle.smil_model.specs.declared.limits.TheConstants.{LINE_BYTES}
-use Rattle.smil_grammar.specs.Outlines.{Outline, mixes, differ, has_id as has_id_among, counted, references, last_of, depth_among, lines_from, saved_lines_from, no_lines, with_header, with_line, with_lines, ended, outline_of}
+use Rattle.smil_grammar.specs.Outlines.{Outline, mixes, differ, has_id as has_id_among, last_of, depth_among, lines_from, saved_lines_from, no_lines, with_header, with_line, with_lines, ended, outline_of}
 use Rattle.smil_laws.proofs.Reached.{any_reverse}
 use Rattle.smil_outline.specs.Numbered.{number_of, renumbered}
 use Rattle.smil_outline.specs.Written.{saved_lines}
@@ -95,27 +92,6 @@ placed (m ∷ nodes) serial e = placed_first m nodes serial (has_serial serial m
 number_some : (nodes : List Node) (serial : ℕ) → list_any (has_serial serial) nodes ≡ true → 0 < number_of nodes serial
 number_some nodes serial e = omega (arith, counted_at nodes serial (place_of nodes serial) refl (placed nodes serial e))
 
--- ---- references
-
-referred : (item : Item) (items : List Item) → counted item + length (filter is_reference items) ≡ length (filter is_reference (item ∷ items))
-referred (Offset offset) items = omega arith
-referred (Sync who edge offset) items = omega arith
-referred (Event who name offset) items = omega arith
-referred (Repeat who n offset) items = omega arith
-referred (Key key offset) items = omega arith
-referred Indefinite items = omega arith
-
-in_items : (items : List Item) → sum_by counted items ≡ length (filter is_reference items)
-in_items [] = refl
-in_items (item ∷ items) = omega (arith, sum_by-cons counted item items, in_items items, referred item items)
-
-in_list : (items : Option (List Item)) → sum_by counted (unwrap_or items []) ≡ length (filter is_reference (items_or [] items))
-in_list None = refl
-in_list (Some items) = in_items items
-
-pub same_references : (n : Node) → references n.attrs ≡ references_of n
-same_references n = omega (arith, in_list n.attrs.begin, in_list n.attrs.«end»)
-
 -- ---- the nodes with the serials that the lines give them
 
 abbrev new : (ℕ → ℕ) → Node → Node
@@ -127,10 +103,13 @@ record IsNumbering (number : ℕ → ℕ) (nodes : List Node) : Type 0 where
   some : (serial : ℕ) → list_any (has_serial serial) nodes ≡ true → 0 < number serial
   none : number 0 ≡ 0
 
-light : (number : ℕ → ℕ) (front : List Node) (n : Node) (rest : List Node) → sum_by (λ (m : Node). references m.attrs) (map (new number) front) + references n.attrs ≤ sum_by references_of (front ++ n ∷ rest)
-light number [] n rest = omega (arith, sum_by-cons references_of n rest, same_references n)
+light : (number : ℕ → ℕ) (front : List Node) (n : Node) (rest : List Node) → all_references (map (new number) front) + references_among n.attrs ≤ all_references (front ++ n ∷ rest)
+light number [] n rest =
+    let own : references_of n ≡ references_among n.attrs = refl in
+    omega (arith, sum_by-cons references_of n rest, own)
 light number (m ∷ front) n rest =
-    omega (arith, sum_by-cons (λ (x : Node). references x.attrs) (new number m) (map (new number) front), sum_by-cons references_of m (front ++ n ∷ rest), same_references m, light number front n rest)
+    let same : references_of (new number m) ≡ references_of m = refl in
+    omega (arith, sum_by-cons references_of (new number m) (map (new number) front), sum_by-cons references_of m (front ++ n ∷ rest), same, light number front n rest)
 
 -- ids
 
@@ -390,7 +369,7 @@ room number document valid before n rest above all is under =
     let id : absent_or is_id n.attrs.id ≡ true = (and_parts (absent_or is_id n.attrs.id) _ is.fit).0 in
     let free : is_id_taken (reverse before ++ n ∷ rest) n.serial n.attrs.id ≡ false = subst (λ (xs : List Node). is_id_taken xs n.serial n.attrs.id ≡ false) all is.free in
     let few : all_references nodes ≤ 32000 = valid.references in
-    let sum : all_references nodes ≡ sum_by references_of (reverse before ++ n ∷ rest) = ap (sum_by references_of) all in
+    let sum : all_references nodes ≡ all_references (reverse before ++ n ∷ rest) = ap all_references all in
     record {
       fits = ap (λ (parent : Option Kind). may_stand parent n.kind) under.kind ∙ is.stand;
       single_root = under.single_root;

@@ -1,11 +1,13 @@
 -- The first elements of a list, and one more.
-use Rattle.std.proofs.Common.{◌≡◌, ℕ, zero, suc, ◌+◌, ◌<◌, ◌||◌, eqb, List, [], ◌∷◌, ◌++◌, length, take, map, Some, None, refl, sym, ap, ◌∙◌, arith}
-use Rattle.std.specs.List.{slice_get, sum_by, list_any}
+use Rattle.std.proofs.Common.{◌≡◌, ℕ, zero, suc, ◌+◌, ◌<◌, ◌||◌, eqb, List, [], ◌∷◌, ◌++◌, length, take, map, filter, Some, None, refl, sym, ap, ◌∙◌, arith}
+use Rattle.std.specs.List.{slice_get, count_by, list_any}
 use Rattle.smil_model.specs.declared.document.Node.{Node}
+use Rattle.smil_model.specs.declared.document.Item.{Item}
+use Rattle.smil_model.specs.document.Valid.{is_reference}
 use Rattle.smil_model.specs.document.Document.{Document, with_node, serials}
 use Rattle.smil_laws.proofs.Ranks.{serials_length}
 use Rattle.std.proofs.lemmas.List.{take_more, take_at}
-use Rattle.std.proofs.lemmas.List.Sums.{sum_by_push}
+use Rattle.std.proofs.lemmas.List.Sums.{length-filter}
 use Rattle.std.proofs.lemmas.Option.{slice_get_within, get_or_from_slice_get}
 
 pub taken : {A : Type 0} (xs : List A) (i : ℕ) (x : A) → slice_get xs i ≡ Some x → take (i + 1) xs ≡ take i xs ++ x ∷ []
@@ -16,8 +18,9 @@ none_left [] i e lt = absurd (omega arith)
 none_left (x ∷ xs) zero e lt = absurd cc
 none_left (x ∷ xs) (suc i) e lt = none_left xs i e (omega arith)
 
-pub sum_taken : {A : Type 0} (f : A → ℕ) (xs : List A) (i : ℕ) (x : A) (sum : ℕ) → slice_get xs i ≡ Some x → sum ≡ sum_by f (take i xs) → sum + f x ≡ sum_by f (take (i + 1) xs)
-sum_taken f xs i x sum e h = ap (λ n. n + f x) h ∙ sym (sum_by_push f (take i xs) x) ∙ sym (ap (sum_by f) (taken xs i x e))
+-- items that refer to something
+pub counted : (items : List Item) → count_by is_reference items ≡ length (filter is_reference items)
+counted items = sym (length-filter is_reference items)
 
 pub copied_more : (nodes : List Node) (i : ℕ) (node copy : Node) (doc pushed new : Document) → slice_get nodes i ≡ Some node → copy ≡ node → doc.nodes ≡ take i nodes → pushed ≡ with_node doc copy → new ≡ pushed → new.nodes ≡ take (i + 1) nodes
 copied_more nodes i node copy doc pushed new e same so-far more is =

@@ -18,7 +18,7 @@ use Rattle.smil_model.specs.declared.order.Refusal.TheVariants as refusal
 use Rattle.smil_model.specs.document.Document.{Document, is_class_kind, has_id, node_at as node_with}
 use Rattle.smil_model.specs.document.Document.{upwards as lineage_up}
 use Rattle.smil_model.specs.document.Values.{fit_kind, is_seq_parent}
-use Rattle.smil_model.specs.document.Valid.{open_from, IsDistinct, IsTreeFrom, IsTree, IsValid, depth_of, kind_of, may_stand, same_test, agree_with, is_well_placed, has_fitting_attrs, is_other_with, is_id_taken, references_of}
+use Rattle.smil_model.specs.document.Valid.{open_from, IsDistinct, IsTreeFrom, IsTree, IsValid, depth_of, kind_of, may_stand, same_test, agree_with, is_well_placed, has_fitting_attrs, is_other_with, is_id_taken, references_of, references_among}
 use Rattle.smil_grammar.specs.declared.fault.NodeFault.{NodeFault}
 use Rattle.smil_grammar.specs.Results.{◌>>=◌}
 use Rattle.smil_grammar.specs.Allowed.{IsAttrs}
@@ -31,7 +31,7 @@ use Rattle.smil_time_list.proofs.Printable.{IsCounted, count_small}
 use Rattle.smil_laws.proofs.Lineages.{swap_eqb}
 use Rattle.smil_outline.specs.Branches.{is_known, IsRead}
 use Rattle.smil_outline.proofs.Alike.{other_serial, known_on, known_self}
-use Rattle.smil_grammar.specs.Outlines.{Outline, unless, in_line, mixes, differ, has_id as has_id_among, references, attrs_in, last_of, no_lines, shape_in, is_bad_serial, is_misplaced, opens_saved, header_of, with_header, node_within, shape_within, read_within, with_line, with_lines, ended, outline_of}
+use Rattle.smil_grammar.specs.Outlines.{Outline, unless, in_line, mixes, differ, has_id as has_id_among, attrs_in, last_of, no_lines, shape_in, is_bad_serial, is_misplaced, opens_saved, header_of, with_header, node_within, shape_within, read_within, with_line, with_lines, ended, outline_of}
 use Rattle.smil_grammar.specs.Outlines.{with_node as outline_with}
 use Rattle.smil_attrs.proofs.Noded.{attrs_had_from}
 use Rattle.smil_outline.specs.Open.{upwards}
@@ -39,7 +39,7 @@ use Rattle.smil_outline.proofs.Depths.{level, map_on, upwards_on, length_upwards
 use Rattle.smil_outline.proofs.Walks.{Levels, AreFresh, IsRest, IsWalked, next_depth, walk_on, depth_is}
 use Rattle.smil_outline.proofs.Reading.{IsRoom, made}
 use Rattle.smil_outline.proofs.Ranging.{ranges}
-use Rattle.smil_outline.proofs.RoundTrip.{found, same_references}
+use Rattle.smil_outline.proofs.RoundTrip.{found}
 
 -- ---- a line that is read
 
@@ -122,7 +122,7 @@ node_added outline new spaces serial k shape given_serial near flat h =
     let attrs = given spaces (attrs_in (last_of above) k shape) _ whole.value placed.1 in
     let own = goes (has_id_among outline.nodes attrs.value.id) refusal.DuplicateId _ whole.value attrs.rest in
     let few = goes (leb NODES (length outline.nodes)) refusal.TooManyElements _ whole.value own.1 in
-    let light = goes (ltb REFERENCES (sum_by (λ (n : Node). references n.attrs) outline.nodes + references attrs.value)) refusal.TooManyReferences _ whole.value few.1 in
+    let light = goes (ltb REFERENCES (sum_by references_of outline.nodes + references_among attrs.value)) refusal.TooManyReferences _ whole.value few.1 in
     let last = or_parts (not (may_stand (option_map (λ (n : ℕ × Kind). n.1) (last_of above)) k) || (eqb (length above) 0 && ltb 0 (length outline.nodes))) (mixes outline.nodes (last_of above) k) placed.0 in
     let first = or_parts (not (may_stand (option_map (λ (n : ℕ × Kind). n.1) (last_of above)) k)) (eqb (length above) 0 && ltb 0 (length outline.nodes)) last.0 in
     let fits : may_stand (option_map (λ (n : ℕ × Kind). n.1) (last_of above)) k ≡ true = not-false _ first.0 in
@@ -426,10 +426,6 @@ same_self : (a : Bool) → same_test a a ≡ true
 same_self true = refl
 same_self false = refl
 
-same_sums : (nodes : List Node) → sum_by (λ (n : Node). references n.attrs) nodes ≡ sum_by references_of nodes
-same_sums [] = refl
-same_sums (n ∷ nodes) = omega (arith, sum_by-cons (λ (n : Node). references n.attrs) n nodes, sum_by-cons references_of n nodes, same_references n, same_sums nodes)
-
 -- what a line asks of the node it adds
 record IsFit (nodes : List Node) (above : List (ℕ × Kind)) (x : Node) : Type 0 where
   flat : length above < 32
@@ -437,7 +433,7 @@ record IsFit (nodes : List Node) (above : List (ℕ × Kind)) (x : Node) : Type 
   allowed : IsAttrs (is_seq_parent (option_map (λ (n : ℕ × Kind). n.1) (last_of above))) x.kind x.attrs
   free : has_id_among nodes x.attrs.id ≡ false
   few : length nodes < NODES
-  light : sum_by (λ (n : Node). references n.attrs) nodes + references x.attrs ≤ REFERENCES
+  light : sum_by references_of nodes + references_among x.attrs ≤ REFERENCES
 
 new_settled : (nodes : List Node) (branch above : List (ℕ × Kind)) (x : Node) → IsWalked (reverse nodes) (upwards branch) (x ∷ []) → IsPut nodes branch above x → IsFit nodes above x → IsSettled (nodes ++ x ∷ []) x
 new_settled nodes branch above x walked put fit =
@@ -474,6 +470,7 @@ grows nodes branch next depth x r is put fit =
     let once : AreOnce (nodes ++ x ∷ []) (x.serial ∷ upwards above) = (known_self nodes x, none_open nodes x.serial (upwards above) put.serial kept, once_on nodes x (upwards above) kept) in
     let last : kind_of (node_with (nodes ++ x ∷ []) x.serial) ≡ Some x.kind = ap kind_of (found nodes x [] (none_yet nodes x.serial put.serial)) in
     let nodes_now = nodes ++ x ∷ [] in
+    let own : references_of x ≡ references_among x.attrs = refl in
     record {
       distinct = distinct_on nodes x r.distinct (none_yet nodes x.serial put.serial);
       below = below_on nodes x next r.below is;
@@ -486,7 +483,7 @@ grows nodes branch next depth x r is put fit =
           (all_taken (λ (b : ℕ × Kind). kind_of (node_with nodes b.0) ≡ Some b.1) depth branch r.kinds)) last;
       settled = all_snoc (IsSettled nodes_now) nodes x (all_stay nodes x put.serial nodes r.settled put.alike_behind (λ id e. subst (λ (o : Option (List ℕ)). has_id_among nodes o ≡ false) e fit.free)) (new_settled nodes branch above x walked put fit);
       few = omega (arith, fit.few);
-      light = omega (arith, sum_by-append references_of nodes (x ∷ []), sum_by-cons references_of x [], same_references x, same_sums nodes, fit.light);
+      light = omega (arith, sum_by-append references_of nodes (x ∷ []), sum_by-cons references_of x [], own, fit.light);
     }
 
 step : (old new : Outline) → IsReadable old → IsAdded old new → IsReadable new

@@ -1,15 +1,11 @@
 -- What a builder keeps.
-use Rattle.std.specs.Prelude.{◌≡◌, ℕ, ◌≤◌, Bool, true, false, ◌||◌, ◌==◌, List, [], ◌∷◌, length, take, Option, Some, None, Ok, unwrap_or, option_map, slice_get, sum_by, bytes_eq}
+use Rattle.std.specs.Prelude.{◌≡◌, ℕ, ◌≤◌, Bool, true, false, ◌||◌, ◌==◌, List, [], ◌∷◌, length, take, Option, Some, None, Ok, unwrap_or, option_map, slice_get, bytes_eq}
 use Rattle.std.specs.List.{list_any}
 use Rattle.smil_model.specs.declared.limits.TheConstants.{NODES}
 use Rattle.smil_model.specs.declared.document.Kind.{Kind}
 use Rattle.smil_model.specs.declared.document.Node.{Node}
 use Rattle.smil_model.specs.document.Document.{is_class_kind}
-use Rattle.smil_grammar.specs.Outlines.{Outline, no_lines, differ, last_of, mixes, references, with_lines}
-
--- the references of all nodes
-abbrev pub all_references : List Node → ℕ
-all_references nodes = sum_by (λ (n : Node). references n.attrs) nodes
+use Rattle.smil_grammar.specs.Outlines.{Outline, no_lines, differ, last_of, mixes, with_lines}
 
 -- an id among others
 abbrev pub has : List (List ℕ) → List ℕ → Bool

@@ -7,12 +7,12 @@ use Rattle.smil_model.specs.declared.document.Node.{Node}
 use Rattle.smil_model.specs.declared.document.Attrs.{Attrs}
 use Rattle.smil_model.specs.declared.order.Refusal.{Refusal}
 use Rattle.smil_model.specs.declared.order.Refusal.TheVariants as refusal
+use Rattle.smil_model.specs.document.Valid.{references, references_among}
 use Rattle.smil_grammar.specs.declared.fault.NodeFault.{NodeFault}
 use Rattle.smil_grammar.specs.declared.fault.NodeFault.TheVariants.{Unsupported, UnknownAttribute, BadValue, TooManyItems}
 use Rattle.smil_grammar.specs.Results.{◌>>=◌}
 use Rattle.smil_grammar.specs.Nodes.{Written, Shape, is_space, kind_of_shape}
-use Rattle.smil_grammar.specs.Outlines.{Outline, unless, in_line, is_misplaced, is_bad_serial, has_id, references, attrs_in, last_of, with_node}
-use Rattle.smil_outline.specs.Branches.{all_references}
+use Rattle.smil_grammar.specs.Outlines.{Outline, unless, in_line, is_misplaced, is_bad_serial, has_id, attrs_in, last_of, with_node}
 
 -- a line without its leading spaces
 abbrev pub text_of : List ℕ → List ℕ
@@ -39,7 +39,7 @@ abbrev pub node_with : List Node → ℕ → Option (ℕ × Kind) → Kind → A
 node_with nodes serial parent kind attrs = do
   single ← unless (has_id nodes attrs.id) refusal.DuplicateId
   few ← unless (nat_le NODES (length nodes)) refusal.TooManyElements
-  light ← unless (nat_lt REFERENCES (all_references nodes + references attrs)) refusal.TooManyReferences
+  light ← unless (nat_lt REFERENCES (references nodes + references_among attrs)) refusal.TooManyReferences
   Ok (record { serial = serial; kind = kind; parent = unwrap_or (option_map (λ (n : ℕ × Kind). n.0) parent) 0; attrs = attrs })
 
 -- the outline with the node of a line, where it has one

@@ -4,11 +4,11 @@ ghost use Rattle.std.specs.Prelude.{◌≡◌, ◌≤◌, ◌<◌, ◌+◌, ◌/
 ghost use Rattle.smil_model.specs.declared.limits.TheConstants.{NODES, REFERENCES};
 ghost use Rattle.smil_grammar.specs.Nodes.{kind_of_shape};
 ghost use Rattle.smil_model.specs.document.Limits.{limits};
-ghost use Rattle.smil_model.specs.document.Valid.{IsValid};
-ghost use Rattle.smil_grammar.specs.Outlines.{no_lines, with_line, with_header, header_of, opens_saved, shape_in, shape_within, version_of, is_bad_serial as is_bad_serial_in, is_misplaced as is_misplaced_in, ended, last_of, in_line, attrs_in, mixes as mixes_among, references as references_of};
+ghost use Rattle.smil_model.specs.document.Valid.{IsValid, references as all_references, references_among};
+ghost use Rattle.smil_grammar.specs.Outlines.{no_lines, with_line, with_header, header_of, opens_saved, shape_in, shape_within, version_of, is_bad_serial as is_bad_serial_in, is_misplaced as is_misplaced_in, ended, last_of, in_line, attrs_in, mixes as mixes_among};
 ghost use Rattle.smil_grammar.specs.Gives.{GivesReading};
 ghost use Rattle.smil_outline.specs.Gives.{GivesRefusal, GivesDocument};
-ghost use Rattle.smil_outline.specs.Branches.{all_references, serial_of, is_known, IsPlaced};
+ghost use Rattle.smil_outline.specs.Branches.{serial_of, is_known, IsPlaced};
 ghost use Rattle.smil_outline.specs.Steps.{kind_at, attrs_at, node_with as node_with_attrs, node_kept, text_of, IsInLine};
 
 use super::branch::Branch;
@@ -225,7 +225,7 @@ impl Builder {
     ) -> Result<Node, Refusal>
         ensures reading { result ≡ node_with_attrs self.now.nodes serial parent kind attrs }
         ensures light { IfOk result (λ node. all_references self.now.nodes
-            + references_of node.attrs ≤ REFERENCES) }
+            + references_among node.attrs ≤ REFERENCES) }
         ensures few { IfOk result (λ node. length self.now.nodes < NODES) }
         ensures serial { IfOk result (λ node. node.serial ≡ serial) }
         ensures parent { IfOk result (λ node. node.parent ≡ serial_of parent) }
@@ -258,7 +258,7 @@ impl Builder {
         ensures flat { OnOk result (spaces / 2 < DEPTH) }
         ensures fresh { OnOk result (is_bad_serial_in self.now self.now.next serial ≡ false) }
         ensures light { IfOk result (λ node. all_references self.now.nodes
-            + references_of node.attrs ≤ REFERENCES) }
+            + references_among node.attrs ≤ REFERENCES) }
         ensures few { IfOk result (λ node. length self.now.nodes < NODES) }
         ensures serial { IfOk result (λ node. node.serial ≡ serial) }
         ensures parent { IfOk result (λ node. node.parent

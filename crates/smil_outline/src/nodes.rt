@@ -3,8 +3,8 @@
 ghost use Rattle.std.specs.Prelude.{◌≡◌, ◌≤◌, ◌+◌, [], ◌∷◌, ◌++◌, length, unwrap_or, not, ◌==◌, nat_lt, OnOk, OnErr, option_copied, slice_get};
 ghost use Rattle.std.specs.List.{list_any};
 ghost use Rattle.smil_model.specs.declared.document.Node.{Node};
-ghost use Rattle.smil_grammar.specs.Outlines.{has_id as has_id_among, references as references_of};
-ghost use Rattle.smil_outline.specs.Branches.{all_references};
+ghost use Rattle.smil_model.specs.document.Valid.{references as all_references, references_among};
+ghost use Rattle.smil_grammar.specs.Outlines.{has_id as has_id_among};
 
 use super::ids::Ids;
 use super::references::{in_list, references};
@@ -28,7 +28,8 @@ impl Model for Nodes {
     ghost use Rattle.smil_model.specs.declared.limits.TheConstants.{REFERENCES};
     ghost use Rattle.smil_model.specs.declared.document.Node.{Node};
     ghost use Rattle.smil_model.specs.document.Document.{serials as serials_of};
-    ghost use Rattle.smil_outline.specs.Branches.{all_references, has, is_taken};
+    ghost use Rattle.smil_model.specs.document.Valid.{references as all_references};
+    ghost use Rattle.smil_outline.specs.Branches.{has, is_taken};
 
     ghost Value = { List Node };
 
@@ -79,7 +80,7 @@ impl Nodes {
     /// nor `indefinite`.
     pub fn has_room(&self, attrs: &Attrs) -> bool
         ensures { result ≡ not (nat_lt REFERENCES
-            (all_references self.now + references_of attrs.now)) }
+            (all_references self.now + references_among attrs.now)) }
     {
         let left = REFERENCES - self.references;
         let begin = in_list(&attrs.begin);
@@ -107,7 +108,7 @@ impl Nodes {
     /// Appends a node. After a refusal the nodes are as before.
     #[tactic(auto, using(crate::proofs::Taken::serials_on, crate::proofs::Taken::serials_back))]
     pub fn push(&mut self, node: Node) -> Result<(), AllocError>
-        requires light { all_references self.old + references_of node.attrs ≤ REFERENCES }
+        requires light { all_references self.old + references_among node.attrs ≤ REFERENCES }
         ensures ok { OnOk result (self.new ≡ self.old ++ node ∷ []) }
         ensures err { OnErr result (self.new ≡ self.old) }
     {

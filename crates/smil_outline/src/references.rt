@@ -1,38 +1,32 @@
-//! Items that refer to an element or an event.
+//! Items that refer to an element, an event or a key.
 
-ghost use Rattle.std.specs.Prelude.{◌≡◌, ◌≤◌, sum_by, unwrap_or, []};
+ghost use Rattle.std.specs.Prelude.{◌≡◌, ◌≤◌, count_by};
 ghost use Rattle.smil_model.specs.declared.limits.TheConstants.{REFERENCES};
-ghost use Rattle.smil_grammar.specs.Outlines.{counted as counted_item, references as references_of};
+ghost use Rattle.smil_model.specs.document.Valid.{is_reference, listed_references, references_among};
 
 use smil_model::{Attrs, Item, Items};
 
-// Whether an item refers to something, as a number.
-fn counted(item: &Item) -> usize
-    ensures number { result ≡ counted_item item.now }
-    ensures bound { result ≤ 1 }
+// Whether an item refers to something.
+fn refers(item: &Item) -> bool
+    ensures { result ≡ is_reference item.now }
 {
     match item {
-        Item::Offset { .. } | Item::Indefinite => 0,
-        _ => 1,
+        Item::Sync { .. } | Item::Event { .. } | Item::Repeat { .. } | Item::Key { .. } => true,
+        Item::Offset { .. } | Item::Indefinite => false,
     }
 }
 
 // How many items of a list refer to something.
 fn in_items(items: &Items) -> usize
-    ensures { result ≡ sum_by counted_item items.now }
+    ensures { result ≡ count_by is_reference items.now }
 {
-    let mut sum = 0;
-    for place in 0..items.len() {
-        if let Some(item) = items.get(place) {
-            sum += counted(item);
-        }
-    }
-    sum
+    items.slice().iter().filter(|item| refers(*item)).count()
 }
 
 /// The same of a list that may be absent.
+#[tactic(auto, using(crate::proofs::Taken::counted))]
 pub fn in_list(items: &Option<Items>) -> usize
-    ensures { result ≡ sum_by counted_item (unwrap_or items.now []) }
+    ensures { result ≡ listed_references items.now }
 {
     match items {
         Some(items) => in_items(items),
@@ -40,11 +34,10 @@ pub fn in_list(items: &Option<Items>) -> usize
     }
 }
 
-/// How many items of an element's lists are neither offsets nor `indefinite`, where they aren't
-/// above 32,000.
+/// How many items of an element's lists refer to something, where they aren't above 32,000.
 pub fn references(attrs: &Attrs) -> usize
-    requires { references_of attrs.now ≤ REFERENCES }
-    ensures { result ≡ references_of attrs.now }
+    requires { references_among attrs.now ≤ REFERENCES }
+    ensures { result ≡ references_among attrs.now }
 {
     in_list(&attrs.begin) + in_list(&attrs.end)
 }

@@ -18,7 +18,7 @@ use Rattle.smil_model.specs.declared.limits.TheConstants.{PRESENTATIONS, SERIALS
 use Rattle.smil_model.specs.document.Document.{Document, node_at}
 use Rattle.smil_model.specs.document.Edits.{no_attrs, attr_set, node_inserted}
 use Rattle.smil_model.specs.document.Limits.{Limits}
-use Rattle.smil_model.specs.document.Valid.{is_id_taken, kind_of, references}
+use Rattle.smil_model.specs.document.Valid.{is_id_taken, kind_of, references, references_among}
 use Rattle.smil_model.specs.shown.Orders.{Presentation, and_then, unless as model_unless, id_in, kept_where, unless_too_full, course_of, at_moment_with, with_logged, node_of as node_of_who, found as node_found, on_node, set_checked, attr_set_by, attr_unset_by, may_insert, insert_checked, node_inserted_by, node_removed_from, resolved_with, opened_within, outcome_within}
 use Rattle.smil_model.specs.happening.Resolution.{diary_within}
 use Rattle.smil_model.specs.document.Values.{is_seq_parent}
@@ -30,7 +30,7 @@ use Rattle.smil_grammar.specs.Results.{◌>>=◌}
 use Rattle.smil_grammar.specs.Scripts.{Word, Reading, given, timed, end_timed, finish, or_refused, to, named, is_title, order_line, command, first_of, line_of}
 use Rattle.smil_grammar.specs.Formats.{formats, written_at}
 use Rattle.smil_grammar.specs.Nodes.{Shape, is_space, shape_of, kind_of_shape}
-use Rattle.smil_grammar.specs.Outlines.{Outline, no_lines, unless, is_misplaced, is_bad_serial, has_id, references as attr_references, in_line, attrs_in, last_of, node_within, opens_saved, shape_in, with_header, header_of, shape_within, read_within, line_within, ended, with_node}
+use Rattle.smil_grammar.specs.Outlines.{Outline, no_lines, unless, is_misplaced, is_bad_serial, has_id, in_line, attrs_in, last_of, node_within, opens_saved, shape_in, with_header, header_of, shape_within, read_within, line_within, ended, with_node}
 use Rattle.smil_top.specs.Cut.{Numbered, LoadLines, OrderLines, single, load}
 use Rattle.smil_top.specs.Session.{Session, presentation_of, may_load}
 use Rattle.smil_top.specs.Answers.{Refused, Answer, Given, at_line, read_of, found_presentation, said_within, name_of, outline_from, given_within, loaded_within, silent, answer_within, check_within}
@@ -71,7 +71,7 @@ node_made serial above kind attrs = record { serial = serial; kind = kind; paren
 abbrev counted : Outline → Limits → Attrs → Node → Result Node Refusal
 counted outline allowed attrs node = do
   few ← unless (nat_le allowed.nodes (length outline.nodes)) refusal.TooManyElements
-  light ← unless (nat_lt allowed.references (sum_by (λ (n : Node). attr_references n.attrs) outline.nodes + attr_references attrs)) refusal.TooManyReferences
+  light ← unless (nat_lt allowed.references (references outline.nodes + references_among attrs)) refusal.TooManyReferences
   Ok node
 
 abbrev with_id : Outline → List (ℕ × Kind) → Kind → ℕ → Limits → Attrs → Result Node Refusal
@@ -83,7 +83,7 @@ with_attrs outline spaces above kind serial shape allowed = in_line spaces (attr
 counted_sure : (outline : Outline) (allowed : Limits) (attrs : Attrs) (node : Node) → Fine (counted outline allowed attrs node)
 counted_sure outline allowed attrs node =
     let many : Bool = nat_le allowed.nodes (length outline.nodes) in
-    let heavy : Bool = nat_lt allowed.references (sum_by (λ (n : Node). attr_references n.attrs) outline.nodes + attr_references attrs) in
+    let heavy : Bool = nat_lt allowed.references (references outline.nodes + references_among attrs) in
     behind many refusal.TooManyElements (λ _. unless heavy refusal.TooManyReferences >>= λ _. Ok node) refl
     (λ _. behind heavy refusal.TooManyReferences (λ _. Ok node) refl (λ _. made is_memory node))
 
