@@ -96,9 +96,7 @@ pub fn fits(parent: Option<Kind>, kind: Kind) -> bool
 {
     match parent {
         None => matches!(kind, Kind::Par | Kind::Seq | Kind::Excl),
-        Some(Kind::Par | Kind::Seq | Kind::PriorityClass) => !matches!(kind, Kind::PriorityClass),
-        Some(Kind::Excl) => true,
-        Some(_) => false,
+        Some(parent) => parent.may_hold(kind),
     }
 }
 
