@@ -35,7 +35,7 @@ use Rattle.smil_model.specs.declared.times.Time.TheVariants as time
 use Rattle.smil_grammar.specs.declared.fault.AttrFault.{AttrFault}
 use Rattle.smil_grammar.specs.declared.fault.ListFault.{ListFault}
 use Rattle.smil_grammar.specs.Texts.{◌>>=◌, trim, quote}
-use Rattle.smil_model.specs.document.Words.{is_key}
+use Rattle.smil_model.specs.document.Words.{is_key, is_of_attribute}
 use Rattle.smil_grammar.specs.Words.{is_of_id, is_of_name, id_len}
 use Rattle.smil_grammar.specs.Clock.{clock_text}
 use Rattle.smil_grammar.specs.Numbers.{with_fraction}
@@ -54,7 +54,7 @@ use Rattle.smil_time_list.proofs.Listed.{list_is}
 use Rattle.smil_attrs.proofs.Readings.{IsSmall, value, any_value, listed}
 use Rattle.smil_attrs.proofs.Cases.{dur_reads, time_reads, repeat_reads, count_reads, endsync_reads}
 use Rattle.smil_attrs.proofs.Counts.{IsCount, digit_printed}
-use Rattle.smil_attrs.proofs.Words.{id_passes, is_of_attribute, attribute_name_passes}
+use Rattle.smil_attrs.proofs.Words.{id_passes, attribute_name_passes}
 
 abbrev pub AreKept : List ℕ → Type 0
 AreKept text = Passes is_kept text

@@ -8,7 +8,7 @@ use Rattle.std.proofs.lemmas.List.{take_all}
 use Rattle.smil_grammar.specs.Texts.{trim, is_white}
 use Rattle.smil_model.specs.declared.limits.TheConstants.{ID_BYTES}
 use Rattle.smil_grammar.specs.Words.{is_initial, is_of_id, is_of_name, word_len, short_len, id_len}
-use Rattle.smil_model.specs.document.Words.{is_word, is_attribute_name}
+use Rattle.smil_model.specs.document.Words.{is_word, is_of_attribute, is_attribute_name}
 use Rattle.smil_grammar.specs.Values.{id_of, kept_of, attribute_name_of}
 use Rattle.smil_lexis.proofs.Fronts.{Passes, tested, passes_weaker}
 use Rattle.smil_lexis.proofs.Words.{passes_taken, initial_of_id}
@@ -39,10 +39,6 @@ id_passes text = cond_both (not (eqb (length text) 0) && eqb (id_len false text)
 pub id_whole : (text : List ℕ) → IfSome (id_of text) (λ id. (id_of id ≡ Some id) × (trim id ≡ id))
 id_whole text = cond_both (not (eqb (length text) 0) && eqb (id_len false text) (length text)) (Some text) None (λ o. IfSome o (λ id. (id_of id ≡ Some id) × (trim id ≡ id)))
     (λ e. (rw e refl, untrimmed text (passes_weaker is_of_id is_inked id_inked text (whole_id text (eqb-true _ _ (and_parts _ _ e).1))))) (λ e. tt)
-
--- a byte of the name of an attribute
-abbrev pub is_of_attribute : ℕ → Bool
-is_of_attribute b = is_of_name b || (b == 45)
 
 initial_of_attribute : (b : ℕ) → is_initial b ≡ true → is_of_attribute b ≡ true
 initial_of_attribute b h = grind (arith, nat_tests)

@@ -2,6 +2,7 @@
 
 ghost use Rattle.std.specs.Prelude.{◌≡◌, ◌++◌, ◌*◌, ℕ, replicate, flat_map, codes, decimal, false, IfSome, OnOk, OnErr};
 ghost use Rattle.smil_grammar.specs.Attributes.{names as all_names};
+ghost use Rattle.smil_grammar.specs.Texts.{space};
 ghost use Rattle.smil_grammar.specs.Outlines.{header_of};
 ghost use Rattle.smil_grammar.specs.Spellings.{attr_at, value_text, attribute_text, node_text, saved_node_text, header_text, Begins};
 ghost use Rattle.smil_grammar.specs.Allowed.{IsAttrs};
@@ -43,7 +44,7 @@ const NAMES: [AttrName; 23] = [
 
 #[tactic(auto, using(smil_lexis::proofs::Growing::begins_on))]
 fn put_indent(depth: u32, out: &mut Bytes) -> Result<(), AllocError>
-    ensures ok { OnOk result (out.new ≡ out.old ++ replicate (2 * depth) 32) }
+    ensures ok { OnOk result (out.new ≡ out.old ++ replicate (2 * depth) space) }
     ensures err { OnErr result (Begins out.old out.new) }
 {
     for _level in 0..depth {

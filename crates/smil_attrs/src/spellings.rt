@@ -2,6 +2,7 @@
 
 ghost use Rattle.std.specs.Prelude.{◌≡◌, ◌++◌, ◌<◌, ◌∷◌, [], ℕ, List, Option, codes, option_map, nat_abs, IfSome, All, OnOk, OnErr, Some};
 ghost use Rattle.smil_grammar.specs.Attributes.{name_text};
+ghost use Rattle.smil_grammar.specs.Texts.{space};
 ghost use Rattle.smil_grammar.specs.Clock.{clock_text};
 ghost use Rattle.smil_grammar.specs.Spellings.{dur_text, time_text, decimals, count_text, restart_text, fill_text, restart_default_text, fill_default_text, endsync_text, act_text, list_text, attr_at, attr_text, value_text, attribute_text, CanWrite, Begins};
 ghost use Rattle.smil_attrs.specs.Fits.{FitsClock, FitsDur, FitsTime, FitsAttr};
@@ -145,7 +146,7 @@ fn put_count(count: Count, out: &mut Bytes) -> Result<(), AllocError>
 // The name of an attribute, behind a space and before its value.
 #[tactic(auto, using(smil_lexis::proofs::Growing::begins_on))]
 fn put_name(name: AttrName, out: &mut Bytes) -> Result<(), AllocError>
-    ensures ok { OnOk result (out.new ≡ out.old ++ 32 ∷ (name_text name ++ codes "=\"")) }
+    ensures ok { OnOk result (out.new ≡ out.old ++ space ∷ (name_text name ++ codes "=\"")) }
     ensures err { OnErr result (Begins out.old out.new) }
 {
     out.append(b" ")?;

@@ -16,6 +16,7 @@ use Rattle.smil_grammar.specs.Words.{id_len, name_len, unescaped}
 use Rattle.smil_grammar.specs.Numbers.{number_of}
 pub use Rattle.smil_grammar.specs.Clock.{within, clock_within}
 use Rattle.smil_model.specs.document.Words.{is_key}
+use Rattle.smil_model.specs.declared.limits.TheConstants.{DIGITS}
 
 -- a sign is `+` or `-`
 abbrev pub is_sign : ℕ → Bool
@@ -44,10 +45,10 @@ tail_of (b ∷ bytes) = signed_of (trim_front (b ∷ bytes))
 abbrev pub with_tail : (ℤ → Item) → List ℕ → Option Item
 with_tail item tail = option_map item (tail_of tail)
 
--- a count has 1 to 9 digits, and no zero at its start
+-- a count has a digit, at most so many, and no zero at its start
 abbrev pub is_count : List ℕ → Bool
 is_count [] = false
-is_count (b ∷ bytes) = not (b == zero_digit) && nat_lt (length bytes) 9
+is_count (b ∷ bytes) = not (b == zero_digit) && nat_lt (length bytes) DIGITS
 
 -- the number of a count
 abbrev pub count_of : List ℕ → Option ℕ

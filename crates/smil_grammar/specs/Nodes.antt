@@ -10,6 +10,7 @@ use Rattle.smil_model.specs.declared.document.Attrs.{Attrs}
 use Rattle.smil_model.specs.document.Edits.{with_attr, no_attrs}
 use Rattle.smil_model.specs.document.Values.{is_seq_parent}
 use Rattle.smil_model.specs.document.Valid.{may_stand}
+use Rattle.smil_model.specs.document.Words.{number_sign}
 use Rattle.smil_grammar.specs.declared.fault.AttrFault.{AttrFault}
 use Rattle.smil_grammar.specs.declared.fault.AttrFault.TheVariants as attr
 use Rattle.smil_grammar.specs.declared.fault.NodeFault.{NodeFault}
@@ -93,7 +94,7 @@ shape_behind kind (Some text) =
 abbrev pub saved_shape_of : List ℕ → Option (ℕ × Shape)
 saved_shape_of line =
     let kind : ℕ = prefix_len is_of_kind line in
-    shape_behind (take kind line) (option_and_then (behind 35) (behind space (drop kind line)))
+    shape_behind (take kind line) (option_and_then (behind number_sign) (behind space (drop kind line)))
 
 -- a name that stands twice
 abbrev pub repeats : List Written → Bool

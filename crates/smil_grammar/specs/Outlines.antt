@@ -18,6 +18,7 @@ use Rattle.smil_grammar.specs.Items.{count_of}
 use Rattle.smil_model.specs.document.Edits.{no_attrs}
 use Rattle.smil_model.specs.document.Values.{is_seq_parent}
 use Rattle.smil_model.specs.document.Valid.{may_stand, references, references_among}
+use Rattle.smil_model.specs.document.Words.{line_feed}
 use Rattle.smil_grammar.specs.Spellings.{node_text, saved_node_text, header_text}
 
 -- the nodes so far, the serials and kinds of the last node and those above it, from the root down, and the next serial
@@ -200,8 +201,8 @@ saved_lines_from depths (n ∷ nodes) =
 -- the canonical outline of a document with its serials and its next serial
 abbrev pub saved_text : Document → List ℕ
 saved_text document =
-    flat_map (λ line. line ++ 10 ∷ []) (header_text document.next ∷ saved_lines_from [] document.nodes)
+    flat_map (λ line. line ++ line_feed ∷ []) (header_text document.next ∷ saved_lines_from [] document.nodes)
 
 -- the canonical outline: each line ends with a line feed
 abbrev pub outline_text : List Node → List ℕ
-outline_text nodes = flat_map (λ line. line ++ 10 ∷ []) (lines_from [] nodes)
+outline_text nodes = flat_map (λ line. line ++ line_feed ∷ []) (lines_from [] nodes)

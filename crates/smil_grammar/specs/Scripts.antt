@@ -9,11 +9,11 @@ use Rattle.smil_model.specs.declared.order.Who.TheVariants.{Id, Serial}
 use Rattle.smil_model.specs.declared.order.Refusal.{Refusal}
 use Rattle.smil_model.specs.declared.order.Refusal.TheVariants.{NotACommand, BadValue}
 use Rattle.smil_model.specs.declared.limits.TheConstants.{NAME_BYTES}
-use Rattle.smil_model.specs.document.Words.{is_key}
+use Rattle.smil_model.specs.document.Words.{underscore, number_sign, is_key, is_of_attribute}
 use Rattle.smil_grammar.specs.declared.read.Read.{Read}
 use Rattle.smil_grammar.specs.declared.read.Read.TheVariants.{Blank, Load, Close, To}
 use Rattle.smil_grammar.specs.Texts.{◌>>=◌, is_white, cut_at, behind, quote}
-use Rattle.smil_grammar.specs.Words.{is_of_name, word_len, name_len}
+use Rattle.smil_grammar.specs.Words.{word_len, name_len}
 use Rattle.smil_grammar.specs.Clock.{clock_within}
 use Rattle.smil_grammar.specs.Items.{count_of}
 use Rattle.smil_grammar.specs.Values.{id_of, short_number_of}
@@ -39,14 +39,10 @@ first_of line =
 abbrev pub is_ended : Word → Bool
 is_ended line = list_all is_space line.text
 
--- a later byte of a presentation's name
-abbrev pub is_of_title : ℕ → Bool
-is_of_title b = is_of_name b || (b == 45)
-
 -- a presentation's name: a letter, then letters, digits, `_` and `-`, at most so many bytes, and neither `load` nor `close`
 abbrev pub is_title : List ℕ → Bool
 is_title [] = false
-is_title (b ∷ bytes) = not (b == 95) && (word_len is_of_title (b ∷ bytes) == length (b ∷ bytes)) && nat_lt (length bytes) NAME_BYTES
+is_title (b ∷ bytes) = not (b == underscore) && (word_len is_of_attribute (b ∷ bytes) == length (b ∷ bytes)) && nat_lt (length bytes) NAME_BYTES
     && not (list_any (bytes_eq (b ∷ bytes)) (codes "load" ∷ codes "close" ∷ []))
 
 -- a serial behind `#`, or an id
@@ -56,7 +52,7 @@ who_or text (Some digits) = option_map Serial (count_of digits)
 
 -- the element that a word names
 abbrev pub who_of : List ℕ → Option Who
-who_of text = who_or text (behind 35 text)
+who_of text = who_or text (behind number_sign text)
 
 -- the name of an event that comes from outside: those that the engine raises itself don't
 abbrev pub event_of : List ℕ → Option (List ℕ)
@@ -183,7 +179,7 @@ command cut =
 
 -- a line that has no answer: white space alone, or one whose first byte is `#`
 abbrev pub is_blank : List ℕ → Bool
-is_blank line = list_all is_white line || is_some (behind 35 line)
+is_blank line = list_all is_white line || is_some (behind number_sign line)
 
 -- what a script line says, or why it has no reading
 abbrev pub line_of : List ℕ → Result Read Refusal

@@ -1,7 +1,7 @@
 -- Bytes, and how a text is cut.
 use Rattle.std.specs.Prelude.{ℕ, ◌+◌, ◌-◌, Bool, ◌||◌, List, [], ◌∷◌, length, take, drop, Option, Some, None, option_map, position, ◌==◌, if◌then◌else◌}
 use Rattle.std.specs.List.{prefix_len, suffix_len}
-pub use Rattle.smil_model.specs.document.Words.{quote, minus, point, semicolon, backslash}
+pub use Rattle.smil_model.specs.document.Words.{space, quote, minus, point, semicolon, backslash}
 
 -- a step of a reading goes on with what the step before it read, and stops where that read nothing
 infixl 10 ◌>>=◌
@@ -12,9 +12,6 @@ None >>= f = None
 -- the bytes that the formats give a meaning
 abbrev pub tab : ℕ
 tab = 9
-
-abbrev pub space : ℕ
-space = 32
 
 abbrev pub open_parenthesis : ℕ
 open_parenthesis = 40

@@ -28,6 +28,7 @@ use Rattle.smil_model.specs.declared.document.Act.TheVariants as act
 use Rattle.smil_model.specs.declared.times.Time.{Time}
 use Rattle.smil_model.specs.declared.times.Time.TheVariants as time
 use Rattle.smil_model.specs.declared.document.Item.{Item}
+use Rattle.smil_model.specs.declared.limits.TheConstants.{DIGITS}
 use Rattle.smil_grammar.specs.declared.fault.AttrFault.{AttrFault}
 use Rattle.smil_grammar.specs.declared.fault.AttrFault.TheVariants.{UnsupportedValue, BadValue, TooManyItems, Memory}
 use Rattle.smil_grammar.specs.declared.fault.ListFault.{ListFault}
@@ -68,9 +69,9 @@ above_zero n = if n == 0 then None else Some n
 abbrev pub repeat_dur_of : List ℕ → Option Time
 repeat_dur_of text = either (keyword ((codes "indefinite", time.Indefinite) ∷ []) text) (option_map (λ n. time.At (pos n)) (clock_within text >>= above_zero))
 
--- at most 9 digits
+-- at most so many digits
 abbrev pub short_number_of : List ℕ → Option ℕ
-short_number_of digits = if nat_lt 9 (length digits) then None else number_of digits
+short_number_of digits = if nat_lt DIGITS (length digits) then None else number_of digits
 
 -- a number and its decimals in thousandths: those past the third are dropped
 abbrev pub thousandths : ℕ × ℕ → ℕ

@@ -3,10 +3,11 @@
 ghost use Rattle.std.specs.Prelude.{◌≡◌, ℕ, length, ◌<◌, ◌≤◌, ◌*◌, IfSome, option_map, min};
 ghost use Rattle.smil_grammar.specs.Numbers.{number_of, sixty_of, weight, fraction_of, with_fraction};
 ghost use Rattle.smil_grammar.specs.Values.{short_number_of};
+ghost use Rattle.smil_model.specs.declared.limits.TheConstants.{DIGITS};
 ghost use Rattle.smil_lexis.specs.Capped.{capped};
 
 use super::texts::cut;
-use smil_model::HORIZON;
+use smil_model::{DIGITS, HORIZON};
 
 /// The least number above the horizon, which stands for itself and all greater ones.
 pub const CAP: u64 = HORIZON as u64 + 1;
@@ -32,7 +33,7 @@ pub fn whole(digits: &[u8]) -> Option<u64>
 /// The number that 1 to 9 digits write.
 #[tactic(auto, using(crate::proofs::Digits::short_some, crate::proofs::Digits::short_none))]
 pub fn short(digits: &[u8]) -> Option<u32>
-    requires { length digits.now ≤ 9 }
+    requires { length digits.now ≤ DIGITS }
     ensures number { result ≡ number_of digits.now }
     ensures bound { IfSome result (λ n. n < 1_000_000_000) }
 {
@@ -45,7 +46,7 @@ pub fn short_number(digits: &[u8]) -> Option<u32>
     ensures number { result ≡ short_number_of digits.now }
     ensures bound { IfSome result (λ n. n < 1_000_000_000) }
 {
-    if digits.len() > 9 {
+    if digits.len() > DIGITS {
         return None;
     }
     short(digits)

@@ -2,6 +2,7 @@
 use Rattle.std.specs.Prelude.{ℕ, Bool, true, false, List, [], ◌∷◌, ◌++◌, flat_map}
 use Rattle.smil_model.specs.declared.document.Node.{Node}
 use Rattle.smil_model.specs.document.Document.{Document}
+use Rattle.smil_model.specs.document.Words.{line_feed}
 use Rattle.smil_grammar.specs.Spellings.{node_text, saved_node_text, header_text}
 use Rattle.smil_grammar.specs.Outlines.{lines_from, saved_lines_from}
 
@@ -17,7 +18,7 @@ lines_behind false depths nodes = lines_from depths nodes
 
 -- the lines of all nodes, each with its line feed
 abbrev pub nodes_text : Bool → List Node → List ℕ
-nodes_text saved nodes = flat_map (λ line. line ++ 10 ∷ []) (lines_behind saved [] nodes)
+nodes_text saved nodes = flat_map (λ line. line ++ line_feed ∷ []) (lines_behind saved [] nodes)
 
 -- the lines of what is saved: the header, and a line for each node
 abbrev pub saved_lines : Document → List (List ℕ)

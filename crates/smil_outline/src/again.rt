@@ -6,6 +6,7 @@ ghost use Rattle.std.specs.List.{slice_split};
 ghost use Rattle.smil_model.specs.declared.document.Kind.{Kind};
 ghost use Rattle.smil_model.specs.declared.document.Attrs.{Attrs};
 ghost use Rattle.smil_model.specs.document.Values.{fit_kind, is_seq_parent};
+ghost use Rattle.smil_model.specs.document.Words.{line_feed, space};
 ghost use Rattle.smil_model.specs.document.Document.{Document};
 ghost use Rattle.smil_model.specs.document.Valid.{IsValid};
 ghost use Rattle.smil_grammar.specs.Allowed.{IsAttrs};
@@ -27,10 +28,10 @@ pub fn attrs_fit()
 /// rest. No line has a control character, so no carriage return either.
 pub fn outline_lines()
     ensures cut { (document : Document) → IsValid document
-        → slice_split (λ b. b == 10) (outline_text document.nodes) ≡ lines_from [] document.nodes
+        → slice_split (λ b. b == line_feed) (outline_text document.nodes) ≡ lines_from [] document.nodes
         ++ [] ∷ [] }
     ensures shown { (document : Document) → IsValid document
-        → All (All (λ (b : ℕ). 32 ≤ b)) (lines_from [] document.nodes) }
+        → All (All (λ (b : ℕ). space ≤ b)) (lines_from [] document.nodes) }
 {}
 
 /// The canonical outline of a valid document none of whose lines has more than 16,384 bytes is read

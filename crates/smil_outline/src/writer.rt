@@ -5,6 +5,7 @@ ghost use Rattle.smil_model.specs.declared.limits.TheConstants.{DEPTH};
 ghost use Rattle.smil_grammar.specs.Allowed.{IsAttrs};
 ghost use Rattle.smil_grammar.specs.Spellings.{Begins};
 ghost use Rattle.smil_grammar.specs.Outlines.{outline_text, saved_text};
+ghost use Rattle.smil_model.specs.document.Words.{line_feed};
 ghost use Rattle.smil_model.specs.document.Valid.{IsValid, open_from};
 ghost use Rattle.smil_outline.specs.Open.{upwards, is_node as is_node_with};
 ghost use Rattle.smil_outline.specs.Written.{line_text, nodes_text};
@@ -60,7 +61,7 @@ fn put_next(
     requires shallow { length (open_from node.now.parent (upwards branch.old)) < DEPTH }
     ensures ok { OnOk result (out.new ≡ out.old
         ++ line_text saved (length (open_from node.now.parent (upwards branch.old))) node.now
-        ++ 10 ∷ []) }
+        ++ line_feed ∷ []) }
     ensures branch { OnOk result (upwards branch.new
         ≡ node.now.serial ∷ open_from node.now.parent (upwards branch.old)) }
     ensures err { OnErr result (Begins out.old out.new) }

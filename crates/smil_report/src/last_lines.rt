@@ -2,11 +2,19 @@
 
 ghost use Rattle.std.specs.Prelude.{◌≡◌, ◌+◌, ◌≤◌, ◌++◌, ◌∷◌, length, take, drop};
 ghost use Rattle.smil_model.specs.declared.limits.TheConstants.{NAME_BYTES};
+ghost use Rattle.smil_model.specs.document.Words.{space};
 ghost use Rattle.smil_model.specs.shown.Lines.{closed_line, line_of, ok_line, refusal_line};
 ghost use Rattle.smil_report.specs.Words.{cause_words, checked_line};
+ghost use Rattle.smil_report.specs.declared.last_lines.TheConstants.{REFUSAL_BYTES, LAST_LINE_BYTES};
 
 use super::buffers::{put, put_number, put_signed};
 use smil_model::Refusal;
+
+/// The room that the line of a refused order takes at most, in bytes.
+pub const REFUSAL_BYTES: usize = 64;
+
+/// The room that the last line of an accepted order takes at most, in bytes.
+pub const LAST_LINE_BYTES: usize = 80;
 
 // Writes a refusal's word, its column where it has one, and the line feed.
 #[tactic(auto, using(crate::proofs::Places::drop_later))]
@@ -33,7 +41,7 @@ fn put_cause(buf: &mut [u8], at: usize, refusal: Refusal) -> usize
 #[tactic(auto, using(crate::proofs::Places::drop_later))]
 pub fn put_refusal(buf: &mut [u8; 64], line: u32, refusal: &Refusal) -> usize
     ensures len { result ≡ length (refusal_line line refusal.now) }
-    ensures within { result ≤ 64 }
+    ensures within { result ≤ REFUSAL_BYTES }
     ensures written { take result buf.new ≡ refusal_line line refusal.now }
     ensures rest { drop result buf.new ≡ drop result buf.old }
 {
@@ -48,7 +56,7 @@ pub fn put_refusal(buf: &mut [u8; 64], line: u32, refusal: &Refusal) -> usize
 fn put_next(buf: &mut [u8], at: usize, text: &[u8]) -> usize
     requires { at + 1 + length text.now ≤ length buf.old }
     ensures place { result ≡ at + 1 + length text.now }
-    ensures written { take result buf.new ≡ take at buf.old ++ 32 ∷ text.now }
+    ensures written { take result buf.new ≡ take at buf.old ++ space ∷ text.now }
     ensures rest { drop result buf.new ≡ drop result buf.old }
 {
     let at = put(buf, at, b" ");
@@ -59,10 +67,10 @@ fn put_next(buf: &mut [u8], at: usize, text: &[u8]) -> usize
 /// gives its length: the number of the order's first line, the presentation's name, of at most 32
 /// bytes, and its moment, in milliseconds of document time. The bytes behind it stay as they were.
 #[tactic(auto, using(crate::proofs::Places::drop_later))]
-pub fn put_ok(buf: &mut [u8; 80], line: u32, name: &[u8], now: i64) -> usize
+pub fn put_ok(buf: &mut [u8; LAST_LINE_BYTES], line: u32, name: &[u8], now: i64) -> usize
     requires { length name.now ≤ NAME_BYTES }
     ensures len { result ≡ length (ok_line line name.now now) }
-    ensures within { result ≤ 80 }
+    ensures within { result ≤ LAST_LINE_BYTES }
     ensures written { take result buf.new ≡ ok_line line name.now now }
     ensures rest { drop result buf.new ≡ drop result buf.old }
 {
@@ -78,10 +86,10 @@ pub fn put_ok(buf: &mut [u8; 80], line: u32, name: &[u8], now: i64) -> usize
 /// order's line, and the name, of at most 32 bytes, of the presentation that it closed. The bytes
 /// behind it stay as they were.
 #[tactic(auto, using(crate::proofs::Places::drop_later))]
-pub fn put_closed(buf: &mut [u8; 80], line: u32, name: &[u8]) -> usize
+pub fn put_closed(buf: &mut [u8; LAST_LINE_BYTES], line: u32, name: &[u8]) -> usize
     requires { length name.now ≤ NAME_BYTES }
     ensures len { result ≡ length (closed_line line name.now) }
-    ensures within { result ≤ 80 }
+    ensures within { result ≤ LAST_LINE_BYTES }
     ensures written { take result buf.new ≡ closed_line line name.now }
     ensures rest { drop result buf.new ≡ drop result buf.old }
 {
@@ -94,10 +102,10 @@ pub fn put_closed(buf: &mut [u8; 80], line: u32, name: &[u8]) -> usize
 /// Writes `ok LINE NAME`, the last line of a load that was only read, at the front of the buffer,
 /// and gives its length. The name has at most 32 bytes. The bytes behind it stay as they were.
 #[tactic(auto, using(crate::proofs::Places::drop_later))]
-pub fn put_checked(buf: &mut [u8; 80], line: u32, name: &[u8]) -> usize
+pub fn put_checked(buf: &mut [u8; LAST_LINE_BYTES], line: u32, name: &[u8]) -> usize
     requires { length name.now ≤ NAME_BYTES }
     ensures len { result ≡ length (checked_line line name.now) }
-    ensures within { result ≤ 80 }
+    ensures within { result ≤ LAST_LINE_BYTES }
     ensures written { take result buf.new ≡ checked_line line name.now }
     ensures rest { drop result buf.new ≡ drop result buf.old }
 {

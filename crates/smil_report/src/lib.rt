@@ -8,6 +8,8 @@ mod lines;
 mod words;
 
 pub use entries::{put_entry, put_now, put_outline_end};
-pub use last_lines::{put_checked, put_closed, put_ok, put_refusal};
+pub use last_lines::{
+    LAST_LINE_BYTES, REFUSAL_BYTES, put_checked, put_closed, put_ok, put_refusal,
+};
 pub use lines::{SetValue, put_change, put_gone, put_history, put_layer, put_value};
 pub use smil_model::How;

@@ -131,7 +131,7 @@ fn put_words(out: &mut Bytes, words: &[Word]) -> Result<(), AllocError>
     }
 }
 
-/// Appends a line of these words, parted by single spaces. Where memory is refused, `out` is as
+/// Appends a line of these words, separated by single spaces. Where memory is refused, `out` is as
 /// before.
 pub fn put_line(out: &mut Bytes, words: &[Word]) -> Result<(), AllocError>
     ensures ok { OnOk result (out.new ≡ out.old ++ line_of (map word_text words.now)) }

@@ -5,10 +5,10 @@ ghost use Rattle.std.specs.List.{prefix_len, list_any};
 ghost use Rattle.std.specs.Option.{ok_or};
 ghost use Rattle.smil_grammar.specs.Texts.{quote};
 ghost use Rattle.smil_grammar.specs.Values.{id_of};
-ghost use Rattle.smil_grammar.specs.Scripts.{is_of_title as is_of_title_byte, is_title as is_title_text, who_of, event_of, attribute_of};
+ghost use Rattle.smil_grammar.specs.Scripts.{is_title as is_title_text, who_of, event_of, attribute_of};
 ghost use Rattle.smil_grammar.specs.Gives.{GivesReading};
 ghost use Rattle.smil_model.specs.declared.order.Refusal.TheVariants.{NotACommand, Memory};
-ghost use Rattle.smil_model.specs.document.Words.{is_event_name as is_event_word, is_raised_name};
+ghost use Rattle.smil_model.specs.document.Words.{is_event_name as is_event_word, is_raised_name, is_of_attribute};
 ghost use Rattle.smil_model.specs.shown.Answers.{IsName};
 ghost use Rattle.smil_script.specs.Gives.{GivesName, other_names};
 
@@ -19,18 +19,14 @@ use smil_model::{Bytes, NAME_BYTES, Refusal, Who};
 use smil_time_list::offsets::count;
 use std::alloc::Global;
 
-fn is_of_title(byte: u8) -> bool
-    ensures { result ≡ is_of_title_byte byte }
-{
-    matches!(byte, b'A'..=b'Z' | b'a'..=b'z' | b'_' | b'0'..=b'9' | b'-')
-}
-
 // How many bytes at the front go on a presentation's name.
 fn title_len(text: &[u8]) -> usize
-    ensures len { result ≡ prefix_len is_of_title_byte text.now }
+    ensures len { result ≡ prefix_len is_of_attribute text.now }
     ensures within { result ≤ length text.now }
 {
-    text.iter().take_while(|byte| is_of_title(**byte)).count()
+    text.iter()
+        .take_while(|byte| runs::is_of_attribute(**byte))
+        .count()
 }
 
 /// Whether a word is a presentation's name: a letter, then letters, digits, `_` and `-`, of at most

@@ -3,7 +3,7 @@ use Rattle.std.proofs.Common.{◌≡◌, ℕ, ◌+◌, eqb, List, [], ◌∷◌,
 use Rattle.std.specs.Prelude.{MatchOption, IfSome}
 use Rattle.std.specs.List.{count_by}
 use Rattle.std.proofs.lemmas.List.Splits.{length-slice_split}
-use Rattle.smil_grammar.specs.Texts.{cut_at}
+use Rattle.smil_grammar.specs.Texts.{semicolon, cut_at}
 use Rattle.smil_grammar.specs.Lists.{pieces_of}
 use Rattle.smil_lexis.proofs.Pieces.{cut_pieces}
 
@@ -16,5 +16,5 @@ pub split_says : {T : Type 0} (view : T → List ℕ × List ℕ) (text : List �
 split_says view text None e = let s : Says text None = subst (Says text) (sym e) (cut_pieces 59 text) in (s, tt)
 split_says view text (Some x) e = let s : Says text (Some (view x)) = subst (Says text) (sym e) (cut_pieces 59 text) in (s.0, s.1)
 
-pub pieces_count : (text : List ℕ) → length (pieces_of text) ≡ count_by (λ b. eqb b 59) text + 1
-pieces_count text = length-slice_split (λ b. eqb b 59) text
+pub pieces_count : (text : List ℕ) → length (pieces_of text) ≡ count_by (λ b. eqb b semicolon) text + 1
+pieces_count text = length-slice_split (λ b. eqb b semicolon) text

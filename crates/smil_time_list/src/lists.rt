@@ -2,6 +2,7 @@
 
 ghost use Rattle.std.specs.Prelude.{◌≡◌, ℕ, ◌==◌, count_by, ◌≤◌, ◌<◌, ◌+◌, ◌^◌, ◌||◌, ◌&&◌, Bool, true, false, MatchOption, IfSome, IfOk, All, List, [], ◌∷◌, length, Result, Ok};
 ghost use Rattle.smil_model.specs.declared.limits.TheConstants.{ITEMS};
+ghost use Rattle.smil_grammar.specs.Texts.{semicolon};
 ghost use Rattle.smil_grammar.specs.Lists.{list_of, few_items, items_from, piece_at, is_plain as is_plain_list, pieces_of, GivesList, is_begin};
 ghost use Rattle.smil_grammar.specs.Spellings.{CanWrite};
 ghost use Rattle.smil_time_list.specs.Pieces.{with_front, GivesMore};
@@ -24,7 +25,7 @@ fn split(text: &[u8]) -> Option<(&[u8], &[u8])>
 }
 
 fn semicolons(text: &[u8]) -> usize
-    ensures { result ≡ count_by (λ b. b == 59) text.now }
+    ensures { result ≡ count_by (λ b. b == semicolon) text.now }
 {
     text.iter().filter(|byte| **byte == b';').count()
 }

@@ -6,6 +6,7 @@ ghost use Rattle.smil_grammar.specs.Items.{signed_of, offset_of, tail_of, is_sig
 use smil_clock_value::clock_within;
 use smil_lexis::numbers::short;
 use smil_lexis::texts::trim_front;
+use smil_model::DIGITS;
 
 /// Whether a byte is a sign.
 pub fn is_sign(byte: u8) -> bool
@@ -52,7 +53,7 @@ pub fn count(digits: &[u8]) -> Option<u32>
     ensures { result ≡ count_of digits.now }
 {
     match digits {
-        [first, rest @ ..] if *first != b'0' && rest.len() < 9 => short(digits),
+        [first, rest @ ..] if *first != b'0' && rest.len() < DIGITS => short(digits),
         _ => None,
     }
 }

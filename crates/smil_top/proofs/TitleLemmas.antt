@@ -7,10 +7,11 @@ use Rattle.smil_model.specs.declared.limits.TheConstants.{NAME_BYTES}
 use Rattle.smil_model.specs.declared.order.Order.{Order}
 use Rattle.smil_model.specs.declared.order.Refusal.{Refusal}
 use Rattle.smil_model.specs.declared.order.Refusal.TheVariants.{NotACommand}
+use Rattle.smil_model.specs.document.Words.{is_of_attribute}
 use Rattle.smil_grammar.specs.declared.read.Read.{Read}
 use Rattle.smil_grammar.specs.declared.read.Read.TheVariants.{Blank, Load, Close}
 use Rattle.smil_grammar.specs.Words.{word_len}
-use Rattle.smil_grammar.specs.Scripts.{Word, first_of, is_ended, at_end, named, or_refused, to, finish, order_line, command, is_blank, is_title, is_of_title, line_of}
+use Rattle.smil_grammar.specs.Scripts.{Word, first_of, is_ended, at_end, named, or_refused, to, finish, order_line, command, is_blank, is_title, line_of}
 use Rattle.smil_top.specs.Running.{HoldsTitle}
 
 abbrev pub OkTitle : Result Read Refusal → Type 0
@@ -37,7 +38,7 @@ all-of-four false b c d h = absurd cc
 pub title-short : (name : List ℕ) → is_title name ≡ true → length name ≤ NAME_BYTES
 title-short [] h = absurd cc
 title-short (b ∷ bytes) h =
-    let lt = ltb-true (length bytes) NAME_BYTES (all-of-four (not (b == 95)) (word_len is_of_title (b ∷ bytes) == length (b ∷ bytes)) (nat_lt (length bytes) NAME_BYTES) (not (list_any (bytes_eq (b ∷ bytes)) (codes "load" ∷ codes "close" ∷ []))) h) in
+    let lt = ltb-true (length bytes) NAME_BYTES (all-of-four (not (b == 95)) (word_len is_of_attribute (b ∷ bytes) == length (b ∷ bytes)) (nat_lt (length bytes) NAME_BYTES) (not (list_any (bytes_eq (b ∷ bytes)) (codes "load" ∷ codes "close" ∷ []))) h) in
     omega (arith, lt)
 
 named-short : (read : List ℕ → Read) (line : Word) → ((name : List ℕ) → length name ≤ NAME_BYTES → HoldsTitle (read name)) → SomeTitle (named read line)
