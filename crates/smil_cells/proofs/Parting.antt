@@ -1,4 +1,4 @@
--- The first entries of a diary, and the log entries that they name.
+-- The last entry of a diary.
 use Rattle.std.proofs.Common.{◌≡◌, refl, ◌-◌, ap, ℕ, zero, suc, ◌≤◌, List, [], ◌∷◌, None, Some, ℤ, arith, length}
 use Rattle.std.specs.Prelude.{fold, pos, slice_get}
 use Rattle.smil_model.specs.declared.diary.Entry.{Entry}
@@ -8,8 +8,6 @@ pub no_gap : {A : Type 0} (xs : List A) (k : ℕ) → None ≡ slice_get xs k �
 no_gap [] k e = omega arith
 no_gap (x ∷ xs) zero e = cc
 no_gap (x ∷ xs) (suc k) e = let l = no_gap xs k e in omega (arith, l)
-
--- ---- the last entry
 
 pub last_at : (from : ℤ) (diary : List Entry) (n : ℕ) (x : Entry) → Some x ≡ slice_get diary n → length diary ≡ suc n → x.moment ≡ fold (λ before (y : Entry). y.moment) from diary
 last_at from [] n x at l = cc

@@ -51,9 +51,8 @@ fn first_of(alloc: Global, log: &Log, count: usize) -> Result<Log, AllocError>
 {
     let mut first = Log::new(alloc);
     let many = count.min(log.len());
-    for place in 0..many {
-        let entry = log.get(place).unwrap().copy()?;
-        first.push(entry)?;
+    for entry in &log.slice()[..many] {
+        first.push(entry.copy()?)?;
     }
     Ok(first)
 }
