@@ -173,8 +173,8 @@ fn places_of(alloc: Global, rows: &[Row]) -> Result<HashMap<u32, usize>, AllocEr
     ensures { IfOk result (λ places. ArePlaces (get nat_eq places) rows.now) }
 {
     let mut places = HashMap::new(alloc);
-    for place in 0..rows.len() {
-        note_place(&mut places, rows[place].serial, place)?;
+    for (place, row) in rows.iter().enumerate() {
+        note_place(&mut places, row.serial, place)?;
     }
     Ok(places)
 }
