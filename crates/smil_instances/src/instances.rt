@@ -1,10 +1,10 @@
 //! The instance times that a diary alone gives, kept while entries are appended.
 
-ghost use Rattle.std.specs.Prelude.{◌≡◌, ℤ, List, [], ◌∷◌, ◌++◌, OnOk, OnErr, IfOk, Some};
+ghost use Rattle.std.specs.Prelude.{◌≡◌, ℤ, List, [], ◌∷◌, ◌++◌, OnOk, OnErr, IfOk};
 ghost use Rattle.smil_model.specs.declared.diary.Entry.{Entry as AnyEntry};
 ghost use Rattle.smil_model.specs.declared.diary.LogEntry.{LogEntry as AnyLogEntry};
 ghost use Rattle.smil_model.specs.declared.document.Node.{Node as AnyNode};
-ghost use Rattle.smil_model.specs.document.Document.{Document, elements, node_at};
+ghost use Rattle.smil_model.specs.diary.Diary.{History};
 ghost use Rattle.smil_model.specs.interval.Instances.{settled_begins, settled_ends};
 ghost use Rattle.smil_instance_rows.specs.Readings.{begins_in, ends_in, first_after, first_from, times_in};
 ghost use Rattle.smil_model.specs.interval.Intervals.{has_any};
@@ -12,7 +12,7 @@ ghost use Rattle.smil_instances.specs.SettledTimes.{settled_rows};
 ghost use Rattle.smil_stretch.specs.Clocks.{IsLawfulFor};
 ghost use Rattle.smil_instances.specs.Entry.{IsAtHand};
 ghost use Rattle.smil_instances.specs.Dependents.{AreDependentsOf};
-ghost use Rattle.smil_instances.specs.Instances.{IsSettled, settled_times};
+ghost use Rattle.smil_instances.specs.Instances.{IsElementOf, IsSettled, settled_times};
 ghost use Rattle.smil_instances.specs.Intake.{history_of};
 
 use super::arrival::Arrival;
@@ -155,10 +155,8 @@ impl Instances {
     /// none where there is no such element. It takes no memory.
     pub fn begins(&self, who: u32) -> &[i64]
         ensures value { result.now ≡ begins_in self.now.rows who }
-        ensures model { (document : Document) (log : List AnyLogEntry) (diary : List AnyEntry)
-            (now : ℤ) (e : AnyNode) → IsSettled self.now document log diary
-            → node_at (elements document.nodes) who ≡ Some e
-            → result.now ≡ settled_begins (history_of document log diary) now e }
+        ensures model { (h : History) (now : ℤ) (e : AnyNode) → IsElementOf self.now who h e
+            → result.now ≡ settled_begins h now e }
     {
         rows_tell_instances();
         self.rows.begins(who)
@@ -168,10 +166,8 @@ impl Instances {
     /// with indefinite last; none where there is no such element. It takes no memory.
     pub fn ends(&self, who: u32) -> &[Time]
         ensures value { result.now ≡ ends_in self.now.rows who }
-        ensures model { (document : Document) (log : List AnyLogEntry) (diary : List AnyEntry)
-            (now : ℤ) (e : AnyNode) → IsSettled self.now document log diary
-            → node_at (elements document.nodes) who ≡ Some e
-            → result.now ≡ settled_ends (history_of document log diary) now e }
+        ensures model { (h : History) (now : ℤ) (e : AnyNode) → IsElementOf self.now who h e
+            → result.now ≡ settled_ends h now e }
     {
         rows_tell_instances();
         self.rows.ends(who)
@@ -182,10 +178,8 @@ impl Instances {
     /// log n steps for n of them.
     pub fn first_from(&self, who: u32, side: Edge, value: i64) -> Time
         ensures value { result ≡ first_from value (times_in self.now.rows who side) }
-        ensures model { (document : Document) (log : List AnyLogEntry) (diary : List AnyEntry)
-            (now : ℤ) (e : AnyNode) → IsSettled self.now document log diary
-            → node_at (elements document.nodes) who ≡ Some e
-            → result ≡ first_from value (settled_times (history_of document log diary) now e side) }
+        ensures model { (h : History) (now : ℤ) (e : AnyNode) → IsElementOf self.now who h e
+            → result ≡ first_from value (settled_times h now e side) }
     {
         rows_tell_instances();
         self.rows.first_from(who, side, value)
@@ -196,11 +190,8 @@ impl Instances {
     /// log n steps for n of them.
     pub fn first_after(&self, who: u32, side: Edge, value: i64) -> Time
         ensures value { result ≡ first_after value (times_in self.now.rows who side) }
-        ensures model { (document : Document) (log : List AnyLogEntry) (diary : List AnyEntry)
-            (now : ℤ) (e : AnyNode) → IsSettled self.now document log diary
-            → node_at (elements document.nodes) who ≡ Some e
-            → result ≡ first_after value
-            (settled_times (history_of document log diary) now e side) }
+        ensures model { (h : History) (now : ℤ) (e : AnyNode) → IsElementOf self.now who h e
+            → result ≡ first_after value (settled_times h now e side) }
     {
         rows_tell_instances();
         self.rows.first_after(who, side, value)
@@ -209,10 +200,8 @@ impl Instances {
     /// Whether an element has any end. It takes no memory.
     pub fn any_end(&self, who: u32) -> bool
         ensures value { result ≡ has_any (ends_in self.now.rows who) }
-        ensures model { (document : Document) (log : List AnyLogEntry) (diary : List AnyEntry)
-            (now : ℤ) (e : AnyNode) → IsSettled self.now document log diary
-            → node_at (elements document.nodes) who ≡ Some e
-            → result ≡ has_any (settled_ends (history_of document log diary) now e) }
+        ensures model { (h : History) (now : ℤ) (e : AnyNode) → IsElementOf self.now who h e
+            → result ≡ has_any (settled_ends h now e) }
     {
         rows_tell_instances();
         self.rows.any_end(who)

@@ -10,4 +10,4 @@ pub returns-then-is_settled : goal.returns-then-is_settled
 returns-then-is_settled c = λ e intervals now here filled.
     let h : History = history_of c.args.past.now in
     let none : syncs_of h.nodes End e ≡ [] = none_there (syncs_of h.nodes End e) (sym (c.is_settled.ensures e here) ∙ c.if-is_settled.true) in
-    c.ends.ensures.model c.args.past.now.document h.log h.diary now e c.instances.ensures here ∙ ends_settled h now e intervals none
+    c.ends.ensures.model h now e (record { rows = c.instances.ensures.rows; known = here }) ∙ ends_settled h now e intervals none

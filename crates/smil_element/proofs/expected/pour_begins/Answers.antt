@@ -22,7 +22,7 @@ pour-requires-clause-rising g c =
     let items : c.extend_from_slice.new.self.items ≡ settled_begins h c.args.reading.now.moment found.0 =
     c.in_ok-extend_from_slice.ensures.items
     ∙ ap (λ (xs : List ℤ). xs ++ c.begins.result.now) c.clear.ensures.items
-    ∙ c.begins.ensures.model c.args.reading.now.past.now.document h.log h.diary c.args.reading.now.moment found.0 c.instances.ensures found.1 in
+    ∙ c.begins.ensures.model h c.args.reading.now.moment found.0 (record { rows = c.instances.ensures.rows; known = found.1 }) in
     subst (λ (xs : List ℤ). IsRising int_le xs) (sym items) (begins_rise h no_interval c.args.reading.now.moment found.0)
 
 pub returns : goal.returns
@@ -32,7 +32,7 @@ returns g c = λ e here.
     let items : c.extend_from_slice.new.self.items ≡ settled_begins h c.args.reading.now.moment e =
     c.in_ok-extend_from_slice.ensures.items
     ∙ ap (λ (xs : List ℤ). xs ++ c.begins.result.now) c.clear.ensures.items
-    ∙ c.begins.ensures.model c.args.reading.now.past.now.document h.log h.diary c.args.reading.now.moment e c.instances.ensures here in
+    ∙ c.begins.ensures.model h c.args.reading.now.moment e (record { rows = c.instances.ensures.rows; known = here }) in
     let syncs : c.of_element-syncs.result.now ≡ syncs_of h.nodes Begin e = c.of_element-syncs.ensures h.nodes e c.syncs.ensures here in
     let serial : c.args.who ≡ e.serial = sym (stands (elements h.nodes) c.args.who e here).serial in
     on_ok_weaker c.pour.result

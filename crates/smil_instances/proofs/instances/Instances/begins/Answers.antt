@@ -5,5 +5,5 @@ use Rattle.smil_instances.proofs.Readings.{begins_told}
 use Rattle.smil_instances.proofs.instances.Instances.begins.Goals as goal
 
 pub returns-clause-model : goal.returns-clause-model
-returns-clause-model c = λ document log diary now e settled here.
-    c.begins.ensures ∙ ap (λ (v : SettledInstances). begins_in v.rows c.args.who) c.self.view_is ∙ begins_told c.args.self.now document log diary now c.args.who e c.rows_tell_instances.ensures settled here
+returns-clause-model c = λ h now e is.
+    c.begins.ensures ∙ ap (λ (v : SettledInstances). begins_in v.rows c.args.who) c.self.view_is ∙ begins_told c.args.self.now h now c.args.who e c.rows_tell_instances.ensures is

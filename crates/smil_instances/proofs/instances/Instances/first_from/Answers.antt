@@ -6,7 +6,7 @@ use Rattle.smil_instances.proofs.Readings.{times_told}
 use Rattle.smil_instances.proofs.instances.Instances.first_from.Goals as goal
 
 pub returns-clause-model : goal.returns-clause-model
-returns-clause-model c = λ document log diary now e settled here.
+returns-clause-model c = λ h now e is.
     c.first_from.ensures
     ∙ ap (λ v. first_from v (times_in c.self.inside.rows c.args.who c.args.side)) (to_z-of_z w64 c.args.value c.ranges.value)
-    ∙ ap (first_from c.args.value) (ap (λ (v : SettledInstances). times_in v.rows c.args.who c.args.side) c.self.view_is ∙ times_told c.args.self.now document log diary now c.args.who e c.rows_tell_instances.ensures settled here c.args.side)
+    ∙ ap (first_from c.args.value) (ap (λ (v : SettledInstances). times_in v.rows c.args.who c.args.side) c.self.view_is ∙ times_told c.args.self.now h now c.args.who e c.rows_tell_instances.ensures is c.args.side)
