@@ -137,16 +137,11 @@ impl Session {
             (steps.new - steps.old) }
     {
         let name = named.name.slice();
-        match self
+        let now = self
             .house
-            .answer(name, named.order, &mut answer.told, steps)
-        {
-            Ok(now) => {
-                answer.last = LastLine::ok(number, name, now);
-                Ok(())
-            }
-            Err(refusal) => Err(refusal),
-        }
+            .answer(name, named.order, &mut answer.told, steps)?;
+        answer.last = LastLine::ok(number, name, now);
+        Ok(())
     }
 
     // Closes the presentation of this name.
