@@ -152,13 +152,9 @@ impl Session {
             → Makes result answer.new self.new.house session (close_answer session number name.now) }
         ensures checks { self.new.checks ≡ self.old.checks }
     {
-        match self.house.close(name.slice()) {
-            Ok(()) => {
-                answer.last = LastLine::closed(number, name.slice());
-                Ok(())
-            }
-            Err(refusal) => Err(refusal),
-        }
+        self.house.close(name.slice())?;
+        answer.last = LastLine::closed(number, name.slice());
+        Ok(())
     }
 
     /// Answers a load that begins at a line and that was read without a fault: it is opened, or
