@@ -205,17 +205,11 @@ impl Session {
             (steps.new - steps.old) }
     {
         let Given { name, doc, .. } = given;
-        if let Err(refusal) = self.house.may_load(name.slice()) {
-            return Err(refusal);
-        }
-        match Presentation::new(self.alloc, doc, &mut answer.told, steps) {
-            Ok(player) => {
-                answer.last = LastLine::ok(number, name.slice(), 0);
-                self.house.load(name, player);
-                Ok(())
-            }
-            Err(refusal) => Err(refusal),
-        }
+        self.house.may_load(name.slice())?;
+        let player = Presentation::new(self.alloc, doc, &mut answer.told, steps)?;
+        answer.last = LastLine::ok(number, name.slice(), 0);
+        self.house.load(name, player);
+        Ok(())
     }
 }
 
