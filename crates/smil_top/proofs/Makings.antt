@@ -11,7 +11,9 @@ use Rattle.smil_model.specs.happening.Resolution.{diary_within}
 use Rattle.smil_model.specs.shown.Orders.{Formats, Presentation, course_of, kept_where, opened, outcome}
 use Rattle.smil_model.specs.shown.Answers.{answer_text, load_text}
 use Rattle.smil_model.specs.shown.Lines.{ok_line, closed_line}
+use Rattle.smil_grammar.specs.declared.read.Read.{Read}
 use Rattle.smil_grammar.specs.Results.{◌>>=◌}
+use Rattle.smil_grammar.specs.Scripts.{line_of}
 use Rattle.smil_grammar.specs.Formats.{formats}
 use Rattle.smil_grammar.specs.Gives.{GivesReading}
 use Rattle.smil_live.specs.Counts.{least_number, most_number}
@@ -21,13 +23,22 @@ use Rattle.smil_top.specs.declared.answer.Answer.{Answer as AnswerText}
 use Rattle.smil_top.specs.Session.{Session, presentation_of, with_state, without, may_load}
 use Rattle.smil_top.specs.Answers.{Accepted, Given, found_presentation, ordered_within, close_answer, loaded_within, checked}
 use Rattle.smil_top.specs.Houses.{Presentations, shown, AreApart, Holds}
-use Rattle.smil_top.specs.Running.{Makes, Checks}
+use Rattle.smil_top.specs.Running.{Makes, Checks, line_by, single_by}
 use Rattle.smil_top.proofs.HouseLemmas.{presentation-held, some-held, may_load-held, may_load-free, turned-session, turned-apart, closed-session, closed-apart, added-session, added-apart}
 
 -- a refusal of a call that reads is the reading's, unless memory ran out
-pub gives-err : {A : Type 0} (refusal : Refusal) (reading : Result A Refusal) → GivesReading (Err refusal) reading → (refusal ≡ Memory) ⊎ (reading ≡ Err refusal)
+gives-err : {A : Type 0} (refusal : Refusal) (reading : Result A Refusal) → GivesReading (Err refusal) reading → (refusal ≡ Memory) ⊎ (reading ≡ Err refusal)
 gives-err Memory reading gives = inl refl
 gives-err refusal reading gives = inr gives
+
+-- a line that has no reading is refused
+pub unmade-line : (checks : Bool) (house : Presentations) (session : Session) (number : ℕ) (line : List ℕ) → Holds house session → (text : AnswerText) (refusal : Refusal) → GivesReading (Err refusal) (line_of line) →
+    Makes (Err refusal) text house session (line_by checks session number line)
+unmade-line checks house session number line holds text refusal gives = (holds, by_reading (gives-err refusal (line_of line) gives))
+  where
+    by_reading : (refusal ≡ Memory) ⊎ (line_of line ≡ Err refusal) → (refusal ≡ Memory) ⊎ (line_by checks session number line ≡ Err refusal)
+    by_reading (inl memory) = inl memory
+    by_reading (inr is) = inr (ap (λ (r : Result Read Refusal). r >>= single_by checks session number) is)
 
 -- the presentation that stands at the place of a name
 pub held-at : (name : List ℕ) (house : Presentations) (session : Session) (place : ℕ) (h : Held Presentation) → Holds house session → IsAt name house place h →

@@ -74,10 +74,8 @@ impl Session {
             → IsCounted result (λ (bound : Bound). line_number bound session line.now)
             (steps.new - steps.old) }
     {
-        match read_line(self.alloc, line) {
-            Ok(read) => self.answer_read(number, &read, answer, steps),
-            Err(refusal) => Err(refusal),
-        }
+        let read = read_line(self.alloc, line)?;
+        self.answer_read(number, &read, answer, steps)
     }
 
     // Answers a line by what it says.

@@ -1,16 +1,29 @@
-use Rattle.std.proofs.Common.{◌-◌}
+use Rattle.std.proofs.Common.{◌-◌, Err, sym, subst}
+use Rattle.std.proofs.lemmas.Result.{err_from_is_err_and}
 use Rattle.smil_top.specs.Evaluations.{line_number}
+use Rattle.smil_top.specs.Running.{Makes, line_by}
 use Rattle.smil_top.proofs.Evaluated.{counted-line, counted-refused}
+use Rattle.smil_top.proofs.Makings.{unmade-line}
 use Rattle.smil_top.proofs.TitleLemmas.{read-short}
 use Rattle.smil_top.proofs.session.Session.answer_line.Goals as goal
 
 pub answer_read-requires-clause-title : goal.answer_read-requires-clause-title
-answer_read-requires-clause-title g c = read-short c.args.line.now c.in-Ok.read c.in-Ok.ensures.reading
+answer_read-requires-clause-title g c = read-short c.args.line.now c.in_ok-read.read c.in_ok-read.ensures.reading
 
-pub returns-in-Ok-clause-evaluated : goal.returns-in-Ok-clause-evaluated
-returns-in-Ok-clause-evaluated g c session holds runs =
-    counted-line c.answer_read.result session c.args.line.now c.in-Ok.read (c.answer_read.new.steps - c.args.steps.now) c.requires.short c.in-Ok.ensures.reading
+pub returns-in_err-read-clause-answer : goal.returns-in_err-read-clause-answer
+returns-in_err-read-clause-answer g c session holds =
+    let checks = c.args.self.now.checks in
+    let house = c.args.self.now.house in
+    let p = err_from_is_err_and c.from_residual.result c.from_residual.ensures.1 in
+    rw p.1 (subst (λ e. Makes (Err e) c.args.answer.now house session (line_by checks session c.args.number c.args.line.now)) (sym p.2)
+    (unmade-line checks house session c.args.number c.args.line.now holds c.args.answer.now c.in_err-read.field-0.0 c.in_err-read.ensures.reading))
+
+pub returns-clause-evaluated : goal.returns-clause-evaluated
+returns-clause-evaluated g c session holds runs =
+    counted-line c.answer_read.result session c.args.line.now c.in_ok-read.read (c.answer_read.new.steps - c.args.steps.now) c.requires.short c.in_ok-read.ensures.reading
     (c.answer_read.ensures.evaluated session holds runs)
 
-pub returns-in-Err-clause-evaluated : goal.returns-in-Err-clause-evaluated
-returns-in-Err-clause-evaluated g c session holds runs = counted-refused c.in-Err.refusal (λ bound. line_number bound session c.args.line.now) c.args.steps.now
+pub returns-in_err-read-clause-evaluated : goal.returns-in_err-read-clause-evaluated
+returns-in_err-read-clause-evaluated g c session holds runs =
+    let p = err_from_is_err_and c.from_residual.result c.from_residual.ensures.1 in
+    rw p.1 (counted-refused p.0 (λ bound. line_number bound session c.args.line.now) c.args.steps.now)
