@@ -99,9 +99,7 @@ impl<P: Player + Drop> House<P> {
             return Err(Refusal::NoPresentation);
         };
         let player = &mut self.held[place].player;
-        if let Err(refusal) = player.answer(order, out, steps) {
-            return Err(refusal);
-        }
+        player.answer(order, out, steps)?;
         Ok(player.now())
     }
 

@@ -1,24 +1,29 @@
 use Rattle.std.proofs.Common.{◌≡◌, ◌∙◌, inr, arith, to_z, of_z, w64}
 use Rattle.std.proofs.lemmas.Int.{ints}
+use Rattle.std.proofs.lemmas.Result.{err_from_is_err_and}
 use Rattle.smil_house.proofs.Held.{at_found, turned_to}
 use Rattle.smil_house.proofs.house.House.answer.Goals as goal
 
-pub returns-in-Err-clause-refused : goal.returns-in-Err-clause-refused
-returns-in-Err-clause-refused g c = inr (record {
-  place = c.in-Some.place;
-  before = c.index_mut.result.now;
-  at = at_found c.args.name.now c.self.inside.held.items c.args.self.now c.place.result c.in-Some.place c.index_mut.result.now c.self.view_is c.place.ensures c.in-Some.is c.index_mut.ensures.value;
-  refused = c.in-Err.ensures.refused;
-  free = c.in-Err.ensures.free;
-})
+pub returns-in_err-answer-clause-refused : goal.returns-in_err-answer-clause-refused
+returns-in_err-answer-clause-refused g c =
+    let p = err_from_is_err_and c.from_residual.result c.from_residual.ensures.1 in
+    rw (p.1, p.2) (inr (record {
+      place = c.in-Some.place;
+      before = c.index_mut.result.now;
+      at = at_found c.args.name.now c.self.inside.held.items c.args.self.now c.place.result c.in-Some.place c.index_mut.result.now c.self.view_is c.place.ensures c.in-Some.is c.index_mut.ensures.value;
+      refused = c.in_err-answer.ensures.refused;
+      free = c.in_err-answer.ensures.free;
+    }))
 
-pub returns-in-Err-clause-kept : goal.returns-in-Err-clause-kept
-returns-in-Err-clause-kept g c = inr (record {
-  place = c.in-Some.place;
+pub returns-in_err-answer-clause-kept : goal.returns-in_err-answer-clause-kept
+returns-in_err-answer-clause-kept g c =
+    let p = err_from_is_err_and c.from_residual.result c.from_residual.ensures.1 in
+    rw p.1 (inr (record {
+      place = c.in-Some.place;
   before = c.index_mut.result.now;
   after = record { name = c.index_mut.result.now.name; player = c.answer.new.self };
-  turned = turned_to g.P.Player.formats g.P.Player.takes c.args.name.now c.self.inside.held.items c.args.self.now c.place.result c.in-Some.place c.index_mut.result.now c.answer.new.self c.self.view_is c.place.ensures c.in-Some.is c.index_mut.ensures.value c.in-Err.ensures.formats c.in-Err.ensures.takes;
-  same = c.in-Err.ensures.kept;
+  turned = turned_to g.P.Player.formats g.P.Player.takes c.args.name.now c.self.inside.held.items c.args.self.now c.place.result c.in-Some.place c.index_mut.result.now c.answer.new.self c.self.view_is c.place.ensures c.in-Some.is c.index_mut.ensures.value c.in_err-answer.ensures.formats c.in_err-answer.ensures.takes;
+  same = c.in_err-answer.ensures.kept;
 })
 
 pub returns-clause-ok : goal.returns-clause-ok
@@ -28,9 +33,9 @@ returns-clause-ok g c =
       place = c.in-Some.place;
       before = c.index_mut.result.now;
       after = record { name = c.index_mut.result.now.name; player = c.answer.new.self };
-      turned = turned_to g.P.Player.formats g.P.Player.takes c.args.name.now c.self.inside.held.items c.args.self.now c.place.result c.in-Some.place c.index_mut.result.now c.answer.new.self c.self.view_is c.place.ensures c.in-Some.is c.index_mut.ensures.value c.in_default-answer.ensures.formats c.in_default-answer.ensures.takes;
-      accepted = c.in_default-answer.ensures.ok;
+      turned = turned_to g.P.Player.formats g.P.Player.takes c.args.name.now c.self.inside.held.items c.args.self.now c.place.result c.in-Some.place c.index_mut.result.now c.answer.new.self c.self.view_is c.place.ensures c.in-Some.is c.index_mut.ensures.value c.in_ok-answer.ensures.formats c.in_ok-answer.ensures.takes;
+      accepted = c.in_ok-answer.ensures.ok;
       moment_is = same ∙ c.now.ensures;
-      least_is = c.in_default-answer.ensures.least;
-      most_is = c.in_default-answer.ensures.most;
+      least_is = c.in_ok-answer.ensures.least;
+      most_is = c.in_ok-answer.ensures.most;
     }
