@@ -20,11 +20,11 @@ returns-in_err-answer-clause-kept g c =
     let p = err_from_is_err_and c.from_residual.result c.from_residual.ensures.1 in
     rw p.1 (inr (record {
       place = c.in-Some.place;
-  before = c.index_mut.result.now;
-  after = record { name = c.index_mut.result.now.name; player = c.answer.new.self };
-  turned = turned_to g.P.Player.formats g.P.Player.takes c.args.name.now c.self.inside.held.items c.args.self.now c.place.result c.in-Some.place c.index_mut.result.now c.answer.new.self c.self.view_is c.place.ensures c.in-Some.is c.index_mut.ensures.value c.in_err-answer.ensures.formats c.in_err-answer.ensures.takes;
-  same = c.in_err-answer.ensures.kept;
-})
+      before = c.index_mut.result.now;
+      after = record { name = c.index_mut.result.now.name; player = c.answer.new.self };
+      turned = turned_to g.P.Player.formats g.P.Player.takes c.args.name.now c.self.inside.held.items c.args.self.now c.place.result c.in-Some.place c.index_mut.result.now c.answer.new.self c.self.view_is c.place.ensures c.in-Some.is c.index_mut.ensures.value c.in_err-answer.ensures.formats c.in_err-answer.ensures.takes;
+      same = c.in_err-answer.ensures.kept;
+    }))
 
 pub returns-clause-ok : goal.returns-clause-ok
 returns-clause-ok g c =
