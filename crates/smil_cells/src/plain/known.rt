@@ -1,16 +1,17 @@
 //! What is known of each element.
 
-ghost use Rattle.std.specs.Prelude.{◌≡◌, ◌==◌, ℕ, ◌++◌, [], ◌∷◌, map, if◌then◌else◌, nat_eq, slice_set, slice_get, Some, None, IfOk, IfSome, OnOk};
+ghost use Rattle.std.specs.Prelude.{◌≡◌, ◌==◌, ℕ, map, if◌then◌else◌, nat_eq, slice_set, slice_get, Some, None, IfOk, IfSome, OnOk};
 ghost use Rattle.std.specs.HashMap.{get};
 ghost use Rattle.std.specs.List.{position};
 ghost use Rattle.std.specs.Option.{option_or};
-ghost use Rattle.smil_model.specs.document.Document.{elements, is_class_kind};
+ghost use Rattle.smil_model.specs.document.Document.{elements};
 ghost use Rattle.smil_laws.specs.Near.{IsIntervalNear};
 ghost use Rattle.smil_cells.specs.declared.plain.known.Row.{Row as AnyRow};
 ghost use Rattle.smil_cells.specs.Rows.{ArePlaces, IsChosen, empty_row, row_without};
 
 use smil_element::{Coming, Comings, Container, Containers, Intervals, walked_duration};
-use smil_model::{ChildEnd, Duplicate, Interval, Key, Kind, Time};
+use smil_instances::elements::elements;
+use smil_model::{ChildEnd, Duplicate, Interval, Key, Time};
 use smil_tree::Tree;
 use std::alloc::{AllocError, Global};
 use std::collections::HashMap;
@@ -85,7 +86,8 @@ impl Known {
     pub fn of(alloc: Global, tree: &Tree) -> Result<Known, AllocError>
         ensures { IfOk result (λ known. known ≡ map empty_row (elements tree.now.nodes)) }
     {
-        let rows = empty_rows(alloc, tree)?;
+        let whos = elements(alloc, tree)?;
+        let rows = empty_rows(alloc, &whos)?;
         Ok(Known {
             places: places_of(alloc, &rows)?,
             rows,
@@ -136,28 +138,14 @@ fn chosen(key: Key, comings: Comings) -> Option<Coming>
     }
 }
 
-// The rows of the elements of a document, without intervals.
-fn empty_rows(alloc: Global, tree: &Tree) -> Result<Vec<Row>, AllocError>
-    ensures { IfOk result (λ rows. rows.items ≡ map empty_row (elements tree.now.nodes)) }
+// The rows of elements, without intervals.
+fn empty_rows(alloc: Global, whos: &[u32]) -> Result<Vec<Row>, AllocError>
+    ensures { IfOk result (λ rows. rows.items ≡ map row_without whos.now) }
 {
-    tree.valid();
-    let mut rows = Vec::new(alloc);
-    let mut place = 0;
-    while let Some(serial) = tree.serial_at(place) {
-        push_empty(&mut rows, serial, tree.kind(serial))?;
-        place += 1;
-    }
-    Ok(rows)
-}
-
-// Puts the row of a node at the end, where it is an element.
-fn push_empty(rows: &mut Vec<Row>, serial: u32, kind: Kind) -> Result<(), AllocError>
-    ensures { OnOk result (rows.new.items ≡ rows.old.items
-        ++ (if is_class_kind kind then [] else row_without serial ∷ [])) }
-{
-    if kind.is_element() {
+    let mut rows = Vec::with_capacity(alloc, whos.len())?;
+    for who in whos {
         rows.push(Row {
-            serial,
+            serial: *who,
             interval: None,
             comings: Comings {
                 moved: None,
@@ -165,7 +153,7 @@ fn push_empty(rows: &mut Vec<Row>, serial: u32, kind: Kind) -> Result<(), AllocE
             },
         })?;
     }
-    Ok(())
+    Ok(rows)
 }
 
 // A table from serials to places, in which the first place of a serial counts.

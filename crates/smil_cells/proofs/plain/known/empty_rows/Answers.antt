@@ -1,27 +1,18 @@
-use Rattle.std.proofs.Common.{◌∙◌, ap, ◌<◌, ◌≤◌, List, length, map, arith}
+use Rattle.std.proofs.Common.{sym, ◌∙◌, ap, ◌++◌, ◌∷◌, [], get_or, map}
 use Rattle.std.proofs.lemmas.List.{take_all}
-use Rattle.smil_model.specs.declared.document.Node.{Node}
-use Rattle.smil_model.specs.document.Document.{elements}
-use Rattle.smil_stretch.proofs.Idle.{node_known, node_inside, none_left}
-use Rattle.smil_cells.specs.Rows.{empty_row}
-use Rattle.smil_cells.proofs.Empty.{empty_next}
+use Rattle.std.proofs.lemmas.Option.{slice_get-get_or}
+use Rattle.smil_instances.proofs.Lists.{map_next}
+use Rattle.smil_cells.specs.Rows.{row_without}
 use Rattle.smil_cells.proofs.plain.known.empty_rows.Goals as goal
 
-pub kind-requires : goal.kind-requires
-kind-requires c = node_known c.args.tree.now.nodes c.in-Some.serial c.loop-serial.place c.valid.ensures.numbered.distinct c.in-Some.ensures
-
-pub loop-serial-smaller : goal.loop-serial-smaller
-loop-serial-smaller c =
-    let inside : c.loop-serial.place < length c.args.tree.now.nodes = node_inside c.args.tree.now.nodes c.in-Some.serial c.loop-serial.place c.in-Some.ensures in
-    omega (arith, inside)
-
-pub loop-serial-preserved : goal.loop-serial-preserved
-loop-serial-preserved c =
-    let nodes = c.args.tree.now.nodes in
-    let inside : c.loop-serial.place < length nodes = node_inside nodes c.in-Some.serial c.loop-serial.place c.in-Some.ensures in
-    (empty_next nodes c.in-Some.serial _ c.loop-serial.place c.loop-serial.rows.items _ c.valid.ensures.numbered.distinct c.in-Some.ensures c.kind.ensures c.loop-serial.invariant.0 c.in_ok-push_empty.ensures, omega (arith, inside))
+pub loop-who-preserved : goal.loop-who-preserved
+loop-who-preserved c =
+    let whos = c.args.whos.now in
+    let i = c.loop-who.who-index in
+    let who = get_or whos i 0 in
+    c.in_ok-push.ensures.items
+    ∙ ap (λ rows. rows ++ row_without who ∷ []) c.loop-who.invariant
+    ∙ sym (map_next row_without whos i who (slice_get-get_or whos i 0 c.loop-who-test.true))
 
 pub returns : goal.returns
-returns c =
-    let left : length c.args.tree.now.nodes ≤ c.loop-serial.place = none_left c.args.tree.now.nodes c.loop-serial.place c.in_default.ensures in
-    c.loop-serial.invariant.0 ∙ ap (λ (ns : List Node). map empty_row (elements ns)) (take_all c.loop-serial.place c.args.tree.now.nodes left)
+returns c = c.loop-who.invariant ∙ ap (map row_without) (take_all c.loop-who.who-index c.args.whos.now c.loop-who-test.false)
