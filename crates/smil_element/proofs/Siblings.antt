@@ -1,6 +1,6 @@
 -- What displaces an element, by the last entries on its siblings.
-use Rattle.std.proofs.Common.{◌≡◌, refl, sym, ◌∙◌, ap, ℕ, suc, zero, List, [], ◌∷◌, ◌++◌, length, drop, filter, Bool, true, false, Option, Some, None, arith}
-use Rattle.std.specs.Prelude.{cond, not, ◌&&◌, ◌||◌, ◌==◌, is_some}
+use Rattle.std.proofs.Common.{◌≡◌, refl, sym, ◌∙◌, ap, ℕ, suc, zero, List, [], ◌∷◌, ◌++◌, ◌<◌, length, drop, filter, Bool, true, false, Option, Some, None, arith}
+use Rattle.std.specs.Prelude.{cond, not, ◌&&◌, ◌||◌, ◌==◌, is_some, IfSome}
 use Rattle.std.specs.List.{AllByRecursion, list_any}
 use Rattle.std.specs.Option.{option_map_or}
 use Rattle.std.proofs.lemmas.Bool.{and_parts, eqb-true, eq-eqb}
@@ -254,3 +254,10 @@ module _ (h : History) (who from : ℕ) (p : Node) (under : time_parent h.nodes 
       any_each (may_set_off h.diary who from) (λ c. list_any (sets c) (drop from h.diary)) cs one_set
       ∙ any_swap sets cs (drop from h.diary)
       ∙ any_all (λ (x : Entry). IsKnown h.nodes x.step) (λ x. list_any (λ c. sets c x) cs) (λ (x : Entry). sets_off_sibling h.nodes who x.step) (drop from h.diary) (each_drop (λ (x : Entry). IsKnown h.nodes x.step) from h.diary known) sets_is
+
+-- ---- the later of two places
+
+pub later_within : (first second : Option ℕ) (all : ℕ) → IfSome first (λ a. a < all) → IfSome second (λ b. b < all) → IfSome (later_of first second) (λ r. r < all)
+later_within None second all a b = b
+later_within (Some x) None all a b = a
+later_within (Some x) (Some y) all a b = omega (arith, a, b)

@@ -6,11 +6,11 @@ ghost use Rattle.std.specs.Option.{option_map_or};
 ghost use Rattle.smil_model.specs.document.Document.{serials, time_children};
 ghost use Rattle.smil_model.specs.diary.Lawful.{has_element};
 ghost use Rattle.smil_model.specs.shown.Views.{is_displaced};
-ghost use Rattle.smil_diary.specs.Places.{is_from, later_of};
 ghost use Rattle.smil_past.specs.Past.{history_of};
 ghost use Rattle.smil_element.specs.Displaced.{began_from, births, finished_by, following, is_set_off, may_set_off};
 
 use super::facts::parent_of;
+use smil_diary::{is_from, later_of};
 use smil_model::{Kind, StepKind};
 use smil_past::Past;
 
@@ -57,35 +57,12 @@ fn finished_by(past: &Past, who: u32) -> usize
     }
 }
 
-// The later of two places.
-fn later_of(first: Option<usize>, second: Option<usize>) -> Option<usize>
-    ensures value { result ≡ later_of first second }
-    ensures within { (all : ℕ) → IfSome first (λ a. a < all) → IfSome second (λ b. b < all)
-        → IfSome result (λ r. r < all) }
-{
-    match (first, second) {
-        (Some(first), Some(second)) => Some(first.max(second)),
-        (None, second) => second,
-        (first, None) => first,
-    }
-}
-
 // Whether an element began or resumed after so many entries.
 fn sets_off(past: &Past, who: u32, from: usize) -> bool
     ensures { result ≡ is_set_off past.now.diary who from }
 {
-    is_from(past.book().last(who, StepKind::Began), from)
-        || is_from(past.book().last(who, StepKind::Resumed), from)
-}
-
-// Whether there is a place, and it is not before `from`.
-fn is_from(place: Option<usize>, from: usize) -> bool
-    ensures { result ≡ is_from from place }
-{
-    match place {
-        Some(place) => from <= place,
-        None => false,
-    }
+    is_from(from, past.book().last(who, StepKind::Began))
+        || is_from(from, past.book().last(who, StepKind::Resumed))
 }
 
 // Whether the next child of a seq began since the birth of one of its children.
@@ -95,8 +72,8 @@ fn next_began(past: &Past, parent: u32, who: u32) -> bool
 {
     match next_child(past, parent, who) {
         Some(next) => is_from(
-            past.book().last(next, StepKind::Began),
             past.book().birth(Some(parent)),
+            past.book().last(next, StepKind::Began),
         ),
         None => false,
     }

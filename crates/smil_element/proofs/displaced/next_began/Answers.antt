@@ -17,7 +17,7 @@ pub returns-in-Some : goal.returns-in-Some
 unfolding node_like
 returns-in-Some c =
     let diary = c.args.past.now.diary in
-    let birth_is = c.birth.ensures (Some (node_like c.args.parent)) refl ∙ ap (λ ds. births ds c.args.parent) c.book-in-Some.ensures in
-    let last_is = c.last.ensures.value ∙ ap (λ ds. last_step ds kind.Began c.in-Some.next) c.book.ensures in
+    let birth_is = c.birth.ensures (Some (node_like c.args.parent)) refl ∙ ap (λ ds. births ds c.args.parent) c.book.ensures in
+    let last_is = c.last.ensures.value ∙ ap (λ ds. last_step ds kind.Began c.in-Some.next) c.book-in-Some.ensures in
     c.is_from.ensures ∙ ap (λ b. is_from b c.last.result) birth_is ∙ ap (is_from (births diary c.args.parent)) last_is
     ∙ ap (λ o. option_map_or (began_from diary (births diary c.args.parent)) o false) (sym c.in-Some.is ∙ c.next_child.ensures)
