@@ -56,16 +56,14 @@ impl Drop for Past {
 }
 
 impl Model for Past {
-    ghost use Rattle.std.specs.Prelude.{◌≡◌};
     ghost use Rattle.smil_past.specs.Past.{Happened};
-    ghost use Rattle.smil_past.specs.Chronicle.{BacksUp, Tells};
-    ghost use Rattle.smil_past.specs.Syncs.{all_syncs};
+    ghost use Rattle.smil_past.specs.Chronicle.{IsWhole};
 
     ghost Value = { Happened };
 
     ghost view = { λ p. record { document = p.tree; log = p.log; diary = p.chronicle.book; marked = p.mark } };
 
-    ghost invariant = { λ p. (p.graph.nodes ≡ p.tree.nodes) × (p.syncs ≡ all_syncs p.tree.nodes) × Tells p.tree p.log p.chronicle × BacksUp p.tree p.log p.chronicle.book p.second p.mark };
+    ghost invariant = { λ p. IsWhole p.tree p.log p.graph p.syncs p.chronicle p.second p.mark };
 }
 
 impl Past {

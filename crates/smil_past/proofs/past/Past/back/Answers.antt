@@ -7,7 +7,7 @@ use Rattle.smil_past.proofs.Seconds.{backs_none, backs_unmarked, book_back, hold
 use Rattle.smil_past.proofs.past.Past.back.Goals as goal
 
 pub cut_back-requires : goal.cut_back-requires
-cut_back-requires c = (c.self.invariant.3.at c.unwrap-log.result (sym c.take.ensures.value ∙ c.unwrap-log.ensures)).log_within
+cut_back-requires c = (c.self.invariant.backs_up.at c.unwrap-log.result (sym c.take.ensures.value ∙ c.unwrap-log.ensures)).log_within
 
 pub unwrap-requires : goal.unwrap-requires
 unwrap-requires c =
@@ -15,7 +15,7 @@ unwrap-requires c =
     let mark = c.unwrap-log.result in
     let is : was.mark ≡ Some mark = sym c.take.ensures.value ∙ c.unwrap-log.ensures in
     let longer : mark.1 < length was.chronicle.book = omega (arith, c.if-diary-len.true, c.len.ensures.value) in
-    ap is_some c.take-then-diary-len.ensures.value ∙ second_there was.tree was.log was.chronicle.book was.second was.mark mark is c.self.invariant.3 longer
+    ap is_some c.take-then-diary-len.ensures.value ∙ second_there was.tree was.log was.chronicle.book was.second was.mark mark is c.self.invariant.backs_up longer
 
 pub invariant_of-self : goal.invariant_of-self
 invariant_of-self c =
@@ -26,13 +26,13 @@ invariant_of-self c =
     let now = c.unwrap.result in
     let is : was.mark ≡ Some mark = sym c.take.ensures.value ∙ c.unwrap-log.ensures in
     let longer : mark.1 < length was.chronicle.book = omega (arith, c.if-diary-len.true, c.len.ensures.value) in
-    let here : was.second ≡ Some now = sym c.take-then-diary-len.ensures.value ∙ c.unwrap.ensures in (
-      sound.0,
-      sound.1,
-      subst (λ l. Tells was.tree l now) (sym c.cut_back.ensures) (tells_back was.tree was.log was.chronicle.book was.second was.mark mark is sound.3 longer now here),
-      subst (λ s. BacksUp was.tree log now.book s c.take.new.self) (sym c.take-then-diary-len.ensures.after)
-          (subst (λ m. BacksUp was.tree log now.book None m) (sym c.take.ensures.after) (backs_none was.tree log now.book)),
-    )
+    let here : was.second ≡ Some now = sym c.take-then-diary-len.ensures.value ∙ c.unwrap.ensures in record {
+      graph_is = sound.graph_is;
+      syncs_are = sound.syncs_are;
+      tells = subst (λ l. Tells was.tree l now) (sym c.cut_back.ensures) (tells_back was.tree was.log was.chronicle.book was.second was.mark mark is sound.backs_up longer now here);
+      backs_up = subst (λ s. BacksUp was.tree log now.book s c.take.new.self) (sym c.take-then-diary-len.ensures.after)
+          (subst (λ m. BacksUp was.tree log now.book None m) (sym c.take.ensures.after) (backs_none was.tree log now.book));
+    }
 
 pub invariant_of-self-else-diary-len : goal.invariant_of-self-else-diary-len
 invariant_of-self-else-diary-len c =
@@ -41,14 +41,14 @@ invariant_of-self-else-diary-len c =
     let mark = c.unwrap-log.result in
     let book = was.chronicle.book in
     let is : was.mark ≡ Some mark = sym c.take.ensures.value ∙ c.unwrap-log.ensures in
-    let all : length book ≤ mark.1 = omega (arith, c.if-diary-len.false, c.len.ensures.value) in (
-      sound.0,
-      sound.1,
-      subst (λ l. Holds was.tree l book was.chronicle.kept) (sym c.cut_back.ensures) (holds_back was.tree was.log book was.second was.mark mark is sound.3 was.chronicle.kept all sound.2),
-      subst (λ m. BacksUp was.tree c.cut_back.new.self book was.second m) (sym c.take.ensures.after)
+    let all : length book ≤ mark.1 = omega (arith, c.if-diary-len.false, c.len.ensures.value) in record {
+      graph_is = sound.graph_is;
+      syncs_are = sound.syncs_are;
+      tells = subst (λ l. Holds was.tree l book was.chronicle.kept) (sym c.cut_back.ensures) (holds_back was.tree was.log book was.second was.mark mark is sound.backs_up was.chronicle.kept all sound.tells);
+      backs_up = subst (λ m. BacksUp was.tree c.cut_back.new.self book was.second m) (sym c.take.ensures.after)
           (subst (λ l. BacksUp was.tree l book was.second None) (sym c.cut_back.ensures)
-          (backs_unmarked was.tree (take mark.0 was.log) book was.second (lags_back was.tree was.log book was.second was.mark mark is sound.3 all))),
-    )
+          (backs_unmarked was.tree (take mark.0 was.log) book was.second (lags_back was.tree was.log book was.second was.mark mark is sound.backs_up all)));
+    }
 
 pub returns-then-diary-len : goal.returns-then-diary-len
 returns-then-diary-len c = λ other stands.
@@ -57,7 +57,7 @@ returns-then-diary-len c = λ other stands.
     let is : was.mark ≡ Some mark = sym c.take.ensures.value ∙ c.unwrap-log.ensures in
     let longer : mark.1 < length was.chronicle.book = omega (arith, c.if-diary-len.true, c.len.ensures.value) in
     let here : was.second ≡ Some c.unwrap.result = sym c.take-then-diary-len.ensures.value ∙ c.unwrap.ensures in
-    let few = book_back was.tree was.log was.chronicle.book was.second was.mark mark is c.self.invariant.3 longer c.unwrap.result here in
+    let few = book_back was.tree was.log was.chronicle.book was.second was.mark mark is c.self.invariant.backs_up longer c.unwrap.result here in
     went_back was.tree was.log c.cut_back.new.self was.chronicle.book c.unwrap.result.book was.mark c.take.new.self c.args.self.now mark other c.self.view_is is stands c.cut_back.ensures few c.take.ensures.after
 
 pub returns-else-diary-len : goal.returns-else-diary-len

@@ -7,7 +7,7 @@ use Rattle.smil_past.proofs.past.Past.copy.Goals as goal
 pub of-requires-clause-possible : goal.of-requires-clause-possible
 of-requires-clause-possible c =
     let was = c.self.inside in
-    possible_copied was.tree c.in_ok-tree.tree was.log c.in_ok-log.log was.chronicle.book c.len.result c.in_ok-tree.ensures c.in_ok-log.ensures c.len.ensures.value c.self.invariant.2.possible
+    possible_copied was.tree c.in_ok-tree.tree was.log c.in_ok-log.log was.chronicle.book c.len.result c.in_ok-tree.ensures c.in_ok-log.ensures c.len.ensures.value c.self.invariant.tells.possible
 
 pub of-requires-clause-within : goal.of-requires-clause-within
 of-requires-clause-within c = omega (arith, c.len.ensures.value)

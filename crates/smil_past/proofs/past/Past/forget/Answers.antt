@@ -5,4 +5,9 @@ pub invariant_of-self : goal.invariant_of-self
 invariant_of-self c =
     let was = c.self.inside in
     let sound = c.self.invariant in
-    (sound.0, sound.1, sound.2, backs_unmarked was.tree was.log was.chronicle.book was.second sound.3.lags)
+    record {
+      graph_is = sound.graph_is;
+      syncs_are = sound.syncs_are;
+      tells = sound.tells;
+      backs_up = backs_unmarked was.tree was.log was.chronicle.book was.second sound.backs_up.lags;
+    }

@@ -10,22 +10,22 @@ pub invariant_of-self : goal.invariant_of-self
 invariant_of-self c =
     let was = c.self.inside in
     let sound = c.self.invariant in
-    let same : c.push.new.self ≡ was.log = c.in_err-push.ensures.err in (
-      sound.0,
-      sound.1,
-      subst (λ log. Tells was.tree log was.chronicle) (sym same) sound.2,
-      subst (λ log. BacksUp was.tree log was.chronicle.book was.second was.mark) (sym same) sound.3,
-    )
+    let same : c.push.new.self ≡ was.log = c.in_err-push.ensures.err in record {
+      graph_is = sound.graph_is;
+      syncs_are = sound.syncs_are;
+      tells = subst (λ log. Tells was.tree log was.chronicle) (sym same) sound.tells;
+      backs_up = subst (λ log. BacksUp was.tree log was.chronicle.book was.second was.mark) (sym same) sound.backs_up;
+    }
 
 pub invariant_of-self-2 : goal.invariant_of-self-2
 invariant_of-self-2 c =
     let was = c.self.inside in
-    let sound = c.self.invariant in (
-      sound.0,
-      sound.1,
-      heard was.tree was.log c.push.new.self c.args.entry was.chronicle.book was.chronicle.kept c.in_ok-push.ensures.ok sound.2,
-      backs_heard was.tree was.log c.push.new.self c.args.entry was.chronicle.book was.second was.mark c.in_ok-push.ensures.ok sound.3,
-    )
+    let sound = c.self.invariant in record {
+      graph_is = sound.graph_is;
+      syncs_are = sound.syncs_are;
+      tells = heard was.tree was.log c.push.new.self c.args.entry was.chronicle.book was.chronicle.kept c.in_ok-push.ensures.ok sound.tells;
+      backs_up = backs_heard was.tree was.log c.push.new.self c.args.entry was.chronicle.book was.second was.mark c.in_ok-push.ensures.ok sound.backs_up;
+    }
 
 pub invariant_of-self-in-Err : goal.invariant_of-self-in-Err
 invariant_of-self-in-Err c =
@@ -35,10 +35,10 @@ invariant_of-self-in-Err c =
     let seen = c.self-2.view_is ∙ c.in-Err.ensures.err in
     let full : now.log ≡ was.log ++ c.args.entry ∷ [] = ap (λ (v : Happened). v.log) seen ∙ c.in_ok-push.ensures.ok in
     let cut : c.cut_back.new.self ≡ was.log = cut_heard was.log now.log c.cut_back.new.self c.args.entry c.len-place.result full c.len-place.ensures c.cut_back.ensures in
-    let named : NamesBelow (length was.log) now.chronicle.book = subst (NamesBelow (length was.log)) (sym (ap (λ (v : Happened). v.diary) seen)) c.self.invariant.2.possible.named in
-    let within : (mark : ℕ × ℕ) → now.mark ≡ Some mark → mark.0 ≤ length was.log = λ mark is. (c.self.invariant.3.at mark (sym (ap (λ (v : Happened). v.marked) seen) ∙ is)).log_within in (
-      sound.0,
-      sound.1,
-      unheard now.tree was.log now.log c.cut_back.new.self c.args.entry now.chronicle.book now.chronicle.kept full cut named sound.2,
-      backs_unheard now.tree was.log now.log c.cut_back.new.self c.args.entry now.chronicle.book now.second now.mark full cut named within sound.3,
-    )
+    let named : NamesBelow (length was.log) now.chronicle.book = subst (NamesBelow (length was.log)) (sym (ap (λ (v : Happened). v.diary) seen)) c.self.invariant.tells.possible.named in
+    let within : (mark : ℕ × ℕ) → now.mark ≡ Some mark → mark.0 ≤ length was.log = λ mark is. (c.self.invariant.backs_up.at mark (sym (ap (λ (v : Happened). v.marked) seen) ∙ is)).log_within in record {
+      graph_is = sound.graph_is;
+      syncs_are = sound.syncs_are;
+      tells = unheard now.tree was.log now.log c.cut_back.new.self c.args.entry now.chronicle.book now.chronicle.kept full cut named sound.tells;
+      backs_up = backs_unheard now.tree was.log now.log c.cut_back.new.self c.args.entry now.chronicle.book now.second now.mark full cut named within sound.backs_up;
+    }

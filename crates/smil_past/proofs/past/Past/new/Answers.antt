@@ -10,12 +10,12 @@ invariant_of-result c =
     let tree = c.args.tree in
     let log = c.args.log in
     let chronicle = c.in_ok-chronicle.chronicle in
-    let nothing = IfOk-at_ok (TellsNothing tree log) c.in_ok-chronicle.was (c.new.ensures log) in (
-      c.in_ok-graph.ensures,
-      c.in_ok-syncs.ensures,
-      (lags_new tree log [] chronicle c.requires nothing).tells,
-      backs_none tree log chronicle.book,
-    )
+    let nothing = IfOk-at_ok (TellsNothing tree log) c.in_ok-chronicle.was (c.new.ensures log) in record {
+      graph_is = c.in_ok-graph.ensures;
+      syncs_are = c.in_ok-syncs.ensures;
+      tells = (lags_new tree log [] chronicle c.requires nothing).tells;
+      backs_up = backs_none tree log chronicle.book;
+    }
 
 pub returns : goal.returns
 returns c =
