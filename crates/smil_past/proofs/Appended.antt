@@ -17,9 +17,9 @@ use Rattle.smil_past.specs.Played.{all_played}
 use Rattle.smil_past.specs.Queues.{kept_queues}
 use Rattle.smil_instances.specs.Instances.{IsSettled}
 use Rattle.smil_instances.specs.Intake.{history_of}
-use Rattle.smil_past.specs.declared.kept.Kept.{Kept}
+use Rattle.smil_past.specs.declared.readings.Readings.{Readings}
 use Rattle.smil_past.specs.Past.{Happened, IsPossible, MayFollow}
-use Rattle.smil_past.specs.Kept.{Holds, IsKeptOf, IsLast}
+use Rattle.smil_past.specs.Readings.{Holds, AreReadingsOf, IsLast}
 
 -- ---- lists
 
@@ -44,31 +44,31 @@ possible_push document log diary y possible lawful near named few = record {
 }
 
 -- the entry is the last one of the longer diary
-pub is_last : (document : Document) (log : List LogEntry) (diary more : List Entry) (y : Entry) (kept : Kept) → IsKeptOf kept document log diary → IsLawful (with_entry (history_of document log diary) y) → HasNear y.step → more ≡ diary ++ y ∷ [] → IsLast kept y document log more
-is_last document log diary more y kept known lawful near is = record {
+pub is_last : (document : Document) (log : List LogEntry) (diary more : List Entry) (y : Entry) (readings : Readings) → AreReadingsOf readings document log diary → IsLawful (with_entry (history_of document log diary) y) → HasNear y.step → more ≡ diary ++ y ∷ [] → IsLast readings y document log more
+is_last document log diary more y readings known lawful near is = record {
   before = diary;
   diary_is = is;
-  kept_is = known;
+  readings_are = known;
   lawful = lawful;
   near = near;
 }
 
 -- what is kept of the longer diary, by what is kept of it with one entry more
-pub taken_in : (document : Document) (log : List LogEntry) (before diary : List Entry) (y : Entry) (kept : Kept) → diary ≡ before ++ y ∷ [] → AreClocksOf kept.clocks (with_entry (history_of document log before) y) → kept.plays ≡ all_played (with_entry (history_of document log before) y) → kept.queues ≡ kept_queues (with_entry (history_of document log before) y) → IsSettled kept.instances document log diary → IsKeptOf kept document log diary
-taken_in document log before diary y kept is clocks plays queues instances =
-    subst (λ ds. IsKeptOf kept document log ds) (sym is)
+pub taken_in : (document : Document) (log : List LogEntry) (before diary : List Entry) (y : Entry) (readings : Readings) → diary ≡ before ++ y ∷ [] → AreClocksOf readings.clocks (with_entry (history_of document log before) y) → readings.plays ≡ all_played (with_entry (history_of document log before) y) → readings.queues ≡ kept_queues (with_entry (history_of document log before) y) → IsSettled readings.instances document log diary → AreReadingsOf readings document log diary
+taken_in document log before diary y readings is clocks plays queues instances =
+    subst (λ ds. AreReadingsOf readings document log ds) (sym is)
     (record {
       clocks_are = clocks;
       plays_are = plays;
       queues_are = queues;
-      instances_are = subst (λ ds. IsSettled kept.instances document log ds) is instances;
+      instances_are = subst (λ ds. IsSettled readings.instances document log ds) is instances;
     })
 
 -- ---- the same values
 
-pub holds_by : (document : Document) (log : List LogEntry) (diary now : List Entry) (kept other : Kept) → now ≡ diary → other ≡ kept → Holds document log diary kept → Holds document log now other
-holds_by document log diary now kept other is same holds =
+pub holds_by : (document : Document) (log : List LogEntry) (diary now : List Entry) (readings other : Readings) → now ≡ diary → other ≡ readings → Holds document log diary readings → Holds document log now other
+holds_by document log diary now readings other is same holds =
     subst (λ ds. Holds document log ds other) (sym is) (subst (λ k. Holds document log diary k) (sym same) holds)
 
-pub holds_now : (document : Document) (log : List LogEntry) (diary now : List Entry) (kept : Kept) → now ≡ diary → IsPossible document log diary → IsKeptOf kept document log now → Holds document log now kept
-holds_now document log diary now kept is possible known = record { possible = subst (IsPossible document log) (sym is) possible; kept_is = known }
+pub holds_now : (document : Document) (log : List LogEntry) (diary now : List Entry) (readings : Readings) → now ≡ diary → IsPossible document log diary → AreReadingsOf readings document log now → Holds document log now readings
+holds_now document log diary now readings is possible known = record { possible = subst (IsPossible document log) (sym is) possible; readings_are = known }

@@ -26,9 +26,9 @@ use Rattle.smil_instances.specs.Laws.{IsSameHeard}
 use Rattle.smil_instances.specs.SettledTimes.{instances_of, row_of, settled_rows}
 use Rattle.smil_instances.proofs.Logs.{kept_grown}
 use Rattle.smil_instances.specs.Intake.{history_of}
-use Rattle.smil_past.specs.declared.kept.Kept.{Kept}
+use Rattle.smil_past.specs.declared.readings.Readings.{Readings}
 use Rattle.smil_past.specs.Past.{IsPossible}
-use Rattle.smil_past.specs.Kept.{Holds, IsKeptOf}
+use Rattle.smil_past.specs.Readings.{Holds, AreReadingsOf}
 
 -- ---- what is named
 
@@ -109,8 +109,8 @@ module _ (document : Document) (log more : List LogEntry) (diary : List Entry) (
   rows_longer = rows_same (elements document.nodes)
 
   -- the same is kept with the longer log and with the shorter
-  pub kept_longer : (kept : Kept) → IsKeptOf kept document log diary → IsKeptOf kept document (log ++ more) diary
-  kept_longer kept known = record {
+  pub kept_longer : (readings : Readings) → AreReadingsOf readings document log diary → AreReadingsOf readings document (log ++ more) diary
+  kept_longer readings known = record {
     clocks_are = record {
       next = known.clocks_are.next;
       document = known.clocks_are.document;
@@ -125,8 +125,8 @@ module _ (document : Document) (log more : List LogEntry) (diary : List Entry) (
     };
   }
 
-  pub kept_shorter : (kept : Kept) → IsKeptOf kept document (log ++ more) diary → IsKeptOf kept document log diary
-  kept_shorter kept known = record {
+  pub kept_shorter : (readings : Readings) → AreReadingsOf readings document (log ++ more) diary → AreReadingsOf readings document log diary
+  kept_shorter readings known = record {
     clocks_are = record {
       next = known.clocks_are.next;
       document = known.clocks_are.document;
@@ -159,22 +159,22 @@ module _ (document : Document) (log more : List LogEntry) (diary : List Entry) (
     few = possible.few;
   }
 
-  pub holds_longer : (kept : Kept) → Holds document log diary kept → Holds document (log ++ more) diary kept
-  holds_longer kept holds = record { possible = possible_longer holds.possible; kept_is = kept_longer kept holds.kept_is }
+  pub holds_longer : (readings : Readings) → Holds document log diary readings → Holds document (log ++ more) diary readings
+  holds_longer readings holds = record { possible = possible_longer holds.possible; readings_are = kept_longer readings holds.readings_are }
 
-  pub holds_shorter : (kept : Kept) → Holds document (log ++ more) diary kept → Holds document log diary kept
-  holds_shorter kept holds = record { possible = possible_shorter holds.possible; kept_is = kept_shorter kept holds.kept_is }
+  pub holds_shorter : (readings : Readings) → Holds document (log ++ more) diary readings → Holds document log diary readings
+  holds_shorter readings holds = record { possible = possible_shorter holds.possible; readings_are = kept_shorter readings holds.readings_are }
 
 -- ---- one log entry more, and one less
 
-pub heard : (document : Document) (log now : List LogEntry) (entry : LogEntry) (diary : List Entry) (kept : Kept) → now ≡ log ++ entry ∷ [] → Holds document log diary kept → Holds document now diary kept
-heard document log now entry diary kept is holds =
-    subst (λ l. Holds document l diary kept) (sym is) (holds_longer document log (entry ∷ []) diary holds.possible.named kept holds)
+pub heard : (document : Document) (log now : List LogEntry) (entry : LogEntry) (diary : List Entry) (readings : Readings) → now ≡ log ++ entry ∷ [] → Holds document log diary readings → Holds document now diary readings
+heard document log now entry diary readings is holds =
+    subst (λ l. Holds document l diary readings) (sym is) (holds_longer document log (entry ∷ []) diary holds.possible.named readings holds)
 
-pub unheard : (document : Document) (log full now : List LogEntry) (entry : LogEntry) (diary : List Entry) (kept : Kept) → full ≡ log ++ entry ∷ [] → now ≡ log → NamesBelow (length log) diary → Holds document full diary kept → Holds document now diary kept
-unheard document log full now entry diary kept is cut named holds =
-    subst (λ l. Holds document l diary kept) (sym cut)
-    (holds_shorter document log (entry ∷ []) diary named kept (subst (λ l. Holds document l diary kept) is holds))
+pub unheard : (document : Document) (log full now : List LogEntry) (entry : LogEntry) (diary : List Entry) (readings : Readings) → full ≡ log ++ entry ∷ [] → now ≡ log → NamesBelow (length log) diary → Holds document full diary readings → Holds document now diary readings
+unheard document log full now entry diary readings is cut named holds =
+    subst (λ l. Holds document l diary readings) (sym cut)
+    (holds_shorter document log (entry ∷ []) diary named readings (subst (λ l. Holds document l diary readings) is holds))
 
 -- what is left of a log when its last entry is taken away
 pub cut_heard : (log full now : List LogEntry) (entry : LogEntry) (place : ℕ) → full ≡ log ++ entry ∷ [] → place ≡ length log → now ≡ take place full → now ≡ log

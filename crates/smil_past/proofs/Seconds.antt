@@ -9,9 +9,9 @@ use Rattle.smil_model.specs.document.Document.{Document}
 use Rattle.smil_laws.specs.Cut.{IsNamedBelow, NamesBelow}
 use Rattle.smil_tree.proofs.KinLists.{each_left}
 use Rattle.smil_past.specs.declared.chronicle.Chronicle.{Chronicle}
-use Rattle.smil_past.specs.declared.kept.Kept.{Kept}
+use Rattle.smil_past.specs.declared.readings.Readings.{Readings}
 use Rattle.smil_past.specs.Past.{Happened, IsPossible, MayFollow, at_mark, unmarked}
-use Rattle.smil_past.specs.Kept.{Holds}
+use Rattle.smil_past.specs.Readings.{Holds}
 use Rattle.smil_past.specs.Chronicle.{BacksUp, EndsAtMark, HoldsAt, Lags, LagsIfAny, Tells, TellsNothing, reach}
 use Rattle.smil_past.proofs.Fronts.{follows_at, front_is, possible_before}
 use Rattle.smil_past.proofs.Grown.{holds_longer, holds_shorter}
@@ -30,7 +30,7 @@ lags_new document log diary c possible new =
     record {
       within = omega (arith, none);
       first = new.nothing ∙ sym (ap (λ k. take k diary) none);
-      tells = subst (λ ds. Holds document log ds c.kept) (sym new.nothing) (record { possible = possible_before document log diary possible; kept_is = new.kept_is });
+      tells = subst (λ ds. Holds document log ds c.readings) (sym new.nothing) (record { possible = possible_before document log diary possible; readings_are = new.readings_are });
     }
 
 module _ (document : Document) (log : List LogEntry) (book : List Entry) (len place : ℕ) (y : Entry) (c : Chronicle) (below : place < len) (within : len ≤ length book) (at : slice_get book place ≡ Some y) (lags : Lags document log (take len book) c) (reached : length c.book ≡ place) where
@@ -94,7 +94,7 @@ module _ (document : Document) (log more : List LogEntry) (diary : List Entry) w
   lags_longer c lags = record {
     within = lags.within;
     first = lags.first;
-    tells = holds_longer document log more c.book lags.tells.possible.named c.kept lags.tells;
+    tells = holds_longer document log more c.book lags.tells.possible.named c.readings lags.tells;
   }
 
   pub backs_longer : (second : Option Chronicle) (marked : Option (ℕ × ℕ)) → BacksUp document log diary second marked → BacksUp document (log ++ more) diary second marked
@@ -116,7 +116,7 @@ module _ (document : Document) (log more : List LogEntry) (diary : List Entry) w
       record {
         within = lags.within;
         first = lags.first;
-        tells = holds_shorter document log more c.book (subst (NamesBelow (length log)) (sym lags.first) (names_front (length log) (length c.book) diary named)) c.kept lags.tells;
+        tells = holds_shorter document log more c.book (subst (NamesBelow (length log)) (sym lags.first) (names_front (length log) (length c.book) diary named)) c.readings lags.tells;
       }
 
   pub backs_shorter : (second : Option Chronicle) (marked : Option (ℕ × ℕ)) → NamesBelow (length log) diary → ((mark : ℕ × ℕ) → marked ≡ Some mark → mark.0 ≤ length log) → BacksUp document (log ++ more) diary second marked → BacksUp document log diary second marked
@@ -208,9 +208,9 @@ module _ (document : Document) (log : List LogEntry) (diary : List Entry) (secon
       subst (NamesBelow (length (take mark.0 log))) (whole all) (backs.at mark is).possible.named
 
   -- nothing came since, and what is kept is that of the mark
-  pub holds_back : (kept : Kept) → length diary ≤ mark.1 → Holds document log diary kept → Holds document (take mark.0 log) diary kept
-  holds_back kept all holds =
-      holds_shorter document (take mark.0 log) (drop mark.0 log) diary (named all) kept (subst (λ l. Holds document l diary kept) (sym log_is) holds)
+  pub holds_back : (readings : Readings) → length diary ≤ mark.1 → Holds document log diary readings → Holds document (take mark.0 log) diary readings
+  holds_back readings all holds =
+      holds_shorter document (take mark.0 log) (drop mark.0 log) diary (named all) readings (subst (λ l. Holds document l diary readings) (sym log_is) holds)
 
   pub lags_back : length diary ≤ mark.1 → LagsIfAny document (take mark.0 log) diary second
   lags_back all =
@@ -230,8 +230,8 @@ module _ (document : Document) (log : List LogEntry) (diary : List Entry) (secon
 
     pub tells_back : Tells document (take mark.0 log) c
     tells_back =
-        holds_shorter document (take mark.0 log) (drop mark.0 log) c.book (subst (NamesBelow (length (take mark.0 log))) (sym book_back) (backs.at mark is).possible.named) c.kept
-        (subst (λ l. Holds document l c.book c.kept) (sym log_is) (backs.lags c here).tells)
+        holds_shorter document (take mark.0 log) (drop mark.0 log) c.book (subst (NamesBelow (length (take mark.0 log))) (sym book_back) (backs.at mark is).possible.named) c.readings
+        (subst (λ l. Holds document l c.book c.readings) (sym log_is) (backs.lags c here).tells)
 
 -- what has happened is then what had at the mark
 pub went_back : (document : Document) (log less : List LogEntry) (diary fewer : List Entry) (marked none : Option (ℕ × ℕ)) (now : Happened) (mark other : ℕ × ℕ) → record { document = document; log = log; diary = diary; marked = marked } ≡ now → marked ≡ Some mark → now.marked ≡ Some other → less ≡ take mark.0 log → fewer ≡ take mark.1 diary → none ≡ None

@@ -7,16 +7,16 @@ use Rattle.smil_graph.specs.Graph.{OrderedNodes}
 use Rattle.smil_past.specs.declared.chronicle.Chronicle.{Chronicle}
 use Rattle.smil_past.specs.Past.{IsPossible}
 use Rattle.smil_past.specs.Syncs.{SyncRow, all_syncs}
-use Rattle.smil_past.specs.Kept.{Holds, IsKeptOf}
+use Rattle.smil_past.specs.Readings.{Holds, AreReadingsOf}
 
--- its diary is possible with this document and this log, and what it keeps is of these
+-- its diary is possible with this document and this log, and its readings are of these
 abbrev pub Tells : Document → List LogEntry → Chronicle → Type 0
-Tells document log c = Holds document log c.book c.kept
+Tells document log c = Holds document log c.book c.readings
 
 -- nothing has happened to the document yet
 pub record TellsNothing (document : Document) (log : List LogEntry) (c : Chronicle) : Type 0 where
   pub nothing : c.book ≡ []
-  pub kept_is : IsKeptOf c.kept document log []
+  pub readings_are : AreReadingsOf c.readings document log []
 
 -- it has the first entries of a diary
 pub record Lags (document : Document) (log : List LogEntry) (diary : List Entry) (c : Chronicle) : Type 0 where

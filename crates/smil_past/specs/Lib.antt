@@ -4,5 +4,5 @@ pub mod Rows
 pub mod Queues
 pub mod Syncs
 pub mod Past
-pub mod Kept
+pub mod Readings
 pub mod Chronicle

@@ -1,4 +1,4 @@
-//! A diary, with what is kept of it.
+//! A diary, with its readings.
 
 ghost use Rattle.std.specs.Prelude.{◌≡◌, ◌≤◌, List, [], ◌∷◌, ◌++◌, length, take, OnOk, OnErr, IfOk, IfErr};
 ghost use Rattle.smil_model.specs.declared.limits.TheConstants as limits;
@@ -7,17 +7,17 @@ ghost use Rattle.smil_diary.specs.declared.fault.BookFault.TheVariants as book_f
 ghost use Rattle.smil_past.specs.Past.{IsPossible, MayFollow, unmarked};
 ghost use Rattle.smil_past.specs.Chronicle.{Lags, Tells, TellsNothing};
 
-use super::kept::Kept;
+use super::readings::Readings;
 use smil_diary::{Book, BookFault};
 use smil_graph::Graph;
 use smil_model::{Duplicate, Entry, Log};
 use smil_tree::Tree;
 use std::alloc::{AllocError, Global};
 
-/// A diary, and what is kept of it.
+/// A diary, and its readings.
 pub struct Chronicle {
     pub book: Book,
-    pub kept: Kept,
+    pub readings: Readings,
 }
 
 impl Drop for Chronicle {
@@ -25,7 +25,7 @@ impl Drop for Chronicle {
     fn drop(self) {
         let Chronicle {
             book: _book,
-            kept: _kept,
+            readings: _readings,
         } = self;
     }
 }
@@ -34,7 +34,7 @@ impl Duplicate for Chronicle {
     fn copy(&self) -> Result<Self, AllocError> {
         Ok(Chronicle {
             book: self.book.copy()?,
-            kept: self.kept.copy()?,
+            readings: self.readings.copy()?,
         })
     }
 }
@@ -48,7 +48,7 @@ impl Chronicle {
     {
         Ok(Chronicle {
             book: Book::new(alloc),
-            kept: Kept::new(alloc, tree, graph)?,
+            readings: Readings::new(alloc, tree, graph)?,
         })
     }
 
@@ -64,7 +64,7 @@ impl Chronicle {
             ≡ limits.DIARY_ENTRIES) }
     {
         self.book.push(entry)?;
-        match self.kept.take_in(tree, log, &self.book, entry) {
+        match self.readings.take_in(tree, log, &self.book, entry) {
             Ok(()) => Ok(()),
             Err(_) => {
                 let len = self.book.len();

@@ -3,14 +3,14 @@
 #![tactic(auto)]
 
 mod chronicle;
-pub mod kept;
 pub mod past;
 pub mod plays;
 mod queues;
+pub mod readings;
 pub mod syncs;
 
-pub use kept::Kept;
 pub use past::Past;
 pub use plays::{PastInterval, Played, Plays};
 pub use queues::Queues;
+pub use readings::Readings;
 pub use syncs::{Syncbase, Syncs};

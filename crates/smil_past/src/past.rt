@@ -240,28 +240,28 @@ impl Past {
     pub fn clocks(&self) -> &Clocks
         ensures { AreClocksOf result.now (history_of self.now) }
     {
-        &self.chronicle.kept.clocks
+        &self.chronicle.readings.clocks
     }
 
     /// The plays of the elements.
     pub fn plays(&self) -> &Plays
         ensures { result.now ≡ all_played (history_of self.now) }
     {
-        &self.chronicle.kept.plays
+        &self.chronicle.readings.plays
     }
 
     /// The queues of the excls.
     pub fn queues(&self) -> &Queues
         ensures { result.now ≡ kept_queues (history_of self.now) }
     {
-        &self.chronicle.kept.queues
+        &self.chronicle.readings.queues
     }
 
     /// The instance times that the diary alone gives.
     pub fn instances(&self) -> &Instances
         ensures { IsSettled result.now self.now.document self.now.log self.now.diary }
     {
-        &self.chronicle.kept.instances
+        &self.chronicle.readings.instances
     }
 
     /// A copy, unless memory runs out. No mark stands. The original stays. It takes in the diary's

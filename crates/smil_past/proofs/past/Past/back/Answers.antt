@@ -1,7 +1,7 @@
 use Rattle.std.proofs.Common.{◌≡◌, ◌<◌, ◌≤◌, sym, ◌∙◌, ap, subst, length, take, Some, None, arith}
 use Rattle.std.specs.Prelude.{is_some}
 use Rattle.std.proofs.lemmas.List.{take_all}
-use Rattle.smil_past.specs.Kept.{Holds}
+use Rattle.smil_past.specs.Readings.{Holds}
 use Rattle.smil_past.specs.Chronicle.{BacksUp, Tells}
 use Rattle.smil_past.proofs.Seconds.{backs_none, backs_unmarked, book_back, holds_back, lags_back, second_there, tells_back, went_back}
 use Rattle.smil_past.proofs.past.Past.back.Goals as goal
@@ -44,7 +44,7 @@ invariant_of-self-else-diary-len c =
     let all : length book ≤ mark.1 = omega (arith, c.if-diary-len.false, c.len.ensures.value) in record {
       graph_is = sound.graph_is;
       syncs_are = sound.syncs_are;
-      tells = subst (λ l. Holds was.tree l book was.chronicle.kept) (sym c.cut_back.ensures) (holds_back was.tree was.log book was.second was.mark mark is sound.backs_up was.chronicle.kept all sound.tells);
+      tells = subst (λ l. Holds was.tree l book was.chronicle.readings) (sym c.cut_back.ensures) (holds_back was.tree was.log book was.second was.mark mark is sound.backs_up was.chronicle.readings all sound.tells);
       backs_up = subst (λ m. BacksUp was.tree c.cut_back.new.self book was.second m) (sym c.take.ensures.after)
           (subst (λ l. BacksUp was.tree l book was.second None) (sym c.cut_back.ensures)
           (backs_unmarked was.tree (take mark.0 was.log) book was.second (lags_back was.tree was.log book was.second was.mark mark is sound.backs_up all)));

@@ -23,7 +23,7 @@ invariant_of-self-2 c =
     let sound = c.self.invariant in record {
       graph_is = sound.graph_is;
       syncs_are = sound.syncs_are;
-      tells = heard was.tree was.log c.push.new.self c.args.entry was.chronicle.book was.chronicle.kept c.in_ok-push.ensures.ok sound.tells;
+      tells = heard was.tree was.log c.push.new.self c.args.entry was.chronicle.book was.chronicle.readings c.in_ok-push.ensures.ok sound.tells;
       backs_up = backs_heard was.tree was.log c.push.new.self c.args.entry was.chronicle.book was.second was.mark c.in_ok-push.ensures.ok sound.backs_up;
     }
 
@@ -39,6 +39,6 @@ invariant_of-self-in-Err c =
     let within : (mark : ℕ × ℕ) → now.mark ≡ Some mark → mark.0 ≤ length was.log = λ mark is. (c.self.invariant.backs_up.at mark (sym (ap (λ (v : Happened). v.marked) seen) ∙ is)).log_within in record {
       graph_is = sound.graph_is;
       syncs_are = sound.syncs_are;
-      tells = unheard now.tree was.log now.log c.cut_back.new.self c.args.entry now.chronicle.book now.chronicle.kept full cut named sound.tells;
+      tells = unheard now.tree was.log now.log c.cut_back.new.self c.args.entry now.chronicle.book now.chronicle.readings full cut named sound.tells;
       backs_up = backs_unheard now.tree was.log now.log c.cut_back.new.self c.args.entry now.chronicle.book now.second now.mark full cut named within sound.backs_up;
     }

@@ -5,7 +5,7 @@ use Rattle.smil_past.specs.Played.{all_played}
 use Rattle.smil_past.specs.Queues.{kept_queues}
 use Rattle.smil_instances.specs.Instances.{IsSettled}
 use Rattle.smil_instances.specs.Intake.{history_of}
-use Rattle.smil_past.proofs.kept.Kept.new.Goals as goal
+use Rattle.smil_past.proofs.readings.Readings.new.Goals as goal
 
 pub of-requires : goal.of-requires
 of-requires c = record {

@@ -1,8 +1,8 @@
-//! What is kept beside a document, its log and its diary.
+//! The readings of a document and its diary.
 
 ghost use Rattle.std.specs.Prelude.{◌≡◌, List, [], OnOk, OnErr, IfOk};
 ghost use Rattle.smil_model.specs.declared.diary.LogEntry.{LogEntry as AnyLogEntry};
-ghost use Rattle.smil_past.specs.Kept.{IsKeptOf, IsLast};
+ghost use Rattle.smil_past.specs.Readings.{AreReadingsOf, IsLast};
 
 use super::plays::Plays;
 use super::queues::Queues;
@@ -16,17 +16,17 @@ use std::alloc::{AllocError, Global};
 
 /// The clocks, the plays, the queues of excls and the instance times that a document and its diary
 /// give.
-pub struct Kept {
+pub struct Readings {
     pub clocks: Clocks,
     pub plays: Plays,
     pub queues: Queues,
     pub instances: Instances,
 }
 
-impl Drop for Kept {
+impl Drop for Readings {
     // One call for each holder: its fields are dropped here alone.
     fn drop(self) {
-        let Kept {
+        let Readings {
             clocks: _clocks,
             plays: _plays,
             queues: _queues,
@@ -35,9 +35,9 @@ impl Drop for Kept {
     }
 }
 
-impl Duplicate for Kept {
+impl Duplicate for Readings {
     fn copy(&self) -> Result<Self, AllocError> {
-        Ok(Kept {
+        Ok(Readings {
             clocks: self.clocks.copy()?,
             plays: self.plays.copy()?,
             queues: self.queues.copy()?,
@@ -46,15 +46,16 @@ impl Duplicate for Kept {
     }
 }
 
-impl Kept {
-    /// What is kept of a document to which nothing has happened yet, unless memory runs out. The
+impl Readings {
+    /// The readings of a document to which nothing has happened yet, unless memory runs out. The
     /// graph is that of the tree.
-    pub fn new(alloc: Global, tree: &Tree, graph: &Graph) -> Result<Kept, AllocError>
+    pub fn new(alloc: Global, tree: &Tree, graph: &Graph) -> Result<Readings, AllocError>
         requires { graph.now.nodes ≡ tree.now.nodes }
-        ensures { (log : List AnyLogEntry) → IfOk result (λ kept. IsKeptOf kept tree.now log []) }
+        ensures { (log : List AnyLogEntry)
+            → IfOk result (λ readings. AreReadingsOf readings tree.now log []) }
     {
         let book = Book::new(alloc);
-        Ok(Kept {
+        Ok(Readings {
             clocks: Clocks::of(alloc, tree, &book)?,
             plays: Plays::new(alloc, tree)?,
             queues: Queues::new(alloc, tree)?,
@@ -72,7 +73,7 @@ impl Kept {
         entry: Entry,
     ) -> Result<(), AllocError>
         requires { IsLast self.old entry tree.now log.now book.now }
-        ensures ok { OnOk result (IsKeptOf self.new tree.now log.now book.now) }
+        ensures ok { OnOk result (AreReadingsOf self.new tree.now log.now book.now) }
         ensures err { OnErr result (self.new ≡ self.old) }
     {
         self.instances.note(tree, &self.clocks, log, book)?;
