@@ -15,6 +15,7 @@ use Rattle.smil_graph.specs.declared.tables.Tables.{Tables}
 use Rattle.smil_graph.specs.Links.{row, lists, links, AreRows}
 use Rattle.smil_graph.specs.Places.{reads_place, is_element_at, IsIndex, IsTable, AreTimeChildren}
 use Rattle.smil_graph.specs.Graph.{is_looped_item, readers_of, IsOrder}
+use Rattle.smil_graph.specs.declared.waiting.TheConstants.{KEYS}
 use Rattle.smil_model.specs.document.Defaults.{items_of, items_or}
 
 -- what rows have at a place that may be absent
@@ -107,7 +108,7 @@ waits nodes key (Some e) = is_element e && list_any (is_key_item key) (all_items
 
 -- for each key the places of the elements with an item for it
 abbrev pub AreWaiting : List Node → List (List ℕ) → Type 0
-AreWaiting nodes rows = AreRows 256 (λ key place. waits nodes key (slice_get nodes place)) rows
+AreWaiting nodes rows = AreRows KEYS (λ key place. waits nodes key (slice_get nodes place)) rows
 
 -- the place is put into the rows that pass, and else they are as before
 pub record AreWithPlace (test : ℕ → Bool) (place : ℕ) (old new : List (List ℕ)) : Type 0 where

@@ -12,8 +12,8 @@ use super::row::{Row, empty_rows, push_at};
 use smil_model::{Doc, Item, Items, Node};
 use std::alloc::{AllocError, Global};
 
-// How many keys there are: one for each byte.
-const KEYS: usize = 256;
+/// How many keys there are: one for each byte.
+pub const KEYS: usize = 256;
 
 /// For each key a row of the places of the elements that have an item for it.
 pub fn waiting(alloc: Global, doc: &Doc) -> Result<Vec<Row<usize>>, AllocError>
@@ -31,7 +31,7 @@ pub fn waiting(alloc: Global, doc: &Doc) -> Result<Vec<Row<usize>>, AllocError>
 // Puts the place of an element into the row of each key for which it has an item; that of a
 // priorityClass into none.
 fn push_waits(rows: &mut Vec<Row<usize>>, node: &Node, place: usize) -> Result<(), AllocError>
-    requires { 256 ≤ length rows.old.items }
+    requires { KEYS ≤ length rows.old.items }
     ensures { OnOk result (AreWithPlace (λ key. is_element node.now && has_key_item key node.now)
         place rows.old.items rows.new.items) }
 {
@@ -48,7 +48,7 @@ fn push_keys(
     items: &Option<Items>,
     place: usize,
 ) -> Result<(), AllocError>
-    requires { 256 ≤ length rows.old.items }
+    requires { KEYS ≤ length rows.old.items }
     ensures { OnOk result (AreWithPlace (λ key. list_any (is_key_item key) (items_or [] items.now))
         place rows.old.items rows.new.items) }
 {
@@ -75,7 +75,7 @@ fn key_of(item: &Item) -> Option<u8>
 
 // Puts a place into the row of a key, if there is one.
 fn push_key(rows: &mut Vec<Row<usize>>, key: Option<u8>, place: usize) -> Result<(), AllocError>
-    requires { 256 ≤ length rows.old.items }
+    requires { KEYS ≤ length rows.old.items }
     ensures { OnOk result (AreWithPlace (λ i. is_place i key) place rows.old.items rows.new.items) }
 {
     match key {
