@@ -6,11 +6,11 @@ use Rattle.std.proofs.lemmas.List.{length-set, length-take-le, length-drop, get_
 use Rattle.smil_graph.specs.declared.components.Mark.{Mark}
 use Rattle.smil_graph.specs.declared.components.Mark.TheVariants.{New, Open, Done}
 use Rattle.smil_graph.specs.Links.{lists, row, links, LeadsTo, AreBelow}
-use Rattle.smil_graph.specs.Places.{is_place}
 use Rattle.smil_graph.specs.Components.{Grouping, IsGrouping, IsFrom, IsMet, StayKnown, mark_at, is_unfinished, marked_all, closed_from, off_path, left}
 use Rattle.smil_graph.proofs.Lists.{lists_get, index_of}
 use Rattle.smil_graph.proofs.Stacks.{in_tail, is_head, head_or_tail, top_listed, below_top, under_top, up_to_top, from_rest, rest_falls, no_top}
 use Rattle.smil_graph.proofs.Grouped.{met_within, done_few, done_fewer}
+use Rattle.smil_model.specs.reach.Reach.{is_option}
 
 -- ---- marks at many places
 
@@ -284,7 +284,7 @@ module _ (rows : List (List ℕ)) (g : Grouping) (s : IsGrouping rows g) where
 
     -- ---- either way
 
-    begins : (o : Option ℕ) → slice_get g.starts 0 ≡ o → (is_place p o ≡ true → slice_get g.starts 0 ≡ Some p) × (is_place p o ≡ false → lists g.starts p ≡ true → ⊥)
+    begins : (o : Option ℕ) → slice_get g.starts 0 ≡ o → (is_option p o ≡ true → slice_get g.starts 0 ≡ Some p) × (is_option p o ≡ false → lists g.starts p ≡ true → ⊥)
     begins None e = (λ q. cc, λ q r. no_top g.starts p e r)
     begins (Some x) e = (
       λ q. e ∙ ap Some (sym (eqb-true p x q)),
@@ -292,28 +292,28 @@ module _ (rows : List (List ℕ)) (g : Grouping) (s : IsGrouping rows g) where
     )
 
     pub left_kept : IsGrouping rows (left g p)
-    left_kept = step (is_place p (slice_get g.starts 0)) refl
+    left_kept = step (is_option p (slice_get g.starts 0)) refl
       where
-        step : (t : Bool) → is_place p (slice_get g.starts 0) ≡ t → IsGrouping rows (cond t (closed_from (off_path g) p) (off_path g))
+        step : (t : Bool) → is_option p (slice_get g.starts 0) ≡ t → IsGrouping rows (cond t (closed_from (off_path g) p) (off_path g))
         step true q = left_closed ((begins (slice_get g.starts 0) refl).0 q)
         step false q = left_alone ((begins (slice_get g.starts 0) refl).1 q)
 
     pub left_known : StayKnown g.marks (left g p).marks
-    left_known a = step (is_place p (slice_get g.starts 0)) refl
+    left_known a = step (is_option p (slice_get g.starts 0)) refl
       where
-        step : (t : Bool) → is_place p (slice_get g.starts 0) ≡ t → mark_at (cond t (closed_from (off_path g) p) (off_path g)).marks a ≡ New → mark_at g.marks a ≡ New
+        step : (t : Bool) → is_option p (slice_get g.starts 0) ≡ t → mark_at (cond t (closed_from (off_path g) p) (off_path g)).marks a ≡ New → mark_at g.marks a ≡ New
         step true q e = let start = (begins (slice_get g.starts 0) refl).0 q in was_new start a e (closed_or start a)
         step false q e = e
 
 pub left_next : (g : Grouping) (p : ℕ) → (left g p).next ≡ g.next
-left_next g p = step (is_place p (slice_get g.starts 0))
+left_next g p = step (is_option p (slice_get g.starts 0))
   where
     step : (t : Bool) → (cond t (closed_from (off_path g) p) (off_path g)).next ≡ g.next
     step true = refl
     step false = refl
 
 pub left_path : (g : Grouping) (p : ℕ) → (left g p).path ≡ drop 1 g.path
-left_path g p = step (is_place p (slice_get g.starts 0))
+left_path g p = step (is_option p (slice_get g.starts 0))
   where
     step : (t : Bool) → (cond t (closed_from (off_path g) p) (off_path g)).path ≡ drop 1 g.path
     step true = refl

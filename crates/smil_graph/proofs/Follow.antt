@@ -15,7 +15,7 @@ use Rattle.smil_model.specs.document.Valid.{IsDistinct}
 use Rattle.smil_laws.proofs.Lineages.{swap_eqb}
 use Rattle.smil_laws.proofs.Members.{differ_each}
 use Rattle.smil_graph.specs.Links.{lists, row}
-use Rattle.smil_graph.specs.Places.{at_place, is_place, up, has_element, is_element_at, before, named_by, target_place, source_of, leads_to_place, follows, hears, previous_of, IsTable, IsIndex, AreTimeChildren}
+use Rattle.smil_graph.specs.Places.{at_place, up, has_element, is_element_at, before, named_by, target_place, source_of, leads_to_place, follows, hears, previous_of, IsTable, IsIndex, AreTimeChildren}
 use Rattle.smil_graph.proofs.Nodes.{there_below, each_at, IsTableTo, table_step}
 use Rattle.smil_graph.proofs.Ranges.{lists_filter}
 
@@ -60,7 +60,7 @@ module _ (nodes : List Node) (distinct : IsDistinct nodes) where
       by_eq (inr o) = ne_eqb a b o ∙ sym (ne_eqb b a (λ e. o (sym e)))
 
   -- whether a place has the serial of the node at j
-  pub has_at : (j : ℕ) (e : Node) (o : Option ℕ) → slice_get nodes j ≡ Some e → has_serial e.serial (at_place nodes o) ≡ is_place j o
+  pub has_at : (j : ℕ) (e : Node) (o : Option ℕ) → slice_get nodes j ≡ Some e → has_serial e.serial (at_place nodes o) ≡ is_option j o
   has_at j e None a = refl
   has_at j e (Some k) a = by_node (slice_get nodes k) refl
     where
@@ -92,16 +92,16 @@ module _ (nodes : List Node) (distinct : IsDistinct nodes) where
       ∙ any_one f ns i x d.1 a
 
   module _ (tps : List (Option ℕ)) (children : List (List ℕ)) (table : IsTable nodes (λ n. time_parent nodes n.serial) tps) (under : AreTimeChildren nodes tps children) where
-    pub child_is : (i j : ℕ) (x e : Node) → slice_get nodes i ≡ Some x → slice_get nodes j ≡ Some e → is_time_child nodes e.serial x ≡ (is_element_at nodes i && is_place j (up tps i))
+    pub child_is : (i j : ℕ) (x e : Node) → slice_get nodes i ≡ Some x → slice_get nodes j ≡ Some e → is_time_child nodes e.serial x ≡ (is_element_at nodes i && is_option j (up tps i))
     child_is i j x e a b =
         ap (λ t. is_element x && t) (ap (has_serial e.serial) (table.node i x a) ∙ has_at j e (up tps i) b)
-        ∙ ap (λ o. has_element o && is_place j (up tps i)) (sym a)
+        ∙ ap (λ o. has_element o && is_option j (up tps i)) (sym a)
 
     pub children_are : (i j : ℕ) (x e : Node) → slice_get nodes i ≡ Some x → slice_get nodes j ≡ Some e → list_any (λ (c : Node). (c.serial == x.serial) && is_time_child nodes e.serial c) nodes ≡ lists (row children j) i
     children_are i j x e a b =
         any_one (is_time_child nodes e.serial) nodes i x distinct a
         ∙ child_is i j x e a b
-        ∙ sym (ap (λ r. lists r i) (under j) ∙ lists_filter (λ p. is_element_at nodes p && is_place j (up tps p)) (length nodes) 0 i (omega arith) (omega (arith, there_below nodes i x a)))
+        ∙ sym (ap (λ r. lists r i) (under j) ∙ lists_filter (λ p. is_element_at nodes p && is_option j (up tps p)) (length nodes) 0 i (omega arith) (omega (arith, there_below nodes i x a)))
 
     -- ---- the child before
 
@@ -145,10 +145,10 @@ module _ (nodes : List Node) (distinct : IsDistinct nodes) where
         by_place None = refl
         by_place (Some q) = by_node (slice_get nodes q) refl
           where
-            facts : (parent : Node) → slice_get nodes q ≡ Some parent → (k : ℕ) (m : Node) → slice_get nodes k ≡ Some m → (slice_get nodes (0 + k) ≡ Some m) × (is_time_child nodes parent.serial m ≡ (is_element_at nodes (0 + k) && is_place q (up tps (0 + k)))) × ((m.serial == n.serial) ≡ ((0 + k) == p))
+            facts : (parent : Node) → slice_get nodes q ≡ Some parent → (k : ℕ) (m : Node) → slice_get nodes k ≡ Some m → (slice_get nodes (0 + k) ≡ Some m) × (is_time_child nodes parent.serial m ≡ (is_element_at nodes (0 + k) && is_option q (up tps (0 + k)))) × ((m.serial == n.serial) ≡ ((0 + k) == p))
             facts parent r k m b =
                 let same : k ≡ 0 + k = omega arith in
-                (sym (ap (slice_get nodes) same) ∙ b, child_is k q m parent b r ∙ ap (λ z. is_element_at nodes z && is_place q (up tps z)) same, serial_is p k n m at b ∙ swap p k ∙ ap (λ z. z == p) same)
+                (sym (ap (slice_get nodes) same) ∙ b, child_is k q m parent b r ∙ ap (λ z. is_element_at nodes z && is_option q (up tps z)) same, serial_is p k n m at b ∙ swap p k ∙ ap (λ z. z == p) same)
 
             by_node : (z : Option Node) → slice_get nodes q ≡ z → cond (has_kind is_seq_kind (slice_get nodes q)) (previous_child nodes (slice_get nodes q) n.serial) None ≡ at_place nodes (cond (has_kind is_seq_kind (slice_get nodes q)) (before p None (row children q)) None)
             by_node None r = ap (λ z. cond (has_kind is_seq_kind z) (previous_child nodes z n.serial) None) r ∙ sym (ap (λ z. at_place nodes (cond (has_kind is_seq_kind z) (before p None (row children q)) None)) r)
@@ -159,7 +159,7 @@ module _ (nodes : List Node) (distinct : IsDistinct nodes) where
               where
                 by_seq : (t : Bool) → cond t (just_before n.serial None (time_children nodes parent.serial)) None ≡ at_place nodes (cond t (before p None (row children q)) None)
                 by_seq true =
-                    along n.serial p (is_time_child nodes parent.serial) (λ k. is_element_at nodes k && is_place q (up tps k)) nodes 0 (facts parent r) None None refl
+                    along n.serial p (is_time_child nodes parent.serial) (λ k. is_element_at nodes k && is_option q (up tps k)) nodes 0 (facts parent r) None None refl
                     ∙ ap (λ is. at_place nodes (before p None is)) (sym (under q))
                 by_seq false = refl
 
@@ -180,7 +180,7 @@ module _ (nodes : List Node) (distinct : IsDistinct nodes) where
     previous_low p q (Some parent) e = by_seq (has_kind is_seq_kind (slice_get nodes parent)) e
       where
         by_seq : (t : Bool) → cond t (before p None (row children parent)) None ≡ Some q → q < p
-        by_seq true e = before_low p 0 (length nodes) (λ k. is_element_at nodes k && is_place parent (up tps k)) None q (λ k is. cc) (sym (ap (before p None) (under parent)) ∙ e)
+        by_seq true e = before_low p 0 (length nodes) (λ k. is_element_at nodes k && is_option parent (up tps k)) None q (λ k is. cc) (sym (ap (before p None) (under parent)) ∙ e)
         by_seq false e = cc
 
     pub previous_step : (k : ℕ) (previous : List (Option ℕ)) → IsTableTo nodes (λ n. previous_in_seq nodes n.serial) k previous → IsTableTo nodes (λ n. previous_in_seq nodes n.serial) (k + 1) (previous ++ previous_of nodes children k (up tps k) ∷ [])
@@ -193,7 +193,7 @@ module _ (nodes : List Node) (distinct : IsDistinct nodes) where
   any_same f g same (x ∷ xs) = ap (λ t. t || list_any f xs) (same x) ∙ ap (λ t. g x || t) (any_same f g same xs)
 
   module _ (named : List ℕ → Option ℕ) (ids : IsIndex nodes (element_named nodes) named) where
-    sync_is : (i : ℕ) (x : Node) → slice_get nodes i ≡ Some x → (item : Item) → is_sync_with nodes x.serial item ≡ is_place i (named_by named item)
+    sync_is : (i : ℕ) (x : Node) → slice_get nodes i ≡ Some x → (item : Item) → is_sync_with nodes x.serial item ≡ is_option i (named_by named item)
     sync_is i x a (Offset o) = refl
     sync_is i x a (Sync who edge o) = ap (has_serial x.serial) (ids.node who) ∙ has_at i x (named who) a
     sync_is i x a (Event who name o) = refl
@@ -205,11 +205,11 @@ module _ (nodes : List Node) (distinct : IsDistinct nodes) where
     option_is i x None = refl
     option_is i x (Some m) = swap x.serial m.serial
 
-    target_is : (i j : ℕ) (x e : Node) → slice_get nodes i ≡ Some x → slice_get nodes j ≡ Some e → (who : Option (List ℕ)) → is_option x.serial (target nodes e.serial who) ≡ is_place i (target_place named j who)
+    target_is : (i j : ℕ) (x e : Node) → slice_get nodes i ≡ Some x → slice_get nodes j ≡ Some e → (who : Option (List ℕ)) → is_option x.serial (target nodes e.serial who) ≡ is_option i (target_place named j who)
     target_is i j x e a b None = serial_is j i e x b a ∙ swap j i
     target_is i j x e a b (Some id) = option_is i x (element_named nodes id) ∙ ap (has_serial x.serial) (ids.node id) ∙ has_at i x (named id) a
 
-    event_is : (i j : ℕ) (x e : Node) → slice_get nodes i ≡ Some x → slice_get nodes j ≡ Some e → (item : Item) → is_event_of nodes e.serial x.serial item ≡ is_place i (source_of named j item)
+    event_is : (i j : ℕ) (x e : Node) → slice_get nodes i ≡ Some x → slice_get nodes j ≡ Some e → (item : Item) → is_event_of nodes e.serial x.serial item ≡ is_option i (source_of named j item)
     event_is i j x e a b (Offset o) = refl
     event_is i j x e a b (Sync who edge o) = refl
     event_is i j x e a b (Event who name o) = target_is i j x e a b who
@@ -218,16 +218,16 @@ module _ (nodes : List Node) (distinct : IsDistinct nodes) where
     event_is i j x e a b Indefinite = refl
 
     pub hears_is : (i j : ℕ) (x e : Node) → slice_get nodes i ≡ Some x → slice_get nodes j ≡ Some e → list_any (is_event_of nodes e.serial x.serial) (all_items nodes e) ≡ hears named j e i
-    hears_is i j x e a b = any_same (is_event_of nodes e.serial x.serial) (λ item. is_place i (source_of named j item)) (event_is i j x e a b) (all_items nodes e) ∙ all_any nodes (λ item. is_place i (source_of named j item)) refl refl e
+    hears_is i j x e a b = any_same (is_event_of nodes e.serial x.serial) (λ item. is_option i (source_of named j item)) (event_is i j x e a b) (all_items nodes e) ∙ all_any nodes (λ item. is_option i (source_of named j item)) refl refl e
 
     module _ (tps : List (Option ℕ)) (children : List (List ℕ)) (previous : List (Option ℕ)) (table : IsTable nodes (λ n. time_parent nodes n.serial) tps) (under : AreTimeChildren nodes tps children) (befores : IsTable nodes (λ n. previous_in_seq nodes n.serial) previous) where
       pub follows_is : (i j : ℕ) (x e : Node) → slice_get nodes i ≡ Some x → slice_get nodes j ≡ Some e → feeds_node nodes x.serial e ≡ follows (row children j) (up previous j) named e i
       follows_is i j x e a b =
           ap (λ t. ((has_implicit_duration e && t) || has_serial x.serial (previous_in_seq nodes e.serial)) || list_any (is_sync_with nodes x.serial) (all_items nodes e)) (children_are tps children table under i j x e a b)
           ∙ ap (λ t. ((has_implicit_duration e && lists (row children j) i) || t) || list_any (is_sync_with nodes x.serial) (all_items nodes e)) (ap (has_serial x.serial) (befores.node j e b) ∙ has_at i x (up previous j) a)
-          ∙ ap (λ t. ((has_implicit_duration e && lists (row children j) i) || is_place i (up previous j)) || t)
-          (any_same (is_sync_with nodes x.serial) (λ item. is_place i (named_by named item)) (sync_is i x a) (all_items nodes e) ∙ all_any nodes (λ item. is_place i (named_by named item)) refl refl e)
-          ∙ assoc ((has_implicit_duration e && lists (row children j) i) || is_place i (up previous j)) (leads_to_place (named_by named) (items_or [] e.attrs.begin) i) (leads_to_place (named_by named) (items_or [] e.attrs.«end») i)
+          ∙ ap (λ t. ((has_implicit_duration e && lists (row children j) i) || is_option i (up previous j)) || t)
+          (any_same (is_sync_with nodes x.serial) (λ item. is_option i (named_by named item)) (sync_is i x a) (all_items nodes e) ∙ all_any nodes (λ item. is_option i (named_by named item)) refl refl e)
+          ∙ assoc ((has_implicit_duration e && lists (row children j) i) || is_option i (up previous j)) (leads_to_place (named_by named) (items_or [] e.attrs.begin) i) (leads_to_place (named_by named) (items_or [] e.attrs.«end») i)
         where
           assoc : (a b c : Bool) → (a || (b || c)) ≡ ((a || b) || c)
           assoc true b c = refl

@@ -12,9 +12,9 @@ use Rattle.smil_model.specs.document.Document.{is_element, elements, element_nam
 use Rattle.smil_model.specs.document.Defaults.{items_or}
 use Rattle.smil_model.specs.document.Dependencies.{feeds, feeds_node, has_implicit_duration}
 use Rattle.smil_model.specs.document.Valid.{IsDistinct}
-use Rattle.smil_model.specs.reach.Reach.{reads, reads_node}
+use Rattle.smil_model.specs.reach.Reach.{reads, reads_node, is_option}
 use Rattle.smil_graph.specs.Links.{lists, row, links, that_have, IsRising, AreRows, AreLevels, StayBelow}
-use Rattle.smil_graph.specs.Places.{at_place, is_place, up, is_element_at, named_by, target_place, source_of, leads_to_place, follows, hears, element_follows, element_hears, feeds_from, reads_from, feeds_place, reads_place, IsTable, IsIndex, AreTimeChildren}
+use Rattle.smil_graph.specs.Places.{at_place, up, is_element_at, named_by, target_place, source_of, leads_to_place, follows, hears, element_follows, element_hears, feeds_from, reads_from, feeds_place, reads_place, IsTable, IsIndex, AreTimeChildren}
 use Rattle.smil_graph.specs.Tables.{AreElementLevels, AreHeads, AreReaders, with_serial, serials_of_places}
 use Rattle.smil_graph.proofs.Lists.{from_place}
 use Rattle.smil_graph.proofs.Nodes.{there, there_below}
@@ -46,52 +46,52 @@ filtered_stay n test rows long each i j q =
 
 -- ---- time children
 
-pub place_is : (q : ℕ) (o : Option ℕ) → is_place q o ≡ true → o ≡ Some q
+pub place_is : (q : ℕ) (o : Option ℕ) → is_option q o ≡ true → o ≡ Some q
 place_is q None e = cc
 place_is q (Some p) e = ap Some (sym (eqb-true q p e))
 
 module _ (nodes : List Node) (tps : List (Option ℕ)) (table : IsTable nodes (λ n. time_parent nodes n.serial) tps) where
   abbrev is_under : ℕ → ℕ → Bool
-  is_under p q = is_element_at nodes p && is_place q (up tps p)
+  is_under p q = is_element_at nodes p && is_option q (up tps p)
 
   under_low : (p q : ℕ) → is_under p q ≡ true → q < p
-  under_low p q e = table.before p q (place_is q (up tps p) (and_parts (is_element_at nodes p) (is_place q (up tps p)) e).1)
+  under_low p q e = table.before p q (place_is q (up tps p) (and_parts (is_element_at nodes p) (is_option q (up tps p)) e).1)
 
-  pub under_stay : (rows : List (List ℕ)) → AreRows (length nodes) (λ p q. is_element_at nodes p && is_place q (up tps p)) rows → StayBelow (length rows) rows
-  under_stay rows are = rows_stay (length nodes) (λ p q. is_element_at nodes p && is_place q (up tps p)) rows are (λ p q l e. omega (arith, l, under_low p q e))
+  pub under_stay : (rows : List (List ℕ)) → AreRows (length nodes) (λ p q. is_element_at nodes p && is_option q (up tps p)) rows → StayBelow (length rows) rows
+  under_stay rows are = rows_stay (length nodes) (λ p q. is_element_at nodes p && is_option q (up tps p)) rows are (λ p q l e. omega (arith, l, under_low p q e))
 
-  pub under_past : (q : ℕ) → length nodes ≤ q → [] ≡ filter (λ p. is_element_at nodes p && is_place q (up tps p)) (range_with_len 0 (length nodes))
-  under_past q past = sym (filter_none (λ p. is_element_at nodes p && is_place q (up tps p)) (length nodes) 0 (λ k a h. no (is_under k q) k (omega (arith, h)) refl))
+  pub under_past : (q : ℕ) → length nodes ≤ q → [] ≡ filter (λ p. is_element_at nodes p && is_option q (up tps p)) (range_with_len 0 (length nodes))
+  under_past q past = sym (filter_none (λ p. is_element_at nodes p && is_option q (up tps p)) (length nodes) 0 (λ k a h. no (is_under k q) k (omega (arith, h)) refl))
     where
       no : (t : Bool) (k : ℕ) → k < length nodes → is_under k q ≡ t → is_under k q ≡ false
       no true k l e = absurd (omega (arith, under_low k q e, l, past))
       no false k l e = e
 
-  pub under_are : (rows children : List (List ℕ)) → AreRows (length nodes) (λ p q. is_element_at nodes p && is_place q (up tps p)) rows → length children ≡ length rows → ((i : ℕ) → i < length rows → row children i ≡ that_have rows i) → AreTimeChildren nodes tps children
+  pub under_are : (rows children : List (List ℕ)) → AreRows (length nodes) (λ p q. is_element_at nodes p && is_option q (up tps p)) rows → length children ≡ length rows → ((i : ℕ) → i < length rows → row children i ≡ that_have rows i) → AreTimeChildren nodes tps children
   under_are rows children are long turned q = by_case (grind arith)
     where
-      by_case : (q < length nodes) ⊎ (length nodes ≤ q) → row children q ≡ filter (λ p. is_element_at nodes p && is_place q (up tps p)) (range_with_len 0 (length nodes))
-      by_case (inl l) = turned_is (length nodes) (λ p q. is_element_at nodes p && is_place q (up tps p)) rows children are turned q l
+      by_case : (q < length nodes) ⊎ (length nodes ≤ q) → row children q ≡ filter (λ p. is_element_at nodes p && is_option q (up tps p)) (range_with_len 0 (length nodes))
+      by_case (inl l) = turned_is (length nodes) (λ p q. is_element_at nodes p && is_option q (up tps p)) rows children are turned q l
       by_case (inr l) = get_or-eq_default children [] (omega (arith, l, long, are.long)) ∙ under_past q l
 
   pub children_stay : (children : List (List ℕ)) → length children ≡ length nodes → AreTimeChildren nodes tps children → StayBelow (length children) children
-  children_stay children long under = filtered_stay (length nodes) (λ p q. is_element_at nodes p && is_place q (up tps p)) children long (λ i l. under i)
+  children_stay children long under = filtered_stay (length nodes) (λ p q. is_element_at nodes p && is_option q (up tps p)) children long (λ i l. under i)
 
 pub children_rising : (nodes : List Node) (tps : List (Option ℕ)) (children : List (List ℕ)) → AreTimeChildren nodes tps children → (q : ℕ) → IsRising (row children q)
-children_rising nodes tps children under q = rw (under q) (filter_rising (λ p. is_element_at nodes p && is_place q (up tps p)) (length nodes) 0)
+children_rising nodes tps children under q = rw (under q) (filter_rising (λ p. is_element_at nodes p && is_option q (up tps p)) (length nodes) 0)
 
 -- ---- dependencies
 
 module _ (nodes : List Node) (distinct : IsDistinct nodes) (named : List ℕ → Option ℕ) (ids : IsIndex nodes (element_named nodes) named) where
-  low_in : (of : Item → Option ℕ) (i : ℕ) → ((item : Item) → is_place i (of item) ≡ true → i < length nodes) → (items : List Item) → leads_to_place of items i ≡ true → i < length nodes
+  low_in : (of : Item → Option ℕ) (i : ℕ) → ((item : Item) → is_option i (of item) ≡ true → i < length nodes) → (items : List Item) → leads_to_place of items i ≡ true → i < length nodes
   low_in of i low [] e = cc
-  low_in of i low (item ∷ items) e = by_case (or_cases (is_place i (of item)) (leads_to_place of items i) e) (low_in of i low items)
+  low_in of i low (item ∷ items) e = by_case (or_cases (is_option i (of item)) (leads_to_place of items i) e) (low_in of i low items)
     where
-      by_case : (is_place i (of item) ≡ true) ⊎ (leads_to_place of items i ≡ true) → (leads_to_place of items i ≡ true → i < length nodes) → i < length nodes
+      by_case : (is_option i (of item) ≡ true) ⊎ (leads_to_place of items i ≡ true) → (leads_to_place of items i ≡ true → i < length nodes) → i < length nodes
       by_case (inl q) later = low item q
       by_case (inr q) later = later q
 
-  named_low : (i : ℕ) (item : Item) → is_place i (named_by named item) ≡ true → i < length nodes
+  named_low : (i : ℕ) (item : Item) → is_option i (named_by named item) ≡ true → i < length nodes
   named_low i (Offset o) e = cc
   named_low i (Sync who edge o) e = ids.below who i (place_is i (named who) e)
   named_low i (Event who name o) e = cc
@@ -99,11 +99,11 @@ module _ (nodes : List Node) (distinct : IsDistinct nodes) (named : List ℕ →
   named_low i (Key key o) e = cc
   named_low i Indefinite e = cc
 
-  target_low : (i j : ℕ) → j < length nodes → (who : Option (List ℕ)) → is_place i (target_place named j who) ≡ true → i < length nodes
+  target_low : (i j : ℕ) → j < length nodes → (who : Option (List ℕ)) → is_option i (target_place named j who) ≡ true → i < length nodes
   target_low i j l None e = let same : i ≡ j = eqb-true i j e in omega (arith, l, same)
   target_low i j l (Some id) e = ids.below id i (place_is i (named id) e)
 
-  source_low : (i j : ℕ) → j < length nodes → (item : Item) → is_place i (source_of named j item) ≡ true → i < length nodes
+  source_low : (i j : ℕ) → j < length nodes → (item : Item) → is_option i (source_of named j item) ≡ true → i < length nodes
   source_low i j l (Offset o) e = cc
   source_low i j l (Sync who edge o) e = cc
   source_low i j l (Event who name o) e = target_low i j l who e
@@ -111,7 +111,7 @@ module _ (nodes : List Node) (distinct : IsDistinct nodes) (named : List ℕ →
   source_low i j l (Key key o) e = cc
   source_low i j l Indefinite e = cc
 
-  in_both : (of : Item → Option ℕ) (i : ℕ) → ((item : Item) → is_place i (of item) ≡ true → i < length nodes) → (e : Node) → (leads_to_place of (items_or [] e.attrs.begin) i || leads_to_place of (items_or [] e.attrs.«end») i) ≡ true → i < length nodes
+  in_both : (of : Item → Option ℕ) (i : ℕ) → ((item : Item) → is_option i (of item) ≡ true → i < length nodes) → (e : Node) → (leads_to_place of (items_or [] e.attrs.begin) i || leads_to_place of (items_or [] e.attrs.«end») i) ≡ true → i < length nodes
   in_both of i low e q = by_case (or_cases _ _ q)
     where
       by_case : (leads_to_place of (items_or [] e.attrs.begin) i ≡ true) ⊎ (leads_to_place of (items_or [] e.attrs.«end») i ≡ true) → i < length nodes
@@ -134,15 +134,15 @@ module _ (nodes : List Node) (distinct : IsDistinct nodes) (named : List ℕ →
     follows_low : (i j : ℕ) (e : Node) → j < length nodes → follows (row children j) (up previous j) named e i ≡ true → i < length nodes
     follows_low i j e l q = by_end (or_cases _ _ q)
       where
-        by_child : (has_implicit_duration e && lists (row children j) i) ≡ true ⊎ (is_place i (up previous j) ≡ true) → i < length nodes
-        by_child (inl t) = (filter_below (λ p. is_element_at nodes p && is_place j (up tps p)) (length nodes) i (sym (ap (λ r. lists r i) (under j)) ∙ (and_parts (has_implicit_duration e) (lists (row children j) i) t).1)).0
+        by_child : (has_implicit_duration e && lists (row children j) i) ≡ true ⊎ (is_option i (up previous j) ≡ true) → i < length nodes
+        by_child (inl t) = (filter_below (λ p. is_element_at nodes p && is_option j (up tps p)) (length nodes) i (sym (ap (λ r. lists r i) (under j)) ∙ (and_parts (has_implicit_duration e) (lists (row children j) i) t).1)).0
         by_child (inr t) = omega (arith, l, befores.before j i (place_is i (up previous j) t))
 
-        by_begin : (((has_implicit_duration e && lists (row children j) i) || is_place i (up previous j)) ≡ true) ⊎ (leads_to_place (named_by named) (items_or [] e.attrs.begin) i ≡ true) → i < length nodes
+        by_begin : (((has_implicit_duration e && lists (row children j) i) || is_option i (up previous j)) ≡ true) ⊎ (leads_to_place (named_by named) (items_or [] e.attrs.begin) i ≡ true) → i < length nodes
         by_begin (inl t) = by_child (or_cases _ _ t)
         by_begin (inr t) = low_in (named_by named) i (named_low i) (items_or [] e.attrs.begin) t
 
-        by_end : ((((has_implicit_duration e && lists (row children j) i) || is_place i (up previous j)) || leads_to_place (named_by named) (items_or [] e.attrs.begin) i) ≡ true) ⊎ (leads_to_place (named_by named) (items_or [] e.attrs.«end») i ≡ true) → i < length nodes
+        by_end : ((((has_implicit_duration e && lists (row children j) i) || is_option i (up previous j)) || leads_to_place (named_by named) (items_or [] e.attrs.begin) i) ≡ true) ⊎ (leads_to_place (named_by named) (items_or [] e.attrs.«end») i ≡ true) → i < length nodes
         by_end (inl t) = by_begin (or_cases _ _ t)
         by_end (inr t) = low_in (named_by named) i (named_low i) (items_or [] e.attrs.«end») t
 

@@ -14,9 +14,9 @@ use Rattle.smil_model.specs.document.Defaults.{items_or}
 use Rattle.smil_model.specs.document.Dependencies.{all_items}
 use Rattle.smil_model.specs.document.Closure.{has}
 use Rattle.smil_model.specs.document.Valid.{IsDistinct}
-use Rattle.smil_model.specs.reach.Reach.{is_key_item, waiters}
+use Rattle.smil_model.specs.reach.Reach.{is_key_item, waiters, is_option}
 use Rattle.smil_graph.specs.Links.{lists, row, links, AreRows}
-use Rattle.smil_graph.specs.Places.{is_place, has_element, is_element_at}
+use Rattle.smil_graph.specs.Places.{has_element, is_element_at}
 use Rattle.smil_graph.specs.Tables.{has_key_item, key_of, waits, AreWaiting, AreWithPlace, AreElements, AreOf}
 use Rattle.smil_graph.proofs.Follow.{all_any}
 use Rattle.smil_graph.proofs.Fed.{any_alike, element_one, has_serials}
@@ -39,7 +39,7 @@ pub with_none : (place : ℕ) (rows : List (List ℕ)) → AreWithPlace (λ i. f
 with_none place rows = record { count = refl; each = λ i j. right (links rows i j) }
 
 -- into one
-pub with_one : (place at : ℕ) (rows : List (List ℕ)) → at < length rows → AreWithPlace (λ i. is_place i (Some at)) place rows (set rows at (row rows at ++ place ∷ []))
+pub with_one : (place at : ℕ) (rows : List (List ℕ)) → at < length rows → AreWithPlace (λ i. is_option i (Some at)) place rows (set rows at (row rows at ++ place ∷ []))
 with_one place at rows low = record {
   count = length-set rows at (row rows at ++ place ∷ []);
   each = λ i j. by_row i j (cases_eq i at);
@@ -82,7 +82,7 @@ swap a b = by_eq (cases_eq a b)
     by_eq (inl e) = eq-eqb a b e ∙ sym (eq-eqb b a (sym e))
     by_eq (inr o) = ne_eqb a b o ∙ sym (ne_eqb b a (λ e. o (sym e)))
 
-key_is : (key : ℕ) (item : Item) → is_key_item key item ≡ is_place key (key_of item)
+key_is : (key : ℕ) (item : Item) → is_key_item key item ≡ is_option key (key_of item)
 key_is key (Offset o) = refl
 key_is key (Sync who edge o) = refl
 key_is key (Event who name o) = refl
@@ -91,11 +91,11 @@ key_is key (Key own o) = swap own key
 key_is key Indefinite = refl
 
 -- one item more
-pub with_item : (items : List Item) (k : ℕ) (item : Item) (place : ℕ) (old mid new : List (List ℕ)) → slice_get items k ≡ Some item → AreWithPlace (λ key. list_any (is_key_item key) (take k items)) place old mid → AreWithPlace (λ key. is_place key (key_of item)) place mid new → AreWithPlace (λ key. list_any (is_key_item key) (take (k + 1) items)) place old new
+pub with_item : (items : List Item) (k : ℕ) (item : Item) (place : ℕ) (old mid new : List (List ℕ)) → slice_get items k ≡ Some item → AreWithPlace (λ key. list_any (is_key_item key) (take k items)) place old mid → AreWithPlace (λ key. is_option key (key_of item)) place mid new → AreWithPlace (λ key. list_any (is_key_item key) (take (k + 1) items)) place old new
 with_item items k item place old mid new here so pushed =
-    with_both (λ key. list_any (is_key_item key) (take k items)) (λ key. is_place key (key_of item)) (λ key. list_any (is_key_item key) (take (k + 1) items)) place old mid new more so pushed
+    with_both (λ key. list_any (is_key_item key) (take k items)) (λ key. is_option key (key_of item)) (λ key. list_any (is_key_item key) (take (k + 1) items)) place old mid new more so pushed
   where
-    more : (key : ℕ) → list_any (is_key_item key) (take (k + 1) items) ≡ (list_any (is_key_item key) (take k items) || is_place key (key_of item))
+    more : (key : ℕ) → list_any (is_key_item key) (take (k + 1) items) ≡ (list_any (is_key_item key) (take k items) || is_option key (key_of item))
     more key =
         let one : k + 1 ≡ suc k = omega arith in
         ap (λ m. list_any (is_key_item key) (take m items)) one

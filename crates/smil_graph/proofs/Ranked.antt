@@ -17,11 +17,12 @@ use Rattle.smil_model.specs.declared.document.Node.{Node}
 use Rattle.smil_model.specs.document.Document.{is_element, elements, node_at, has_serial, time_parent, is_time_child, previous_in_seq, has_kind, is_seq_kind, serials}
 use Rattle.smil_model.specs.document.Dependencies.{feeds, feeds_node, has_implicit_duration, all_items, is_sync_with, leads_to}
 use Rattle.smil_model.specs.document.Valid.{IsDistinct}
+use Rattle.smil_model.specs.reach.Reach.{is_option}
 use Rattle.smil_graph.specs.declared.ordered.Rank.{Rank}
 use Rattle.smil_graph.specs.Graph.{follows_unlooped, GoesForward, IsOrder}
 use Rattle.smil_graph.specs.Tables.{AreElementLevels, with_serial, serials_of_places}
 use Rattle.smil_graph.specs.Links.{lists, row}
-use Rattle.smil_graph.specs.Places.{is_place, up, has_element, is_element_at, before, previous_of, IsTable, AreTimeChildren}
+use Rattle.smil_graph.specs.Places.{up, has_element, is_element_at, before, previous_of, IsTable, AreTimeChildren}
 use Rattle.smil_graph.specs.Ranks.{rank_of, rank_cmp, height_under, AreHeights}
 use Rattle.smil_graph.proofs.Answered.{element_at, only_element}
 use Rattle.smil_graph.proofs.Lists.{front_push, end_push}
@@ -178,7 +179,7 @@ module _ (nodes : List Node) (distinct : IsDistinct nodes) (tps : List (Option �
 
   -- the rows of time children, which the order itself has no need of
   abbrev child_row : ℕ → List ℕ
-  child_row q = filter (λ p. is_element_at nodes p && is_place q (up tps p)) (range_with_len 0 (length nodes))
+  child_row q = filter (λ p. is_element_at nodes p && is_option q (up tps p)) (range_with_len 0 (length nodes))
 
   abbrev children : List (List ℕ)
   children = map child_row (range_with_len 0 (length nodes))
@@ -212,13 +213,13 @@ module _ (nodes : List Node) (distinct : IsDistinct nodes) (tps : List (Option �
     by_child : (has_implicit_duration e && list_any (λ (c : Node). (c.serial == x.serial) && is_time_child nodes e.serial c) nodes) ≡ true → is_lt (rank_cmp (rank i) (rank j)) ≡ true
     by_child q =
         let child : is_time_child nodes e.serial x ≡ true = sym (any_one nodes distinct (is_time_child nodes e.serial) nodes i x distinct a) ∙ (and_parts (has_implicit_duration e) _ q).1 in
-        let parent : is_place j (up tps i) ≡ true = sym (ap (has_serial e.serial) (table.node i x a) ∙ has_at nodes distinct j e (up tps i) b) ∙ (and_parts (is_element x) (has_serial e.serial (time_parent nodes x.serial)) child).1 in
+        let parent : is_option j (up tps i) ≡ true = sym (ap (has_serial e.serial) (table.node i x a) ∙ has_at nodes distinct j e (up tps i) b) ∙ (and_parts (is_element x) (has_serial e.serial (time_parent nodes x.serial)) child).1 in
         let above : get_or heights i 0 + 1 ≡ get_or heights j 0 = high.each i j i_low (place_is j (up tps i) parent) in
         lower (rank i) (rank j) (not_above (or_left _ _ (or_left _ _ q))) (lower_height (rank i) (rank j) (omega (arith, above)))
 
     by_previous : has_serial x.serial (previous_in_seq nodes e.serial) ≡ true → is_lt (rank_cmp (rank i) (rank j)) ≡ true
     by_previous q =
-        let place : is_place i (previous_of nodes children j (up tps j)) ≡ true = sym (ap (has_serial x.serial) (previous_is nodes distinct tps children table as_children j e b) ∙ has_at nodes distinct i x (previous_of nodes children j (up tps j)) a) ∙ q in
+        let place : is_option i (previous_of nodes children j (up tps j)) ≡ true = sym (ap (has_serial x.serial) (previous_is nodes distinct tps children table as_children j e b) ∙ has_at nodes distinct i x (previous_of nodes children j (up tps j)) a) ∙ q in
         let previous : previous_of nodes children j (up tps j) ≡ Some i = place_is i (previous_of nodes children j (up tps j)) place in
         lower (rank i) (rank j) (not_above (or_left _ _ (or_right _ _ q)))
         (lower_place (rank i) (rank j) (siblings (up tps j) refl previous) (previous_low nodes distinct tps children table as_children j i (up tps j) previous))
@@ -230,8 +231,8 @@ module _ (nodes : List Node) (distinct : IsDistinct nodes) (tps : List (Option �
             listed : (None ≡ Some i) ⊎ (lists (row children p) i ≡ true) → get_or heights i 0 ≡ get_or heights j 0
             listed (inl never) = cc
             listed (inr t) =
-                let low = filter_below (λ k. is_element_at nodes k && is_place p (up tps k)) (length nodes) i (sym (ap (λ r. lists r i) (as_children p)) ∙ t) in
-                let parent : up tps i ≡ Some p = place_is p (up tps i) (and_parts (is_element_at nodes i) (is_place p (up tps i)) low.1).1 in
+                let low = filter_below (λ k. is_element_at nodes k && is_option p (up tps k)) (length nodes) i (sym (ap (λ r. lists r i) (as_children p)) ∙ t) in
+                let parent : up tps i ≡ Some p = place_is p (up tps i) (and_parts (is_element_at nodes i) (is_option p (up tps i)) low.1).1 in
                 omega (arith, high.each i p i_low parent, high.each j p j_low u)
 
             by_seq : (t : Bool) → cond t (before j None (row children p)) None ≡ Some i → get_or heights i 0 ≡ get_or heights j 0

@@ -5,8 +5,9 @@ use Rattle.std.proofs.lemmas.List.Folds.{list_any-append}
 use Rattle.smil_model.specs.declared.document.Node.{Node}
 use Rattle.smil_model.specs.declared.document.Item.{Item}
 use Rattle.smil_model.specs.document.Document.{is_element}
+use Rattle.smil_model.specs.reach.Reach.{is_option}
 use Rattle.smil_graph.specs.Links.{lists, row, links, AreRows}
-use Rattle.smil_graph.specs.Places.{is_place, leads_to_place, follows, hears, element_follows, element_hears}
+use Rattle.smil_graph.specs.Places.{leads_to_place, follows, hears, element_follows, element_hears}
 
 -- ---- one row more
 
@@ -51,16 +52,16 @@ right : (t : Bool) → t ≡ (t || false)
 right true = refl
 right false = refl
 
-pub leads_more : (of : Item → Option ℕ) (items : List Item) (k : ℕ) (item : Item) (p : Option ℕ) (i : ℕ) (old mid new : Bool) → slice_get items k ≡ Some item → p ≡ of item → mid ≡ (old || leads_to_place of (take k items) i) → new ≡ (mid || is_place i p) → new ≡ (old || leads_to_place of (take (k + 1) items) i)
+pub leads_more : (of : Item → Option ℕ) (items : List Item) (k : ℕ) (item : Item) (p : Option ℕ) (i : ℕ) (old mid new : Bool) → slice_get items k ≡ Some item → p ≡ of item → mid ≡ (old || leads_to_place of (take k items) i) → new ≡ (mid || is_option i p) → new ≡ (old || leads_to_place of (take (k + 1) items) i)
 leads_more of items k item p i old mid new here is so pushed =
     let one : k + 1 ≡ suc k = omega arith in
-    let all : leads_to_place of (take (k + 1) items) i ≡ (leads_to_place of (take k items) i || is_place i (of item)) =
+    let all : leads_to_place of (take (k + 1) items) i ≡ (leads_to_place of (take k items) i || is_option i (of item)) =
     ap (λ m. leads_to_place of (take m items) i) one ∙ ap (λ xs. leads_to_place of xs i) (take_item items k item here)
-    ∙ list_any-append (λ (x : Item). is_place i (of x)) (take k items) (item ∷ []) ∙ ap (λ t. leads_to_place of (take k items) i || t) (sym (right (is_place i (of item)))) in
+    ∙ list_any-append (λ (x : Item). is_option i (of x)) (take k items) (item ∷ []) ∙ ap (λ t. leads_to_place of (take k items) i || t) (sym (right (is_option i (of item)))) in
     pushed
-    ∙ ap (λ q. mid || is_place i q) is
-    ∙ ap (λ t. t || is_place i (of item)) so
-    ∙ assoc old (leads_to_place of (take k items) i) (is_place i (of item))
+    ∙ ap (λ q. mid || is_option i q) is
+    ∙ ap (λ t. t || is_option i (of item)) so
+    ∙ assoc old (leads_to_place of (take k items) i) (is_option i (of item))
     ∙ ap (λ t. old || t) (sym all)
 
 -- ---- rows of a node
@@ -81,11 +82,11 @@ source_row o n read named place i new mid same at pushed =
 pub no_source_row : (o : Option Node) (read : List ℕ) (named : List ℕ → Option ℕ) (place i : ℕ) (mid : List ℕ) → lists mid i ≡ lists read i → None ≡ o → lists mid i ≡ (lists read i || element_hears named place o i)
 no_source_row o read named place i mid same at = same ∙ right (lists read i) ∙ ap (λ z. lists read i || element_hears named place z i) at
 
-pub parent_row : (t : Bool) (p p' : Option ℕ) (i : ℕ) (new empty : List ℕ) → empty ≡ [] → t ≡ true → p ≡ p' → lists new i ≡ (lists empty i || is_place i p) → lists new i ≡ (t && is_place i p')
-parent_row t p p' i new empty none is same pushed = pushed ∙ ap (λ r. lists r i || is_place i p) none ∙ ap (is_place i) same ∙ ap (λ u. u && is_place i p') (sym is)
+pub parent_row : (t : Bool) (p p' : Option ℕ) (i : ℕ) (new empty : List ℕ) → empty ≡ [] → t ≡ true → p ≡ p' → lists new i ≡ (lists empty i || is_option i p) → lists new i ≡ (t && is_option i p')
+parent_row t p p' i new empty none is same pushed = pushed ∙ ap (λ r. lists r i || is_option i p) none ∙ ap (is_option i) same ∙ ap (λ u. u && is_option i p') (sym is)
 
-pub no_parent_row : (t : Bool) (p' : Option ℕ) (i : ℕ) (empty : List ℕ) → empty ≡ [] → t ≡ false → lists empty i ≡ (t && is_place i p')
-no_parent_row t p' i empty none isnt = ap (λ r. lists r i) none ∙ ap (λ u. u && is_place i p') (sym isnt)
+pub no_parent_row : (t : Bool) (p' : Option ℕ) (i : ℕ) (empty : List ℕ) → empty ≡ [] → t ≡ false → lists empty i ≡ (t && is_option i p')
+no_parent_row t p' i empty none isnt = ap (λ r. lists r i) none ∙ ap (λ u. u && is_option i p') (sym isnt)
 
 -- ---- marks
 

@@ -7,13 +7,13 @@ use Rattle.smil_model.specs.declared.document.Node.{Node}
 use Rattle.smil_model.specs.document.Document.{Document, is_element, elements, node_at, upwards, ancestors, time_parent, is_within, has_serial, serials}
 use Rattle.smil_model.specs.document.Closure.{has, closure, rounds}
 use Rattle.smil_model.specs.document.Valid.{IsDistinct, IsNumberedTree}
-use Rattle.smil_model.specs.reach.Reach.{reads, reads_node, is_near, shares_parent, near}
+use Rattle.smil_model.specs.reach.Reach.{reads, reads_node, is_near, shares_parent, near, is_option}
 use Rattle.smil_laws.proofs.Aside.{find_true, each_reverse}
 use Rattle.smil_laws.proofs.Below.{IsChain}
 use Rattle.smil_laws.proofs.Closures.{is_closed, has_set, has_filter}
 use Rattle.smil_laws.proofs.Rounds.{find-serial}
 use Rattle.smil_graph.specs.Links.{lists, links, with_place, IsKept, IsReached, IsRising}
-use Rattle.smil_graph.specs.Places.{at_place, is_place, up, has_element, is_element_at, reads_place, reads_from, IsTable, IsIndex, AreTimeChildren}
+use Rattle.smil_graph.specs.Places.{at_place, up, has_element, is_element_at, reads_place, reads_from, IsTable, IsIndex, AreTimeChildren}
 use Rattle.smil_graph.specs.Tables.{AreHeads, AreElements, AreNear, AreOf, reach_of, takes_turns, top_of, serials_of_places}
 use Rattle.smil_graph.proofs.Lists.{lists_one}
 use Rattle.smil_graph.proofs.Nodes.{there, there_below, each_at, none_each, upwards_none, parent_place, chain_of, above, by_parent}
@@ -109,15 +109,15 @@ module _ (document : Document) (tree : IsNumberedTree document) (index : ℕ →
 
     is_child : (i j : ℕ) → links children i j ≡ true → (is_element_at nodes j ≡ true) × (up tps j ≡ Some i)
     is_child i j q =
-        let low = filter_below (λ p. is_element_at nodes p && is_place i (up tps p)) (length nodes) j (sym (ap (λ r. lists r j) (under i)) ∙ q) in
-        let parts = and_parts (is_element_at nodes j) (is_place i (up tps j)) low.1 in
+        let low = filter_below (λ p. is_element_at nodes p && is_option i (up tps p)) (length nodes) j (sym (ap (λ r. lists r j) (under i)) ∙ q) in
+        let parts = and_parts (is_element_at nodes j) (is_option i (up tps j)) low.1 in
         (parts.0, place_is i (up tps j) parts.1)
 
     is_linked : (i j : ℕ) (y : Node) → slice_get nodes j ≡ Some y → is_element y ≡ true → up tps j ≡ Some i → links children i j ≡ true
     is_linked i j y at is e =
         ap (λ r. lists r j) (under i)
-        ∙ lists_filter (λ p. is_element_at nodes p && is_place i (up tps p)) (length nodes) 0 j (omega arith) (omega (arith, there_below nodes j y at))
-        ∙ and_from _ _ (ap has_element at ∙ is) (ap (is_place i) e ∙ eq-eqb i i refl)
+        ∙ lists_filter (λ p. is_element_at nodes p && is_option i (up tps p)) (length nodes) 0 j (omega arith) (omega (arith, there_below nodes j y at))
+        ∙ and_from _ _ (ap has_element at ∙ is) (ap (is_option i) e ∙ eq-eqb i i refl)
 
     abbrev within_at : Option Node → Bool
     within_at None = false
@@ -200,7 +200,7 @@ module _ (document : Document) (tree : IsNumberedTree document) (index : ℕ →
             ∙ or_right _ _ (ap (λ o. within_of z.serial (at_place nodes o)) u ∙ ap (within_of z.serial) at ∙ own_within tps children table under q z at is_z)
 
     module _ (new : List ℕ) where
-      by_parent_place : (o : Option ℕ) → up tps place ≡ o → (found : List ℕ) → IsReached children (top_of document.nodes o place ∷ []) found → ((i : ℕ) → lists new i ≡ (lists found i || is_place i o)) → AreNear document.nodes place new
+      by_parent_place : (o : Option ℕ) → up tps place ≡ o → (found : List ℕ) → IsReached children (top_of document.nodes o place ∷ []) found → ((i : ℕ) → lists new i ≡ (lists found i || is_option i o)) → AreNear document.nodes place new
       by_parent_place None u found reached so = record {
         elements = λ j q. found_elements tps children table under place x here is_x found reached j (sym (right (lists found j)) ∙ sym (so j) ∙ q);
         near = λ j y e a b is.
@@ -267,7 +267,7 @@ module _ (document : Document) (tree : IsNumberedTree document) (index : ℕ →
                       ∙ with_own (is_within nodes x.serial e.serial) (j == q)
                       ∙ ap (λ p. (p || is_within nodes x.serial e.serial) || false) (sym (is_parent j e b))
 
-  near_is : (tps : List (Option ℕ)) (children : List (List ℕ)) → IsTable document.nodes (λ n. time_parent document.nodes n.serial) tps → AreTimeChildren document.nodes tps children → (place : ℕ) → is_element_at document.nodes place ≡ true → (found new : List ℕ) → IsReached children (top_of document.nodes (up tps place) place ∷ []) found → ((i : ℕ) → lists new i ≡ (lists found i || is_place i (up tps place))) → AreNear document.nodes place new
+  near_is : (tps : List (Option ℕ)) (children : List (List ℕ)) → IsTable document.nodes (λ n. time_parent document.nodes n.serial) tps → AreTimeChildren document.nodes tps children → (place : ℕ) → is_element_at document.nodes place ≡ true → (found new : List ℕ) → IsReached children (top_of document.nodes (up tps place) place ∷ []) found → ((i : ℕ) → lists new i ≡ (lists found i || is_option i (up tps place))) → AreNear document.nodes place new
   near_is tps children table under place is found new reached so = by_node (slice_get nodes place) refl is
     where
       by_node : (o : Option Node) → slice_get nodes place ≡ o → is_element_at nodes place ≡ true → AreNear document.nodes place new
@@ -411,7 +411,7 @@ module _ (document : Document) (tree : IsNumberedTree document) (tps : List (Opt
   from_top = rw tops at reached
 
   pub near_some : (parent : ℕ) → up tps place ≡ Some parent → AreNear document.nodes place (with_place found parent)
-  near_some parent u = near_is document tree (λ s. place_in s document.nodes) (placed document.nodes) tps children table under place is found (with_place found parent) from_top (λ i. lists_one found parent i ∙ ap (λ o. lists found i || is_place i o) (sym u))
+  near_some parent u = near_is document tree (λ s. place_in s document.nodes) (placed document.nodes) tps children table under place is found (with_place found parent) from_top (λ i. lists_one found parent i ∙ ap (λ o. lists found i || is_option i o) (sym u))
 
   pub near_none : up tps place ≡ None → AreNear document.nodes place found
-  near_none u = near_is document tree (λ s. place_in s document.nodes) (placed document.nodes) tps children table under place is found found from_top (λ i. sym (right (lists found i)) ∙ ap (λ o. lists found i || is_place i o) (sym u))
+  near_none u = near_is document tree (λ s. place_in s document.nodes) (placed document.nodes) tps children table under place is found found from_top (λ i. sym (right (lists found i)) ∙ ap (λ o. lists found i || is_option i o) (sym u))

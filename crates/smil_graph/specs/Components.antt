@@ -3,7 +3,7 @@ use Rattle.std.specs.Prelude.{◌≡◌, ℕ, ◌+◌, ◌-◌, ◌*◌, ◌<◌
 use Rattle.smil_graph.specs.declared.components.Mark.{Mark}
 use Rattle.smil_graph.specs.declared.components.Mark.TheVariants.{New, Open, Done}
 use Rattle.smil_graph.specs.Links.{lists, row, links, LeadsTo}
-use Rattle.smil_graph.specs.Places.{is_place}
+use Rattle.smil_model.specs.reach.Reach.{is_option}
 
 -- how far a search has come
 pub record Grouping : Type 0 where
@@ -86,7 +86,7 @@ off_path g = record { marks = g.marks; next = g.next; members = g.members; start
 
 -- the last place of the path is left, and its group is done where the place starts it
 abbrev pub left : Grouping → ℕ → Grouping
-left g position = if is_place position (slice_get g.starts 0) then closed_from (off_path g) position else off_path g
+left g position = if is_option position (slice_get g.starts 0) then closed_from (off_path g) position else off_path g
 
 -- groups that were done later have lower levels
 abbrev pub level_of : ℕ → Mark → ℕ

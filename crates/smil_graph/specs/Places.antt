@@ -9,17 +9,13 @@ use Rattle.smil_model.specs.declared.document.Item.TheVariants.{Sync, Event, Rep
 use Rattle.smil_model.specs.document.Document.{is_element, has_kind, is_seq_kind}
 use Rattle.smil_model.specs.document.Defaults.{items_or}
 use Rattle.smil_model.specs.document.Dependencies.{has_implicit_duration, feeds_node}
-use Rattle.smil_model.specs.reach.Reach.{reads_node}
+use Rattle.smil_model.specs.reach.Reach.{reads_node, is_option}
 use Rattle.smil_graph.specs.Links.{lists, row}
 
 -- the node at a place that may be absent
 abbrev pub at_place : List Node → Option ℕ → Option Node
 at_place nodes None = None
 at_place nodes (Some place) = slice_get nodes place
-
-abbrev pub is_place : ℕ → Option ℕ → Bool
-is_place i None = false
-is_place i (Some j) = i == j
 
 -- what a table has at a place
 abbrev pub up : List (Option ℕ) → ℕ → Option ℕ
@@ -72,7 +68,7 @@ before place last (i ∷ is) = if i == place then last else before place (Some i
 -- for each node the row of the places of its time children, in document order
 abbrev pub AreTimeChildren : List Node → List (Option ℕ) → List (List ℕ) → Type 0
 AreTimeChildren nodes time_parents children =
-    (q : ℕ) → row children q ≡ filter (λ p. is_element_at nodes p && is_place q (up time_parents p)) (range_with_len 0 (length nodes))
+    (q : ℕ) → row children q ≡ filter (λ p. is_element_at nodes p && is_option q (up time_parents p)) (range_with_len 0 (length nodes))
 
 -- under a parent that is a seq, the one before
 abbrev pub previous_of : List Node → List (List ℕ) → ℕ → Option ℕ → Option ℕ
@@ -99,13 +95,13 @@ source_of named place _ = None
 
 -- whether an item leads to the place i
 abbrev pub leads_to_place : (Item → Option ℕ) → List Item → ℕ → Bool
-leads_to_place of items i = list_any (λ (item : Item). is_place i (of item)) items
+leads_to_place of items i = list_any (λ (item : Item). is_option i (of item)) items
 
 -- whether the times of a node follow from those of the one at the place i, by the places of its time children, of the
 -- child before it in a seq, and of those that its items name
 abbrev pub follows : List ℕ → Option ℕ → (List ℕ → Option ℕ) → Node → ℕ → Bool
 follows children previous named e i =
-    (has_implicit_duration e && lists children i) || is_place i previous
+    (has_implicit_duration e && lists children i) || is_option i previous
     || leads_to_place (named_by named) (items_or [] e.attrs.begin) i
     || leads_to_place (named_by named) (items_or [] e.attrs.«end») i
 

@@ -8,8 +8,9 @@ ghost use Rattle.smil_model.specs.document.Document as model;
 ghost use Rattle.smil_graph.specs.Links as links;
 ghost use Rattle.smil_graph.specs.Links.{lists, row, AreRows};
 ghost use Rattle.smil_graph.specs.Places as places;
-ghost use Rattle.smil_graph.specs.Places.{is_place, up, leads_to_place, element_follows, feeds_place, reads_place, IsIndex, IsTable, AreTimeChildren};
+ghost use Rattle.smil_graph.specs.Places.{up, leads_to_place, element_follows, feeds_place, reads_place, IsIndex, IsTable, AreTimeChildren};
 ghost use Rattle.smil_model.specs.document.Valid.{IsNumberedTree, IsDistinct};
+ghost use Rattle.smil_model.specs.reach.Reach.{is_option};
 
 use super::outline::{TimeTree, is_element, place_at, previous_in_seqs};
 use super::row::{Row, push_all, push_one, row_at};

@@ -4,8 +4,9 @@ ghost use Rattle.std.specs.Prelude.{◌≡◌, ℕ, ◌<◌, ◌&&◌, Some, Non
 ghost use Rattle.std.specs.HashMap.{get};
 ghost use Rattle.smil_model.specs.document.Document as model;
 ghost use Rattle.smil_model.specs.document.Valid.{IsNumberedTree};
+ghost use Rattle.smil_model.specs.reach.Reach.{is_option};
 ghost use Rattle.smil_graph.specs.Links.{row, AreRows, IsRising};
-ghost use Rattle.smil_graph.specs.Places.{is_place, up, IsTable, IsIndex, before, is_element_at, element_above, parent_by, previous_of, AreTimeChildren};
+ghost use Rattle.smil_graph.specs.Places.{up, IsTable, IsIndex, before, is_element_at, element_above, parent_by, previous_of, AreTimeChildren};
 
 use super::row::{Row, push_one, row_at};
 use super::turned::turned;
@@ -136,7 +137,7 @@ fn parent_rows(
     time_parents: &[Option<usize>],
 ) -> Result<Vec<Row<usize>>, AllocError>
     ensures { IfOk result (λ rows. AreRows (length doc.now.nodes)
-        (λ p q. is_element_at doc.now.nodes p && is_place q (up time_parents.now p)) rows.items) }
+        (λ p q. is_element_at doc.now.nodes p && is_option q (up time_parents.now p)) rows.items) }
 {
     let mut rows = Vec::with_capacity(alloc, doc.len())?;
     for place in 0..doc.len() {

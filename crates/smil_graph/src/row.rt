@@ -2,7 +2,6 @@
 
 ghost use Rattle.std.specs.Prelude.{◌≡◌, ℕ, ◌<◌, List, [], ◌∷◌, ◌++◌, length, OnOk, OnErr, IfOk, ◌||◌, slice_index, slice_set};
 ghost use Rattle.smil_graph.specs.Links.{row, lists};
-ghost use Rattle.smil_graph.specs.Places.{is_place};
 
 use std::alloc::{AllocError, Global};
 use std::marker::Model;
@@ -15,6 +14,7 @@ pub struct Row<T> {
 
 impl<T> Model for Row<T> {
     ghost use Rattle.std.specs.Prelude.{List};
+ghost use Rattle.smil_model.specs.reach.Reach.{is_option};
 
     ghost Value = { List T };
 
@@ -112,7 +112,7 @@ pub fn push_all(row: &mut Row<usize>, places: &[usize]) -> Result<(), AllocError
 
 /// Appends a place, if there is one.
 pub fn push_one(row: &mut Row<usize>, place: Option<usize>) -> Result<(), AllocError>
-    ensures { OnOk result ((i : ℕ) → lists row.new i ≡ (lists row.old i || is_place i place)) }
+    ensures { OnOk result ((i : ℕ) → lists row.new i ≡ (lists row.old i || is_option i place)) }
 {
     match place {
         Some(place) => row.push(place),

@@ -4,9 +4,8 @@ ghost use Rattle.std.specs.Prelude.{◌≡◌, ◌≤◌, ◌&&◌, [], length, 
 ghost use Rattle.std.specs.List.{list_any};
 ghost use Rattle.smil_model.specs.document.Defaults.{items_or};
 ghost use Rattle.smil_model.specs.document.Document.{is_element};
-ghost use Rattle.smil_model.specs.reach.Reach.{is_key_item};
+ghost use Rattle.smil_model.specs.reach.Reach.{is_key_item, is_option};
 ghost use Rattle.smil_graph.specs.Tables.{has_key_item, key_of, AreWaiting, AreWithPlace};
-ghost use Rattle.smil_graph.specs.Places.{is_place};
 
 use super::row::{Row, empty_rows, push_at};
 use smil_model::{Doc, Item, Items, Node};
@@ -76,7 +75,7 @@ fn key_of(item: &Item) -> Option<u8>
 // Puts a place into the row of a key, if there is one.
 fn push_key(rows: &mut Vec<Row<usize>>, key: Option<u8>, place: usize) -> Result<(), AllocError>
     requires { KEYS ≤ length rows.old.items }
-    ensures { OnOk result (AreWithPlace (λ i. is_place i key) place rows.old.items rows.new.items) }
+    ensures { OnOk result (AreWithPlace (λ i. is_option i key) place rows.old.items rows.new.items) }
 {
     match key {
         Some(key) => push_at(rows, key as usize, place),
