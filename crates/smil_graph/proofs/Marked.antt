@@ -10,10 +10,10 @@ use Rattle.smil_model.specs.declared.document.Item.TheVariants.{Offset, Sync, Ev
 use Rattle.smil_model.specs.declared.document.Edge.{Edge}
 use Rattle.smil_model.specs.declared.document.Edge.TheVariants.{Begin, End}
 use Rattle.smil_model.specs.document.Document.{is_element, element_named, has_serial, is_in_excl}
-use Rattle.smil_model.specs.document.Defaults.{items_or, begin_list, end_list, items_of}
+use Rattle.smil_model.specs.document.Defaults.{items_or, begin_list, end_list, items_of, stated_list}
 use Rattle.smil_model.specs.document.Dependencies.{feeds_node, is_looped, is_looped_to, is_sync_with, all_items}
 use Rattle.smil_model.specs.document.Valid.{IsDistinct}
-use Rattle.smil_graph.specs.Places.{at_place, IsIndex, named_by, is_on_level, side_of, marks_of, HaveMarks}
+use Rattle.smil_graph.specs.Places.{at_place, IsIndex, named_by, is_on_level, marks_of, HaveMarks}
 use Rattle.smil_graph.specs.Graph.{is_looped_item}
 use Rattle.smil_graph.specs.Tables.{AreMarks, AreElementLevels}
 use Rattle.smil_graph.proofs.Nodes.{there, there_below}
@@ -45,7 +45,7 @@ module _ (nodes : List Node) (distinct : IsDistinct nodes) (named : List ℕ →
           ∙ ranked.looped i j x.0 e x.1 b (feeds_is nodes distinct (x.0).serial j e b ∙ and_from _ _ is fed_by)
           ∙ sym (ap (is_looped_to nodes e.serial) names)
 
-  by_side : (side : Edge) (j k : ℕ) (e : Node) → slice_get nodes j ≡ Some e → is_element e ≡ true → get_or (map (λ (item : Item). is_on_level levels j (named_by named item)) (items_or [] (side_of side e))) k false ≡ is_looped_item nodes e.serial (slice_get (items_of nodes side e) k)
+  by_side : (side : Edge) (j k : ℕ) (e : Node) → slice_get nodes j ≡ Some e → is_element e ≡ true → get_or (map (λ (item : Item). is_on_level levels j (named_by named item)) (items_or [] (stated_list e.attrs side))) k false ≡ is_looped_item nodes e.serial (slice_get (items_of nodes side e) k)
   by_side End j k e b is =
       at_item (λ (item : Item). is_on_level levels j (named_by named item)) nodes e.serial (end_list e) k
       (λ item at. item_is j e b is item (λ test t. list_any-append test (begin_list nodes e) (end_list e) ∙ or_right _ _ (there_any_item test (end_list e) k item at t)))
@@ -82,11 +82,11 @@ module _ (nodes : List Node) (distinct : IsDistinct nodes) (named : List ℕ →
       ap (λ r. get_or r k false) (have.each j (there_below nodes j e b) ∙ ap (marks_of side levels named j) b)
       ∙ by_element (is_element e) refl
     where
-      by_element : (t : Bool) → is_element e ≡ t → get_or (cond (is_element e) (map (λ (item : Item). is_on_level levels j (named_by named item)) (items_or [] (side_of side e))) []) k false ≡ (is_element e && is_looped_item nodes e.serial (slice_get (items_of nodes side e) k))
+      by_element : (t : Bool) → is_element e ≡ t → get_or (cond (is_element e) (map (λ (item : Item). is_on_level levels j (named_by named item)) (items_or [] (stated_list e.attrs side))) []) k false ≡ (is_element e && is_looped_item nodes e.serial (slice_get (items_of nodes side e) k))
       by_element true is =
-          ap (λ t. get_or (cond t (map (λ (item : Item). is_on_level levels j (named_by named item)) (items_or [] (side_of side e))) []) k false) is
+          ap (λ t. get_or (cond t (map (λ (item : Item). is_on_level levels j (named_by named item)) (items_or [] (stated_list e.attrs side))) []) k false) is
           ∙ by_side side j k e b is
           ∙ sym (ap (λ t. t && is_looped_item nodes e.serial (slice_get (items_of nodes side e) k)) is)
       by_element false is =
-          ap (λ t. get_or (cond t (map (λ (item : Item). is_on_level levels j (named_by named item)) (items_or [] (side_of side e))) []) k false) is
+          ap (λ t. get_or (cond t (map (λ (item : Item). is_on_level levels j (named_by named item)) (items_or [] (stated_list e.attrs side))) []) k false) is
           ∙ sym (ap (λ t. t && is_looped_item nodes e.serial (slice_get (items_of nodes side e) k)) is)

@@ -7,7 +7,7 @@ use Rattle.smil_model.specs.declared.document.Edge.{Edge}
 use Rattle.smil_model.specs.declared.document.Edge.TheVariants.{Begin, End}
 use Rattle.smil_model.specs.declared.document.Item.TheVariants.{Sync, Event, Repeat}
 use Rattle.smil_model.specs.document.Document.{is_element, has_kind, is_seq_kind}
-use Rattle.smil_model.specs.document.Defaults.{items_or}
+use Rattle.smil_model.specs.document.Defaults.{items_or, stated_list}
 use Rattle.smil_model.specs.document.Dependencies.{has_implicit_duration, feeds_node}
 use Rattle.smil_model.specs.reach.Reach.{reads_node, is_option}
 use Rattle.smil_graph.specs.Links.{lists, row}
@@ -133,16 +133,11 @@ abbrev pub is_on_level : List ℕ → ℕ → Option ℕ → Bool
 is_on_level levels place None = false
 is_on_level levels place (Some other) = slice_index_or levels other 0 == slice_index_or levels place 0
 
--- the items of one side of a node, where it has the attribute
-abbrev pub side_of : Edge → Node → Option (List Item)
-side_of Begin e = e.attrs.begin
-side_of End e = e.attrs.«end»
-
 -- for each item whether it names another place on the level of this one
 abbrev pub marks_of : Edge → List ℕ → (List ℕ → Option ℕ) → ℕ → Option Node → List Bool
 marks_of side levels named place None = []
 marks_of side levels named place (Some e) =
-    if is_element e then map (λ (item : Item). is_on_level levels place (named_by named item)) (items_or [] (side_of side e)) else []
+    if is_element e then map (λ (item : Item). is_on_level levels place (named_by named item)) (items_or [] (stated_list e.attrs side)) else []
 
 -- so many rows of such marks
 pub record HaveMarks (nodes : List Node) (side : Edge) (levels : List ℕ) (named : List ℕ → Option ℕ) (count : ℕ) (rows : List (List Bool)) : Type 0 where

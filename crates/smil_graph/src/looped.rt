@@ -1,10 +1,10 @@
 //! Marks of the items that are looped references.
 
-ghost use Rattle.std.specs.Prelude.{◌≡◌, ◌++◌, ℕ, List, [], map, length, slice_get, OnOk, IfOk, bytes_eq};
+ghost use Rattle.std.specs.Prelude.{◌≡◌, ◌++◌, ℕ, List, [], map, length, slice_get, OnOk, IfOk, bytes_eq, option_copied};
 ghost use Rattle.std.specs.HashMap.{get_by};
 ghost use Rattle.smil_model.specs.document.Defaults as defaults;
 ghost use Rattle.smil_graph.specs.Places as places;
-ghost use Rattle.smil_graph.specs.Places.{is_on_level, side_of, IsIndex};
+ghost use Rattle.smil_graph.specs.Places.{is_on_level, IsIndex};
 ghost use Rattle.smil_graph.specs.Tables.{AreElementLevels, AreMarks};
 ghost use Rattle.smil_model.specs.document.Document as model;
 ghost use Rattle.smil_model.specs.document.Valid.{IsDistinct};
@@ -12,7 +12,7 @@ ghost use Rattle.smil_model.specs.document.Valid.{IsDistinct};
 use super::feeders::named_by;
 use super::outline::is_element;
 use super::row::{Row, number_at};
-use smil_model::{Doc, Edge, Items, Node};
+use smil_model::{Doc, Edge, Items};
 use std::alloc::{AllocError, Global};
 use std::collections::HashMap;
 
@@ -43,7 +43,7 @@ pub fn looped_marks(
         let mut row = Row::new(alloc);
         if let Some(node) = doc.get(place) {
             if is_element(node) {
-                push_marks(&mut row, side_of(node, side), loops, place)?;
+                push_marks(&mut row, node.attrs.list(side), loops, place)?;
             }
         }
         rows.push(row)?;
@@ -51,28 +51,18 @@ pub fn looped_marks(
     Ok(rows)
 }
 
-// The items of one side of an element, where it has the attribute.
-fn side_of(node: &Node, side: Edge) -> &Option<Items>
-    ensures { result.now ≡ side_of side node.now }
-{
-    match side {
-        Edge::Begin => &node.attrs.begin,
-        Edge::End => &node.attrs.end,
-    }
-}
-
 // Appends for each item whether it is a reference of the element at a place to one of the same
 // level.
 fn push_marks(
     row: &mut Row<bool>,
-    items: &Option<Items>,
+    items: Option<&Items>,
     loops: &Loops<'_, '_>,
     place: usize,
 ) -> Result<(), AllocError>
     ensures { OnOk result (row.new ≡ row.old
         ++ map (λ item. is_on_level loops.now.levels.now place
         (places.named_by (λ id. get_by (λ k. bytes_eq id k.now) loops.now.ids.now) item))
-        (defaults.items_or [] items.now)) }
+        (defaults.items_or [] (option_copied items))) }
 {
     let Some(items) = items else {
         return Ok(());
