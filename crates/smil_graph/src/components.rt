@@ -6,8 +6,9 @@ ghost use Rattle.smil_graph.specs.Links.{AreBelow, StayBelow};
 ghost use Rattle.smil_graph.specs.Components as model;
 ghost use Rattle.smil_graph.specs.Components.{IsGrouping, StayKnown, mark_at, untouched, opened, met, followed, closed_from, marked_all, left, level_of, without_above, IsStep};
 
-use super::row::{Row, row_at};
+use super::row::row_at;
 use super::stack::Stack;
+use smil_model::Listed;
 use std::alloc::{AllocError, Global};
 use std::marker::Model;
 
@@ -87,7 +88,7 @@ impl Components {
 
     /// Follows the links of the open places, and of the new ones that they lead to, until no place
     /// is open. Where memory runs out the search cannot go on.
-    pub fn follow(&mut self, rows: &[Row<usize>]) -> Result<(), AllocError>
+    pub fn follow(&mut self, rows: &[Listed<usize>]) -> Result<(), AllocError>
         requires below { StayBelow (length rows.now) rows.now }
         requires grouping { IsGrouping rows.now self.old }
         ensures grouping { OnOk result (IsGrouping rows.now self.new) }
@@ -108,7 +109,7 @@ impl Components {
     }
 
     // Follows a link of the last place on the path, or leaves the place where it has no more.
-    fn step(&mut self, rows: &[Row<usize>], position: usize) -> Result<(), AllocError>
+    fn step(&mut self, rows: &[Listed<usize>], position: usize) -> Result<(), AllocError>
         requires below { StayBelow (length rows.now) rows.now }
         requires grouping { IsGrouping rows.now self.old }
         requires last { slice_get self.old.path 0 ≡ Some position }

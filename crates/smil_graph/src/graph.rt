@@ -1,6 +1,6 @@
 //! The graph of a document.
 
-ghost use Rattle.std.specs.Prelude.{◌≡◌, ◌==◌, ◌++◌, ℕ, List, Some, true, take, nat_eq, slice_get, OnOk, OnErr, IfOk};
+ghost use Rattle.std.specs.Prelude.{◌≡◌, ◌==◌, ◌++◌, ℕ, List, Some, true, nat_eq, slice_get, OnOk, OnErr, IfOk};
 ghost use Rattle.std.specs.HashMap.{get};
 ghost use Rattle.std.specs.List.{position};
 ghost use Rattle.smil_model.specs.document.Valid.{IsNumberedTree};
@@ -12,10 +12,10 @@ ghost use Rattle.smil_graph.specs.Places.{is_element_at};
 
 use super::near::near;
 use super::outline::{TimeTree, is_element_at};
-use super::row::{Row, row_at};
+use super::row::row_at;
 use super::search::search;
 use super::tables::{Tables, serials_at, tables_like, tables_of};
-use smil_model::{Doc, Duplicate, Edge, Serials};
+use smil_model::{Doc, Duplicate, Edge, Listed, Serials};
 use smil_tree::Tree;
 use std::alloc::{AllocError, Global};
 use std::collections::HashMap;
@@ -145,7 +145,7 @@ impl Graph {
         match element_place(&self.doc, &self.tables.places, serial) {
             Some(place) => {
                 let reach = reach_at(self.alloc, &self.doc, &self.tables, place)?;
-                append(out, reach.slice())
+                out.append(reach.slice())
             }
             None => Ok(()),
         }
@@ -160,12 +160,12 @@ impl Graph {
     {
         let starts = row_at(self.tables.waiting.as_slice(), key as usize);
         let reach = reach_from(self.alloc, &self.doc, &self.tables, starts)?;
-        append(out, reach.slice())
+        out.append(reach.slice())
     }
 }
 
 // The reach of the element at a place, in document order.
-fn reach_at(alloc: Global, doc: &Doc, tables: &Tables, place: usize) -> Result<Row<u32>, AllocError>
+fn reach_at(alloc: Global, doc: &Doc, tables: &Tables, place: usize) -> Result<Serials, AllocError>
     requires tree { IsNumberedTree doc.now }
     requires tables { AreTables doc.now tables.now }
     requires element { is_element_at doc.now.nodes place ≡ true }
@@ -187,7 +187,7 @@ fn reach_from(
     doc: &Doc,
     tables: &Tables,
     starts: &[usize],
-) -> Result<Row<u32>, AllocError>
+) -> Result<Serials, AllocError>
     requires tree { IsNumberedTree doc.now }
     requires tables { AreTables doc.now tables.now }
     requires elements { AreElements doc.now.nodes starts.now }
@@ -209,30 +209,6 @@ fn element_place(doc: &Doc, places: &HashMap<u32, usize>, serial: u32) -> Option
     }
 }
 
-// Appends these serials. Where memory runs out the list is as before.
-fn append(out: &mut Serials, serials: &[u32]) -> Result<(), AllocError>
-    ensures ok { OnOk result (out.new ≡ out.old ++ serials.now) }
-    ensures err { OnErr result (out.new ≡ out.old) }
-{
-    let len = out.len();
-    let pushed = push_all(out, serials);
-    if pushed.is_err() {
-        out.cut_back(len);
-    }
-    pushed
-}
-
-// Appends these serials, or some of them where memory runs out.
-fn push_all(out: &mut Serials, serials: &[u32]) -> Result<(), AllocError>
-    ensures ok { OnOk result (out.new ≡ out.old ++ serials.now) }
-    ensures err { OnErr result ((k : ℕ) × (out.new ≡ out.old ++ take k serials.now)) }
-{
-    for serial in serials {
-        out.push(*serial)?;
-    }
-    Ok(())
-}
-
 // The place of a serial.
 fn place_of(places: &HashMap<u32, usize>, serial: u32) -> Option<usize>
     ensures { result ≡ get nat_eq places.now serial }
@@ -241,7 +217,7 @@ fn place_of(places: &HashMap<u32, usize>, serial: u32) -> Option<usize>
 }
 
 // The row at a place; it is empty where there is none.
-fn row_of(rows: &[Row<u32>], place: Option<usize>) -> &[u32]
+fn row_of(rows: &[Serials], place: Option<usize>) -> &[u32]
     ensures { result.now ≡ row_of rows.now place }
 {
     match place {
@@ -254,7 +230,7 @@ fn row_of(rows: &[Row<u32>], place: Option<usize>) -> &[u32]
 }
 
 // Whether there is a mark at an item of the row at a place.
-fn is_marked(rows: &[Row<bool>], place: Option<usize>, item: usize) -> bool
+fn is_marked(rows: &[Listed<bool>], place: Option<usize>, item: usize) -> bool
     ensures { result ≡ marked_at rows.now place item }
 {
     match place {

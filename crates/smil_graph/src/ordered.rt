@@ -10,9 +10,9 @@ ghost use Rattle.smil_graph.specs.Places.{up, is_element_at, IsTable};
 ghost use Rattle.smil_graph.specs.Ranks.{rank_of, height_under, AreHeights};
 
 use super::outline::{is_element_at, place_at};
-use super::row::{Row, number_at};
+use super::row::number_at;
 use super::tables::serials_at;
-use smil_model::Doc;
+use smil_model::{Doc, Serials};
 use std::alloc::{AllocError, Global};
 
 // What an element is sorted by: first by level, then by height, the lower first, and then by
@@ -31,7 +31,7 @@ pub fn ordered(
     doc: &Doc,
     levels: &[usize],
     time_parents: &[Option<usize>],
-) -> Result<Row<u32>, AllocError>
+) -> Result<Serials, AllocError>
     requires distinct { IsDistinct doc.now.nodes }
     requires levels { AreElementLevels doc.now.nodes levels.now }
     requires time_parents { IsTable doc.now.nodes (λ n. time_parent doc.now.nodes n.serial)

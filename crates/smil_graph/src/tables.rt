@@ -17,10 +17,9 @@ use super::ordered::ordered;
 use super::outline::{TimeTree, parents, time_children, time_parents};
 use super::places::{id_places, serial_places};
 use super::ranks::ranks_of;
-use super::row::{Row, row_of};
 use super::turned::turned;
 use super::waiting::waiting;
-use smil_model::{Doc, Edge};
+use smil_model::{Doc, Edge, Listed, Serials};
 use std::alloc::{AllocError, Global};
 use std::collections::HashMap;
 
@@ -29,13 +28,13 @@ use std::collections::HashMap;
 pub struct Tables {
     pub places: HashMap<u32, usize>,
     pub time_parents: Vec<Option<usize>>,
-    pub time_children: Vec<Row<usize>>,
-    pub begins: Vec<Row<bool>>,
-    pub ends: Vec<Row<bool>>,
-    pub heads: Vec<Row<usize>>,
-    pub readers: Vec<Row<u32>>,
-    pub waiting: Vec<Row<usize>>,
-    pub order: Row<u32>,
+    pub time_children: Vec<Listed<usize>>,
+    pub begins: Vec<Listed<bool>>,
+    pub ends: Vec<Listed<bool>>,
+    pub heads: Vec<Listed<usize>>,
+    pub readers: Vec<Serials>,
+    pub waiting: Vec<Listed<usize>>,
+    pub order: Serials,
     pub ranks: HashMap<u32, usize>,
 }
 
@@ -102,14 +101,14 @@ pub fn tables_like(alloc: Global, doc: &Doc, other: &Tables) -> Result<Tables, A
     ensures order { IfOk result (λ t. t.order ≡ other.now.order) }
 {
     let mut tables = tables_of(alloc, doc)?;
-    let order = row_of(alloc, other.order.slice())?;
+    let order = Serials::of(alloc, other.order.slice())?;
     tables.ranks = ranks_of(alloc, order.slice())?;
     tables.order = order;
     Ok(tables)
 }
 
 // A level for each node, from the rows of what each element's times follow from.
-fn element_levels(alloc: Global, feeders: &[Row<usize>]) -> Result<Vec<usize>, AllocError>
+fn element_levels(alloc: Global, feeders: &[Listed<usize>]) -> Result<Vec<usize>, AllocError>
     requires { StayBelow (length feeders.now) feeders.now }
     ensures { IfOk result (λ levels. (nodes : List Node) → IsDistinct nodes
         → AreRows (length nodes) (feeds_place nodes) feeders.now
@@ -123,9 +122,9 @@ fn element_levels(alloc: Global, feeders: &[Row<usize>]) -> Result<Vec<usize>, A
 fn heads(
     alloc: Global,
     doc: &Doc,
-    feeders: &[Row<usize>],
+    feeders: &[Listed<usize>],
     ids: &HashMap<&[u8], usize>,
-) -> Result<Vec<Row<usize>>, AllocError>
+) -> Result<Vec<Listed<usize>>, AllocError>
     requires distinct { IsDistinct doc.now.nodes }
     requires feeders { AreRows (length doc.now.nodes) (feeds_place doc.now.nodes) feeders.now }
     requires ids { IsIndex doc.now.nodes (element_named doc.now.nodes)
@@ -137,7 +136,7 @@ fn heads(
 }
 
 // For each element the serials of those that read it, in document order.
-fn readers(alloc: Global, doc: &Doc, heads: &[Row<usize>]) -> Result<Vec<Row<u32>>, AllocError>
+fn readers(alloc: Global, doc: &Doc, heads: &[Listed<usize>]) -> Result<Vec<Serials>, AllocError>
     requires distinct { IsDistinct doc.now.nodes }
     requires heads { AreHeads doc.now.nodes heads.now }
     ensures { IfOk result (λ rows. AreReaders doc.now.nodes rows.items) }
@@ -151,10 +150,10 @@ fn readers(alloc: Global, doc: &Doc, heads: &[Row<usize>]) -> Result<Vec<Row<u32
 }
 
 /// The serials of the nodes at these places.
-pub fn serials_at(alloc: Global, doc: &Doc, places: &[usize]) -> Result<Row<u32>, AllocError>
+pub fn serials_at(alloc: Global, doc: &Doc, places: &[usize]) -> Result<Serials, AllocError>
     ensures { IfOk result (λ serials. serials ≡ serials_of_places doc.now.nodes places.now) }
 {
-    let mut serials = Row::new(alloc);
+    let mut serials = Listed::new(alloc);
     for place in places {
         if let Some(node) = doc.get(*place) {
             serials.push(node.serial)?;

@@ -3,11 +3,12 @@
 ghost use Rattle.std.specs.Prelude.{◌≡◌, ℕ, ◌<◌, length, OnOk, IfOk};
 ghost use Rattle.smil_graph.specs.Links.{row, StayBelow, AreBelow, that_have, is_last, IsPushedInEach};
 
-use super::row::{Row, empty_rows, push_at};
+use super::row::{empty_rows, push_at};
+use smil_model::Listed;
 use std::alloc::{AllocError, Global};
 
 /// For each place the rows that have it, in rising order.
-pub fn turned(alloc: Global, rows: &[Row<usize>]) -> Result<Vec<Row<usize>>, AllocError>
+pub fn turned(alloc: Global, rows: &[Listed<usize>]) -> Result<Vec<Listed<usize>>, AllocError>
     requires { StayBelow (length rows.now) rows.now }
     ensures count { IfOk result (λ heads. length heads.items ≡ length rows.now) }
     ensures heads { IfOk result (λ heads. (i : ℕ) → i < length rows.now
@@ -23,7 +24,7 @@ pub fn turned(alloc: Global, rows: &[Row<usize>]) -> Result<Vec<Row<usize>>, All
 // Appends a place to each of the rows that are listed, and once to a row that is listed twice.
 // What is said of a row holds where it does not have the place before.
 fn push_in_each(
-    rows: &mut Vec<Row<usize>>,
+    rows: &mut Vec<Listed<usize>>,
     listed: &[usize],
     place: usize,
 ) -> Result<(), AllocError>

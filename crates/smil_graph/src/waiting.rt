@@ -7,15 +7,15 @@ ghost use Rattle.smil_model.specs.document.Document.{is_element};
 ghost use Rattle.smil_model.specs.reach.Reach.{is_key_item, is_option};
 ghost use Rattle.smil_graph.specs.Tables.{has_key_item, key_of, AreWaiting, AreWithPlace};
 
-use super::row::{Row, empty_rows, push_at};
-use smil_model::{Doc, Item, Items, Node};
+use super::row::{empty_rows, push_at};
+use smil_model::{Doc, Item, Items, Listed, Node};
 use std::alloc::{AllocError, Global};
 
 /// How many keys there are: one for each byte.
 pub const KEYS: usize = 256;
 
 /// For each key a row of the places of the elements that have an item for it.
-pub fn waiting(alloc: Global, doc: &Doc) -> Result<Vec<Row<usize>>, AllocError>
+pub fn waiting(alloc: Global, doc: &Doc) -> Result<Vec<Listed<usize>>, AllocError>
     ensures { IfOk result (λ rows. AreWaiting doc.now.nodes rows.items) }
 {
     let mut rows = empty_rows(alloc, KEYS)?;
@@ -29,7 +29,7 @@ pub fn waiting(alloc: Global, doc: &Doc) -> Result<Vec<Row<usize>>, AllocError>
 
 // Puts the place of an element into the row of each key for which it has an item; that of a
 // priorityClass into none.
-fn push_waits(rows: &mut Vec<Row<usize>>, node: &Node, place: usize) -> Result<(), AllocError>
+fn push_waits(rows: &mut Vec<Listed<usize>>, node: &Node, place: usize) -> Result<(), AllocError>
     requires { KEYS ≤ length rows.old.items }
     ensures { OnOk result (AreWithPlace (λ key. is_element node.now && has_key_item key node.now)
         place rows.old.items rows.new.items) }
@@ -43,7 +43,7 @@ fn push_waits(rows: &mut Vec<Row<usize>>, node: &Node, place: usize) -> Result<(
 
 // Puts a place into the row of each key for which there is an item.
 fn push_keys(
-    rows: &mut Vec<Row<usize>>,
+    rows: &mut Vec<Listed<usize>>,
     items: &Option<Items>,
     place: usize,
 ) -> Result<(), AllocError>
@@ -73,7 +73,7 @@ fn key_of(item: &Item) -> Option<u8>
 }
 
 // Puts a place into the row of a key, if there is one.
-fn push_key(rows: &mut Vec<Row<usize>>, key: Option<u8>, place: usize) -> Result<(), AllocError>
+fn push_key(rows: &mut Vec<Listed<usize>>, key: Option<u8>, place: usize) -> Result<(), AllocError>
     requires { KEYS ≤ length rows.old.items }
     ensures { OnOk result (AreWithPlace (λ i. is_option i key) place rows.old.items rows.new.items) }
 {

@@ -15,7 +15,7 @@ returns-in_ok-reach-in-Some-clause-ok c =
     let element = reach_there c.self.inside.doc.nodes (c.self.invariant.0).distinct (get nat_eq c.self.inside.tables.places) c.self.invariant.1.indexed c.args.serial c.in-Some.place (sym c.element_place.ensures ∙ c.in-Some.is) in
     let reach : c.slice.result.now ≡ down_from c.args.self.now.nodes (Some c.args.serial) =
     c.slice.ensures ∙ c.in_ok-reach-in-Some.ensures element.0 element.1 ∙ sym element.2 ∙ ap (λ (g : OrderedNodes). down_from g.nodes (Some c.args.serial)) c.self.view_is in
-    IfOk-weaker c.append.result (λ _. c.append.new.out ≡ c.args.out.now ++ c.slice.result.now) (λ _. c.append.new.out ≡ c.args.out.now ++ down_from c.args.self.now.nodes (Some c.args.serial))
+    IfOk-weaker c.append.result (λ _. c.append.new.self ≡ c.args.out.now ++ c.slice.result.now) (λ _. c.append.new.self ≡ c.args.out.now ++ down_from c.args.self.now.nodes (Some c.args.serial))
     (λ _ all. all ∙ ap (λ (ss : List ℕ). c.args.out.now ++ ss) reach)
     c.append.ensures.ok
 

@@ -20,6 +20,6 @@ returns-clause-ok c =
     let are : AreOf c.self.inside.doc.nodes (waiters c.self.inside.doc.nodes c.args.key) c.row_at-starts.result.now = rw starts (waiters_are c.self.inside.doc.nodes (c.self.invariant.0).distinct c.self.inside.tables.waiting.items c.self.invariant.1.waiting c.args.key low) in
     let reach : c.slice.result.now ≡ down_key c.args.self.now.nodes c.args.key =
     c.slice.ensures ∙ c.in_ok-reach.ensures (waiters c.self.inside.doc.nodes c.args.key) are ∙ ap (λ (g : OrderedNodes). down_key g.nodes c.args.key) c.self.view_is in
-    IfOk-weaker c.append.result (λ _. c.append.new.out ≡ c.args.out.now ++ c.slice.result.now) (λ _. c.append.new.out ≡ c.args.out.now ++ down_key c.args.self.now.nodes c.args.key)
+    IfOk-weaker c.append.result (λ _. c.append.new.self ≡ c.args.out.now ++ c.slice.result.now) (λ _. c.append.new.self ≡ c.args.out.now ++ down_key c.args.self.now.nodes c.args.key)
     (λ _ all. all ∙ ap (λ (ss : List ℕ). c.args.out.now ++ ss) reach)
     c.append.ensures.ok
