@@ -573,7 +573,7 @@ impl<T: Table> Cells<T> {
     }
 }
 
-/// Appends entries, one after another, each of which may follow what has happened by then.
+// Appends entries, one after another, each of which may follow what has happened by then.
 fn append_all(past: &mut Past, entries: &[Entry]) -> Result<(), BookFault>
     requires { MayAppendAll past.old entries.now }
     ensures ok { OnOk result (past.new

@@ -14,9 +14,9 @@ use smil_diary::{is_from, later_of};
 use smil_model::{Kind, StepKind};
 use smil_past::Past;
 
-/// Whether another child of its seq or excl began or resumed after the last end of an element, or
-/// the next child of its seq began since its birth. It takes no memory, and a look-up for each
-/// child.
+// Whether another child of its seq or excl began or resumed after the last end of an element, or
+// the next child of its seq began since its birth. It takes no memory, and a look-up for each
+// child.
 pub(crate) fn is_displaced(past: &Past, who: u32) -> bool
     requires { has_element past.now.document.nodes who ≡ true }
     ensures { result ≡ is_displaced (history_of past.now) who }

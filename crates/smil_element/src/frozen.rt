@@ -15,8 +15,8 @@ use super::facts::{attrs_of, is_alive, parent_of, played_of};
 use smil_model::{Attrs, Fill};
 use smil_past::{Past, PastInterval};
 
-/// Whether an element is frozen; false where there is none. It takes no memory, and a step for each
-/// element above it up to an active one.
+// Whether an element is frozen; false where there is none. It takes no memory, and a step for each
+// element above it up to an active one.
 pub(crate) fn is_frozen(past: &Past, who: Option<u32>) -> bool
     requires { IfSome who (λ w. has_element past.now.document.nodes w ≡ true) }
     ensures { result ≡ frozen_at (history_of past.now) who }
@@ -60,7 +60,7 @@ fn freezes(last: Option<PastInterval>, kept: bool, shows: bool, above: bool) -> 
     }
 }
 
-/// Whether a time parent is active or frozen, or there is none.
+// Whether a time parent is active or frozen, or there is none.
 pub(crate) fn shows(past: &Past, parent: Option<u32>, frozen: bool) -> bool
     ensures { (node : Option AnyNode) → serial_of node ≡ parent
         → result ≡ (lives_under node past.now.diary || frozen) }
@@ -81,7 +81,7 @@ fn is_kept(past: &Past, who: u32) -> bool
     }
 }
 
-/// The fill of an element that holds: never `auto`.
+// The fill of an element that holds: never `auto`.
 pub(crate) fn fill_of(past: &Past, who: u32) -> Fill
     requires { has_element past.now.document.nodes who ≡ true }
     ensures { (e : AnyNode) → node_at (elements past.now.document.nodes) who ≡ Some e → result
