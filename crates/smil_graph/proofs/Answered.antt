@@ -15,10 +15,11 @@ use Rattle.smil_model.specs.document.Valid.{IsDistinct}
 use Rattle.smil_model.specs.reach.Reach.{down, down_from, is_event_of, is_option, reads, reads_node}
 use Rattle.smil_laws.proofs.Rounds.{find-serial}
 use Rattle.smil_laws.proofs.Members.{differ_each}
+use Rattle.smil_laws.proofs.Lists.{each_at}
 use Rattle.smil_graph.specs.Places.{at_place, has_element, is_element_at, up, previous_of, IsIndex, IsTable, AreTimeChildren}
 use Rattle.smil_graph.specs.Graph.{is_looped_item, looped_of, looped_at, readers_of}
 use Rattle.smil_graph.specs.Tables.{element_place, marked_at, row_of, AreMarks, AreReaders}
-use Rattle.smil_graph.proofs.Nodes.{there, each_at, find_place, none_each}
+use Rattle.smil_graph.proofs.Nodes.{there, find_place, none_each}
 use Rattle.smil_graph.proofs.Follow.{previous_is}
 use Rattle.smil_graph.proofs.Fed.{any_there, any_filter}
 

@@ -11,44 +11,26 @@ use Rattle.smil_model.specs.document.Valid.{IsDistinct}
 use Rattle.smil_model.specs.reach.Reach.{reads, reads_node}
 use Rattle.smil_laws.proofs.Closures.{is_closed, has_set}
 use Rattle.smil_laws.proofs.Rounds.{find-serial}
+use Rattle.smil_laws.proofs.Ranks.{filter_has, any_elem}
+use Rattle.smil_laws.proofs.Lists.{each_at}
 use Rattle.smil_graph.specs.Links.{links, AreLevels, LeadsTo}
 use Rattle.smil_graph.specs.Places.{at_place, IsIndex}
-use Rattle.smil_graph.proofs.Nodes.{there, each_at, none_each}
+use Rattle.smil_graph.proofs.Nodes.{there, none_each}
 use Rattle.smil_graph.proofs.Follow.{any_one, same_place}
 
 -- ---- closures
-
-pub filter_parts : (p : ℕ → Bool) (xs : List ℕ) (y : ℕ) → has (filter p xs) y ≡ true → (has xs y ≡ true) × (p y ≡ true)
-filter_parts p [] y q = cc
-filter_parts p (x ∷ xs) y q = keep (p x) refl q (filter_parts p xs y)
-  where
-    keep : (t : Bool) → p x ≡ t → has (cond t (x ∷ filter p xs) (filter p xs)) y ≡ true → (has (filter p xs) y ≡ true → (has xs y ≡ true) × (p y ≡ true)) → (has (x ∷ xs) y ≡ true) × (p y ≡ true)
-    keep true e r later = by_case (or_cases (x == y) (has (filter p xs) y) r)
-      where
-        by_case : (x == y ≡ true) ⊎ (has (filter p xs) y ≡ true) → (has (x ∷ xs) y ≡ true) × (p y ≡ true)
-        by_case (inl d) = (or_left _ _ d, ap p (sym (eqb-true x y d)) ∙ e)
-        by_case (inr d) = (or_right _ _ (later d).0, (later d).1)
-    keep false e r later = (or_right _ _ (later r).0, (later r).1)
-
-any_element : (f : ℕ → Bool) (xs : List ℕ) → list_any f xs ≡ true → (w : ℕ) × (has xs w ≡ true) × (f w ≡ true)
-any_element f [] q = cc
-any_element f (x ∷ xs) q = by_case (or_cases (f x) (list_any f xs) q) (any_element f xs)
-  where
-    by_case : (f x ≡ true) ⊎ (list_any f xs ≡ true) → (list_any f xs ≡ true → (w : ℕ) × (has xs w ≡ true) × (f w ≡ true)) → (w : ℕ) × (has (x ∷ xs) w ≡ true) × (f w ≡ true)
-    by_case (inl t) later = (x, or_left _ _ (eq-eqb x x refl), t)
-    by_case (inr t) later = let found = later t in (found.0, or_right _ _ found.1, found.2)
 
 -- a test that links keep holds in the closure of a set where it holds
 module _ (link : ℕ → ℕ → Bool) (all set : List ℕ) (test : ℕ → Bool) (begun : (y : ℕ) → has set y ≡ true → test y ≡ true) (kept : (x y : ℕ) → test x ≡ true → link x y ≡ true → has all y ≡ true → test y ≡ true) where
   in_rounds : (k y : ℕ) → has (rounds link all k set) y ≡ true → test y ≡ true
   in_rounds zero y q = begun y q
   in_rounds (suc k) y q =
-      let parts = filter_parts (λ z. has (rounds link all k set) z || list_any (λ w. link w z) (rounds link all k set)) all y q in
+      let parts = filter_has (λ z. has (rounds link all k set) z || list_any (λ w. link w z) (rounds link all k set)) all y q in
       by_case parts.0 (or_cases _ _ parts.1) (in_rounds k)
     where
       by_case : has all y ≡ true → (has (rounds link all k set) y ≡ true) ⊎ (list_any (λ w. link w y) (rounds link all k set) ≡ true) → ((z : ℕ) → has (rounds link all k set) z ≡ true → test z ≡ true) → test y ≡ true
       by_case a (inl d) below = below y d
-      by_case a (inr d) below = let found = any_element (λ w. link w y) (rounds link all k set) d in kept found.0 y (below found.0 found.1) found.2 a
+      by_case a (inr d) below = let found = any_elem (λ w. link w y) (rounds link all k set) d in kept found.0 y (below found.0 found.1) found.2 a
 
   pub in_closure : (y : ℕ) → has (closure link all set) y ≡ true → test y ≡ true
   in_closure y q = in_rounds (suc (length all)) y q

@@ -14,9 +14,10 @@ use Rattle.smil_model.specs.reach.Reach.{is_event_of, is_option}
 use Rattle.smil_model.specs.document.Valid.{IsDistinct}
 use Rattle.smil_laws.proofs.Lineages.{swap_eqb}
 use Rattle.smil_laws.proofs.Members.{differ_each}
+use Rattle.smil_laws.proofs.Lists.{each_at}
 use Rattle.smil_graph.specs.Links.{lists, row}
 use Rattle.smil_graph.specs.Places.{at_place, up, has_element, is_element_at, before, named_by, target_place, source_of, leads_to_place, follows, hears, previous_of, IsTable, IsIndex, AreTimeChildren}
-use Rattle.smil_graph.proofs.Nodes.{there_below, each_at, IsTableTo, table_step}
+use Rattle.smil_graph.proofs.Nodes.{there_below, IsTableTo, table_step}
 use Rattle.smil_graph.proofs.Ranges.{lists_filter}
 
 -- ---- serials and places

@@ -22,11 +22,8 @@ use Rattle.smil_graph.proofs.Follow.{all_any}
 use Rattle.smil_graph.proofs.Fed.{any_alike, element_one, has_serials}
 use Rattle.smil_graph.proofs.Lists.{lists_push}
 use Rattle.smil_graph.proofs.Nodes.{there_below}
-use Rattle.smil_graph.proofs.Rows.{take_item}
-
-pub right : (t : Bool) → t ≡ (t || false)
-right true = refl
-right false = refl
+use Rattle.smil_graph.proofs.Rows.{right}
+use Rattle.smil_laws.proofs.Lists.{take-suc_at}
 
 pub none_right : (t : Bool) → (t && false) ≡ false
 none_right true = refl
@@ -99,7 +96,7 @@ with_item items k item place old mid new here so pushed =
     more key =
         let one : k + 1 ≡ suc k = omega arith in
         ap (λ m. list_any (is_key_item key) (take m items)) one
-        ∙ ap (list_any (is_key_item key)) (take_item items k item here)
+        ∙ ap (list_any (is_key_item key)) (take-suc_at items k item here)
         ∙ list_any-append (is_key_item key) (take k items) (item ∷ [])
         ∙ ap (λ t. list_any (is_key_item key) (take k items) || t) (sym (right (is_key_item key item)) ∙ key_is key item)
 

@@ -12,7 +12,10 @@ use Rattle.smil_laws.proofs.Aside.{each_reverse, find_each}
 use Rattle.smil_laws.proofs.Below.{IsChain, ordered_chains}
 use Rattle.smil_laws.proofs.Numbered.{ordered}
 use Rattle.smil_laws.proofs.Rounds.{find-serial}
+use Rattle.smil_laws.proofs.Lists.{each_at}
+use Rattle.smil_laws.proofs.EditsBelow.{along_each}
 use Rattle.smil_graph.specs.Places.{at_place, up, has_element, is_element_at, element_above, parent_by, IsTable, IsIndex}
+use Rattle.smil_tree.proofs.Families.{drop-suc_at}
 
 -- ---- lists by places
 
@@ -25,16 +28,6 @@ pub there_below : {A : Type 0} (xs : List A) (p : ℕ) (x : A) → slice_get xs 
 there_below [] p x q = cc
 there_below (y ∷ ys) zero x q = omega arith
 there_below (y ∷ ys) (suc p) x q = omega (arith, there_below ys p x q)
-
-pub drop_there : {A : Type 0} (xs : List A) (p : ℕ) (x : A) → slice_get xs p ≡ Some x → drop p xs ≡ x ∷ drop (suc p) xs
-drop_there [] p x q = cc
-drop_there (y ∷ ys) zero x q = let same : y ≡ x = cc in ap (λ z. z ∷ ys) same
-drop_there (y ∷ ys) (suc p) x q = drop_there ys p x q
-
-pub each_at : {A : Type 0} (P : A → Type 0) (xs : List A) (p : ℕ) (x : A) → AllByRecursion P xs → slice_get xs p ≡ Some x → P x
-each_at P [] p x each q = cc
-each_at P (y ∷ ys) zero x each q = let same : y ≡ x = cc in rw (← same) each.0
-each_at P (y ∷ ys) (suc p) x each q = each_at P ys p x each.1 q
 
 pub find_place : (t : Node → Bool) (ns : List Node) (n : Node) → find t ns ≡ Some n → (k : ℕ) × (slice_get ns k ≡ Some n)
 find_place t [] n q = cc
@@ -66,7 +59,7 @@ fill_step {K} test nodes k place n old new l is here so after = record {
       let low : length nodes - (k + 1) ≡ place = omega arith in
       let high : suc place ≡ length nodes - k = omega arith in
       ap (λ p. find (test q) (drop p nodes)) low
-      ∙ ap (find (test q)) (drop_there nodes place n here)
+      ∙ ap (find (test q)) (drop-suc_at nodes place n here)
       ∙ ap (λ p. cond (test q n) (Some n) (find (test q) (drop p nodes))) high
       ∙ ap (cond (test q n) (Some n)) (so.node q)
       ∙ by_test q (test q n)
@@ -90,11 +83,8 @@ fill_all test nodes k index l so = record {
 
 -- ---- parents stand before their children
 
-move : (P : Node → Type 0) (xs ys : List Node) → xs ≡ ys → AllByRecursion P xs → AllByRecursion P ys
-move P xs ys e each = rw (← e) each
-
 back : (P : Node → Type 0) (ns : List Node) → AllByRecursion P (reverse ns) → AllByRecursion P ns
-back P ns each = move P (reverse (reverse ns)) ns (reverse-reverse ns) (each_reverse P (reverse ns) each)
+back P ns each = along_each P (reverse (reverse ns)) ns (reverse-reverse ns) (each_reverse P (reverse ns) each)
 
 -- no node's parent is the node itself or stands after it
 abbrev Forward : List Node → Type 0

@@ -4,7 +4,7 @@ use Rattle.std.specs.Prelude.{cond, ◌==◌, slice_get, option_map}
 use Rattle.std.specs.List.{position}
 use Rattle.std.proofs.lemmas.Grind.{common_steps}
 use Rattle.smil_graph.specs.Tables.{AreRanks}
-use Rattle.smil_graph.proofs.Nodes.{drop_there}
+use Rattle.smil_tree.proofs.Families.{drop-suc_at}
 
 pub position_step : (t : ℕ → Bool) (x : ℕ) (xs : List ℕ) → position t (x ∷ xs) ≡ cond (t x) (Some 0) (option_map suc (position t xs))
 position_step t x xs = grind (arith, common_steps)
@@ -32,7 +32,7 @@ one_rank order from place x old new next here so after s =
     ∙ ap (λ f. cond (x == s) (Some place) (option_map (λ k. f + k) (position (λ t. t == s) (drop f order)))) (sym next)
     ∙ by_test (x == s) (position (λ t. t == s) (drop (suc place) order))
     ∙ ap (option_map (λ k. place + k)) (sym (position_step (λ t. t == s) x (drop (suc place) order)))
-    ∙ ap (λ xs. option_map (λ k. place + k) (position (λ t. t == s) xs)) (sym (drop_there order place x here))
+    ∙ ap (λ xs. option_map (λ k. place + k) (position (λ t. t == s) xs)) (sym (drop-suc_at order place x here))
   where
     by_test : (t : Bool) (o : Option ℕ) → cond t (Some place) (option_map (λ k. suc place + k) o) ≡ option_map (λ k. place + k) (cond t (Some 0) (option_map suc o))
     by_test true o = let none : place ≡ place + 0 = omega arith in ap Some none

@@ -8,6 +8,7 @@ use Rattle.smil_model.specs.document.Document.{is_element}
 use Rattle.smil_model.specs.reach.Reach.{is_option}
 use Rattle.smil_graph.specs.Links.{lists, row, links, AreRows}
 use Rattle.smil_graph.specs.Places.{leads_to_place, follows, hears, element_follows, element_hears}
+use Rattle.smil_laws.proofs.Lists.{take-suc_at}
 
 -- ---- one row more
 
@@ -39,16 +40,11 @@ rows_step test k rows new so here = record {
 
 -- ---- one item more
 
-pub take_item : (items : List Item) (k : ℕ) (item : Item) → slice_get items k ≡ Some item → take (suc k) items ≡ take k items ++ item ∷ []
-take_item [] k item q = cc
-take_item (x ∷ xs) zero item q = let same : x ≡ item = cc in ap (λ y. y ∷ []) same
-take_item (x ∷ xs) (suc k) item q = ap (λ ys. x ∷ ys) (take_item xs k item q)
-
 pub assoc : (a b c : Bool) → ((a || b) || c) ≡ (a || (b || c))
 assoc true b c = refl
 assoc false b c = refl
 
-right : (t : Bool) → t ≡ (t || false)
+pub right : (t : Bool) → t ≡ (t || false)
 right true = refl
 right false = refl
 
@@ -56,7 +52,7 @@ pub leads_more : (of : Item → Option ℕ) (items : List Item) (k : ℕ) (item 
 leads_more of items k item p i old mid new here is so pushed =
     let one : k + 1 ≡ suc k = omega arith in
     let all : leads_to_place of (take (k + 1) items) i ≡ (leads_to_place of (take k items) i || is_option i (of item)) =
-    ap (λ m. leads_to_place of (take m items) i) one ∙ ap (λ xs. leads_to_place of xs i) (take_item items k item here)
+    ap (λ m. leads_to_place of (take m items) i) one ∙ ap (λ xs. leads_to_place of xs i) (take-suc_at items k item here)
     ∙ list_any-append (λ (x : Item). is_option i (of x)) (take k items) (item ∷ []) ∙ ap (λ t. leads_to_place of (take k items) i || t) (sym (right (is_option i (of item)))) in
     pushed
     ∙ ap (λ q. mid || is_option i q) is

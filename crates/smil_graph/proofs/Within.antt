@@ -12,24 +12,19 @@ use Rattle.smil_laws.proofs.Aside.{find_true, each_reverse}
 use Rattle.smil_laws.proofs.Below.{IsChain}
 use Rattle.smil_laws.proofs.Closures.{is_closed, has_set, has_filter}
 use Rattle.smil_laws.proofs.Rounds.{find-serial}
+use Rattle.smil_laws.proofs.Ranks.{filter_has}
+use Rattle.smil_laws.proofs.Lists.{each_at}
 use Rattle.smil_graph.specs.Links.{lists, links, with_place, IsKept, IsReached, IsRising}
 use Rattle.smil_graph.specs.Places.{at_place, up, has_element, is_element_at, reads_place, reads_from, IsTable, IsIndex, AreTimeChildren}
 use Rattle.smil_graph.specs.Tables.{AreHeads, AreElements, AreNear, AreOf, reach_of, takes_turns, top_of, serials_of_places}
 use Rattle.smil_graph.proofs.Lists.{lists_one}
-use Rattle.smil_graph.proofs.Nodes.{there, there_below, each_at, none_each, upwards_none, parent_place, chain_of, above, by_parent}
+use Rattle.smil_graph.proofs.Nodes.{there, there_below, none_each, upwards_none, parent_place, chain_of, above, by_parent}
 use Rattle.smil_graph.proofs.Ranges.{filter_below, lists_filter, rising_is}
 use Rattle.smil_graph.proofs.Follow.{same_place, has_at}
-use Rattle.smil_graph.proofs.Fed.{reads_is, place_of, all_has, all_there, in_closure, filter_parts}
+use Rattle.smil_graph.proofs.Fed.{reads_is, place_of, all_has, all_there, in_closure}
 use Rattle.smil_graph.proofs.Kept.{place_is, place_in, placed, serials_filter}
-
-right : (t : Bool) → (t || false) ≡ t
-right true = refl
-right false = refl
-
-same_truth : (a b : Bool) → (a ≡ true → b ≡ true) → (b ≡ true → a ≡ true) → a ≡ b
-same_truth true b f g = sym (f refl)
-same_truth false true f g = g refl
-same_truth false false f g = refl
+use Rattle.smil_graph.proofs.Rows.{right}
+use Rattle.smil_tree.proofs.Placings.{both_ways}
 
 pub filter_members : (p q : ℕ → Bool) (xs : List ℕ) → ((z : ℕ) → has xs z ≡ true → p z ≡ q z) → filter p xs ≡ filter q xs
 filter_members p q [] same = refl
@@ -39,7 +34,7 @@ filter_members p q (x ∷ xs) same =
 
 -- of a list those that a filter of it has are the filter
 own_members : (p : ℕ → Bool) (xs : List ℕ) → filter (λ z. has (filter p xs) z) xs ≡ filter p xs
-own_members p xs = filter_members (λ z. has (filter p xs) z) p xs (λ z h. same_truth (has (filter p xs) z) (p z) (λ q. (filter_parts p xs z q).1) (λ q. has_filter p xs z h q))
+own_members p xs = filter_members (λ z. has (filter p xs) z) p xs (λ z h. both_ways (has (filter p xs) z) (p z) (λ q. (filter_has p xs z q).1) (λ q. has_filter p xs z h q))
 
 module _ (document : Document) (tree : IsNumberedTree document) (index : ℕ → Option ℕ) (all : IsIndex document.nodes (node_at document.nodes) index) where
   abbrev nodes : List Node
@@ -167,7 +162,7 @@ module _ (document : Document) (tree : IsNumberedTree document) (index : ℕ →
     -- what is reached from x along the rows are the elements within it
     found_within : (places : List ℕ) → IsReached children (px ∷ []) places → (j : ℕ) (y : Node) → slice_get nodes j ≡ Some y → lists places j ≡ (is_element y && is_within nodes x.serial y.serial)
     found_within places reached j y at =
-        same_truth (lists places j) (is_element y && is_within nodes x.serial y.serial)
+        both_ways (lists places j) (is_element y && is_within nodes x.serial y.serial)
         (λ q. sym (ap within_at at) ∙ reached.least (λ k. within_at (slice_get nodes k)) within_own within_kept j q)
         (λ q. let parts = and_parts (is_element y) (is_within nodes x.serial y.serial) q in
         spread (lists places) (reached.begun px (or_left _ _ (eq-eqb px px refl))) reached.kept (suc j) j (omega arith) y at parts.0 parts.1)
@@ -202,13 +197,13 @@ module _ (document : Document) (tree : IsNumberedTree document) (index : ℕ →
     module _ (new : List ℕ) where
       by_parent_place : (o : Option ℕ) → up tps place ≡ o → (found : List ℕ) → IsReached children (top_of document.nodes o place ∷ []) found → ((i : ℕ) → lists new i ≡ (lists found i || is_option i o)) → AreNear document.nodes place new
       by_parent_place None u found reached so = record {
-        elements = λ j q. found_elements tps children table under place x here is_x found reached j (sym (right (lists found j)) ∙ sym (so j) ∙ q);
+        elements = λ j q. found_elements tps children table under place x here is_x found reached j (right (lists found j) ∙ sym (so j) ∙ q);
         near = λ j y e a b is.
             let one : Some y ≡ Some x = sym a ∙ here in
             let same : y ≡ x = cc in
-            so j ∙ right (lists found j) ∙ found_within tps children table under place x here is_x found reached j e b
+            so j ∙ sym (right (lists found j)) ∙ found_within tps children table under place x here is_x found reached j e b
             ∙ ap (λ t. t && is_within nodes x.serial e.serial) is
-            ∙ sym (right (is_within nodes x.serial e.serial))
+            ∙ right (is_within nodes x.serial e.serial)
             ∙ sym (ap (λ o. near_by o x.serial e.serial) (table.node place x here ∙ ap (at_place nodes) u))
             ∙ ap (λ (n : Node). is_near nodes n.serial e.serial) (sym same);
       }
@@ -352,7 +347,7 @@ module _ (document : Document) (tree : IsNumberedTree document) (index : ℕ →
 
     same_at : (k : ℕ) (m : Node) → slice_get nodes k ≡ Some m → lists found k ≡ (is_element m && is_reached m.serial)
     same_at k m at =
-        same_truth (lists found k) (is_element m && is_reached m.serial)
+        both_ways (lists found k) (is_element m && is_reached m.serial)
         (λ q. sym (ap reached_at at) ∙ found_is k q)
         (λ q. sym (ap found_at (place_of nodes distinct index all k m at)) ∙ in_closure (reads nodes) every set (λ s. found_at (index s)) start_found next_found m.serial (and_parts (is_element m) (is_reached m.serial) q).1)
 
@@ -383,12 +378,12 @@ starts_low nodes starts inside i q = element_low nodes i (inside i q)
 -- the elements near one are those of the set that its reach begins with
 pub near_are : (nodes : List Node) → IsDistinct nodes → (place : ℕ) (starts : List ℕ) (x : Node) → slice_get nodes place ≡ Some x → AreNear nodes place starts → AreOf nodes (near nodes x.serial) starts
 near_are nodes distinct place starts x here begins = record {
-  known = λ s q. (filter_parts (is_near nodes x.serial) (serials (elements nodes)) s q).0;
+  known = λ s q. (filter_has (is_near nodes x.serial) (serials (elements nodes)) s q).0;
   listed = λ j e b is.
       begins.near j x e here b is
-      ∙ same_truth (is_near nodes x.serial e.serial) (has (near nodes x.serial) e.serial)
+      ∙ both_ways (is_near nodes x.serial e.serial) (has (near nodes x.serial) e.serial)
       (λ q. has_filter (is_near nodes x.serial) (serials (elements nodes)) e.serial (all_has nodes distinct j e b is) q)
-      (λ q. (filter_parts (is_near nodes x.serial) (serials (elements nodes)) e.serial q).1);
+      (λ q. (filter_has (is_near nodes x.serial) (serials (elements nodes)) e.serial q).1);
 }
 
 pub top_below : (nodes : List Node) (tps : List (Option ℕ)) → IsTable nodes (λ n. time_parent nodes n.serial) tps → (place : ℕ) → is_element_at nodes place ≡ true → top_of nodes (up tps place) place < length nodes
@@ -414,4 +409,4 @@ module _ (document : Document) (tree : IsNumberedTree document) (tps : List (Opt
   near_some parent u = near_is document tree (λ s. place_in s document.nodes) (placed document.nodes) tps children table under place is found (with_place found parent) from_top (λ i. lists_one found parent i ∙ ap (λ o. lists found i || is_option i o) (sym u))
 
   pub near_none : up tps place ≡ None → AreNear document.nodes place found
-  near_none u = near_is document tree (λ s. place_in s document.nodes) (placed document.nodes) tps children table under place is found found from_top (λ i. sym (right (lists found i)) ∙ ap (λ o. lists found i || is_option i o) (sym u))
+  near_none u = near_is document tree (λ s. place_in s document.nodes) (placed document.nodes) tps children table under place is found found from_top (λ i. right (lists found i) ∙ ap (λ o. lists found i || is_option i o) (sym u))

@@ -14,10 +14,9 @@ use Rattle.smil_laws.proofs.Locality.{AgreeFor}
 use Rattle.smil_laws.proofs.Closures.{any_has, has_filter}
 use Rattle.smil_laws.proofs.Reached.{found_any, own_is_all}
 use Rattle.smil_graph.specs.Graph.{follows_unlooped, readers_of}
-use Rattle.smil_graph.proofs.Fed.{filter_parts}
 use Rattle.smil_nodes.specs.Work.{has_rank_above, is_later_reader}
 use Rattle.smil_nodes.proofs.Ranked.{found_place}
-use Rattle.smil_laws.proofs.Ranks.{any_elem}
+use Rattle.smil_laws.proofs.Ranks.{any_elem, filter_has}
 use Rattle.smil_past.proofs.References.{only_own}
 
 -- they agree for an element that does not follow from that one
@@ -86,5 +85,5 @@ is_reader nodes order rank who j q =
     record {
       above = ltb-true rank j parts.0;
       within = there.0;
-      reading = ap (reads nodes who) (eqb-true (get_or order j 0) one.0 there.1) ∙ (filter_parts (reads nodes who) (serials (elements nodes)) one.0 one.1).1;
+      reading = ap (reads nodes who) (eqb-true (get_or order j 0) one.0 there.1) ∙ (filter_has (reads nodes who) (serials (elements nodes)) one.0 one.1).1;
     }

@@ -26,8 +26,7 @@ use Rattle.smil_past.proofs.Listing.{known_node}
 use Rattle.smil_element.proofs.Cutting.{part_none}
 use Rattle.smil_nodes.specs.Noted.{AreNoted, is_noted_at, is_noted_by, is_noted_through, is_self_or_reader}
 use Rattle.smil_graph.proofs.Positions.{position_step}
-use Rattle.smil_graph.proofs.Keyed.{right}
-use Rattle.smil_graph.proofs.Rows.{assoc}
+use Rattle.smil_graph.proofs.Rows.{assoc, right}
 use Rattle.smil_tree.proofs.Placings.{both_ways}
 use Rattle.smil_tree.proofs.Families.{node_of_place}
 

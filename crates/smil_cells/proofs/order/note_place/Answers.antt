@@ -4,7 +4,7 @@ use Rattle.smil_model.specs.document.Closure.{has}
 use Rattle.smil_cells.specs.Shown.{is_listed}
 use Rattle.smil_cells.proofs.Refusals.{where_ok}
 use Rattle.smil_cells.proofs.Ordering.{place_is, place_none, pushed_place}
-use Rattle.smil_graph.proofs.Keyed.{right}
+use Rattle.smil_graph.proofs.Rows.{right}
 use Rattle.smil_cells.proofs.order.note_place.Goals as goal
 
 pub returns-in-Some : goal.returns-in-Some
