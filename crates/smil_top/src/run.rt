@@ -242,15 +242,11 @@ impl Run {
     {
         let line = load.line;
         self.answer.clear();
-        match load.finish(number) {
-            Ok(given) => {
-                let answered = self
-                    .session
-                    .answer_load(line, given, &mut self.answer, steps);
-                Fault::at(line, answered)
-            }
-            Err(fault) => Err(fault),
-        }
+        let given = load.finish(number)?;
+        let answered = self
+            .session
+            .answer_load(line, given, &mut self.answer, steps);
+        Fault::at(line, answered)
     }
 
     /// The end of the input, at which a load that hasn't ended is refused.
