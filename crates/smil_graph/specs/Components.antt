@@ -115,12 +115,16 @@ pub record IsGrouping (rows : List (List ℕ)) (g : Grouping) : Type 0 where
   pub placed : (p : ℕ) → p < length g.members → mark_at g.marks (slice_index g.members p) ≡ Open p
   pub stands : (a p : ℕ) → mark_at g.marks a ≡ Open p → (p < length g.members) × (slice_index g.members p ≡ a)
   -- each open place leads to all of its own group and of later ones
-  pub leads : (a b p q : ℕ) → mark_at g.marks a ≡ Open p → mark_at g.marks b ≡ Open q → IsFrom g.starts p q → LeadsTo rows a b
-  pub met : (a p k : ℕ) → mark_at g.marks a ≡ Open p → k < slice_index g.next a → k < length (row rows a) → IsMet g.starts p (mark_at g.marks (slice_index (row rows a) k))
-  pub finished : (p : ℕ) → p < length g.members → lists g.path p ≡ false → length (row rows (slice_index g.members p)) ≤ slice_index g.next (slice_index g.members p)
+  pub leads : (a b p q : ℕ) → mark_at g.marks a ≡ Open p → mark_at g.marks b ≡ Open q → IsFrom g.starts p q
+      → LeadsTo rows a b
+  pub met : (a p k : ℕ) → mark_at g.marks a ≡ Open p → k < slice_index g.next a → k < length (row rows a)
+      → IsMet g.starts p (mark_at g.marks (slice_index (row rows a) k))
+  pub finished : (p : ℕ) → p < length g.members → lists g.path p ≡ false
+      → length (row rows (slice_index g.members p)) ≤ slice_index g.next (slice_index g.members p)
   pub fresh : (a : ℕ) → mark_at g.marks a ≡ New → slice_index g.next a ≡ 0
   -- each link of a place that is done leads to one that was done before it or with it
-  pub done : (a b m : ℕ) → mark_at g.marks a ≡ Done m → links rows a b ≡ true → (k : ℕ) × (mark_at g.marks b ≡ Done k) × (k ≤ m) × (k ≡ m → LeadsTo rows b a)
+  pub done : (a b m : ℕ) → mark_at g.marks a ≡ Done m → links rows a b ≡ true
+      → (k : ℕ) × (mark_at g.marks b ≡ Done k) × (k ≤ m) × (k ≡ m → LeadsTo rows b a)
   pub numbered : (a m : ℕ) → mark_at g.marks a ≡ Done m → m < g.closed
   -- a group that is done has a place
   pub few : g.closed + count_by is_unfinished g.marks ≤ length rows

@@ -55,7 +55,8 @@ IsKept rows test = (i j : ℕ) → test i ≡ true → links rows i j ≡ true �
 pub record IsReached (rows : List (List ℕ)) (starts places : List ℕ) : Type 0 where
   pub begun : (i : ℕ) → lists starts i ≡ true → lists places i ≡ true
   pub kept : IsKept rows (lists places)
-  pub least : (test : ℕ → Bool) → ((i : ℕ) → lists starts i ≡ true → test i ≡ true) → IsKept rows test → (i : ℕ) → lists places i ≡ true → test i ≡ true
+  pub least : (test : ℕ → Bool) → ((i : ℕ) → lists starts i ≡ true → test i ≡ true) → IsKept rows test
+      → (i : ℕ) → lists places i ≡ true → test i ≡ true
 
 -- j is i, or links lead from i to j
 abbrev pub LeadsTo : List (List ℕ) → ℕ → ℕ → Type 0
@@ -65,7 +66,8 @@ LeadsTo rows i j = (test : ℕ → Bool) → test i ≡ true → IsKept rows tes
 pub record AreLevels (rows : List (List ℕ)) (levels : List ℕ) : Type 0 where
   pub count : length levels ≡ length rows
   pub rising : (i j : ℕ) → links rows i j ≡ true → slice_index_or levels i 0 ≤ slice_index_or levels j 0
-  pub looped : (i j : ℕ) → links rows i j ≡ true → slice_index_or levels i 0 ≡ slice_index_or levels j 0 → LeadsTo rows j i
+  pub looped : (i j : ℕ) → links rows i j ≡ true → slice_index_or levels i 0 ≡ slice_index_or levels j 0
+      → LeadsTo rows j i
 
 -- whether the last place is this one
 abbrev pub is_last : List ℕ → ℕ → Bool
@@ -76,4 +78,5 @@ is_last (_ ∷ is) place = is_last is place
 -- each row that is listed has the place at its end, and the others are as before
 pub record IsPushedInEach (old new : List (List ℕ)) (listed : List ℕ) (place : ℕ) : Type 0 where
   pub count : length new ≡ length old
-  pub rows : (i : ℕ) → i < length old → lists (row old i) place ≡ false → row new i ≡ (if lists listed i then row old i ++ place ∷ [] else row old i)
+  pub rows : (i : ℕ) → i < length old → lists (row old i) place ≡ false
+      → row new i ≡ (if lists listed i then row old i ++ place ∷ [] else row old i)

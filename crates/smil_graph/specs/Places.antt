@@ -68,7 +68,8 @@ before place last (i ∷ is) = if i == place then last else before place (Some i
 -- for each node the row of the places of its time children, in document order
 abbrev pub AreTimeChildren : List Node → List (Option ℕ) → List (List ℕ) → Type 0
 AreTimeChildren nodes time_parents children =
-    (q : ℕ) → row children q ≡ filter (λ p. is_element_at nodes p && is_option q (up time_parents p)) (range_with_len 0 (length nodes))
+    (q : ℕ) → row children q
+    ≡ filter (λ p. is_element_at nodes p && is_option q (up time_parents p)) (range_with_len 0 (length nodes))
 
 -- under a parent that is a seq, the one before
 abbrev pub previous_of : List Node → List (List ℕ) → ℕ → Option ℕ → Option ℕ

@@ -19,4 +19,5 @@ height_under heights top (Some parent) = slice_index_or heights parent 0 - 1
 -- every node stands one below its time parent
 pub record AreHeights (parents : List (Option ℕ)) (heights : List ℕ) : Type 0 where
   pub count : length heights ≡ length parents
-  pub each : (p q : ℕ) → p < length parents → up parents p ≡ Some q → slice_index_or heights p 0 + 1 ≡ slice_index_or heights q 0
+  pub each : (p q : ℕ) → p < length parents → up parents p ≡ Some q
+      → slice_index_or heights p 0 + 1 ≡ slice_index_or heights q 0

@@ -30,8 +30,11 @@ row_of rows (Some place) = row rows place
 -- a level for each node: it does not fall along a dependency, and stays exactly where the dependency can be gone back
 pub record AreElementLevels (nodes : List Node) (levels : List ℕ) : Type 0 where
   pub count : length levels ≡ length nodes
-  pub rising : (i j : ℕ) (x e : Node) → slice_get nodes i ≡ Some x → slice_get nodes j ≡ Some e → feeds nodes x.serial e.serial ≡ true → slice_index_or levels i 0 ≤ slice_index_or levels j 0
-  pub looped : (i j : ℕ) (x e : Node) → slice_get nodes i ≡ Some x → slice_get nodes j ≡ Some e → feeds nodes x.serial e.serial ≡ true → (slice_index_or levels i 0 == slice_index_or levels j 0) ≡ leads_to nodes e.serial x.serial
+  pub rising : (i j : ℕ) (x e : Node) → slice_get nodes i ≡ Some x → slice_get nodes j ≡ Some e
+      → feeds nodes x.serial e.serial ≡ true → slice_index_or levels i 0 ≤ slice_index_or levels j 0
+  pub looped : (i j : ℕ) (x e : Node) → slice_get nodes i ≡ Some x → slice_get nodes j ≡ Some e
+      → feeds nodes x.serial e.serial ≡ true
+      → (slice_index_or levels i 0 == slice_index_or levels j 0) ≡ leads_to nodes e.serial x.serial
 
 -- for each element a mark at each item of one side that is a looped reference
 abbrev pub AreMarks : List Node → Edge → List (List Bool) → Type 0
@@ -42,7 +45,8 @@ AreMarks nodes side rows =
 -- for each node the places of the elements that read it, in document order
 pub record AreHeads (nodes : List Node) (rows : List (List ℕ)) : Type 0 where
   pub count : length rows ≡ length nodes
-  pub each : (i : ℕ) → i < length nodes → row rows i ≡ filter (λ j. reads_place nodes j i) (range_with_len 0 (length nodes))
+  pub each : (i : ℕ) → i < length nodes
+      → row rows i ≡ filter (λ j. reads_place nodes j i) (range_with_len 0 (length nodes))
 
 -- and their serials
 abbrev pub AreReaders : List Node → List (List ℕ) → Type 0
@@ -69,7 +73,8 @@ top_of nodes (Some parent) place = if takes_turns (slice_get nodes parent) then 
 -- the places of the elements near the one at a place: of those at which its reach begins
 pub record AreNear (nodes : List Node) (place : ℕ) (places : List ℕ) : Type 0 where
   pub elements : (j : ℕ) → lists places j ≡ true → is_element_at nodes j ≡ true
-  pub near : (j : ℕ) (x e : Node) → slice_get nodes place ≡ Some x → slice_get nodes j ≡ Some e → is_element e ≡ true → lists places j ≡ is_near nodes x.serial e.serial
+  pub near : (j : ℕ) (x e : Node) → slice_get nodes place ≡ Some x → slice_get nodes j ≡ Some e
+      → is_element e ≡ true → lists places j ≡ is_near nodes x.serial e.serial
 
 -- the elements whose serials are in a set, and those that read them, and so on
 abbrev pub reach_of : List Node → List ℕ → List ℕ
