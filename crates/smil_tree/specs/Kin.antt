@@ -64,5 +64,7 @@ module _ {Z : Type 0} where
 
 -- nothing in the part passes for a serial that is neither the owner nor of the part, and nothing outside for one that is
 pub record Separates (t : ℕ → Node → Bool) (owner : Option ℕ) (start past : ℕ) (nodes : List Node) : Type 0 where
-  pub inside : (s : ℕ) → list_any (λ (n : Node). n.serial == s) (slice_range nodes start past) ≡ false → is_serial s owner ≡ false → filter (t s) (slice_range nodes start past) ≡ []
-  pub outside : (s : ℕ) → list_any (λ (n : Node). n.serial == s) (slice_range nodes start past) ≡ true → filter (t s) (cut start past nodes) ≡ []
+  pub inside : (s : ℕ) → list_any (λ (n : Node). n.serial == s) (slice_range nodes start past) ≡ false
+      → is_serial s owner ≡ false → filter (t s) (slice_range nodes start past) ≡ []
+  pub outside : (s : ℕ) → list_any (λ (n : Node). n.serial == s) (slice_range nodes start past) ≡ true
+      → filter (t s) (cut start past nodes) ≡ []
