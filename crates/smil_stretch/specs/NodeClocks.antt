@@ -51,9 +51,11 @@ paused_by (Some n) = n.paused
 pub record IsTurned (first : ℕ) (moment : ℤ) (before after : List NodeClock) : Type 0 where
   pub same_length : length after ≡ length before
   pub earlier : take first after ≡ take first before
-  pub parents : (place : ℕ) (n : NodeClock) (parent : ℕ) → slice_get before place ≡ Some n → n.parent ≡ Some parent → parent < place
+  pub parents : (place : ℕ) (n : NodeClock) (parent : ℕ) → slice_get before place ≡ Some n
+      → n.parent ≡ Some parent → parent < place
   pub turned : (place : ℕ) (n : NodeClock) → first ≤ place → slice_get before place ≡ Some n → slice_get after place ≡ Some (record n { clock = clock_by (n.paused || stands_by (at_place after n.parent)) (shown n.clock moment) moment })
-  pub later : (place : ℕ) (n : NodeClock) → first < place → slice_get before place ≡ Some n → is_from first n.parent ≡ false → drop place after ≡ drop place before
+  pub later : (place : ℕ) (n : NodeClock) → first < place → slice_get before place ≡ Some n
+      → is_from first n.parent ≡ false → drop place after ≡ drop place before
 
 -- an entry by which one element is paused or no longer paused, and no other
 pub record Turns (h : History) (y : Entry) (serial : ℕ) (paused : Bool) : Type 0 where
