@@ -34,7 +34,14 @@ is_unfinished _ = true
 -- ---- steps
 
 abbrev pub untouched : ℕ → Grouping
-untouched count = record { marks = replicate count New; next = replicate count 0; members = []; starts = []; path = []; closed = 0 }
+untouched count = record {
+  marks = replicate count New;
+  next = replicate count 0;
+  members = [];
+  starts = [];
+  path = [];
+  closed = 0;
+}
 
 -- a place is opened, in a group of its own
 abbrev pub opened : Grouping → ℕ → Grouping
@@ -54,7 +61,7 @@ without_above position (s ∷ starts) = if nat_lt position s then without_above 
 
 -- the groups from that of the position on become one
 abbrev pub merged : Grouping → ℕ → Grouping
-merged g position = record { marks = g.marks; next = g.next; members = g.members; starts = without_above position g.starts; path = g.path; closed = g.closed }
+merged g position = record g { starts = without_above position g.starts }
 
 -- a link to a place with this mark is met
 abbrev pub met : Grouping → ℕ → Mark → Grouping
@@ -64,7 +71,7 @@ met g place (Done number) = g
 
 -- one more link of the place was followed
 abbrev pub followed : Grouping → ℕ → Grouping
-followed g place = record { marks = g.marks; next = slice_set g.next place (slice_index g.next place + 1); members = g.members; starts = g.starts; path = g.path; closed = g.closed }
+followed g place = record g { next = slice_set g.next place (slice_index g.next place + 1) }
 
 abbrev pub marked_all : Mark → List ℕ → List Mark → List Mark
 marked_all mark [] marks = marks
@@ -82,7 +89,7 @@ closed_from g start = record {
 }
 
 abbrev pub off_path : Grouping → Grouping
-off_path g = record { marks = g.marks; next = g.next; members = g.members; starts = g.starts; path = drop 1 g.path; closed = g.closed }
+off_path g = record g { path = drop 1 g.path }
 
 -- the last place of the path is left, and its group is done where the place starts it
 abbrev pub left : Grouping → ℕ → Grouping

@@ -53,7 +53,9 @@ pub record IsTurned (first : ℕ) (moment : ℤ) (before after : List NodeClock)
   pub earlier : take first after ≡ take first before
   pub parents : (place : ℕ) (n : NodeClock) (parent : ℕ) → slice_get before place ≡ Some n
       → n.parent ≡ Some parent → parent < place
-  pub turned : (place : ℕ) (n : NodeClock) → first ≤ place → slice_get before place ≡ Some n → slice_get after place ≡ Some (record n { clock = clock_by (n.paused || stands_by (at_place after n.parent)) (shown n.clock moment) moment })
+  pub turned : (place : ℕ) (n : NodeClock) → first ≤ place → slice_get before place ≡ Some n
+      → slice_get after place
+      ≡ Some (record n { clock = clock_by (n.paused || stands_by (at_place after n.parent)) (shown n.clock moment) moment })
   pub later : (place : ℕ) (n : NodeClock) → first < place → slice_get before place ≡ Some n
       → is_from first n.parent ≡ false → drop place after ≡ drop place before
 
