@@ -8,7 +8,9 @@ use Rattle.smil_model.specs.declared.diary.Entry.{Entry}
 use Rattle.smil_model.specs.document.Document.{has_serial, is_excl_kind, is_time_child, node_at, serial_of, serials, time_children}
 use Rattle.smil_model.specs.diary.Diary.{History}
 use Rattle.smil_model.specs.happening.Queue.{is_playing, playing_child}
-use Rattle.smil_element.specs.Parts.{excl_in, is_it, left_excl, rival, is_playing_by}
+use Rattle.smil_element.specs.Parts.{excl_in, left_excl, rival, is_playing_by}
+use Rattle.smil_model.specs.reach.Reach.{is_option}
+use Rattle.smil_tree.proofs.Holding.{same_test}
 
 playing_serial : (diary : List Entry) (ns : List Node) → find (is_playing_by diary) (serials ns) ≡ serial_of (find (is_playing diary) ns)
 playing_serial diary [] = refl
@@ -27,9 +29,9 @@ playing_is h nodes diary excl same past =
 
 -- ---- the excl of an element
 
-it_is : (who : ℕ) (o : Option Node) → is_it who (serial_of o) ≡ has_serial who o
+it_is : (who : ℕ) (o : Option Node) → is_option who (serial_of o) ≡ has_serial who o
 it_is who None = refl
-it_is who (Some n) = refl
+it_is who (Some n) = same_test who n.serial
 
 pub no_left : (h : History) (who : ℕ) (o : Option Node) → None ≡ serial_of (excl_in o) → None ≡ serial_of (left_excl h who o)
 no_left h who None q = refl
@@ -39,7 +41,7 @@ no_left h who (Some p) q = step (is_excl_kind p.kind) q
     step true r = cc
     step false r = refl
 
-pub left_is : (h : History) (who excl : ℕ) (o : Option Node) (t : Bool) → Some excl ≡ serial_of (excl_in o) → is_it who (serial_of (playing_child h excl)) ≡ t → cond t (Some excl) None ≡ serial_of (left_excl h who o)
+pub left_is : (h : History) (who excl : ℕ) (o : Option Node) (t : Bool) → Some excl ≡ serial_of (excl_in o) → is_option who (serial_of (playing_child h excl)) ≡ t → cond t (Some excl) None ≡ serial_of (left_excl h who o)
 left_is h who excl None t q is = cc
 left_is h who excl (Some p) t q is = step (is_excl_kind p.kind) q
   where

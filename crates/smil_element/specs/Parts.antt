@@ -1,5 +1,5 @@
 -- What happens to an element, and the parts of a presentation by which its group is told.
-use Rattle.std.specs.Prelude.{◌≡◌, ◌≤ℤ◌, ℕ, ℤ, List, [], ◌∷◌, ◌++◌, reverse, map, filter, Bool, false, not, ◌&&◌, ◌==◌, Option, Some, None, slice_get, if◌then◌else◌}
+use Rattle.std.specs.Prelude.{◌≡◌, ◌≤ℤ◌, ℕ, ℤ, List, [], ◌∷◌, ◌++◌, reverse, map, filter, Bool, not, ◌&&◌, Option, Some, None, slice_get, if◌then◌else◌}
 use Rattle.std.specs.declared.vec.Vec.{Vec}
 use Rattle.std.specs.declared.alloc.Global.{Global}
 use Rattle.smil_model.specs.declared.diary.Entry.{Entry}
@@ -94,8 +94,3 @@ left_excl h who (Some p) =
 abbrev pub rival : History → Option Node → Option Node
 rival h None = None
 rival h (Some p) = if is_excl_kind p.kind then playing_child h p.serial else None
-
--- whether this is the serial that was found
-abbrev pub is_it : ℕ → Option ℕ → Bool
-is_it serial None = false
-is_it serial (Some other) = other == serial

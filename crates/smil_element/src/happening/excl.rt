@@ -4,7 +4,8 @@ ghost use Rattle.std.specs.Prelude.{◌≡◌, IsSome, find};
 ghost use Rattle.smil_model.specs.document.Document.{is_excl_kind, node_at, serial_of, time_parent};
 ghost use Rattle.smil_model.specs.diary.Diary.{History};
 ghost use Rattle.smil_model.specs.happening.Queue.{playing_child as playing_child_of};
-ghost use Rattle.smil_element.specs.Parts.{ArePartsOf, excl_in, is_it, is_playing_by, left_excl, rival as rival_in};
+ghost use Rattle.smil_model.specs.reach.Reach.{is_option};
+ghost use Rattle.smil_element.specs.Parts.{ArePartsOf, excl_in, is_playing_by, left_excl, rival as rival_in};
 
 use super::parts::Parts;
 use smil_diary::Book;
@@ -37,10 +38,10 @@ pub fn rival(parts: &Parts<'_>, who: u32) -> Option<u32>
 
 // Whether this is the serial that was found.
 fn is_it(found: Option<u32>, serial: u32) -> bool
-    ensures { result ≡ is_it serial found }
+    ensures { result ≡ is_option serial found }
 {
     match found {
-        Some(other) => other == serial,
+        Some(other) => serial == other,
         None => false,
     }
 }
