@@ -9,7 +9,7 @@ use Rattle.smil_model.specs.declared.times.TheConstants.{HORIZON}
 use Rattle.smil_model.specs.diary.Clocks.{until}
 use Rattle.smil_model.specs.diary.Lawful.{is_rising_from}
 use Rattle.smil_model.proofs.Orders.{le_both}
-use Rattle.smil_tree.proofs.Making.{take-suc_at}
+use Rattle.smil_laws.proofs.Lists.{take-suc_at}
 
 -- what rises, entry by entry
 record Rises (from : ℤ) (x : Entry) (xs : List Entry) : Type 0 where

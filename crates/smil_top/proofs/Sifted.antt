@@ -9,10 +9,10 @@ use Rattle.smil_model.specs.declared.limits.TheConstants.{PRESENTATIONS}
 use Rattle.smil_model.specs.declared.order.Refusal.{Refusal}
 use Rattle.smil_model.specs.declared.order.Refusal.TheVariants.{NameTaken, TooManyPresentations}
 use Rattle.smil_model.specs.shown.Orders.{Presentation}
-use Rattle.smil_tree.proofs.Making.{filter-at_most}
 use Rattle.smil_live.proofs.AgreedReferences.{bytes_same}
 use Rattle.smil_top.specs.Session.{Named, Session, is_named, presentation_of, with_state, without, may_load}
 use Rattle.smil_top.specs.Laws.{part_of, is_too_many}
+use Rattle.smil_laws.proofs.Lists.{filter_shorter}
 
 -- ---- filters
 
@@ -103,7 +103,7 @@ module _ (name : List ℕ) where
   pub may-part : (session : Session) → ((e : Refusal) → may_load name session ≡ Err e → is_too_many e ≡ false) → may_load name (part_of name session) ≡ may_load name session
   may-part session h =
       ap (λ (p : Option Presentation). may_by (is_some p) (nat_lt (length (part_of name session)) PRESENTATIONS)) (presentation-part session)
-      ∙ may-by (is_some (presentation_of name session)) (length (part_of name session)) (length session) (filter-at_most (is_named name) session) (nat_lt (length session) PRESENTATIONS) refl h
+      ∙ may-by (is_some (presentation_of name session)) (length (part_of name session)) (length session) (filter_shorter (is_named name) session) (nat_lt (length session) PRESENTATIONS) refl h
 
 -- what is done to another name
 module _ (name other : List ℕ) (apart : bytes_eq other name ≡ false) where

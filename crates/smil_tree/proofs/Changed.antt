@@ -6,7 +6,7 @@ use Rattle.std.specs.Str.{bytes_eq}
 use Rattle.std.specs.Map.{lookup}
 use Rattle.std.proofs.lemmas.List.Sums.{sum_by-cons, sum_by-append}
 use Rattle.std.proofs.lemmas.List.Elements.{recursion_from_All, All-from_recursion}
-use Rattle.std.proofs.lemmas.Bool.{and_parts, leb-true, or_parts, eqb-true, eq-eqb}
+use Rattle.std.proofs.lemmas.Bool.{and_parts, leb-true, or_parts, eqb-true, eq-eqb, not-true}
 use Rattle.smil_model.specs.declared.document.Node.{Node}
 use Rattle.smil_model.specs.declared.document.Attrs.{Attrs}
 use Rattle.smil_model.specs.declared.document.Attr.{Attr}
@@ -20,8 +20,8 @@ use Rattle.smil_model.specs.document.Words.{is_id}
 use Rattle.smil_model.specs.document.Values.{absent_or, is_list, is_item, is_begin, is_plain_begin, is_dur, is_higher, is_lower, has_endsync, has_class_attrs, has_set_attrs, has_media_attrs, has_element_attrs, are_element_values, is_seq_parent, fit_kind}
 use Rattle.smil_model.specs.shown.Orders.{id_in}
 use Rattle.smil_laws.proofs.Aside.{find_true}
+use Rattle.smil_laws.proofs.Lists.{filter_shorter}
 use Rattle.smil_tree.specs.Outcomes.{passes, may_take}
-use Rattle.smil_tree.proofs.Making.{filter-at_most}
 use Rattle.std.specs.Cmp.Lexicographic.{bytes_decides}
 use Rattle.smil_model.specs.document.Document.{has_id, node_at, is_class_kind, is_set_kind}
 use Rattle.smil_model.specs.document.Valid.{IsNumberedTree, IsTree, IsTreeFrom, IsDistinct, open_from, is_id_taken, is_reference, kind_of, listed_references, references, references_among, references_of}
@@ -270,7 +270,7 @@ list_few : (o : Option (List Item)) → absent_or is_list o ≡ true → listed_
 list_few None h = omega arith
 list_few (Some items) h =
     let within : length items ≤ ITEMS = leb-true (length items) ITEMS ((and_parts (nat_le 1 (length items)) (nat_le (length items) ITEMS) ((and_parts (nat_le 1 (length items) && nat_le (length items) ITEMS) (list_all is_item items) h).0)).1) in
-    omega (arith, within, filter-at_most is_reference items)
+    omega (arith, within, filter_shorter is_reference items)
 
 begin_few : (in_seq : Bool) (o : Option (List Item)) → absent_or (is_begin in_seq) o ≡ true → listed_references o ≤ ITEMS
 begin_few in_seq None h = omega arith
@@ -296,12 +296,8 @@ fit_few kind parent attrs h = by_class (is_class_kind kind) ((and_parts (absent_
         let first = and_parts _ _ ((and_parts _ _ ((and_parts _ _ ((and_parts _ _ ((and_parts _ _ ((and_parts _ _ ((and_parts _ _ ((and_parts _ _ ((and_parts _ _ ((and_parts _ _ ((and_parts _ _ ((and_parts _ _ ((and_parts _ _ all).0)).0)).0)).0)).0)).0)).0)).0)).0)).0)).0)).0) in
         with_both (begin_few (is_seq_parent parent) attrs.begin ((and_parts (absent_or (is_begin (is_seq_parent parent)) attrs.begin) (absent_or is_dur attrs.dur) first.0).0)) (list_few attrs.«end» first.1)
 
-    not_true : (b : Bool) → not b ≡ true → b ≡ false
-    not_true true q = cc
-    not_true false q = refl
-
     by_class : (t : Bool) → cond t (not (has_element_attrs attrs) && absent_or is_higher attrs.higher && absent_or is_lower attrs.lower) (not (has_class_attrs attrs) && are_element_values (is_seq_parent parent) attrs && (has_endsync kind || not (is_some attrs.endsync)) && not (cond (is_set_kind kind) (has_media_attrs attrs) (has_set_attrs attrs))) ≡ true → references_among attrs ≤ 2 * ITEMS
-    by_class true r = without_any (not_true _ ((and_parts _ _ ((and_parts _ _ r).0)).0))
+    by_class true r = without_any (not-true _ ((and_parts _ _ ((and_parts _ _ r).0)).0))
     by_class false r = with_values ((and_parts _ _ ((and_parts _ _ ((and_parts _ _ r).0)).0)).1)
 
 pub taken_few : (nodes : List Node) (s : ℕ) (given : Attr) (old : Node) → node_at nodes s ≡ Some old → may_take nodes s given ≡ true → references_among (with_attr old.attrs given) ≤ 2 * ITEMS

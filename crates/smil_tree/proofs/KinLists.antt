@@ -13,6 +13,7 @@ use Rattle.smil_laws.proofs.Aside.{each_drop}
 use Rattle.smil_laws.proofs.Lineages.{swap_eqb}
 use Rattle.smil_laws.proofs.Lists.{each_kept}
 use Rattle.smil_laws.proofs.Members.{differ_each}
+use Rattle.smil_laws.proofs.Ranks.{serials_length}
 use Rattle.smil_tree.specs.Held.{cut}
 use Rattle.smil_tree.specs.Kin.{is_before, is_earlier}
 use Rattle.smil_model.specs.document.Document.{serials}
@@ -39,10 +40,6 @@ each_any P (x ∷ xs) f = (f x, each_any P xs f)
 pub each_serial : (P : ℕ → Type 0) (ns : List Node) → AllByRecursion (λ (n : Node). P n.serial) ns → AllByRecursion P (serials ns)
 each_serial P [] each = tt
 each_serial P (n ∷ ns) each = (each.0, each_serial P ns each.1)
-
-serials-length : (ns : List Node) → length (serials ns) ≡ length ns
-serials-length [] = refl
-serials-length (n ∷ ns) = ap suc (serials-length ns)
 
 -- ---- what passes
 
@@ -109,7 +106,7 @@ module _ (t : Node → Bool) where
       step true =
           sym
           (ap (λ xs. insert xs (length (filter t fs)) n.serial) (passing-append fs bs)
-          ∙ ap (λ k. insert (passing fs ++ passing bs) k n.serial) (sym (serials-length (filter t fs)))
+          ∙ ap (λ k. insert (passing fs ++ passing bs) k n.serial) (sym (serials_length (filter t fs)))
           ∙ ap (λ ys. ys ++ n.serial ∷ drop (length (passing fs)) (passing fs ++ passing bs)) (take-append_seam (passing fs) (passing bs))
           ∙ ap (λ ys. passing fs ++ n.serial ∷ ys) (drop-append_seam (passing fs) (passing bs)))
       step false = sym (passing-append fs bs)
@@ -245,4 +242,4 @@ module _ (t : Node → Bool) (at past : ℕ) (le : at ≤ past) (ns : List Node)
       point (is_before ns at) (passing t (take at ns)) (passing t (drop past ns)) i front back
       (subst (λ ys. IsPartitionPoint (λ y. is_before ns at y ≡ true) (λ y. is_before ns at y ≡ false) ys i) (q ∙ both) point_is)
       (omega (arith, within, ap length (q ∙ both)))
-      ∙ serials-length (filter t (take at ns))
+      ∙ serials_length (filter t (take at ns))

@@ -10,8 +10,8 @@ use Rattle.smil_model.specs.declared.document.Node.{Node}
 use Rattle.smil_model.specs.document.Document.{is_time_child, serials}
 use Rattle.smil_tree.specs.Held.{cut}
 use Rattle.smil_tree.specs.Kin.{Families, IsKinOf, rows, list_in, list_of, AreListsOf, is_serial, Separates}
-use Rattle.smil_tree.proofs.Making.{take-more_at}
 use Rattle.smil_tree.proofs.KinLists.{before, passing-between, passing-cut, passing-rest}
+use Rattle.smil_laws.proofs.Lists.{take-more_at}
 
 abbrev pub is_child : ℕ → Node → Bool
 is_child s n = n.parent == s

@@ -3,7 +3,7 @@
 use Rattle.std.proofs.Common.{◌+◌, ◌≡◌, refl, sym, ◌∙◌, ap, subst, ℕ, ◌≤◌, List, [], ◌∷◌, ◌++◌, Option, Some, None, Bool, true, false, cond, length, take, drop, filter, arith, inl, inr}
 use Rattle.std.specs.Prelude.{◌==◌, ◌&&◌, ◌⊎◌, not, reverse, find, slice_range, slice_get}
 use Rattle.std.specs.List.{AllByRecursion}
-use Rattle.std.proofs.lemmas.Bool.{or_parts, or_from, or_cases, eqb-true, eq-eqb}
+use Rattle.std.proofs.lemmas.Bool.{or_parts, or_from, or_cases, eqb-true, eq-eqb, not-true, not-false, and_right}
 use Rattle.std.proofs.lemmas.List.{take-append-drop, length-append, reverse-reverse}
 use Rattle.std.proofs.lemmas.List.Folds.{list_any-append}
 use Rattle.std.proofs.lemmas.List.Elements.{filter-append}
@@ -20,6 +20,7 @@ use Rattle.smil_laws.proofs.Kept.{KeepsParents, parent_same, parent_kept}
 use Rattle.smil_laws.proofs.Lineages.{swap_eqb, upwards-rest, upwards-head}
 use Rattle.smil_laws.proofs.Members.{holds, held_each, held_reverse, differ_each}
 use Rattle.smil_laws.proofs.Lists.{each_weaker, each_kept}
+use Rattle.smil_laws.proofs.EditsBelow.{keeps_list, own_parents}
 use Rattle.smil_tree.specs.Held.{cut}
 use Rattle.smil_tree.specs.Kin.{is_serial, IsSubtree, AreListsOf, Separates}
 use Rattle.smil_tree.proofs.Families.{drop_at, node_of_place, chain_of, none_up}
@@ -27,30 +28,14 @@ use Rattle.smil_tree.proofs.KinLists.{each_left, each_right, none_pass, filter_n
 
 -- ---- tests
 
-not_true : (b : Bool) → not b ≡ true → b ≡ false
-not_true true q = let never : false ≡ true = q in cc
-not_true false q = refl
-
-not_false : (b : Bool) → not b ≡ false → b ≡ true
-not_false true q = refl
-not_false false q = let never : true ≡ false = q in cc
-
-and_false : (b c : Bool) → c ≡ false → (b && c) ≡ false
-and_false true c q = q
-and_false false c q = refl
-
 same_serial : (s : ℕ) (o : Option Node) → has_serial s o ≡ is_serial s (serial_of o)
 same_serial s None = refl
 same_serial s (Some n) = refl
 
 -- ---- nodes that are kept with their parents
 
-keeps_all : (kept : ℕ → Bool) (ns : List Node) → AllByRecursion (λ (n : Node). kept n.serial ≡ true → kept n.parent ≡ true) ns → KeepsParents kept ns
-keeps_all kept [] each = tt
-keeps_all kept (n ∷ ns) each = (each.0, keeps_all kept ns each.1)
-
 pub keeps_reversed : (kept : ℕ → Bool) (ns : List Node) → AllByRecursion (λ (n : Node). kept n.serial ≡ true → kept n.parent ≡ true) ns → KeepsParents kept (reverse ns)
-keeps_reversed kept ns each = keeps_all kept (reverse ns) (each_reverse (λ (n : Node). kept n.serial ≡ true → kept n.parent ≡ true) ns each)
+keeps_reversed kept ns each = keeps_list kept (reverse ns) (each_reverse (λ (n : Node). kept n.serial ≡ true → kept n.parent ≡ true) ns each)
 
 -- the nodes that both lists keep are the same: then so are their time parents
 module _ (kept : ℕ → Bool) (n1 n2 : List Node) (same : filter (λ (n : Node). kept n.serial) n1 ≡ filter (λ (n : Node). kept n.serial) n2) (closed1 : AllByRecursion (λ (n : Node). kept n.serial ≡ true → kept n.parent ≡ true) n1) (closed2 : AllByRecursion (λ (n : Node). kept n.serial ≡ true → kept n.parent ≡ true) n2) where
@@ -61,10 +46,6 @@ module _ (kept : ℕ → Bool) (n1 n2 : List Node) (same : filter (λ (n : Node)
       (λ n k. ap (λ o. is_element n && has_serial s o) (parent_same kept n1 n2 same (keeps_reversed kept n1 closed1) (keeps_reversed kept n2 closed2) [] [] [] n.serial k)))
 
 -- ---- a node put in
-
-own_parents : (rs : List Node) → ParentsBefore rs → AllByRecursion (λ (m : Node). m.parent == m.serial ≡ false) rs
-own_parents [] first = tt
-own_parents (m ∷ ms) first = (first.0, own_parents ms first.2)
 
 around : (fs : List Node) (n : Node) (bs : List Node) → IsDistinct (fs ++ n ∷ bs) → AllByRecursion (λ (m : Node). m.serial == n.serial ≡ false) (fs ++ bs)
 around [] n bs d = differ_each n.serial bs d.0
@@ -169,7 +150,7 @@ module _ (nodes : List Node) (o : IsOrdered nodes) (start past : ℕ) (le : star
   closed : AllByRecursion KeepsParent nodes
   closed =
       each_weaker (IsChain (reverse nodes)) KeepsParent nodes chains
-      (λ m chain k. ap not ((or_parts (m.serial == n.serial) (within m.parent) (sym (ap (holds n.serial) chain) ∙ not_true (within m.serial) k)).1))
+      (λ m chain k. ap not ((or_parts (m.serial == n.serial) (within m.parent) (sym (ap (holds n.serial) chain) ∙ not-true (within m.serial) k)).1))
 
   rest_closed : AllByRecursion KeepsParent rest
   rest_closed = subst (λ (ns : List Node). AllByRecursion KeepsParent ns) (sym sub.others) (each_kept KeepsParent (λ (m : Node). stays m.serial) nodes closed)
@@ -187,7 +168,7 @@ module _ (nodes : List Node) (o : IsOrdered nodes) (start past : ℕ) (le : star
   part_within : AllByRecursion (λ (m : Node). within m.serial ≡ true) part
   part_within =
       each_weaker (λ (m : Node). stays m.serial ≡ false) (λ (m : Node). within m.serial ≡ true) part
-      (none_pass (λ (m : Node). stays m.serial) part part_goes) (λ m q. not_false (within m.serial) q)
+      (none_pass (λ (m : Node). stays m.serial) part part_goes) (λ m q. not-false (within m.serial) q)
 
   -- each of the part is in its own lineage, with the node that goes
   part_chains : AllByRecursion (λ (m : Node). IsChain (reverse nodes) m × (within m.serial ≡ true)) part
@@ -243,7 +224,7 @@ module _ (nodes : List Node) (o : IsOrdered nodes) (start past : ℕ) (le : star
   apart_to s r h k = by_test (r == s) refl
     where
       by_test : (b : Bool) → r == s ≡ b → r == s ≡ false
-      by_test true d = let never : true ≡ false = sym (held_within s h) ∙ ap within (sym (eqb-true r s d)) ∙ not_true (within r) k in cc
+      by_test true d = let never : true ≡ false = sym (held_within s h) ∙ ap within (sym (eqb-true r s d)) ∙ not-true (within r) k in cc
       by_test false d = d
 
   pub children_apart : Separates (λ s (m : Node). m.parent == s) (Some n.parent) start past nodes
@@ -289,7 +270,7 @@ module _ (nodes : List Node) (o : IsOrdered nodes) (start past : ℕ) (le : star
       inside s free other =
           filter_none (is_time_child nodes s) part
           (each_weaker (λ (m : Node). IsChain (reverse nodes) m × (within m.serial ≡ true)) (λ (m : Node). is_time_child nodes s m ≡ false) part part_chains
-          (λ m q. and_false (is_element m) (has_serial s (time_parent nodes m.serial)) (by_case m q.0 (climb m q.0 q.1))))
+          (λ m q. and_right (is_element m) (has_serial s (time_parent nodes m.serial)) (by_case m q.0 (climb m q.0 q.1))))
         where
           up : has_serial s (time_parent nodes n.serial) ≡ false
           up = same_serial s (time_parent nodes n.serial) ∙ ap (is_serial s) (sym is_owner) ∙ other
@@ -303,7 +284,7 @@ module _ (nodes : List Node) (o : IsOrdered nodes) (start past : ℕ) (le : star
       outside s h =
           filter_none (is_time_child nodes s) rest
           (each_weaker (λ (m : Node). stays m.serial ≡ true) (λ (m : Node). is_time_child nodes s m ≡ false) rest rest_stays
-          (λ m k. and_false (is_element m) (has_serial s (time_parent nodes m.serial)) (by_parent m k (time_parent nodes m.serial) refl)))
+          (λ m k. and_right (is_element m) (has_serial s (time_parent nodes m.serial)) (by_parent m k (time_parent nodes m.serial) refl)))
         where
           by_parent : (m : Node) → stays m.serial ≡ true → (p : Option Node) → time_parent nodes m.serial ≡ p → has_serial s p ≡ false
           by_parent m k None e = refl

@@ -6,21 +6,14 @@ use Rattle.std.specs.Str.{bytes_eq}
 use Rattle.std.specs.Cmp.Lexicographic.{bytes_decides}
 use Rattle.std.proofs.lemmas.List.Sums.{sum_by-cons, sum_by-append, sum_by-take-le}
 use Rattle.std.proofs.lemmas.Bool.{or_parts}
+use Rattle.std.proofs.lemmas.List.{append-nil}
 use Rattle.smil_model.specs.declared.document.Node.{Node}
 use Rattle.smil_model.specs.document.Document.{Document, has_id, node_at}
 use Rattle.smil_model.specs.document.Valid.{IsValid, IsDistinct, is_id_taken, is_other_with, references, references_of}
 use Rattle.smil_laws.proofs.Lineages.{swap_eqb}
+use Rattle.smil_laws.proofs.Lists.{take-suc_at, take-more_at}
 use Rattle.smil_tree.specs.TreeFields.{bears, owner}
 use Rattle.smil_tree.proofs.Owners.{owner-between, count-cons}
-
-pub take-suc_at : {A : Type 0} (xs : List A) (i : ℕ) (x : A) → slice_get xs i ≡ Some x → take (suc i) xs ≡ take i xs ++ x ∷ []
-take-suc_at [] i x at = cc
-take-suc_at (y ∷ ys) zero x at = let one : y ≡ x = cc in ap (λ z. z ∷ []) one
-take-suc_at (y ∷ ys) (suc i) x at = ap (λ zs. y ∷ zs) (take-suc_at ys i x at)
-
--- one more at the end
-pub take-more_at : {A : Type 0} (xs : List A) (i : ℕ) (x : A) → slice_get xs i ≡ Some x → take (i + 1) xs ≡ take i xs ++ x ∷ []
-take-more_at xs i x at = ap (λ k. take k xs) (add-one i) ∙ take-suc_at xs i x at
 
 insert-suc_at : (ns : List Node) (i : ℕ) (n : Node) → slice_get ns i ≡ Some n → insert (take i ns) i n ≡ take (suc i) ns
 insert-suc_at [] i n at = cc
@@ -49,14 +42,6 @@ filter-pushed t (y ∷ ys) x = step (t y) (filter-pushed t ys x)
 pub filter-more_at : {A : Type 0} (t : A → Bool) (xs : List A) (i : ℕ) (x : A) → slice_get xs i ≡ Some x → length (filter t (take (i + 1) xs)) ≡ length (filter t (take i xs)) + cond (t x) 1 0
 filter-more_at t xs i x at = ap (λ ys. length (filter t ys)) (take-more_at xs i x at) ∙ filter-pushed t (take i xs) x
 
-pub filter-at_most : {A : Type 0} (t : A → Bool) (xs : List A) → length (filter t xs) ≤ length xs
-filter-at_most t [] = omega arith
-filter-at_most t (x ∷ xs) = step (t x) (filter-at_most t xs)
-  where
-    step : (b : Bool) → length (filter t xs) ≤ length xs → length (cond b (x ∷ filter t xs) (filter t xs)) ≤ suc (length xs)
-    step true h = omega (arith, h)
-    step false h = omega (arith, h)
-
 -- no earlier node has the serial of the node at a place
 pub fresh_at : (ns : List Node) (i : ℕ) (n : Node) → IsDistinct ns → slice_get ns i ≡ Some n → node_at (take i ns) n.serial ≡ None
 fresh_at [] i n d at = cc
@@ -68,16 +53,12 @@ fresh_at (m ∷ ns) (suc i) n d at = ap (λ t. cond t (Some m) (node_at (take i 
     apart (x ∷ xs) zero none here = let one : x ≡ n = cc in ap (λ (y : Node). y.serial == m.serial) (sym one) ∙ (or_parts _ _ none).0
     apart (x ∷ xs) (suc k) none here = apart xs k ((or_parts (x.serial == m.serial) (list_any (λ (y : Node). y.serial == m.serial) xs) none).1) here
 
-nil_end : (ns : List Node) → ns ++ [] ≡ ns
-nil_end [] = refl
-nil_end (n ∷ ns) = ap (λ ms. n ∷ ms) (nil_end ns)
-
 -- the owner among one more
 pub owner-more_at : (q : List ℕ) (ns : List Node) (i : ℕ) (n : Node) → count_by (bears q) ns ≤ 1 → slice_get ns i ≡ Some n → owner q (take (i + 1) ns) ≡ cond (bears q n) (Some n.serial) (owner q (take i ns))
 owner-more_at q ns i n once at =
     let more = take-more_at ns i n at in
     let few : count_by (bears q) (take i ns ++ n ∷ []) ≤ 1 = omega (arith, once, sum_by-take-le (λ (m : Node). cond (bears q m) 1 0) ns (i + 1), ap (count_by (bears q)) more) in
-    ap (owner q) more ∙ owner-between q (take i ns) n [] few ∙ ap (λ ms. cond (bears q n) (Some n.serial) (owner q ms)) (nil_end (take i ns))
+    ap (owner q) more ∙ owner-between q (take i ns) n [] few ∙ ap (λ ms. cond (bears q n) (Some n.serial) (owner q ms)) (append-nil (take i ns))
 
 -- the references among one more
 pub references-more_at : (ns : List Node) (i : ℕ) (n : Node) → slice_get ns i ≡ Some n → references (take (i + 1) ns) ≡ references (take i ns) + references_of n

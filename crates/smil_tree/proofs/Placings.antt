@@ -12,6 +12,7 @@ use Rattle.smil_model.specs.document.Edits.{children}
 use Rattle.smil_model.specs.shown.Orders.{is_place}
 use Rattle.smil_laws.specs.Edited.{IsOrdered}
 use Rattle.smil_laws.proofs.Lists.{each_weaker}
+use Rattle.smil_laws.proofs.Ranks.{serials_length}
 use Rattle.smil_tree.specs.Kin.{Families, IsKinOf, list_in}
 use Rattle.smil_tree.specs.declared.fault.TreeFault.TheVariants.{TooDeep, BadPlace}
 use Rattle.smil_tree.specs.Outcomes.{passes, place_outcome, agrees_with_first}
@@ -43,10 +44,6 @@ pub both_ways : (a b : Bool) → (a ≡ true → b ≡ true) → (b ≡ true →
 both_ways true b f g = sym (f refl)
 both_ways false true f g = g refl
 both_ways false false f g = refl
-
-long_serials : (ns : List Node) → length (serials ns) ≡ length ns
-long_serials [] = refl
-long_serials (n ∷ ns) = ap suc (long_serials ns)
 
 -- two that agree with a third agree
 through : (a b c : Bool) → same_test a b ≡ true → same_test b c ≡ true → same_test a c ≡ true
@@ -112,7 +109,7 @@ module _ (nodes : List Node) (next : ℕ) (valid : IsValid (record { nodes = nod
 
   pub may_place_told : (families : Families) → IsKinOf families nodes → (xs : List ℕ) → xs ≡ list_in families.children parent → (holder : Kind) (place : ℕ) → (nat_lt 0 place && nat_le place (suc (length xs)) && may_hold holder kind && agrees_with_first nodes (slice_get xs 0) kind) ≡ (is_place nodes parent place && may_hold holder kind && agree_with nodes parent kind)
   may_place_told families kin xs is holder place =
-      ap (λ k. nat_lt 0 place && nat_le place (suc k) && may_hold holder kind && agrees_with_first nodes (slice_get xs 0) kind) (ap length (is ∙ kin.children parent) ∙ long_serials (children nodes parent))
+      ap (λ k. nat_lt 0 place && nat_le place (suc k) && may_hold holder kind && agrees_with_first nodes (slice_get xs 0) kind) (ap length (is ∙ kin.children parent) ∙ serials_length (children nodes parent))
       ∙ ap (λ b. is_place nodes parent place && may_hold holder kind && b) (first_told families kin xs is)
 
   pub first_known : (families : Families) → IsKinOf families nodes → (xs : List ℕ) → xs ≡ list_in families.children parent → (s : ℕ) → slice_get xs 0 ≡ Some s → IsSome (node_at nodes s)

@@ -15,13 +15,13 @@ use Rattle.smil_laws.specs.Edited.{IsOrdered}
 use Rattle.smil_laws.proofs.Numbered.{ordered}
 use Rattle.smil_laws.proofs.Aside.{each_both, find_true}
 use Rattle.smil_laws.proofs.Members.{holds}
-use Rattle.smil_laws.proofs.Lists.{each_weaker, each_chosen, each_kept}
+use Rattle.smil_laws.proofs.Lists.{each_weaker, each_chosen, each_kept, filter_shorter}
 use Rattle.smil_tree.specs.Held.{cut}
 use Rattle.smil_tree.specs.TreeFields.{bears, IsTableOf, Keeps}
 use Rattle.smil_tree.specs.Kin.{Families, IsKinOf, IsSubtree}
 use Rattle.smil_tree.proofs.Families.{chain_of, above_of}
 use Rattle.smil_tree.proofs.Kids.{node_of_place}
-use Rattle.smil_tree.proofs.Making.{once_of, filter-at_most}
+use Rattle.smil_tree.proofs.Making.{once_of}
 use Rattle.smil_tree.proofs.Owners.{Around, around}
 use Rattle.smil_tree.proofs.Spans.{all_known, others_are, cut_is, tree_without}
 use Rattle.smil_tree.proofs.Standing.{each_of_all, all_of_each, all_kept, none_taken, lineage_chosen, node_chosen}
@@ -134,7 +134,7 @@ module _ (nodes : List Node) (next : ℕ) (valid : IsValid (record { nodes = nod
     placed = each_rest (is_well_placed nodes) (is_well_placed rest) valid.placed placed_rest;
     fitting = each_rest (has_fitting_attrs nodes) (has_fitting_attrs rest) valid.fitting fitting_rest;
     ids = none_taken rest (λ q. omega (arith, once_of (record { nodes = nodes; next = next }) valid q, sum_fewer (λ (n : Node). cond (bears q n) 1 0) (λ (n : Node). stays n.serial) nodes));
-    nodes = omega (arith, valid.nodes, filter-at_most (λ (n : Node). stays n.serial) nodes);
+    nodes = omega (arith, valid.nodes, filter_shorter (λ (n : Node). stays n.serial) nodes);
     references = omega (arith, valid.references, sum_fewer references_of (λ (n : Node). stays n.serial) nodes);
   }
 

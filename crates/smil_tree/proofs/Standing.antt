@@ -16,8 +16,8 @@ use Rattle.smil_model.specs.document.Valid.{IsDistinct, depth_of, kind_of, may_s
 use Rattle.smil_model.specs.document.Edits.{changed_at}
 use Rattle.smil_laws.proofs.Kept.{upwards_kept, filter_reverse}
 use Rattle.smil_laws.proofs.Aside.{find_within}
-use Rattle.smil_laws.proofs.Lineages.{skip, take_it}
 use Rattle.smil_laws.proofs.Lists.{each_chosen}
+use Rattle.smil_laws.proofs.EditsBelow.{upwards_edit}
 use Rattle.smil_tree.specs.TreeFields.{bears, owner, is_other}
 use Rattle.smil_tree.proofs.Changed.{serial_stays, parent_stays}
 use Rattle.smil_tree.proofs.Holding.{with_attrs}
@@ -91,20 +91,8 @@ module _ (change : Attrs → Attrs) (s : ℕ) where
       by_test true = refl
       by_test false = refl
 
-  pub upwards_edited : (rs : List Node) (x : ℕ) → upwards (map edit rs) x ≡ map edit (upwards rs x)
-  upwards_edited [] x = refl
-  upwards_edited (n ∷ before) x = step (n.serial == x) refl (upwards_edited before n.parent) (upwards_edited before x)
-    where
-      step : (t : Bool) → n.serial == x ≡ t → upwards (map edit before) n.parent ≡ map edit (upwards before n.parent) → upwards (map edit before) x ≡ map edit (upwards before x) → upwards (edit n ∷ map edit before) x ≡ map edit (upwards (n ∷ before) x)
-      step true d above here =
-          take_it (edit n) (map edit before) x (ap (λ r. r == x) (serial_same n) ∙ d)
-          ∙ ap (λ r. edit n ∷ upwards (map edit before) r) (parent_same n)
-          ∙ ap (λ c. edit n ∷ c) above
-          ∙ sym (ap (map edit) (take_it n before x d))
-      step false d above here = skip (edit n) (map edit before) x (ap (λ r. r == x) (serial_same n) ∙ d) ∙ here ∙ sym (ap (map edit) (skip n before x d))
-
   pub lineage_edited : (nodes : List Node) (x : ℕ) → lineage (changed_at change s nodes) x ≡ map edit (lineage nodes x)
-  lineage_edited nodes x = ap (λ rs. upwards rs x) (sym (map-reverse edit nodes)) ∙ upwards_edited (reverse nodes) x
+  lineage_edited nodes x = ap (λ rs. upwards rs x) (sym (map-reverse edit nodes)) ∙ upwards_edit change s (reverse nodes) x
 
   long_rest : (ns : List Node) → length (drop 1 (map edit ns)) ≡ length (drop 1 ns)
   long_rest [] = refl

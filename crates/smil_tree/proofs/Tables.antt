@@ -3,15 +3,7 @@ use Rattle.std.proofs.Common.{◌≡◌, refl, sym, ◌∙◌, ap, ℕ, List, []
 use Rattle.std.specs.Str.{bytes_eq}
 use Rattle.std.specs.Map.{lookup, KeepsOthers}
 use Rattle.std.specs.Cmp.Lexicographic.{bytes_decides}
-
-pub bytes_swap : (a b : List ℕ) → bytes_eq a b ≡ bytes_eq b a
-bytes_swap a b = by_test (bytes_eq a b) (bytes_eq b a) refl refl
-  where
-    by_test : (t u : Bool) → bytes_eq a b ≡ t → bytes_eq b a ≡ u → t ≡ u
-    by_test true true e f = refl
-    by_test false false e f = refl
-    by_test true false e f = sym ((bytes_decides b a).1 (sym ((bytes_decides a b).0 e))) ∙ f
-    by_test false true e f = sym e ∙ (bytes_decides a b).1 (sym ((bytes_decides b a).0 f))
+use Rattle.smil_laws.proofs.Lists.{bytes_swap}
 
 module _ {K : Type 0} (text : K → List ℕ) where
   abbrev pub pairs : List (K × ℕ) → List (List ℕ × ℕ)

@@ -2,7 +2,7 @@ use Rattle.std.proofs.Common.{◌≡◌, sym, ap, ◌∙◌, Some, take}
 use Rattle.std.specs.Prelude.{slice_get}
 use Rattle.std.specs.Option.{option_copied}
 use Rattle.smil_model.specs.document.Document.{with_node}
-use Rattle.smil_tree.proofs.Making.{take-more_at}
+use Rattle.smil_laws.proofs.Lists.{take-more_at}
 use Rattle.smil_tree.proofs.tree.doc_of.Goals as goal
 
 pub loop-place-preserved : goal.loop-place-preserved
