@@ -49,7 +49,7 @@ fn plain_value(alloc: Global, name: AttrName, value: &[u8], in_seq: bool) -> Res
     }
 }
 
-/// Whether the parent is a seq.
+// Whether the parent is a seq.
 fn is_seq(parent: Option<Kind>) -> bool
     ensures { result ≡ is_seq_parent parent }
 {

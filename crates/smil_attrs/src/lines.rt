@@ -42,6 +42,7 @@ const NAMES: [AttrName; 23] = [
     AttrName::To,
 ];
 
+// Appends two spaces for each level.
 #[tactic(auto, using(smil_lexis::proofs::Growing::begins_on))]
 fn put_indent(depth: u32, out: &mut Bytes) -> Result<(), AllocError>
     ensures ok { OnOk result (out.new ≡ out.old ++ replicate (2 * depth) space) }
@@ -53,6 +54,7 @@ fn put_indent(depth: u32, out: &mut Bytes) -> Result<(), AllocError>
     Ok(())
 }
 
+// Appends the attributes that are there, in their order.
 #[tactic(auto, using(smil_lexis::proofs::Growing::begins_on))]
 fn put_attrs(kind: Kind, attrs: &Attrs, out: &mut Bytes) -> Result<(), AllocError>
     requires { IsAttrs false kind attrs.now }
@@ -66,6 +68,7 @@ fn put_attrs(kind: Kind, attrs: &Attrs, out: &mut Bytes) -> Result<(), AllocErro
     Ok(())
 }
 
+// Appends the line of a node.
 #[tactic(auto, using(smil_lexis::proofs::Growing::begins_on))]
 fn put_node(depth: u32, kind: Kind, attrs: &Attrs, out: &mut Bytes) -> Result<(), AllocError>
     requires { IsAttrs false kind attrs.now }
@@ -107,6 +110,7 @@ fn put_number(text: &[u8], number: u32, out: &mut Bytes) -> Result<(), AllocErro
     out.append(buffer.format(number).as_bytes())
 }
 
+// Appends the line of a node with its serial.
 #[tactic(auto, using(smil_lexis::proofs::Growing::begins_on))]
 fn put_node_2(depth: u32, node: &Node, out: &mut Bytes) -> Result<(), AllocError>
     requires { IsAttrs false node.now.kind node.now.attrs }

@@ -38,6 +38,7 @@ pub fn text(name: AttrName) -> &'static [u8]
     }
 }
 
+// The attribute that a word calls.
 fn called(name: &[u8]) -> Option<AttrName>
     ensures { result ≡ name_called name.now }
 {
@@ -92,6 +93,7 @@ fn called(name: &[u8]) -> Option<AttrName>
     }
 }
 
+// Whether a node of this kind can have the attribute.
 fn has(kind: Kind, name: AttrName) -> bool
     ensures { result ≡ has_name kind name }
 {

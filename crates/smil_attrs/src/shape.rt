@@ -46,6 +46,7 @@ impl<'a> Model for Attributes<'a> {
     ghost invariant = { λ a. a.place + length a.text.now < 2 ^ 64 };
 }
 
+// Whether a text has no space.
 fn no_space(text: &[u8]) -> bool
     ensures { result ≡ list_all is_no_space text.now }
 {
@@ -167,6 +168,7 @@ impl<'a> Model for Shape<'a> {
     ghost invariant = { λ a. IsSome (attributes_in a.attributes) };
 }
 
+// How many bytes stand before the first space or quote.
 fn kind_len(line: &[u8]) -> usize
     ensures len { result ≡ prefix_len is_of_kind line.now }
     ensures within { result ≤ length line.now }

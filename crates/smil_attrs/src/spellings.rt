@@ -17,6 +17,7 @@ use smil_model::{
 use smil_time_list::spellings::write_list;
 use std::alloc::AllocError;
 
+// The word of a `restart`.
 fn restart(restart: Restart) -> &'static [u8]
     ensures { result.now ≡ restart_text restart }
 {
@@ -28,6 +29,7 @@ fn restart(restart: Restart) -> &'static [u8]
     }
 }
 
+// The word of a `fill`.
 fn fill(fill: Fill) -> &'static [u8]
     ensures { result.now ≡ fill_text fill }
 {
@@ -40,6 +42,7 @@ fn fill(fill: Fill) -> &'static [u8]
     }
 }
 
+// The word of a `restartDefault`.
 fn restart_default(restart: RestartDefault) -> &'static [u8]
     ensures { result.now ≡ restart_default_text restart }
 {
@@ -51,6 +54,7 @@ fn restart_default(restart: RestartDefault) -> &'static [u8]
     }
 }
 
+// The word of a `fillDefault`.
 fn fill_default(fill: FillDefault) -> &'static [u8]
     ensures { result.now ≡ fill_default_text fill }
 {
@@ -63,6 +67,7 @@ fn fill_default(fill: FillDefault) -> &'static [u8]
     }
 }
 
+// The word of what an excl does.
 fn act(act: Act) -> &'static [u8]
     ensures { result.now ≡ act_text act }
 {
@@ -74,6 +79,7 @@ fn act(act: Act) -> &'static [u8]
     }
 }
 
+// The word or the id of an `endsync`.
 fn endsync(endsync: &Endsync) -> &[u8]
     ensures { result.now ≡ endsync_text endsync.now }
 {
@@ -85,6 +91,7 @@ fn endsync(endsync: &Endsync) -> &[u8]
     }
 }
 
+// Appends a `dur`.
 fn put_dur(dur: Dur, out: &mut Bytes) -> Result<(), AllocError>
     requires { FitsDur dur }
     ensures ok { OnOk result (out.new ≡ out.old ++ dur_text dur) }
@@ -97,6 +104,7 @@ fn put_dur(dur: Dur, out: &mut Bytes) -> Result<(), AllocError>
     }
 }
 
+// Appends a `max` or a `repeatDur`.
 fn put_time(time: Time, out: &mut Bytes) -> Result<(), AllocError>
     requires { FitsTime time }
     ensures ok { OnOk result (out.new ≡ out.old ++ time_text time) }
@@ -129,6 +137,7 @@ fn put_decimals(thousandths: u64, out: &mut Bytes) -> Result<(), AllocError>
     }
 }
 
+// Appends a `repeatCount`.
 fn put_count(count: Count, out: &mut Bytes) -> Result<(), AllocError>
     ensures ok { OnOk result (out.new ≡ out.old ++ count_text count) }
     ensures err { OnErr result (Begins out.old out.new) }
@@ -165,6 +174,7 @@ fn put_word(name: AttrName, word: &[u8], out: &mut Bytes) -> Result<(), AllocErr
     out.append(b"\"")
 }
 
+// Appends an attribute that is a text.
 fn put_text(name: AttrName, value: &Option<Bytes>, out: &mut Bytes) -> Result<(), AllocError>
     ensures ok { OnOk result (out.new ≡ out.old ++ attribute_text name value.now) }
     ensures err { OnErr result (Begins out.old out.new) }
@@ -175,6 +185,7 @@ fn put_text(name: AttrName, value: &Option<Bytes>, out: &mut Bytes) -> Result<()
     }
 }
 
+// Appends a `restart` with its name.
 fn put_restart(name: AttrName, value: Option<Restart>, out: &mut Bytes) -> Result<(), AllocError>
     ensures ok { OnOk result (out.new ≡ out.old
         ++ attribute_text name (option_map restart_text value)) }
@@ -186,6 +197,7 @@ fn put_restart(name: AttrName, value: Option<Restart>, out: &mut Bytes) -> Resul
     }
 }
 
+// Appends a `fill` with its name.
 fn put_fill(name: AttrName, value: Option<Fill>, out: &mut Bytes) -> Result<(), AllocError>
     ensures ok { OnOk result (out.new ≡ out.old ++ attribute_text name (option_map fill_text value)) }
     ensures err { OnErr result (Begins out.old out.new) }
@@ -196,6 +208,7 @@ fn put_fill(name: AttrName, value: Option<Fill>, out: &mut Bytes) -> Result<(), 
     }
 }
 
+// Appends a `restartDefault` with its name.
 fn put_restart_default(
     name: AttrName,
     value: Option<RestartDefault>,
@@ -211,6 +224,7 @@ fn put_restart_default(
     }
 }
 
+// Appends a `fillDefault` with its name.
 fn put_fill_default(
     name: AttrName,
     value: Option<FillDefault>,
@@ -226,6 +240,7 @@ fn put_fill_default(
     }
 }
 
+// Appends an attribute of a priorityClass.
 fn put_act(name: AttrName, value: Option<Act>, out: &mut Bytes) -> Result<(), AllocError>
     ensures ok { OnOk result (out.new ≡ out.old ++ attribute_text name (option_map act_text value)) }
     ensures err { OnErr result (Begins out.old out.new) }
@@ -236,6 +251,7 @@ fn put_act(name: AttrName, value: Option<Act>, out: &mut Bytes) -> Result<(), Al
     }
 }
 
+// Appends an `endsync` with its name.
 fn put_endsync(name: AttrName, value: &Option<Endsync>, out: &mut Bytes) -> Result<(), AllocError>
     ensures ok { OnOk result (out.new ≡ out.old
         ++ attribute_text name (option_map endsync_text value.now)) }
@@ -247,6 +263,7 @@ fn put_endsync(name: AttrName, value: &Option<Endsync>, out: &mut Bytes) -> Resu
     }
 }
 
+// Appends a list with its name.
 #[tactic(auto, using(smil_lexis::proofs::Growing::begins_on))]
 fn put_list(name: AttrName, value: &Option<Items>, out: &mut Bytes) -> Result<(), AllocError>
     requires { IfSome value.now (All CanWrite) }
@@ -264,6 +281,7 @@ fn put_list(name: AttrName, value: &Option<Items>, out: &mut Bytes) -> Result<()
     }
 }
 
+// Appends a `min` with its name.
 #[tactic(auto, using(smil_lexis::proofs::Growing::begins_on))]
 fn put_min(name: AttrName, value: Option<i64>, out: &mut Bytes) -> Result<(), AllocError>
     requires { IfSome value FitsClock }
@@ -281,6 +299,7 @@ fn put_min(name: AttrName, value: Option<i64>, out: &mut Bytes) -> Result<(), Al
     }
 }
 
+// Appends a `dur` with its name.
 #[tactic(auto, using(smil_lexis::proofs::Growing::begins_on))]
 fn put_duration(name: AttrName, value: Option<Dur>, out: &mut Bytes) -> Result<(), AllocError>
     requires { IfSome value FitsDur }
@@ -297,6 +316,7 @@ fn put_duration(name: AttrName, value: Option<Dur>, out: &mut Bytes) -> Result<(
     }
 }
 
+// Appends a `max` or a `repeatDur` with its name.
 #[tactic(auto, using(smil_lexis::proofs::Growing::begins_on))]
 fn put_limit(name: AttrName, value: Option<Time>, out: &mut Bytes) -> Result<(), AllocError>
     requires { IfSome value FitsTime }
@@ -313,6 +333,7 @@ fn put_limit(name: AttrName, value: Option<Time>, out: &mut Bytes) -> Result<(),
     }
 }
 
+// Appends a `repeatCount` with its name.
 #[tactic(auto, using(smil_lexis::proofs::Growing::begins_on))]
 fn put_repeat_count(name: AttrName, value: Option<Count>, out: &mut Bytes) -> Result<(), AllocError>
     ensures ok { OnOk result (out.new ≡ out.old

@@ -202,6 +202,7 @@ pub fn count(text: &[u8]) -> Option<Count>
     }
 }
 
+// Whether a text is an id.
 fn is_id(text: &[u8]) -> bool
     ensures { result ≡ is_some (id_of text.now) }
 {
@@ -233,12 +234,14 @@ pub fn endsync(alloc: Global, text: &[u8]) -> Result<Endsync, AttrFault>
     }
 }
 
+// Whether a byte may stand in a text that is kept.
 fn is_kept(byte: u8) -> bool
     ensures { result ≡ is_kept_byte byte }
 {
     byte >= 32 && byte != 127 && byte != b'"'
 }
 
+// Whether each byte may stand in a text that is kept.
 fn all_kept(text: &[u8]) -> bool
     ensures { result ≡ list_all is_kept_byte text.now }
 {

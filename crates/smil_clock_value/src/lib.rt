@@ -27,6 +27,7 @@ fn milliseconds(unit: u64, number: u64, billionths: u64) -> u64
     number * unit + billionths * unit / 1_000_000_000
 }
 
+// A full clock value: hours, minutes and seconds.
 fn full(hours: &[u8], minutes: &[u8], rest: &[u8]) -> Option<u64>
     ensures { result ≡ option_map capped (full_value hours.now minutes.now rest.now) }
 {
@@ -36,6 +37,7 @@ fn full(hours: &[u8], minutes: &[u8], rest: &[u8]) -> Option<u64>
     Some((hours * 3_600_000 + minutes * 60_000 + milliseconds(1000, seconds, billionths)).min(CAP))
 }
 
+// A partial clock value: minutes and seconds.
 fn partial(minutes: &[u8], rest: &[u8]) -> Option<u64>
     ensures { result ≡ option_map capped (partial_value minutes.now rest.now) }
 {
@@ -58,6 +60,7 @@ fn unit(metric: &[u8]) -> Option<u64>
     }
 }
 
+// How many bytes at the front belong to a number with its fraction.
 fn number_len(text: &[u8]) -> usize
     ensures len { result ≡ prefix_len is_of_number_byte text.now }
     ensures within { result ≤ length text.now }
@@ -67,6 +70,7 @@ fn number_len(text: &[u8]) -> usize
         .count()
 }
 
+// A number and its metric.
 fn time_count(text: &[u8]) -> Option<u64>
     ensures { result ≡ option_map capped (time_count_value text.now) }
 {
@@ -76,6 +80,7 @@ fn time_count(text: &[u8]) -> Option<u64>
     Some(milliseconds(unit, count, billionths).min(CAP))
 }
 
+// The milliseconds of a clock value, `CAP` where they are above the horizon.
 fn value(text: &[u8]) -> Option<u64>
     ensures { result ≡ option_map capped (clock_of text.now) }
 {

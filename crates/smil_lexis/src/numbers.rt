@@ -66,7 +66,7 @@ pub fn sixty(digits: &[u8]) -> Option<u64>
     }
 }
 
-/// What digits behind a point weigh, the first one so much for each one of it.
+// What digits behind a point weigh, the first one so much for each one of it.
 fn weigh(digits: &[u8], first: u64) -> u64
     requires { first ≤ 1_000_000_000 }
     ensures sum { result ≡ weight first digits.now }
@@ -81,7 +81,7 @@ fn weigh(digits: &[u8], first: u64) -> u64
     sum
 }
 
-/// The same, where there is a digit and nothing else.
+/// What digits behind a point weigh, where there is a digit and nothing else.
 pub fn fraction(digits: &[u8], first: u64) -> Option<u64>
     requires { first ≤ 1_000_000_000 }
     ensures sum { result ≡ fraction_of first digits.now }

@@ -10,6 +10,7 @@ use super::runs::{is_white, white};
 use smil_model::Bytes;
 use std::alloc::{AllocError, Global};
 
+// The place of the first such byte.
 fn find(bytes: &[u8], byte: u8) -> Option<usize>
     ensures place { result ≡ position (λ other. other == byte) bytes.now }
     ensures within { IfSome result (λ place. place < length bytes.now) }
@@ -62,6 +63,7 @@ pub fn trim_front(text: &[u8]) -> &[u8]
     rest
 }
 
+// How much white space stands at the end.
 fn white_behind(text: &[u8]) -> usize
     ensures len { result ≡ suffix_len is_white_byte text.now }
     ensures within { result ≤ length text.now }

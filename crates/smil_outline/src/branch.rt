@@ -37,7 +37,7 @@ impl Branch {
         }
     }
 
-    /// From the root down.
+    // From the root down.
     fn levels(&self) -> &[(u32, Kind)]
         ensures { result.now ≡ self.now }
     {

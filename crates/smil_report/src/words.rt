@@ -48,6 +48,7 @@ pub fn how_word(how: How) -> &'static [u8]
     }
 }
 
+// Appends a number.
 fn put_number<I: Integer>(out: &mut Bytes, number: I) -> Result<(), AllocError>
     ensures ok { OnOk result (out.new ≡ out.old ++ I.text number) }
     ensures err { OnErr result (out.new ≡ out.old) }
@@ -56,6 +57,7 @@ fn put_number<I: Integer>(out: &mut Bytes, number: I) -> Result<(), AllocError>
     out.append(buffer.format(number).as_bytes())
 }
 
+// Appends the id or the serial of an element.
 fn put_name(out: &mut Bytes, name: &Who) -> Result<(), AllocError>
     ensures ok { OnOk result (out.new ≡ out.old ++ reference_text name.now) }
     ensures err { OnErr result (Begins out.old out.new) }
@@ -66,6 +68,7 @@ fn put_name(out: &mut Bytes, name: &Who) -> Result<(), AllocError>
     }
 }
 
+// Appends a serial.
 fn put_serial(out: &mut Bytes, serial: u32) -> Result<(), AllocError>
     ensures ok { OnOk result (out.new ≡ out.old ++ serial_text serial) }
     ensures err { OnErr result (Begins out.old out.new) }
@@ -74,6 +77,7 @@ fn put_serial(out: &mut Bytes, serial: u32) -> Result<(), AllocError>
     put_number(out, serial)
 }
 
+// Appends a text between quotes.
 #[tactic(auto, using(crate::proofs::Growing::begins_on))]
 fn put_quoted(out: &mut Bytes, text: &[u8]) -> Result<(), AllocError>
     ensures ok { OnOk result (out.new ≡ out.old ++ quoted text.now) }
@@ -84,6 +88,7 @@ fn put_quoted(out: &mut Bytes, text: &[u8]) -> Result<(), AllocError>
     out.push(b'"')
 }
 
+// Appends a time of a view.
 fn put_time(out: &mut Bytes, time: Shown) -> Result<(), AllocError>
     ensures ok { OnOk result (out.new ≡ out.old ++ shown_text time) }
     ensures err { OnErr result (out.new ≡ out.old) }
@@ -97,6 +102,7 @@ fn put_time(out: &mut Bytes, time: Shown) -> Result<(), AllocError>
     }
 }
 
+// Appends a word.
 fn put_word(out: &mut Bytes, word: &Word) -> Result<(), AllocError>
     ensures ok { OnOk result (out.new ≡ out.old ++ word_text word.now) }
     ensures err { OnErr result (Begins out.old out.new) }
@@ -112,6 +118,7 @@ fn put_word(out: &mut Bytes, word: &Word) -> Result<(), AllocError>
     }
 }
 
+// Appends the words, with a space between them, and a line feed.
 #[tactic(auto, using(crate::proofs::Growing::begins_on))]
 fn put_words(out: &mut Bytes, words: &[Word]) -> Result<(), AllocError>
     ensures ok { OnOk result (out.new ≡ out.old ++ line_of (map word_text words.now)) }

@@ -26,6 +26,7 @@ pub fn is_blank(line: &[u8]) -> bool
     is_all_white(line) || matches!(line, [b'#', ..])
 }
 
+// Whether a line is white space alone.
 fn is_all_white(line: &[u8]) -> bool
     ensures { result ≡ list_all is_white_byte line.now }
 {

@@ -93,6 +93,7 @@ fn is_other_name(text: &[u8]) -> bool
         || is(text, b"repeatEvent")
 }
 
+// Whether a word is the name of an event that comes from outside.
 fn is_event_name(text: &[u8]) -> bool
     ensures { result ≡ is_some (event_of text.now) }
 {
@@ -110,6 +111,7 @@ pub fn event_name(alloc: Global, text: &[u8]) -> Result<Bytes, Refusal>
     own(alloc, text)
 }
 
+// Whether a text has a quote.
 fn has_quote(text: &[u8]) -> bool
     ensures { result ≡ list_any (λ b. b == quote) text.now }
 {

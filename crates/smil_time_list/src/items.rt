@@ -14,6 +14,7 @@ use smil_lexis::texts::{behind, cut, is, is_key, past, unescaped};
 use smil_model::{Bytes, Edge, Item};
 use std::alloc::Global;
 
+// The begin or the end of an element that is named.
 fn sync(who: Option<Bytes>, edge: Edge, rest: &[u8]) -> Option<Item>
     ensures { result ≡ sync_of who edge rest.now }
 {
@@ -22,6 +23,7 @@ fn sync(who: Option<Bytes>, edge: Edge, rest: &[u8]) -> Option<Item>
     Some(Item::Sync { who, edge, offset })
 }
 
+// An iteration, whose count stands in parentheses.
 fn repeat(who: Option<Bytes>, text: &[u8]) -> Option<Item>
     ensures { result ≡ repeat_of who text.now }
 {
@@ -31,6 +33,7 @@ fn repeat(who: Option<Bytes>, text: &[u8]) -> Option<Item>
     Some(Item::Repeat { who, n, offset })
 }
 
+// An event with this name.
 fn event(alloc: Global, who: Option<Bytes>, word: &[u8], rest: &[u8]) -> Result<Item, ItemFault>
     ensures { GivesItem result (ok_or (with_tail (Event who word.now) rest.now) Bad) }
 {
@@ -39,6 +42,7 @@ fn event(alloc: Global, who: Option<Bytes>, word: &[u8], rest: &[u8]) -> Result<
     Ok(Item::Event { who, name, offset })
 }
 
+// The item of this word and what stands behind it.
 fn word(alloc: Global, who: Option<Bytes>, word: &[u8], rest: &[u8]) -> Result<Item, ItemFault>
     ensures { GivesItem result (ok_or (word_of who word.now rest.now) Bad) }
 {
@@ -57,6 +61,7 @@ fn word(alloc: Global, who: Option<Bytes>, word: &[u8], rest: &[u8]) -> Result<I
     }
 }
 
+// The item whose word is the longest name at the front.
 fn what(alloc: Global, who: Option<Bytes>, text: &[u8]) -> Result<Item, ItemFault>
     ensures { GivesItem result (ok_or (what_of who text.now) Bad) }
 {
@@ -64,6 +69,7 @@ fn what(alloc: Global, who: Option<Bytes>, text: &[u8]) -> Result<Item, ItemFaul
     word(alloc, who, front, rest)
 }
 
+// An item of an element that is named.
 fn of_element(alloc: Global, who: Bytes, text: &[u8]) -> Result<Item, ItemFault>
     ensures { GivesItem result (item_of_element who text.now) }
 {
@@ -73,12 +79,14 @@ fn of_element(alloc: Global, who: Bytes, text: &[u8]) -> Result<Item, ItemFault>
     what(alloc, Some(who), text)
 }
 
+// Whether an item is of a form of SMIL that is left out.
 fn is_left_out(text: &[u8]) -> bool
     ensures { result ≡ is_left_out_text text.now }
 {
     text.starts_with(b"wallclock(") || text.starts_with(b"id(")
 }
 
+// Whether an item is an access key.
 fn is_keyed(text: &[u8]) -> bool
     ensures { result ≡ is_keyed_text text.now }
 {
@@ -110,6 +118,7 @@ fn subject(alloc: Global, text: &[u8], id: &[u8], rest: Option<&[u8]>) -> Result
     }
 }
 
+// An item that begins with neither a digit nor a sign.
 fn named(alloc: Global, text: &[u8]) -> Result<Item, ItemFault>
     ensures { GivesItem result (named_of text.now) }
 {

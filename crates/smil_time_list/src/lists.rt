@@ -24,6 +24,7 @@ fn split(text: &[u8]) -> Option<(&[u8], &[u8])>
     cut(text, b';')
 }
 
+// How many `;` a text has.
 fn semicolons(text: &[u8]) -> usize
     ensures { result ≡ count_by (λ b. b == semicolon) text.now }
 {
@@ -104,6 +105,7 @@ impl Reader {
     }
 }
 
+// Whether a list is one offset that isn't negative.
 fn is_plain(items: &Items) -> bool
     ensures { result ≡ is_plain_list items.now }
 {

@@ -12,6 +12,7 @@ use smil_clock_value::write_clock;
 use smil_model::{Bytes, Edge, Item, Items};
 use std::alloc::AllocError;
 
+// Appends an id as references write it: with a backslash before each `-` and `.`.
 fn put_escaped(id: &[u8], out: &mut Bytes) -> Result<(), AllocError>
     ensures ok { OnOk result (out.new ≡ out.old ++ escaped id.now) }
     ensures err { OnErr result (Begins out.old out.new) }
@@ -25,6 +26,7 @@ fn put_escaped(id: &[u8], out: &mut Bytes) -> Result<(), AllocError>
     Ok(())
 }
 
+// Appends a clock value behind its sign.
 fn put_signed(sign: &[u8], offset: i64, out: &mut Bytes) -> Result<(), AllocError>
     requires low { pos 0 ≤ℤ offset }
     requires high { offset ≤ℤ HORIZON }
@@ -35,6 +37,7 @@ fn put_signed(sign: &[u8], offset: i64, out: &mut Bytes) -> Result<(), AllocErro
     write_clock(offset, out)
 }
 
+// Appends an offset.
 fn put_offset(offset: i64, out: &mut Bytes) -> Result<(), AllocError>
     requires { IsWithin offset }
     ensures ok { OnOk result (out.new ≡ out.old ++ offset_text offset) }
@@ -47,6 +50,7 @@ fn put_offset(offset: i64, out: &mut Bytes) -> Result<(), AllocError>
     }
 }
 
+// Appends an offset behind a word: nothing where it is 0.
 fn put_tail(offset: i64, out: &mut Bytes) -> Result<(), AllocError>
     requires { IsWithin offset }
     ensures ok { OnOk result (out.new ≡ out.old ++ tail_text offset) }
@@ -61,6 +65,7 @@ fn put_tail(offset: i64, out: &mut Bytes) -> Result<(), AllocError>
     }
 }
 
+// Appends the id of the element that an item names, and a point.
 fn put_who(who: &Option<Bytes>, out: &mut Bytes) -> Result<(), AllocError>
     ensures ok { OnOk result (out.new ≡ out.old ++ of_who who.now) }
     ensures err { OnErr result (Begins out.old out.new) }
@@ -74,6 +79,7 @@ fn put_who(who: &Option<Bytes>, out: &mut Bytes) -> Result<(), AllocError>
     }
 }
 
+// Appends `begin` or `end`.
 fn put_edge(edge: Edge, out: &mut Bytes) -> Result<(), AllocError>
     ensures ok { OnOk result (out.new ≡ out.old ++ edge_text edge) }
     ensures err { OnErr result (Begins out.old out.new) }
@@ -84,6 +90,7 @@ fn put_edge(edge: Edge, out: &mut Bytes) -> Result<(), AllocError>
     }
 }
 
+// Appends the begin or the end of an element.
 #[tactic(auto, using(smil_lexis::proofs::Growing::begins_on))]
 fn put_sync(who: &Bytes, edge: Edge, offset: i64, out: &mut Bytes) -> Result<(), AllocError>
     requires { IsWithin offset }
@@ -96,6 +103,7 @@ fn put_sync(who: &Bytes, edge: Edge, offset: i64, out: &mut Bytes) -> Result<(),
     put_tail(offset, out)
 }
 
+// Appends an event.
 #[tactic(auto, using(smil_lexis::proofs::Growing::begins_on))]
 fn put_event(
     who: &Option<Bytes>,
@@ -112,6 +120,7 @@ fn put_event(
     put_tail(offset, out)
 }
 
+// Appends an iteration.
 #[tactic(auto, using(smil_lexis::proofs::Growing::begins_on))]
 fn put_repeat(who: &Option<Bytes>, n: u32, offset: i64, out: &mut Bytes) -> Result<(), AllocError>
     requires { IsWithin offset }
@@ -126,6 +135,7 @@ fn put_repeat(who: &Option<Bytes>, n: u32, offset: i64, out: &mut Bytes) -> Resu
     put_tail(offset, out)
 }
 
+// Appends an access key.
 #[tactic(auto, using(smil_lexis::proofs::Growing::begins_on))]
 fn put_call(key: u8, out: &mut Bytes) -> Result<(), AllocError>
     ensures ok { OnOk result (out.new ≡ out.old ++ (codes "accesskey(" ++ (key ∷ []) ++ codes ")")) }
@@ -136,6 +146,7 @@ fn put_call(key: u8, out: &mut Bytes) -> Result<(), AllocError>
     out.append(b")")
 }
 
+// Appends an access key with its offset.
 #[tactic(auto, using(smil_lexis::proofs::Growing::begins_on))]
 fn put_key(key: u8, offset: i64, out: &mut Bytes) -> Result<(), AllocError>
     requires { IsWithin offset }
@@ -146,6 +157,7 @@ fn put_key(key: u8, offset: i64, out: &mut Bytes) -> Result<(), AllocError>
     put_tail(offset, out)
 }
 
+// Appends an item.
 fn put_item(item: &Item, out: &mut Bytes) -> Result<(), AllocError>
     requires { CanWrite item.now }
     ensures ok { OnOk result (out.new ≡ out.old ++ item_text item.now) }
@@ -173,6 +185,7 @@ fn put_next(place: usize, item: &Item, out: &mut Bytes) -> Result<(), AllocError
     put_item(item, out)
 }
 
+// Appends the items, with `;` between them.
 #[tactic(auto, using(smil_lexis::proofs::Growing::begins_on))]
 fn put_list(items: &Items, out: &mut Bytes) -> Result<(), AllocError>
     requires { All CanWrite items.now }
