@@ -1,7 +1,8 @@
 //! Lines by their first word.
 
-ghost use Rattle.std.specs.Prelude.{◌≡◌, ◌<◌, ◌^◌, length, IsTrue, IfOk, Ok};
+ghost use Rattle.std.specs.Prelude.{◌≡◌, IsTrue, IfOk, Ok};
 ghost use Rattle.std.specs.List.{list_all};
+ghost use Rattle.smil_model.specs.shown.Answers.{IsText};
 ghost use Rattle.smil_grammar.specs.Texts.{is_white as is_white_byte};
 ghost use Rattle.smil_grammar.specs.Scripts.{Word as WordText, line_of, is_blank as is_blank_line, to as to_name, finish, order_line, command as command_line, first_of, named, or_refused, opens_load as opens_load_line};
 ghost use Rattle.smil_grammar.specs.declared.read.Read.TheVariants.{Blank, Load, Close};
@@ -83,7 +84,7 @@ fn command(alloc: Global, line: &Word<'_>) -> Result<Read, Refusal>
 /// value's column, counted in bytes from 1. `Memory` may come where a name or an order is read. An
 /// order that is read is one that a presentation may be given.
 pub fn read_line(alloc: Global, line: &[u8]) -> Result<Read, Refusal>
-    requires { length line.now < 2 ^ 31 }
+    requires { IsText line.now }
     ensures reading { GivesReading result (line_of line.now) }
     ensures blank { IsTrue (is_blank_line line.now) → result ≡ Ok Blank }
     ensures given { IfOk result HoldsGiven }
@@ -109,7 +110,7 @@ pub fn opens_load(line: &[u8]) -> bool
 
 /// Whether a line ends a load: its one word is `%%`. It takes no memory.
 pub fn ends_load(line: &[u8]) -> bool
-    requires { length line.now < 2 ^ 31 }
+    requires { IsText line.now }
     ensures { result ≡ ends_load_line line.now }
 {
     let line = Word {

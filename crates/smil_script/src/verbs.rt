@@ -5,6 +5,7 @@ ghost use Rattle.smil_grammar.specs.Scripts.{with_clock, with_who, event_line, k
 ghost use Rattle.smil_grammar.specs.Gives.{GivesReading};
 ghost use Rattle.smil_model.specs.declared.order.Order.{Order as OrderValue};
 ghost use Rattle.smil_model.specs.declared.order.Order.TheVariants as order_value;
+ghost use Rattle.smil_model.specs.declared.limits.TheConstants.{TEXT_BYTES};
 ghost use Rattle.smil_model.specs.document.Values.{is_clock};
 ghost use Rattle.smil_model.specs.shown.Answers.{IsGiven, IsName};
 ghost use Rattle.smil_script.specs.Gives.{GivesWho, with_value};
@@ -20,7 +21,7 @@ use std::alloc::Global;
 
 // The column of a place, from 1.
 fn column(place: usize) -> u32
-    requires { place < 2_147_483_648 }
+    requires { place < TEXT_BYTES }
     ensures { result ≡ place + 1 }
 {
     place as u32 + 1
@@ -119,7 +120,7 @@ pub fn media(alloc: Global, line: &Word<'_>) -> Result<Order, Refusal>
 // A value between quotes with nothing but spaces behind it.
 fn quoted<'a>(line: &Word<'a>) -> Option<Word<'a>>
     ensures value { option_map (λ value. (value.text, value)) result ≡ quoted_of line.now }
-    ensures within { IfSome result (λ value. value.place + length value.text + 1 < 2_147_483_648) }
+    ensures within { IfSome result (λ value. value.place + length value.text + 1 < TEXT_BYTES) }
 {
     let from = line.skipped();
     let inner = behind(from.text, b'"')?;

@@ -15,13 +15,14 @@ pub struct Word<'a> {
 
 impl<'a> Model for Word<'a> {
     ghost use Rattle.std.specs.Prelude.{◌<◌, ◌+◌, length};
+    ghost use Rattle.smil_model.specs.declared.limits.TheConstants.{TEXT_BYTES};
     ghost use Rattle.smil_grammar.specs.Scripts.{Word as WordText};
 
     ghost Value = { WordText };
 
     ghost view = { λ word. record { text = word.text.now; place = word.place } };
 
-    ghost invariant = { λ word. word.place + length word.text.now < 2_147_483_648 };
+    ghost invariant = { λ word. word.place + length word.text.now < TEXT_BYTES };
 }
 
 impl<'a> Word<'a> {

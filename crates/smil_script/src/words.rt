@@ -9,7 +9,7 @@ ghost use Rattle.smil_grammar.specs.Scripts.{is_title as is_title_text, who_of, 
 ghost use Rattle.smil_grammar.specs.Gives.{GivesReading};
 ghost use Rattle.smil_model.specs.declared.order.Refusal.TheVariants.{NotACommand, Memory};
 ghost use Rattle.smil_model.specs.document.Words.{is_event_name as is_event_word, is_raised_name, is_of_attribute};
-ghost use Rattle.smil_model.specs.shown.Answers.{IsName};
+ghost use Rattle.smil_model.specs.shown.Answers.{IsName, IsText};
 ghost use Rattle.smil_script.specs.Gives.{GivesName, other_names};
 
 use smil_lexis::runs;
@@ -66,7 +66,7 @@ fn id(alloc: Global, text: &[u8]) -> Result<Bytes, Refusal>
 
 /// The element that a word names, by its id, or by its serial behind `#`.
 pub fn who(alloc: Global, text: &[u8]) -> Result<Who, Refusal>
-    requires { length text.now ≤ 2_147_483_647 }
+    requires { IsText text.now }
     ensures reading { GivesReading result (ok_or (who_of text.now) NotACommand) }
     ensures name { IfOk result IsName }
 {
