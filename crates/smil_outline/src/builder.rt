@@ -355,10 +355,7 @@ impl Builder {
             Some(next) => next,
             None => count as u32 + 1,
         };
-        match self.copied(next) {
-            Ok(doc) => Ok(doc),
-            Err(_) => Err(Refusal::Memory),
-        }
+        Ok(self.copied(next)?)
     }
 
     // A document of the same nodes.
