@@ -22,9 +22,14 @@ none_left (x ∷ xs) (suc i) e lt = none_left xs i e (omega arith)
 pub counted : (items : List Item) → count_by is_reference items ≡ length (filter is_reference items)
 counted items = sym (length-filter is_reference items)
 
-pub copied_more : (nodes : List Node) (i : ℕ) (node copy : Node) (doc pushed new : Document) → slice_get nodes i ≡ Some node → copy ≡ node → doc.nodes ≡ take i nodes → pushed ≡ with_node doc copy → new ≡ pushed → new.nodes ≡ take (i + 1) nodes
-copied_more nodes i node copy doc pushed new e same so-far more is =
-    ap (λ (d : Document). d.nodes) (is ∙ more) ∙ ap (λ (ns : List Node). ns ++ copy ∷ []) so-far ∙ ap (λ (n : Node). take i nodes ++ n ∷ []) same ∙ sym (taken nodes i node e)
+-- a document of the first nodes, and of one more
+pub copied_more : (all nodes : List Node) (i : ℕ) (d copy : Node) (doc new : Document) → all ≡ nodes → i < length all → copy ≡ get_or all i d → doc.nodes ≡ take i nodes → new ≡ with_node doc copy → new.nodes ≡ take (i + 1) nodes
+copied_more all nodes i d copy doc new same lt is so-far more =
+    ap (λ (d : Document). d.nodes) more
+    ∙ ap (λ (ns : List Node). ns ++ copy ∷ []) (so-far ∙ ap (λ (ns : List Node). take i ns) (sym same))
+    ∙ ap (λ (n : Node). take i all ++ n ∷ []) is
+    ∙ sym (take_more all i d lt)
+    ∙ ap (λ (ns : List Node). take (i + 1) ns) same
 
 -- ---- serials
 

@@ -364,10 +364,8 @@ impl Builder {
         ensures next { IfOk result (λ doc. doc.next ≡ next) }
     {
         let mut doc = Doc::new(self.alloc, next);
-        for place in 0..self.nodes.len() {
-            if let Some(node) = self.nodes.get(place) {
-                doc.push(node.copy()?)?;
-            }
+        for node in self.nodes.slice() {
+            doc.push(node.copy()?)?;
         }
         Ok(doc)
     }

@@ -1,6 +1,6 @@
 //! The nodes of an outline, and what is asked of them at each line.
 
-ghost use Rattle.std.specs.Prelude.{◌≡◌, ◌≤◌, ◌+◌, [], ◌∷◌, ◌++◌, length, unwrap_or, not, ◌==◌, nat_lt, OnOk, OnErr, option_copied, slice_get};
+ghost use Rattle.std.specs.Prelude.{◌≡◌, ◌≤◌, ◌+◌, [], ◌∷◌, ◌++◌, length, unwrap_or, not, ◌==◌, nat_lt, OnOk, OnErr};
 ghost use Rattle.std.specs.List.{list_any};
 ghost use Rattle.smil_model.specs.declared.document.Node.{Node};
 ghost use Rattle.smil_model.specs.document.Valid.{references as all_references, references_among};
@@ -69,11 +69,11 @@ impl Nodes {
         self.nodes.len()
     }
 
-    /// The node at a place from 0.
-    pub fn get(&self, place: usize) -> Option<&Node>
-        ensures { option_copied result ≡ slice_get self.now place }
+    /// All nodes, in order.
+    pub fn slice(&self) -> &[Node]
+        ensures { result.now ≡ self.now }
     {
-        self.nodes.get(place)
+        self.nodes.slice()
     }
 
     /// Whether a node with these attributes leaves at most 32,000 items that are neither offsets
