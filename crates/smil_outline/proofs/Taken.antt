@@ -10,14 +10,6 @@ use Rattle.std.proofs.lemmas.List.{take_more, take_at}
 use Rattle.std.proofs.lemmas.List.Sums.{length-filter}
 use Rattle.std.proofs.lemmas.Option.{slice_get_within, get_or_from_slice_get}
 
-pub taken : {A : Type 0} (xs : List A) (i : ℕ) (x : A) → slice_get xs i ≡ Some x → take (i + 1) xs ≡ take i xs ++ x ∷ []
-taken {A} xs i x e = take_more xs i x (slice_get_within xs i x e) ∙ ap (λ (y : A). take i xs ++ y ∷ []) (get_or_from_slice_get xs i x x e)
-
-pub none_left : {A : Type 0} (xs : List A) (i : ℕ) → slice_get xs i ≡ None → i < length xs → ⊥
-none_left [] i e lt = absurd (omega arith)
-none_left (x ∷ xs) zero e lt = absurd cc
-none_left (x ∷ xs) (suc i) e lt = none_left xs i e (omega arith)
-
 -- items that refer to something
 pub counted : (items : List Item) → count_by is_reference items ≡ length (filter is_reference items)
 counted items = sym (length-filter is_reference items)

@@ -81,10 +81,8 @@ fn put_nodes(doc: &Doc, saved: bool, out: &mut Bytes) -> Result<(), AllocError>
     ensures err { OnErr result (Begins out.old out.new) }
 {
     let mut branch = Branch::new();
-    for place in 0..doc.len() {
-        if let Some(node) = doc.get(place) {
-            put_next(node, &mut branch, saved, out)?;
-        }
+    for node in doc.nodes() {
+        put_next(node, &mut branch, saved, out)?;
     }
     Ok(())
 }
