@@ -192,10 +192,8 @@ fn put_list(items: &Items, out: &mut Bytes) -> Result<(), AllocError>
     ensures ok { OnOk result (out.new ≡ out.old ++ list_text items.now) }
     ensures err { OnErr result (Begins out.old out.new) }
 {
-    for place in 0..items.len() {
-        if let Some(item) = items.get(place) {
-            put_next(place, item, out)?;
-        }
+    for (place, item) in items.slice().iter().enumerate() {
+        put_next(place, item, out)?;
     }
     Ok(())
 }
