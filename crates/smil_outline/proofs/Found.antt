@@ -1,8 +1,12 @@
--- Ids in an ordered set.
-use Rattle.std.proofs.Common.{◌≡◌, ℕ, Bool, true, false, eqb, ◌&&◌, ◌||◌, List, [], ◌∷◌, map, refl, sym, ap, ◌∙◌, arith}
+-- Ids and serials in ordered sets.
+use Rattle.std.proofs.Common.{◌≡◌, ℕ, Bool, true, false, cond, not, eqb, ◌&&◌, ◌||◌, List, [], ◌∷◌, ◌++◌, map, refl, sym, ap, ◌∙◌, arith}
 use Rattle.std.specs.declared.cmp.Ordering.{Ordering}
 use Rattle.std.specs.declared.cmp.Ordering.TheVariants.{Less, Equal, Greater}
-use Rattle.std.specs.Ordering.{nat_cmp, match_ordering}
+use Rattle.std.specs.Ordering.{is_eq, nat_cmp, match_ordering}
+use Rattle.std.specs.Cmp.{unsigned_ties}
+use Rattle.std.proofs.lemmas.Bool.{eqb-true}
+use Rattle.std.proofs.lemmas.List.Folds.{list_any-append}
+use Rattle.smil_model.specs.declared.document.Node.{Node}
 use Rattle.std.specs.Cmp.Lexicographic.{slice_cmp}
 use Rattle.std.specs.List.{list_any}
 use Rattle.std.specs.Str.{bytes_eq}
@@ -10,7 +14,7 @@ use Rattle.std.specs.BTreeMap.{is_at}
 use Rattle.std.specs.BTreeSet.{insert_key}
 use Rattle.std.proofs.lemmas.Map.Text.{is_eq-slice_cmp}
 use Rattle.std.proofs.lemmas.Map.Lookups.{exact_bytes}
-use Rattle.smil_outline.specs.Branches.{has}
+use Rattle.smil_outline.specs.Branches.{has, is_among}
 
 swapped : (xs ys : List ℕ) → bytes_eq xs ys ≡ bytes_eq ys xs
 swapped [] [] = refl
@@ -61,3 +65,71 @@ inserted {V} bytes (x ∷ keys) k id = by_order (inserted bytes keys k id) (slic
     by_order further Greater e =
         ap (λ b. bytes_eq (bytes x) id || b) further
         ∙ regroup (bytes_eq (bytes x) id) (has (map bytes keys) id) (bytes_eq (bytes k) id)
+
+-- ---- serials
+
+same_number : (x y : ℕ) → is_eq (nat_cmp x y) ≡ eqb y x
+same_number x y = sym (unsigned_ties x y) ∙ turned x y
+  where
+    turned : (x y : ℕ) → eqb x y ≡ eqb y x
+    turned x y = grind arith
+
+pub serial_found : (keys : List ℕ) (serial : ℕ) → list_any (is_at (nat_cmp serial)) keys ≡ is_among keys serial
+serial_found [] serial = refl
+serial_found (k ∷ keys) serial =
+    ap (λ b. b || list_any (is_at (nat_cmp serial)) keys) (same_number serial k) ∙ ap (λ b. eqb k serial || b) (serial_found keys serial)
+
+-- what std says of the keys before and after a change of one key, said of serials
+pub serial_in : (old new : List ℕ) (serial : ℕ) → ((q : ℕ) → list_any (is_at (nat_cmp q)) new ≡ cond (is_eq (nat_cmp serial q)) true (list_any (is_at (nat_cmp q)) old)) → (other : ℕ) → is_among new other ≡ (is_among old other || eqb serial other)
+serial_in old new serial updates other =
+    sym (serial_found new other)
+    ∙ updates other
+    ∙ ap (λ b. cond b true (list_any (is_at (nat_cmp other)) old)) (sym (unsigned_ties serial other))
+    ∙ ap (λ b. cond (eqb serial other) true b) (serial_found old other)
+    ∙ either (eqb serial other) (is_among old other)
+  where
+    either : (t b : Bool) → cond t true b ≡ (b || t)
+    either true true = refl
+    either true false = refl
+    either false true = refl
+    either false false = refl
+
+pub serial_out : (old new : List ℕ) (serial : ℕ) → ((q : ℕ) → list_any (is_at (nat_cmp q)) new ≡ cond (is_eq (nat_cmp serial q)) false (list_any (is_at (nat_cmp q)) old)) → (other : ℕ) → is_among new other ≡ (is_among old other && not (eqb serial other))
+serial_out old new serial updates other =
+    sym (serial_found new other)
+    ∙ updates other
+    ∙ ap (λ b. cond b false (list_any (is_at (nat_cmp other)) old)) (sym (unsigned_ties serial other))
+    ∙ ap (λ b. cond (eqb serial other) false b) (serial_found old other)
+    ∙ without (eqb serial other) (is_among old other)
+  where
+    without : (t b : Bool) → cond t false b ≡ (b && not t)
+    without true true = refl
+    without true false = refl
+    without false true = refl
+    without false false = refl
+
+-- a serial that is put in and taken back leaves the serials as they were
+pub serial_back : (old put new : List ℕ) (serial : ℕ) (was : Bool) → was ≡ is_among old serial → ((other : ℕ) → is_among put other ≡ (is_among old other || eqb serial other))
+    → ((other : ℕ) → is_among new other ≡ cond was (is_among put other) (is_among put other && not (eqb serial other))) → (other : ℕ) → is_among new other ≡ is_among old other
+serial_back old put new serial was is there back other =
+    back other ∙ ap (λ b. cond was b (b && not (eqb serial other))) (there other) ∙ by was (eqb serial other) (is_among old other) own
+  where
+    own : eqb serial other ≡ true → is_among old other ≡ was
+    own e = ap (is_among old) (sym (eqb-true serial other e)) ∙ sym is
+
+    by : (was same old : Bool) → (same ≡ true → old ≡ was) → cond was (old || same) ((old || same) && not same) ≡ old
+    by true true true own = refl
+    by true true false own = sym (own refl)
+    by true false true own = refl
+    by true false false own = refl
+    by false true old own = sym (own refl)
+    by false false true own = refl
+    by false false false own = refl
+
+-- one more node has its serial
+pub serial_on : (nodes : List Node) (node : Node) (old new : List ℕ) → ((s : ℕ) → is_among old s ≡ list_any (λ (n : Node). eqb n.serial s) nodes) → ((s : ℕ) → is_among new s ≡ (is_among old s || eqb node.serial s))
+    → (s : ℕ) → is_among new s ≡ list_any (λ (n : Node). eqb n.serial s) (nodes ++ node ∷ [])
+serial_on nodes node old new are more s =
+    more s ∙ ap (λ b. b || eqb node.serial s) (are s)
+    ∙ ap (λ b. list_any (λ (n : Node). eqb n.serial s) nodes || b) (sym (alone (eqb node.serial s)))
+    ∙ sym (list_any-append (λ (n : Node). eqb n.serial s) nodes (node ∷ []))

@@ -8,6 +8,7 @@ mod ids;
 mod nodes;
 mod references;
 mod refusals;
+mod serials;
 mod writer;
 
 pub use again::{

@@ -8,6 +8,7 @@ ghost use Rattle.smil_grammar.specs.Outlines.{has_id as has_id_among};
 
 use super::ids::Ids;
 use super::references::{in_list, references};
+use super::serials::SerialSet;
 use smil_model::listed::Listed;
 use smil_model::{Attrs, Bytes, Node, REFERENCES};
 use std::alloc::{AllocError, Global};
@@ -19,23 +20,20 @@ pub struct Nodes {
     alloc: Global,
     nodes: Listed<Node>,
     ids: Ids,
-    serials: Vec<u32>,
+    serials: SerialSet,
     references: usize,
 }
 
 impl Model for Nodes {
-    ghost use Rattle.std.specs.Prelude.{◌≡◌, ℕ, ◌≤◌, List};
-    ghost use Rattle.smil_model.specs.declared.limits.TheConstants.{REFERENCES};
+    ghost use Rattle.std.specs.Prelude.{List};
     ghost use Rattle.smil_model.specs.declared.document.Node.{Node};
-    ghost use Rattle.smil_model.specs.document.Document.{serials as serials_of};
-    ghost use Rattle.smil_model.specs.document.Valid.{references as all_references};
-    ghost use Rattle.smil_outline.specs.Branches.{has, is_taken};
+    ghost use Rattle.smil_outline.specs.Branches.{IsNoted};
 
     ghost Value = { List Node };
 
     ghost view = { λ a. a.nodes };
 
-    ghost invariant = { λ a. (a.references ≡ all_references a.nodes) × (a.references ≤ REFERENCES) × ((id : List ℕ) → has a.ids id ≡ is_taken a.nodes id) × (a.serials.items ≡ serials_of a.nodes) };
+    ghost invariant = { λ a. IsNoted a.nodes a.ids a.serials a.references };
 }
 
 // A node's id, which is empty where it has none.
@@ -57,7 +55,7 @@ impl Nodes {
             alloc,
             nodes: Listed::new(alloc),
             ids: Ids::new(alloc),
-            serials: Vec::new(alloc),
+            serials: SerialSet::new(alloc),
             references: 0,
         }
     }
@@ -98,15 +96,13 @@ impl Nodes {
     }
 
     /// Whether a node has this serial.
-    #[tactic(auto, using(crate::proofs::Taken::serial_among))]
     pub fn has_serial(&self, serial: u32) -> bool
         ensures { result ≡ list_any (λ (n : Node). n.serial == serial) self.now }
     {
-        self.serials.iter().any(|own| *own == serial)
+        self.serials.has(serial)
     }
 
     /// Appends a node. After a refusal the nodes are as before.
-    #[tactic(auto, using(crate::proofs::Taken::serials_on, crate::proofs::Taken::serials_back))]
     pub fn push(&mut self, node: Node) -> Result<(), AllocError>
         requires light { all_references self.old + references_among node.attrs ≤ REFERENCES }
         ensures ok { OnOk result (self.new ≡ self.old ++ node ∷ []) }
@@ -114,15 +110,17 @@ impl Nodes {
     {
         let more = references(&node.attrs);
         let id = Vec::from_slice(self.alloc, id_of(&node))?;
+        let serial = node.serial;
+        let was_there = self.serials.has(serial);
         let len = self.nodes.len();
-        self.serials.push(node.serial)?;
-        if self.nodes.push(node).is_err() {
-            self.serials.truncate(len);
+        self.nodes.push(node)?;
+        if self.serials.put(serial).is_err() {
+            self.nodes.cut_back(len);
             return Err(AllocError);
         }
         if self.ids.put(id).is_err() {
             self.nodes.cut_back(len);
-            self.serials.truncate(len);
+            self.serials.take_back(serial, was_there);
             return Err(AllocError);
         }
         self.references += more;
