@@ -1,7 +1,6 @@
 -- The course has heard a log entry.
 use Rattle.std.proofs.Common.{◌≡◌, refl, ◌∙◌, ap, ℕ, suc, ◌+◌, List, [], ◌∷◌, ◌++◌, Option, Some, None, ℤ, Bool, true, false, arith, length}
 use Rattle.std.specs.Prelude.{pos, int_le, cond, slice_get}
-use Rattle.std.proofs.lemmas.Int.{ints}
 use Rattle.smil_model.specs.declared.diary.Entry.{Entry}
 use Rattle.smil_model.specs.declared.diary.LogEntry.{LogEntry}
 use Rattle.smil_model.specs.declared.diary.Step.TheVariants.{Logged}
@@ -13,6 +12,7 @@ use Rattle.smil_model.specs.happening.Resolution.{Course, Progress, Reaches, aft
 use Rattle.smil_laws.specs.Agreement.{course_on}
 use Rattle.smil_laws.specs.Courses.{ReachesFurther}
 use Rattle.smil_laws.proofs.Cutting.{one_more}
+use Rattle.smil_model.proofs.Orders.{le_self}
 
 seen : (log : List LogEntry) (entry : LogEntry) → slice_get (log ++ entry ∷ []) (length log) ≡ Some entry
 seen [] entry = refl
@@ -29,11 +29,8 @@ module _ (document : Document) (log : List LogEntry) (now : ℕ) (diary : List E
   then = record { moment = now; heard = suc (length log); diary = diary ++ record { moment = pos now; step = Logged (length log) } ∷ [] }
 
   told : after_settling course at (slice_get (log ++ entry ∷ []) (length log)) ≡ Some then
-  told = ap (λ (x : Option LogEntry). after_settling course at x) (seen log entry) ∙ by_test (int_le entry.moment (pos now)) (ap (λ (z : ℤ). int_le z (pos now)) here ∙ no_less (pos now))
+  told = ap (λ (x : Option LogEntry). after_settling course at x) (seen log entry) ∙ by_test (int_le entry.moment (pos now)) (ap (λ (z : ℤ). int_le z (pos now)) here ∙ le_self (pos now))
     where
-      no_less : (x : ℤ) → int_le x x ≡ true
-      no_less x = grind (arith, ints)
-
       by_test : (b : Bool) → b ≡ true → cond b (Some then) (after_quiet course at) ≡ Some then
       by_test true e = refl
       by_test false e = cc

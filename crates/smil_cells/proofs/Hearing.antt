@@ -3,7 +3,7 @@ use Rattle.std.proofs.Common.{◌≡◌, refl, sym, ◌∙◌, ap, subst, ℕ, s
 use Rattle.std.proofs.Math.Seq.{drop-append_seam, take-append_seam}
 use Rattle.std.proofs.lemmas.List.{take-append-le}
 use Rattle.std.proofs.lemmas.List.Elements.{filter-append}
-use Rattle.std.specs.Prelude.{pos, nat_abs, ◌≤ℤ◌, ◌+ℤ◌, int_le, cond, is_some, not, ◌&&◌}
+use Rattle.std.specs.Prelude.{pos, nat_abs, ◌≤ℤ◌, ◌+ℤ◌, int_le, cond}
 use Rattle.std.proofs.lemmas.Int.{ints}
 use Rattle.smil_model.specs.declared.times.TheConstants.{HORIZON}
 use Rattle.smil_model.specs.declared.limits.TheConstants.{DIARY_ENTRIES}
@@ -31,11 +31,11 @@ use Rattle.smil_laws.proofs.ResolvedSteps.{resolved_lawful}
 use Rattle.smil_diary.specs.declared.fault.BookFault.{BookFault}
 use Rattle.smil_past.specs.Past as past_of
 use Rattle.smil_past.specs.Past.{Happened, IsPresent, MayHear, logged_entry, with_heard}
-use Rattle.smil_cells.specs.Standing.{Standing, IsFront, IsHeard, IsRefusing, NothingBefore, WhereTold, fresh, fresh_since, with_logged, is_same_interval}
+use Rattle.smil_cells.specs.Standing.{Standing, IsFront, IsHeard, IsRefusing, NothingBefore, WhereTold, fresh, fresh_since, with_logged}
 use Rattle.smil_cells.specs.Standings.{IsKept, IsSound, WhereMarked, marked_by, standing_of}
 use Rattle.smil_cells.proofs.Heard.{reached_heard}
 use Rattle.smil_cells.proofs.Heeded.{log_with, logged_one}
-use Rattle.smil_cells.proofs.OnWay.{untouched}
+use Rattle.smil_cells.proofs.OnWay.{untouched, is_fresh}
 use Rattle.smil_model.proofs.Orders.{le_self, le_from}
 use Rattle.smil_element.specs.Comings.{coming_stays}
 
@@ -237,9 +237,6 @@ module _ (past : Happened) (m : ℤ) (entry : LogEntry) (fault : Option BookFaul
 
           pub came_heard : (new : Happened) → new ≡ later → Stays new → Shown new → Changed new → Came new
           came_heard new is = subst (λ (x : Happened). Stays x → Shown x → Changed x → Came x) (sym is) came
-
-      abbrev is_fresh : Option Interval → Option Interval → Bool
-      is_fresh x y = is_some y && not (is_same_interval x y)
 
       -- what differs from what it was before differs from what it was by the longer log
       fresh_same : (a b c : ℕ → Option Interval) → ((s : ℕ) → a s ≡ b s) → (es : List Node) → length (filter (λ (e : Node). is_fresh (a e.serial) (c e.serial)) es) ≡ length (filter (λ (e : Node). is_fresh (b e.serial) (c e.serial)) es)

@@ -74,7 +74,7 @@ same_is (Some i) (Some j) e =
     (le_exact i.begin j.begin (and_parts (int_le i.begin j.begin) (int_le j.begin i.begin) b).0 (and_parts (int_le i.begin j.begin) (int_le j.begin i.begin) b).1)
     (time_exact i.«end» j.«end» (and_parts (time_le i.«end» j.«end») (time_le j.«end» i.«end») l).0 (and_parts (time_le i.«end» j.«end») (time_le j.«end» i.«end») l).1))
 
-abbrev is_fresh : Option Interval → Option Interval → Bool
+abbrev pub is_fresh : Option Interval → Option Interval → Bool
 is_fresh x y = is_some y && not (is_same_interval x y)
 
 fresh_there : (x y z : Option Interval) → is_fresh x z ≡ true → is_fresh x y ≡ false → is_fresh y z ≡ true
