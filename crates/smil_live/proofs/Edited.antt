@@ -1,6 +1,6 @@
 -- What an edited presentation comes to.
 use Rattle.std.proofs.Common.{◌≡◌, ℕ, ℤ, ◌≤◌, List, [], ◌∷◌, ◌++◌, length, take, drop, Bool, true, false, not, cond, Some, Result, Ok, Err, inl, inr, refl, sym, ap, ◌∙◌, subst, append_assoc, arith}
-use Rattle.std.specs.Prelude.{pos, flat_map, map, filter, is_some, IsSome, IfOk, IfErr, OnOk}
+use Rattle.std.specs.Prelude.{pos, flat_map, map, filter, is_some, is_err, IsSome, IfOk, IfErr, OnErr, OnOk}
 use Rattle.std.specs.List.{AllByRecursion}
 use Rattle.std.proofs.Math.Seq.{drop-append_seam}
 use Rattle.std.proofs.lemmas.List.{length-take}
@@ -119,6 +119,11 @@ edited_on_ok (Ok x) p q d s old new is same said = record {
 }
 
 -- ---- a text that is cut back
+
+-- where a call has failed
+pub where_err : {A E : Type 0} (r : Result A E) (P : Type 0) → is_err r ≡ true → OnErr r P → P
+where_err (Ok x) P q h = cc
+where_err (Err e) P q h = h
 
 pub begins_long : (old new : List ℕ) (len : ℕ) → len ≡ length old → Begins old new → len ≤ length new
 begins_long old new len is begins = omega (arith, is, ap length begins, length-take (length old) new)

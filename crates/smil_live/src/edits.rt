@@ -277,12 +277,9 @@ impl<T: Table> Playing<T> {
         ensures kept { OnErr result (self.new ≡ self.old) }
         ensures text { OnErr result (out.new ≡ out.old) }
     {
-        let seen = match ViewTable::of(self.alloc, cells) {
-            Ok(seen) => seen,
-            Err(_) => return Err(Refusal::Memory),
-        };
+        let seen = ViewTable::of(self.alloc, cells)?;
         let len = out.len();
-        if let Err(_) = self.put_edited(cells, &seen, out) {
+        if self.put_edited(cells, &seen, out).is_err() {
             out.cut_back(len);
             return Err(Refusal::Memory);
         }

@@ -300,16 +300,13 @@ fn put_first<T: Table>(
     ensures refused { IfErr result (λ refusal. refusal ≡ Refusal.Memory) }
     ensures text { OnErr result (out.new ≡ out.old) }
 {
-    let seen = match ViewTable::of(alloc, cells) {
-        Ok(seen) => seen,
-        Err(_) => return Err(Refusal::Memory),
-    };
+    let seen = ViewTable::of(alloc, cells)?;
     let len = out.len();
     let scene = Scene {
         tree: cells.tree(),
         moment: 0,
     };
-    if let Err(_) = put_differences(scene, &ViewTable::none(alloc), &seen, out) {
+    if put_differences(scene, &ViewTable::none(alloc), &seen, out).is_err() {
         out.cut_back(len);
         return Err(Refusal::Memory);
     }
