@@ -65,10 +65,7 @@ impl<T: Table> Playing<T> {
         match order {
             Order::History { who } => self.put_history_of(who, out),
             Order::Stack { who, attr } => self.put_stack(who, attr, out),
-            _ => match self.put_plain(order, out) {
-                Ok(()) => Ok(()),
-                Err(_) => Err(Refusal::Memory),
-            },
+            _ => Ok(self.put_plain(order, out)?),
         }
     }
 
@@ -129,13 +126,8 @@ impl<T: Table> Playing<T> {
         ensures refused { IfErr result (Refuses formats self.now (order.History who.now)) }
         ensures begins { Begins out.old out.new }
     {
-        match self.element(who) {
-            Ok(serial) => match self.put_history_at(serial, out) {
-                Ok(()) => Ok(()),
-                Err(_) => Err(Refusal::Memory),
-            },
-            Err(refusal) => Err(refusal),
-        }
+        let serial = self.element(who)?;
+        Ok(self.put_history_at(serial, out)?)
     }
 
     // Appends the intervals of an element.
@@ -175,13 +167,8 @@ impl<T: Table> Playing<T> {
         ensures refused { IfErr result (Refuses formats self.now (order.Stack who.now attr.now)) }
         ensures begins { Begins out.old out.new }
     {
-        match self.node(who) {
-            Ok(target) => match self.put_stack_at(target, attr, out) {
-                Ok(()) => Ok(()),
-                Err(_) => Err(Refusal::Memory),
-            },
-            Err(refusal) => Err(refusal),
-        }
+        let target = self.node(who)?;
+        Ok(self.put_stack_at(target, attr, out)?)
     }
 
     // Appends the sets of an attribute of a node, from the top of their stack down.

@@ -5,10 +5,10 @@ use Rattle.smil_live.proofs.Answering.{is_named}
 use Rattle.smil_live.proofs.playing.Playing.put_history_of.Goals as goal
 
 pub put_history_at-requires : goal.put_history_at-requires
-put_history_at-requires g c = let n = c.in-Ok.ensures.ok in (c.args.who.now, n.0, n.1, n.2)
+put_history_at-requires g c = let n = c.in_ok-serial.ensures.ok in (c.args.who.now, n.0, n.1, n.2)
 
-pub returns-in-Ok-put_history_at-clause-told : goal.returns-in-Ok-put_history_at-clause-told
-returns-in-Ok-put_history_at-clause-told g c =
-    let n = c.in-Ok.ensures.ok in
-    c.in-Ok-put_history_at.ensures.told c.args.who.now n.0 n.1 n.2
+pub returns-clause-told : goal.returns-clause-told
+returns-clause-told g c =
+    let n = c.in_ok-serial.ensures.ok in
+    c.in_ok-put_history_at.ensures.told c.args.who.now n.0 n.1 n.2
     ∙ ap (λ (o : Option AnyNode). c.args.out.now ++ history_text c.args.self.now o) (sym (is_named c.args.self.now c.args.who.now n.0 n.1).named)
