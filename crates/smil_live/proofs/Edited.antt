@@ -93,6 +93,10 @@ pub on_ok_always : {T E P : Type 0} (r : Result T E) → P → OnOk r P
 on_ok_always (Ok x) h = h
 on_ok_always (Err e) h = tt
 
+pub on_err_always : {T E P : Type 0} (r : Result T E) → P → OnErr r P
+on_err_always (Ok x) h = tt
+on_err_always (Err e) h = h
+
 pub plays : (q : Presentation) (s : Standing) (shown : Shown) → IsState q → IsReplayed q s → shown ≡ record { views = views_at s; before = views_at s } → IsPlaying s shown
 plays q s shown state is seen = record {
   shown_is = record {

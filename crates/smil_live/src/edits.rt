@@ -66,13 +66,9 @@ impl<T: Table> Playing<T> {
             setting.entry.value.text.now setting.entry.attr.column setting.entry.value.column)
             result (steps.new - steps.old) }
     {
-        match self.set_copy(who, setting) {
-            Ok(edited) => {
-                let site = self.site(who);
-                self.take_edited(&edited, site, out, steps)
-            }
-            Err(refusal) => Err(refusal),
-        }
+        let edited = self.set_copy(who, setting)?;
+        let site = self.site(who);
+        self.take_edited(&edited, site, out, steps)
     }
 
     /// Takes an attribute of a node away. The refusals are those of the node, of the name, and that
@@ -98,13 +94,9 @@ impl<T: Table> Playing<T> {
             (order.Unset who.now attr.entry.text.now attr.entry.column) result
             (steps.new - steps.old) }
     {
-        match self.unset_copy(who, attr) {
-            Ok(edited) => {
-                let site = self.site(who);
-                self.take_edited(&edited, site, out, steps)
-            }
-            Err(refusal) => Err(refusal),
-        }
+        let edited = self.unset_copy(who, attr)?;
+        let site = self.site(who);
+        self.take_edited(&edited, site, out, steps)
     }
 
     /// Inserts a node into another at a place. The refusals are those of the parent, of the line's
@@ -130,10 +122,8 @@ impl<T: Table> Playing<T> {
         ensures bounded { IsBounded T.counts self.old (order.Insert who.now child.entry.place
             child.entry.line.text.now child.entry.line.column) result (steps.new - steps.old) }
     {
-        match self.insert_copy(who, child) {
-            Ok(edited) => self.take_edited(&edited, Site::New, out, steps),
-            Err(refusal) => Err(refusal),
-        }
+        let edited = self.insert_copy(who, child)?;
+        self.take_edited(&edited, Site::New, out, steps)
     }
 
     /// Removes a node with all below it. The refusals are those of the node, `Root`, and that of a
@@ -155,13 +145,9 @@ impl<T: Table> Playing<T> {
         ensures bounded { IsBounded T.counts self.old (order.Remove who.now) result
             (steps.new - steps.old) }
     {
-        match self.remove_copy(who) {
-            Ok(edited) => {
-                let site = self.site(who);
-                self.take_edited(&edited, site, out, steps)
-            }
-            Err(refusal) => Err(refusal),
-        }
+        let edited = self.remove_copy(who)?;
+        let site = self.site(who);
+        self.take_edited(&edited, site, out, steps)
     }
 
     // The document with an attribute of a node set.
@@ -177,10 +163,8 @@ impl<T: Table> Playing<T> {
     {
         let tree = self.watched.cells.tree();
         tree.valid();
-        match self.node(who) {
-            Ok(serial) => with_value(self.alloc, tree, serial, setting),
-            Err(refusal) => Err(refusal),
-        }
+        let serial = self.node(who)?;
+        with_value(self.alloc, tree, serial, setting)
     }
 
     // The document with an attribute of a node absent.
@@ -193,10 +177,8 @@ impl<T: Table> Playing<T> {
     {
         let tree = self.watched.cells.tree();
         tree.valid();
-        match self.node(who) {
-            Ok(serial) => without_name(tree, serial, attr),
-            Err(refusal) => Err(refusal),
-        }
+        let serial = self.node(who)?;
+        without_name(tree, serial, attr)
     }
 
     // The document with one more node.
@@ -211,10 +193,8 @@ impl<T: Table> Playing<T> {
     {
         let tree = self.watched.cells.tree();
         tree.valid();
-        match self.node(who) {
-            Ok(parent) => with_child(self.alloc, tree, parent, child),
-            Err(refusal) => Err(refusal),
-        }
+        let parent = self.node(who)?;
+        with_child(self.alloc, tree, parent, child)
     }
 
     // The document without a node and all below it.
@@ -224,10 +204,8 @@ impl<T: Table> Playing<T> {
     {
         let tree = self.watched.cells.tree();
         tree.valid();
-        match self.node(who) {
-            Ok(serial) => without_node(tree, serial),
-            Err(refusal) => Err(refusal),
-        }
+        let serial = self.node(who)?;
+        without_node(tree, serial)
     }
 
     // The node that an order names, as the site of an edit; 0, which is no node's serial, where
@@ -259,10 +237,8 @@ impl<T: Table> Playing<T> {
         ensures most { OnOk result (WhereTold T.counts
             (steps.new - steps.old ≤ most_resolving self.old site edited.now)) }
     {
-        match self.edited_cells(edited, site, steps) {
-            Ok(mut cells) => self.take_over(&mut cells, out),
-            Err(refusal) => Err(refusal),
-        }
+        let mut cells = self.edited_cells(edited, site, steps)?;
+        self.take_over(&mut cells, out)
     }
 
     // Tells what is gone by other cells and what has changed, and goes on with those, which the old
@@ -367,9 +343,7 @@ impl<T: Table> Playing<T> {
             tree: self.watched.cells.tree(),
             moment: now,
         };
-        if let Err(fault) = put_all_gone(before, cells.tree(), out) {
-            return Err(fault);
-        }
+        put_all_gone(before, cells.tree(), out)?;
         let after = Scene {
             tree: cells.tree(),
             moment: now,
