@@ -56,9 +56,7 @@ impl<T: Table> Playing<T> {
         if to > HORIZON {
             return Err(Refusal::BeyondHorizon);
         }
-        if let Err(refusal) = self.go(Move::Pass(to), out, steps) {
-            return Err(refusal);
-        }
+        self.go(Move::Pass(to), out, steps)?;
         self.settled();
         Ok(())
     }
@@ -85,9 +83,7 @@ impl<T: Table> Playing<T> {
         if to < self.watched.cells.moment() {
             return self.seek_back(to, out, steps);
         }
-        if let Err(refusal) = self.go(Move::Settle(to), out, steps) {
-            return Err(refusal);
-        }
+        self.go(Move::Settle(to), out, steps)?;
         self.settled();
         Ok(())
     }
@@ -113,10 +109,8 @@ impl<T: Table> Playing<T> {
             (steps.new - steps.old) }
     {
         self.settled();
-        match self.made_at(to, steps) {
-            Ok(mut cells) => self.take_over(&mut cells, out),
-            Err(refusal) => Err(refusal),
-        }
+        let mut cells = self.made_at(to, steps)?;
+        self.take_over(&mut cells, out)
     }
 
     // The cells of an earlier moment, rebuilt from the diary up to it.
@@ -218,9 +212,7 @@ impl<T: Table> Playing<T> {
         }
         let moment = self.watched.cells.moment();
         let entry = LogEntry { moment, what };
-        if let Err(refusal) = self.go(Move::Hear(entry), out, steps) {
-            return Err(refusal);
-        }
+        self.go(Move::Hear(entry), out, steps)?;
         self.settled();
         Ok(())
     }

@@ -21,16 +21,16 @@ returns-clause-ok g c =
     let below = c.if-len-ge-LOG_ENTRIES.false in
     let room : length p.log < LOG_ENTRIES = omega (arith, long, below) in
     heard_as p q what c.args.out.now c.go.new.out room
-    (subst (λ (m : ℤ). q ≡ with_logged p (record { moment = m; what = what })) there c.in_default.ensures.state)
+    (subst (λ (m : ℤ). q ≡ with_logged p (record { moment = m; what = what })) there c.in_ok-go.ensures.state)
     c.settled.ensures.diary
-    (subst (λ (m : ℤ). c.go.new.out ≡ c.args.out.now ++ text_of p (changes_between p (with_logged p (record { moment = m; what = what })))) there c.in_default.ensures.told)
+    (subst (λ (m : ℤ). c.go.new.out ≡ c.args.out.now ++ text_of p (changes_between p (with_logged p (record { moment = m; what = what })))) there c.in_ok-go.ensures.told)
 
 pub returns-clause-most : goal.returns-clause-most
 returns-clause-most g c =
     let rise = c.go.new.steps - c.args.steps.now in
-    subst (λ (q : Presentation). WhereTold g.T.Table.counts (rise ≤ most_onward c.args.self.now q)) (sym c.in_default.ensures.state) c.in_default.ensures.most
+    subst (λ (q : Presentation). WhereTold g.T.Table.counts (rise ≤ most_onward c.args.self.now q)) (sym c.in_ok-go.ensures.state) c.in_ok-go.ensures.most
 
 pub returns-clause-least : goal.returns-clause-least
 returns-clause-least g c =
     let rise = c.go.new.steps - c.args.steps.now in
-    subst (λ (q : Presentation). WhereTold g.T.Table.counts (least_onward c.args.self.now q ≤ rise)) (sym c.in_default.ensures.state) c.in_default.ensures.least
+    subst (λ (q : Presentation). WhereTold g.T.Table.counts (least_onward c.args.self.now q ≤ rise)) (sym c.in_ok-go.ensures.state) c.in_ok-go.ensures.least
