@@ -14,7 +14,6 @@ ghost use Rattle.smil_cells.specs.Standing.{IsRebuilt, IsSettled, MayRebuild, St
 ghost use Rattle.smil_live.specs.Counts.{least_loading, most_loading, reached_behind};
 ghost use Rattle.smil_live.specs.Moves.{IsReplayed, IsTooFull, IsUnderWay, edited_to, heard_at, replay_of, sought_of};
 
-use super::faults::refused_book;
 use smil_cells::{Cells, Table};
 use smil_diary::Book;
 use smil_model::{Doc, Duplicate, LOG_ENTRIES, Log, LogEntry, Refusal, StepKind, Steps};
@@ -55,10 +54,8 @@ pub fn replayed<T: Table, L: Ledger>(
         ≤ steps.new - steps.old)) }
 {
     let mut cells = Cells::<T>::new(alloc, doc, steps)?;
-    match replay_on(&mut cells, replay, steps) {
-        Ok(()) => Ok(cells),
-        Err(refusal) => Err(refusal),
-    }
+    replay_on(&mut cells, replay, steps)?;
+    Ok(cells)
 }
 
 /// The cells of an earlier moment, rebuilt from the part of the diary up to it. The cells are
@@ -83,10 +80,8 @@ pub fn cells_at<T: Table, L: Ledger>(
     let doc = cells.tree().doc_copy()?;
     let len = diary_until(cells.book(), to);
     let mut earlier = cells.rebuilt(&doc, len, steps)?;
-    match earlier.settle(to, steps) {
-        Ok(()) => Ok(earlier),
-        Err(fault) => Err(refused_book(fault)),
-    }
+    earlier.settle(to, steps)?;
+    Ok(earlier)
 }
 
 /// The cells of another document with the same log at the same moment, rebuilt from the first
@@ -117,10 +112,8 @@ pub fn cells_with<T: Table, L: Ledger>(
         to: cells.moment(),
     };
     let mut rebuilt = cells.rebuilt(doc, len, steps)?;
-    match replay_on(&mut rebuilt, replay, steps) {
-        Ok(()) => Ok(rebuilt),
-        Err(refusal) => Err(refusal),
-    }
+    replay_on(&mut rebuilt, replay, steps)?;
+    Ok(rebuilt)
 }
 
 /// Hears the entries of a log that cells have not heard yet at their moments, and settles up to a
@@ -148,14 +141,9 @@ pub fn replay_on<T: Table, L: Ledger>(
 {
     for place in cells.log().len()..replay.len {
         let entry = replay.log.get(place).unwrap();
-        if let Err(refusal) = hear_again(cells, entry, steps) {
-            return Err(refusal);
-        }
+        hear_again(cells, entry, steps)?;
     }
-    match cells.settle(replay.to, steps) {
-        Ok(()) => Ok(()),
-        Err(fault) => Err(refused_book(fault)),
-    }
+    Ok(cells.settle(replay.to, steps)?)
 }
 
 // Settles up to the moment of a log entry, and hears it. `Memory` also where the log has as many
@@ -187,13 +175,8 @@ fn hear_again<T: Table, L: Ledger>(
         return Err(Refusal::Memory);
     }
     let again = entry.copy()?;
-    if let Err(fault) = cells.settle(again.moment, steps) {
-        return Err(refused_book(fault));
-    }
-    match cells.hear(again, steps) {
-        Ok(()) => Ok(()),
-        Err(fault) => Err(refused_book(fault)),
-    }
+    cells.settle(again.moment, steps)?;
+    Ok(cells.hear(again, steps)?)
 }
 
 /// How many entries of a diary, which stand in the order of their moments, are not later than a

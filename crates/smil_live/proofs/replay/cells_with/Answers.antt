@@ -4,6 +4,7 @@ use Rattle.std.proofs.lemmas.List.{length-take-le}
 use Rattle.smil_model.specs.declared.diary.Entry.{Entry}
 use Rattle.smil_model.specs.document.Document.{elements}
 use Rattle.smil_model.specs.shown.Orders.{IsState, Presentation}
+use Rattle.smil_tree.proofs.Results.{on_err}
 use Rattle.smil_live.specs.Moves.{IsReplayed, IsTooFull, IsUnderWay, edited_to}
 use Rattle.smil_live.proofs.RebuiltCells.{moment_kept, replay_is}
 use Rattle.smil_live.proofs.RebuiltCounts.{most_rebuilt}
@@ -38,34 +39,36 @@ replay_on-requires-clause-from g c =
 pub replay_on-requires-clause-within : goal.replay_on-requires-clause-within
 replay_on-requires-clause-within g c = omega (arith, c.len.ensures)
 
-pub returns-in-Ok-clause-ok : goal.returns-in-Ok-clause-ok
-returns-in-Ok-clause-ok g c =
+pub returns-clause-ok : goal.returns-clause-ok
+returns-clause-ok g c =
     let p = c.args.cells.now.presentation in
     let doc = c.args.doc.now in
     let t = c.in_ok-rebuilt.rebuilt in
     let now = moment_kept (edited_to p doc) c.moment.result c.requires.state c.moment.ensures in
     subst (λ (q : Presentation). IsReplayed q c.replay_on.new.cells)
     (replay_is p t.presentation.document doc c.log-log.result.now c.len.result (to_z w64 (of_z w64 c.moment.result)) c.in_ok-rebuilt.ensures.rebuilt.document_is c.log-log.ensures c.len.ensures now)
-    c.in-Ok.ensures.ok
+    c.in_ok-replay_on.ensures.ok
 
-pub returns-in-Err-clause-refused : goal.returns-in-Err-clause-refused
-returns-in-Err-clause-refused g c =
+pub returns-in_err-replay_on-clause-refused : goal.returns-in_err-replay_on-clause-refused
+returns-in_err-replay_on-clause-refused g c =
     let p = c.args.cells.now.presentation in
     let doc = c.args.doc.now in
     let t = c.in_ok-rebuilt.rebuilt in
     let now = moment_kept (edited_to p doc) c.moment.result c.requires.state c.moment.ensures in
-    subst (λ (q : Presentation). IsTooFull q c.in-Err.refusal)
+    let given = c.in_err-replay_on.field-0.0 in
+    on_err (IsTooFull (edited_to p doc)) c.from_residual-in_err-replay_on.result given c.from_residual-in_err-replay_on.ensures.1
+    (subst (λ (q : Presentation). IsTooFull q given)
     (replay_is p t.presentation.document doc c.log-log.result.now c.len.result (to_z w64 (of_z w64 c.moment.result)) c.in_ok-rebuilt.ensures.rebuilt.document_is c.log-log.ensures c.len.ensures now)
-    c.in-Err.ensures.refused
+    c.in_err-replay_on.ensures.refused)
 
-pub returns-in-Ok-clause-most : goal.returns-in-Ok-clause-most
-returns-in-Ok-clause-most g c =
+pub returns-clause-most : goal.returns-clause-most
+returns-clause-most g c =
     let p = c.args.cells.now.presentation in
     let doc = c.args.doc.now in
     let t = c.in_ok-rebuilt.rebuilt in
     let now = moment_kept (edited_to p doc) c.moment.result c.requires.state c.moment.ensures in
     let ok = subst (λ (q : Presentation). IsReplayed q c.replay_on.new.cells)
     (replay_is p t.presentation.document doc c.log-log.result.now c.len.result (to_z w64 (of_z w64 c.moment.result)) c.in_ok-rebuilt.ensures.rebuilt.document_is c.log-log.ensures c.len.ensures now)
-    c.in-Ok.ensures.ok in
+    c.in_ok-replay_on.ensures.ok in
     most_rebuilt g.T.Table.counts (edited_to p doc) t c.replay_on.new.cells c.args.len (length (elements doc.nodes)) c.args.steps.now c.rebuilt.new.steps c.replay_on.new.steps ok c.in_ok-rebuilt.ensures.rebuilt.document_is
-    (ap (λ (l : List Entry). length l) c.in_ok-rebuilt.ensures.rebuilt.diary_is ∙ length-take-le c.args.len c.args.cells.now.diary c.requires.rebuild.within) refl c.rebuilt.ensures.counted c.replay_on.ensures.counted c.rebuilt.ensures.most c.in-Ok.ensures.most
+    (ap (λ (l : List Entry). length l) c.in_ok-rebuilt.ensures.rebuilt.diary_is ∙ length-take-le c.args.len c.args.cells.now.diary c.requires.rebuild.within) refl c.rebuilt.ensures.counted c.replay_on.ensures.counted c.rebuilt.ensures.most c.in_ok-replay_on.ensures.most
