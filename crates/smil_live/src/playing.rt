@@ -89,10 +89,8 @@ impl<T: Table> Playing<T> {
             len: 0,
             to: 0,
         };
-        match replayed(alloc, &doc, replay, steps) {
-            Ok(cells) => Playing::over(alloc, cells, out),
-            Err(refusal) => Err(refusal),
-        }
+        let cells = replayed(alloc, &doc, replay, steps)?;
+        Playing::over(alloc, cells, out)
     }
 
     // A presentation over cells that are settled at moment 0, with the lines of what is shown of
@@ -106,13 +104,11 @@ impl<T: Table> Playing<T> {
         ensures refused { IfErr result (λ refusal. refusal ≡ Refusal.Memory) }
         ensures text { OnErr result (out.new ≡ out.old) }
     {
-        match put_first(alloc, &cells, out) {
-            Ok(seen) => Ok(Playing {
-                watched: Watched { cells, seen },
-                alloc,
-            }),
-            Err(refusal) => Err(refusal),
-        }
+        let seen = put_first(alloc, &cells, out)?;
+        Ok(Playing {
+            watched: Watched { cells, seen },
+            alloc,
+        })
     }
 
     /// The serial of a node. `NoElement` where there is no such node.

@@ -11,7 +11,6 @@ ghost use Rattle.smil_live.specs.Moves.{IsFirstDue, IsShownAt, IsTooFull, MayMov
 ghost use Rattle.smil_live.specs.ViewTable.{has_view, view_now, with_view};
 ghost use Rattle.smil_live.specs.Told.{lines_between};
 
-use super::faults::refused_book;
 use super::lines::{Scene, put_view};
 use super::moves::Move;
 use super::view_table::{ViewTable, view_in};
@@ -92,9 +91,7 @@ impl<T: Table> Watched<T> {
             (fresh_since self.old.cells self.new.cells ≤ steps.new - steps.old)) }
     {
         while let Some(due) = due_by(&self.cells, to) {
-            if let Err(refusal) = self.settle_once(due, out, steps) {
-                return Err(refusal);
-            }
+            self.settle_once(due, out, steps)?;
         }
         self.settle_once(to, out, steps)
     }
@@ -124,10 +121,8 @@ impl<T: Table> Watched<T> {
         ensures least { OnOk result (WhereTold T.counts
             (fresh_since self.old.cells self.new.cells ≤ steps.new - steps.old)) }
     {
-        match self.cells.settle(to, steps) {
-            Ok(()) => put_touched(&self.cells, &mut self.seen, out),
-            Err(fault) => Err(refused_book(fault)),
-        }
+        self.cells.settle(to, steps)?;
+        put_touched(&self.cells, &mut self.seen, out)
     }
 
     // Takes in a log entry, and tells what is different behind it.
@@ -154,10 +149,8 @@ impl<T: Table> Watched<T> {
         ensures least { OnOk result (WhereTold T.counts
             (fresh_since self.old.cells self.new.cells ≤ steps.new - steps.old)) }
     {
-        match self.cells.hear(entry, steps) {
-            Ok(()) => put_touched(&self.cells, &mut self.seen, out),
-            Err(fault) => Err(refused_book(fault)),
-        }
+        self.cells.hear(entry, steps)?;
+        put_touched(&self.cells, &mut self.seen, out)
     }
 }
 

@@ -4,6 +4,7 @@ use Rattle.std.proofs.lemmas.Int.{ints, to_z-of_z}
 use Rattle.std.proofs.lemmas.Result.{on_ok_weaker}
 use Rattle.smil_model.specs.declared.times.TheConstants.{HORIZON}
 use Rattle.smil_model.specs.shown.Orders.{changes_between, changes_through}
+use Rattle.smil_tree.proofs.Results.{on_err}
 use Rattle.smil_outline.proofs.Walks.{begins_by, begins_itself}
 use Rattle.smil_cells.specs.Standing.{moved_to}
 use Rattle.smil_live.specs.Moves.{IsShownAt, IsTooFull, text_of}
@@ -41,8 +42,8 @@ settle_once-requires-clause-may g c =
     let within = not_above due (to_z w64 (of_z w64 c.args.to)) HORIZON c.in-Some.ensures.within v.2 in
     subst (λ (x : ℤ). (pos s.presentation.now ≤ℤ x) × (x ≤ℤ HORIZON)) (sym (to_z-of_z w64 due (fits s.presentation.now due from within))) (from, within)
 
-pub returns-in-Err-clause-refused : goal.returns-in-Err-clause-refused
-returns-in-Err-clause-refused g c =
+pub returns-in_err-settle_once-clause-refused : goal.returns-in_err-settle_once-clause-refused
+returns-in_err-settle_once-clause-refused g c =
     let v = c.loop-due.invariant in
     let p = c.args.self.now.cells.presentation in
     let s = c.loop-due.self.cells in
@@ -50,9 +51,11 @@ returns-in-Err-clause-refused g c =
     let to = to_z w64 (of_z w64 c.args.to) in
     let from = due_from p c.args.out.now to s c.loop-due.self.seen c.loop-due.out v.0 due c.in-Some.ensures.first in
     let whole = to_z-of_z w64 due (fits s.presentation.now due from (not_above due to HORIZON c.in-Some.ensures.within v.2)) in
-    subst (λ (x : ℤ). IsTooFull (moved_to p (nat_abs x)) c.in-Err.refusal) (to_z-of_z w64 c.args.to c.ranges.to)
-    (too_full_then p c.args.out.now to s c.loop-due.self.seen c.loop-due.out v.0 due c.in-Some.ensures.first c.in-Some.ensures.within c.in-Err.refusal
-    (subst (λ (x : ℤ). IsTooFull (moved_to s.presentation (nat_abs x)) c.in-Err.refusal) whole c.in-Err.ensures.refused))
+    let given = c.in_err-settle_once.field-0.0 in
+    on_err (IsTooFull (moved_to p (nat_abs c.args.to))) c.from_residual.result given c.from_residual.ensures.1
+    (subst (λ (x : ℤ). IsTooFull (moved_to p (nat_abs x)) given) (to_z-of_z w64 c.args.to c.ranges.to)
+    (too_full_then p c.args.out.now to s c.loop-due.self.seen c.loop-due.out v.0 due c.in-Some.ensures.first c.in-Some.ensures.within given
+    (subst (λ (x : ℤ). IsTooFull (moved_to s.presentation (nat_abs x)) given) whole c.in_err-settle_once.ensures.refused)))
 
 pub loop-due-smaller : goal.loop-due-smaller
 loop-due-smaller g c =
@@ -63,7 +66,7 @@ loop-due-smaller g c =
     let to = to_z w64 (of_z w64 c.args.to) in
     let from = due_from p c.args.out.now to s c.loop-due.self.seen c.loop-due.out v.0 due c.in-Some.ensures.first in
     let whole = to_z-of_z w64 due (fits s.presentation.now due from (not_above due to HORIZON c.in-Some.ensures.within v.2)) in
-    let e = c.in_default-settle_once.ensures in
+    let e = c.in_ok-settle_once.ensures in
     comes_nearer p c.args.out.now to s c.loop-due.self.seen c.loop-due.out v.0 due c.in-Some.ensures.first c.in-Some.ensures.within c.settle_once.new.self.cells c.settle_once.new.self.seen c.settle_once.new.out
     (subst (λ (x : ℤ). IsShownAt (moved_to s.presentation (nat_abs x)) c.settle_once.new.self.cells c.settle_once.new.self.seen) whole e.ok)
     (subst (λ (x : ℤ). c.settle_once.new.out ≡ c.loop-due.out ++ text_of s.presentation (changes_between s.presentation (moved_to s.presentation (nat_abs x)))) whole e.told)
@@ -77,7 +80,7 @@ loop-due-preserved g c =
     let to = to_z w64 (of_z w64 c.args.to) in
     let from = due_from p c.args.out.now to s c.loop-due.self.seen c.loop-due.out v.0 due c.in-Some.ensures.first in
     let whole = to_z-of_z w64 due (fits s.presentation.now due from (not_above due to HORIZON c.in-Some.ensures.within v.2)) in
-    let e = c.in_default-settle_once.ensures in (
+    let e = c.in_ok-settle_once.ensures in (
       passes_on p c.args.out.now to s c.loop-due.self.seen c.loop-due.out v.0 due c.in-Some.ensures.first c.in-Some.ensures.within c.settle_once.new.self.cells c.settle_once.new.self.seen c.settle_once.new.out
           (subst (λ (x : ℤ). IsShownAt (moved_to s.presentation (nat_abs x)) c.settle_once.new.self.cells c.settle_once.new.self.seen) whole e.ok)
           (subst (λ (x : ℤ). c.settle_once.new.out ≡ c.loop-due.out ++ text_of s.presentation (changes_between s.presentation (moved_to s.presentation (nat_abs x)))) whole e.told),
