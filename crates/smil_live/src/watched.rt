@@ -186,9 +186,7 @@ fn put_touched<T: Table>(
     ensures begins { Begins out.old out.new }
 {
     for serial in cells.touched().slice() {
-        if put_one(cells, seen, *serial, out).is_err() {
-            return Err(Refusal::Memory);
-        }
+        put_one(cells, seen, *serial, out)?;
     }
     Ok(())
 }

@@ -4,7 +4,7 @@ use Rattle.smil_model.specs.document.Document.{elements, node_at}
 use Rattle.smil_model.specs.shown.Views.{blank}
 use Rattle.smil_tree.proofs.Changed.{serial_of as own_serial}
 use Rattle.smil_live.specs.ViewTable.{has_view, view_now}
-use Rattle.smil_live.proofs.TouchedViews.{is_from, known_next, left_first, told_end, told_last, touched_length, touched_views, turn, views_end, views_last, way_begins, way_on, where_not_err}
+use Rattle.smil_live.proofs.TouchedViews.{is_from, known_next, left_first, told_end, told_last, touched_length, touched_views, turn, views_end, views_last, way_begins, way_on}
 use Rattle.smil_live.proofs.watched.put_touched.Goals as goal
 
 pub loop-serial-init : goal.loop-serial-init
@@ -53,10 +53,9 @@ loop-serial-preserved g c =
     let same = c.slice-serial-items.ensures ∙ c.touched.ensures in
     let t = turn s first from i (blank 0) (subst (λ (l : List ℕ). i < length l) same c.loop-serial-test.true) in
     let at = subst (λ (l : List ℕ). node_at (elements nodes) (get_or l i 0) ≡ Some t.element) (sym same) t.at in
-    let gone = sym c.is_err.ensures.value ∙ c.if-is_err.false in
     way_on nodes s.presentation.now first (touched_views s) c.args.out.now c.args.seen.now.before c.loop-serial.seen c.put_one.new.seen i (blank 0) (view_now s t.element) c.loop-serial.out c.put_one.new.out c.loop-serial.invariant t.below t.view
-    (where_not_err c.put_one.result _ gone (c.put_one.ensures.view t.element at))
-    (where_not_err c.put_one.result _ gone (c.put_one.ensures.told t.element at))
+    (c.in_ok-put_one.ensures.view t.element at)
+    (c.in_ok-put_one.ensures.told t.element at)
     c.put_one.ensures.begins
 
 pub returns-clause-views : goal.returns-clause-views
