@@ -125,6 +125,11 @@ module _ (d : Document) (s : ℕ) (some : IsSome (node_at d.nodes s)) (kind : Ki
       ∙ ap (λ t. Ok (attr_unset d t given)) (find-serial s d.nodes n.node n.at)
       ∙ ap Ok (sym is)
 
+  pub name_unread : (name : List ℕ) (column : ℕ) (e : Refusal) → Err e ≡ name_in_line kind name column → IsRefusedBy (at_node d.nodes s (λ m. attr_unset_by formats d m name column)) e
+  name_unread name column e read =
+      inr (at_there d.nodes s (λ m. attr_unset_by formats d m name column) n.node n.at
+      ∙ ap (λ r. and_then r (λ (a : AttrName). Ok (attr_unset d n.node.serial a))) (ap (λ k. name_in_line k name column) (sym (kinds n.node n.at)) ∙ sym read))
+
 -- ---- a node line that is read fits
 
 read_kind : (column : ℕ) (r : Result Kind NodeFault) (kind : Kind) → Ok kind ≡ in_line column r → r ≡ Ok kind
@@ -166,6 +171,13 @@ line_fits parent kind line column attrs kind_read read =
     let rest : attrs_of (Some parent) kind (shape_of line) ≡ Ok (node.kind, attrs) = sym (ap (λ (r : Result Kind NodeFault). r >>= λ k. attrs_of (Some parent) k (shape_of line)) first) ∙ node.is in
     let same : node.kind ≡ kind = same_kind (Some parent) kind node.kind (shape_of line) attrs rest in
     ranges kind (Some parent) attrs (node_is (Some parent) line kind attrs (node.is ∙ ap (λ (k : Kind). Ok (k, attrs)) same)).1
+
+-- a line whose kind is refused
+pub kind_unread : (d : Document) (s place : ℕ) (line : List ℕ) (column : ℕ) → IsSome (node_at d.nodes s) → (e : Refusal) → Err e ≡ kind_in_line line column → IsRefusedBy (at_node d.nodes s (λ m. node_inserted_by limits formats d m place line column)) e
+kind_unread d s place line column some e unread =
+    let p : There d.nodes s = there d.nodes s some in
+    inr (at_there d.nodes s (λ m. node_inserted_by limits formats d m place line column) p.node p.at
+    ∙ ap (λ (r : Result Kind Refusal). and_then (and_then r (may_insert d p.node place)) (λ k. and_then (attrs_in_line p.node.kind line column) (insert_checked limits d p.node.serial place k))) (sym unread))
 
 -- a line that is read for a child of a node
 module _ (d : Document) (s place : ℕ) (line : List ℕ) (column : ℕ) (kind : Kind) (some : IsSome (node_at d.nodes s)) (kind_read : Ok kind ≡ kind_in_line line column) where

@@ -10,7 +10,6 @@ ghost use Rattle.smil_model.specs.shown.Orders.{attr_set_by, attr_unset_by, node
 ghost use Rattle.smil_grammar.specs.Formats.{formats};
 ghost use Rattle.smil_live.specs.Editing.{IsRefusedBy, at_node};
 
-use super::faults::refused_edit;
 use super::values::{
     Child, Named, Placed, Setting, read_line_attrs, read_line_kind, read_name, read_value,
 };
@@ -40,16 +39,11 @@ pub fn with_value(
         setting.entry.attr.text.now setting.entry.value.text.now setting.entry.attr.column
         setting.entry.value.column))) }
 {
-    let given = match read_value(alloc, named(tree, serial, setting.attr), setting.value) {
-        Ok(given) => given,
-        Err(refusal) => return Err(refusal),
-    };
+    let given = read_value(alloc, named(tree, serial, setting.attr), setting.value)?;
     tree.valid();
     let mut edited = tree.copy()?;
-    match edited.set(serial, given) {
-        Ok(()) => Ok(edited),
-        Err(fault) => Err(refused_edit(fault)),
-    }
+    edited.set(serial, given)?;
+    Ok(edited)
 }
 
 /// A copy in which an attribute of a node is absent. The refusals are those of the name.
@@ -63,10 +57,7 @@ pub fn without_name(tree: &Tree, serial: u32, attr: Placed<'_>) -> Result<Tree, 
         (at_node tree.now.nodes serial (λ n. attr_unset_by formats tree.now n attr.entry.text.now
         attr.entry.column))) }
 {
-    let name = match read_name(named(tree, serial, attr)) {
-        Ok(name) => name,
-        Err(refusal) => return Err(refusal),
-    };
+    let name = read_name(named(tree, serial, attr))?;
     let mut edited = tree.copy()?;
     edited.unset(serial, name);
     Ok(edited)
@@ -91,22 +82,12 @@ pub fn with_child(
         child.entry.place child.entry.line.text.now child.entry.line.column))) }
 {
     let place = child.place as usize;
-    let kind = match read_line_kind(child.line) {
-        Ok(kind) => kind,
-        Err(refusal) => return Err(refusal),
-    };
-    if let Err(fault) = tree.may_insert(parent, place, kind) {
-        return Err(refused_edit(fault));
-    }
-    let attrs = match read_line_attrs(alloc, tree.kind(parent), child.line) {
-        Ok(attrs) => attrs,
-        Err(refusal) => return Err(refusal),
-    };
+    let kind = read_line_kind(child.line)?;
+    tree.may_insert(parent, place, kind)?;
+    let attrs = read_line_attrs(alloc, tree.kind(parent), child.line)?;
     let mut edited = tree.copy()?;
-    match edited.insert(parent, place, kind, attrs) {
-        Ok(_) => Ok(edited),
-        Err(fault) => Err(refused_edit(fault)),
-    }
+    edited.insert(parent, place, kind, attrs)?;
+    Ok(edited)
 }
 
 /// A copy without a node and all below it. `Root` where it has no parent.
@@ -118,10 +99,8 @@ pub fn without_node(tree: &Tree, serial: u32) -> Result<Tree, Refusal>
         (at_node tree.now.nodes serial (node_removed_from tree.now))) }
 {
     let mut edited = tree.copy()?;
-    match edited.remove(serial) {
-        Ok(()) => Ok(edited),
-        Err(fault) => Err(refused_edit(fault)),
-    }
+    edited.remove(serial)?;
+    Ok(edited)
 }
 
 // An attribute of a node.

@@ -3,7 +3,6 @@
 
 mod copies;
 mod edits;
-mod faults;
 mod intervals;
 mod layers;
 mod lines;
