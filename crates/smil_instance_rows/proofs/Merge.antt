@@ -54,7 +54,7 @@ module _ {A : Type 0} (le : A → A → Bool) (order : IsOrder le) (choose : Tim
   own_apart : (items : List (List InstanceTime)) (i : ℕ) (own : List InstanceTime) → i < length items → own ≡ get_or items i own → merged le choose items ≡ poured le (values_of choose own) (merged le choose (set items i []))
   own_apart items i own inside is = ap (merged le choose) (sym (set_same items i own inside is)) ∙ item_apart items i own inside
 
-  -- a instance time appended to an item's list
+  -- an instance time appended to an item's list
   pub merged_push : (items : List (List InstanceTime)) (i : ℕ) (own : List InstanceTime) (k : InstanceTime) → i < length items → own ≡ get_or items i own → merged le choose (set items i (own ++ k ∷ [])) ≡ with_value le (choose k.time) (merged le choose items)
   merged_push items i own k inside is =
       item_apart items i (own ++ k ∷ []) inside

@@ -1,4 +1,4 @@
-//! Where a instance time stands among all elements.
+//! Where an instance time stands among all elements.
 
 use super::item_times::InstanceTime;
 use smil_model::Edge;

@@ -104,7 +104,7 @@ impl ItemTimes {
     }
 }
 
-/// Adds a instance time, and its value to the sorted ones. Where memory runs out both are as
+/// Adds an instance time, and its value to the sorted ones. Where memory runs out both are as
 /// before.
 pub fn add<T: Instant>(
     kept: &mut ItemTimes,

@@ -72,7 +72,7 @@ impl InstanceRow {
         self.serial
     }
 
-    /// Adds a instance time to an item. Where memory runs out all is as before.
+    /// Adds an instance time to an item. Where memory runs out all is as before.
     pub fn add(&mut self, side: Edge, item: usize, last: InstanceTime) -> Result<(), AllocError>
         requires item { item < length (side_of self.old side) }
         requires order { IsNotAfter last.place (list_of self.old side item) }

@@ -91,7 +91,7 @@ impl Rows {
         }
     }
 
-    /// Adds a instance time to an item. Where memory runs out all is as before.
+    /// Adds an instance time to an item. Where memory runs out all is as before.
     pub fn add(&mut self, cell: Cell, last: InstanceTime) -> Result<(), AllocError>
         requires cell { HasCell self.old cell }
         requires order { IsNotAfter last.place (cell_of self.old cell) }

@@ -62,7 +62,7 @@ impl<T: Instant> Side<T> {
         Ok(())
     }
 
-    /// Adds a instance time to an item. Where memory runs out all is as before.
+    /// Adds an instance time to an item. Where memory runs out all is as before.
     pub fn add(&mut self, item: usize, last: InstanceTime) -> Result<(), AllocError>
         requires item { item < length self.old }
         requires order { IsNotAfter last.place (get_or self.old item []) }
