@@ -1,5 +1,6 @@
 -- Instance times in the order of their places.
 use Rattle.std.proofs.Common.{◌≡◌, sym, refl, ◌∙◌, ap, ℕ, suc, ◌≤◌, ◌<◌, List, [], ◌∷◌, ◌++◌, length, Bool, true, false, Option, Some, None, arith}
+use Rattle.std.proofs.lemmas.List.{same_from_push}
 use Rattle.std.specs.Prelude.{cond, get_or, drop, nat_le}
 use Rattle.smil_model.specs.declared.times.Time.{Time}
 use Rattle.smil_instance_rows.specs.declared.item_times.InstanceTime.{InstanceTime}
@@ -49,24 +50,6 @@ last_of_pushed [] last = refl
 last_of_pushed (k ∷ []) last = refl
 last_of_pushed (k ∷ l ∷ ls) last = last_of_pushed (l ∷ ls) last
 
--- ---- the last
-
-tail_of : {A : Type 0} (x y : A) (xs ys : List A) → x ∷ xs ≡ y ∷ ys → (x ≡ y) × (xs ≡ ys)
-tail_of x y xs ys q = (cc, cc)
-
-no_end : {A : Type 0} {G : Type 0} (ys : List A) (z : A) → [] ≡ ys ++ z ∷ [] → G
-no_end [] z q = cc
-no_end (y ∷ ys) z q = cc
-
-pub same_last : {A : Type 0} (xs ys : List A) (x y : A) → xs ++ x ∷ [] ≡ ys ++ y ∷ [] → (xs ≡ ys) × (x ≡ y)
-same_last [] [] x y q = (refl, (tail_of x y [] [] q).0)
-same_last [] (b ∷ ys) x y q = no_end ys y (tail_of x b [] (ys ++ y ∷ []) q).1
-same_last (a ∷ xs) [] x y q = no_end xs x (sym (tail_of a y (xs ++ x ∷ []) [] q).1)
-same_last (a ∷ xs) (b ∷ ys) x y q =
-    let parts = tail_of a b (xs ++ x ∷ []) (ys ++ y ∷ []) q in
-    let rest = same_last xs ys x y parts.1 in
-    (ap (λ z. z ∷ xs) parts.0 ∙ ap (λ zs. b ∷ zs) rest.0, rest.1)
-
 -- ---- what stands for the values
 
 module _ {A : Type 0} (le : A → A → Bool) (order : IsOrder le) (choose : Time → Option A) where
@@ -83,6 +66,6 @@ module _ {A : Type 0} (le : A → A → Bool) (order : IsOrder le) (choose : Tim
   -- the last taken out, with its value
   pub undone_last : (kept kept' : List InstanceTime) (own : InstanceTime) (old : List A) → kept ≡ kept' ++ own ∷ [] → IsUndone le choose kept kept' old (without_value le (choose own.time) old)
   undone_last kept kept' own old was = λ first last others is put.
-      let parts = same_last kept' first own last (sym was ∙ is) in
+      let parts = same_from_push kept' first own last (sym was ∙ is) in
       let value : choose own.time ≡ choose last.time = ap (λ (k : InstanceTime). choose k.time) parts.1 in
       (parts.0, ap (λ o. without_value le o old) value ∙ ap (without_value le (choose last.time)) put ∙ without_with (choose last.time) others)

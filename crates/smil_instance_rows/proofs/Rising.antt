@@ -1,5 +1,6 @@
 -- Lists in rising order: where a value stands, what is put in and what is taken out.
 use Rattle.std.proofs.Common.{◌≡◌, refl, sym, ◌∙◌, ap, ℕ, suc, zero, ◌≤◌, ◌+◌, List, [], ◌∷◌, ◌++◌, length, Some, Bool, true, false, arith, ◌<◌, inl, inr}
+use Rattle.std.proofs.lemmas.Bool.{not-true, not-false}
 use Rattle.std.specs.Prelude.{cond, get_or, ◌<◌, flat_map, find, slice_get, not, ◌⊎◌}
 use Rattle.std.specs.List.{insert, remove}
 use Rattle.std.specs.List.Sorted.{IsPartitionedBy, IsPartitionPoint}
@@ -14,17 +15,9 @@ pub clash : {G : Type 0} (b : Bool) → b ≡ true → b ≡ false → G
 clash true p q = cc
 clash false p q = cc
 
-pub off : (b : Bool) → not b ≡ true → b ≡ false
-off true q = sym q
-off false q = refl
-
 twice : (b : Bool) → not (not b) ≡ b
 twice true = refl
 twice false = refl
-
-pub on : (b : Bool) → not b ≡ false → b ≡ true
-on true q = refl
-on false q = sym q
 
 -- the first that passes stands where all before it fail
 pub find_at : {A : Type 0} (p : A → Bool) (xs : List A) (place : ℕ) → ((k : ℕ) (d : A) → k < place → p (get_or xs k d) ≡ false) → ((k : ℕ) (d : A) → place ≤ k → k < length xs → p (get_or xs k d) ≡ true) → slice_get xs place ≡ find p xs
@@ -54,11 +47,11 @@ module _ {A : Type 0} (le : A → A → Bool) (order : IsOrder le) where
   -- ---- what a binary search asks and finds
 
   pub parted_from : (v : A) (xs : List A) → IsRising le xs → IsPartitionedBy (λ x. not (le v x)) xs
-  parted_from v xs up = λ i j d before inside passes. ap not (not_earlier v (get_or xs i d) (get_or xs j d) (up i j d before inside) (off (le v (get_or xs j d)) passes))
+  parted_from v xs up = λ i j d before inside passes. ap not (not_earlier v (get_or xs i d) (get_or xs j d) (up i j d before inside) (not-true (le v (get_or xs j d)) passes))
 
   pub place_found : (xs : List A) (v : A) (p : ℕ) → p ≤ length xs → IsPartitionPoint (λ x. not (le v x) ≡ true) (λ x. not (le v x) ≡ false) xs p → IsPlaceFrom le xs v p
   place_found xs v p bound point =
-      (bound, λ k d below. off (le v (get_or xs k d)) (point.0 k d (omega arith) below), λ k d from inside. on (le v (get_or xs k d)) (point.1 k d from inside))
+      (bound, λ k d below. not-true (le v (get_or xs k d)) (point.0 k d (omega arith) below), λ k d from inside. not-false (le v (get_or xs k d)) (point.1 k d from inside))
 
   pub parted_after : (v : A) (xs : List A) → IsRising le xs → IsPartitionedBy (λ x. not (not (le x v))) xs
   parted_after v xs up = λ i j d before inside passes.
@@ -66,7 +59,7 @@ module _ {A : Type 0} (le : A → A → Bool) (order : IsOrder le) where
 
   pub find_after : (v : A) (xs : List A) (p : ℕ) → IsPartitionPoint (λ x. not (not (le x v)) ≡ true) (λ x. not (not (le x v)) ≡ false) xs p → slice_get xs p ≡ find (λ x. not (le x v)) xs
   find_after v xs p point =
-      find_at (λ x. not (le x v)) xs p (λ k d below. off (not (le (get_or xs k d) v)) (point.0 k d (omega arith) below)) (λ k d from inside. on (not (le (get_or xs k d) v)) (point.1 k d from inside))
+      find_at (λ x. not (le x v)) xs p (λ k d below. not-true (not (le (get_or xs k d) v)) (point.0 k d (omega arith) below)) (λ k d from inside. not-false (not (le (get_or xs k d) v)) (point.1 k d from inside))
 
   -- ---- a place in a list
 

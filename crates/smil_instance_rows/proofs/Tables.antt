@@ -2,6 +2,7 @@
 use Rattle.std.proofs.Common.{◌≡◌, refl, sym, ◌∙◌, ap, subst, ℕ, suc, zero, ◌<◌, List, [], ◌∷◌, ◌++◌, length, arith, pos, length-append}
 use Rattle.std.specs.Prelude.{get_or, set, take}
 use Rattle.std.proofs.lemmas.List.Sums.{fold_push}
+use Rattle.std.proofs.lemmas.List.{length-set}
 use Rattle.smil_model.specs.declared.document.Edge.{Edge}
 use Rattle.smil_model.specs.declared.document.Edge.TheVariants.{Begin, End}
 use Rattle.smil_model.specs.declared.times.Time.TheVariants as time
@@ -17,11 +18,6 @@ get_set : {A : Type 0} (xs : List A) (i : ℕ) (x d : A) → i < length xs → g
 get_set [] i x d inside = absurd (omega (arith, inside))
 get_set (y ∷ ys) zero x d inside = refl
 get_set (y ∷ ys) (suc i) x d inside = get_set ys i x d (omega (arith, inside))
-
-length_set : {A : Type 0} (xs : List A) (i : ℕ) (x : A) → length (set xs i x) ≡ length xs
-length_set [] i x = refl
-length_set (y ∷ ys) zero x = refl
-length_set (y ∷ ys) (suc i) x = ap suc (length_set ys i x)
 
 set_set : {A : Type 0} (xs : List A) (i : ℕ) (x y : A) → set (set xs i x) i y ≡ set xs i y
 set_set [] i x y = refl
@@ -40,8 +36,8 @@ list_with row Begin item k inside = get_set row.begins item k [] inside
 list_with row End item k inside = get_set row.ends item k [] inside
 
 length_with : (row : Row) (side : Edge) (item : ℕ) (k : List InstanceTime) → length (side_of (with_list row side item k) side) ≡ length (side_of row side)
-length_with row Begin item k = length_set row.begins item k
-length_with row End item k = length_set row.ends item k
+length_with row Begin item k = length-set row.begins item k
+length_with row End item k = length-set row.ends item k
 
 back_row : (row : Row) (side : Edge) (item : ℕ) (k : List InstanceTime) → item < length (side_of row side) → with_list (with_list row side item k) side item (list_of row side item) ≡ row
 back_row row Begin item k inside = ap (λ bs. record { serial = row.serial; begins = bs; ends = row.ends }) (set_set row.begins item k (get_or row.begins item []) ∙ set_back row.begins item [] inside)
@@ -59,7 +55,7 @@ module _ (rows : List Row) (cell : Cell) (k : List InstanceTime) (has : HasCell 
 
   pub still_has : HasCell (with_cell rows cell k) cell
   still_has = record {
-    row = omega (arith, has.row, length_set rows cell.row (with_list (row_at rows cell.row) cell.side cell.item k));
+    row = omega (arith, has.row, length-set rows cell.row (with_list (row_at rows cell.row) cell.side cell.item k));
     item = omega (arith, has.item, ap (λ (r : Row). length (side_of r cell.side)) row_with, length_with (row_at rows cell.row) cell.side cell.item k);
   }
 
@@ -119,10 +115,10 @@ some_there ks ls k is = omega (arith, ap length is, length-append ls (k ∷ []))
 -- ---- the shape is kept
 
 any_length : (row : Row) (side : Edge) (item : ℕ) (k : List InstanceTime) (s : Edge) → length (side_of (with_list row side item k) s) ≡ length (side_of row s)
-any_length row Begin item k Begin = length_set row.begins item k
+any_length row Begin item k Begin = length-set row.begins item k
 any_length row Begin item k End = refl
 any_length row End item k Begin = refl
-any_length row End item k End = length_set row.ends item k
+any_length row End item k End = length-set row.ends item k
 
 shape : (rows : List Row) (i j : ℕ) (side : Edge) (item : ℕ) (k : List InstanceTime) (s : Edge) → length (side_of (row_at (set rows i (with_list (row_at rows i) side item k)) j) s) ≡ length (side_of (row_at rows j) s)
 shape [] i j side item k s = refl
