@@ -11,7 +11,7 @@ pub struct Cell {
     pub item: usize,
 }
 
-/// A instance time to be added to an item.
+/// An instance time to be added to an item.
 #[derive(Clone, Copy, Debug, PartialEq, Eq)]
 pub struct Add {
     pub cell: Cell,
