@@ -25,7 +25,7 @@ pub refused_by : {A : Type 0} (r : Result A BookFault) (P Q : BookFault → Type
 refused_by (Ok x) P Q f e = tt
 refused_by (Err x) P Q f e = f x e
 
--- what follows where there is a result, and where there is a refusal
+-- what follows where there is a result
 pub where_ok : {A E : Type 0} (r : Result A E) (P Q : Type 0) → (P → Q) → OnOk r P → OnOk r Q
 where_ok (Ok x) P Q f p = f p
 where_ok (Err e) P Q f p = tt
@@ -33,7 +33,3 @@ where_ok (Err e) P Q f p = tt
 pub where_three : {A : Type 0} (r : Result A BookFault) (P Q R S : Type 0) → (P → Q → R → S) → OnOk r P → OnOk r Q → OnOk r R → OnOk r S
 where_three (Ok x) P Q R S f p q s = f p q s
 where_three (Err e) P Q R S f p q s = tt
-
-pub where_err : {A : Type 0} (r : Result A BookFault) (P Q : BookFault → Type 0) → ((f : BookFault) → P f → Q f) → IfErr r P → IfErr r Q
-where_err (Ok x) P Q f p = tt
-where_err (Err e) P Q f p = f e p

@@ -10,7 +10,8 @@ use Rattle.smil_cells.specs.Standings.{standing_of}
 use Rattle.smil_cells.proofs.Grown.{fits}
 use Rattle.smil_cells.proofs.OnWay.{goes_on_from}
 use Rattle.smil_cells.proofs.Onward.{refusing_on, state_on, front_on, goes_on_heard, reached_heard_on, fresh_heard_on, refusing_from}
-use Rattle.smil_cells.proofs.Refusals.{none_is_there, front_is_there, where_ok, where_three, where_err}
+use Rattle.smil_cells.proofs.Refusals.{none_is_there, front_is_there, where_ok, where_three}
+use Rattle.std.proofs.lemmas.Result.{IfErr-weaker}
 use Rattle.smil_cells.proofs.cells.Cells.hear.Goals as goal
 
 pub returns-in-Err-clause-refused : goal.returns-in-Err-clause-refused
@@ -54,7 +55,7 @@ pub returns-clause-refused : goal.returns-clause-refused
 returns-clause-refused g c =
     let i = c.self.inside in
     subst (λ (s : Standing). IfErr c.settle_through.result (IsRefusing s c.settle_through.new.self)) c.self.view_is
-    (where_err c.settle_through.result (IsRefusing c.take_in.new.self c.settle_through.new.self) (IsRefusing (standing_of i.past i.moment i.fault i.mark i.touched) c.settle_through.new.self) (λ f q. refusing_from i.past i.moment i.fault i.mark i.touched c.cut_back.new.self c.settle_through.new.self f (refusing_on (standing_of i.past i.moment i.fault i.mark c.cut_back.new.self) c.take_in.new.self c.args.entry c.in_default-take_in.ensures.heard c.settle_through.new.self f q)) c.settle_through.ensures.refused)
+    (IfErr-weaker c.settle_through.result (IsRefusing c.take_in.new.self c.settle_through.new.self) (IsRefusing (standing_of i.past i.moment i.fault i.mark i.touched) c.settle_through.new.self) (λ f q. refusing_from i.past i.moment i.fault i.mark i.touched c.cut_back.new.self c.settle_through.new.self f (refusing_on (standing_of i.past i.moment i.fault i.mark c.cut_back.new.self) c.take_in.new.self c.args.entry c.in_default-take_in.ensures.heard c.settle_through.new.self f q)) c.settle_through.ensures.refused)
 
 pub returns-clause-full : goal.returns-clause-full
 returns-clause-full g c =
@@ -64,7 +65,7 @@ returns-clause-full g c =
     let here : n ≡ c.take_in.new.self.presentation.now = ap nat_abs (to_z-of_z w64 m (fits m c.self-2.invariant.present.from c.self-2.invariant.present.within)) ∙ ap (λ (s : Standing). s.presentation.now) c.self-2.view_is in
     subst (λ (s : Standing). IfErr c.settle_through.result (λ (fault : BookFault). fault ≡ DiaryFull → (s.fault ≡ Some fault) ⊎ (diary_of (course_of (with_logged s.presentation c.args.entry)) ≡ None))) c.self.view_is
     (none_is_there (course_of (with_logged (standing_of i.past i.moment i.fault i.mark i.touched).presentation c.args.entry)) c.settle_through.new.self.diary i.fault c.settle_through.result c.too_long_is_full.ensures
-    (where_err c.settle_through.result (λ (f : BookFault). f ≡ DiaryFull → IsFront (course_of (moved_to c.take_in.new.self.presentation n)) c.settle_through.new.self.diary) (λ (f : BookFault). f ≡ DiaryFull → IsFront (course_of (with_logged (standing_of i.past i.moment i.fault i.mark i.touched).presentation c.args.entry)) c.settle_through.new.self.diary) (λ f q e. front_on (standing_of i.past i.moment i.fault i.mark c.cut_back.new.self) c.take_in.new.self c.args.entry c.in_default-take_in.ensures.heard n here c.settle_through.new.self.diary (q e)) c.settle_through.ensures.full))
+    (IfErr-weaker c.settle_through.result (λ (f : BookFault). f ≡ DiaryFull → IsFront (course_of (moved_to c.take_in.new.self.presentation n)) c.settle_through.new.self.diary) (λ (f : BookFault). f ≡ DiaryFull → IsFront (course_of (with_logged (standing_of i.past i.moment i.fault i.mark i.touched).presentation c.args.entry)) c.settle_through.new.self.diary) (λ f q e. front_on (standing_of i.past i.moment i.fault i.mark c.cut_back.new.self) c.take_in.new.self c.args.entry c.in_default-take_in.ensures.heard n here c.settle_through.new.self.diary (q e)) c.settle_through.ensures.full))
 
 pub returns-clause-front : goal.returns-clause-front
 returns-clause-front g c =
@@ -74,7 +75,7 @@ returns-clause-front g c =
     let here : n ≡ c.take_in.new.self.presentation.now = ap nat_abs (to_z-of_z w64 m (fits m c.self-2.invariant.present.from c.self-2.invariant.present.within)) ∙ ap (λ (s : Standing). s.presentation.now) c.self-2.view_is in
     subst (λ (s : Standing). IfErr c.settle_through.result (λ (fault : BookFault). fault ≡ DiaryFull → (s.fault ≡ Some fault) ⊎ IsFront (course_of (with_logged s.presentation c.args.entry)) c.settle_through.new.self.diary)) c.self.view_is
     (front_is_there (course_of (with_logged (standing_of i.past i.moment i.fault i.mark i.touched).presentation c.args.entry)) c.settle_through.new.self.diary i.fault c.settle_through.result
-    (where_err c.settle_through.result (λ (f : BookFault). f ≡ DiaryFull → IsFront (course_of (moved_to c.take_in.new.self.presentation n)) c.settle_through.new.self.diary) (λ (f : BookFault). f ≡ DiaryFull → IsFront (course_of (with_logged (standing_of i.past i.moment i.fault i.mark i.touched).presentation c.args.entry)) c.settle_through.new.self.diary) (λ f q e. front_on (standing_of i.past i.moment i.fault i.mark c.cut_back.new.self) c.take_in.new.self c.args.entry c.in_default-take_in.ensures.heard n here c.settle_through.new.self.diary (q e)) c.settle_through.ensures.full))
+    (IfErr-weaker c.settle_through.result (λ (f : BookFault). f ≡ DiaryFull → IsFront (course_of (moved_to c.take_in.new.self.presentation n)) c.settle_through.new.self.diary) (λ (f : BookFault). f ≡ DiaryFull → IsFront (course_of (with_logged (standing_of i.past i.moment i.fault i.mark i.touched).presentation c.args.entry)) c.settle_through.new.self.diary) (λ f q e. front_on (standing_of i.past i.moment i.fault i.mark c.cut_back.new.self) c.take_in.new.self c.args.entry c.in_default-take_in.ensures.heard n here c.settle_through.new.self.diary (q e)) c.settle_through.ensures.full))
 
 pub returns-clause-most : goal.returns-clause-most
 returns-clause-most g c =
