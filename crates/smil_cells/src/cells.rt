@@ -295,7 +295,7 @@ impl<T: Table> Cells<T> {
         self.past.possible();
         let tree = Tree::of_doc(self.alloc, doc)?;
         let log = heard_log(self.alloc, self.past.log(), self.past.book(), len)?;
-        let past = Past::of(self.alloc, tree, log, self.past.book(), len)?;
+        let past = Past::of(self.alloc, tree, log, &self.past.book().entries()[..len])?;
         let moment = last_moment(&past);
         Cells::over(self.alloc, past, moment, steps)
     }

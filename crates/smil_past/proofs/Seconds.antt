@@ -2,18 +2,20 @@
 use Rattle.std.proofs.Common.{◌≡◌, refl, sym, ◌∙◌, ap, subst, ℕ, ◌+◌, ◌<◌, ◌≤◌, List, [], ◌∷◌, ◌++◌, take, length, length-append, Option, None, Some, true, arith}
 use Rattle.std.specs.Prelude.{drop, is_some, slice_get}
 use Rattle.std.proofs.Math.Seq.{take-length}
-use Rattle.std.proofs.lemmas.List.{length-take-le, length_push, take-append-drop, take-append-le, take-take, take_all}
+use Rattle.std.proofs.lemmas.List.{length_push, take-append-drop, take-append-le, take_all}
+use Rattle.std.proofs.lemmas.Option.{slice_get_within}
 use Rattle.smil_model.specs.declared.diary.Entry.{Entry}
 use Rattle.smil_model.specs.declared.diary.LogEntry.{LogEntry}
 use Rattle.smil_model.specs.document.Document.{Document}
 use Rattle.smil_laws.specs.Cut.{IsNamedBelow, NamesBelow}
+use Rattle.smil_laws.proofs.Lists.{take-more_at}
 use Rattle.smil_tree.proofs.KinLists.{each_left}
 use Rattle.smil_past.specs.declared.chronicle.Chronicle.{Chronicle}
 use Rattle.smil_past.specs.declared.readings.Readings.{Readings}
 use Rattle.smil_past.specs.Past.{Happened, IsPossible, MayFollow, at_mark, unmarked}
 use Rattle.smil_past.specs.Readings.{Holds}
 use Rattle.smil_past.specs.Chronicle.{BacksUp, EndsAtMark, HoldsAt, Lags, LagsIfAny, Tells, TellsNothing, reach}
-use Rattle.smil_past.proofs.Fronts.{follows_at, front_is, possible_before}
+use Rattle.smil_past.proofs.Fronts.{follows_at, possible_before}
 use Rattle.smil_past.proofs.Grown.{holds_longer, holds_shorter}
 
 names_front : (place len : ℕ) (diary : List Entry) → NamesBelow place diary → NamesBelow place (take len diary)
@@ -33,25 +35,24 @@ lags_new document log diary c possible new =
       tells = subst (λ ds. Holds document log ds c.readings) (sym new.nothing) (record { possible = possible_before document log diary possible; readings_are = new.readings_are });
     }
 
-module _ (document : Document) (log : List LogEntry) (book : List Entry) (len place : ℕ) (y : Entry) (c : Chronicle) (below : place < len) (within : len ≤ length book) (at : slice_get book place ≡ Some y) (lags : Lags document log (take len book) c) (reached : length c.book ≡ place) where
-  book_is : c.book ≡ take place book
-  book_is =
-      lags.first ∙ ap (λ k. take k (take len book)) reached ∙ take-take place len book (omega (arith, below))
+module _ (document : Document) (log : List LogEntry) (diary : List Entry) (place : ℕ) (y : Entry) (c : Chronicle) (at : slice_get diary place ≡ Some y) (lags : Lags document log diary c) (reached : length c.book ≡ place) where
+  book_is : c.book ≡ take place diary
+  book_is = lags.first ∙ ap (λ k. take k diary) reached
 
   -- the next entry may follow
-  pub next_follows : IsPossible document log (take len book) → MayFollow (unmarked document log c.book) y
+  pub next_follows : IsPossible document log diary → MayFollow (unmarked document log c.book) y
   next_follows possible =
-      subst (λ ds. MayFollow (unmarked document log ds) y) (sym book_is) (follows_at document log book len place y possible below within at)
+      subst (λ ds. MayFollow (unmarked document log ds) y) (sym book_is) (follows_at document log diary place y possible at)
 
   -- and is the next of the diary
-  pub lags_next : (next : Chronicle) → next.book ≡ c.book ++ y ∷ [] → Tells document log next → Lags document log (take len book) next
+  pub lags_next : (next : Chronicle) → next.book ≡ c.book ++ y ∷ [] → Tells document log next → Lags document log diary next
   lags_next next is tells =
       let more : length next.book ≡ place + 1 = ap length is ∙ length_push c.book y ∙ ap (λ k. k + 1) reached in
       record {
-        within = omega (arith, more, below, length-take-le len book within);
+        within = omega (arith, more, slice_get_within diary place y at);
         first =
-            is ∙ ap (λ ds. ds ++ y ∷ []) book_is ∙ sym (front_is book len place y below within at)
-            ∙ sym (ap (λ k. take k (take len book)) more);
+            is ∙ ap (λ ds. ds ++ y ∷ []) book_is ∙ sym (take-more_at diary place y at)
+            ∙ sym (ap (λ k. take k diary) more);
         tells = tells;
       }
 

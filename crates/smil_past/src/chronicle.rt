@@ -1,6 +1,6 @@
 //! A diary, with its readings.
 
-ghost use Rattle.std.specs.Prelude.{◌≡◌, ◌≤◌, List, [], ◌∷◌, ◌++◌, length, take, OnOk, OnErr, IfOk, IfErr};
+ghost use Rattle.std.specs.Prelude.{◌≡◌, List, [], ◌∷◌, ◌++◌, length, OnOk, OnErr, IfOk, IfErr};
 ghost use Rattle.smil_model.specs.declared.limits.TheConstants as limits;
 ghost use Rattle.smil_model.specs.declared.diary.LogEntry.{LogEntry as AnyLogEntry};
 ghost use Rattle.smil_diary.specs.declared.fault.BookFault.TheVariants as book_fault;
@@ -74,24 +74,16 @@ impl Chronicle {
         }
     }
 
-    /// Appends those of the first `len` entries of a diary that it lacks; where memory runs out,
-    /// those before. It has no others.
-    pub fn catch_up(
-        &mut self,
-        tree: &Tree,
-        log: &Log,
-        book: &Book,
-        len: usize,
-    ) -> Result<(), AllocError>
-        requires within { len ≤ length book.now }
-        requires possible { IsPossible tree.now log.now (take len book.now) }
-        requires lags { Lags tree.now log.now (take len book.now) self.old }
-        ensures lags { Lags tree.now log.now (take len book.now) self.new }
-        ensures ok { OnOk result (self.new.book ≡ take len book.now) }
+    /// Appends the entries of a diary that it lacks; where memory runs out, the first of them. It
+    /// has no others.
+    pub fn catch_up(&mut self, tree: &Tree, log: &Log, entries: &[Entry]) -> Result<(), AllocError>
+        requires possible { IsPossible tree.now log.now entries.now }
+        requires lags { Lags tree.now log.now entries.now self.old }
+        ensures lags { Lags tree.now log.now entries.now self.new }
+        ensures ok { OnOk result (self.new.book ≡ entries.now) }
     {
-        for place in self.book.len()..len {
-            let entry = book.entry(place).unwrap();
-            let Ok(()) = self.push(tree, log, entry) else {
+        for place in self.book.len()..entries.len() {
+            let Ok(()) = self.push(tree, log, entries[place]) else {
                 return Err(AllocError);
             };
         }

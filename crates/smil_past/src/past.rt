@@ -1,6 +1,6 @@
 //! What has happened in a presentation so far.
 
-ghost use Rattle.std.specs.Prelude.{◌≡◌, ◌≤◌, ◌<◌, ℕ, [], ◌∷◌, ◌++◌, length, take, true, None, Some, is_some, OnOk, OnErr, IfOk, IfErr};
+ghost use Rattle.std.specs.Prelude.{◌≡◌, ◌<◌, ℕ, [], ◌∷◌, ◌++◌, length, true, None, Some, is_some, OnOk, OnErr, IfOk, IfErr};
 ghost use Rattle.smil_model.specs.declared.limits.TheConstants as limits;
 ghost use Rattle.smil_stretch.specs.Clocks.{AreClocksOf};
 ghost use Rattle.smil_past.specs.Played.{all_played};
@@ -9,7 +9,7 @@ ghost use Rattle.smil_past.specs.Syncs.{all_syncs};
 ghost use Rattle.smil_instances.specs.Instances.{IsSettled};
 ghost use Rattle.smil_diary.specs.declared.fault.BookFault.TheVariants as book_fault;
 ghost use Rattle.smil_past.specs.Chronicle.{BacksUp, EndsAtMark, LagsIfAny, Tells, reach};
-ghost use Rattle.smil_past.specs.Past.{IsPossible, MayFollow, MayHear, history_of, with_diary, with_heard, logged_entry, at_mark};
+ghost use Rattle.smil_past.specs.Past.{IsPossible, MayFollow, MayHear, history_of, with_diary, with_heard, at_mark};
 
 use super::chronicle::Chronicle;
 use super::plays::Plays;
@@ -89,24 +89,21 @@ impl Past {
         })
     }
 
-    /// What has happened to a document by a log and the first entries of a diary, unless memory
-    /// runs out.
+    /// What has happened to a document by a log and these entries of a diary, unless memory runs
+    /// out.
     pub fn of(
         alloc: Global,
         tree: Tree,
         log: Log,
-        book: &Book,
-        len: usize,
+        entries: &[Entry],
     ) -> Result<Past, AllocError>
-        requires possible { IsPossible tree log (take len book.now) }
-        requires within { len ≤ length book.now }
+        requires { IsPossible tree log entries.now }
         ensures { IfOk result (λ past. past
-            ≡ record { document = tree; log = log; diary = take len book.now; marked = None }) }
+            ≡ record { document = tree; log = log; diary = entries.now; marked = None }) }
     {
         let mut past = Past::new(alloc, tree, log)?;
-        for place in 0..len {
-            let entry = book.entry(place).unwrap();
-            push(&mut past, entry)?;
+        for entry in entries {
+            push(&mut past, *entry)?;
         }
         Ok(past)
     }
@@ -272,8 +269,7 @@ impl Past {
     {
         let tree = self.tree.copy()?;
         let log = self.log.copy()?;
-        let book = &self.chronicle.book;
-        Past::of(self.alloc, tree, log, book, book.len())
+        Past::of(self.alloc, tree, log, self.chronicle.book.entries())
     }
 
     /// What has happened is possible: a law for proofs, which costs nothing.
@@ -335,9 +331,8 @@ fn bring_up(second: &mut Option<Chronicle>, first: &First<'_>) -> Result<(), All
         second.new }
     ensures ok { OnOk result (reach second.new ≡ Some (length first.now.chronicle.now.book)) }
 {
-    let book = &first.chronicle.book;
     match second {
-        Some(lagging) => lagging.catch_up(first.tree, first.log, book, book.len()),
+        Some(lagging) => lagging.catch_up(first.tree, first.log, first.chronicle.book.entries()),
         None => {
             *second = Some(first.chronicle.copy()?);
             Ok(())

@@ -1,5 +1,4 @@
-use Rattle.std.proofs.Common.{◌≡◌, sym, ◌∙◌, ap, subst, take, length, Some, arith}
-use Rattle.std.proofs.lemmas.List.{take_all}
+use Rattle.std.proofs.Common.{◌≡◌, sym, ◌∙◌, ap, subst, length, Some}
 use Rattle.std.proofs.lemmas.Result.{on_ok_weaker}
 use Rattle.smil_past.specs.declared.chronicle.Chronicle.{Chronicle}
 use Rattle.smil_past.specs.Past.{IsPossible}
@@ -7,37 +6,26 @@ use Rattle.smil_past.specs.Chronicle.{Lags}
 use Rattle.smil_past.proofs.Seconds.{lags_itself}
 use Rattle.smil_past.proofs.past.bring_up.Goals as goal
 
-pub catch_up-requires-clause-within : goal.catch_up-requires-clause-within
-catch_up-requires-clause-within c = omega (arith, c.len.ensures.value)
-
 pub catch_up-requires-clause-possible : goal.catch_up-requires-clause-possible
 catch_up-requires-clause-possible c =
-    let book = c.args.first.now.chronicle.now.book in
-    let whole : take c.len.result book ≡ book = take_all c.len.result book (omega (arith, c.len.ensures.value)) in
-    subst (IsPossible c.args.first.now.tree.now c.args.first.now.log.now) (sym whole) c.requires.tells.possible
+    subst (IsPossible c.args.first.now.tree.now c.args.first.now.log.now) (sym c.entries.ensures) c.requires.tells.possible
 
 pub catch_up-requires-clause-lags : goal.catch_up-requires-clause-lags
 catch_up-requires-clause-lags c =
-    let book = c.args.first.now.chronicle.now.book in
-    let whole : take c.len.result book ≡ book = take_all c.len.result book (omega (arith, c.len.ensures.value)) in
-    subst (λ ds. Lags c.args.first.now.tree.now c.args.first.now.log.now ds c.in-Some.lagging) (sym whole) (c.requires.lags c.in-Some.lagging c.in-Some.is)
+    subst (λ ds. Lags c.args.first.now.tree.now c.args.first.now.log.now ds c.in-Some.lagging) (sym c.entries.ensures) (c.requires.lags c.in-Some.lagging c.in-Some.is)
 
 pub returns-in_err-copy-in-None-clause-lags : goal.returns-in_err-copy-in-None-clause-lags
 returns-in_err-copy-in-None-clause-lags c = c.requires.lags
 
 pub returns-in-Some-clause-lags : goal.returns-in-Some-clause-lags
-returns-in-Some-clause-lags c =
-    let book = c.args.first.now.chronicle.now.book in
-    let whole : take c.len.result book ≡ book = take_all c.len.result book (omega (arith, c.len.ensures.value)) in
-    λ k is.
+returns-in-Some-clause-lags c = λ k is.
     let same : c.catch_up.new.self ≡ k = cc in
-    subst (Lags c.args.first.now.tree.now c.args.first.now.log.now book) same (subst (λ ds. Lags c.args.first.now.tree.now c.args.first.now.log.now ds c.catch_up.new.self) whole c.catch_up.ensures.lags)
+    subst (Lags c.args.first.now.tree.now c.args.first.now.log.now c.args.first.now.chronicle.now.book) same
+    (subst (λ ds. Lags c.args.first.now.tree.now c.args.first.now.log.now ds c.catch_up.new.self) c.entries.ensures c.catch_up.ensures.lags)
 
 pub returns-in-Some-clause-ok : goal.returns-in-Some-clause-ok
 returns-in-Some-clause-ok c =
-    let book = c.args.first.now.chronicle.now.book in
-    let whole : take c.len.result book ≡ book = take_all c.len.result book (omega (arith, c.len.ensures.value)) in
-    on_ok_weaker c.catch_up.result (λ is. ap (λ ds. Some (length ds)) (is ∙ whole)) c.catch_up.ensures.ok
+    on_ok_weaker c.catch_up.result (λ is. ap (λ ds. Some (length ds)) (is ∙ c.entries.ensures)) c.catch_up.ensures.ok
 
 pub returns-in_ok-copy-in-None-clause-lags : goal.returns-in_ok-copy-in-None-clause-lags
 returns-in_ok-copy-in-None-clause-lags c = λ k is.

@@ -13,8 +13,8 @@ use Rattle.smil_cells.proofs.Begun.{moment_is, possible_part, may_part, rebuilt_
 use Rattle.std.proofs.lemmas.Result.{IfOk-weaker}
 use Rattle.smil_cells.proofs.cells.Cells.rebuilt.Goals as goal
 
-pub of-requires-clause-possible : goal.of-requires-clause-possible
-of-requires-clause-possible g c =
+pub of-requires : goal.of-requires
+of-requires g c =
     let i = c.self.inside in
     let len = c.args.len in
     let doc = c.args.doc.now in
@@ -22,7 +22,7 @@ of-requires-clause-possible g c =
     let may = subst (λ (x : Standing). MayRebuild x doc len) (sym c.self.view_is) c.requires in
     let lawful = lawful_first (history_of i.past) len c.possible.ensures.lawful in
     let log_is = c.in_ok-log.ensures ∙ (ap (λ (l : List LogEntry). cut_log l (take len c.book.result.now)) c.log.ensures ∙ ap (λ (d : List Entry). cut_log i.past.log (take len d)) c.book.ensures) in
-    subst (λ (d : List Entry). IsPossible c.in_ok-tree.tree c.in_ok-log.log (take len d)) (sym c.book-2.ensures)
+    subst (λ (d : List Entry). IsPossible c.in_ok-tree.tree c.in_ok-log.log (take len d)) (sym (c.entries.ensures ∙ c.book-2.ensures))
     (subst (λ (l : List LogEntry). IsPossible c.in_ok-tree.tree l (take len i.past.diary)) (sym log_is)
     (subst (λ (d : Document). IsPossible d (cut_log i.past.log (take len i.past.diary)) (take len i.past.diary)) (sym c.in_ok-tree.ensures)
     (possible_part s doc len may i.past.log lawful c.reached_is_past.ensures c.resolved_is_near.ensures c.possible.ensures.few)))
@@ -39,9 +39,9 @@ over-requires g c =
     let part = cut_log i.past.log (take len i.past.diary) in
     let past_is : c.in_ok-past.past ≡ record { document = doc; log = part; diary = take len i.past.diary; marked = None } =
     c.in_ok-past.ensures
-    ∙ (ap (λ (d : Document). record { document = d; log = c.in_ok-log.log; diary = take len c.book-2.result.now; marked = None }) c.in_ok-tree.ensures
-    ∙ (ap (λ (l : List LogEntry). record { document = doc; log = l; diary = take len c.book-2.result.now; marked = None }) log_is
-    ∙ ap (λ (d : List Entry). record { document = doc; log = part; diary = take len d; marked = None }) c.book-2.ensures)) in
+    ∙ (ap (λ (d : Document). record { document = d; log = c.in_ok-log.log; diary = take len c.entries.result.now; marked = None }) c.in_ok-tree.ensures
+    ∙ (ap (λ (l : List LogEntry). record { document = doc; log = l; diary = take len c.entries.result.now; marked = None }) log_is
+    ∙ ap (λ (d : List Entry). record { document = doc; log = part; diary = take len d; marked = None }) (c.entries.ensures ∙ c.book-2.ensures))) in
     let z = to_z w64 (of_z w64 c.last_moment-moment.result) in
     let at = to_z-of_z w64 c.last_moment-moment.result (record { sfits = c.last_moment-moment.type_inv }) ∙ c.last_moment-moment.ensures ∙ (ap (λ (p : Happened). last_moment p.diary) past_is ∙ sym (moment_is s doc len may)) in
     subst (λ (p : Happened). MayBegin p z) (sym past_is)
@@ -60,9 +60,9 @@ returns-clause-rebuilt g c =
     let part = cut_log i.past.log (take len i.past.diary) in
     let past_is : c.in_ok-past.past ≡ record { document = doc; log = part; diary = take len i.past.diary; marked = None } =
     c.in_ok-past.ensures
-    ∙ (ap (λ (d : Document). record { document = d; log = c.in_ok-log.log; diary = take len c.book-2.result.now; marked = None }) c.in_ok-tree.ensures
-    ∙ (ap (λ (l : List LogEntry). record { document = doc; log = l; diary = take len c.book-2.result.now; marked = None }) log_is
-    ∙ ap (λ (d : List Entry). record { document = doc; log = part; diary = take len d; marked = None }) c.book-2.ensures)) in
+    ∙ (ap (λ (d : Document). record { document = d; log = c.in_ok-log.log; diary = take len c.entries.result.now; marked = None }) c.in_ok-tree.ensures
+    ∙ (ap (λ (l : List LogEntry). record { document = doc; log = l; diary = take len c.entries.result.now; marked = None }) log_is
+    ∙ ap (λ (d : List Entry). record { document = doc; log = part; diary = take len d; marked = None }) (c.entries.ensures ∙ c.book-2.ensures))) in
     let z = to_z w64 (of_z w64 c.last_moment-moment.result) in
     let at = to_z-of_z w64 c.last_moment-moment.result (record { sfits = c.last_moment-moment.type_inv }) ∙ c.last_moment-moment.ensures ∙ (ap (λ (p : Happened). last_moment p.diary) past_is ∙ sym (moment_is s doc len may)) in
     subst (λ (x : Standing). IfOk c.over.result (IsRebuilt x doc len)) c.self.view_is
