@@ -35,6 +35,7 @@ fn answers<R: AllocGlobal + Abort, S: Source>(rt: &R, source: &mut S) -> Result<
     Ok(out)
 }
 
+// Reads to the end, and expects these answers.
 fn expect_lines<R: AllocGlobal + Abort>(
     rt: &R,
     mut source: MemSource,
