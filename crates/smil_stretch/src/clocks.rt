@@ -73,8 +73,8 @@ impl Clocks {
     {
         tree.valid();
         let mut clocks = Clocks::new(alloc, tree)?;
-        for place in 0..book.len() {
-            clocks.follow(book.entry(place).unwrap());
+        for entry in book.entries() {
+            clocks.follow(*entry);
         }
         Ok(clocks)
     }

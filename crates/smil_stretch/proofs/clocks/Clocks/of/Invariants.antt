@@ -4,5 +4,5 @@ use Rattle.smil_stretch.specs.Clocks.{IsHistoryOf, AreClocksOf}
 use Rattle.smil_stretch.proofs.clocks.Clocks.of.Given as goal
 
 -- the clocks after the entries so far
-abbrev pub invariant-loop-place : goal.invariant-loop-place
-invariant-loop-place l = (h : History) → IsHistoryOf h l.tree l.book → AreClocksOf l.clocks (up_to h (take l.place h.diary))
+abbrev pub invariant-loop-entry : goal.invariant-loop-entry
+invariant-loop-entry l = (h : History) → IsHistoryOf h l.tree l.book → AreClocksOf l.clocks (up_to h (take l.entry-index h.diary))
