@@ -257,8 +257,9 @@ fn idle_clocks(alloc: Global, tree: &Tree) -> Result<Vec<NodeClock>, AllocError>
     Ok(clocks)
 }
 
-// The place of the time parent of a node.
-fn parent_place(tree: &Tree, serial: u32) -> Option<usize>
+/// The place of the time parent of a node in document order; None where it has none. It takes no
+/// memory.
+pub fn parent_place(tree: &Tree, serial: u32) -> Option<usize>
     requires { IsSome (node_at tree.now.nodes serial) }
     ensures { result ≡ parent_place tree.now.nodes serial }
 {
