@@ -42,4 +42,5 @@ IsAttr in_seq given = (text : List ℕ) × (value_of in_seq (name_of given) text
 
 -- each attribute that is there is one of the kind's, and some text is read as it
 abbrev pub IsAttrs : Bool → Kind → Attrs → Type 0
-IsAttrs in_seq kind attrs = (n : AttrName) → IfSome (attr_at attrs n) (λ given. IsTrue (has kind n) × IsAttr in_seq given)
+IsAttrs in_seq kind attrs =
+    (n : AttrName) → IfSome (attr_at attrs n) (λ given. IsTrue (has kind n) × IsAttr in_seq given)

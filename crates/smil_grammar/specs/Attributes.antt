@@ -28,7 +28,9 @@ kind_text kind.Set = codes "set"
 
 -- all kinds
 abbrev pub kinds : List Kind
-kinds = kind.Par ∷ kind.Seq ∷ kind.Excl ∷ kind.PriorityClass ∷ kind.Img ∷ kind.Text ∷ kind.Brush ∷ kind.Audio ∷ kind.Video ∷ kind.Animation ∷ kind.TextStream ∷ kind.Ref ∷ kind.Set ∷ []
+kinds =
+    kind.Par ∷ kind.Seq ∷ kind.Excl ∷ kind.PriorityClass ∷ kind.Img ∷ kind.Text ∷ kind.Brush
+    ∷ kind.Audio ∷ kind.Video ∷ kind.Animation ∷ kind.TextStream ∷ kind.Ref ∷ kind.Set ∷ []
 
 -- the kind of a word
 abbrev pub kind_called : List ℕ → Option Kind
@@ -36,7 +38,8 @@ kind_called text = find (λ k. bytes_eq text (kind_text k)) kinds
 
 -- elements of SMIL that are left out
 abbrev pub is_other_kind : List ℕ → Bool
-is_other_kind text = list_any (bytes_eq text) (codes "switch" ∷ codes "prefetch" ∷ codes "smilText" ∷ codes "body" ∷ [])
+is_other_kind text =
+    list_any (bytes_eq text) (codes "switch" ∷ codes "prefetch" ∷ codes "smilText" ∷ codes "body" ∷ [])
 
 -- the word of an attribute
 abbrev pub name_text : AttrName → List ℕ
@@ -66,8 +69,11 @@ name_text name.To = codes "to"
 
 -- all attributes, in the order in which they are printed
 abbrev pub names : List AttrName
-names = name.Id ∷ name.Begin ∷ name.Dur ∷ name.End ∷ name.Min ∷ name.Max ∷ name.RepeatCount ∷ name.RepeatDur ∷ name.Restart ∷ name.Fill ∷ name.RestartDefault ∷ name.FillDefault ∷ name.Endsync
-    ∷ name.Peers ∷ name.Higher ∷ name.Lower ∷ name.Src ∷ name.Region ∷ name.Alt ∷ name.Title ∷ name.TargetElement ∷ name.AttributeName ∷ name.To ∷ []
+names =
+    name.Id ∷ name.Begin ∷ name.Dur ∷ name.End ∷ name.Min ∷ name.Max ∷ name.RepeatCount
+    ∷ name.RepeatDur ∷ name.Restart ∷ name.Fill ∷ name.RestartDefault ∷ name.FillDefault
+    ∷ name.Endsync ∷ name.Peers ∷ name.Higher ∷ name.Lower ∷ name.Src ∷ name.Region ∷ name.Alt
+    ∷ name.Title ∷ name.TargetElement ∷ name.AttributeName ∷ name.To ∷ []
 
 -- the attribute of a word
 abbrev pub name_called : List ℕ → Option AttrName
@@ -90,8 +96,11 @@ has k _ = not (is_class_kind k)
 
 -- attributes of SMIL that are left out
 abbrev pub is_other_name : List ℕ → Bool
-is_other_name text = list_any (bytes_eq text) (codes "speed" ∷ codes "accelerate" ∷ codes "decelerate" ∷ codes "autoReverse" ∷ codes "syncBehavior" ∷ codes "syncTolerance"
-    ∷ codes "syncMaster" ∷ codes "syncBehaviorDefault" ∷ codes "syncToleranceDefault" ∷ codes "pauseDisplay" ∷ [])
+is_other_name text =
+    list_any (bytes_eq text)
+    (codes "speed" ∷ codes "accelerate" ∷ codes "decelerate" ∷ codes "autoReverse"
+    ∷ codes "syncBehavior" ∷ codes "syncTolerance" ∷ codes "syncMaster" ∷ codes "syncBehaviorDefault"
+    ∷ codes "syncToleranceDefault" ∷ codes "pauseDisplay" ∷ [])
 
 -- the fault of a word that no attribute of the profile has
 abbrev pub unnamed : List ℕ → AttrFault

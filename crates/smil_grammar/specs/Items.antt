@@ -1,5 +1,5 @@
--- Items of begin and end lists: `3s`, `-1s`, `a.begin`, `a\.b.end+2s`, `click`, `a.click`, `a.repeat(2)`, `accesskey(x)`
--- and `indefinite`. The name of the element of an item is None where the item names none.
+-- Items of begin and end lists: `3s`, `-1s`, `a.begin`, `a\.b.end+2s`, `click`, `a.click`, `a.repeat(2)`,
+-- `accesskey(x)` and `indefinite`. The name of the element of an item is None where the item names none.
 use Rattle.std.specs.Prelude.{◌≡◌, ℕ, ℤ, pos, neg_ℤ, Bool, true, false, not, ◌||◌, ◌&&◌, List, [], ◌∷◌, length, take, drop, Option, Some, None, option_map, Result, Ok, Err, nat_lt, ◌==◌, if◌then◌else◌, codes, bytes_eq}
 use Rattle.std.specs.List.{starts_with}
 use Rattle.std.specs.Bool.{nat_eq}
@@ -84,7 +84,8 @@ what_of who text = word_of who (take (name_len text) text) (drop (name_len text)
 
 -- an item of an element that a reference names: media markers are left out
 abbrev pub of_element : List ℕ → List ℕ → Result Item ItemFault
-of_element who text = if starts_with nat_eq text (codes "marker(") then Err Unsupported else ok_or (what_of (Some who) text) Bad
+of_element who text =
+    if starts_with nat_eq text (codes "marker(") then Err Unsupported else ok_or (what_of (Some who) text) Bad
 
 -- where a point stands behind the longest id at the front, the id names the element
 abbrev pub subject_of : List ℕ → Option (List ℕ) → Result Item ItemFault

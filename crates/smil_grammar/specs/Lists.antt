@@ -42,7 +42,9 @@ pieces_of text = slice_split (λ b. b == semicolon) text
 
 -- at most so many items: their count comes before the items
 abbrev pub few_items : Option ℕ → List ℕ → Result (List Item) ListFault
-few_items first text = if nat_lt ITEMS (length (pieces_of text)) then Err TooManyItems else items_from first 0 (pieces_of text)
+few_items first text =
+    if nat_lt ITEMS (length (pieces_of text)) then Err TooManyItems
+    else items_from first 0 (pieces_of text)
 
 -- one offset that isn't negative
 abbrev pub is_plain : List Item → Bool

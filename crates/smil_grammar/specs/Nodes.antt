@@ -37,7 +37,9 @@ pub record Written : Type 0 where
 
 -- a word and `=` behind it
 abbrev pub is_named : List ℕ → Bool
-is_named run = nat_lt 1 (length run) && bytes_eq (drop (length run - 1) run) (codes "=") && list_all is_no_space run && is_utf8 run
+is_named run =
+    nat_lt 1 (length run) && bytes_eq (drop (length run - 1) run) (codes "=")
+    && list_all is_no_space run && is_utf8 run
 
 -- spaces, a name and `=`, at this place of the line
 abbrev pub attribute_at : ℕ → List ℕ → List ℕ → Option Written
@@ -45,7 +47,12 @@ attribute_at place lead value =
     let spaces : ℕ = prefix_len is_space lead in
     let run : List ℕ = drop spaces lead in
     if nat_lt 0 spaces && is_named run
-    then Some (record { name = take (length run - 1) run; name_place = place + spaces; value = value; value_place = place + length lead + 1 })
+    then Some (record {
+      name = take (length run - 1) run;
+      name_place = place + spaces;
+      value = value;
+      value_place = place + length lead + 1;
+    })
     else None
 
 abbrev pub with_written : Option Written → Option (List Written) → Option (List Written)
@@ -56,7 +63,9 @@ with_written _ _ = None
 abbrev pub attributes_at : ℕ → List (List ℕ) → Option (List Written)
 attributes_at place [] = None
 attributes_at place (last ∷ []) = if list_all is_space last then Some [] else None
-attributes_at place (lead ∷ value ∷ pieces) = with_written (attribute_at place lead value) (attributes_at (place + length lead + length value + 2) pieces)
+attributes_at place (lead ∷ value ∷ pieces) =
+    with_written (attribute_at place lead value)
+    (attributes_at (place + length lead + length value + 2) pieces)
 
 -- a kind, and the attributes behind it
 pub record Shape : Type 0 where
@@ -65,7 +74,10 @@ pub record Shape : Type 0 where
 
 abbrev pub shaped : List ℕ → Option (List Written) → Option Shape
 shaped kind None = None
-shaped kind (Some attributes) = if nat_lt 0 (length kind) && is_utf8 kind then Some (record { kind = kind; attributes = attributes }) else None
+shaped kind (Some attributes) =
+    if nat_lt 0 (length kind) && is_utf8 kind
+    then Some (record { kind = kind; attributes = attributes })
+    else None
 
 -- a byte of a kind
 abbrev pub is_of_kind : ℕ → Bool
@@ -89,7 +101,8 @@ abbrev pub shape_behind : List ℕ → Option (List ℕ) → Option (ℕ × Shap
 shape_behind kind None = None
 shape_behind kind (Some text) =
     let digits : ℕ = prefix_len is_ascii_digit text in
-    with_serial (count_of (take digits text)) (shaped kind (attributes_at (length kind + 2 + digits) (pieces_of (drop digits text))))
+    with_serial (count_of (take digits text))
+    (shaped kind (attributes_at (length kind + 2 + digits) (pieces_of (drop digits text))))
 
 abbrev pub saved_shape_of : List ℕ → Option (ℕ × Shape)
 saved_shape_of line =
@@ -99,7 +112,8 @@ saved_shape_of line =
 -- a name that stands twice
 abbrev pub repeats : List Written → Bool
 repeats [] = false
-repeats (attribute ∷ attributes) = list_any (λ (other : Written). bytes_eq other.name attribute.name) attributes || repeats attributes
+repeats (attribute ∷ attributes) =
+    list_any (λ (other : Written). bytes_eq other.name attribute.name) attributes || repeats attributes
 
 -- the kind of a node line: its shape and repeated names come before it
 abbrev pub kind_or : List ℕ → Option Kind → Result Kind NodeFault
@@ -108,7 +122,8 @@ kind_or word None = if is_other_kind word then Err (Unsupported 1) else Err BadO
 
 abbrev pub kind_of_shape : Option Shape → Result Kind NodeFault
 kind_of_shape None = Err BadOutline
-kind_of_shape (Some shape) = if repeats shape.attributes then Err BadOutline else kind_or shape.kind (kind_called shape.kind)
+kind_of_shape (Some shape) =
+    if repeats shape.attributes then Err BadOutline else kind_or shape.kind (kind_called shape.kind)
 
 abbrev pub kind_of : List ℕ → Result Kind NodeFault
 kind_of line = kind_of_shape (shape_of line)
@@ -137,12 +152,15 @@ attr_of in_seq k written = at_column written (attribute_of in_seq k written.name
 -- from left to right, up to the first fault
 abbrev pub attrs_from : Bool → Kind → Attrs → List Written → Result Attrs NodeFault
 attrs_from in_seq k attrs [] = Ok attrs
-attrs_from in_seq k attrs (written ∷ others) = attr_of in_seq k written >>= λ given. attrs_from in_seq k (with_attr attrs given) others
+attrs_from in_seq k attrs (written ∷ others) =
+    attr_of in_seq k written >>= λ given. attrs_from in_seq k (with_attr attrs given) others
 
 abbrev pub attrs_of : Option Kind → Kind → Option Shape → Result (Kind × Attrs) NodeFault
 attrs_of parent k None = Err BadOutline
 attrs_of parent k (Some shape) =
-    if may_stand parent k then (attrs_from (is_seq_parent parent) k no_attrs shape.attributes >>= λ attrs. Ok (k, attrs)) else Err BadPlace
+    if may_stand parent k
+    then (attrs_from (is_seq_parent parent) k no_attrs shape.attributes >>= λ attrs. Ok (k, attrs))
+    else Err BadPlace
 
 -- a node line without leading spaces, below a parent
 abbrev pub node_of : Option Kind → List ℕ → Result (Kind × Attrs) NodeFault

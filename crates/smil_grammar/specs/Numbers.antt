@@ -34,7 +34,8 @@ fraction_of first digits = do
   Some (weight first digits)
 
 -- the number before the point and what is behind it, or the number alone
-abbrev pub parts_of : (List ℕ → Option ℕ) → ℕ → List ℕ → Option (List ℕ × List ℕ) → Option (ℕ × ℕ)
+abbrev pub parts_of : (List ℕ → Option ℕ) → ℕ → List ℕ → Option (List ℕ × List ℕ)
+    → Option (ℕ × ℕ)
 parts_of whole first text None = do
   n ← whole text
   Some (n, 0)

@@ -60,7 +60,10 @@ differ false b = b
 -- an excl doesn't mix classes with other children
 abbrev pub mixes : List Node → Option (ℕ × Kind) → Kind → Bool
 mixes nodes None kind = false
-mixes nodes (Some parent) kind = list_any (λ (n : Node). (n.parent == parent.0) && differ (is_class_kind n.kind) (is_class_kind kind)) nodes
+mixes nodes (Some parent) kind =
+    list_any
+    (λ (n : Node). (n.parent == parent.0) && differ (is_class_kind n.kind) (is_class_kind kind))
+    nodes
 
 -- a node that has this id already
 abbrev pub has_id : List Node → Option (List ℕ) → Bool
@@ -90,18 +93,26 @@ is_bad_serial outline (Some next) serial =
 -- whether a node of this kind may not stand below these
 abbrev pub is_misplaced : Outline → List (ℕ × Kind) → Kind → Bool
 is_misplaced outline above kind =
-    not (may_stand (option_map (λ (n : ℕ × Kind). n.1) (last_of above)) kind) || (length above == 0 && nat_lt 0 (length outline.nodes))
+    not (may_stand (option_map (λ (n : ℕ × Kind). n.1) (last_of above)) kind)
+    || (length above == 0 && nat_lt 0 (length outline.nodes))
     || mixes outline.nodes (last_of above) kind
 
 -- the node of a line below these nodes: its place, its attributes, and what a document within these limits can hold
-abbrev pub node_within : Limits → Outline → ℕ → List (ℕ × Kind) → Kind → ℕ → Shape → Result Node Refusal
+abbrev pub node_within : Limits → Outline → ℕ → List (ℕ × Kind) → Kind → ℕ → Shape
+    → Result Node Refusal
 node_within allowed outline spaces above kind serial shape = do
   placed ← unless (is_misplaced outline above kind) refusal.BadPlace
   attrs ← in_line spaces (attrs_in (last_of above) kind shape)
   single ← unless (has_id outline.nodes attrs.id) refusal.DuplicateId
   few ← unless (nat_le allowed.nodes (length outline.nodes)) refusal.TooManyElements
-  light ← unless (nat_lt allowed.references (references outline.nodes + references_among attrs)) refusal.TooManyReferences
-  Ok (record { serial = serial; kind = kind; parent = unwrap_or (option_map (λ (n : ℕ × Kind). n.0) (last_of above)) 0; attrs = attrs })
+  light ← unless (nat_lt allowed.references (references outline.nodes + references_among attrs))
+      refusal.TooManyReferences
+  Ok (record {
+    serial = serial;
+    kind = kind;
+    parent = unwrap_or (option_map (λ (n : ℕ × Kind). n.0) (last_of above)) 0;
+    attrs = attrs;
+  })
 
 -- the header of an outline that gives serials: the next serial
 abbrev pub header_of : List ℕ → Option ℕ
@@ -111,7 +122,8 @@ header_of line = if starts_with nat_eq line (codes "outline 2 next ") then count
 abbrev pub opens_saved : Outline → List ℕ → Bool
 opens_saved outline line =
     let text : List ℕ = drop (prefix_len is_space line) line in
-    not (is_some outline.next) && (length outline.nodes == 0) && bytes_eq (take (prefix_len is_no_space text) text) (codes "outline")
+    not (is_some outline.next) && (length outline.nodes == 0)
+    && bytes_eq (take (prefix_len is_no_space text) text) (codes "outline")
 
 abbrev pub with_header : Outline → Option ℕ → Result Outline Refusal
 with_header outline None = Err refusal.BadOutline
@@ -152,7 +164,8 @@ line_within allowed outline line = do
 -- line by line, up to the first refusal
 abbrev pub lines_within : Limits → Outline → List (List ℕ) → Result Outline Refusal
 lines_within allowed outline [] = Ok outline
-lines_within allowed outline (line ∷ lines) = line_within allowed outline line >>= λ more. lines_within allowed more lines
+lines_within allowed outline (line ∷ lines) =
+    line_within allowed outline line >>= λ more. lines_within allowed more lines
 
 -- the same within the limits that hold
 abbrev pub with_line : Outline → List ℕ → Result Outline Refusal

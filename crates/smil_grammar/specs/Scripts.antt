@@ -26,7 +26,10 @@ pub record Word : Type 0 where
 
 -- the line from its next word on, and its place
 abbrev pub skipped : Word → Word
-skipped line = record { text = drop (prefix_len is_space line.text) line.text; place = line.place + prefix_len is_space line.text }
+skipped line = record {
+  text = drop (prefix_len is_space line.text) line.text;
+  place = line.place + prefix_len is_space line.text;
+}
 
 -- the first word of a line, and what stands behind it
 abbrev pub first_of : Word → Word × Word
@@ -39,10 +42,13 @@ first_of line =
 abbrev pub is_ended : Word → Bool
 is_ended line = list_all is_space line.text
 
--- a presentation's name: a letter, then letters, digits, `_` and `-`, at most so many bytes, and neither `load` nor `close`
+-- a presentation's name: a letter, then letters, digits, `_` and `-`, at most so many bytes, and neither `load`
+-- nor `close`
 abbrev pub is_title : List ℕ → Bool
 is_title [] = false
-is_title (b ∷ bytes) = not (b == underscore) && (word_len is_of_attribute (b ∷ bytes) == length (b ∷ bytes)) && nat_lt (length bytes) NAME_BYTES
+is_title (b ∷ bytes) =
+    not (b == underscore) && (word_len is_of_attribute (b ∷ bytes) == length (b ∷ bytes))
+    && nat_lt (length bytes) NAME_BYTES
     && not (list_any (bytes_eq (b ∷ bytes)) (codes "load" ∷ codes "close" ∷ []))
 
 -- a serial behind `#`, or an id
@@ -58,7 +64,9 @@ who_of text = who_or text (behind number_sign text)
 abbrev pub event_of : List ℕ → Option (List ℕ)
 event_of text =
     if not (length text == 0) && (name_len text == length text)
-    && not (list_any (bytes_eq text) (codes "begin" ∷ codes "end" ∷ codes "repeat" ∷ codes "indefinite" ∷ codes "beginEvent" ∷ codes "endEvent" ∷ codes "repeatEvent" ∷ []))
+    && not (list_any (bytes_eq text)
+    (codes "begin" ∷ codes "end" ∷ codes "repeat" ∷ codes "indefinite" ∷ codes "beginEvent"
+    ∷ codes "endEvent" ∷ codes "repeatEvent" ∷ []))
     then Some text else None
 
 -- A reading gives an order, and a clock value that is its last word is looked at after all else.
@@ -89,39 +97,53 @@ with_clock order line =
 
 -- a word that names an element, and what goes on behind it
 abbrev pub with_who : (Who → Word → Option Reading) → Word → Option Reading
-with_who goes_on line = let cut : Word × Word = first_of line in who_of cut.0.text >>= λ who. goes_on who cut.1
+with_who goes_on line =
+    let cut : Word × Word = first_of line in
+    who_of cut.0.text >>= λ who. goes_on who cut.1
 
 -- `event`: the event's name
 abbrev pub event_line : Who → Word → Option Reading
-event_line who line = let cut : Word × Word = first_of line in event_of cut.0.text >>= λ name. at_end cut.1 (given (order.Event who name))
+event_line who line =
+    let cut : Word × Word = first_of line in
+    event_of cut.0.text >>= λ name. at_end cut.1 (given (order.Event who name))
 
 -- an attribute's name: any word without a quote
 abbrev pub attribute_of : List ℕ → Option (List ℕ)
-attribute_of text = if not (length text == 0) && is_utf8 text && not (list_any (λ b. b == quote) text) then Some text else None
+attribute_of text =
+    if not (length text == 0) && is_utf8 text && not (list_any (λ b. b == quote) text)
+    then Some text
+    else None
 
 -- `unset`: the attribute's name
 abbrev pub unset_line : Who → Word → Option Reading
-unset_line who line = let cut : Word × Word = first_of line in attribute_of cut.0.text >>= λ name. at_end cut.1 (given (order.Unset who name (cut.0.place + 1)))
+unset_line who line =
+    let cut : Word × Word = first_of line in
+    attribute_of cut.0.text >>= λ name. at_end cut.1 (given (order.Unset who name (cut.0.place + 1)))
 
 -- a value between quotes, and nothing but spaces behind it
 abbrev pub quoted : Word → Option (List ℕ × Word)
 quoted line =
     let from : Word = skipped line in
     behind quote from.text >>= λ inner. cut_at quote inner >>= λ cut.
-    if nat_lt line.place from.place && list_all is_space cut.1 then Some (cut.0, record { text = cut.0; place = from.place + 1 }) else None
+    if nat_lt line.place from.place && list_all is_space cut.1
+    then Some (cut.0, record { text = cut.0; place = from.place + 1 })
+    else None
 
 -- `set`: the attribute's name and the value between quotes
 abbrev pub set_line : Who → Word → Option Reading
 set_line who line =
     let cut : Word × Word = first_of line in
-    attribute_of cut.0.text >>= λ name. quoted cut.1 >>= λ value. Some (given (order.Set who name value.0 (cut.0.place + 1) (value.1.place + 1)))
+    attribute_of cut.0.text >>= λ name. quoted cut.1 >>= λ value.
+    Some (given (order.Set who name value.0 (cut.0.place + 1) (value.1.place + 1)))
 
 -- `insert`: a place of 1 to 9 digits, and the node line to the end of the line
 abbrev pub insert_line : Who → Word → Option Reading
 insert_line who line =
     let cut : Word × Word = first_of line in
     let node : Word = skipped cut.1 in
-    short_number_of cut.0.text >>= λ place. if length node.text == 0 then None else Some (given (order.Insert who place node.text (node.place + 1)))
+    short_number_of cut.0.text >>= λ place.
+    if length node.text == 0 then None
+    else Some (given (order.Insert who place node.text (node.place + 1)))
 
 -- `key`: one byte, which is an access key
 abbrev pub key_in : List ℕ → Option ℕ
@@ -129,11 +151,15 @@ key_in (b ∷ []) = if is_key b then Some b else None
 key_in _ = None
 
 abbrev pub key_line : Word → Option Reading
-key_line line = let cut : Word × Word = first_of line in key_in cut.0.text >>= λ key. at_end cut.1 (given (order.Key key))
+key_line line =
+    let cut : Word × Word = first_of line in
+    key_in cut.0.text >>= λ key. at_end cut.1 (given (order.Key key))
 
 -- `stack`: the attribute's name
 abbrev pub stack_line : Who → Word → Option Reading
-stack_line who line = let cut : Word × Word = first_of line in attribute_of cut.0.text >>= λ name. at_end cut.1 (given (order.Stack who name))
+stack_line who line =
+    let cut : Word × Word = first_of line in
+    attribute_of cut.0.text >>= λ name. at_end cut.1 (given (order.Stack who name))
 
 -- the order behind a presentation's name, by its first word
 abbrev pub order_line : List ℕ → Word → Option Reading
@@ -168,14 +194,18 @@ to name (Err refusal) = Err refusal
 
 -- `load` or `close` and a name
 abbrev pub named : (List ℕ → Read) → Word → Option Read
-named read line = let cut : Word × Word = first_of line in if is_title cut.0.text then at_end cut.1 (read cut.0.text) else None
+named read line =
+    let cut : Word × Word = first_of line in
+    if is_title cut.0.text then at_end cut.1 (read cut.0.text) else None
 
 -- a line by its first word
 abbrev pub command : Word × Word → Result Read Refusal
 command cut =
     if bytes_eq cut.0.text (codes "load") then or_refused (named Load cut.1)
     else (if bytes_eq cut.0.text (codes "close") then or_refused (named Close cut.1)
-    else (if is_title cut.0.text then (let verb : Word × Word = first_of cut.1 in to cut.0.text (finish (order_line verb.0.text verb.1))) else Err NotACommand))
+    else (if is_title cut.0.text
+    then (let verb : Word × Word = first_of cut.1 in to cut.0.text (finish (order_line verb.0.text verb.1)))
+    else Err NotACommand))
 
 -- a line that has no answer: white space alone, or one whose first byte is `#`
 abbrev pub is_blank : List ℕ → Bool

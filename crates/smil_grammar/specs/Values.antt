@@ -55,11 +55,15 @@ id_of text = if not (length text == 0) && (id_len false text == length text) the
 
 -- a clock value or `indefinite`
 abbrev pub time_of : List ℕ → Option Time
-time_of text = either (keyword ((codes "indefinite", time.Indefinite) ∷ []) text) (option_map (λ n. time.At (pos n)) (clock_within text))
+time_of text =
+    either (keyword ((codes "indefinite", time.Indefinite) ∷ []) text)
+    (option_map (λ n. time.At (pos n)) (clock_within text))
 
 -- a clock value, `media` or `indefinite`
 abbrev pub dur_of : List ℕ → Option Dur
-dur_of text = either (keyword ((codes "media", dur.Media) ∷ (codes "indefinite", dur.Indefinite) ∷ []) text) (option_map (λ n. dur.Clock (pos n)) (clock_within text))
+dur_of text =
+    either (keyword ((codes "media", dur.Media) ∷ (codes "indefinite", dur.Indefinite) ∷ []) text)
+    (option_map (λ n. dur.Clock (pos n)) (clock_within text))
 
 -- a length of repetitions isn't 0
 abbrev pub above_zero : ℕ → Option ℕ
@@ -67,7 +71,9 @@ above_zero n = if n == 0 then None else Some n
 
 -- a clock value above 0 or `indefinite`
 abbrev pub repeat_dur_of : List ℕ → Option Time
-repeat_dur_of text = either (keyword ((codes "indefinite", time.Indefinite) ∷ []) text) (option_map (λ n. time.At (pos n)) (clock_within text >>= above_zero))
+repeat_dur_of text =
+    either (keyword ((codes "indefinite", time.Indefinite) ∷ []) text)
+    (option_map (λ n. time.At (pos n)) (clock_within text >>= above_zero))
 
 -- at most so many digits
 abbrev pub short_number_of : List ℕ → Option ℕ
@@ -79,25 +85,43 @@ thousandths n = n.0 * 1000 + n.1
 
 -- a number of repetitions above 0 or `indefinite`
 abbrev pub count_of : List ℕ → Option Count
-count_of text = either (keyword ((codes "indefinite", count.Indefinite) ∷ []) text) (option_map count.Thousandths (option_map thousandths (with_fraction short_number_of 100 text) >>= above_zero))
+count_of text =
+    either (keyword ((codes "indefinite", count.Indefinite) ∷ []) text)
+    (option_map count.Thousandths
+    (option_map thousandths (with_fraction short_number_of 100 text) >>= above_zero))
 
 -- `always`, `whenNotActive`, `never` or `default`
 abbrev pub restart_of : List ℕ → Option Restart
-restart_of text = keyword ((codes "always", restart.Always) ∷ (codes "whenNotActive", restart.WhenNotActive) ∷ (codes "never", restart.Never) ∷ (codes "default", restart.ByDefault) ∷ []) text
+restart_of text =
+    keyword
+    ((codes "always", restart.Always) ∷ (codes "whenNotActive", restart.WhenNotActive)
+    ∷ (codes "never", restart.Never) ∷ (codes "default", restart.ByDefault) ∷ [])
+    text
 
 -- `remove`, `freeze`, `hold`, `auto` or `default`
 abbrev pub fill_of : List ℕ → Option Fill
-fill_of text = keyword ((codes "remove", fill.Remove) ∷ (codes "freeze", fill.Freeze) ∷ (codes "hold", fill.Hold) ∷ (codes "auto", fill.Auto) ∷ (codes "default", fill.ByDefault) ∷ []) text
+fill_of text =
+    keyword
+    ((codes "remove", fill.Remove) ∷ (codes "freeze", fill.Freeze) ∷ (codes "hold", fill.Hold)
+    ∷ (codes "auto", fill.Auto) ∷ (codes "default", fill.ByDefault) ∷ [])
+    text
 
 -- `always`, `whenNotActive`, `never` or `inherit`
 abbrev pub restart_default_of : List ℕ → Option RestartDefault
 restart_default_of text =
-    keyword ((codes "always", restart_default.Always) ∷ (codes "whenNotActive", restart_default.WhenNotActive) ∷ (codes "never", restart_default.Never) ∷ (codes "inherit", restart_default.Inherit) ∷ []) text
+    keyword
+    ((codes "always", restart_default.Always) ∷ (codes "whenNotActive", restart_default.WhenNotActive)
+    ∷ (codes "never", restart_default.Never) ∷ (codes "inherit", restart_default.Inherit) ∷ [])
+    text
 
 -- `remove`, `freeze`, `hold`, `auto` or `inherit`
 abbrev pub fill_default_of : List ℕ → Option FillDefault
 fill_default_of text =
-    keyword ((codes "remove", fill_default.Remove) ∷ (codes "freeze", fill_default.Freeze) ∷ (codes "hold", fill_default.Hold) ∷ (codes "auto", fill_default.Auto) ∷ (codes "inherit", fill_default.Inherit) ∷ []) text
+    keyword
+    ((codes "remove", fill_default.Remove) ∷ (codes "freeze", fill_default.Freeze)
+    ∷ (codes "hold", fill_default.Hold) ∷ (codes "auto", fill_default.Auto)
+    ∷ (codes "inherit", fill_default.Inherit) ∷ [])
+    text
 
 -- the name of an attribute that a set sets
 abbrev pub attribute_name_of : List ℕ → Option (List ℕ)
@@ -105,11 +129,20 @@ attribute_name_of text = if is_attribute_name text then Some text else None
 
 -- keywords go before ids
 abbrev pub endsync_of : List ℕ → Option Endsync
-endsync_of text = either (keyword ((codes "last", endsync.Last) ∷ (codes "first", endsync.First) ∷ (codes "all", endsync.All) ∷ []) text) (option_map endsync.Child (id_of text))
+endsync_of text =
+    either
+    (keyword
+    ((codes "last", endsync.Last) ∷ (codes "first", endsync.First) ∷ (codes "all", endsync.All) ∷ [])
+    text)
+    (option_map endsync.Child (id_of text))
 
 -- what is done where a peer of the class begins: `stop`, `pause`, `defer` or `never`
 abbrev pub peers_of : List ℕ → Option Act
-peers_of text = keyword ((codes "stop", act.Stop) ∷ (codes "pause", act.Pause) ∷ (codes "defer", act.Defer) ∷ (codes "never", act.Never) ∷ []) text
+peers_of text =
+    keyword
+    ((codes "stop", act.Stop) ∷ (codes "pause", act.Pause) ∷ (codes "defer", act.Defer)
+    ∷ (codes "never", act.Never) ∷ [])
+    text
 
 -- what is done where an element of a higher class begins: `stop` or `pause`
 abbrev pub higher_of : List ℕ → Option Act
@@ -173,4 +206,5 @@ plain_value_of in_seq name.To text = of_value attr.To (kept_of text)
 
 -- a value, where it isn't left out
 abbrev pub value_of : Bool → AttrName → List ℕ → Result Attr AttrFault
-value_of in_seq name text = if is_other_value name (trim text) then Err (UnsupportedValue 0) else plain_value_of in_seq name text
+value_of in_seq name text =
+    if is_other_value name (trim text) then Err (UnsupportedValue 0) else plain_value_of in_seq name text

@@ -16,7 +16,9 @@ abbrev pub escaped_len : Bool → List ℕ → ℕ
 escaped_len true [] = 0
 escaped_len false [] = 0
 escaped_len true (b ∷ bytes) = let n = escaped_len false bytes in if is_dash b then 2 + n else 0
-escaped_len false (b ∷ bytes) = let n = escaped_len (b == backslash) bytes in if is_of_name b then 1 + n else (if b == backslash then n else 0)
+escaped_len false (b ∷ bytes) =
+    let n = escaped_len (b == backslash) bytes in
+    if is_of_name b then 1 + n else (if b == backslash then n else 0)
 
 -- how many bytes the longest id in a reference has
 abbrev pub reference_len : List ℕ → ℕ
@@ -38,5 +40,6 @@ name_len text = short_len EVENT_BYTES (word_len is_of_name text) (word_len is_of
 -- how many bytes the longest id at the front has, written plainly or as in a reference, whose backslashes
 -- don't count for its own length
 abbrev pub id_len : Bool → List ℕ → ℕ
-id_len true text = short_len ID_BYTES (count_by (λ b. not (b == backslash)) (take (reference_len text) text)) (reference_len text)
+id_len true text =
+    short_len ID_BYTES (count_by (λ b. not (b == backslash)) (take (reference_len text) text)) (reference_len text)
 id_len false text = short_len ID_BYTES (word_len is_of_id text) (word_len is_of_id text)
