@@ -426,6 +426,105 @@ same_self : (a : Bool) → same_test a a ≡ true
 same_self true = refl
 same_self false = refl
 
+record AreAlike (nodes : List Node) (parent : ℕ) (k : Kind) : Type 0 where
+  before : list_all (λ (m : Node). not (eqb m.parent parent) || same_test (is_class_kind m.kind) (is_class_kind k)) nodes ≡ true
+  behind : list_all (λ (m : Node). not (eqb parent m.parent) || same_test (is_class_kind k) (is_class_kind m.kind)) nodes ≡ true
+
+all_alike : (nodes : List Node) (parent : ℕ) (k : Kind) → list_any (λ (m : Node). eqb m.parent parent && differ (is_class_kind m.kind) (is_class_kind k)) nodes ≡ false → AreAlike nodes parent k
+all_alike [] parent k h = record { before = refl; behind = refl }
+all_alike (m ∷ nodes) parent k h =
+    let parts = or_parts (eqb m.parent parent && differ (is_class_kind m.kind) (is_class_kind k)) (list_any (λ (m : Node). eqb m.parent parent && differ (is_class_kind m.kind) (is_class_kind k)) nodes) h in
+    let one = each m parent k (eqb m.parent parent) refl parts.0 in
+    let others = all_alike nodes parent k parts.1 in
+    record { before = rw (one.0, others.before) refl; behind = rw (one.1, others.behind) refl }
+  where
+    each : (m : Node) (parent : ℕ) (k : Kind) (t : Bool) → eqb m.parent parent ≡ t → (eqb m.parent parent && differ (is_class_kind m.kind) (is_class_kind k)) ≡ false
+        → ((not (eqb m.parent parent) || same_test (is_class_kind m.kind) (is_class_kind k)) ≡ true) × ((not (eqb parent m.parent) || same_test (is_class_kind k) (is_class_kind m.kind)) ≡ true)
+    each m parent k true t h =
+        let same : differ (is_class_kind m.kind) (is_class_kind k) ≡ false = rw t at h in
+        (or_right (not (eqb m.parent parent)) _ (same_of (is_class_kind m.kind) (is_class_kind k) same), or_right (not (eqb parent m.parent)) _ (same_turned (is_class_kind m.kind) (is_class_kind k) same))
+    each m parent k false t h = let back : eqb parent m.parent ≡ false = swap_eqb m.parent parent t in (rw t refl, rw back refl)
+
+rest_of : (before : List Node) (open_nodes : List ℕ) (x : Node) → list_any (λ s. eqb s x.parent) open_nodes ≡ true → IsRest before open_nodes (x ∷ [])
+rest_of before [] x e = absurd cc
+rest_of before (s ∷ above) x e = (e, tt)
+
+limit_on : (nodes : List Node) (x : Node) (next : Option ℕ) → unwrap_or next (length nodes + 1) ≤ SERIALS → length nodes < NODES → unwrap_or next (length (nodes ++ x ∷ []) + 1) ≤ SERIALS
+limit_on nodes x None h few = omega (arith, length-append nodes (x ∷ []))
+limit_on nodes x (Some next) h few = h
+
+tree_grows : (nodes : List Node) (open_nodes kept : List ℕ) (x : Node) → IsTreeTo nodes open_nodes → list_any (λ s. eqb s x.parent) open_nodes ≡ true → kept ≡ open_from x.parent open_nodes → IsTreeTo (nodes ++ x ∷ []) (x.serial ∷ kept)
+tree_grows [] open_nodes kept x h e k = let none : list_any (λ s. eqb s x.parent) [] ≡ true = subst (λ (xs : List ℕ). list_any (λ s. eqb s x.parent) xs ≡ true) h e in absurd cc
+tree_grows (root ∷ nodes) open_nodes kept x h e k =
+    let there : list_any (λ s. eqb s x.parent) (after (root.serial ∷ []) nodes) ≡ true = subst (λ (xs : List ℕ). list_any (λ s. eqb s x.parent) xs ≡ true) h.2 e in
+    (h.0, tree_on (root.serial ∷ []) nodes x h.1 there, ap (λ (xs : List ℕ). x.serial ∷ xs) (k ∙ ap (open_from x.parent) h.2) ∙ sym (after_on (root.serial ∷ []) nodes x))
+
+got : {A : Type 0} (P : A → Type 0) (xs : List A) (i : ℕ) (p : A) → AllByRecursion P xs → slice_get xs i ≡ Some p → P p
+got P [] i p h e = absurd cc
+got P (x ∷ xs) zero p h e = let same : x ≡ p = cc in subst P same h.0
+got P (x ∷ xs) (suc i) p h e = got P xs i p h.1 e
+
+all_taken : {A : Type 0} (P : A → Type 0) (n : ℕ) (xs : List A) → AllByRecursion P xs → AllByRecursion P (take n xs)
+all_taken P zero xs h = tt
+all_taken P (suc n) [] h = tt
+all_taken P (suc n) (x ∷ xs) h = (h.0, all_taken P n xs h.1)
+
+apart : (branch : List (ℕ × Kind)) (depth : ℕ) → upwards branch ≡ upwards (drop depth branch) ++ upwards (take depth branch)
+apart branch depth =
+    ap upwards (sym (take-append-drop depth branch)) ∙ ap (λ (xs : List ℕ). reverse xs) (map_on (λ (m : ℕ × Kind). m.0) (take depth branch) (drop depth branch)) ∙ reverse-append (map (λ (m : ℕ × Kind). m.0) (take depth branch)) (map (λ (m : ℕ × Kind). m.0) (drop depth branch))
+
+put_at : (nodes : List Node) (branch : List (ℕ × Kind)) (next : Option ℕ) (depth serial : ℕ) (k : Kind) (attrs : Attrs) → IsReadable (record { nodes = nodes; branch = branch; next = next }) → is_known nodes serial ≡ false → depth ≤ length branch → IsRoom nodes (take depth branch) k attrs
+    → IsPut nodes branch (take depth branch) (made serial (take depth branch) k attrs)
+put_at [] branch next zero serial k attrs r new near room = record {
+  serial = new;
+  parent = refl;
+  kept = sym (ap (open_from 0) r.tree);
+  rest = subst (λ (xs : List ℕ). IsRest [] xs (made serial [] k attrs ∷ [])) (sym r.tree) (refl, (refl, tt));
+  tree = (refl, tt, refl);
+  kind = refl;
+  alike_before = refl;
+  alike_behind = refl;
+}
+put_at (n ∷ nodes) branch next zero serial k attrs r new near room = let few : length (n ∷ nodes) ≤ 0 = ltb-false _ _ room.single_root in absurd (omega arith)
+put_at nodes branch next (suc d) serial k attrs r new near room =
+    let above = take (suc d) branch in
+    let here = level branch (suc d) (omega arith) near in
+    let p : ℕ × Kind = here.node in
+    let tail = upwards (take (suc d - 1) branch) in
+    let x = made serial above k attrs in
+    let parent : x.parent ≡ p.0 = ap (λ (o : Option (ℕ × Kind)). unwrap_or (option_map (λ (n : ℕ × Kind). n.0) o) 0) here.last in
+    let all : upwards branch ≡ upwards (drop (suc d) branch) ++ p.0 ∷ tail = apart branch (suc d) ∙ ap (λ (xs : List ℕ). upwards (drop (suc d) branch) ++ xs) here.up in
+    let once = subst (AreOnce nodes) all r.once in
+    let there : list_any (λ s. eqb s x.parent) (upwards branch) ≡ true = subst (λ (q : ℕ). list_any (λ s. eqb s q) (upwards branch) ≡ true) (sym parent) (subst (λ (xs : List ℕ). list_any (λ s. eqb s p.0) xs ≡ true) (sym all) (stands_in p.0 (upwards (drop (suc d) branch)) tail)) in
+    let kept : upwards above ≡ open_from x.parent (upwards branch) =
+    here.up ∙ sym (opens_at nodes p.0 (upwards (drop (suc d) branch)) tail once) ∙ ap (open_from p.0) (sym all) ∙ ap (λ (q : ℕ). open_from q (upwards branch)) (sym parent) in
+    let known : kind_of (node_with nodes p.0) ≡ Some p.1 =
+    got (λ (b : ℕ × Kind). kind_of (node_with nodes b.0) ≡ Some b.1) above (length above - 1) p (all_taken (λ (b : ℕ × Kind). kind_of (node_with nodes b.0) ≡ Some b.1) (suc d) branch r.kinds) here.last in
+    let unmixed : mixes nodes (Some p) k ≡ false = subst (λ (o : Option (ℕ × Kind)). mixes nodes o k ≡ false) here.last room.unmixed in
+    let alike_all = subst (λ (q : ℕ). AreAlike nodes q k) (sym parent) (all_alike nodes p.0 k unmixed) in
+    record {
+      serial = new;
+      parent = ap (is_known nodes) parent ∙ once_to nodes p.0 (upwards (drop (suc d) branch)) tail once;
+      kept = kept;
+      rest = rest_of (reverse nodes) (upwards branch) x there;
+      tree = tree_grows nodes (upwards branch) (upwards above) x r.tree there kept;
+      kind = ap (option_map (λ (n : ℕ × Kind). n.1)) here.last ∙ sym known ∙ ap (λ (q : ℕ). kind_of (node_with nodes q)) (sym parent);
+      alike_before = alike_all.before;
+      alike_behind = alike_all.behind;
+    }
+
+-- ---- one line more
+
+all_stay : (nodes : List Node) (x : Node) → is_known nodes x.serial ≡ false → (own : List Node) → AllByRecursion (IsSettled nodes) own
+    → list_all (λ (m : Node). not (eqb x.parent m.parent) || same_test (is_class_kind x.kind) (is_class_kind m.kind)) own ≡ true
+    → ((id : List ℕ) → x.attrs.id ≡ Some id → list_any (λ (n : Node). bytes_eq (unwrap_or n.attrs.id []) id) own ≡ false) → AllByRecursion (IsSettled (nodes ++ x ∷ [])) own
+all_stay nodes x serial [] h agree free = tt
+all_stay nodes x serial (m ∷ own) h agree free =
+    let parts = and_parts (not (eqb x.parent m.parent) || same_test (is_class_kind x.kind) (is_class_kind m.kind)) (list_all (λ (m : Node). not (eqb x.parent m.parent) || same_test (is_class_kind x.kind) (is_class_kind m.kind)) own) agree in (
+      stays nodes x m (record { serial = serial; agree = parts.0; free = λ id e. (or_parts (bytes_eq (unwrap_or m.attrs.id []) id) (list_any (λ (n : Node). bytes_eq (unwrap_or n.attrs.id []) id) own) (free id e)).0 }) h.0,
+      all_stay nodes x serial own h.1 parts.1 (λ id e. (or_parts (bytes_eq (unwrap_or m.attrs.id []) id) (list_any (λ (n : Node). bytes_eq (unwrap_or n.attrs.id []) id) own) (free id e)).1),
+    )
+
 -- what a line asks of the node it adds
 record IsFit (nodes : List Node) (above : List (ℕ × Kind)) (x : Node) : Type 0 where
   flat : length above < 32
