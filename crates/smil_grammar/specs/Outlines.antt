@@ -17,7 +17,7 @@ use Rattle.smil_grammar.specs.Nodes.{Shape, is_space, is_no_space, shape_of, sav
 use Rattle.smil_grammar.specs.Items.{count_of}
 use Rattle.smil_model.specs.document.Edits.{no_attrs}
 use Rattle.smil_model.specs.document.Values.{is_seq_parent}
-use Rattle.smil_model.specs.document.Valid.{may_stand, references, references_among}
+use Rattle.smil_model.specs.document.Valid.{may_stand, references, references_among, same_test}
 use Rattle.smil_model.specs.document.Words.{line_feed}
 use Rattle.smil_grammar.specs.Spellings.{node_text, saved_node_text, header_text}
 
@@ -52,17 +52,12 @@ abbrev pub unless : Bool → Refusal → Result (Unit {0}) Refusal
 unless true e = Err e
 unless false e = Ok tt
 
--- one of the two holds alone
-abbrev pub differ : Bool → Bool → Bool
-differ true b = not b
-differ false b = b
-
 -- an excl doesn't mix classes with other children
 abbrev pub mixes : List Node → Option (ℕ × Kind) → Kind → Bool
 mixes nodes None kind = false
 mixes nodes (Some parent) kind =
     list_any
-    (λ (n : Node). (n.parent == parent.0) && differ (is_class_kind n.kind) (is_class_kind kind))
+    (λ (n : Node). (n.parent == parent.0) && not (same_test (is_class_kind n.kind) (is_class_kind kind)))
     nodes
 
 -- a node that has this id already

@@ -9,12 +9,13 @@ use Rattle.std.proofs.lemmas.List.Folds.{list_any-append}
 use Rattle.smil_model.specs.declared.document.Kind.{Kind}
 use Rattle.smil_model.specs.declared.document.Node.{Node}
 use Rattle.smil_grammar.specs.Results.{◌>>=◌}
-use Rattle.smil_grammar.specs.Outlines.{Outline, no_lines, differ, last_of, mixes, with_line, with_lines, with_node}
+use Rattle.smil_grammar.specs.Outlines.{Outline, no_lines, last_of, mixes, with_line, with_lines, with_node}
 use Rattle.smil_model.specs.declared.limits.TheConstants.{NODES}
 use Rattle.smil_laws.proofs.Lineages.{swap_eqb}
 use Rattle.smil_outline.specs.Branches.{differs, serial_of, is_known, AreAlike, AreKnown, IsKept, IsPlaced}
 use Rattle.smil_model.specs.declared.order.Refusal.{Refusal}
 use Rattle.smil_model.specs.document.Document.{is_class_kind}
+use Rattle.smil_model.specs.document.Valid.{same_test}
 
 -- the deepest node of a branch
 abbrev pub deepest : ℕ × Kind → List (ℕ × Kind) → ℕ × Kind
@@ -29,7 +30,7 @@ deepest_is node (child ∷ below) =
 
 -- one more node, as a child and as none
 abbrev mixes_one : Node → ℕ → Kind → Bool
-mixes_one n serial kind = eqb n.parent serial && differ (is_class_kind n.kind) (is_class_kind kind)
+mixes_one n serial kind = eqb n.parent serial && not (same_test (is_class_kind n.kind) (is_class_kind kind))
 
 more : (nodes : List Node) (n : Node) (node : ℕ × Kind) (kind : Kind) → mixes (nodes ++ n ∷ []) (Some node) kind ≡ (mixes nodes (Some node) kind || mixes_one n node.0 kind)
 more nodes n node kind = list_any-append _ nodes (n ∷ []) ∙ ap (λ b. mixes nodes (Some node) kind || b) (or_false (mixes_one n node.0 kind))
@@ -40,13 +41,13 @@ more nodes n node kind = list_any-append _ nodes (n ∷ []) ∙ ap (λ b. mixes 
 
 no_child : (nodes : List Node) (n : Node) (node : ℕ × Kind) (kind : Kind) (among : Bool) → eqb n.parent node.0 ≡ false → mixes nodes (Some node) kind ≡ among → mixes (nodes ++ n ∷ []) (Some node) kind ≡ among
 no_child nodes n node kind among other h =
-    more nodes n node kind ∙ ap (λ b. mixes nodes (Some node) kind || (b && differ (is_class_kind n.kind) (is_class_kind kind))) other ∙ or_none (mixes nodes (Some node) kind) ∙ h
+    more nodes n node kind ∙ ap (λ b. mixes nodes (Some node) kind || (b && not (same_test (is_class_kind n.kind) (is_class_kind kind)))) other ∙ or_none (mixes nodes (Some node) kind) ∙ h
   where
     or_none : (b : Bool) → (b || false) ≡ b
     or_none true = refl
     or_none false = refl
 
-same_class : (a b c : Bool) → differ a b ≡ false → (differ a c || differ b c) ≡ differ b c
+same_class : (a b c : Bool) → not (same_test a b) ≡ false → (not (same_test a c) || not (same_test b c)) ≡ not (same_test b c)
 same_class true true true h = refl
 same_class true true false h = refl
 same_class true false c h = absurd cc
@@ -54,7 +55,7 @@ same_class false true c h = absurd cc
 same_class false false true h = refl
 same_class false false false h = refl
 
-like_last : (last : Option (ℕ × Kind)) (kind other : Kind) → differs last kind ≡ false → (differs last other || differ (is_class_kind kind) (is_class_kind other)) ≡ differ (is_class_kind kind) (is_class_kind other)
+like_last : (last : Option (ℕ × Kind)) (kind other : Kind) → differs last kind ≡ false → (differs last other || not (same_test (is_class_kind kind) (is_class_kind other))) ≡ not (same_test (is_class_kind kind) (is_class_kind other))
 like_last None kind other h = refl
 like_last (Some last) kind other h = same_class (is_class_kind last.1) (is_class_kind kind) (is_class_kind other) h
 
@@ -62,11 +63,11 @@ equal : (a b : ℕ) → a ≡ b → eqb a b ≡ true
 equal a b h = grind arith
 
 one_child : (nodes : List Node) (n : Node) (node : ℕ × Kind) (last : Option (ℕ × Kind)) (kind : Kind) → n.parent ≡ node.0 → ((k : Kind) → mixes nodes (Some node) k ≡ differs last k) → mixes nodes (Some node) n.kind ≡ false
-    → mixes (nodes ++ n ∷ []) (Some node) kind ≡ differ (is_class_kind n.kind) (is_class_kind kind)
+    → mixes (nodes ++ n ∷ []) (Some node) kind ≡ not (same_test (is_class_kind n.kind) (is_class_kind kind))
 one_child nodes n node last kind parent alike unmixed =
     more nodes n node kind
-    ∙ ap (λ b. mixes nodes (Some node) kind || (b && differ (is_class_kind n.kind) (is_class_kind kind))) (equal n.parent node.0 parent)
-    ∙ ap (λ b. b || differ (is_class_kind n.kind) (is_class_kind kind)) (alike kind)
+    ∙ ap (λ b. mixes nodes (Some node) kind || (b && not (same_test (is_class_kind n.kind) (is_class_kind kind)))) (equal n.parent node.0 parent)
+    ∙ ap (λ b. b || not (same_test (is_class_kind n.kind) (is_class_kind kind))) (alike kind)
     ∙ like_last last n.kind kind (sym (alike n.kind) ∙ unmixed)
 
 -- ---- serials that are known
@@ -187,11 +188,11 @@ mixed_in inside now d kind child same h some near at =
     subst (λ (o : Outline). d ≤ length o.branch → differs child kind ≡ mixes o.nodes (last_of (take d o.branch)) kind) same
     (λ short. ap (λ (last : Option (ℕ × Kind)). differs last kind) at ∙ sym (mixed_at inside.nodes inside.branch d kind h some short)) near
 
-pub differ_is : (a b : Bool) → not (beq (not a) (not b)) ≡ differ a b
-differ_is true true = refl
-differ_is true false = refl
-differ_is false true = refl
-differ_is false false = refl
+pub unlike : (a b : Bool) → not (beq (not a) (not b)) ≡ not (same_test a b)
+unlike true true = refl
+unlike true false = refl
+unlike false true = refl
+unlike false false = refl
 
 on_ok : (r : Result Outline Refusal) (lines more_lines : List (List ℕ)) (before after : Outline) → ((o : Outline) → with_lines o lines ≡ Ok before → with_lines o more_lines ≡ Ok after)
     → (r >>= λ o. with_lines o lines) ≡ Ok before → (r >>= λ o. with_lines o more_lines) ≡ Ok after

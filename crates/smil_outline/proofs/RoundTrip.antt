@@ -2,7 +2,7 @@
 use Rattle.std.proofs.Common.{◌≡◌, ℕ, zero, suc, ◌+◌, ◌<◌, ◌≤◌, Bool, true, false, not, cond, eqb, ltb, ◌&&◌, ◌||◌, List, [], ◌∷◌, ◌++◌, ◌-◌, length, take, map, reverse, Option, Some, None, option_map, Result, Ok, refl, sym, ap, subst, ◌∙◌, arith, length-append, append_assoc, add-one}
 use Rattle.std.specs.Prelude.{decimal, unwrap_or, bytes_eq, filter, All, slice_get}
 use Rattle.std.specs.List.{list_any, list_all, AllByRecursion}
-use Rattle.std.proofs.lemmas.Bool.{and_parts, or_parts, eqb-true, eq-eqb, ltb-true, lt-ltb, le-ltb, ne_eqb, cond_both}
+use Rattle.std.proofs.lemmas.Bool.{and_parts, or_parts, not_from_true, eqb-true, eq-eqb, ltb-true, lt-ltb, le-ltb, ne_eqb, cond_both}
 use Rattle.std.proofs.lemmas.List.{reverse-append, reverse-reverse, length-reverse, take_all, take-append-le, append-nil}
 use Rattle.std.proofs.lemmas.List.Sums.{sum_by-cons}
 use Rattle.std.proofs.lemmas.List.Folds.{list_any-append}
@@ -24,7 +24,7 @@ use Rattle.smil_grammar.specs.Attributes.{kind_text}
 use Rattle.smil_grammar.specs.Items.{count_of}
 use Rattle.smil_grammar.specs.Nodes.{Shape, shape_of, saved_shape_of}
 use Rattle.smil_model.specs.declared.limits.TheConstants.{LINE_BYTES}
-use Rattle.smil_grammar.specs.Outlines.{Outline, mixes, differ, has_id as has_id_among, last_of, depth_among, lines_from, saved_lines_from, no_lines, with_header, with_line, with_lines, ended, outline_of}
+use Rattle.smil_grammar.specs.Outlines.{Outline, mixes, has_id as has_id_among, last_of, depth_among, lines_from, saved_lines_from, no_lines, with_header, with_line, with_lines, ended, outline_of}
 use Rattle.smil_laws.proofs.Reached.{any_reverse}
 use Rattle.smil_outline.specs.Numbered.{number_of, renumbered}
 use Rattle.smil_outline.specs.Written.{saved_lines}
@@ -140,28 +140,22 @@ free_id number front n rest h e k = by number front n.serial (n ∷ rest) n.attr
 
 -- children of one kind or the other
 
-pub alike : (a b : Bool) → same_test a b ≡ true → differ a b ≡ false
-alike true true h = refl
-alike true false h = absurd cc
-alike false true h = absurd cc
-alike false false h = refl
-
 unmixed : (number : ℕ → ℕ) (nodes : List Node) → IsNumbering number nodes → (front : List Node) (parent : ℕ) (k : Kind) → 0 < number parent
     → list_all (λ (m : Node). not (eqb m.parent parent) || same_test (is_class_kind m.kind) (is_class_kind k)) front ≡ true
-    → list_any (λ (m : Node). eqb m.parent (number parent) && differ (is_class_kind m.kind) (is_class_kind k)) (map (new number) front) ≡ false
+    → list_any (λ (m : Node). eqb m.parent (number parent) && not (same_test (is_class_kind m.kind) (is_class_kind k))) (map (new number) front) ≡ false
 unmixed number nodes is [] parent k some h = refl
 unmixed number nodes is (m ∷ front) parent k some h =
     let parts = and_parts (not (eqb m.parent parent) || same_test (is_class_kind m.kind) (is_class_kind k)) (list_all (λ (m : Node). not (eqb m.parent parent) || same_test (is_class_kind m.kind) (is_class_kind k)) front) h in
     rw (one number nodes is m parent k (eqb (number m.parent) (number parent)) refl some parts.0, unmixed number nodes is front parent k some parts.1) refl
   where
     one : (number : ℕ → ℕ) (nodes : List Node) → IsNumbering number nodes → (m : Node) (parent : ℕ) (k : Kind) (t : Bool) → eqb (number m.parent) (number parent) ≡ t → 0 < number parent
-        → (not (eqb m.parent parent) || same_test (is_class_kind m.kind) (is_class_kind k)) ≡ true → (eqb (number m.parent) (number parent) && differ (is_class_kind m.kind) (is_class_kind k)) ≡ false
+        → (not (eqb m.parent parent) || same_test (is_class_kind m.kind) (is_class_kind k)) ≡ true → (eqb (number m.parent) (number parent) && not (same_test (is_class_kind m.kind) (is_class_kind k))) ≡ false
     one number nodes is m parent k false t some h = rw t refl
     one number nodes is m parent k true t some h =
         let same : m.parent ≡ parent = is.once m.parent parent (eqb-true _ _ t) some in
         let here : eqb m.parent parent ≡ true = eq-eqb _ _ same in
         let both : same_test (is_class_kind m.kind) (is_class_kind k) ≡ true = rw here at h in
-        rw t (alike (is_class_kind m.kind) (is_class_kind k) both)
+        rw t (not_from_true (same_test (is_class_kind m.kind) (is_class_kind k)) both)
 
 -- ---- the branch
 

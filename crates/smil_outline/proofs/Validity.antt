@@ -31,7 +31,7 @@ use Rattle.smil_time_list.proofs.Printable.{IsCounted, count_small}
 use Rattle.smil_laws.proofs.Lineages.{swap_eqb}
 use Rattle.smil_outline.specs.Branches.{is_known, IsRead}
 use Rattle.smil_outline.proofs.Alike.{other_serial, known_on, known_self}
-use Rattle.smil_grammar.specs.Outlines.{Outline, unless, in_line, mixes, differ, has_id as has_id_among, attrs_in, last_of, no_lines, shape_in, is_bad_serial, is_misplaced, opens_saved, header_of, with_header, node_within, shape_within, read_within, with_line, with_lines, ended, outline_of}
+use Rattle.smil_grammar.specs.Outlines.{Outline, unless, in_line, mixes, has_id as has_id_among, attrs_in, last_of, no_lines, shape_in, is_bad_serial, is_misplaced, opens_saved, header_of, with_header, node_within, shape_within, read_within, with_line, with_lines, ended, outline_of}
 use Rattle.smil_grammar.specs.Outlines.{with_node as outline_with}
 use Rattle.smil_attrs.proofs.Noded.{attrs_had_from}
 use Rattle.smil_outline.specs.Open.{upwards}
@@ -267,7 +267,7 @@ record IsSettled (nodes : List Node) (m : Node) : Type 0 where
   fit : has_fitting_attrs nodes m ≡ true
   free : is_id_taken nodes m.serial m.attrs.id ≡ false
 
-same_turned : (a b : Bool) → differ a b ≡ false → same_test b a ≡ true
+same_turned : (a b : Bool) → not (same_test a b) ≡ false → same_test b a ≡ true
 same_turned true true h = refl
 same_turned true false h = absurd cc
 same_turned false true h = absurd cc
@@ -416,12 +416,6 @@ kind_kept (m ∷ nodes) x serial k h = by m nodes x serial k (eqb m.serial seria
 
 -- ---- where a node is put
 
-same_of : (a b : Bool) → differ a b ≡ false → same_test a b ≡ true
-same_of true true h = refl
-same_of true false h = absurd cc
-same_of false true h = absurd cc
-same_of false false h = refl
-
 same_self : (a : Bool) → same_test a a ≡ true
 same_self true = refl
 same_self false = refl
@@ -430,19 +424,19 @@ record AreAlike (nodes : List Node) (parent : ℕ) (k : Kind) : Type 0 where
   before : list_all (λ (m : Node). not (eqb m.parent parent) || same_test (is_class_kind m.kind) (is_class_kind k)) nodes ≡ true
   behind : list_all (λ (m : Node). not (eqb parent m.parent) || same_test (is_class_kind k) (is_class_kind m.kind)) nodes ≡ true
 
-all_alike : (nodes : List Node) (parent : ℕ) (k : Kind) → list_any (λ (m : Node). eqb m.parent parent && differ (is_class_kind m.kind) (is_class_kind k)) nodes ≡ false → AreAlike nodes parent k
+all_alike : (nodes : List Node) (parent : ℕ) (k : Kind) → list_any (λ (m : Node). eqb m.parent parent && not (same_test (is_class_kind m.kind) (is_class_kind k))) nodes ≡ false → AreAlike nodes parent k
 all_alike [] parent k h = record { before = refl; behind = refl }
 all_alike (m ∷ nodes) parent k h =
-    let parts = or_parts (eqb m.parent parent && differ (is_class_kind m.kind) (is_class_kind k)) (list_any (λ (m : Node). eqb m.parent parent && differ (is_class_kind m.kind) (is_class_kind k)) nodes) h in
+    let parts = or_parts (eqb m.parent parent && not (same_test (is_class_kind m.kind) (is_class_kind k))) (list_any (λ (m : Node). eqb m.parent parent && not (same_test (is_class_kind m.kind) (is_class_kind k))) nodes) h in
     let one = each m parent k (eqb m.parent parent) refl parts.0 in
     let others = all_alike nodes parent k parts.1 in
     record { before = rw (one.0, others.before) refl; behind = rw (one.1, others.behind) refl }
   where
-    each : (m : Node) (parent : ℕ) (k : Kind) (t : Bool) → eqb m.parent parent ≡ t → (eqb m.parent parent && differ (is_class_kind m.kind) (is_class_kind k)) ≡ false
+    each : (m : Node) (parent : ℕ) (k : Kind) (t : Bool) → eqb m.parent parent ≡ t → (eqb m.parent parent && not (same_test (is_class_kind m.kind) (is_class_kind k))) ≡ false
         → ((not (eqb m.parent parent) || same_test (is_class_kind m.kind) (is_class_kind k)) ≡ true) × ((not (eqb parent m.parent) || same_test (is_class_kind k) (is_class_kind m.kind)) ≡ true)
     each m parent k true t h =
-        let same : differ (is_class_kind m.kind) (is_class_kind k) ≡ false = rw t at h in
-        (or_right (not (eqb m.parent parent)) _ (same_of (is_class_kind m.kind) (is_class_kind k) same), or_right (not (eqb parent m.parent)) _ (same_turned (is_class_kind m.kind) (is_class_kind k) same))
+        let same : not (same_test (is_class_kind m.kind) (is_class_kind k)) ≡ false = rw t at h in
+        (or_right (not (eqb m.parent parent)) _ (not-false (same_test (is_class_kind m.kind) (is_class_kind k)) same), or_right (not (eqb parent m.parent)) _ (same_turned (is_class_kind m.kind) (is_class_kind k) same))
     each m parent k false t h = let back : eqb parent m.parent ≡ false = swap_eqb m.parent parent t in (rw t refl, rw back refl)
 
 rest_of : (before : List Node) (open_nodes : List ℕ) (x : Node) → list_any (λ s. eqb s x.parent) open_nodes ≡ true → IsRest before open_nodes (x ∷ [])

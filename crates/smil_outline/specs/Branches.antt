@@ -1,12 +1,12 @@
 -- What a builder keeps.
-use Rattle.std.specs.Prelude.{◌≡◌, ℕ, ◌≤◌, Bool, true, false, ◌||◌, ◌==◌, List, [], ◌∷◌, length, take, Option, Some, None, Ok, unwrap_or, option_map, slice_get, bytes_eq}
+use Rattle.std.specs.Prelude.{◌≡◌, ℕ, ◌≤◌, Bool, true, false, not, ◌||◌, ◌==◌, List, [], ◌∷◌, length, take, Option, Some, None, Ok, unwrap_or, option_map, slice_get, bytes_eq}
 use Rattle.std.specs.List.{list_any}
 use Rattle.smil_model.specs.declared.limits.TheConstants.{NODES, REFERENCES}
 use Rattle.smil_model.specs.declared.document.Kind.{Kind}
 use Rattle.smil_model.specs.declared.document.Node.{Node}
-use Rattle.smil_model.specs.document.Valid.{references}
+use Rattle.smil_model.specs.document.Valid.{references, same_test}
 use Rattle.smil_model.specs.document.Document.{is_class_kind}
-use Rattle.smil_grammar.specs.Outlines.{Outline, no_lines, differ, last_of, mixes, with_lines}
+use Rattle.smil_grammar.specs.Outlines.{Outline, no_lines, last_of, mixes, with_lines}
 
 -- an id among others
 abbrev pub has : List (List ℕ) → List ℕ → Bool
@@ -30,7 +30,7 @@ pub record IsNoted (nodes : List Node) (ids : List (List ℕ)) (serials : List �
 -- a kind that is a class beside one that is none, or the other way round
 abbrev pub differs : Option (ℕ × Kind) → Kind → Bool
 differs None kind = false
-differs (Some node) kind = differ (is_class_kind node.1) (is_class_kind kind)
+differs (Some node) kind = not (same_test (is_class_kind node.1) (is_class_kind kind))
 
 -- the serial of a node, 0 where there is none
 abbrev pub serial_of : Option (ℕ × Kind) → ℕ
