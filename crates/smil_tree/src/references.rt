@@ -53,8 +53,8 @@ fn among(items: &Items) -> usize
     ensures { result ≡ length (filter is_reference items.now) }
 {
     let mut count = 0;
-    for place in 0..items.len() {
-        if refers(items.get(place).unwrap()) {
+    for item in items.slice() {
+        if refers(item) {
             count += 1;
         }
     }

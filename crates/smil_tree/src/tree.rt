@@ -192,8 +192,7 @@ fn ids_of(alloc: Global, doc: &Doc) -> Result<Ids, AllocError>
     ensures { IfOk result (λ table. IsTableOf table doc.now.nodes) }
 {
     let mut ids = Ids::new(alloc);
-    for place in 0..doc.len() {
-        let node = doc.get(place).unwrap();
+    for node in doc.nodes() {
         note_node(&mut ids, node)?;
     }
     Ok(ids)
@@ -205,8 +204,7 @@ fn references_of(doc: &Doc) -> usize
     ensures { result ≡ references doc.now.nodes }
 {
     let mut count = 0;
-    for place in 0..doc.len() {
-        let node = doc.get(place).unwrap();
+    for node in doc.nodes() {
         count += references_in(&node.attrs);
     }
     count
