@@ -7,6 +7,7 @@ use Rattle.smil_model.specs.declared.document.Attrs.{Attrs}
 use Rattle.smil_model.specs.declared.order.Refusal.TheVariants as refusal
 use Rattle.smil_model.specs.shown.Answers.{IsText, IsColumn}
 use Rattle.smil_model.specs.document.Values.{is_seq_parent}
+use Rattle.smil_model.specs.declared.limits.TheConstants.{TEXT_BYTES}
 use Rattle.smil_grammar.specs.declared.fault.AttrFault.{AttrFault}
 use Rattle.smil_grammar.specs.declared.fault.AttrFault.TheVariants as attr_fault
 use Rattle.smil_grammar.specs.declared.fault.NodeFault.{NodeFault}
@@ -23,7 +24,7 @@ use Rattle.smil_live.proofs.Placing.{attribute_in, name_in, kind_in, node_in}
 
 -- ---- attributes
 
-placed : (m : ℕ) (e : AttrFault) → m < 2_147_483_648 → AttrPlace m e → IsPlaced e
+placed : (m : ℕ) (e : AttrFault) → m < TEXT_BYTES → AttrPlace m e → IsPlaced e
 placed m attr_fault.UnknownAttribute le h = tt
 placed m attr_fault.UnsupportedName le h = tt
 placed m (attr_fault.UnsupportedValue place) le h = omega arith
@@ -31,7 +32,7 @@ placed m (attr_fault.BadValue place) le h = omega arith
 placed m attr_fault.TooManyItems le h = tt
 placed m attr_fault.Memory le h = tt
 
-placed_in : {A : Type 0} (m : ℕ) (e : AttrFault) (reading : Result A AttrFault) → m < 2_147_483_648 → GivesAttr {A = A} (Err e) reading → IfErr reading (AttrPlace m) → IsPlaced e
+placed_in : {A : Type 0} (m : ℕ) (e : AttrFault) (reading : Result A AttrFault) → m < TEXT_BYTES → GivesAttr {A = A} (Err e) reading → IfErr reading (AttrPlace m) → IsPlaced e
 placed_in m attr_fault.Memory reading le given h = tt
 placed_in m attr_fault.UnknownAttribute reading le given h = tt
 placed_in m attr_fault.UnsupportedName reading le given h = tt
@@ -70,7 +71,7 @@ name_refused kind name column e h p given = sym (in_line_at name [] column colum
 
 -- ---- node lines
 
-in_text : (m : ℕ) (e : NodeFault) → m < 2_147_483_648 → FaultWithin (m + 2) e → IsInText e
+in_text : (m : ℕ) (e : NodeFault) → m < TEXT_BYTES → FaultWithin (m + 2) e → IsInText e
 in_text m node_fault.BadOutline le h = tt
 in_text m (node_fault.Unsupported column) le h = omega arith
 in_text m node_fault.BadPlace le h = tt
@@ -82,7 +83,7 @@ in_text m node_fault.Memory le h = tt
 pub kind_in_text : (line : List ℕ) (e : NodeFault) → IsText line → Err e ≡ kind_of line → IsInText e
 kind_in_text line e le given = in_text (length line) e le (rw (sym given) at (kind_in line))
 
-node_within : (m : ℕ) (e : NodeFault) (reading : Result (Kind × Attrs) NodeFault) → m < 2_147_483_648 → GivesNode {A = Kind × Attrs} (Err e) reading → IfErr reading (FaultWithin (m + 2)) → IsInText e
+node_within : (m : ℕ) (e : NodeFault) (reading : Result (Kind × Attrs) NodeFault) → m < TEXT_BYTES → GivesNode {A = Kind × Attrs} (Err e) reading → IfErr reading (FaultWithin (m + 2)) → IsInText e
 node_within m node_fault.Memory reading le given h = tt
 node_within m node_fault.BadOutline reading le given h = tt
 node_within m node_fault.BadPlace reading le given h = tt

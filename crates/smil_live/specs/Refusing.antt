@@ -1,5 +1,6 @@
 -- Faults, as refusals of orders.
 use Rattle.std.specs.Prelude.{ℕ, ◌+◌, ◌≤◌, Result, Ok, Err}
+use Rattle.smil_model.specs.declared.limits.TheConstants.{TEXT_BYTES}
 use Rattle.smil_model.specs.declared.order.Refusal.{Refusal}
 use Rattle.smil_model.specs.declared.order.Refusal.TheVariants as refusal
 use Rattle.smil_grammar.specs.declared.fault.AttrFault.{AttrFault}
@@ -27,14 +28,14 @@ of_value name_column column attr_fault.Memory = refusal.Memory
 
 -- the place of a fault stands in the text of an order, or at its end
 abbrev pub IsPlaced : AttrFault → Type 0
-IsPlaced (attr_fault.UnsupportedValue place) = place ≤ 2_147_483_648
-IsPlaced (attr_fault.BadValue place) = place ≤ 2_147_483_648
+IsPlaced (attr_fault.UnsupportedValue place) = place ≤ TEXT_BYTES
+IsPlaced (attr_fault.BadValue place) = place ≤ TEXT_BYTES
 IsPlaced _ = Unit {0}
 
 -- the column of a fault stands in the node line of an order, or just behind it
 abbrev pub IsInText : NodeFault → Type 0
-IsInText (node_fault.Unsupported column) = column ≤ 2_147_483_649
-IsInText (node_fault.UnknownAttribute column) = column ≤ 2_147_483_649
-IsInText (node_fault.BadValue column) = column ≤ 2_147_483_649
-IsInText (node_fault.TooManyItems column) = column ≤ 2_147_483_649
+IsInText (node_fault.Unsupported column) = column ≤ TEXT_BYTES + 1
+IsInText (node_fault.UnknownAttribute column) = column ≤ TEXT_BYTES + 1
+IsInText (node_fault.BadValue column) = column ≤ TEXT_BYTES + 1
+IsInText (node_fault.TooManyItems column) = column ≤ TEXT_BYTES + 1
 IsInText _ = Unit {0}

@@ -5,6 +5,7 @@ ghost use Rattle.smil_grammar.specs.Formats.{attr_in_line, attrs_in_line, kind_i
 ghost use Rattle.smil_grammar.specs.Outlines.{refused};
 ghost use Rattle.smil_grammar.specs.Gives.{GivesReading};
 ghost use Rattle.smil_live.specs.Refusing.{IsInText, IsPlaced, of_value};
+ghost use Rattle.smil_model.specs.declared.limits.TheConstants.{TEXT_BYTES};
 ghost use Rattle.smil_model.specs.shown.Answers.{IsColumn, IsText};
 
 use smil_attrs::{AttrFault, NodeFault, attr_name, read_attr, read_kind, read_node};
@@ -121,7 +122,7 @@ fn refused_value(fault: AttrFault, name_column: u32, column: u32) -> Refusal
 // The column of a place, counted from 0, in a text that begins at a column.
 fn behind(column: u32, place: usize) -> u32
     requires column { IsColumn column }
-    requires place { place ≤ 2147483648 }
+    requires place { place ≤ TEXT_BYTES }
     ensures { result ≡ column + place }
 {
     column + place as u32
