@@ -27,6 +27,7 @@ use super::view_table::ViewTable;
 use smil_cells::{Cells, Table};
 use smil_diary::Book;
 use smil_graph::Graph;
+use smil_instances::parent_of;
 use smil_model::{Bytes, Doc, Refusal, Steps, Who};
 use smil_tree::Tree;
 use std::alloc::AllocError;
@@ -350,14 +351,6 @@ impl<T: Table> Playing<T> {
         };
         put_differences(after, &self.watched.seen, seen, out)
     }
-}
-
-// The serial of a node's time parent, if there is such a node and it has one.
-fn parent_of(tree: &Tree, serial: u32) -> Option<u32>
-    ensures { result ≡ serial_of (time_parent tree.now.nodes serial) }
-{
-    tree.find(&Who::Serial(serial))?;
-    tree.time_parent(serial)
 }
 
 // The serial of the node that was edited, and that of its time parent, if it has one.
