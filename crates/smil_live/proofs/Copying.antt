@@ -132,9 +132,9 @@ module _ (d : Document) (s : ℕ) (some : IsSome (node_at d.nodes s)) (kind : Ki
 
 -- ---- a node line that is read fits
 
-read_kind : (column : ℕ) (r : Result Kind NodeFault) (kind : Kind) → Ok kind ≡ in_line column r → r ≡ Ok kind
-read_kind column (Ok x) kind h = cc
-read_kind column (Err e) kind h = absurd cc
+pub kind_given : (column : ℕ) (r : Result Kind NodeFault) (kind : Kind) → Ok kind ≡ in_line column r → r ≡ Ok kind
+kind_given column (Ok x) kind h = cc
+kind_given column (Err e) kind h = absurd cc
 
 -- a node that was read with these attributes
 record ReadAs (r : Result (Kind × Attrs) NodeFault) (attrs : Attrs) : Type 0 where
@@ -167,7 +167,7 @@ same_kind parent k k2 (Some shape) attrs h =
 line_fits : (parent kind : Kind) (line : List ℕ) (column : ℕ) (attrs : Attrs) → Ok kind ≡ kind_in_line line column → attrs_in_line parent line column ≡ Ok attrs → fit_kind kind (Some parent) attrs ≡ true
 line_fits parent kind line column attrs kind_read read =
     let node : ReadAs (node_of (Some parent) line) attrs = read_node (column - 1) (node_of (Some parent) line) attrs read in
-    let first : kind_of_line line ≡ Ok kind = read_kind (column - 1) (kind_of_line line) kind kind_read in
+    let first : kind_of_line line ≡ Ok kind = kind_given (column - 1) (kind_of_line line) kind kind_read in
     let rest : attrs_of (Some parent) kind (shape_of line) ≡ Ok (node.kind, attrs) = sym (ap (λ (r : Result Kind NodeFault). r >>= λ k. attrs_of (Some parent) k (shape_of line)) first) ∙ node.is in
     let same : node.kind ≡ kind = same_kind (Some parent) kind node.kind (shape_of line) attrs rest in
     ranges kind (Some parent) attrs (node_is (Some parent) line kind attrs (node.is ∙ ap (λ (k : Kind). Ok (k, attrs)) same)).1

@@ -1,11 +1,13 @@
 -- What a call reads of an order's line is the reading, and its fault the refusal.
 use Rattle.std.proofs.Common.{◌≡◌, ℕ, ◌+◌, ◌-◌, ◌<◌, List, [], length, Result, Ok, Err, refl, sym, ap, ◌∙◌, arith}
-use Rattle.std.specs.Prelude.{IfErr, Bool, Option, Some}
+use Rattle.std.specs.Prelude.{IfErr, Bool, true, false, cond, Option, Some}
 use Rattle.smil_model.specs.declared.document.Kind.{Kind}
 use Rattle.smil_model.specs.declared.document.Attr.{Attr}
 use Rattle.smil_model.specs.declared.document.Attrs.{Attrs}
 use Rattle.smil_model.specs.declared.order.Refusal.TheVariants as refusal
 use Rattle.smil_model.specs.shown.Answers.{IsText, IsColumn}
+use Rattle.smil_model.specs.document.Edits.{no_attrs}
+use Rattle.smil_model.specs.document.Valid.{may_stand}
 use Rattle.smil_model.specs.document.Values.{is_seq_parent}
 use Rattle.smil_model.specs.declared.limits.TheConstants.{TEXT_BYTES}
 use Rattle.smil_grammar.specs.declared.fault.AttrFault.{AttrFault}
@@ -15,7 +17,7 @@ use Rattle.smil_grammar.specs.declared.fault.NodeFault.TheVariants as node_fault
 use Rattle.smil_grammar.specs.Attributes.{attr_name_of}
 use Rattle.smil_grammar.specs.Formats.{written_at, attr_in_line, name_in_line, kind_in_line, attrs_in_line}
 use Rattle.smil_grammar.specs.Gives.{GivesAttr, GivesNode, GivesReading}
-use Rattle.smil_grammar.specs.Nodes.{at_column, attribute_of, kind_of, node_of}
+use Rattle.smil_grammar.specs.Nodes.{Shape, at_column, attribute_of, attrs_from, attrs_of, kind_of, node_of, shape_of}
 use Rattle.smil_grammar.specs.Outlines.{in_line, refused}
 use Rattle.smil_grammar.specs.Results.{◌>>=◌}
 use Rattle.smil_outline.proofs.Columns.{AttrPlace, FaultWithin}
@@ -109,3 +111,35 @@ attrs_refused parent line column (node_fault.Unsupported place) given = attrs_at
 attrs_refused parent line column (node_fault.UnknownAttribute place) given = attrs_at column (node_fault.UnknownAttribute place) _ given
 attrs_refused parent line column (node_fault.BadValue place) given = attrs_at column (node_fault.BadValue place) _ given
 attrs_refused parent line column (node_fault.TooManyItems place) given = attrs_at column (node_fault.TooManyItems place) _ given
+
+-- a node line by its shape and its kind
+module _ (parent kind : Kind) (line : List ℕ) (shape : Shape) (shape_is : shape_of line ≡ Some shape) (kind_is : kind_of line ≡ Ok kind) where
+  abbrev from_shape : Result Attrs NodeFault
+  from_shape = attrs_from (is_seq_parent (Some parent)) kind no_attrs shape.attributes
+
+  abbrev paired : Result Attrs NodeFault → Result (Kind × Attrs) NodeFault
+  paired r = r >>= λ attrs. Ok (kind, attrs)
+
+  by_shape : node_of (Some parent) line ≡ cond (may_stand (Some parent) kind) (paired from_shape) (Err node_fault.BadPlace)
+  by_shape =
+      ap (λ (r : Result Kind NodeFault). r >>= λ k. attrs_of (Some parent) k (shape_of line)) kind_is
+      ∙ ap (attrs_of (Some parent) kind) shape_is
+
+  pub misplaced_node : may_stand (Some parent) kind ≡ false → node_of (Some parent) line ≡ Err node_fault.BadPlace
+  misplaced_node none = by_shape ∙ ap (λ (t : Bool). cond t (paired from_shape) (Err node_fault.BadPlace)) none
+
+  placed_node : (r : Result Attrs NodeFault) → may_stand (Some parent) kind ≡ true → from_shape ≡ r → node_of (Some parent) line ≡ paired r
+  placed_node r may given = by_shape ∙ ap (λ (t : Bool). cond t (paired from_shape) (Err node_fault.BadPlace)) may ∙ ap paired given
+
+  pub node_refused : (e : NodeFault) → may_stand (Some parent) kind ≡ true → GivesNode {A = Attrs} (Err e) from_shape → GivesNode {A = Kind × Attrs} (Err e) (node_of (Some parent) line)
+  node_refused node_fault.Memory may given = tt
+  node_refused node_fault.BadOutline may given = placed_node (Err node_fault.BadOutline) may given
+  node_refused node_fault.BadPlace may given = placed_node (Err node_fault.BadPlace) may given
+  node_refused (node_fault.Unsupported column) may given = placed_node (Err (node_fault.Unsupported column)) may given
+  node_refused (node_fault.UnknownAttribute column) may given = placed_node (Err (node_fault.UnknownAttribute column)) may given
+  node_refused (node_fault.BadValue column) may given = placed_node (Err (node_fault.BadValue column)) may given
+  node_refused (node_fault.TooManyItems column) may given = placed_node (Err (node_fault.TooManyItems column)) may given
+
+  pub attrs_read : (attrs : Attrs) (column : ℕ) → may_stand (Some parent) kind ≡ true → from_shape ≡ Ok attrs → attrs_in_line parent line column ≡ Ok attrs
+  attrs_read attrs column may given =
+      ap (λ (r : Result (Kind × Attrs) NodeFault). in_line (column - 1) (r >>= λ node. Ok node.1)) (placed_node (Ok attrs) may given)

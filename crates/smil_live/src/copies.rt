@@ -11,8 +11,9 @@ ghost use Rattle.smil_grammar.specs.Formats.{formats};
 ghost use Rattle.smil_live.specs.Editing.{IsRefusedBy, at_node};
 
 use super::values::{
-    Child, Named, Placed, Setting, read_line_attrs, read_line_kind, read_name, read_value,
+    Child, Kinds, Named, Placed, Setting, read_line_attrs, read_line_kind, read_name, read_value,
 };
+use smil_attrs::Shape;
 use smil_model::{Duplicate, Refusal};
 use smil_tree::Tree;
 use std::alloc::Global;
@@ -82,9 +83,16 @@ pub fn with_child(
         child.entry.place child.entry.line.text.now child.entry.line.column))) }
 {
     let place = child.place as usize;
-    let kind = read_line_kind(child.line)?;
+    let Some(shape) = Shape::of(child.line.text) else {
+        return Err(Refusal::BadOutline);
+    };
+    let kind = read_line_kind(child.line, &shape)?;
     tree.may_insert(parent, place, kind)?;
-    let attrs = read_line_attrs(alloc, tree.kind(parent), child.line)?;
+    let kinds = Kinds {
+        node: kind,
+        parent: tree.kind(parent),
+    };
+    let attrs = read_line_attrs(alloc, kinds, child.line, &shape)?;
     let mut edited = tree.copy()?;
     edited.insert(parent, place, kind, attrs)?;
     Ok(edited)

@@ -1,14 +1,17 @@
 //! Values and node lines of orders, read.
 
-ghost use Rattle.std.specs.Prelude.{◌≡◌, ◌≤◌, ◌<◌, ◌+◌, ◌-◌, length, Option, IfOk, IfErr, IfSome};
+ghost use Rattle.std.specs.Prelude.{◌≡◌, ◌≤◌, ◌+◌, ◌-◌, Some, Ok};
 ghost use Rattle.smil_grammar.specs.Formats.{attr_in_line, attrs_in_line, kind_in_line, name_in_line};
+ghost use Rattle.smil_grammar.specs.Nodes.{kind_of, shape_of};
 ghost use Rattle.smil_grammar.specs.Outlines.{refused};
 ghost use Rattle.smil_grammar.specs.Gives.{GivesReading};
 ghost use Rattle.smil_live.specs.Refusing.{IsInText, IsPlaced, of_value};
 ghost use Rattle.smil_model.specs.declared.limits.TheConstants.{TEXT_BYTES};
 ghost use Rattle.smil_model.specs.shown.Answers.{IsColumn, IsText};
 
-use smil_attrs::{AttrFault, NodeFault, attr_name, read_attr, read_kind, read_node};
+use smil_attrs::{
+    AttrFault, NodeFault, Shape, attr_name, fits, read_attr, shape_attrs, shape_kind,
+};
 use smil_model::{Attr, AttrName, Attrs, Kind, Refusal};
 use std::alloc::Global;
 
@@ -43,6 +46,13 @@ pub struct Child<'a> {
     pub line: Placed<'a>,
 }
 
+/// The kind of a node that an order inserts, and that of its parent.
+#[derive(Clone, Copy)]
+pub struct Kinds {
+    pub node: Kind,
+    pub parent: Kind,
+}
+
 /// The attribute that an order sets, read; or the refusal of its name or its value.
 pub fn read_value(alloc: Global, named: Named<'_>, value: Placed<'_>) -> Result<Attr, Refusal>
     requires name { IsText named.name.now }
@@ -70,27 +80,41 @@ pub fn read_name(named: Named<'_>) -> Result<AttrName, Refusal>
     }
 }
 
-/// The kind of the node line of an order, read; or its refusal.
-pub fn read_line_kind(line: Placed<'_>) -> Result<Kind, Refusal>
+/// The kind of the node line of an order, which has this shape, read; or its refusal.
+pub fn read_line_kind(line: Placed<'_>, shape: &Shape<'_>) -> Result<Kind, Refusal>
     requires line { IsText line.text.now }
     requires column { IsColumn line.column }
+    requires shape { shape_of line.text.now ≡ Some shape.now }
     ensures { result ≡ kind_in_line line.entry.text.now line.entry.column }
 {
-    match read_kind(line.text) {
+    match shape_kind(shape) {
         Ok(kind) => Ok(kind),
         Err(fault) => Err(refused_line(fault, line.column)),
     }
 }
 
-/// The attributes of the node line of an order, under a parent of this kind; or the refusal of the
-/// first that is refused.
-pub fn read_line_attrs(alloc: Global, parent: Kind, line: Placed<'_>) -> Result<Attrs, Refusal>
+/// The attributes of the node line of an order, which has this shape, for a node and a parent of
+/// these kinds, read; or the refusal of the first that is refused. `BadPlace` where the node may
+/// not stand below the parent.
+pub fn read_line_attrs(
+    alloc: Global,
+    kinds: Kinds,
+    line: Placed<'_>,
+    shape: &Shape<'_>,
+) -> Result<Attrs, Refusal>
     requires line { IsText line.text.now }
     requires column { IsColumn line.column }
-    ensures { GivesReading result (attrs_in_line parent line.entry.text.now line.entry.column) }
+    requires shape { shape_of line.text.now ≡ Some shape.now }
+    requires kind { kind_of line.text.now ≡ Ok kinds.node }
+    ensures { GivesReading result (attrs_in_line kinds.parent line.entry.text.now
+        line.entry.column) }
 {
-    match read_node(alloc, Some(parent), line.text) {
-        Ok((_, attrs)) => Ok(attrs),
+    let above = Some(kinds.parent);
+    if !fits(above, kinds.node) {
+        return Err(Refusal::BadPlace);
+    }
+    match shape_attrs(alloc, above, kinds.node, shape) {
+        Ok(attrs) => Ok(attrs),
         Err(fault) => Err(refused_line(fault, line.column)),
     }
 }

@@ -1,15 +1,26 @@
-use Rattle.std.proofs.Common.{◌≡◌, Ok, refl, ap, ◌∙◌, subst}
+use Rattle.std.proofs.Common.{◌≡◌, ◌-◌, Ok, Option, refl, ap, ◌∙◌, subst}
+use Rattle.smil_model.specs.declared.order.Refusal.TheVariants as refusal
 use Rattle.smil_model.specs.document.Document.{Document}
 use Rattle.smil_model.specs.document.Limits.{limits}
 use Rattle.smil_model.specs.shown.Orders.{node_inserted_by}
 use Rattle.smil_grammar.specs.Formats.{formats}
+use Rattle.smil_grammar.specs.Nodes.{Shape, kind_of, kind_of_shape}
+use Rattle.smil_grammar.specs.Outlines.{in_line}
 use Rattle.smil_tree.specs.Outcomes.{IsFaultOf, insert_outcome}
 use Rattle.smil_tree.proofs.Results.{on_err}
 use Rattle.smil_tree.specs.Refusals.{of_tree}
 use Rattle.smil_live.specs.Editing.{at_node}
 use Rattle.smil_live.specs.Refusing.{of_outcome}
-use Rattle.smil_live.proofs.Copying.{attrs_unread, inserted_read, kind_unread, may_bear_read, misplaced, outcome_refuses}
+use Rattle.smil_live.proofs.Copying.{attrs_unread, inserted_read, kind_given, kind_unread, may_bear_read, misplaced, outcome_refuses}
 use Rattle.smil_live.proofs.copies.with_child.Goals as goal
+
+pub returns-in_default-clause-err : goal.returns-in_default-clause-err
+returns-in_default-clause-err c =
+    kind_unread c.args.tree.now c.args.parent c.args.child.place c.args.child.line.text.now c.args.child.line.column c.requires.known refusal.BadOutline
+    (ap (λ (s : Option Shape). in_line (c.args.child.line.column - 1) (kind_of_shape s)) c.in_default.ensures)
+
+pub read_line_attrs-requires-clause-kind : goal.read_line_attrs-requires-clause-kind
+read_line_attrs-requires-clause-kind c = kind_given (c.args.child.line.column - 1) (kind_of c.args.child.line.text.now) c.in_ok-kind.kind c.in_ok-kind.ensures
 
 pub returns-in_err-kind-clause-err : goal.returns-in_err-kind-clause-err
 returns-in_err-kind-clause-err c =
