@@ -135,9 +135,8 @@ impl Instances {
         let mut rows = idle_rows(self.alloc, tree, dependents)?;
         let mut front = Book::new(self.alloc);
         let mut clocks = Clocks::of(self.alloc, tree, &front)?;
-        for place in 0..book.len() {
-            let entry = book.entry(place).unwrap();
-            push(&mut front, entry)?;
+        for entry in book.entries() {
+            push(&mut front, *entry)?;
             let arrival = Arrival {
                 tree,
                 dependents,
@@ -146,7 +145,7 @@ impl Instances {
                 book: &front,
             };
             take_in(self.alloc, &mut rows, &arrival)?;
-            clocks.follow(entry);
+            clocks.follow(*entry);
         }
         Ok(rows)
     }

@@ -5,8 +5,8 @@ use Rattle.smil_instances.specs.Intake.{history_of}
 use Rattle.smil_instances.proofs.instances.Instances.rows_of.Given as goal
 
 -- the rows and the clocks of the first entries
-abbrev pub invariant-loop-place : goal.invariant-loop-place
-invariant-loop-place l =
-    (l.rows ≡ settled_rows (history_of l.tree l.log (take l.place l.book)))
-    × (l.front ≡ take l.place l.book)
-    × AreClocksOf l.clocks (history_of l.tree l.log (take l.place l.book))
+abbrev pub invariant-loop-entry : goal.invariant-loop-entry
+invariant-loop-entry l =
+    (l.rows ≡ settled_rows (history_of l.tree l.log (take l.entry-index l.fn.book)))
+    × (l.front ≡ take l.entry-index l.fn.book)
+    × AreClocksOf l.clocks (history_of l.tree l.log (take l.entry-index l.fn.book))
