@@ -1,12 +1,12 @@
 //! The rows of a document to which nothing has happened yet.
 
-ghost use Rattle.std.specs.Prelude.{◌≡◌, List, [], ◌∷◌, length, map, OnOk, IfOk, IsSome, Some, None, slice_get};
+ghost use Rattle.std.specs.Prelude.{◌≡◌, List, [], ◌∷◌, length, map, OnOk, IfOk, Some, None, slice_get};
 ghost use Rattle.smil_model.specs.declared.diary.LogEntry.{LogEntry as AnyLogEntry};
 ghost use Rattle.smil_model.specs.declared.document.Node.{Node as AnyNode};
 ghost use Rattle.smil_model.specs.declared.document.Edge.{Edge as AnyEdge};
 ghost use Rattle.smil_model.specs.declared.document.Edge.TheVariants as edge;
 ghost use Rattle.smil_model.specs.declared.document.Item.TheVariants as item;
-ghost use Rattle.smil_model.specs.document.Document.{Document, elements, is_element, node_at};
+ghost use Rattle.smil_model.specs.document.Document.{Document, elements};
 ghost use Rattle.smil_model.specs.document.Defaults.{begin_list, end_list};
 ghost use Rattle.smil_instance_rows.specs.Cells.{side_of};
 ghost use Rattle.smil_instances.specs.SettledTimes.{instances_of, row_of, settled_rows};
@@ -17,9 +17,10 @@ ghost use Rattle.smil_instances.specs.Idle.{IsElementAt, IsListOf, idle_kept, wi
 ghost use Rattle.smil_instances.specs.Intake.{history_of};
 
 use super::dependents::Dependents;
+use super::elements::elements;
 use super::source::Source;
 use smil_instance_rows::{Cell, InstanceRow, InstanceTime, Rows};
-use smil_model::{Edge, Item, Items, Kind, Time, later};
+use smil_model::{Edge, Item, Items, Time, later};
 use smil_tree::Tree;
 use std::alloc::{AllocError, Global};
 
@@ -34,26 +35,14 @@ pub(crate) fn idle_rows(
         → IfOk result (λ rows. rows ≡ settled_rows (history_of tree.now log [])) }
 {
     tree.valid();
+    let whos = elements(alloc, tree)?;
     let mut rows = Rows::new(alloc);
-    let mut node = 0;
-    while let Some(serial) = tree.serial_at(node) {
-        if is_element(tree, serial) {
-            let place = rows.len();
-            let sources = ElementSources { dependents, place };
-            let row = idle_row(alloc, tree, &sources, serial)?;
-            rows.push(row)?;
-        }
-        node += 1;
+    for (place, who) in whos.iter().enumerate() {
+        let sources = ElementSources { dependents, place };
+        let row = idle_row(alloc, tree, &sources, *who)?;
+        rows.push(row)?;
     }
     Ok(rows)
-}
-
-// Whether a node is an element.
-fn is_element(tree: &Tree, serial: u32) -> bool
-    requires { IsSome (node_at tree.now.nodes serial) }
-    ensures { (n : AnyNode) → node_at tree.now.nodes serial ≡ Some n → result ≡ is_element n }
-{
-    !matches!(tree.kind(serial), Kind::PriorityClass)
 }
 
 // What the items of the element at a place among the elements follow from.
