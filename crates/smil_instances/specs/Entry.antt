@@ -9,9 +9,10 @@ use Rattle.smil_stretch.specs.declared.clock.NodeClock.{NodeClock}
 use Rattle.smil_stretch.specs.Clocks.{AreClocksOf}
 use Rattle.smil_instances.specs.declared.arrival.Arrival.{Arrival}
 
--- the history before an entry, by what is at hand once it was appended: the document, the clocks before it, the log, and
--- the diary with it
-pub record IsEntryOf (h : History) (y : Entry) (document : Document) (clocks : List NodeClock) (log : List LogEntry) (diary : List Entry) : Type 0 where
+-- the history before an entry, by what is at hand once it was appended: the document, the clocks
+-- before it, the log, and the diary with it
+pub record IsEntryOf (h : History) (y : Entry) (document : Document) (clocks : List NodeClock)
+    (log : List LogEntry) (diary : List Entry) : Type 0 where
   pub same_nodes : h.nodes ≡ document.nodes
   pub same_log : h.log ≡ log
   pub same_diary : diary ≡ h.diary ++ y ∷ []
@@ -19,7 +20,8 @@ pub record IsEntryOf (h : History) (y : Entry) (document : Document) (clocks : L
   pub known : AreClocksOf clocks h
 
 -- there are such a history and entry
-pub record IsAtHand (document : Document) (clocks : List NodeClock) (log : List LogEntry) (diary : List Entry) : Type 0 where
+pub record IsAtHand (document : Document) (clocks : List NodeClock) (log : List LogEntry)
+    (diary : List Entry) : Type 0 where
   pub past : History
   pub entry : Entry
   pub is_entry : IsEntryOf past entry document clocks log diary

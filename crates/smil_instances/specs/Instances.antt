@@ -15,13 +15,15 @@ use Rattle.smil_instances.specs.SettledTimes.{settled_rows}
 use Rattle.smil_instances.specs.Dependents.{DocumentDependents, AreDependentsOf}
 use Rattle.smil_instances.specs.Intake.{history_of}
 
--- a row of instance times for each element, with the sources and the readers of each, and the items that wait for each key
+-- a row of instance times for each element, with the sources and the readers of each, and the items
+-- that wait for each key
 pub record SettledInstances : Type 0 where
   pub rows : List Row
   pub dependents : DocumentDependents
 
 -- these are the instance times of a document after the entries of its diary
-pub record IsSettled (value : SettledInstances) (document : Document) (log : List LogEntry) (diary : List Entry) : Type 0 where
+pub record IsSettled (value : SettledInstances) (document : Document) (log : List LogEntry)
+    (diary : List Entry) : Type 0 where
   pub rows : value.rows ≡ settled_rows (history_of document log diary)
   pub dependents : AreDependentsOf document.nodes value.dependents
 

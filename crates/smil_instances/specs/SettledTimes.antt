@@ -108,7 +108,8 @@ next_edges h y e x offset edge kept =
     from_place (min (birth (with_entry h y) e) (birth (with_entry h y) x))
     (with_time (length h.diary) (edge_time h e x offset y.moment edge y.step) kept)
 
-abbrev pub next_heard : History → Entry → Node → Edge → Item → ℤ → (History → Step → Bool) → List InstanceTime → List InstanceTime
+abbrev pub next_heard : History → Entry → Node → Edge → Item → ℤ → (History → Step → Bool)
+    → List InstanceTime → List InstanceTime
 next_heard h y e side item offset occurs kept =
     from_place (birth (with_entry h y) e.serial)
     (with_time (length h.diary) (heard_time h e side item offset occurs h.diary y) kept)
@@ -129,7 +130,8 @@ abbrev pub next_named : History → Entry → ℕ → ℤ → Edge → Option No
 next_named h y e offset edge None kept = kept
 next_named h y e offset edge (Some x) kept = next_edges h y e x.serial offset edge kept
 
-abbrev pub next_event : History → Entry → Node → Edge → Item → ℤ → List ℕ → Option ℕ → List InstanceTime → List InstanceTime
+abbrev pub next_event : History → Entry → Node → Edge → Item → ℤ → List ℕ → Option ℕ
+    → List InstanceTime → List InstanceTime
 next_event h y e side item offset name None kept = kept
 next_event h y e side item offset name (Some x) kept = next_heard h y e side item offset (occurs_event x name) kept
 

@@ -43,7 +43,9 @@ concerned_by nodes is_birth (Some x) key e s = is_concerned nodes is_birth x e s
 abbrev pub OnlyConcernedChange : Type 0
 OnlyConcernedChange =
     (h : History) (y : Entry) (e : Node) (side : Edge) (item : Item) → IsUpTo y.moment h.diary
-    → concerned_by h.nodes (is_opening y.step) (subject_of h.log y.step) (key_of h.log y.step) e.serial (source_of h.nodes e.serial item) ≡ false
+    → concerned_by h.nodes (is_opening y.step) (subject_of h.log y.step) (key_of h.log y.step) e.serial
+    (source_of h.nodes e.serial item)
+    ≡ false
     → instances_of (with_entry h y) e side item ≡ instances_of h e side item
 
 -- an item names elements alone

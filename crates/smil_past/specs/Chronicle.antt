@@ -50,8 +50,8 @@ pub record BacksUp (document : Document) (log : List LogEntry) (diary : List Ent
 abbrev pub EndsAtMark : Option Chronicle → Option (ℕ × ℕ) → Type 0
 EndsAtMark second marked = (mark : ℕ × ℕ) → marked ≡ Some mark → reach second ≡ Some mark.1
 
--- a document with its log, and what is kept of it: its graph, what its items wait for, a chronicle, a second one that lags
--- behind, and a mark
+-- a document with its log, and what is kept of it: its graph, what its items wait for, a chronicle,
+-- a second one that lags behind, and a mark
 pub record IsWhole (document : Document) (log : List LogEntry) (graph : OrderedNodes) (syncs : List SyncRow)
     (first : Chronicle) (second : Option Chronicle) (mark : Option (ℕ × ℕ)) : Type 0 where
   pub graph_is : graph.nodes ≡ document.nodes

@@ -51,8 +51,10 @@ finished_interval h s m finish was_cut _ _ = None
 
 -- the interval that a step finishes
 abbrev pub interval_finished_by : History → ℕ → ℤ → Option ℤ → Option ℤ → Step → Option PastInterval
-interval_finished_by h s m begun shown (Ended who end') = if who == s then finished_interval h s m end' false begun shown else None
-interval_finished_by h s m begun shown (Cut who) = if who == s then finished_interval h s m (outer h s m) true begun shown else None
+interval_finished_by h s m begun shown (Ended who end') =
+    if who == s then finished_interval h s m end' false begun shown else None
+interval_finished_by h s m begun shown (Cut who) =
+    if who == s then finished_interval h s m (outer h s m) true begun shown else None
 interval_finished_by h s m begun shown _ = None
 
 -- the begin that an excl has put off, in document time

@@ -15,7 +15,8 @@ use Rattle.smil_past.specs.declared.readings.Readings.{Readings}
 use Rattle.smil_past.specs.Past.{IsPossible}
 
 -- these are the clocks, the plays, the queues and the instance times of a document after the entries of a diary
-pub record AreReadingsOf (readings : Readings) (document : Document) (log : List LogEntry) (diary : List Entry) : Type 0 where
+pub record AreReadingsOf (readings : Readings) (document : Document) (log : List LogEntry)
+    (diary : List Entry) : Type 0 where
   pub clocks_are : AreClocksOf readings.clocks (history_of document log diary)
   pub plays_are : readings.plays ≡ all_played (history_of document log diary)
   pub queues_are : readings.queues ≡ kept_queues (history_of document log diary)
