@@ -14,6 +14,7 @@ use Rattle.smil_model.specs.declared.document.Dur.TheVariants as dur
 use Rattle.smil_model.specs.declared.document.Item.{Item}
 use Rattle.smil_model.specs.declared.times.Time.TheVariants as time
 use Rattle.smil_grammar.specs.declared.fault.ListFault.{ListFault}
+use Rattle.smil_model.specs.Times.{IsMoment}
 use Rattle.smil_grammar.specs.Texts.{◌>>=◌, trim}
 use Rattle.smil_grammar.specs.Clock.{clock_within}
 use Rattle.smil_grammar.specs.Items.{IsItem}
@@ -24,12 +25,12 @@ use Rattle.smil_grammar.specs.Attributes.{has}
 use Rattle.smil_grammar.specs.Allowed.{name_of, IsAttr, IsAttrs}
 use Rattle.smil_time_list.proofs.Printable.{item_printable, can_write, clock_small}
 use Rattle.smil_time_list.proofs.Listed.{list_is}
-use Rattle.smil_attrs.specs.Fits.{FitsClock, FitsDur, FitsTime, FitsAttr}
+use Rattle.smil_attrs.specs.Fits.{FitsDur, FitsTime, FitsAttr}
 use Rattle.smil_attrs.proofs.Readings.{IsSmall, value, any_value, listed}
 use Rattle.smil_attrs.proofs.Cases.{dur_reads, time_reads, repeat_reads}
 
-is_clock : (n : ℕ) → IsSmall n → FitsClock (pos n)
-is_clock n h = (omega (arith, ints), omega (arith, ints))
+is_clock : (n : ℕ) → IsSmall n → IsMoment (pos n)
+is_clock n h = record { low = omega (arith, ints); high = omega (arith, ints) }
 
 dur_fits : (text : List ℕ) → IfSome (dur_of text) FitsDur
 dur_fits text = dur_reads FitsDur tt tt is_clock text

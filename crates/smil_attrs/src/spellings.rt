@@ -1,11 +1,12 @@
 //! Values of attributes, as they are printed.
 
 ghost use Rattle.std.specs.Prelude.{◌≡◌, ◌++◌, ◌<◌, ◌∷◌, [], ℕ, List, Option, codes, option_map, nat_abs, IfSome, All, OnOk, OnErr, Some};
+ghost use Rattle.smil_model.specs.Times.{IsMoment};
 ghost use Rattle.smil_grammar.specs.Attributes.{name_text};
 ghost use Rattle.smil_grammar.specs.Texts.{space};
 ghost use Rattle.smil_grammar.specs.Clock.{clock_text};
 ghost use Rattle.smil_grammar.specs.Spellings.{dur_text, time_text, decimals, count_text, restart_text, fill_text, restart_default_text, fill_default_text, endsync_text, act_text, list_text, attr_at, attr_text, value_text, attribute_text, CanWrite, Begins};
-ghost use Rattle.smil_attrs.specs.Fits.{FitsClock, FitsDur, FitsTime, FitsAttr};
+ghost use Rattle.smil_attrs.specs.Fits.{FitsDur, FitsTime, FitsAttr};
 
 use super::names;
 use itoa::Buffer;
@@ -284,7 +285,7 @@ fn put_list(name: AttrName, value: &Option<Items>, out: &mut Bytes) -> Result<()
 // Appends a `min` with its name.
 #[tactic(auto, using(smil_lexis::proofs::Growing::begins_on))]
 fn put_min(name: AttrName, value: Option<i64>, out: &mut Bytes) -> Result<(), AllocError>
-    requires { IfSome value FitsClock }
+    requires { IfSome value IsMoment }
     ensures ok { OnOk result (out.new ≡ out.old
         ++ attribute_text name (option_map (λ n. clock_text (nat_abs n)) value)) }
     ensures err { OnErr result (Begins out.old out.new) }

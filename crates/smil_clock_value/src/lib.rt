@@ -1,8 +1,9 @@
 //! Clock values, read and written.
 #![tactic(auto)]
 
-ghost use Rattle.std.specs.Prelude.{◌≡◌, ℕ, ◌≤◌, ◌*◌, ◌/◌, ◌+◌, ◌<◌, ◌++◌, ℤ, pos, ◌≤ℤ◌, nat_abs, Some, IfSome, option_map, List, length, OnOk, OnErr};
+ghost use Rattle.std.specs.Prelude.{◌≡◌, ℕ, ◌≤◌, ◌*◌, ◌/◌, ◌+◌, ◌<◌, ◌++◌, pos, nat_abs, Some, IfSome, option_map, List, length, OnOk, OnErr};
 ghost use Rattle.smil_model.specs.declared.times.TheConstants.{HORIZON};
+ghost use Rattle.smil_model.specs.Times.{IsMoment};
 ghost use Rattle.smil_grammar.specs.Clock.{clock_of, clock_answer, clock_within as clock_within_limit, clock_text, full as full_value, partial as partial_value, unit_of, time_count as time_count_value, is_of_number as is_of_number_byte};
 ghost use Rattle.std.specs.List.{prefix_len};
 ghost use Rattle.smil_lexis.specs.Capped.{capped};
@@ -109,16 +110,14 @@ pub fn read_clock(bytes: &[u8]) -> Result<i64, ClockFault>
 #[tactic(auto, using(crate::proofs::Within::clock_ok, crate::proofs::Within::clock_err))]
 pub fn clock_within(bytes: &[u8]) -> Option<i64>
     ensures value { result ≡ option_map pos (clock_within_limit bytes.now) }
-    ensures low { IfSome result (λ value. pos 0 ≤ℤ value) }
-    ensures high { IfSome result (λ value. value ≤ℤ HORIZON) }
+    ensures moment { IfSome result IsMoment }
 {
     read_clock(bytes).ok()
 }
 
 /// Appends the printed spelling of a clock value. After a refusal `out` is as before.
 pub fn write_clock(value: i64, out: &mut Bytes) -> Result<(), AllocError>
-    requires low { pos 0 ≤ℤ value }
-    requires high { value ≤ℤ HORIZON }
+    requires { IsMoment value }
     ensures ok { OnOk result (out.new ≡ out.old ++ clock_text (nat_abs value)) }
     ensures err { OnErr result (out.new ≡ out.old) }
 {

@@ -1,7 +1,7 @@
 //! Begin and end lists, as they are printed.
 
-ghost use Rattle.std.specs.Prelude.{◌≡◌, ℕ, ◌≤◌, ◌++◌, ℤ, pos, ◌≤ℤ◌, nat_abs, codes, List, [], ◌∷◌, length, All, Some, OnOk, OnErr};
-ghost use Rattle.smil_model.specs.declared.times.TheConstants.{HORIZON};
+ghost use Rattle.std.specs.Prelude.{◌≡◌, ℕ, ◌++◌, nat_abs, codes, List, [], ◌∷◌, length, All, Some, OnOk, OnErr};
+ghost use Rattle.smil_model.specs.Times.{IsMoment};
 ghost use Rattle.smil_model.specs.declared.document.Item.TheVariants.{Sync, Event, Repeat, Key};
 ghost use Rattle.smil_grammar.specs.Clock.{clock_text};
 ghost use Rattle.smil_grammar.specs.Spellings.{escaped, offset_text, tail_text, of_who, edge_text, item_text, list_text, IsWithin, CanWrite, Begins};
@@ -28,8 +28,7 @@ fn put_escaped(id: &[u8], out: &mut Bytes) -> Result<(), AllocError>
 
 // Appends a clock value behind its sign.
 fn put_signed(sign: &[u8], offset: i64, out: &mut Bytes) -> Result<(), AllocError>
-    requires low { pos 0 ≤ℤ offset }
-    requires high { offset ≤ℤ HORIZON }
+    requires { IsMoment offset }
     ensures ok { OnOk result (out.new ≡ out.old ++ (sign.now ++ clock_text (nat_abs offset))) }
     ensures err { OnErr result (Begins out.old out.new) }
 {
