@@ -43,12 +43,12 @@ use Rattle.smil_grammar.specs.Clock.{clock_within}
 use Rattle.smil_grammar.specs.Items.{IsItem}
 use Rattle.smil_grammar.specs.Lists.{list_of, IsList}
 use Rattle.smil_grammar.specs.Values.{either, above_zero, short_number_of, thousandths, id_of, attribute_name_of, restart_default_of, fill_default_of, is_kept, kept_of, dur_of, time_of, repeat_dur_of, count_of, restart_of, fill_of, endsync_of, peers_of, higher_of, lower_of, is_other_value, plain_value_of, value_of}
-use Rattle.smil_grammar.specs.Spellings.{IsWithin, escaped, of_who, tail_text, item_text, list_text, attr_text, dur_text, time_text, decimals, count_text, endsync_text, act_text}
+use Rattle.smil_grammar.specs.Spellings.{escaped, of_who, tail_text, item_text, list_text, attr_text, dur_text, time_text, decimals, count_text, endsync_text, act_text}
 use Rattle.smil_grammar.specs.Allowed.{name_of, IsAttr}
 use Rattle.smil_lexis.proofs.Fronts.{Passes, tested, passes_weaker, passes_on}
 use Rattle.smil_lexis.proofs.Decimals.{decimal_passes}
 use Rattle.smil_lexis.proofs.Words.{IsWord, all_of_id}
-use Rattle.smil_time_list.proofs.Printable.{IsWho, Printable, item_printable, clock_small}
+use Rattle.smil_time_list.proofs.Printable.{IsWho, Printable, item_printable, clock_small, IsWithin}
 use Rattle.smil_time_list.proofs.Spelled.{all_of_name, escaped_passes}
 use Rattle.smil_time_list.proofs.Listed.{list_is}
 use Rattle.smil_attrs.proofs.Readings.{IsSmall, value, any_value, listed}

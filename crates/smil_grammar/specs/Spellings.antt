@@ -26,7 +26,7 @@ use Rattle.smil_model.specs.declared.document.Attr.{Attr}
 use Rattle.smil_model.specs.declared.document.Attr.TheVariants as attr
 use Rattle.smil_model.specs.declared.document.AttrName.{AttrName}
 use Rattle.smil_model.specs.declared.document.AttrName.TheVariants as name
-use Rattle.smil_model.specs.declared.times.TheConstants.{HORIZON}
+use Rattle.smil_model.specs.Times.{IsNear}
 use Rattle.smil_model.specs.declared.times.Time.{Time}
 use Rattle.smil_model.specs.declared.times.Time.TheVariants as time
 use Rattle.smil_grammar.specs.Texts.{space, quote, plus, minus, point, semicolon, backslash}
@@ -211,17 +211,13 @@ saved_node_text depth kind serial attrs =
 abbrev pub header_text : ℕ → List ℕ
 header_text next = codes "outline 2 next " ++ decimal next
 
--- an offset within the horizon
-abbrev pub IsWithin : ℤ → Type 0
-IsWithin offset = nat_abs offset ≤ nat_abs HORIZON
-
 -- an item that can be written
 abbrev pub CanWrite : Item → Type 0
-CanWrite (Offset offset) = IsWithin offset
-CanWrite (Sync who edge offset) = IsWithin offset
-CanWrite (Event who name offset) = IsWithin offset
-CanWrite (Repeat who n offset) = IsWithin offset
-CanWrite (Key key offset) = IsWithin offset
+CanWrite (Offset offset) = IsNear offset
+CanWrite (Sync who edge offset) = IsNear offset
+CanWrite (Event who name offset) = IsNear offset
+CanWrite (Repeat who n offset) = IsNear offset
+CanWrite (Key key offset) = IsNear offset
 CanWrite Indefinite = Unit {0}
 
 -- where memory runs out, what was written before stays at the front

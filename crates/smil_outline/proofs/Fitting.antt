@@ -39,13 +39,13 @@ use Rattle.smil_grammar.specs.Items.{IsItem}
 use Rattle.smil_grammar.specs.Lists.{is_plain, IsList}
 use Rattle.smil_grammar.specs.Values.{above_zero, id_of, attribute_name_of}
 use Rattle.smil_grammar.specs.Attributes.{has}
-use Rattle.smil_grammar.specs.Spellings.{IsWithin, item_text, list_text, count_text, attr_at}
+use Rattle.smil_grammar.specs.Spellings.{item_text, list_text, count_text, attr_at}
 use Rattle.smil_grammar.specs.Clock.{clock_text}
 use Rattle.smil_grammar.specs.Allowed.{IsAttr, IsAttrs}
 use Rattle.smil_lexis.proofs.Fronts.{tested, passes_all, passes_weaker}
 use Rattle.smil_lexis.proofs.Trims.{is_inked, untrimmed}
 use Rattle.smil_lexis.proofs.Words.{IsWord, all_of_id}
-use Rattle.smil_time_list.proofs.Printable.{IsEventName, IsWho, Printable}
+use Rattle.smil_time_list.proofs.Printable.{IsEventName, IsWho, Printable, IsWithin}
 use Rattle.smil_time_list.proofs.Spelled.{item_read, clock_read}
 use Rattle.smil_time_list.proofs.Listed.{list_read}
 use Rattle.smil_attrs.proofs.Clocks.{trimmed, no_keyword, dur_read, time_read, repeat_read}

@@ -36,11 +36,10 @@ use Rattle.smil_grammar.specs.Clock.{clock_within}
 use Rattle.smil_grammar.specs.Items.{IsItem}
 use Rattle.smil_grammar.specs.Lists.{is_plain, list_of, IsList}
 use Rattle.smil_grammar.specs.Values.{either, above_zero, short_number_of, thousandths, id_of, attribute_name_of, restart_default_of, fill_default_of, kept_of, dur_of, time_of, repeat_dur_of, count_of, restart_of, fill_of, endsync_of, peers_of, higher_of, lower_of, is_other_value, plain_value_of, value_of}
-use Rattle.smil_grammar.specs.Spellings.{IsWithin}
 use Rattle.smil_grammar.specs.Allowed.{name_of, IsAttr, IsAttrs}
 use Rattle.smil_lexis.proofs.Fronts.{tests_pass}
 use Rattle.smil_lexis.proofs.Words.{IsWord}
-use Rattle.smil_time_list.proofs.Printable.{IsEventName, IsWho, Printable, item_printable, clock_small}
+use Rattle.smil_time_list.proofs.Printable.{IsEventName, IsWho, Printable, item_printable, clock_small, IsWithin}
 use Rattle.smil_attrs.proofs.Readings.{IsSmall, IsLength, value, any_value, listed}
 use Rattle.smil_attrs.proofs.Cases.{dur_reads, time_reads, repeat_reads, count_reads, higher_reads, lower_reads, endsync_reads}
 use Rattle.smil_attrs.proofs.Counts.{IsCount}

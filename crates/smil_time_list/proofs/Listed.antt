@@ -23,11 +23,11 @@ use Rattle.smil_grammar.specs.Results.{◌>>=◌}
 use Rattle.smil_grammar.specs.Clock.{clock_text}
 use Rattle.smil_grammar.specs.Items.{item_of, IsItem}
 use Rattle.smil_grammar.specs.Lists.{item_at, piece_at, items_from, pieces_of, few_items, is_plain, plain_at, first_place, list_of, IsList, GivesList}
-use Rattle.smil_grammar.specs.Spellings.{escaped, of_who, tail_text, item_text, list_text, IsWithin, CanWrite}
+use Rattle.smil_grammar.specs.Spellings.{escaped, of_who, tail_text, item_text, list_text, CanWrite}
 use Rattle.smil_lexis.proofs.Fronts.{Passes, passes_weaker, passes_on}
 use Rattle.smil_lexis.proofs.Decimals.{decimal_passes}
 use Rattle.smil_lexis.proofs.Words.{IsWord, all_of_id}
-use Rattle.smil_time_list.proofs.Printable.{IsWho, Printable, reading_gives, item_printable, can_write}
+use Rattle.smil_time_list.proofs.Printable.{IsWithin, IsWho, Printable, reading_gives, item_printable, can_write}
 use Rattle.smil_time_list.proofs.Spelled.{all_of_name, escaped_passes, item_read}
 
 -- a printed item has no `;` and no white space

@@ -1,10 +1,12 @@
 -- What a text can be read as: the items that a list can have.
 use Rattle.std.proofs.Common.{◌≡◌, ℕ, zero, suc, ◌+◌, ◌-◌, ◌*◌, ◌<◌, ◌≤◌, true, false, not, eqb, ltb, ◌||◌, List, [], ◌∷◌, length, take, drop, Option, Some, None, option_map, Result, Ok, Err, subst, arith, length-take}
-use Rattle.std.specs.Prelude.{ℤ, pos, neg_ℤ, codes, bytes_eq, IfOk, IfSome}
+use Rattle.std.specs.Prelude.{ℤ, pos, neg_ℤ, nat_abs, codes, bytes_eq, IfOk, IfSome}
 use Rattle.std.specs.Char.{is_ascii_digit}
 use Rattle.std.specs.Option.{ok_or}
 use Rattle.std.proofs.lemmas.Bool.{cond_both, ltb-false, ltb-true, and_parts}
 use Rattle.std.proofs.lemmas.Bool.Decides.{nat_tests}
+use Rattle.std.proofs.lemmas.Int.{ints}
+use Rattle.smil_model.specs.declared.times.TheConstants.{HORIZON}
 use Rattle.smil_model.specs.declared.document.Item.{Item}
 use Rattle.smil_model.specs.declared.document.Item.TheVariants.{Offset, Sync, Event, Repeat, Key, Indefinite}
 use Rattle.smil_model.specs.declared.document.Edge.{Edge}
@@ -16,10 +18,18 @@ use Rattle.smil_grammar.specs.Words.{is_of_name, is_of_id, name_len, id_len, une
 use Rattle.smil_grammar.specs.Numbers.{number_after, number_of}
 use Rattle.smil_grammar.specs.Clock.{clock_of, within, clock_within}
 use Rattle.smil_grammar.specs.Items.{is_sign, with_sign, signed_of, offset_of, tail_of, with_tail, is_count, count_of, repeat_of, sync_of, word_of, what_of, of_element, is_left_out, is_keyed, key_of, subject_of, named_of, item_of, IsItem}
-use Rattle.smil_grammar.specs.Spellings.{IsWithin, CanWrite}
+use Rattle.smil_model.specs.Times.{IsNear}
+use Rattle.smil_grammar.specs.Spellings.{CanWrite}
 use Rattle.smil_model.specs.document.Words.{is_key}
 use Rattle.smil_lexis.proofs.Digits.{nine_below}
 use Rattle.smil_lexis.proofs.Words.{IsWord, name_word, id_word}
+
+-- an offset is a clock value with a sign
+abbrev pub IsWithin : ℤ → Type 0
+IsWithin offset = nat_abs offset ≤ nat_abs HORIZON
+
+near : (offset : ℤ) → IsWithin offset → IsNear offset
+near offset h = record { low = omega (arith, ints); high = omega (arith, ints) }
 
 -- an event's name is none of the words that items have
 pub record IsEventName (name : List ℕ) : Type 0 where
@@ -195,9 +205,9 @@ pub item_printable : (item : Item) → IsItem item → Printable item
 item_printable item h = subst Gives h.1 (reading_gives h.0)
 
 pub can_write : (item : Item) → Printable item → CanWrite item
-can_write (Offset offset) h = h
-can_write (Sync who edge offset) h = h.1
-can_write (Event who name offset) h = h.2
-can_write (Repeat who n offset) h = h.3
-can_write (Key key offset) h = h.1
+can_write (Offset offset) h = near offset h
+can_write (Sync who edge offset) h = near offset h.1
+can_write (Event who name offset) h = near offset h.2
+can_write (Repeat who n offset) h = near offset h.3
+can_write (Key key offset) h = near offset h.1
 can_write Indefinite h = tt

@@ -18,12 +18,12 @@ use Rattle.smil_grammar.specs.Texts.{is_white, cut_at, trim_front, behind, point
 use Rattle.smil_grammar.specs.Words.{is_initial, is_of_name, is_dash, is_of_id, escaped_len, id_len}
 use Rattle.smil_grammar.specs.Clock.{clock_within, clock_text}
 use Rattle.smil_grammar.specs.Items.{is_sign, signed_of, tail_of, is_count, count_of, repeat_of, word_of, what_of, of_element, is_left_out, is_keyed, subject_of, named_of, item_of}
-use Rattle.smil_grammar.specs.Spellings.{escaped, offset_text, tail_text, edge_text, item_text, IsWithin}
+use Rattle.smil_grammar.specs.Spellings.{escaped, offset_text, tail_text, edge_text, item_text}
 use Rattle.smil_lexis.proofs.Fronts.{Passes, passes_weaker, cut_front}
 use Rattle.smil_lexis.proofs.Decimals.{decimal_passes, number_of_decimal}
 use Rattle.smil_lexis.proofs.Words.{IsWord, initial_no_dash, name_len_of, id_len_of, read_again, all_of_id}
 use Rattle.smil_clock_value.proofs.Again.{written}
-use Rattle.smil_time_list.proofs.Printable.{IsEventName, Printable}
+use Rattle.smil_time_list.proofs.Printable.{IsEventName, Printable, IsWithin}
 
 -- clock values with a sign
 

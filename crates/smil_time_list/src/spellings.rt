@@ -1,10 +1,10 @@
 //! Begin and end lists, as they are printed.
 
 ghost use Rattle.std.specs.Prelude.{◌≡◌, ℕ, ◌++◌, nat_abs, codes, List, [], ◌∷◌, length, All, Some, OnOk, OnErr};
-ghost use Rattle.smil_model.specs.Times.{IsMoment};
+ghost use Rattle.smil_model.specs.Times.{IsMoment, IsNear};
 ghost use Rattle.smil_model.specs.declared.document.Item.TheVariants.{Sync, Event, Repeat, Key};
 ghost use Rattle.smil_grammar.specs.Clock.{clock_text};
-ghost use Rattle.smil_grammar.specs.Spellings.{escaped, offset_text, tail_text, of_who, edge_text, item_text, list_text, IsWithin, CanWrite, Begins};
+ghost use Rattle.smil_grammar.specs.Spellings.{escaped, offset_text, tail_text, of_who, edge_text, item_text, list_text, CanWrite, Begins};
 ghost use Rattle.smil_time_list.specs.Joined.{next_text};
 
 use itoa::Buffer;
@@ -38,7 +38,7 @@ fn put_signed(sign: &[u8], offset: i64, out: &mut Bytes) -> Result<(), AllocErro
 
 // Appends an offset.
 fn put_offset(offset: i64, out: &mut Bytes) -> Result<(), AllocError>
-    requires { IsWithin offset }
+    requires { IsNear offset }
     ensures ok { OnOk result (out.new ≡ out.old ++ offset_text offset) }
     ensures err { OnErr result (Begins out.old out.new) }
 {
@@ -51,7 +51,7 @@ fn put_offset(offset: i64, out: &mut Bytes) -> Result<(), AllocError>
 
 // Appends an offset behind a word: nothing where it is 0.
 fn put_tail(offset: i64, out: &mut Bytes) -> Result<(), AllocError>
-    requires { IsWithin offset }
+    requires { IsNear offset }
     ensures ok { OnOk result (out.new ≡ out.old ++ tail_text offset) }
     ensures err { OnErr result (Begins out.old out.new) }
 {
@@ -92,7 +92,7 @@ fn put_edge(edge: Edge, out: &mut Bytes) -> Result<(), AllocError>
 // Appends the begin or the end of an element.
 #[tactic(auto, using(smil_lexis::proofs::Growing::begins_on))]
 fn put_sync(who: &Bytes, edge: Edge, offset: i64, out: &mut Bytes) -> Result<(), AllocError>
-    requires { IsWithin offset }
+    requires { IsNear offset }
     ensures ok { OnOk result (out.new ≡ out.old ++ item_text (Sync who.now edge offset)) }
     ensures err { OnErr result (Begins out.old out.new) }
 {
@@ -110,7 +110,7 @@ fn put_event(
     offset: i64,
     out: &mut Bytes,
 ) -> Result<(), AllocError>
-    requires { IsWithin offset }
+    requires { IsNear offset }
     ensures ok { OnOk result (out.new ≡ out.old ++ item_text (Event who.now name.now offset)) }
     ensures err { OnErr result (Begins out.old out.new) }
 {
@@ -122,7 +122,7 @@ fn put_event(
 // Appends an iteration.
 #[tactic(auto, using(smil_lexis::proofs::Growing::begins_on))]
 fn put_repeat(who: &Option<Bytes>, n: u32, offset: i64, out: &mut Bytes) -> Result<(), AllocError>
-    requires { IsWithin offset }
+    requires { IsNear offset }
     ensures ok { OnOk result (out.new ≡ out.old ++ item_text (Repeat who.now n offset)) }
     ensures err { OnErr result (Begins out.old out.new) }
 {
@@ -148,7 +148,7 @@ fn put_call(key: u8, out: &mut Bytes) -> Result<(), AllocError>
 // Appends an access key with its offset.
 #[tactic(auto, using(smil_lexis::proofs::Growing::begins_on))]
 fn put_key(key: u8, offset: i64, out: &mut Bytes) -> Result<(), AllocError>
-    requires { IsWithin offset }
+    requires { IsNear offset }
     ensures ok { OnOk result (out.new ≡ out.old ++ item_text (Key key offset)) }
     ensures err { OnErr result (Begins out.old out.new) }
 {
