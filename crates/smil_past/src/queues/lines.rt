@@ -2,7 +2,6 @@
 
 ghost use Rattle.std.specs.Prelude.{◌≡◌, ℕ, List, [], length, IsSome, IfOk, slice_get};
 ghost use Rattle.smil_model.specs.document.Document.{node_at, time_children};
-ghost use Rattle.smil_stretch.specs.Clocks.{parent_place as place_above};
 ghost use Rattle.smil_model.specs.diary.Diary.{History};
 ghost use Rattle.smil_model.specs.happening.Queue.{queue_of, rank as rank_in};
 ghost use Rattle.smil_past.specs.Queues.{AreTurned, HasRoom, MayTakeIn, classes_in, with_deferred, without_children, without_child, lines, with_paused, queues_after};
@@ -10,6 +9,7 @@ ghost use Rattle.smil_past.specs.Queues.{AreTurned, HasRoom, MayTakeIn, classes_
 use super::classes::class_at;
 use smil_excl::Queue;
 use smil_model::{Class, Step};
+use smil_stretch::parent_place;
 use smil_tree::Tree;
 use std::alloc::{AllocError, Global};
 
@@ -120,12 +120,4 @@ fn defer(queues: &mut [Queue], tree: &Tree, who: u32, rank: u32)
     if let Some(place) = parent_place(tree, who) {
         queues[place].defer(who, rank);
     }
-}
-
-// The place of the time parent of a node.
-fn parent_place(tree: &Tree, serial: u32) -> Option<usize>
-    requires { IsSome (node_at tree.now.nodes serial) }
-    ensures { result ≡ place_above tree.now.nodes serial }
-{
-    tree.position(tree.time_parent(serial)?)
 }
