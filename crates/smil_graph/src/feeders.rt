@@ -175,10 +175,8 @@ fn push_named(
     let Some(items) = items else {
         return Ok(());
     };
-    for k in 0..items.len() {
-        if let Some(item) = items.get(k) {
-            push_one(row, named_by(ids, item))?;
-        }
+    for item in items.slice() {
+        push_one(row, named_by(ids, item))?;
     }
     Ok(())
 }
@@ -209,10 +207,8 @@ fn push_heard(
     let Some(items) = items else {
         return Ok(());
     };
-    for k in 0..items.len() {
-        if let Some(item) = items.get(k) {
-            push_one(row, source_of(ids, item, place))?;
-        }
+    for item in items.slice() {
+        push_one(row, source_of(ids, item, place))?;
     }
     Ok(())
 }

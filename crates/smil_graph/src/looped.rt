@@ -67,10 +67,8 @@ fn push_marks(
     let Some(items) = items else {
         return Ok(());
     };
-    for k in 0..items.len() {
-        if let Some(item) = items.get(k) {
-            row.push(is_on_level(loops.levels, place, named_by(loops.ids, item)))?;
-        }
+    for item in items.slice() {
+        row.push(is_on_level(loops.levels, place, named_by(loops.ids, item)))?;
     }
     Ok(())
 }

@@ -54,10 +54,8 @@ fn push_keys(
     let Some(items) = items else {
         return Ok(());
     };
-    for k in 0..items.len() {
-        if let Some(item) = items.get(k) {
-            push_key(rows, key_of(item), place)?;
-        }
+    for item in items.slice() {
+        push_key(rows, key_of(item), place)?;
     }
     Ok(())
 }

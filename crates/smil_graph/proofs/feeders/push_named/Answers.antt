@@ -1,20 +1,16 @@
-use Rattle.std.proofs.Common.{◌≡◌, sym, ◌∙◌, arith, Some, None}
-use Rattle.std.specs.Prelude.{bytes_eq}
+use Rattle.std.proofs.Common.{◌≡◌, sym, ◌∙◌, ap, Some}
+use Rattle.std.specs.Prelude.{bytes_eq, slice_get}
 use Rattle.std.specs.HashMap.{get_by}
+use Rattle.std.proofs.lemmas.Option.{slice_get-get_or}
 use Rattle.smil_graph.specs.Links.{lists}
 use Rattle.smil_graph.specs.Places.{named_by}
-use Rattle.smil_graph.proofs.Nodes.{there}
 use Rattle.smil_graph.proofs.Rows.{leads_more}
 use Rattle.smil_graph.proofs.feeders.push_named.Goals as goal
-use Rattle.smil_graph.proofs.feeders.push_named.Goals.{in-Some-get+in_ok-push_one, in_default-get}
 
-pub loop-k-preserved : goal.loop-k-preserved
-loop-k-preserved c =
-    elim c.match-get.branch [
-      | in-Some-get+in_ok-push_one w ↦ λ i.
-          rw w.row-is (leads_more (named_by (λ id. get_by (λ k. bytes_eq id k.now) c.args.ids.now)) c.in-Some.items c.loop-k.k w.in-Some-get.item.now w.named_by.result i (lists c.args.row.now i) (lists c.loop-k.row i) (lists w.push_one.new.row i) (sym w.in-Some-get.ensures) w.named_by.ensures (c.loop-k.invariant i) (w.in_ok-push_one.ensures i))
-      | in_default-get w ↦
-          let m = there c.in-Some.items c.loop-k.k (omega arith) in
-          let never : None ≡ Some m.0 = w.in_default-get.ensures ∙ m.1 in
-          absurd (cc)
-    ]
+pub loop-item-preserved : goal.loop-item-preserved
+loop-item-preserved c =
+    let i = c.loop-item.item-index in
+    let item = c.item-item.result in
+    let at : slice_get c.in-Some.items i ≡ Some item = ap (λ xs. slice_get xs i) (sym c.slice-item-items.ensures) ∙ slice_get-get_or c.slice-item-items.result.now i item c.loop-item-test.true ∙ ap Some (sym c.item-item.is) in
+    λ k.
+    leads_more (named_by (λ id. get_by (λ key. bytes_eq id key.now) c.args.ids.now)) c.in-Some.items i item c.named_by.result k (lists c.args.row.now k) (lists c.loop-item.row k) (lists c.push_one.new.row k) at c.named_by.ensures (c.loop-item.invariant k) (c.in_ok-push_one.ensures k)

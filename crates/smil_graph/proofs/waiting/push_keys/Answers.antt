@@ -1,15 +1,12 @@
-use Rattle.std.proofs.Common.{◌≡◌, sym, ◌∙◌, arith, Some, None}
-use Rattle.smil_graph.proofs.Nodes.{there}
-use Rattle.smil_graph.proofs.Keyed.{with_item, with_none}
+use Rattle.std.proofs.Common.{◌≡◌, sym, ◌∙◌, ap, Some}
+use Rattle.std.specs.Prelude.{slice_get}
+use Rattle.std.proofs.lemmas.Option.{slice_get-get_or}
+use Rattle.smil_graph.proofs.Keyed.{with_item}
 use Rattle.smil_graph.proofs.waiting.push_keys.Goals as goal
-use Rattle.smil_graph.proofs.waiting.push_keys.Goals.{in-Some-get+in_ok-push_key, in_default-get}
 
-pub loop-k-preserved : goal.loop-k-preserved
-loop-k-preserved c =
-    elim c.match-get.branch [
-      | in-Some-get+in_ok-push_key w ↦ rw w.rows-is (with_item c.in-Some.items c.loop-k.k w.in-Some-get.item.now c.args.place c.args.rows.now.items c.loop-k.rows.items w.push_key.new.rows.items (sym w.in-Some-get.ensures) c.loop-k.invariant (rw w.key_of.ensures at w.in_ok-push_key.ensures))
-      | in_default-get w ↦
-          let m = there c.in-Some.items c.loop-k.k (omega arith) in
-          let never : None ≡ Some m.0 = w.in_default-get.ensures ∙ m.1 in
-          absurd (cc)
-    ]
+pub loop-item-preserved : goal.loop-item-preserved
+loop-item-preserved c =
+    let i = c.loop-item.item-index in
+    let item = c.item-item.result in
+    let at : slice_get c.in-Some.items i ≡ Some item = ap (λ xs. slice_get xs i) (sym c.slice-item-items.ensures) ∙ slice_get-get_or c.slice-item-items.result.now i item c.loop-item-test.true ∙ ap Some (sym c.item-item.is) in
+    with_item c.in-Some.items i item c.args.place c.args.rows.now.items c.loop-item.rows.items c.push_key.new.rows.items at c.loop-item.invariant (rw c.key_of.ensures at c.in_ok-push_key.ensures)
