@@ -1,23 +1,22 @@
 -- The places of nodes, and layers of different sets at different places.
-use Rattle.std.proofs.Common.{◌≡◌, refl, sym, ◌∙◌, ap, subst, zero, suc, ℕ, ℤ, ◌<◌, ◌≤◌, List, [], ◌∷◌, ◌++◌, length, get_or, take, drop, map, cond, Bool, true, false, Option, Some, None, ltb, eq-eqb, arith}
-use Rattle.std.specs.Prelude.{◌==◌, ◌&&◌, if◌then◌else◌, IsSome, is_some, find, option_and_then, position, slice_get, unwrap_or}
+use Rattle.std.proofs.Common.{◌≡◌, refl, sym, ◌∙◌, ap, subst, ℕ, ℤ, ◌<◌, List, [], ◌∷◌, ◌++◌, length, get_or, take, drop, map, cond, Bool, true, false, Option, Some, None, ltb, eq-eqb, arith}
+use Rattle.std.specs.Prelude.{◌==◌, ◌&&◌, if◌then◌else◌, IsSome, is_some, find, option_and_then, position, unwrap_or}
 use Rattle.std.specs.List.{AllByRecursion, cons_option, position_or_len}
 use Rattle.std.proofs.lemmas.Bool.{lt-ltb, eqb-true}
 use Rattle.std.proofs.lemmas.List.{map-append, take-append-drop}
 use Rattle.std.proofs.lemmas.List.Sums.{passes_at_first}
-use Rattle.std.proofs.lemmas.Option.{get_or_from_slice_get, slice_get_within}
 use Rattle.smil_model.specs.declared.document.Node.{Node}
 use Rattle.smil_model.specs.declared.document.Attrs.{Attrs}
 use Rattle.smil_model.specs.declared.view.Layer.{Layer}
 use Rattle.smil_model.specs.declared.view.View.{View}
-use Rattle.smil_model.specs.document.Document.{elements, is_element, is_set_kind, node_at, serial_of, serials}
+use Rattle.smil_model.specs.document.Document.{elements, is_element, is_set_kind, node_at, serials}
 use Rattle.smil_model.specs.document.Edits.{place_in}
 use Rattle.smil_model.specs.document.Valid.{IsDistinct}
 use Rattle.smil_model.specs.shown.Sandwich.{begin_shown, contributes, layer_by, layer_of, layers, target_by, with_setter}
 use Rattle.smil_laws.proofs.Lineages.{swap_eqb}
 use Rattle.smil_laws.proofs.Members.{Differ, differ_all, differ_kept}
 use Rattle.smil_laws.proofs.Lists.{each_weaker, each_kept}
-use Rattle.smil_tree.proofs.KinLists.{each_left, each_at, each_serial}
+use Rattle.smil_tree.proofs.KinLists.{each_left, each_serial}
 use Rattle.smil_tree.proofs.Changed.{serial_of as own_serial}
 use Rattle.smil_sandwich.specs.Stacks.{AreApart, IsApart}
 use Rattle.smil_live.specs.Sets.{AreOfElements, AreSettersOf, layer_in}
@@ -197,30 +196,3 @@ views_known nodes vs of =
     let all = each_serial (λ s. IsSome (node_at nodes s)) (elements nodes) (each_kept (λ (n : Node). IsSome (node_at nodes n.serial)) is_element nodes (found_each nodes)) in
     let P : List ℕ → Type 0 = λ ss. AllByRecursion (λ s. IsSome (node_at nodes s)) ss in
     each_view (λ s. IsSome (node_at nodes s)) vs (subst P (sym of) all)
-
--- ---- the node at a place
-
-pub record StandsAt (nodes : List Node) (s k : ℕ) : Type 0 where
-  pub node : Node
-  pub at : slice_get nodes k ≡ Some node
-  pub serial : node.serial ≡ s
-
-pub stands_at : (nodes : List Node) (s k : ℕ) → Some s ≡ serial_of (slice_get nodes k) → StandsAt nodes s k
-stands_at nodes s k q = by (slice_get nodes k) refl q
-  where
-    by : (o : Option Node) → slice_get nodes k ≡ o → Some s ≡ serial_of o → StandsAt nodes s k
-    by None e r = cc
-    by (Some n) e r = let is : s ≡ n.serial = cc in record { node = n; at = e; serial = sym is }
-
-pub standing_known : (nodes : List Node) (s k : ℕ) → Some s ≡ serial_of (slice_get nodes k) → IsSome (node_at nodes s)
-standing_known nodes s k q =
-    let stands = stands_at nodes s k q in
-    let n = stands.node in
-    let known = each_at (λ (m : Node). IsSome (node_at nodes m.serial)) nodes k n (found_each nodes) (slice_get_within nodes k n stands.at) in
-    let P : ℕ → Type 0 = λ x. IsSome (node_at nodes x) in
-    subst P (ap (λ (m : Node). m.serial) (get_or_from_slice_get nodes k n n stands.at) ∙ stands.serial) known
-
-pub past_nodes : (nodes : List Node) (k : ℕ) → None ≡ serial_of (slice_get nodes k) → length nodes ≤ k
-past_nodes [] k q = omega arith
-past_nodes (n ∷ ns) zero q = cc
-past_nodes (n ∷ ns) (suc k) q = let rest = past_nodes ns k q in omega arith
