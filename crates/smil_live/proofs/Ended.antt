@@ -1,8 +1,7 @@
 -- What a settled diary tells of its resolution: it has ended, at its last moment, and whatever was logged by then was heard.
-use Rattle.std.proofs.Common.{◌≡◌, refl, sym, ◌∙◌, subst, ℕ, suc, zero, ◌<◌, ◌≤◌, ◌+◌, List, [], ◌∷◌, ◌++◌, Option, Some, None, Bool, true, false, ℤ, arith, inl, inr, length, length-append}
+use Rattle.std.proofs.Common.{◌≡◌, refl, sym, ◌∙◌, subst, ℕ, suc, zero, ◌<◌, ◌≤◌, ◌+◌, List, [], ◌∷◌, ◌++◌, Option, Some, None, Bool, true, false, ℤ, arith, inl, inr, length}
 use Rattle.std.specs.Prelude.{◌⊎◌, cond, pos, int_le, nat_lt, nat_le, slice_get, ◌≤ℤ◌, ◌+ℤ◌, ◌&&◌}
-use Rattle.std.specs.Option.{option_map_or}
-use Rattle.std.proofs.lemmas.Bool.{ltb-true, leb-true}
+use Rattle.std.proofs.lemmas.Bool.{leb-true}
 use Rattle.std.proofs.lemmas.Int.{ints}
 use Rattle.smil_model.specs.declared.diary.Entry.{Entry}
 use Rattle.smil_model.specs.declared.diary.LogEntry.{LogEntry}
@@ -13,84 +12,7 @@ use Rattle.smil_model.specs.happening.Keys.{Coming, coming, first_coming, is_due
 use Rattle.smil_model.specs.happening.Groups.{group}
 use Rattle.smil_model.specs.happening.Resolution.{Course, Progress, outset, history_at, after_quiet, after_settling, after_coming, next_step, after_steps, Reaches, resolved, diary_of}
 use Rattle.smil_laws.specs.Courses.{heard_by}
-use Rattle.smil_laws.proofs.Grouped.{group_filled}
-
--- entries and milliseconds
-abbrev extent : Progress → ℕ
-extent p = length p.diary + p.moment
-
--- a step goes on by one of them at least, does not pass the last moment, and hears what is in the log
-record Advances (c : Course) (q r : Progress) : Type 0 where
-  more : suc (extent q) ≤ extent r
-  within : q.moment ≤ c.last → r.moment ≤ c.last
-  heard : q.heard ≤ length c.log → r.heard ≤ length c.log
-
-in_log : (i : ℕ) (es : List LogEntry) (x : LogEntry) → slice_get es i ≡ Some x → suc i ≤ length es
-in_log i [] x q = cc
-in_log zero (y ∷ ys) x q = omega arith
-in_log (suc i) (y ∷ ys) x q = let rest = in_log i ys x q in omega (arith, rest)
-
-module _ (c : Course) (q : Progress) where
-  quiet_advances : (r : Progress) → after_quiet c q ≡ Some r → Advances c q r
-  quiet_advances r e = by_test (nat_lt q.moment c.last) refl e
-    where
-      by_test : (t : Bool) → nat_lt q.moment c.last ≡ t → cond t (Some (record { moment = suc q.moment; heard = q.heard; diary = q.diary })) None ≡ Some r → Advances c q r
-      by_test true t e =
-          let one : record { moment = suc q.moment; heard = q.heard; diary = q.diary } ≡ r = cc in
-          let below : q.moment < c.last = ltb-true q.moment c.last t in
-          rw (← one) (record { more = omega arith; within = λ w. omega (arith, below); heard = λ w. w })
-      by_test false t e = cc
-
-  settling_advances : (o : Option LogEntry) (r : Progress) → slice_get c.log q.heard ≡ o → after_settling c q o ≡ Some r → Advances c q r
-  settling_advances None r f e = quiet_advances r e
-  settling_advances (Some entry) r f e = by_test (int_le entry.moment (pos q.moment)) e
-    where
-      by_test : (t : Bool) → cond t (Some (record { moment = q.moment; heard = suc q.heard; diary = q.diary ++ record { moment = pos q.moment; step = Logged q.heard } ∷ [] })) (after_quiet c q) ≡ Some r → Advances c q r
-      by_test true e =
-          let one : record { moment = q.moment; heard = suc q.heard; diary = q.diary ++ record { moment = pos q.moment; step = Logged q.heard } ∷ [] } ≡ r = cc in
-          let more = length-append q.diary (record { moment = pos q.moment; step = Logged q.heard } ∷ []) in
-          rw (← one) (record { more = omega (arith, more); within = λ w. w; heard = λ w. in_log q.heard c.log entry f })
-      by_test false e = quiet_advances r e
-
-  coming_advances : (o : Option Coming) (r : Progress) → after_coming c q o ≡ Some r → Advances c q r
-  coming_advances None r e = settling_advances (slice_get c.log q.heard) r refl e
-  coming_advances (Some next) r e = by_test (is_due (pos q.moment) next.key) e
-    where
-      by_test : (t : Bool) → cond t (Some (record { moment = q.moment; heard = q.heard; diary = q.diary ++ group (history_at c q) (pos q.moment) next.key.serial next.change })) (after_settling c q (slice_get c.log q.heard)) ≡ Some r → Advances c q r
-      by_test true e =
-          let one : record { moment = q.moment; heard = q.heard; diary = q.diary ++ group (history_at c q) (pos q.moment) next.key.serial next.change } ≡ r = cc in
-          let more = length-append q.diary (group (history_at c q) (pos q.moment) next.key.serial next.change) in
-          let some = group_filled (history_at c q) (pos q.moment) next.key.serial next.change in
-          rw (← one) (record { more = omega (arith, more, some); within = λ w. w; heard = λ w. w })
-      by_test false e = settling_advances (slice_get c.log q.heard) r refl e
-
-  next_advances : (r : Progress) → next_step c q ≡ Some r → Advances c q r
-  next_advances r e = coming_advances (first_coming (coming (history_at c q) (pos q.moment))) r e
-
--- after k steps the resolution has ended, or has come as far
-record Comes (c : Course) (k : ℕ) (q r : Progress) : Type 0 where
-  far : (next_step c r ≡ None) ⊎ (k + extent q ≤ extent r)
-  within : q.moment ≤ c.last → r.moment ≤ c.last
-  heard : q.heard ≤ length c.log → r.heard ≤ length c.log
-
-comes : (c : Course) (k : ℕ) (q : Progress) → Comes c k q (after_steps c k q)
-comes c zero q = record { far = inr (omega arith); within = λ w. w; heard = λ w. w }
-comes c (suc k) q = by_next (next_step c q) refl (comes c k)
-  where
-    by_next : (o : Option Progress) → next_step c q ≡ o → ((r : Progress) → Comes c k r (after_steps c k r)) → Comes c (suc k) q (option_map_or (λ r. after_steps c k r) o q)
-    by_next None e later = record { far = inl e; within = λ w. w; heard = λ w. w }
-    by_next (Some r) e later =
-        let one = next_advances c q r e in
-        let rest = later r in
-        record {
-          far = by_far rest.far one.more;
-          within = λ w. rest.within (one.within w);
-          heard = λ w. rest.heard (one.heard w);
-        }
-      where
-        by_far : (next_step c (after_steps c k r) ≡ None) ⊎ (k + extent r ≤ extent (after_steps c k r)) → suc (extent q) ≤ extent r → (next_step c (after_steps c k r) ≡ None) ⊎ (suc k + extent q ≤ extent (after_steps c k r))
-        by_far (inl ended) more = inl ended
-        by_far (inr far) more = inr (omega (arith, far, more))
+use Rattle.smil_laws.proofs.Decided.{Comes, comes, extent}
 
 -- no step passes the last moment
 pub comes_within : (c : Course) (k : ℕ) → (after_steps c k outset).moment ≤ c.last
