@@ -1,8 +1,8 @@
 -- A course that has too many entries for a diary has too many with a longer log and a later last moment.
-use Rattle.std.proofs.Common.{◌≡◌, refl, ap, subst, ℕ, suc, zero, ◌<◌, ◌≤◌, ◌+◌, List, [], ◌∷◌, ◌++◌, Some, None, Bool, true, false, ℤ, arith, length, take, drop}
+use Rattle.std.proofs.Common.{◌≡◌, refl, subst, ℕ, suc, zero, ◌<◌, ◌≤◌, ◌+◌, List, [], ◌∷◌, ◌++◌, Some, None, Bool, true, false, ℤ, arith, length, take, drop}
 use Rattle.std.specs.Prelude.{cond, pos, int_le, nat_le, slice_get}
 use Rattle.std.specs.List.{AllByRecursion}
-use Rattle.std.proofs.lemmas.List.{append-nil}
+use Rattle.std.proofs.lemmas.List.{append-nil, take-append-drop}
 use Rattle.std.proofs.lemmas.Int.{ints}
 use Rattle.std.proofs.lemmas.Bool.{and_parts}
 use Rattle.smil_model.specs.declared.diary.LogEntry.{LogEntry}
@@ -54,16 +54,10 @@ full_later d log last later numbered further e =
 
 -- ---- the first entries of a log
 
-whole : (log : List LogEntry) (k : ℕ) → take k log ++ drop k log ≡ log
-whole [] zero = refl
-whole [] (suc k) = refl
-whole (x ∷ xs) zero = refl
-whole (x ∷ xs) (suc k) = ap (λ (l : List LogEntry). x ∷ l) (whole xs k)
-
 -- a log whose first entries are too many by a moment before which none of the others is
 pub full_by_first : (d : Document) (log : List LogEntry) (k last later : ℕ) → IsNumberedTree d → AreFrom (pos last) (drop k log) → last ≤ later → diary_of (course_on d.nodes (take k log) last) ≡ None → diary_of (course_on d.nodes log later) ≡ None
 full_by_first d log k last later numbered after further e =
-    subst (λ (l : List LogEntry). diary_of (course_on d.nodes l later) ≡ None) (whole log k) (full_further d (take k log) (drop k log) last later numbered after further e)
+    subst (λ (l : List LogEntry). diary_of (course_on d.nodes l later) ≡ None) (take-append-drop k log) (full_further d (take k log) (drop k log) last later numbered after further e)
 
 -- the moments of a log do not fall
 pub rising_from : (from : ℤ) (log : List LogEntry) → moments_rise from log ≡ true → AreFrom from log

@@ -8,6 +8,7 @@ use Rattle.std.proofs.lemmas.Bool.{eqb-true, ltb-true, ltb-false}
 use Rattle.std.proofs.lemmas.Option.{same_Some}
 use Rattle.std.proofs.lemmas.List.{append_assoc}
 use Rattle.std.proofs.lemmas.List.Folds.{find_at}
+use Rattle.std.proofs.Math.ListN.{drop_of_length-le}
 use Rattle.smil_model.specs.declared.document.Attrs.{Attrs}
 use Rattle.smil_model.specs.declared.document.Kind.{Kind}
 use Rattle.smil_model.specs.declared.document.Node.{Node}
@@ -139,11 +140,5 @@ pub all_gone : (after : List Node) (moment other : ℤ) (nodes : List Node) (i :
     → now ++ lines_gone after other (drop i nodes) ≡ out ++ lines_gone after other nodes → now ≡ out ++ lines_gone after moment nodes
 all_gone after moment other nodes i out now same left told =
     sym (append-nil now)
-    ∙ (ap (λ (ns : List Node). now ++ lines_gone after other ns) (sym (none nodes i left))
+    ∙ (ap (λ (ns : List Node). now ++ lines_gone after other ns) (sym (drop_of_length-le nodes left))
     ∙ (told ∙ ap (λ (z : ℤ). out ++ lines_gone after z nodes) same))
-  where
-    none : (ns : List Node) (k : ℕ) → length ns ≤ k → drop k ns ≡ []
-    none [] zero l = refl
-    none [] (suc k) l = refl
-    none (n ∷ ns) zero l = absurd (omega (arith, l))
-    none (n ∷ ns) (suc k) l = none ns k (omega (arith, l))

@@ -1,9 +1,10 @@
 -- What the views come to once those of the touched elements are put in place, and what is told of them.
-use Rattle.std.proofs.Common.{◌≡◌, refl, sym, ◌∙◌, ap, subst, ℕ, zero, suc, ◌+◌, ◌<◌, ◌≤◌, ℤ, List, [], ◌∷◌, ◌++◌, Bool, true, false, length, drop, get_or, arith, append-nil}
+use Rattle.std.proofs.Common.{◌≡◌, refl, sym, ◌∙◌, ap, subst, ℕ, ◌+◌, ◌<◌, ◌≤◌, ℤ, List, [], ◌∷◌, ◌++◌, Bool, true, false, length, drop, get_or, append-nil}
 use Rattle.std.specs.Prelude.{cond, not, pos, map, filter, Result, Ok, Err, OnOk}
 use Rattle.std.specs.Result.{is_err}
 use Rattle.std.specs.List.{AllByRecursion}
 use Rattle.std.proofs.lemmas.List.{length-map}
+use Rattle.std.proofs.Math.ListN.{drop_of_length-le}
 use Rattle.smil_model.specs.declared.document.Node.{Node}
 use Rattle.smil_model.specs.declared.view.View.{View}
 use Rattle.smil_model.specs.document.Closure.{has}
@@ -76,17 +77,11 @@ module _ (nodes : List Node) (m : ℕ) (first all : List View) (front : List ℕ
       left : AreLeft first all shown.views (v ∷ drop (i + 1) all)
       left = subst (λ (vs : List View). AreLeft first all shown.views vs) (next_view all i d l ∙ ap (λ x. x ∷ drop (i + 1) all) is) way.left
 
-  none_left : (vs : List View) (k : ℕ) → length vs ≤ k → drop k vs ≡ []
-  none_left [] zero l = refl
-  none_left [] (suc k) l = refl
-  none_left (v ∷ vs) zero l = absurd (omega (arith, l))
-  none_left (v ∷ vs) (suc k) l = none_left vs k (omega (arith, l))
-
   pub views_end : (shown : Shown) (i : ℕ) (out : List ℕ) → IsUnderWay nodes m first all front before shown i out → length all ≤ i → shown.views ≡ put_all first all
-  views_end shown i out way l = ap (put_all shown.views) (sym (none_left all i l)) ∙ (way.left).put
+  views_end shown i out way l = ap (put_all shown.views) (sym (drop_of_length-le all l)) ∙ (way.left).put
 
   pub told_end : (shown : Shown) (i : ℕ) (out : List ℕ) → IsUnderWay nodes m first all front before shown i out → length all ≤ i → out ≡ front ++ lines_between nodes m first all
-  told_end shown i out way l = sym (append-nil out) ∙ (ap (λ (vs : List View). out ++ lines_between nodes m first vs) (sym (none_left all i l)) ∙ way.told)
+  told_end shown i out way l = sym (append-nil out) ∙ (ap (λ (vs : List View). out ++ lines_between nodes m first vs) (sym (drop_of_length-le all l)) ∙ way.told)
 
 -- ---- from an earlier standing
 
