@@ -200,8 +200,8 @@ fn put_entries(log: &Log, book: &Book, out: &mut Bytes) -> Result<(), AllocError
     ensures ok { OnOk result (out.new ≡ out.old ++ flat_map (entry_line log.now) book.now) }
     ensures begins { Begins out.old out.new }
 {
-    for place in 0..book.len() {
-        put_entry(out, log, book.entry(place).unwrap())?;
+    for entry in book.entries() {
+        put_entry(out, log, *entry)?;
     }
     Ok(())
 }

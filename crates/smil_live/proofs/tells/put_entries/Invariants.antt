@@ -4,8 +4,8 @@ use Rattle.smil_model.specs.shown.Lines.{entry_line}
 use Rattle.smil_report.specs.Words.{Begins}
 use Rattle.smil_live.proofs.tells.put_entries.Given as goal
 
-abbrev pub invariant-loop-place : goal.invariant-loop-place
-invariant-loop-place l = record {
-  text : l.out ≡ l.fn.out ++ flat_map (entry_line l.log) (take l.place l.book);
+abbrev pub invariant-loop-entry : goal.invariant-loop-entry
+invariant-loop-entry l = record {
+  text : l.out ≡ l.fn.out ++ flat_map (entry_line l.log) (take l.entry-index l.book);
   begins : Begins l.fn.out l.out;
 }
