@@ -59,8 +59,8 @@ impl PastIntervals {
         ensures who { self.new.who ≡ self.old.who }
         ensures begins { Begins out.old out.new }
     {
-        for place in 0..book.len() {
-            self.follow(book.entry(place).unwrap(), name, out)?;
+        for entry in book.entries() {
+            self.follow(*entry, name, out)?;
         }
         Ok(())
     }

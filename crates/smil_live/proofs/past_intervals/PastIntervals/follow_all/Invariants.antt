@@ -6,9 +6,9 @@ use Rattle.smil_live.specs.Histories.{IsTold}
 use Rattle.smil_live.proofs.past_intervals.PastIntervals.follow_all.Given as goal
 
 -- what is told after the entries so far
-abbrev pub invariant-loop-place : goal.invariant-loop-place
-invariant-loop-place l = record {
-  told : (h : History) (start : List ℕ) → h.diary ≡ l.book → IsLawful h → IsTold (up_to h []) l.name start l.fn.self l.fn.out → IsTold (up_to h (take l.place h.diary)) l.name start l.self l.out;
+abbrev pub invariant-loop-entry : goal.invariant-loop-entry
+invariant-loop-entry l = record {
+  told : (h : History) (start : List ℕ) → h.diary ≡ l.book → IsLawful h → IsTold (up_to h []) l.name start l.fn.self l.fn.out → IsTold (up_to h (take l.entry-index h.diary)) l.name start l.self l.out;
   who : l.self.who ≡ l.fn.self.who;
   begins : Begins l.fn.out l.out;
 }
