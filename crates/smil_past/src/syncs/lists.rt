@@ -74,14 +74,14 @@ impl Reader<'_> {
             ≡ syncs_of self.now.graph.now.nodes side e) }
     {
         let mut syncs = Vec::new(self.alloc);
-        for item in 0..items.len() {
+        for (at, item) in items.slice().iter().enumerate() {
             let source = self.dependents.source(Cell {
                 row: place,
                 side,
-                item,
+                item: at,
             });
-            let looped = self.graph.looped(who, side, item);
-            let sync = sync_by(looped, items.get(item).unwrap(), source);
+            let looped = self.graph.looped(who, side, at);
+            let sync = sync_by(looped, item, source);
             push_some(&mut syncs, sync)?;
         }
         Ok(syncs)
