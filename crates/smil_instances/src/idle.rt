@@ -127,14 +127,14 @@ fn push_list(
         → OnOk result (row.new ≡ with_items row.old side
         (map (instances_of (history_of document log []) e side) items.now)) }
 {
-    for item in 0..items.len() {
+    for (at, item) in items.slice().iter().enumerate() {
         let source = sources.dependents.source(Cell {
             row: sources.place,
             side,
-            item,
+            item: at,
         });
-        let time = idle_time(items.get(item).unwrap(), side, source);
-        push_item(row, side, item, time)?;
+        let time = idle_time(item, side, source);
+        push_item(row, side, at, time)?;
     }
     Ok(())
 }
