@@ -1,5 +1,5 @@
 -- Rows before the first entry.
-use Rattle.std.proofs.Common.{◌≡◌, refl, sym, ◌∙◌, ap, ℕ, zero, suc, ◌+◌, List, [], ◌∷◌, ◌++◌, Option, Some, None, Bool, true, false, length, take, map, append_assoc, arith}
+use Rattle.std.proofs.Common.{◌≡◌, refl, sym, ◌∙◌, ap, ℕ, ◌+◌, List, [], ◌∷◌, ◌++◌, Option, Some, None, Bool, true, false, length, map, append_assoc}
 use Rattle.std.specs.Prelude.{OnOk, Result, Ok, Err, cond, get_or, pos, set, slice_get}
 use Rattle.std.proofs.lemmas.List.{length-append}
 use Rattle.std.proofs.lemmas.Option.{same_Some}
@@ -49,13 +49,6 @@ no_items row End q = ap (λ zs. record row { ends = zs }) (q ∙ ap (λ zs. zs +
 pub items_grow : (row : Row) (side : Edge) (x : List InstanceTime) → length (side_of (with_items row side (x ∷ [])) side) ≡ length (side_of row side) + 1
 items_grow row Begin x = length-append row.begins (x ∷ [])
 items_grow row End x = length-append row.ends (x ∷ [])
-
-pub map_more : {A : Type 0} (f : A → List InstanceTime) (xs : List A) (i : ℕ) (x : A) → slice_get xs i ≡ Some x → map f (take i xs) ++ f x ∷ [] ≡ map f (take (i + 1) xs)
-map_more f [] i x q = cc
-map_more f (y ∷ ys) zero x q = ap (λ z. f z ∷ []) (sym (same_Some y x q))
-map_more f (y ∷ ys) (suc i) x q =
-    let next : suc (i + 1) ≡ suc i + 1 = omega arith in
-    ap (λ zs. f y ∷ zs) (map_more f ys i x q) ∙ ap (λ k. map f (take k (y ∷ ys))) next
 
 -- what is found, where there is an answer
 pub on_ok : {T E A B : Type 0} (r : Result T E) → OnOk r A → (A → B) → OnOk r B
