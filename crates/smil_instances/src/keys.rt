@@ -35,9 +35,8 @@ fn note_side(
     requires { row < length rows.now }
     ensures { OnOk result (TakesKeys (side_keys rows.now row side) keys.old.items keys.new.items) }
 {
-    for item in 0..rows[row].sources(side).len() {
-        let source = rows[row].source(side, item);
-        note_key(keys, source, Cell { row, side, item })?;
+    for (item, source) in rows[row].sources(side).iter().enumerate() {
+        note_key(keys, *source, Cell { row, side, item })?;
     }
     Ok(())
 }

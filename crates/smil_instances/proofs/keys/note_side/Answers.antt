@@ -1,5 +1,9 @@
-use Rattle.std.proofs.Common.{◌≡◌, sym, ap, ◌∙◌, ◌≤◌, length, arith, ◌+◌}
-use Rattle.smil_instances.specs.Dependents.{source_in, source_under, sources_of}
+use Rattle.std.proofs.Common.{◌≡◌, sym, ap, ◌∙◌, ◌≤◌, List, Some, get_or, length, arith, ◌+◌}
+use Rattle.std.specs.Prelude.{slice_get}
+use Rattle.std.proofs.lemmas.Option.{slice_get-get_or}
+use Rattle.smil_instances.specs.declared.source.Source.{Source}
+use Rattle.smil_instances.specs.declared.source.Source.TheVariants as source
+use Rattle.smil_instances.specs.Dependents.{source_in, source_or, source_under, sources_of}
 use Rattle.smil_instances.specs.Keys.{first_keys, goes_to_key, is_for_key, side_keys}
 use Rattle.smil_instances.specs.Spread.{one_if}
 use Rattle.smil_instances.proofs.Keyed.{all_of_side, by_rows, keys_same, keys_then}
@@ -12,17 +16,20 @@ loop-item-preserved c =
     let row = c.args.row in
     let side = c.args.side in
     let item = c.loop-item.item in
-    let s = c.source-source.result in
-    let r = c.index-rows-row-in-loop-item.result in
+    let all = c.sources-item-items.result.now in
+    let s = get_or all item source.Start in
+    let r = c.index-rows-row.result in
+    let read : slice_get (sources_of r side) item ≡ Some s =
+    ap (λ (ss : List Source). slice_get ss item) (sym c.sources-item-items.ensures) ∙ slice_get-get_or all item source.Start c.loop-item-test.true in
     let is : s ≡ source_in rows (record { row = row; side = side; item = item }) =
-    c.source-source.ensures ∙ sym (ap (source_under (record { row = row; side = side; item = item })) (row_there rows row r c.index-rows-row-in-loop-item.is c.requires)) in
+    sym (ap source_or read) ∙ sym (ap (source_under (record { row = row; side = side; item = item })) (row_there rows row r c.index-rows-row.is c.requires)) in
     keys_then (first_keys rows row side item) (goes_to_key s (record { row = row; side = side; item = item })) (first_keys rows row side (item + 1))
     c.args.keys.now.items c.loop-item.keys.items c.note_key.new.keys.items c.loop-item.invariant c.in_ok-note_key.ensures
     (λ key d. ap (λ t. one_if (first_keys rows row side item key d) + one_if t) (by_rows rows s (record { row = row; side = side; item = item }) is key d) ∙ items_next row side item (is_for_key rows key) d)
 
 pub returns : goal.returns
 returns c =
-    let same : length c.sources-item-end.result.now ≡ length (sources_of c.index-rows-row.result c.args.side) = ap length c.sources-item-end.ensures in
+    let same : length c.sources-item-items.result.now ≡ length (sources_of c.index-rows-row.result c.args.side) = ap length c.sources-item-items.ensures in
     let most : length (sources_of c.index-rows-row.result c.args.side) ≤ c.loop-item.item = omega (arith, same, c.loop-item-test.false) in
     keys_same (first_keys c.args.rows.now c.args.row c.args.side c.loop-item.item) (side_keys c.args.rows.now c.args.row c.args.side) c.args.keys.now.items c.loop-item.keys.items c.loop-item.invariant
     (all_of_side c.args.rows.now c.args.row c.args.side c.index-rows-row.result c.loop-item.item c.index-rows-row.is c.requires most)
