@@ -5,7 +5,6 @@ ghost use Rattle.smil_model.specs.declared.limits.TheConstants.{NAME_BYTES};
 ghost use Rattle.smil_model.specs.document.Words.{space};
 ghost use Rattle.smil_model.specs.shown.Lines.{closed_line, line_of, ok_line, refusal_line};
 ghost use Rattle.smil_report.specs.Words.{cause_words, checked_line};
-ghost use Rattle.smil_report.specs.declared.last_lines.TheConstants.{REFUSAL_BYTES, LAST_LINE_BYTES};
 
 use super::buffers::{put, put_number, put_signed};
 use smil_model::Refusal;
