@@ -28,29 +28,24 @@ use Rattle.smil_model.specs.declared.document.Endsync.TheVariants as endsync
 use Rattle.smil_model.specs.declared.document.Act.{Act}
 use Rattle.smil_model.specs.declared.document.Act.TheVariants as act
 use Rattle.smil_model.specs.declared.document.Item.{Item}
-use Rattle.smil_model.specs.declared.document.Item.TheVariants.{Offset, Sync, Event, Repeat, Key, Indefinite}
-use Rattle.smil_model.specs.declared.document.Edge.TheVariants.{Begin, End}
 use Rattle.smil_model.specs.declared.times.Time.{Time}
 use Rattle.smil_model.specs.declared.times.Time.TheVariants as time
 use Rattle.smil_grammar.specs.declared.fault.AttrFault.{AttrFault}
 use Rattle.smil_grammar.specs.declared.fault.ListFault.{ListFault}
 use Rattle.smil_grammar.specs.Texts.{◌>>=◌, trim, quote}
-use Rattle.smil_model.specs.document.Words.{is_key, is_of_attribute}
-use Rattle.smil_grammar.specs.Words.{is_of_id, is_of_name, id_len}
+use Rattle.smil_model.specs.document.Words.{is_of_attribute}
+use Rattle.smil_grammar.specs.Words.{is_of_id}
 use Rattle.smil_grammar.specs.Clock.{clock_text}
 use Rattle.smil_grammar.specs.Numbers.{with_fraction}
 use Rattle.smil_grammar.specs.Clock.{clock_within}
 use Rattle.smil_grammar.specs.Items.{IsItem}
 use Rattle.smil_grammar.specs.Lists.{list_of, IsList}
 use Rattle.smil_grammar.specs.Values.{either, above_zero, short_number_of, thousandths, id_of, attribute_name_of, restart_default_of, fill_default_of, is_kept, kept_of, dur_of, time_of, repeat_dur_of, count_of, restart_of, fill_of, endsync_of, peers_of, higher_of, lower_of, is_other_value, plain_value_of, value_of}
-use Rattle.smil_grammar.specs.Spellings.{escaped, of_who, tail_text, item_text, list_text, attr_text, dur_text, time_text, decimals, count_text, endsync_text, act_text}
+use Rattle.smil_grammar.specs.Spellings.{item_text, list_text, attr_text, dur_text, time_text, decimals, count_text, endsync_text, act_text}
 use Rattle.smil_grammar.specs.Allowed.{name_of, IsAttr}
 use Rattle.smil_lexis.proofs.Fronts.{Passes, tested, passes_weaker, passes_on}
-use Rattle.smil_lexis.proofs.Decimals.{decimal_passes}
-use Rattle.smil_lexis.proofs.Words.{IsWord, all_of_id}
-use Rattle.smil_time_list.proofs.Printable.{IsWho, Printable, item_printable, clock_small, IsWithin}
-use Rattle.smil_time_list.proofs.Spelled.{all_of_name, escaped_passes}
-use Rattle.smil_time_list.proofs.Listed.{list_is}
+use Rattle.smil_time_list.proofs.Printable.{Printable, item_printable, clock_small}
+use Rattle.smil_time_list.proofs.Listed.{is_ink, id_ink, digit_ink, number_ink, clock_ink, item_ink, list_is}
 use Rattle.smil_attrs.proofs.Readings.{IsSmall, value, any_value, listed}
 use Rattle.smil_attrs.proofs.Cases.{dur_reads, time_reads, repeat_reads, count_reads, endsync_reads}
 use Rattle.smil_attrs.proofs.Counts.{IsCount, digit_printed}
@@ -61,45 +56,20 @@ AreKept text = Passes is_kept text
 
 -- items
 
+ink_kept : (b : ℕ) → is_ink b ≡ true → is_kept b ≡ true
+ink_kept b h = grind (arith, nat_tests)
+
 id_byte : (b : ℕ) → is_of_id b ≡ true → is_kept b ≡ true
-id_byte b h = grind (arith, nat_tests)
-
-name_byte : (b : ℕ) → is_of_name b ≡ true → is_kept b ≡ true
-name_byte b h = grind (arith, nat_tests)
-
-key_byte : (b : ℕ) → is_key b ≡ true → is_kept b ≡ true
-key_byte b h = grind (arith, nat_tests)
-
-digit_byte : (b : ℕ) → is_ascii_digit b ≡ true → is_kept b ≡ true
-digit_byte b h = grind (arith, nat_tests)
+id_byte b h = ink_kept b (id_ink b h)
 
 number_kept : (n : ℕ) → IsSmall n → AreKept (decimal n)
-number_kept n le = passes_weaker is_ascii_digit is_kept digit_byte (decimal n) (decimal_passes n (omega arith))
+number_kept n le = passes_weaker is_ink is_kept ink_kept (decimal n) (number_ink n le)
 
 clock_kept : (n : ℕ) → IsSmall n → AreKept (clock_text n)
-clock_kept n le = passes_on is_kept (decimal n) (codes "ms") (number_kept n le) (refl, (refl, tt))
-
-tail_kept : (offset : ℤ) → IsWithin offset → AreKept (tail_text offset)
-tail_kept (pos zero) h = tt
-tail_kept (pos (suc n)) h = (refl, clock_kept (suc n) h)
-tail_kept (negsuc n) h = (refl, clock_kept (suc n) h)
-
-behind_id : (id text : List ℕ) → IsWord is_of_id id → AreKept text → AreKept (escaped id ++ text)
-behind_id id text h k = passes_on is_kept (escaped id) text (escaped_passes is_kept id_byte refl id (all_of_id id h)) k
-
-behind_who : (who : Option (List ℕ)) (text : List ℕ) → IsWho who → AreKept text → AreKept (of_who who ++ text)
-behind_who None text h k = k
-behind_who (Some id) text h k = rw (append_assoc (escaped id) (46 ∷ []) text) (behind_id id (46 ∷ text) h (refl, k))
+clock_kept n le = passes_weaker is_ink is_kept ink_kept (clock_text n) (clock_ink n le)
 
 item_kept : (item : Item) → Printable item → AreKept (item_text item)
-item_kept (Offset (pos n)) h = clock_kept n h
-item_kept (Offset (negsuc n)) h = (refl, clock_kept (suc n) h)
-item_kept (Sync who Begin offset) h = behind_id who _ h.0 (refl, passes_on is_kept (codes "begin") (tail_text offset) (tested is_kept (codes "begin") refl) (tail_kept offset h.1))
-item_kept (Sync who End offset) h = behind_id who _ h.0 (refl, passes_on is_kept (codes "end") (tail_text offset) (tested is_kept (codes "end") refl) (tail_kept offset h.1))
-item_kept (Event who name offset) h = behind_who who _ h.0 (passes_on is_kept name _ (passes_weaker is_of_name is_kept name_byte name (all_of_name name h.1.word)) (tail_kept offset h.2))
-item_kept (Repeat who n offset) h = behind_who who _ h.0 (passes_on is_kept (codes "repeat(" ++ decimal n ++ codes ")") (tail_text offset) (passes_on is_kept (codes "repeat(" ++ decimal n) (codes ")") (passes_on is_kept (codes "repeat(") (decimal n) (tested is_kept (codes "repeat(") refl) (number_kept n (omega arith))) (refl, tt)) (tail_kept offset h.3))
-item_kept (Key key offset) h = passes_on is_kept (codes "accesskey(") (key ∷ (41 ∷ tail_text offset)) (tested is_kept (codes "accesskey(") refl) (key_byte key h.0, (refl, tail_kept offset h.1))
-item_kept Indefinite h = tested is_kept (codes "indefinite") refl
+item_kept item h = passes_weaker is_ink is_kept ink_kept (item_text item) (item_ink item h)
 
 list_kept : (items : List Item) → All Printable items → AreKept (list_text items)
 list_kept items h = all items (recursion_from_All Printable items h)
@@ -131,7 +101,7 @@ repeat_kept : (text : List ℕ) → IfSome (repeat_dur_of text) TimeKept
 repeat_kept text = repeat_reads TimeKept (tested is_kept (codes "indefinite") refl) (λ n h. clock_kept n h.small) text
 
 digit_kept : (a : ℕ) → a ≤ 9 → is_kept (48 + a) ≡ true
-digit_kept a le = digit_byte (48 + a) (digit_printed a le)
+digit_kept a le = ink_kept (48 + a) (digit_ink (48 + a) (digit_printed a le))
 
 decimals_kept : (r : ℕ) → r < 1000 → AreKept (decimals r)
 decimals_kept r small =

@@ -1,5 +1,5 @@
 -- A written list is read as the same items, and each list that is read can be written.
-use Rattle.std.proofs.Common.{◌≡◌, ℕ, zero, suc, ◌+◌, ◌-◌, ◌≤◌, Bool, true, false, not, eqb, ltb, ◌&&◌, List, [], ◌∷◌, ◌++◌, length, get_or, map, Option, Some, None, Result, Ok, Err, refl, ap, subst, ◌∙◌, arith, decimal, append_assoc}
+use Rattle.std.proofs.Common.{◌≡◌, ℕ, zero, suc, ◌+◌, ◌-◌, ◌≤◌, Bool, true, false, eqb, ltb, ◌||◌, List, [], ◌∷◌, ◌++◌, length, get_or, map, Option, Some, None, Result, Ok, Err, refl, ap, subst, ◌∙◌, arith, decimal, append_assoc}
 use Rattle.std.specs.Prelude.{ℤ, pos, negsuc, codes, IfOk, All}
 use Rattle.std.specs.Char.{is_ascii_digit}
 use Rattle.std.specs.List.{AllByRecursion, prefix_len, suffix_len}
@@ -30,27 +30,27 @@ use Rattle.smil_lexis.proofs.Words.{IsWord, all_of_id}
 use Rattle.smil_time_list.proofs.Printable.{IsWithin, IsWho, Printable, reading_gives, item_printable, can_write}
 use Rattle.smil_time_list.proofs.Spelled.{all_of_name, escaped_passes, item_read}
 
--- a printed item has no `;` and no white space
+-- a byte of a printed item: one of an access key, or a backslash; so neither white space nor `;`
 
-abbrev is_ink : ℕ → Bool
-is_ink b = not (eqb b 59) && not (is_white b)
+abbrev pub is_ink : ℕ → Bool
+is_ink b = is_key b || eqb b 92
 
-id_ink : (b : ℕ) → is_of_id b ≡ true → is_ink b ≡ true
+pub id_ink : (b : ℕ) → is_of_id b ≡ true → is_ink b ≡ true
 id_ink b h = grind (arith, nat_tests)
 
 name_ink : (b : ℕ) → is_of_name b ≡ true → is_ink b ≡ true
 name_ink b h = grind (arith, nat_tests)
 
-digit_ink : (b : ℕ) → is_ascii_digit b ≡ true → is_ink b ≡ true
+pub digit_ink : (b : ℕ) → is_ascii_digit b ≡ true → is_ink b ≡ true
 digit_ink b h = grind (arith, nat_tests)
 
 key_ink : (b : ℕ) → is_key b ≡ true → is_ink b ≡ true
 key_ink b h = grind (arith, nat_tests)
 
-number_ink : (n : ℕ) → n ≤ 1_000_000_000_000 → Passes is_ink (decimal n)
+pub number_ink : (n : ℕ) → n ≤ 1_000_000_000_000 → Passes is_ink (decimal n)
 number_ink n le = passes_weaker is_ascii_digit is_ink digit_ink (decimal n) (decimal_passes n (omega arith))
 
-clock_ink : (n : ℕ) → n ≤ 1_000_000_000_000 → Passes is_ink (clock_text n)
+pub clock_ink : (n : ℕ) → n ≤ 1_000_000_000_000 → Passes is_ink (clock_text n)
 clock_ink n le = passes_on is_ink (decimal n) (codes "ms") (number_ink n le) (refl, (refl, tt))
 
 tail_ink : (offset : ℤ) → IsWithin offset → Passes is_ink (tail_text offset)
@@ -65,7 +65,7 @@ who_inked : (who : Option (List ℕ)) (text : List ℕ) → IsWho who → Passes
 who_inked None text h k = k
 who_inked (Some id) text h k = rw (append_assoc (escaped id) (46 ∷ []) text) (id_inked id (46 ∷ text) h (refl, k))
 
-item_ink : (item : Item) → Printable item → Passes is_ink (item_text item)
+pub item_ink : (item : Item) → Printable item → Passes is_ink (item_text item)
 item_ink (Offset (pos n)) h = clock_ink n h
 item_ink (Offset (negsuc n)) h = (refl, clock_ink (suc n) h)
 item_ink (Sync who Begin offset) h = id_inked who _ h.0 (refl, (refl, (refl, (refl, (refl, (refl, tail_ink offset h.1))))))
