@@ -1,9 +1,10 @@
 //! The last entry of a diary, as it is taken in.
 
-ghost use Rattle.std.specs.Prelude.{◌≡◌, List, [], ◌∷◌, ◌++◌};
+ghost use Rattle.std.specs.Prelude.{◌≡◌, List, [], ◌∷◌, ◌++◌, length};
 ghost use Rattle.smil_model.specs.declared.diary.Entry.{Entry as AnyEntry};
+ghost use Rattle.smil_model.specs.diary.Diary.{History};
 ghost use Rattle.smil_model.specs.Times.{IsMoment};
-ghost use Rattle.smil_instances.specs.Entry.{HasArrived};
+ghost use Rattle.smil_instances.specs.Entry.{HasArrived, IsArrivalOf};
 
 use super::before::last_entry;
 use super::dependents::Dependents;
@@ -32,5 +33,13 @@ impl Arrival<'_> {
         ensures moment { IsMoment result.moment }
     {
         last_entry(self.book)
+    }
+
+    /// The place of the entry in the diary. It takes no memory.
+    pub fn place(&self) -> usize
+        requires { HasArrived self.now }
+        ensures { (h : History) (y : AnyEntry) → IsArrivalOf h y self.now → result ≡ length h.diary }
+    {
+        self.book.len() - 1
     }
 }

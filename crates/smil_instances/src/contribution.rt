@@ -54,7 +54,7 @@ pub fn given(arrival: &Arrival<'_>, own: &ListItem<'_>, source: Source) -> Optio
         Source::Syncbase { of, edge } => {
             let sync = Syncbase { of, edge, offset };
             let time = edge_time(arrival.clocks, entry, own.who, sync);
-            at_place(arrival.book.len() - 1, time)
+            at_place(arrival.place(), time)
         }
         Source::Eventbase { of } => heard(arrival, own, Some(of)),
         Source::Key { .. } => heard(arrival, own, None),
@@ -75,7 +75,7 @@ fn heard(arrival: &Arrival<'_>, own: &ListItem<'_>, of: Option<u32>) -> Option<I
     if !is_heard(arrival, own, of) {
         return None;
     }
-    let place = arrival.book.len() - 1;
+    let place = arrival.place();
     let entry = arrival.last_entry();
     let outer = arrival.clocks.outer(own.who, entry.moment);
     let time = moved(outer, offset_of(own.item));

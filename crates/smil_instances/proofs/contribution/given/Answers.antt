@@ -8,7 +8,7 @@ use Rattle.smil_model.specs.document.Document.{time_parent}
 use Rattle.smil_instances.specs.declared.source.Source.{Source}
 use Rattle.smil_instances.specs.Sources.{source_of}
 use Rattle.smil_instances.proofs.BySource.{means, key_means, start_given, edge_given, event_given, key_given, start_read, edge_read}
-use Rattle.smil_instances.proofs.LastEntry.{place_read, clocks_read}
+use Rattle.smil_instances.proofs.LastEntry.{clocks_read}
 use Rattle.smil_instances.proofs.Targets.{known_node}
 use Rattle.smil_instances.proofs.contribution.given.Goals as goal
 use Rattle.smil_instances.proofs.Sensitive.{serial_is}
@@ -39,7 +39,7 @@ returns-in-Syncbase c = λ h y e is at.
     ∙ edge_read h y e c.args.own.now.side c.args.own.now.who own c.last_entry-entry.result same c.in-Syncbase.of c.in-Syncbase.edge _ _ _ c.edge_time-time.result
     (c.edge_time-time.ensures h (clocks_read _ _ _ _ h y is c.last_entry-entry.result same))
     (to_z-of_z w64 c.offset_of-offset.result fits ∙ c.offset_of-offset.ensures)
-    (place_read _ _ _ _ h y is c.len.result c.len.ensures.value)
+    (c.place.ensures h y is)
     ∙ sym (edge_given h y e c.args.own.now.side c.args.own.now.item.now c.in-Syncbase.of c.in-Syncbase.edge (source_read h.nodes c.args.arrival.now.tree.now.nodes c.args.own.now.who e.serial c.args.own.now.item.now c.args.source _ is.same_nodes own c.requires.source c.in-Syncbase.is))
 
 pub heard-requires-clause-means : goal.heard-requires-clause-means

@@ -6,7 +6,7 @@ use Rattle.std.specs.Prelude.{◌+ℤ◌}
 use Rattle.smil_model.specs.Times.{within_horizon, IsMoment}
 use Rattle.smil_model.specs.diary.Clocks.{outer}
 use Rattle.smil_instances.proofs.BySource.{unheard, heard}
-use Rattle.smil_instances.proofs.LastEntry.{place_read, clocks_read}
+use Rattle.smil_instances.proofs.LastEntry.{clocks_read}
 use Rattle.smil_instances.proofs.Sums.{moment_fits, moved_is, near_fits, read_at}
 use Rattle.smil_instances.proofs.contribution.heard.Goals as goal
 use Rattle.smil_instances.proofs.Sensitive.{serial_is}
@@ -31,4 +31,4 @@ returns c = λ h y e is at.
     (moved_is c.outer-outer.result c.offset_of.result _ c.moved-time.result c.moved-time.ensures (near_fits c.outer-outer.result c.outer-outer.ensures.near) fits
     (read_at h c.args.arrival.now.clocks.now c.args.own.now.who c.last_entry-entry.result.moment c.outer-outer.result outer moment (clocks_read _ _ _ _ h y is c.last_entry-entry.result same) c.outer-outer.ensures.value)
     ∙ ap (λ o. within_horizon (outer h c.args.own.now.who c.last_entry-entry.result.moment +ℤ o)) c.offset_of.ensures)
-    (place_read _ _ _ _ h y is c.len-place.result c.len-place.ensures.value)
+    (c.place-place.ensures h y is)
