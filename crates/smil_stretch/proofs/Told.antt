@@ -20,7 +20,7 @@ use Rattle.smil_stretch.specs.NodeClocks.{clock_at, at_place, parent_at, shown_b
 use Rattle.smil_stretch.proofs.Moments.{run_later}
 use Rattle.smil_stretch.proofs.Above.{known_element}
 use Rattle.smil_stretch.proofs.Placed.{place, IsParentAt, parent_at_place, no_parent_place}
-use Rattle.smil_tree.proofs.Families.{no_chain}
+use Rattle.smil_tree.proofs.Families.{no_chain, none_held}
 
 -- ---- what is no node
 
