@@ -5,6 +5,7 @@ use Rattle.std.proofs.lemmas.Bool.Decides.{nat_tests}
 use Rattle.std.proofs.lemmas.Nat.{mul-le}
 use Rattle.std.proofs.Math.Nat.{pow-suc, one-le-pow}
 use Rattle.std.specs.Char.{is_ascii_digit}
+use Rattle.smil_model.specs.declared.limits.TheConstants.{DIGITS}
 use Rattle.smil_grammar.specs.Numbers.{number_after, number_of, weight}
 use Rattle.smil_lexis.specs.Capped.{capped}
 use Rattle.smil_lexis.specs.declared.numbers.TheConstants.{CAP}
@@ -79,10 +80,10 @@ uncapped : (x : Option ℕ) → IfSome x (λ m. m < 1_000_000_000) → option_ma
 uncapped None h = refl
 uncapped (Some m) h = ap (λ k. Some k) (omega arith)
 
-pub short_some : (digits : List ℕ) (n : ℕ) → length digits ≤ 9 → Some n ≡ option_map capped (number_of digits) → (Some n ≡ number_of digits) × (n < 1_000_000_000)
+pub short_some : (digits : List ℕ) (n : ℕ) → length digits ≤ DIGITS → Some n ≡ option_map capped (number_of digits) → (Some n ≡ number_of digits) × (n < 1_000_000_000)
 short_some digits n le e =
     let same : Some n ≡ number_of digits = e ∙ uncapped (number_of digits) (nine_below digits le) in
     (same, subst (λ (x : Option ℕ). IfSome x (λ m. m < 1_000_000_000)) (sym same) (nine_below digits le))
 
-pub short_none : (digits : List ℕ) → length digits ≤ 9 → None ≡ option_map capped (number_of digits) → None ≡ number_of digits
+pub short_none : (digits : List ℕ) → length digits ≤ DIGITS → None ≡ option_map capped (number_of digits) → None ≡ number_of digits
 short_none digits le e = e ∙ uncapped (number_of digits) (nine_below digits le)

@@ -122,7 +122,8 @@ serial_back old put new serial was is there back other =
     by true true false own = sym (own refl)
     by true false true own = refl
     by true false false own = refl
-    by false true old own = sym (own refl)
+    by false true true own = sym (own refl)
+    by false true false own = refl
     by false false true own = refl
     by false false false own = refl
 
