@@ -28,6 +28,7 @@ returns-clause-refused g c =
     let h = c.in_ok-serial.ensures.ok in
     IfErr-weaker c.hear.result (IsNotHeard c.args.self.now (happening.Event c.in_ok-serial.serial c.in_ok-name.name)) (Refuses formats c.args.self.now (order.Event c.args.who.now c.args.name.now))
     (λ r not_heard. event_not_heard c.args.self.now c.args.who.now c.in_ok-serial.serial c.in_ok-name.name c.args.name.now h.0 r h.1 h.2 c.in_ok-name.ensures not_heard) c.hear.ensures.refused
+
 pub returns-clause-bounded : goal.returns-clause-bounded
 returns-clause-bounded g c =
     bounded_then c.hear.result g.T.Table.counts c.args.self.now c.hear.new.self (order.Event c.args.who.now c.args.name.now) (drop (length c.args.out.now) c.hear.new.out) (c.hear.new.steps - c.args.steps.now) (returns-clause-ok g c)

@@ -38,6 +38,7 @@ returns-in_err-edited-clause-refused g c =
 
 pub take_edited-requires : goal.take_edited-requires
 take_edited-requires g c = edit_made c.args.self.now (order.Insert c.args.who.now c.args.child.place c.args.child.line.text.now c.args.child.line.column) c.in_ok-edited.edited refl c.in_ok-edited.ensures.ok
+
 pub returns-clause-bounded : goal.returns-clause-bounded
 returns-clause-bounded g c =
     edited_bounded c.take_edited.result g.T.Table.counts c.args.self.now c.take_edited.new.self (order.Insert c.args.who.now c.args.child.place c.args.child.line.text.now c.args.child.line.column) c.in_ok-edited.edited site.New c.args.out.now c.take_edited.new.out (c.take_edited.new.steps - c.args.steps.now) refl c.in_ok-edited.ensures.ok refl

@@ -54,6 +54,7 @@ returns-clause-refused g c =
     let continuous = ap is_continuous (sym kind) ∙ sym c.is_continuous.ensures ∙ c.if-not-is_continuous.false in
     IfErr-weaker c.hear.result (IsNotHeard c.args.self.now (happening.Media c.in_ok-serial.serial (to_z w64 (of_z w64 c.args.length)))) (Refuses formats c.args.self.now (order.Media c.args.who.now c.args.length))
     (λ r not_heard. media_not_heard c.args.self.now c.args.who.now c.in_ok-serial.serial (to_z w64 (of_z w64 c.args.length)) c.args.length h.0 r h.1 continuous h.2 (to_z-of_z w64 c.args.length c.ranges.length) not_heard) c.hear.ensures.refused
+
 pub returns-clause-bounded : goal.returns-clause-bounded
 returns-clause-bounded g c =
     bounded_then c.hear.result g.T.Table.counts c.args.self.now c.hear.new.self (order.Media c.args.who.now c.args.length) (drop (length c.args.out.now) c.hear.new.out) (c.hear.new.steps - c.args.steps.now) (returns-clause-ok g c)

@@ -18,6 +18,7 @@ pub returns-clause-refused : goal.returns-clause-refused
 returns-clause-refused g c =
     IfErr-weaker c.hear.result (IsNotHeard c.args.self.now (happening.Key c.args.key)) (Refuses formats c.args.self.now (order.Key c.args.key))
     (key_not_heard c.args.self.now c.args.key) c.hear.ensures.refused
+
 pub returns-clause-bounded : goal.returns-clause-bounded
 returns-clause-bounded g c =
     bounded_then c.hear.result g.T.Table.counts c.args.self.now c.hear.new.self (order.Key c.args.key) (drop (length c.args.out.now) c.hear.new.out) (c.hear.new.steps - c.args.steps.now) (returns-clause-ok g c)

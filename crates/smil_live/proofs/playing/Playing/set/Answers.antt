@@ -39,6 +39,7 @@ returns-in_err-edited-clause-refused g c =
 
 pub take_edited-requires : goal.take_edited-requires
 take_edited-requires g c = subst (λ (x : Site). IsMade c.args.self.now.document x c.in_ok-edited.edited) (sym c.site-site.ensures) (edit_made c.args.self.now (order.Set c.args.who.now c.args.setting.attr.text.now c.args.setting.value.text.now c.args.setting.attr.column c.args.setting.value.column) c.in_ok-edited.edited refl c.in_ok-edited.ensures.ok)
+
 pub returns-clause-bounded : goal.returns-clause-bounded
 returns-clause-bounded g c =
     edited_bounded c.take_edited.result g.T.Table.counts c.args.self.now c.take_edited.new.self (order.Set c.args.who.now c.args.setting.attr.text.now c.args.setting.value.text.now c.args.setting.attr.column c.args.setting.value.column) c.in_ok-edited.edited c.site-site.result c.args.out.now c.take_edited.new.out (c.take_edited.new.steps - c.args.steps.now) refl c.in_ok-edited.ensures.ok c.site-site.ensures
