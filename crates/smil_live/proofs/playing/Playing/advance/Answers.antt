@@ -5,11 +5,11 @@ use Rattle.smil_model.specs.shown.Orders.{IsState, Presentation}
 use Rattle.smil_tree.proofs.Results.{on_err}
 use Rattle.smil_cells.specs.Standing.{WhereTold, moved_to}
 use Rattle.smil_live.specs.Counts.{least_onward, most_onward}
+use Rattle.smil_live.specs.Moves.{IsTooFull}
 use Rattle.smil_live.proofs.CountedOrders.{bounded_accepted, bounded_too_full}
 use Rattle.smil_live.proofs.Outcomes.{advanced_to, clock_from}
 use Rattle.smil_live.proofs.States.{within_horizon}
 use Rattle.smil_live.proofs.playing.Playing.advance.Goals as goal
-use Rattle.smil_live.specs.Moves.{IsTooFull}
 
 pub returns-clause-ok : goal.returns-clause-ok
 returns-clause-ok g c =

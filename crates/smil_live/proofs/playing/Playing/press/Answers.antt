@@ -5,10 +5,10 @@ use Rattle.smil_model.specs.declared.order.Order.TheVariants as order
 use Rattle.smil_model.specs.shown.Answers.{Refuses}
 use Rattle.smil_grammar.specs.Formats.{formats}
 use Rattle.smil_live.specs.Moves.{IsNotHeard}
+use Rattle.smil_live.specs.Counts.{most_number, told_where}
 use Rattle.smil_live.proofs.CountedOrders.{bounded_then}
 use Rattle.smil_live.proofs.Keyed.{key_heard, key_not_heard}
 use Rattle.smil_live.proofs.playing.Playing.press.Goals as goal
-use Rattle.smil_live.specs.Counts.{most_number, told_where}
 
 pub returns-clause-ok : goal.returns-clause-ok
 returns-clause-ok g c =
