@@ -205,7 +205,7 @@ impl Past {
         &self.tree
     }
 
-    /// What follows from what in the document.
+    /// On which elements each element of the document depends.
     pub fn graph(&self) -> &Graph
         ensures { result.now.nodes ≡ self.now.document.nodes }
     {
