@@ -1,6 +1,7 @@
 -- How large the numbers among the facts of a view may be.
 use Rattle.std.specs.Prelude.{ℤ, nat_abs, ◌≤◌}
 use Rattle.std.specs.Option.{ForSome}
+use Rattle.smil_model.specs.declared.times.TheConstants.{CARRIED}
 use Rattle.smil_model.specs.declared.times.Time.{Time}
 use Rattle.smil_model.specs.declared.times.Time.TheVariants.{At, Indefinite, Unresolved}
 use Rattle.smil_model.specs.declared.interval.Interval.{Interval}
@@ -8,7 +9,7 @@ use Rattle.smil_model.specs.declared.view.ViewFacts.{ViewFacts}
 
 -- a number from -10^13 to 10^13
 abbrev pub IsWithin : ℤ → Type 0
-IsWithin number = nat_abs number ≤ 10_000_000_000_000
+IsWithin number = nat_abs number ≤ nat_abs CARRIED
 
 -- a time that is such a number, or no number
 abbrev pub IsTimeWithin : Time → Type 0
