@@ -52,7 +52,9 @@ AreAlike nodes (node ∷ below) = IsAlike nodes node below × AreAlike nodes bel
 
 -- a serial that no node has has no children
 abbrev pub AreKnown : List Node → Type 0
-AreKnown nodes = (serial : ℕ) (kind other : Kind) → is_known nodes serial ≡ false → mixes nodes (Some (serial, other)) kind ≡ false
+AreKnown nodes =
+    (serial : ℕ) (kind other : Kind) → is_known nodes serial ≡ false
+    → mixes nodes (Some (serial, other)) kind ≡ false
 
 -- some lines are read as this outline
 abbrev pub IsRead : Outline → Type 0

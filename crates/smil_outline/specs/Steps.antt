@@ -40,7 +40,12 @@ node_with nodes serial parent kind attrs = do
   single ← unless (has_id nodes attrs.id) refusal.DuplicateId
   few ← unless (nat_le NODES (length nodes)) refusal.TooManyElements
   light ← unless (nat_lt REFERENCES (references nodes + references_among attrs)) refusal.TooManyReferences
-  Ok (record { serial = serial; kind = kind; parent = unwrap_or (option_map (λ (n : ℕ × Kind). n.0) parent) 0; attrs = attrs })
+  Ok (record {
+    serial = serial;
+    kind = kind;
+    parent = unwrap_or (option_map (λ (n : ℕ × Kind). n.0) parent) 0;
+    attrs = attrs;
+  })
 
 -- the outline with the node of a line, where it has one
 abbrev pub node_kept : Outline → ℕ → Result Node Refusal → Result Outline Refusal

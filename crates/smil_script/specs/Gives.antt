@@ -27,7 +27,9 @@ with_value made (Err given) = Err given
 
 -- words that name no event that comes from outside
 abbrev pub other_names : List (List ℕ)
-other_names = codes "begin" ∷ codes "end" ∷ codes "repeat" ∷ codes "indefinite" ∷ codes "beginEvent" ∷ codes "endEvent" ∷ codes "repeatEvent" ∷ []
+other_names =
+    codes "begin" ∷ codes "end" ∷ codes "repeat" ∷ codes "indefinite" ∷ codes "beginEvent"
+    ∷ codes "endEvent" ∷ codes "repeatEvent" ∷ []
 
 -- a word that is read, unless memory ran out; a line without it is no command
 abbrev pub GivesName : {A : Type 0} → Result A Refusal → Option A → Type 0

@@ -4,4 +4,6 @@ use Rattle.smil_grammar.specs.Scripts.{Word, first_of, is_ended}
 
 -- the word `%%` alone
 abbrev pub ends_load : List ℕ → Bool
-ends_load line = let cut : Word × Word = first_of (record { text = line; place = 0 }) in bytes_eq cut.0.text (codes "%%") && is_ended cut.1
+ends_load line =
+    let cut : Word × Word = first_of (record { text = line; place = 0 }) in
+    bytes_eq cut.0.text (codes "%%") && is_ended cut.1
