@@ -1,5 +1,5 @@
--- Cells that go on with an edited document from the part of the diary that stays, and how often edits and backward seeks have
--- intervals evaluated.
+-- Cells that go on with an edited document from the part of the diary that stays, and how often
+-- edits and backward seeks have intervals evaluated.
 use Rattle.std.proofs.Common.{◌≡◌, refl, sym, ◌∙◌, ap, subst, ℕ, ◌+◌, ◌≤◌, List, length, take, ℤ, negsuc, Bool, true, false, Result, Ok, Err, arith}
 use Rattle.std.specs.Prelude.{IfErr, OnOk, filter, int_le, nat_abs, nat_lt, pos, ◌<ℤ◌, ◌≤ℤ◌}
 use Rattle.std.specs.List.{list_all}

@@ -1,4 +1,5 @@
--- An edit after which ids name the same elements, and references are looped as before, keeps the references.
+-- An edit after which ids name the same elements, and references are looped as before, keeps the
+-- references.
 use Rattle.std.proofs.Common.{◌≡◌, refl, sym, ◌∙◌, ap, subst, ℕ, List, [], ◌∷◌, ◌++◌, Option, Some, None, Bool, true, false, inl, inr}
 use Rattle.std.specs.Prelude.{cond, find, map, not, option_map, is_some, pos, ◌&&◌, ◌||◌, ◌==◌, ◌⊎◌}
 use Rattle.std.specs.Bool.{beq}

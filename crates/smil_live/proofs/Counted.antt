@@ -1,4 +1,5 @@
--- How often cells that go on have intervals evaluated: by one standing after another, and by the presentations.
+-- How often cells that go on have intervals evaluated: by one standing after another, and by the
+-- presentations.
 use Rattle.std.proofs.Common.{◌≡◌, refl, sym, ◌∙◌, ap, subst, ℕ, ◌+◌, ◌-◌, ◌≤◌, List, [], ◌++◌, Bool, true, false, arith, length, drop, append_assoc, append-nil}
 use Rattle.std.specs.Prelude.{pos, Result, Ok, Err, OnOk}
 use Rattle.std.proofs.Math.Seq.{drop-append_seam}
@@ -41,7 +42,8 @@ counted_first counts s steps = record {
 pub drops : (x y z : List Entry) → z ≡ x ++ y → drop (length x) z ≡ y
 drops x y z e = ap (drop (length x)) e ∙ drop-append_seam x y
 
--- two standings, one after the other, with the same document; the first entries reach as many elements by the new log
+-- two standings, one after the other, with the same document; the first entries reach as many
+-- elements by the new log
 module _ (old mid new : Standing) (document : mid.presentation.document ≡ old.presentation.document)
     (m n : List Entry) (first : mid.diary ≡ old.diary ++ m) (second : new.diary ≡ mid.diary ++ n)
     (by_mid : reached_since old mid ≡ reaches old.presentation.document.nodes new.presentation.log m) where

@@ -1,4 +1,5 @@
--- What a settled diary tells of its resolution: it has ended, at its last moment, and whatever was logged by then was heard.
+-- What a settled diary tells of its resolution: it has ended, at its last moment, and whatever was
+-- logged by then was heard.
 use Rattle.std.proofs.Common.{◌≡◌, refl, sym, ◌∙◌, subst, ℕ, suc, zero, ◌<◌, ◌≤◌, ◌+◌, List, [], ◌∷◌, ◌++◌, Option, Some, None, Bool, true, false, ℤ, arith, inl, inr, length}
 use Rattle.std.specs.Prelude.{◌⊎◌, cond, pos, int_le, nat_lt, nat_le, slice_get, ◌≤ℤ◌, ◌+ℤ◌, ◌&&◌}
 use Rattle.std.proofs.lemmas.Bool.{leb-true}

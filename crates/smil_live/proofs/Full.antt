@@ -1,4 +1,5 @@
--- A course that has too many entries for a diary has too many with a longer log and a later last moment.
+-- A course that has too many entries for a diary has too many with a longer log and a later last
+-- moment.
 use Rattle.std.proofs.Common.{◌≡◌, refl, subst, ℕ, suc, zero, ◌<◌, ◌≤◌, ◌+◌, List, [], ◌∷◌, ◌++◌, Some, None, Bool, true, false, ℤ, arith, length, take, drop}
 use Rattle.std.specs.Prelude.{cond, pos, int_le, nat_le, slice_get}
 use Rattle.std.specs.List.{AllByRecursion}

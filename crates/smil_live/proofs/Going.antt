@@ -1,4 +1,5 @@
--- Moves: what is shown behind one and told of it, and a presentation that goes on by one or back from it.
+-- Moves: what is shown behind one and told of it, and a presentation that goes on by one or back
+-- from it.
 use Rattle.std.proofs.Common.{◌≡◌, refl, sym, ◌∙◌, ap, subst, ℕ, List, [], ◌∷◌, ◌++◌, Some, None, Bool, true}
 use Rattle.std.specs.Prelude.{cond, Result, Ok, Err, OnOk, map, not}
 use Rattle.smil_model.specs.declared.diary.Entry.{Entry}

@@ -98,7 +98,8 @@ is_there ns s =
     by_test k true e = sym (inside ns k (ltb-true k (length ns) e))
     by_test k false e = sym (ap is_some (beyond ns k (ltb-false k (length ns) e)))
 
--- what is told of one node of this kind, which is an element or not, and has a place in the other document or not
+-- what is told of one node of this kind, which is an element or not, and has a place in the other
+-- document or not
 pub gone_one : (before after : List Node) (moment : ℤ) (s : ℕ) (kind : Kind) (n : Node) → node_at before s ≡ Some n → Some kind ≡ kind_of (node_at before s)
     → not (is_class_kind kind) ≡ true → is_some (position (λ (m : Node). m.serial == s) after) ≡ false → lines_gone after moment (n ∷ []) ≡ gone_line moment (name_in before s)
 gone_one before after moment s kind n at of_kind element none =

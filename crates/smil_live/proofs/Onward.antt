@@ -1,4 +1,5 @@
--- A presentation passed through from one due moment to the next: what was told by then, and what is left.
+-- A presentation passed through from one due moment to the next: what was told by then, and what is
+-- left.
 use Rattle.std.proofs.Common.{◌≡◌, refl, sym, ◌∙◌, ap, subst, ℕ, ◌<◌, ◌≤◌, ◌+◌, ◌-◌, List, ◌++◌, Some, None, ℤ, arith, inl, inr, append_assoc, append-nil}
 use Rattle.std.specs.Prelude.{pos, negsuc, nat_abs, ◌≤ℤ◌, ◌+ℤ◌}
 use Rattle.std.proofs.lemmas.Int.{ints}
@@ -25,7 +26,8 @@ use Rattle.smil_live.proofs.Through.{in_two, through_quiet}
 
 -- ---- what was told
 
--- the lines of what is passed up to a moment, and then of what is different at a later one before which nothing comes
+-- the lines of what is passed up to a moment, and then of what is different at a later one before
+-- which nothing comes
 told_on : (p : Presentation) (a n : ℕ) (d : List Entry) (front text text' : List ℕ) → HasDiary (as_of p (p.now + a)) d → IsQuiet (as_of p (p.now + a)) d (pos ((p.now + a) + n))
     → text ≡ front ++ text_of p (changes_through p a)
     → text' ≡ text ++ text_of p (changes_between (as_of p (p.now + a)) (as_of p ((p.now + a) + n)))
@@ -52,7 +54,8 @@ told_from p q a n d front text text' is there =
 
 -- ---- on the way
 
--- a presentation was passed through up to the moment of a standing, and this is what is shown there and was told by then
+-- a presentation was passed through up to the moment of a standing, and this is what is shown there
+-- and was told by then
 pub record IsPassing (p : Presentation) (front : List ℕ) (to : ℤ) (s : Standing) (shown : Shown) (text : List ℕ) : Type 0 where
   pub presentation_is : s.presentation ≡ moved_to p s.presentation.now
   pub from : p.now ≤ s.presentation.now

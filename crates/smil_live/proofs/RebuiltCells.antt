@@ -59,7 +59,8 @@ module _ (s t : Standing) (d : Document) (len : ℕ) (bound : ℕ) (rebuilt : Is
   pub not_later : t.presentation.now ≤ bound
   not_later = at_most t.presentation.now bound (last_moment (take len s.diary)) now_is part.until
 
-  -- they are under way to each presentation of the document, with the same log, at a moment that is not before theirs
+  -- they are under way to each presentation of the document, with the same log, at a moment that is
+  -- not before theirs
   pub rebuilt_way : (p : Presentation) → d ≡ p.document → p.log ≡ s.presentation.log → bound ≡ p.now → IsUnderWay p (length t.presentation.log) t
   rebuilt_way p same log here = record {
     document_is = rebuilt.document_is ∙ same;

@@ -1,4 +1,5 @@
--- The log entries that a resolution has heard: each at its own moment, and none that is left is earlier.
+-- The log entries that a resolution has heard: each at its own moment, and none that is left is
+-- earlier.
 use Rattle.std.proofs.Common.{◌≡◌, refl, sym, ◌∙◌, ap, subst, ℕ, suc, zero, ◌+◌, List, [], ◌∷◌, ◌++◌, Option, Some, None, ℤ, Bool, true, false, arith, take, drop}
 use Rattle.std.specs.Prelude.{cond, pos, int_le, nat_lt, slice_get, map, filter}
 use Rattle.std.specs.Option.{option_map_or}

@@ -1,4 +1,5 @@
--- The part of a diary that stays, and what a resolution comes to by it and by the part of the log that it names.
+-- The part of a diary that stays, and what a resolution comes to by it and by the part of the log
+-- that it names.
 use Rattle.std.proofs.Common.{◌≡◌, refl, sym, ◌∙◌, ap, subst, ℕ, suc, zero, ◌≤◌, ◌+◌, List, [], ◌∷◌, Some, None, ℤ, Bool, true, false, arith, length, take, drop}
 use Rattle.std.specs.Prelude.{cond, pos, int_le, slice_get, map, filter, fold, position, not, min, nat_lt, ◌&&◌}
 use Rattle.std.specs.List.{AllByRecursion, list_all, position_or_len}
@@ -142,8 +143,8 @@ rise_after c p log reached =
 
 -- ---- what comes to a part of a diary
 
--- a resolution with the part of the log that these entries name comes to them at the last one's moment, which is not after
--- another; and what is logged behind them is not before it
+-- a resolution with the part of the log that these entries name comes to them at the last one's
+-- moment, which is not after another; and what is logged behind them is not before it
 pub record IsPart (nodes : List Node) (log : List LogEntry) (part : List Entry) (bound : ℕ) : Type 0 where
   pub at : Progress
   pub diary_is : at.diary ≡ part

@@ -1,4 +1,5 @@
--- A diary that begins with the entries of another one up to a moment, and goes no further than that moment, is these entries.
+-- A diary that begins with the entries of another one up to a moment, and goes no further than that
+-- moment, is these entries.
 use Rattle.std.proofs.Common.{◌≡◌, refl, sym, ◌∙◌, ap, subst, ℕ, suc, ◌≤◌, List, [], ◌∷◌, ◌++◌, Option, Some, None, ℤ, Bool, true, false, arith, length, take, drop, length-append}
 use Rattle.std.specs.Prelude.{cond, pos, int_le, nat_lt, slice_get, filter}
 use Rattle.std.specs.List.{list_all}
@@ -104,7 +105,8 @@ later_from m from (x ∷ xs) rise = by_test (int_le x.moment m) refl (and_parts 
         let none = none_passes x.moment xs e rise in
         subst (λ (l : List LogEntry). AreFrom m (drop (length l) (x ∷ xs))) (sym none.0) (from_late x.moment m e, none.1)
 
--- the diary with the log up to an earlier moment, where it begins with the entries up to that moment, has no others
+-- the diary with the log up to an earlier moment, where it begins with the entries up to that
+-- moment, has no others
 pub same_until : (document : Document) (log : List LogEntry) (last earlier : ℕ) (d e more : List Entry) → IsNumberedTree document → is_log log ≡ true
     → diary_of (course_on document.nodes log last) ≡ Some d → earlier ≤ last
     → take (length (filter (λ (x : LogEntry). int_le x.moment (pos earlier)) log)) log ≡ filter (λ (x : LogEntry). int_le x.moment (pos earlier)) log

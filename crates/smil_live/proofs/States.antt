@@ -1,4 +1,5 @@
--- Presentations that stay states: at a later moment, with an entry at the present moment, with the first entries alone.
+-- Presentations that stay states: at a later moment, with an entry at the present moment, with the
+-- first entries alone.
 use Rattle.std.proofs.Common.{◌≡◌, refl, ◌∙◌, ap, ℕ, ◌≤◌, List, [], ◌∷◌, ◌++◌, true, ℤ, arith, take}
 use Rattle.std.specs.Prelude.{pos, int_le, ◌≤ℤ◌}
 use Rattle.std.specs.List.{list_all}

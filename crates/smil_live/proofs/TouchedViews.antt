@@ -1,4 +1,5 @@
--- What the views come to once those of the touched elements are put in place, and what is told of them.
+-- What the views come to once those of the touched elements are put in place, and what is told of
+-- them.
 use Rattle.std.proofs.Common.{◌≡◌, refl, sym, ◌∙◌, ap, subst, ℕ, ◌+◌, ◌<◌, ◌≤◌, ℤ, List, [], ◌∷◌, ◌++◌, Bool, true, false, length, drop, get_or, append-nil}
 use Rattle.std.specs.Prelude.{cond, not, pos, map, filter, Result, Ok, Err, OnOk}
 use Rattle.std.specs.Result.{is_err}

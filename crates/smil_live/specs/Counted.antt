@@ -17,7 +17,8 @@ IsAtLeast counts before given rise = WhereTold counts (least_number before given
 
 -- never, where it was refused for another cause than a full diary or out of memory
 abbrev pub IsFree : Bool → Presentation → Order → Refusal → ℕ → Type 0
-IsFree counts before given refusal rise = MayEvaluate (told_where counts (most_number before given)) refusal rise
+IsFree counts before given refusal rise =
+    MayEvaluate (told_where counts (most_number before given)) refusal rise
 
 -- by what came of it
 pub record IsBounded (counts : Bool) (before : Presentation) (given : Order)

@@ -59,7 +59,8 @@ serial_or_0 (Some n) = n.serial
 
 -- the serial of the node that an order edits: that of a new node is the next one
 abbrev pub edited_serial : Document → Order → ℕ
-edited_serial document (order.Set who name value name_column column) = serial_or_0 (node_of document.nodes who)
+edited_serial document (order.Set who name value name_column column) =
+    serial_or_0 (node_of document.nodes who)
 edited_serial document (order.Unset who name column) = serial_or_0 (node_of document.nodes who)
 edited_serial document (order.Insert who place line column) = document.next
 edited_serial document (order.Remove who) = serial_or_0 (node_of document.nodes who)
@@ -70,7 +71,8 @@ abbrev pub nodes_with : Document → Document → Order → List Node
 nodes_with before after (order.Insert who place line column) = after.nodes
 nodes_with before after _ = before.nodes
 
--- how many entries stay: those through the first begin of the time parent, where the edit leaves the references as they were
+-- how many entries stay: those through the first begin of the time parent, where the edit leaves
+-- the references as they were
 abbrev pub agreed_under : Bool → Option Node → List Entry → ℕ
 agreed_under true (Some parent) diary = length (through_begin parent.serial diary)
 agreed_under _ _ diary = 0
@@ -83,7 +85,8 @@ agreed before after given =
 
 -- each element once, and the reaches of the entries that do not stay
 abbrev pub most_editing : Presentation → Presentation → Order → ℕ
-most_editing before after given = element_count after + reached_behind (agreed before after.document given) after
+most_editing before after given =
+    element_count after + reached_behind (agreed before after.document given) after
 
 -- ---- by the order
 
@@ -94,13 +97,15 @@ most_seeking false before after = most_onward before after
 
 abbrev pub most_between : Presentation → Order → Presentation → ℕ
 most_between before (order.Advance by) after = most_onward before after
-most_between before (order.Seek to) after = most_seeking (nat_lt (nat_abs to) before.now) before after
+most_between before (order.Seek to) after =
+    most_seeking (nat_lt (nat_abs to) before.now) before after
 most_between before (order.Event who name) after = most_onward before after
 most_between before (order.Media who len) after = most_onward before after
 most_between before (order.Key key) after = most_onward before after
 most_between before (order.Set who name value name_column column) after = most_editing before after
     (order.Set who name value name_column column)
-most_between before (order.Unset who name column) after = most_editing before after (order.Unset who name column)
+most_between before (order.Unset who name column) after =
+    most_editing before after (order.Unset who name column)
 most_between before (order.Insert who place line column) after = most_editing before after
     (order.Insert who place line column)
 most_between before (order.Remove who) after = most_editing before after (order.Remove who)
@@ -112,7 +117,8 @@ least_seeking false before after = least_onward before after
 
 abbrev pub least_between : Presentation → Order → Presentation → ℕ
 least_between before (order.Advance by) after = least_onward before after
-least_between before (order.Seek to) after = least_seeking (nat_lt (nat_abs to) before.now) before after
+least_between before (order.Seek to) after =
+    least_seeking (nat_lt (nat_abs to) before.now) before after
 least_between before (order.Event who name) after = least_onward before after
 least_between before (order.Media who len) after = least_onward before after
 least_between before (order.Key key) after = least_onward before after
@@ -128,7 +134,8 @@ abbrev pub most_number : Presentation → Order → ℕ
 most_number before given = when_accepted (outcome formats before given) (most_between before given)
 
 abbrev pub least_number : Presentation → Order → ℕ
-least_number before given = when_accepted (outcome formats before given) (least_between before given)
+least_number before given =
+    when_accepted (outcome formats before given) (least_between before given)
 
 -- a number, where it is told
 abbrev pub told_where : Bool → ℕ → Option ℕ

@@ -18,7 +18,8 @@ use Rattle.smil_live.specs.Moves.{edited_to, text_of}
 abbrev pub edit_of : Presentation → Order → Result Document Refusal
 edit_of p (order.Set who name value name_column column) =
     on_node p who (λ n. attr_set_by limits formats p.document n name value name_column column)
-edit_of p (order.Unset who name column) = on_node p who (λ n. attr_unset_by formats p.document n name column)
+edit_of p (order.Unset who name column) =
+    on_node p who (λ n. attr_unset_by formats p.document n name column)
 edit_of p (order.Insert who place line column) =
     on_node p who (λ n. node_inserted_by limits formats p.document n place line column)
 edit_of p (order.Remove who) = on_node p who (λ n. node_removed_from p.document n)

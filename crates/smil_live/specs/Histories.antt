@@ -27,7 +27,8 @@ told_line name t = interval_line name t.begin t.finish t.how
 
 -- the lines of the intervals that have finished
 abbrev pub finished_text : History → ℕ → Who → List ℕ
-finished_text h serial name = flat_map (told_line name) (map (told_finished h serial) (all_plays h serial).finished)
+finished_text h serial name =
+    flat_map (told_line name) (map (told_finished h serial) (all_plays h serial).finished)
 
 -- the begin of the present play, in document time
 abbrev pub told_begin : History → ℕ → Option ℤ
@@ -46,20 +47,23 @@ begin_after h y serial = shown_begun_after h serial y.moment (told_begin h seria
 abbrev pub closed_by : History → ℕ → Who → ℤ → Option ℤ → Step → List ℕ
 closed_by h serial name moment before (Ended who end') =
     if who == serial then finish_line name before (to_document h serial end' moment) how.Ended else []
-closed_by h serial name moment before (Cut who) = if who == serial then finish_line name before moment how.Cut else []
+closed_by h serial name moment before (Cut who) =
+    if who == serial then finish_line name before moment how.Cut else []
 closed_by h serial name moment before _ = []
 
 abbrev pub closed_text : History → Entry → ℕ → Who → List ℕ
 closed_text h y serial name = closed_by h serial name y.moment (told_begin h serial) y.step
 
 -- what is told of an element after what has happened so far, behind a text
-pub record IsTold (h : History) (name : Who) (start : List ℕ) (told : PastIntervals) (text : List ℕ) : Type 0 where
+pub record IsTold
+    (h : History) (name : Who) (start : List ℕ) (told : PastIntervals) (text : List ℕ) : Type 0 where
   pub clocks_are : AreClocksOf told.clocks h
   pub present_is : told.present ≡ told_begin h told.who
   pub text_is : text ≡ start ++ finished_text h told.who name
 
 -- there is a lawful history of this diary, of which nothing is told yet
-pub record MayTell (diary : List Entry) (name : Who) (told : PastIntervals) (text : List ℕ) : Type 0 where
+pub record MayTell
+    (diary : List Entry) (name : Who) (told : PastIntervals) (text : List ℕ) : Type 0 where
   pub past : History
   pub start : List ℕ
   pub same_diary : past.diary ≡ diary

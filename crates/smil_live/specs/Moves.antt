@@ -20,7 +20,8 @@ use Rattle.smil_live.specs.ViewTable.{Shown}
 use Rattle.smil_live.specs.declared.moves.Move.{Move}
 use Rattle.smil_live.specs.declared.moves.Move.TheVariants as move
 
--- a move that may be made: to a later moment up to the horizon, or by an entry at the present moment of a log with room
+-- a move that may be made: to a later moment up to the horizon, or by an entry at the present
+-- moment of a log with room
 abbrev pub MayMove : Presentation → Move → Type 0
 MayMove p (move.Pass to) = (pos p.now ≤ℤ to) × (to ≤ℤ HORIZON)
 MayMove p (move.Settle to) = (pos p.now ≤ℤ to) × (to ≤ℤ HORIZON)
@@ -72,8 +73,8 @@ sought_of p to = record {
   now = nat_abs to;
 }
 
--- cells that are under way to a presentation: they stand at the entries before a place of its log, and none of the others is
--- before their moment
+-- cells that are under way to a presentation: they stand at the entries before a place of its log,
+-- and none of the others is before their moment
 pub record IsUnderWay (p : Presentation) (place : ℕ) (s : Standing) : Type 0 where
   pub document_is : s.presentation.document ≡ p.document
   pub log_is : s.presentation.log ≡ take place p.log
@@ -105,7 +106,8 @@ abbrev pub entry_of : Presentation → Happening → LogEntry
 entry_of p what = record { moment = pos p.now; what = what }
 
 -- what came from outside was heard, and this was told
-pub record IsHeardBy (before : Presentation) (what : Happening) (after : Presentation) (text : List ℕ) : Type 0 where
+pub record IsHeardBy
+    (before : Presentation) (what : Happening) (after : Presentation) (text : List ℕ) : Type 0 where
   pub state : logged_within limits before what ≡ Ok after
   pub told : text ≡ text_of before (changes_between before after)
 

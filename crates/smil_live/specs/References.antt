@@ -1,4 +1,5 @@
--- Whether an edit leaves the references as they were: what the ids name, and which references are looped.
+-- Whether an edit leaves the references as they were: what the ids name, and which references are
+-- looped.
 use Rattle.std.specs.Prelude.{ℕ, List, [], ◌∷◌, ◌++◌, map, Bool, true, false, not, ◌&&◌, ◌||◌, ◌==◌, Option, Some, None, option_map, is_some}
 use Rattle.std.specs.Bool.{beq}
 use Rattle.std.specs.List.{list_all}
@@ -42,7 +43,8 @@ keeps_loops_of edited old new serial =
     || are_same_marks (loops old (node_at (elements old) serial)) (loops new (node_at (elements new) serial))
 
 abbrev pub keeps_loops : ℕ → List Node → List Node → Bool
-keeps_loops edited old new = list_all (λ (e : Node). keeps_loops_of edited old new e.serial) (elements old)
+keeps_loops edited old new =
+    list_all (λ (e : Node). keeps_loops_of edited old new e.serial) (elements old)
 
 -- an edit of this node leaves the references as they were
 abbrev pub keeps_references : ℕ → List Node → List Node → Bool

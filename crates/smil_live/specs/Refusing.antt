@@ -21,7 +21,8 @@ of_outcome (Err fault) = Err (of_tree fault)
 abbrev pub of_value : ℕ → ℕ → AttrFault → Refusal
 of_value name_column column attr_fault.UnknownAttribute = refusal.UnknownAttribute name_column
 of_value name_column column attr_fault.UnsupportedName = refusal.Unsupported name_column
-of_value name_column column (attr_fault.UnsupportedValue place) = refusal.Unsupported (column + place)
+of_value name_column column (attr_fault.UnsupportedValue place) =
+    refusal.Unsupported (column + place)
 of_value name_column column (attr_fault.BadValue place) = refusal.BadValue (column + place)
 of_value name_column column attr_fault.TooManyItems = refusal.TooManyItems column
 of_value name_column column attr_fault.Memory = refusal.Memory

@@ -21,7 +21,8 @@ AreSettersOf nodes layers = AllByRecursion (λ (l : ℕ × Layer). IsSome (node_
 
 -- the layer of the element of a view, with its set
 abbrev pub layer_in : List Node → View → Option (ℕ × Layer)
-layer_in nodes v = with_setter v.serial (option_and_then (layer_of nodes v) (node_at nodes v.serial))
+layer_in nodes v =
+    with_setter v.serial (option_and_then (layer_of nodes v) (node_at nodes v.serial))
 
 -- layers with one more behind them, where there is one
 abbrev pub and_layer : List (ℕ × Layer) → Option (ℕ × Layer) → List (ℕ × Layer)
@@ -30,7 +31,8 @@ and_layer before layer = before ++ option_to_list layer
 module _ {Z : Type 0} where
   -- the names that a table has of a target
   abbrev pub names_in : List (ℕ × Vec (List ℕ) Z) → ℕ → List (List ℕ)
-  names_in table target = unwrap_or (option_map (λ (v : Vec (List ℕ) Z). v.items) (lookup (nat_eq target) table)) []
+  names_in table target =
+      unwrap_or (option_map (λ (v : Vec (List ℕ) Z). v.items) (lookup (nat_eq target) table)) []
 
 -- these layers were taken in, of different sets that stand at different places
 pub record AreSetsOf (sets : Sets) (layers : List (ℕ × Layer)) : Type 0 where

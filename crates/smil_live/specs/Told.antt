@@ -17,8 +17,10 @@ lines_between nodes moment before after = lines_of nodes moment (changed before 
 
 -- the elements of a document that another doesn't have
 abbrev pub gone_from : List Node → List Node → List Node
-gone_from after before = filter (λ (n : Node). not (is_some (node_at after n.serial))) (elements before)
+gone_from after before =
+    filter (λ (n : Node). not (is_some (node_at after n.serial))) (elements before)
 
 -- their lines
 abbrev pub lines_gone : List Node → ℤ → List Node → List ℕ
-lines_gone after moment before = flat_map (λ (n : Node). gone_line moment (name_of n)) (gone_from after before)
+lines_gone after moment before =
+    flat_map (λ (n : Node). gone_line moment (name_of n)) (gone_from after before)
