@@ -1,6 +1,6 @@
 -- What a course comes to, it came to at each earlier moment with the entries up to that moment.
 use Rattle.std.proofs.Common.{◌≡◌, refl, sym, ◌∙◌, ap, ℕ, suc, zero, ◌<◌, ◌≤◌, List, [], ◌∷◌, ◌++◌, Option, Some, None, ℤ, Bool, true, false, arith, inl, inr, append_assoc}
-use Rattle.std.specs.Prelude.{◌⊎◌, cond, pos, int_le, nat_le, nat_lt, slice_get}
+use Rattle.std.specs.Prelude.{◌⊎◌, cond, pos, int_le, nat_le}
 use Rattle.std.specs.Option.{option_map_or}
 use Rattle.std.specs.List.{AllByRecursion}
 use Rattle.std.proofs.lemmas.Bool.{leb-true, leb-false}
@@ -9,17 +9,16 @@ use Rattle.std.proofs.lemmas.List.{append-nil}
 use Rattle.smil_model.specs.declared.diary.Entry.{Entry}
 use Rattle.smil_model.specs.declared.diary.LogEntry.{LogEntry}
 use Rattle.smil_model.specs.declared.diary.Step.{Step}
-use Rattle.smil_model.specs.declared.diary.Step.TheVariants.{Logged}
 use Rattle.smil_model.specs.document.Document.{Document}
 use Rattle.smil_model.specs.diary.Clocks.{until}
-use Rattle.smil_model.specs.happening.Keys.{Coming, coming, first_coming, is_due}
-use Rattle.smil_model.specs.happening.Groups.{steps_of, at_moment, group}
-use Rattle.smil_model.specs.happening.Resolution.{Course, Progress, outset, history_at, after_quiet, after_settling, after_coming, next_step, after_steps, Reaches}
+use Rattle.smil_model.specs.happening.Groups.{steps_of, at_moment}
+use Rattle.smil_model.specs.happening.Resolution.{Course, Progress, outset, history_at, next_step, after_steps, Reaches}
 use Rattle.smil_laws.specs.Agreement.{course_on}
 use Rattle.smil_laws.proofs.Agreed.{next_extends}
 use Rattle.smil_laws.proofs.Aside.{each_append}
 use Rattle.smil_laws.proofs.Cutting.{steps_on}
 use Rattle.smil_laws.proofs.Further.{NoLater, le_same, next_past, all_until}
+use Rattle.smil_laws.proofs.Stepped.{Steps, steps_so}
 
 -- ---- entries that are not before a moment
 
@@ -86,36 +85,13 @@ grows c (suc k) q = by_next (next_step c q) refl (grows c k)
 abbrev Moves : Progress → Progress → Type 0
 Moves q r = (r.moment ≡ q.moment) ⊎ ((r.moment ≡ suc q.moment) × (r.diary ≡ q.diary))
 
-module _ (c : Course) (q : Progress) where
-  quiet_moves : (r : Progress) → after_quiet c q ≡ Some r → Moves q r
-  quiet_moves r e = by_test (nat_lt q.moment c.last) e
-    where
-      by_test : (t : Bool) → cond t (Some (record { moment = suc q.moment; heard = q.heard; diary = q.diary })) None ≡ Some r → Moves q r
-      by_test true e = let one : record { moment = suc q.moment; heard = q.heard; diary = q.diary } ≡ r = cc in rw (← one) (inr (refl, refl))
-      by_test false e = cc
-
-  settling_moves : (o : Option LogEntry) (r : Progress) → after_settling c q o ≡ Some r → Moves q r
-  settling_moves None r e = quiet_moves r e
-  settling_moves (Some entry) r e = by_test (int_le entry.moment (pos q.moment)) e
-    where
-      by_test : (t : Bool) → cond t (Some (record { moment = q.moment; heard = suc q.heard; diary = q.diary ++ record { moment = pos q.moment; step = Logged q.heard } ∷ [] })) (after_quiet c q) ≡ Some r → Moves q r
-      by_test true e =
-          let one : record { moment = q.moment; heard = suc q.heard; diary = q.diary ++ record { moment = pos q.moment; step = Logged q.heard } ∷ [] } ≡ r = cc in
-          inl (sym (ap (λ (x : Progress). x.moment) one))
-      by_test false e = quiet_moves r e
-
-  coming_moves : (o : Option Coming) (r : Progress) → after_coming c q o ≡ Some r → Moves q r
-  coming_moves None r e = settling_moves (slice_get c.log q.heard) r e
-  coming_moves (Some next) r e = by_test (is_due (pos q.moment) next.key) e
-    where
-      by_test : (t : Bool) → cond t (Some (record { moment = q.moment; heard = q.heard; diary = q.diary ++ group (history_at c q) (pos q.moment) next.key.serial next.change })) (after_settling c q (slice_get c.log q.heard)) ≡ Some r → Moves q r
-      by_test true e =
-          let one : record { moment = q.moment; heard = q.heard; diary = q.diary ++ group (history_at c q) (pos q.moment) next.key.serial next.change } ≡ r = cc in
-          inl (sym (ap (λ (x : Progress). x.moment) one))
-      by_test false e = settling_moves (slice_get c.log q.heard) r e
-
-  next_moves : (r : Progress) → next_step c q ≡ Some r → Moves q r
-  next_moves r e = coming_moves (first_coming (coming (history_at c q) (pos q.moment))) r e
+next_moves : (c : Course) (q r : Progress) → next_step c q ≡ Some r → Moves q r
+next_moves c q r e = by_step (steps_so c q r e)
+  where
+    by_step : Steps c q r → Moves q r
+    by_step (inl p) = rw (← p.is) (inr (refl, refl))
+    by_step (inr (inl h)) = inl (sym (ap (λ (x : Progress). x.moment) h.is))
+    by_step (inr (inr h)) = inl (sym (ap (λ (x : Progress). x.moment) h.is))
 
 -- ---- the way back
 

@@ -20,9 +20,9 @@ use Rattle.smil_laws.specs.Locality.{ParentsBefore}
 use Rattle.smil_model.specs.diary.Diary.{History, is_active, is_paused, last_moment}
 use Rattle.smil_model.specs.diary.Clocks.{outer}
 use Rattle.smil_model.specs.happening.Queue.{playing_child, queue_of, decision}
-use Rattle.smil_model.specs.happening.Keys.{Coming, Change, begins, ends, repeats, coming, first_coming, is_due}
+use Rattle.smil_model.specs.happening.Keys.{Change, begins, ends, repeats}
 use Rattle.smil_model.specs.happening.Groups.{cuts, follower, followers, interruption, begin_beside, begin_under, steps_of, at_moment, group}
-use Rattle.smil_model.specs.happening.Resolution.{Course, Progress, outset, history_at, after_quiet, after_settling, after_coming, next_step, after_steps, Reaches}
+use Rattle.smil_model.specs.happening.Resolution.{Course, Progress, outset, history_at, after_quiet, after_settling, next_step, after_steps, Reaches}
 use Rattle.smil_laws.specs.Agreement.{IsPlaced, IsAside, DifferBelow, SparesAll, course_on}
 use Rattle.smil_model.specs.reach.Bounds.{has_begun}
 use Rattle.smil_laws.proofs.Aside.{SameLogged, NamesAlike, each_append, find_each, spared}
@@ -30,6 +30,7 @@ use Rattle.smil_laws.proofs.AsideGroups.{each_map}
 use Rattle.smil_laws.proofs.Agreed.{next_alike, next_frees}
 use Rattle.smil_laws.proofs.Numbered.{all_low, ordered}
 use Rattle.smil_laws.proofs.Lists.{each_weaker, each_kept}
+use Rattle.smil_laws.proofs.Stepped.{Steps, steps_so}
 use Rattle.std.specs.List.{AllByRecursion}
 
 -- ---- the places that a diary names
@@ -128,50 +129,29 @@ pub record GoesOn (q r : Progress) : Type 0 where
   pub named : NamesBelow q.heard q.diary → NamesBelow r.heard r.diary
   pub count : logged q.diary ≡ q.heard → logged r.diary ≡ r.heard
 
-module _ (c : Course) (q : Progress) where
-  quiet_on : (r : Progress) → after_quiet c q ≡ Some r → GoesOn q r
-  quiet_on r e = by_test (nat_lt q.moment c.last) e
-    where
-      by_test : (t : Bool) → cond t (Some (record { moment = suc q.moment; heard = q.heard; diary = q.diary })) None ≡ Some r → GoesOn q r
-      by_test true e = let one : record { moment = suc q.moment; heard = q.heard; diary = q.diary } ≡ r = cc in rw (← one) (record { heard = omega arith; moment = omega arith; named = λ d. d; count = λ d. d })
-      by_test false e = cc
-
-  settling_on : (o : Option LogEntry) (r : Progress) → after_settling c q o ≡ Some r → GoesOn q r
-  settling_on None r e = quiet_on r e
-  settling_on (Some entry) r e = by_test (int_le entry.moment (pos q.moment)) e
-    where
-      by_test : (t : Bool) → cond t (Some (record { moment = q.moment; heard = suc q.heard; diary = q.diary ++ record { moment = pos q.moment; step = Logged q.heard } ∷ [] })) (after_quiet c q) ≡ Some r → GoesOn q r
-      by_test true e =
-          let one : record { moment = q.moment; heard = suc q.heard; diary = q.diary ++ record { moment = pos q.moment; step = Logged q.heard } ∷ [] } ≡ r = cc in
-          rw (← one)
-          (record {
-            heard = omega arith;
-            moment = omega arith;
-            named = λ d. each_append (λ (x : Entry). IsNamedBelow (suc q.heard) x.step) q.diary (record { moment = pos q.moment; step = Logged q.heard } ∷ []) (names_weaker q.heard (suc q.heard) q.diary (omega arith) d) (omega arith, tt);
-            count = λ d. logged_append q.diary (record { moment = pos q.moment; step = Logged q.heard } ∷ []) ∙ omega (arith, d);
-          })
-      by_test false e = quiet_on r e
-
-  key_on : (o : Option Coming) (r : Progress) → after_coming c q o ≡ Some r → GoesOn q r
-  key_on None r e = settling_on (slice_get c.log q.heard) r e
-  key_on (Some next) r e = by_test (is_due (pos q.moment) next.key) e
-    where
-      by_test : (t : Bool) → cond t (Some (record { moment = q.moment; heard = q.heard; diary = q.diary ++ group (history_at c q) (pos q.moment) next.key.serial next.change })) (after_settling c q (slice_get c.log q.heard)) ≡ Some r → GoesOn q r
-      by_test true e =
-          let one : record { moment = q.moment; heard = q.heard; diary = q.diary ++ group (history_at c q) (pos q.moment) next.key.serial next.change } ≡ r = cc in
-          rw (← one)
-          (record {
-            heard = omega arith;
-            moment = omega arith;
-            named = λ d. each_append (λ (x : Entry). IsNamedBelow q.heard x.step) q.diary (group (history_at c q) (pos q.moment) next.key.serial next.change) d (group_free q.heard (history_at c q) (pos q.moment) next.key.serial next.change);
-            count = λ d.
-                let none : logged (group (history_at c q) (pos q.moment) next.key.serial next.change) ≡ 0 = ap length (none_logged (group (history_at c q) (pos q.moment) next.key.serial next.change) (group_free 0 (history_at c q) (pos q.moment) next.key.serial next.change)) in
-                logged_append q.diary (group (history_at c q) (pos q.moment) next.key.serial next.change) ∙ omega (arith, d, none);
-          })
-      by_test false e = settling_on (slice_get c.log q.heard) r e
-
-  pub next_on : (r : Progress) → next_step c q ≡ Some r → GoesOn q r
-  next_on r e = key_on (first_coming (coming (history_at c q) (pos q.moment))) r e
+pub next_on : (c : Course) (q r : Progress) → next_step c q ≡ Some r → GoesOn q r
+next_on c q r e = by_step (steps_so c q r e)
+  where
+    by_step : Steps c q r → GoesOn q r
+    by_step (inl p) = rw (← p.is) (record { heard = omega arith; moment = omega arith; named = λ d. d; count = λ d. d })
+    by_step (inr (inl h)) =
+        rw (← h.is)
+        (record {
+          heard = omega arith;
+          moment = omega arith;
+          named = λ d. each_append (λ (x : Entry). IsNamedBelow (suc q.heard) x.step) q.diary (record { moment = pos q.moment; step = Logged q.heard } ∷ []) (names_weaker q.heard (suc q.heard) q.diary (omega arith) d) (omega arith, tt);
+          count = λ d. logged_append q.diary (record { moment = pos q.moment; step = Logged q.heard } ∷ []) ∙ omega (arith, d);
+        })
+    by_step (inr (inr h)) =
+        rw (← h.is)
+        (record {
+          heard = omega arith;
+          moment = omega arith;
+          named = λ d. each_append (λ (x : Entry). IsNamedBelow q.heard x.step) q.diary (group (history_at c q) (pos q.moment) h.next.key.serial h.next.change) d (group_free q.heard (history_at c q) (pos q.moment) h.next.key.serial h.next.change);
+          count = λ d.
+              let none : logged (group (history_at c q) (pos q.moment) h.next.key.serial h.next.change) ≡ 0 = ap length (none_logged (group (history_at c q) (pos q.moment) h.next.key.serial h.next.change) (group_free 0 (history_at c q) (pos q.moment) h.next.key.serial h.next.change)) in
+              logged_append q.diary (group (history_at c q) (pos q.moment) h.next.key.serial h.next.change) ∙ omega (arith, d, none);
+        })
 
 pub steps_on : (c : Course) (k : ℕ) (q : Progress) → (q.heard ≤ (after_steps c k q).heard) × (q.moment ≤ (after_steps c k q).moment)
 steps_on c zero q = (omega arith, omega arith)
@@ -363,40 +343,17 @@ last_added m ds step steps = fold-append (λ before (x : Entry). x.moment) (pos 
 abbrev Adds : Progress → Progress → Type 0
 Adds q r = (r.diary ≡ q.diary) ⊎ (pos r.moment ≡ last_moment r.diary)
 
-module _ (c : Course) (q : Progress) where
-  quiet_adds : (r : Progress) → after_quiet c q ≡ Some r → Adds q r
-  quiet_adds r e = by_test (nat_lt q.moment c.last) e
-    where
-      by_test : (t : Bool) → cond t (Some (record { moment = suc q.moment; heard = q.heard; diary = q.diary })) None ≡ Some r → Adds q r
-      by_test true e = let one : record { moment = suc q.moment; heard = q.heard; diary = q.diary } ≡ r = cc in inl (sym (ap (λ (x : Progress). x.diary) one))
-      by_test false e = cc
+next_adds : (c : Course) (q r : Progress) → next_step c q ≡ Some r → Adds q r
+next_adds c q r e = by_step (steps_so c q r e)
+  where
+    by_steps : (steps : List Step) → record { moment = q.moment; heard = q.heard; diary = q.diary ++ at_moment (pos q.moment) steps } ≡ r → Adds q r
+    by_steps [] one = inl (sym (ap (λ (x : Progress). x.diary) one) ∙ append-nil q.diary)
+    by_steps (s ∷ ss) one = rw (← one) (inr (sym (last_added (pos q.moment) q.diary s ss)))
 
-  settling_adds : (o : Option LogEntry) (r : Progress) → after_settling c q o ≡ Some r → Adds q r
-  settling_adds None r e = quiet_adds r e
-  settling_adds (Some entry) r e = by_test (int_le entry.moment (pos q.moment)) e
-    where
-      by_test : (t : Bool) → cond t (Some (record { moment = q.moment; heard = suc q.heard; diary = q.diary ++ record { moment = pos q.moment; step = Logged q.heard } ∷ [] })) (after_quiet c q) ≡ Some r → Adds q r
-      by_test true e =
-          let one : record { moment = q.moment; heard = suc q.heard; diary = q.diary ++ record { moment = pos q.moment; step = Logged q.heard } ∷ [] } ≡ r = cc in
-          rw (← one) (inr (sym (last_added (pos q.moment) q.diary (Logged q.heard) [])))
-      by_test false e = quiet_adds r e
-
-  key_adds : (o : Option Coming) (r : Progress) → after_coming c q o ≡ Some r → Adds q r
-  key_adds None r e = settling_adds (slice_get c.log q.heard) r e
-  key_adds (Some next) r e = by_test (is_due (pos q.moment) next.key) e
-    where
-      by_steps : (steps : List Step) → record { moment = q.moment; heard = q.heard; diary = q.diary ++ at_moment (pos q.moment) steps } ≡ r → Adds q r
-      by_steps [] one = inl (sym (ap (λ (x : Progress). x.diary) one) ∙ append-nil q.diary)
-      by_steps (s ∷ ss) one = rw (← one) (inr (sym (last_added (pos q.moment) q.diary s ss)))
-
-      by_test : (t : Bool) → cond t (Some (record { moment = q.moment; heard = q.heard; diary = q.diary ++ group (history_at c q) (pos q.moment) next.key.serial next.change })) (after_settling c q (slice_get c.log q.heard)) ≡ Some r → Adds q r
-      by_test true e =
-          let one : record { moment = q.moment; heard = q.heard; diary = q.diary ++ group (history_at c q) (pos q.moment) next.key.serial next.change } ≡ r = cc in
-          by_steps (steps_of (history_at c q) (pos q.moment) next.key.serial next.change) one
-      by_test false e = settling_adds (slice_get c.log q.heard) r e
-
-  next_adds : (r : Progress) → next_step c q ≡ Some r → Adds q r
-  next_adds r e = key_adds (first_coming (coming (history_at c q) (pos q.moment))) r e
+    by_step : Steps c q r → Adds q r
+    by_step (inl p) = inl (sym (ap (λ (x : Progress). x.diary) p.is))
+    by_step (inr (inl h)) = rw (← h.is) (inr (sym (last_added (pos q.moment) q.diary (Logged q.heard) [])))
+    by_step (inr (inr h)) = by_steps (steps_of (history_at c q) (pos q.moment) h.next.key.serial h.next.change) h.is
 
 pub one_more : (c : Course) (i : ℕ) (x q r : Progress) → after_steps c i x ≡ q → next_step c q ≡ Some r → after_steps c (suc i) x ≡ r
 one_more c zero x q r e n = ap (λ o. option_map_or (λ s. s) o x) (ap (next_step c) e ∙ n)

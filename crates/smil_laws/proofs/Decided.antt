@@ -1,16 +1,16 @@
 -- Each step of a resolution appends an entry or takes the next moment, so it has ended, or has too many entries, after as many
 -- steps as there are entries and moments.
-use Rattle.std.proofs.Common.{◌≡◌, refl, sym, ◌∙◌, ap, ℕ, suc, zero, ◌<◌, ◌≤◌, ◌+◌, List, [], ◌∷◌, ◌++◌, Option, Some, None, Bool, true, false, arith, inl, inr, length, length-append}
-use Rattle.std.specs.Prelude.{◌⊎◌, cond, pos, int_le, nat_lt, nat_le, slice_get}
+use Rattle.std.proofs.Common.{◌≡◌, refl, sym, ◌∙◌, ap, ℕ, suc, zero, ◌<◌, ◌≤◌, ◌+◌, List, [], ◌∷◌, Option, Some, None, true, arith, inl, inr, length, length-append}
+use Rattle.std.specs.Prelude.{◌⊎◌, cond, pos, nat_le, slice_get}
 use Rattle.std.specs.Option.{option_map_or}
 use Rattle.std.proofs.lemmas.Bool.{ltb-true, le-leb, lt-leb}
 use Rattle.smil_model.specs.declared.diary.LogEntry.{LogEntry}
 use Rattle.smil_model.specs.declared.diary.Step.TheVariants.{Logged}
 use Rattle.smil_model.specs.declared.limits.TheConstants.{DIARY_ENTRIES}
-use Rattle.smil_model.specs.happening.Keys.{Coming, coming, first_coming, is_due}
 use Rattle.smil_model.specs.happening.Groups.{group}
-use Rattle.smil_model.specs.happening.Resolution.{Course, Progress, outset, history_at, after_quiet, after_settling, after_coming, next_step, after_steps, Reaches, resolved, diary_of}
+use Rattle.smil_model.specs.happening.Resolution.{Course, Progress, outset, history_at, next_step, after_steps, Reaches, resolved, diary_of}
 use Rattle.smil_laws.proofs.Grouped.{group_filled}
+use Rattle.smil_laws.proofs.Stepped.{Steps, steps_so}
 
 -- entries and milliseconds
 abbrev pub extent : Progress → ℕ
@@ -28,42 +28,20 @@ in_log i [] x q = cc
 in_log zero (y ∷ ys) x q = omega arith
 in_log (suc i) (y ∷ ys) x q = let rest = in_log i ys x q in omega (arith, rest)
 
-module _ (c : Course) (q : Progress) where
-  quiet_advances : (r : Progress) → after_quiet c q ≡ Some r → Advances c q r
-  quiet_advances r e = by_test (nat_lt q.moment c.last) refl e
-    where
-      by_test : (t : Bool) → nat_lt q.moment c.last ≡ t → cond t (Some (record { moment = suc q.moment; heard = q.heard; diary = q.diary })) None ≡ Some r → Advances c q r
-      by_test true t e =
-          let one : record { moment = suc q.moment; heard = q.heard; diary = q.diary } ≡ r = cc in
-          let below : q.moment < c.last = ltb-true q.moment c.last t in
-          rw (← one) (record { more = omega arith; longer = omega arith; within = λ w. omega (arith, below); heard = λ w. w })
-      by_test false t e = cc
-
-  settling_advances : (o : Option LogEntry) (r : Progress) → slice_get c.log q.heard ≡ o → after_settling c q o ≡ Some r → Advances c q r
-  settling_advances None r f e = quiet_advances r e
-  settling_advances (Some entry) r f e = by_test (int_le entry.moment (pos q.moment)) e
-    where
-      by_test : (t : Bool) → cond t (Some (record { moment = q.moment; heard = suc q.heard; diary = q.diary ++ record { moment = pos q.moment; step = Logged q.heard } ∷ [] })) (after_quiet c q) ≡ Some r → Advances c q r
-      by_test true e =
-          let one : record { moment = q.moment; heard = suc q.heard; diary = q.diary ++ record { moment = pos q.moment; step = Logged q.heard } ∷ [] } ≡ r = cc in
-          let more = length-append q.diary (record { moment = pos q.moment; step = Logged q.heard } ∷ []) in
-          rw (← one) (record { more = omega (arith, more); longer = omega (arith, more); within = λ w. w; heard = λ w. in_log q.heard c.log entry f })
-      by_test false e = quiet_advances r e
-
-  coming_advances : (o : Option Coming) (r : Progress) → after_coming c q o ≡ Some r → Advances c q r
-  coming_advances None r e = settling_advances (slice_get c.log q.heard) r refl e
-  coming_advances (Some next) r e = by_test (is_due (pos q.moment) next.key) e
-    where
-      by_test : (t : Bool) → cond t (Some (record { moment = q.moment; heard = q.heard; diary = q.diary ++ group (history_at c q) (pos q.moment) next.key.serial next.change })) (after_settling c q (slice_get c.log q.heard)) ≡ Some r → Advances c q r
-      by_test true e =
-          let one : record { moment = q.moment; heard = q.heard; diary = q.diary ++ group (history_at c q) (pos q.moment) next.key.serial next.change } ≡ r = cc in
-          let more = length-append q.diary (group (history_at c q) (pos q.moment) next.key.serial next.change) in
-          let some = group_filled (history_at c q) (pos q.moment) next.key.serial next.change in
-          rw (← one) (record { more = omega (arith, more, some); longer = omega (arith, more); within = λ w. w; heard = λ w. w })
-      by_test false e = settling_advances (slice_get c.log q.heard) r refl e
-
-  pub next_advances : (r : Progress) → next_step c q ≡ Some r → Advances c q r
-  next_advances r e = coming_advances (first_coming (coming (history_at c q) (pos q.moment))) r e
+pub next_advances : (c : Course) (q r : Progress) → next_step c q ≡ Some r → Advances c q r
+next_advances c q r e = by_step (steps_so c q r e)
+  where
+    by_step : Steps c q r → Advances c q r
+    by_step (inl p) =
+        let below : q.moment < c.last = ltb-true q.moment c.last p.below in
+        rw (← p.is) (record { more = omega arith; longer = omega arith; within = λ w. omega (arith, below); heard = λ w. w })
+    by_step (inr (inl h)) =
+        let more = length-append q.diary (record { moment = pos q.moment; step = Logged q.heard } ∷ []) in
+        rw (← h.is) (record { more = omega (arith, more); longer = omega (arith, more); within = λ w. w; heard = λ w. in_log q.heard c.log h.entry h.there })
+    by_step (inr (inr h)) =
+        let more = length-append q.diary (group (history_at c q) (pos q.moment) h.next.key.serial h.next.change) in
+        let some = group_filled (history_at c q) (pos q.moment) h.next.key.serial h.next.change in
+        rw (← h.is) (record { more = omega (arith, more, some); longer = omega (arith, more); within = λ w. w; heard = λ w. w })
 
 -- after k steps the resolution has ended, or has come as far
 pub record Comes (c : Course) (k : ℕ) (q r : Progress) : Type 0 where

@@ -25,6 +25,7 @@ pub mod Reached
 pub mod Rounds
 pub mod Settled
 pub mod Spared
+pub mod Stepped
 pub mod Through
 pub mod Unpaused
 pub mod Unreached
