@@ -1,9 +1,9 @@
 -- The rows of keys, and the reach of a key.
-use Rattle.std.proofs.Common.{◌≡◌, refl, sym, ◌∙◌, ap, ℕ, suc, zero, ◌<◌, ◌≤◌, ◌+◌, List, [], ◌∷◌, ◌++◌, length, get_or, take, Bool, true, false, Option, Some, None, arith, inl, inr}
+use Rattle.std.proofs.Common.{◌≡◌, refl, sym, ◌∙◌, ap, ℕ, suc, ◌<◌, ◌≤◌, ◌+◌, List, [], ◌∷◌, ◌++◌, length, get_or, take, Bool, true, false, Option, Some, None, arith, inl, inr}
 use Rattle.std.specs.Prelude.{cond, filter, ◌==◌, ◌||◌, ◌&&◌, ◌⊎◌, slice_get}
 use Rattle.std.specs.List.{list_any}
 use Rattle.std.proofs.Math.ListN.{set, length-set}
-use Rattle.std.proofs.lemmas.Bool.{or_left, or_right, or_cases, and_parts, and_from, eq-eqb, ne_eqb, cases_eq}
+use Rattle.std.proofs.lemmas.Bool.{or_left, or_right, or_cases, and_parts, eq-eqb, ne_eqb, cases_eq}
 use Rattle.std.proofs.lemmas.List.{get_or-set_same, get_or-set_other}
 use Rattle.std.proofs.lemmas.List.Folds.{list_any-append}
 use Rattle.smil_model.specs.declared.document.Node.{Node}
@@ -15,8 +15,8 @@ use Rattle.smil_model.specs.document.Dependencies.{all_items}
 use Rattle.smil_model.specs.document.Closure.{has}
 use Rattle.smil_model.specs.document.Valid.{IsDistinct}
 use Rattle.smil_model.specs.reach.Reach.{is_key_item, waiters, is_option}
-use Rattle.smil_graph.specs.Links.{lists, row, links, AreRows}
-use Rattle.smil_graph.specs.Places.{has_element, is_element_at}
+use Rattle.smil_graph.specs.Links.{lists, row, links}
+use Rattle.smil_graph.specs.Places.{has_element}
 use Rattle.smil_graph.specs.Tables.{has_key_item, key_of, waits, AreWaiting, AreWithPlace, AreElements, AreOf}
 use Rattle.smil_graph.proofs.Follow.{all_any}
 use Rattle.smil_graph.proofs.Fed.{any_alike, element_one, has_serials}

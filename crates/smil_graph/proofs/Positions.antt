@@ -1,5 +1,5 @@
 -- The places of serials in a list, found from its end.
-use Rattle.std.proofs.Common.{◌≡◌, refl, sym, ◌∙◌, ap, ℕ, suc, zero, ◌<◌, ◌≤◌, ◌+◌, ◌-◌, List, [], ◌∷◌, length, get_or, drop, Bool, true, false, Option, Some, None, arith}
+use Rattle.std.proofs.Common.{◌≡◌, refl, sym, ◌∙◌, ap, ℕ, suc, zero, ◌<◌, ◌+◌, ◌-◌, List, [], ◌∷◌, length, get_or, drop, Bool, true, false, Option, Some, None, arith}
 use Rattle.std.specs.Prelude.{cond, ◌==◌, slice_get, option_map}
 use Rattle.std.specs.List.{position}
 use Rattle.std.proofs.lemmas.Grind.{common_steps}

@@ -4,7 +4,6 @@ use Rattle.std.specs.List.{list_any, range_with_len}
 use Rattle.smil_model.specs.declared.document.Node.{Node}
 use Rattle.smil_model.specs.declared.document.Item.{Item}
 use Rattle.smil_model.specs.declared.document.Edge.{Edge}
-use Rattle.smil_model.specs.declared.document.Edge.TheVariants.{Begin, End}
 use Rattle.smil_model.specs.declared.document.Item.TheVariants.{Sync, Event, Repeat}
 use Rattle.smil_model.specs.document.Document.{is_element, has_kind, is_seq_kind}
 use Rattle.smil_model.specs.document.Defaults.{items_or, stated_list}

@@ -1,5 +1,5 @@
 -- The descendants of an element, where parents stand before their children and no serial is given twice.
-use Rattle.std.proofs.Common.{◌≡◌, refl, sym, ◌∙◌, ap, ℕ, List, [], ◌∷◌, ◌++◌, Some, Bool, true, false, inl, inr}
+use Rattle.std.proofs.Common.{◌≡◌, refl, sym, ◌∙◌, ap, ℕ, List, [], ◌∷◌, Some, Bool, true, false, inl, inr}
 use Rattle.std.specs.Prelude.{cond, ◌==◌, ◌||◌, ◌⊎◌, reverse, drop, find, is_some}
 use Rattle.std.specs.List.{AllByRecursion, list_any}
 use Rattle.std.proofs.lemmas.Bool.{or_left, or_right, or_cases, eqb-true, eq-eqb}

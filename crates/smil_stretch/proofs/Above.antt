@@ -13,7 +13,6 @@ use Rattle.smil_laws.proofs.Aside.{find_each, each_reverse}
 use Rattle.smil_laws.proofs.Members.{found_held, differ_each}
 use Rattle.smil_laws.proofs.Below.{IsChain, ordered_chains, each_upwards}
 use Rattle.smil_laws.proofs.Lists.{each_at}
-use Rattle.smil_tree.proofs.Families.{node_of_place}
 
 -- whether an element that passes is in a lineage
 abbrev pub any_in : (Node → Bool) → List Node → Bool

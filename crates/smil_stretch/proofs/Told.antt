@@ -1,6 +1,6 @@
 -- What the calls that read clocks tell.
 use Rattle.std.proofs.Common.{◌≡◌, refl, sym, ◌∙◌, ap, ℕ, zero, suc, ◌+◌, List, [], ◌∷◌, ℤ, Option, Some, None, Bool, true, false, length, get_or, add-one}
-use Rattle.std.specs.Prelude.{cond, nat_lt, pos, negsuc, ◌==◌, ◌&&◌, ◌||◌, ◌≤ℤ◌, drop, map, find, slice_get, option_map, option_and_then, is_some, IfSome}
+use Rattle.std.specs.Prelude.{cond, nat_lt, pos, negsuc, ◌==◌, ◌&&◌, ◌≤ℤ◌, drop, map, find, slice_get, option_map, option_and_then, is_some, IfSome}
 use Rattle.std.specs.Option.{option_copied}
 use Rattle.std.specs.Borrow.{Bor}
 use Rattle.std.specs.List.{list_any, position, position_or_len}

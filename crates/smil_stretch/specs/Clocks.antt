@@ -1,5 +1,5 @@
 -- The clocks of a document after what has happened so far: one for each node, which runs or stands since the last entry.
-use Rattle.std.specs.Prelude.{◌≡◌, ℕ, ℤ, ◌-ℤ◌, List, [], ◌∷◌, ◌++◌, map, fold, Bool, true, false, ◌&&◌, ◌==◌, Option, option_and_then}
+use Rattle.std.specs.Prelude.{◌≡◌, ℕ, ℤ, ◌-ℤ◌, List, [], map, Bool, true, false, ◌&&◌, ◌==◌, Option, option_and_then}
 use Rattle.std.specs.List.{position}
 use Rattle.smil_model.specs.declared.diary.Entry.{Entry}
 use Rattle.smil_model.specs.declared.diary.Step.{Step}
@@ -7,7 +7,7 @@ use Rattle.smil_model.specs.declared.diary.Step.TheVariants.{Resumed, Ended, Cut
 use Rattle.smil_model.specs.declared.document.Node.{Node}
 use Rattle.smil_model.specs.document.Document.{Document, is_element, time_parent}
 use Rattle.smil_model.specs.document.Valid.{IsNumberedTree}
-use Rattle.smil_model.specs.diary.Diary.{History, is_paused, up_to, with_entry, last_moment}
+use Rattle.smil_model.specs.diary.Diary.{History, is_paused, with_entry, last_moment}
 use Rattle.smil_model.specs.diary.Lawful.{IsLawful}
 use Rattle.smil_model.specs.diary.Clocks.{run, stands}
 use Rattle.smil_stretch.specs.declared.clock.Clock.{Clock}

@@ -1,13 +1,13 @@
 -- What stands above and below a node, in a document whose parents stand before their children.
 use Rattle.std.proofs.Common.{◌≡◌, refl, sym, ◌∙◌, ap, subst, ℕ, zero, suc, ◌+◌, ◌≤◌, List, [], ◌∷◌, Option, Some, None, Bool, true, false, cond, length, drop, filter, arith, add-one}
-use Rattle.std.specs.Prelude.{◌==◌, ◌||◌, ◌&&◌, find, slice_get, option_map, reverse, not}
+use Rattle.std.specs.Prelude.{◌==◌, ◌||◌, ◌&&◌, find, slice_get, reverse}
 use Rattle.std.specs.List.{list_any, list_all, AllByRecursion}
 use Rattle.std.specs.Option.{option_copied}
 use Rattle.std.specs.Borrow.{Bor}
 use Rattle.std.proofs.lemmas.Bool.{or_parts, eqb-true, eq-eqb}
 use Rattle.std.proofs.lemmas.List.{reverse-reverse}
 use Rattle.smil_model.specs.declared.document.Node.{Node}
-use Rattle.smil_model.specs.document.Document.{node_at, lineage, upwards, ancestors, time_parent, has_serial, is_element, is_class_kind, is_time_child}
+use Rattle.smil_model.specs.document.Document.{node_at, lineage, upwards, ancestors, is_element}
 use Rattle.smil_model.specs.document.Valid.{IsDistinct}
 use Rattle.smil_laws.specs.Edited.{IsOrdered}
 use Rattle.smil_laws.proofs.Lineages.{skip}

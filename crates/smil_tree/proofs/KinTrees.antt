@@ -12,7 +12,6 @@ use Rattle.smil_model.specs.declared.document.Node.{Node}
 use Rattle.smil_model.specs.document.Document.{lineage, time_parent, has_serial, is_element, is_time_child, serials, serial_of}
 use Rattle.smil_model.specs.document.Edits.{children}
 use Rattle.smil_model.specs.document.Valid.{IsDistinct}
-use Rattle.smil_laws.specs.Locality.{ParentsBefore}
 use Rattle.smil_laws.specs.Edited.{IsOrdered}
 use Rattle.smil_laws.proofs.Aside.{each_append, each_both, each_reverse, each_filter}
 use Rattle.smil_laws.proofs.Below.{IsChain, ordered_chains}

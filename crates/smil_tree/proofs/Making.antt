@@ -11,7 +11,7 @@ use Rattle.smil_model.specs.declared.document.Node.{Node}
 use Rattle.smil_model.specs.document.Document.{Document, has_id, node_at}
 use Rattle.smil_model.specs.document.Valid.{IsValid, IsDistinct, is_id_taken, is_other_with, references, references_of}
 use Rattle.smil_laws.proofs.Lineages.{swap_eqb}
-use Rattle.smil_laws.proofs.Lists.{take-suc_at, take-more_at}
+use Rattle.smil_laws.proofs.Lists.{take-more_at}
 use Rattle.smil_tree.specs.TreeFields.{bears, owner}
 use Rattle.smil_tree.proofs.Owners.{owner-between, count-cons}
 

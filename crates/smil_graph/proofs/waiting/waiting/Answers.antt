@@ -1,4 +1,4 @@
-use Rattle.std.proofs.Common.{◌≡◌, sym, ◌∙◌, arith, Some, None}
+use Rattle.std.proofs.Common.{◌≡◌, ◌∙◌, arith, Some, None}
 use Rattle.std.specs.Prelude.{◌&&◌}
 use Rattle.smil_model.specs.document.Document.{is_element}
 use Rattle.smil_graph.specs.Tables.{has_key_item}

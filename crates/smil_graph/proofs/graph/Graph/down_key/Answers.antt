@@ -3,7 +3,7 @@ use Rattle.std.proofs.lemmas.Result.{IfOk-weaker}
 use Rattle.smil_model.specs.reach.Reach.{down_key, waiters}
 use Rattle.smil_graph.specs.Graph.{OrderedNodes}
 use Rattle.smil_graph.specs.Links.{row}
-use Rattle.smil_graph.specs.Tables.{AreElements, AreOf}
+use Rattle.smil_graph.specs.Tables.{AreOf}
 use Rattle.smil_graph.proofs.Keyed.{waiters_are, waiters_elements}
 use Rattle.smil_graph.proofs.graph.Graph.down_key.Goals as goal
 
