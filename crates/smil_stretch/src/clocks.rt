@@ -271,8 +271,8 @@ fn places_of(alloc: Global, clocks: &[NodeClock]) -> Result<HashMap<u32, usize>,
     ensures { IfOk result (λ places. ArePlacesOf (get nat_eq places) clocks.now) }
 {
     let mut places = HashMap::new(alloc);
-    for place in 0..clocks.len() {
-        note_place(&mut places, clocks[place].serial, place)?;
+    for (place, node) in clocks.iter().enumerate() {
+        note_place(&mut places, node.serial, place)?;
     }
     Ok(places)
 }
