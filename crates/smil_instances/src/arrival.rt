@@ -38,7 +38,8 @@ impl Arrival<'_> {
     /// The place of the entry in the diary. It takes no memory.
     pub fn place(&self) -> usize
         requires { HasArrived self.now }
-        ensures { (h : History) (y : AnyEntry) → IsArrivalOf h y self.now → result ≡ length h.diary }
+        ensures { (h : History) (y : AnyEntry) → IsArrivalOf h y self.now
+            → result ≡ length h.diary }
     {
         self.book.len() - 1
     }

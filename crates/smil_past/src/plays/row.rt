@@ -153,7 +153,12 @@ fn put_off(own: &OwnEntry<'_>, begin: i64, row: Played) -> Played
 }
 
 // The interval of the play of a row, which finishes; None where there is no play.
-fn finished_interval(row: &Played, finish: i64, shown_finish: i64, was_cut: bool) -> Option<PastInterval>
+fn finished_interval(
+    row: &Played,
+    finish: i64,
+    shown_finish: i64,
+    was_cut: bool,
+) -> Option<PastInterval>
     ensures { (h : History) (s : ℕ) (m : ℤ) → shown_finish ≡ document_time h s finish m → result
         ≡ finished_interval h s m finish was_cut row.now.begun row.now.shown_begun }
 {
