@@ -300,23 +300,19 @@ module _ (nodes : List Node) (order : List ℕ) where
       part : slice_range nodes first past ≡ filter (λ (n : Node). is_within nodes x n.serial) nodes
       part = subst (λ (ns : List Node). slice_range ns first past ≡ filter (λ (n : Node). is_within ns x n.serial) ns) (sym same) within
 
--- ---- the entries one after another
+-- ---- entries one after another
 
-module _ (order : List ℕ) (nodes : List Node) (log : List LogEntry) (diary : List Entry) where
-  pub no_entries : (from : ℕ) (old : List ℕ) → AreNoted order (is_noted_by nodes log (slice_range diary from from)) old old
-  no_entries from old = none_noted order (is_noted_by nodes log (slice_range diary from from)) old (λ s r at. none s)
-    where
-      none : (s : ℕ) → is_noted_by nodes log (slice_range diary from from) s ≡ false
-      none s = let nothing : from - from ≡ 0 = omega arith in ap (λ k. list_any (is_noted_at nodes log s) (take k (drop from diary))) nothing ∙ ap (list_any (is_noted_at nodes log s)) (take_none (drop from diary))
+module _ (order : List ℕ) (nodes : List Node) (log : List LogEntry) (entries : List Entry) where
+  pub no_entries : (old : List ℕ) → AreNoted order (is_noted_by nodes log (take 0 entries)) old old
+  no_entries old = none_noted order (is_noted_by nodes log (take 0 entries)) old (λ s r at. ap (list_any (is_noted_at nodes log s)) (take_none entries))
 
-  pub more_entries : (from place : ℕ) (y : Entry) (old now new : List ℕ) → from ≤ place → slice_get diary place ≡ Some y → AreNoted order (is_noted_by nodes log (slice_range diary from place)) old now → AreNoted order (is_noted_through nodes (key_of log y.step) (subject_of log y.step)) now new → AreNoted order (is_noted_by nodes log (slice_range diary from (place + 1))) old new
-  more_entries from place y old now new le here so_far one =
-      noted_by order (λ s. is_noted_by nodes log (slice_range diary from place) s || is_noted_at nodes log s y) (is_noted_by nodes log (slice_range diary from (place + 1))) old new
-      (λ s r at. sym (any_part_more (is_noted_at nodes log s) diary from place y le here))
-      (noted_then order (is_noted_by nodes log (slice_range diary from place)) (is_noted_through nodes (key_of log y.step) (subject_of log y.step)) old now new so_far one)
+  pub more_entries : (k : ℕ) (d : Entry) (old now new : List ℕ) → k < length entries → AreNoted order (is_noted_by nodes log (take k entries)) old now → AreNoted order (is_noted_through nodes (key_of log (get_or entries k d).step) (subject_of log (get_or entries k d).step)) now new → AreNoted order (is_noted_by nodes log (take (k + 1) entries)) old new
+  more_entries k d old now new within so_far one =
+      noted_by order (λ s. is_noted_by nodes log (take k entries) s || is_noted_at nodes log s (get_or entries k d)) (is_noted_by nodes log (take (k + 1) entries)) old new
+      (λ s r at. sym (list_any_more (is_noted_at nodes log s) entries k d within))
+      (noted_then order (is_noted_by nodes log (take k entries)) (is_noted_through nodes (key_of log (get_or entries k d).step) (subject_of log (get_or entries k d).step)) old now new so_far one)
 
-  pub all_entries : (from place : ℕ) (old new : List ℕ) → from ≤ place → length diary ≤ place → AreNoted order (is_noted_by nodes log (slice_range diary from place)) old new → AreNoted order (is_noted_by nodes log (drop from diary)) old new
-  all_entries from place old new le most noted =
-      let rest : length (drop from diary) ≤ place - from = omega (arith, le, most, length-drop from diary) in
-      noted_by order (is_noted_by nodes log (slice_range diary from place)) (is_noted_by nodes log (drop from diary)) old new
-      (λ s r at. ap (list_any (is_noted_at nodes log s)) (take_all (drop from diary) (place - from) rest)) noted
+  pub all_entries : (k : ℕ) (old new : List ℕ) → length entries ≤ k → AreNoted order (is_noted_by nodes log (take k entries)) old new → AreNoted order (is_noted_by nodes log entries) old new
+  all_entries k old new most noted =
+      noted_by order (is_noted_by nodes log (take k entries)) (is_noted_by nodes log entries) old new
+      (λ s r at. ap (list_any (is_noted_at nodes log s)) (take_all entries k most)) noted

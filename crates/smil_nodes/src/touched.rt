@@ -36,9 +36,7 @@ pub fn note_touched(
     ensures { OnOk result (NotesEntries network.now.graph.now network.now.past.now from agenda.old
         agenda.new) }
 {
-    let book = network.past.book();
-    for place in from..book.len() {
-        let entry = book.entry(place).unwrap();
+    for entry in &network.past.book().entries()[from..] {
         note_step(alloc, network, entry.step, agenda)?;
     }
     Ok(())
