@@ -34,10 +34,8 @@ pub fn touch(
         ≡ Some e → any_shows past.now.document.nodes past.now.log (drop from past.now.diary)
         e.serial ≡ true → has touched.new e.serial ≡ true) }
 {
-    let book = past.book();
     let tree = past.tree();
-    for place in from..book.len() {
-        let entry = book.entry(place).unwrap();
+    for entry in &past.book().entries()[from..] {
         touch_step(tree, past.log(), entry.step, touched)?;
     }
     shorten(alloc, tree, touched)

@@ -7,9 +7,9 @@ use Rattle.smil_laws.specs.Seen.{any_shows}
 use Rattle.smil_cells.proofs.touched.touch.Given as goal
 
 -- an element in whose view an entry shows is there, or such an entry is left
-abbrev pub invariant-loop-place : goal.invariant-loop-place
-invariant-loop-place l = record {
+abbrev pub invariant-loop-entry : goal.invariant-loop-entry
+invariant-loop-entry l = record {
   more : (e : Node) → node_at (elements l.past.document.nodes) e.serial ≡ Some e → has l.initial.touched e.serial ≡ true → has l.touched e.serial ≡ true;
-  left : (e : Node) → node_at (elements l.past.document.nodes) e.serial ≡ Some e → any_shows l.past.document.nodes l.past.log (drop l.from l.past.diary) e.serial ≡ true
-      → (has l.touched e.serial ≡ true) ⊎ (any_shows l.past.document.nodes l.past.log (drop l.place l.past.diary) e.serial ≡ true);
+  left : (e : Node) → node_at (elements l.past.document.nodes) e.serial ≡ Some e → any_shows l.past.document.nodes l.past.log l.entry-items e.serial ≡ true
+      → (has l.touched e.serial ≡ true) ⊎ (any_shows l.past.document.nodes l.past.log (drop l.entry-index l.entry-items) e.serial ≡ true);
 }
