@@ -7,7 +7,9 @@ ghost use Rattle.smil_fill.specs.Numbers.{HasNumbersWithin, IsWithin, IsTimeWith
 
 use super::case::{Fault, Words, natural, number};
 use smil_fill::{ViewFacts, view};
-use smil_model::{Bytes, Fill, Interval, NAME_BYTES, Refusal, Shown, State, Time, View, Who};
+use smil_model::{
+    Bytes, CARRIED, Fill, Interval, NAME_BYTES, Refusal, Shown, State, Time, View, Who,
+};
 use smil_report::{How, put_change, put_closed, put_gone, put_history, put_ok, put_refusal};
 use std::alloc::Global;
 
@@ -70,7 +72,7 @@ fn fill(word: &str) -> Result<Fill, Fault> {
 fn is_within(number: i64) -> bool
     ensures { result ≡ true → IsWithin number }
 {
-    number.unsigned_abs() <= 10_000_000_000_000
+    number.unsigned_abs() <= CARRIED.unsigned_abs()
 }
 
 // Whether a time is such a number, or no number.
