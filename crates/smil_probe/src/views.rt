@@ -10,7 +10,10 @@ use smil_fill::{ViewFacts, view};
 use smil_model::{
     Bytes, CARRIED, Fill, Interval, NAME_BYTES, Refusal, Shown, State, Time, View, Who,
 };
-use smil_report::{How, put_change, put_closed, put_gone, put_history, put_ok, put_refusal};
+use smil_report::{
+    How, LAST_LINE_BYTES, REFUSAL_BYTES, put_change, put_closed, put_gone, put_history, put_ok,
+    put_refusal,
+};
 use std::alloc::Global;
 
 /// `view FACTS`: the line of the view at moment 0. FACTS are the fields of `ViewFacts` in order,
@@ -209,7 +212,7 @@ pub fn ok(words: &mut Words<'_>, out: &mut Bytes) -> Result<(), Fault> {
     if name.len() > NAME_BYTES {
         return Err(Fault::Refused);
     }
-    let mut buffer = [0; 80];
+    let mut buffer = [0; LAST_LINE_BYTES];
     let len = put_ok(&mut buffer, line, name.as_bytes(), now);
     out.append(&buffer[..len])?;
     Ok(())
@@ -222,7 +225,7 @@ pub fn closed(words: &mut Words<'_>, out: &mut Bytes) -> Result<(), Fault> {
     if name.len() > NAME_BYTES {
         return Err(Fault::Refused);
     }
-    let mut buffer = [0; 80];
+    let mut buffer = [0; LAST_LINE_BYTES];
     let len = put_closed(&mut buffer, line, name.as_bytes());
     out.append(&buffer[..len])?;
     Ok(())
@@ -233,7 +236,7 @@ pub fn closed(words: &mut Words<'_>, out: &mut Bytes) -> Result<(), Fault> {
 pub fn refused(words: &mut Words<'_>, out: &mut Bytes) -> Result<(), Fault> {
     let line = words.natural()?;
     let refusal = refusal(words.natural()?, words.natural()?)?;
-    let mut buffer = [0; 64];
+    let mut buffer = [0; REFUSAL_BYTES];
     let len = put_refusal(&mut buffer, line, &refusal);
     out.append(&buffer[..len])?;
     Ok(())
