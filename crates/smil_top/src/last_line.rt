@@ -6,24 +6,27 @@ ghost use Rattle.smil_model.specs.shown.Lines.{closed_line, ok_line, refusal_lin
 ghost use Rattle.smil_report.specs.Words.{checked_line};
 
 use smil_model::Refusal;
-use smil_report::{put_checked, put_closed, put_ok, put_refusal};
+use smil_report::{
+    LAST_LINE_BYTES, REFUSAL_BYTES, put_checked, put_closed, put_ok, put_refusal,
+};
 use std::marker::Model;
 
 /// A line for which no memory is taken, or none yet; seen as its bytes.
 #[derive(Drop)]
 pub(crate) struct LastLine {
-    buf: [u8; 80],
+    buf: [u8; LAST_LINE_BYTES],
     len: usize,
 }
 
 impl Model for LastLine {
     ghost use Rattle.std.specs.Prelude.{List, ℕ, take, ◌≤◌};
+    ghost use Rattle.smil_report.specs.declared.last_lines.TheConstants.{LAST_LINE_BYTES};
 
     ghost Value = { List ℕ };
 
     ghost view = { λ l. take l.len l.buf };
 
-    ghost invariant = { λ l. l.len ≤ 80 };
+    ghost invariant = { λ l. l.len ≤ LAST_LINE_BYTES };
 }
 
 impl LastLine {
@@ -32,7 +35,7 @@ impl LastLine {
         ensures { result ≡ [] }
     {
         LastLine {
-            buf: [0; 80],
+            buf: [0; LAST_LINE_BYTES],
             len: 0,
         }
     }
@@ -43,7 +46,7 @@ impl LastLine {
         requires { length name.now ≤ NAME_BYTES }
         ensures { result ≡ ok_line line name.now now }
     {
-        let mut buf = [0; 80];
+        let mut buf = [0; LAST_LINE_BYTES];
         let len = put_ok(&mut buf, line, name, now);
         LastLine { buf, len }
     }
@@ -53,7 +56,7 @@ impl LastLine {
         requires { length name.now ≤ NAME_BYTES }
         ensures { result ≡ closed_line line name.now }
     {
-        let mut buf = [0; 80];
+        let mut buf = [0; LAST_LINE_BYTES];
         let len = put_closed(&mut buf, line, name);
         LastLine { buf, len }
     }
@@ -63,7 +66,7 @@ impl LastLine {
         requires { length name.now ≤ NAME_BYTES }
         ensures { result ≡ checked_line line name.now }
     {
-        let mut buf = [0; 80];
+        let mut buf = [0; LAST_LINE_BYTES];
         let len = put_checked(&mut buf, line, name);
         LastLine { buf, len }
     }
@@ -72,9 +75,9 @@ impl LastLine {
     pub fn refused(line: u32, refusal: &Refusal) -> LastLine
         ensures { result ≡ refusal_line line refusal.now }
     {
-        let mut front = [0; 64];
+        let mut front = [0; REFUSAL_BYTES];
         let len = put_refusal(&mut front, line, refusal);
-        let mut buf = [0; 80];
+        let mut buf = [0; LAST_LINE_BYTES];
         buf[..len].copy_from_slice(&front[..len]);
         LastLine { buf, len }
     }
