@@ -20,13 +20,13 @@ pub(crate) struct LastLine {
 
 impl Model for LastLine {
     ghost use Rattle.std.specs.Prelude.{List, ℕ, take, ◌≤◌};
-    ghost use Rattle.smil_report.specs.declared.last_lines.TheConstants.{LAST_LINE_BYTES};
+    ghost use Rattle.smil_report.specs.declared.last_lines.TheConstants.{LAST_LINE_BYTES as the_most};
 
     ghost Value = { List ℕ };
 
     ghost view = { λ l. take l.len l.buf };
 
-    ghost invariant = { λ l. l.len ≤ LAST_LINE_BYTES };
+    ghost invariant = { λ l. l.len ≤ the_most };
 }
 
 impl LastLine {
