@@ -91,12 +91,7 @@ impl Past {
 
     /// What has happened to a document by a log and these entries of a diary, unless memory runs
     /// out.
-    pub fn of(
-        alloc: Global,
-        tree: Tree,
-        log: Log,
-        entries: &[Entry],
-    ) -> Result<Past, AllocError>
+    pub fn of(alloc: Global, tree: Tree, log: Log, entries: &[Entry]) -> Result<Past, AllocError>
         requires { IsPossible tree log entries.now }
         ensures { IfOk result (λ past. past
             ≡ record { document = tree; log = log; diary = entries.now; marked = None }) }
