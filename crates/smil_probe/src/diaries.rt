@@ -1,7 +1,6 @@
 //! Calls of smil_diary.
 
-use super::case::{Fault, Words, natural};
-use super::printed::{put_flag, put_maybe, put_number, put_word};
+use smil_cases::{Fault, Words, natural, put_flag, put_maybe, put_number, put_word};
 use smil_diary::{Book, BookFault};
 use smil_model::{Bytes, Duplicate, Entry, Step, StepKind};
 use std::alloc::{AllocError, Global};

@@ -1,7 +1,6 @@
 //! Calls of smil_due.
 
-use super::case::{Fault, Words};
-use super::printed::{put_flag, put_number, put_word};
+use smil_cases::{Fault, Words, put_flag, put_number, put_word};
 use smil_due::{DueQueue, comes_before, least_scan};
 use smil_model::{Bytes, Duplicate, Key};
 use std::alloc::{AllocError, Global};

@@ -1,8 +1,7 @@
 //! Calls of smil_duration. The attributes are those of a node line.
 
-use super::case::{Fault, Words};
-use super::printed::put_time;
 use super::texts::attributes;
+use smil_cases::{Fault, Words, put_time};
 use smil_duration::{active_end, intermediate, simple};
 use smil_model::{Bytes, Play};
 use std::alloc::Global;

@@ -5,11 +5,9 @@ ghost use Rattle.smil_model.specs.declared.document.Node.{Node as AnyNode};
 ghost use Rattle.smil_model.specs.document.Document.{node_at};
 ghost use Rattle.smil_model.specs.document.Valid.{kind_of};
 
-use super::case::Fault;
 use super::orders::is_known;
-use super::printed::{put_number, put_word};
-use super::texts::{node_fault, placed};
 use smil_attrs::{AttrFault, attr_name, read_attr, read_kind, read_node};
+use smil_cases::{Fault, put_node_fault, put_number, put_placed, put_word};
 use smil_model::{Bytes, Kind, Order, Who};
 use smil_tree::{Tree, TreeFault};
 use std::alloc::Global;
@@ -96,7 +94,7 @@ impl Editor {
         let line = line.slice();
         let kind = match read_kind(line) {
             Ok(kind) => kind,
-            Err(fault) => return node_fault(out, fault),
+            Err(fault) => return put_node_fault(out, fault),
         };
         if let Err(fault) = self.tree.may_insert(parent, place, kind) {
             return told(out, Err(fault));
@@ -106,7 +104,7 @@ impl Editor {
                 Ok(serial) => Ok(put_number(out, serial)?),
                 Err(fault) => told(out, Err(fault)),
             },
-            Err(fault) => node_fault(out, fault),
+            Err(fault) => put_node_fault(out, fault),
         }
     }
 }
@@ -155,8 +153,8 @@ fn attr_fault(out: &mut Bytes, fault: AttrFault) -> Result<(), Fault> {
     match fault {
         AttrFault::UnknownAttribute => Ok(put_word(out, "unknown-attribute")?),
         AttrFault::UnsupportedName => Ok(put_word(out, "unsupported")?),
-        AttrFault::UnsupportedValue { place } => placed(out, "unsupported", place),
-        AttrFault::BadValue { place } => placed(out, "bad-value", place),
+        AttrFault::UnsupportedValue { place } => Ok(put_placed(out, "unsupported", place)?),
+        AttrFault::BadValue { place } => Ok(put_placed(out, "bad-value", place)?),
         AttrFault::TooManyItems => Ok(put_word(out, "too-many-items")?),
         AttrFault::Memory => Err(Fault::Memory),
     }

@@ -1,7 +1,6 @@
 //! Calls of smil_endsync.
 
-use super::case::{Fault, Words};
-use super::printed::put_time;
+use smil_cases::{Fault, Words, put_time};
 use smil_endsync::{ChildEnd, implicit};
 use smil_model::{Bytes, Endsync, Kind};
 use std::alloc::Global;

@@ -2,8 +2,7 @@
 
 ghost use Rattle.std.specs.Prelude.{◌≡◌, ◌+◌, ◌≤◌, ◌<◌, length};
 
-use super::case::{Fault, Words, natural};
-use super::printed::{put_flag, put_maybe, put_word};
+use smil_cases::{Fault, Words, natural, put_flag, put_maybe, put_word};
 use smil_excl::{Queue, decide};
 use smil_model::{Act, Bytes, Class, Duplicate};
 use std::alloc::{AllocError, Global};

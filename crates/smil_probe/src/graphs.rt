@@ -2,9 +2,8 @@
 
 ghost use Rattle.smil_model.specs.document.Valid.{IsValid};
 
-use super::case::{Fault, Words};
 use super::outlines::document;
-use super::printed::{put, put_number, put_serials, put_word};
+use smil_cases::{Fault, Words, put, put_number, put_serials, put_word};
 use smil_graph::Graph;
 use smil_model::{Bytes, Doc, Duplicate, Edge, Items, Node, Serials};
 use std::alloc::{AllocError, Global};

@@ -3,7 +3,6 @@
 //! case has no reading, or where the call may not be made with its arguments.
 #![tactic(auto)]
 
-mod case;
 mod diaries;
 mod dues;
 mod durations;
@@ -15,7 +14,6 @@ mod moments;
 mod orders;
 mod outlines;
 mod plays;
-mod printed;
 mod rising;
 mod scripts;
 mod searches;
@@ -24,8 +22,7 @@ mod times;
 mod trees;
 mod views;
 
-use case::{Fault, Words};
-use printed::put;
+use smil_cases::{Fault, Words, end_line};
 use smil_model::Bytes;
 use std::alloc::{AllocError, Global};
 use std::io::{self, BufRead, BufReader, BufWriter, Write};
@@ -44,20 +41,8 @@ fn main(rt: HostRuntime) -> io::Result<()> {
 // The line that answers a case, with its line feed.
 fn respond(alloc: Global, line: &str) -> Result<Bytes, AllocError> {
     let mut out = Bytes::new(alloc);
-    match answer(alloc, &mut Words::of_line(line), &mut out) {
-        Ok(()) => {}
-        Err(Fault::Refused) => {
-            out.cut_back(0);
-            put(&mut out, "refused")?;
-        }
-        Err(Fault::Memory) => {
-            out.cut_back(0);
-            put(&mut out, "memory")?;
-        }
-    }
-    if out.slice().last() != Some(&b'\n') {
-        out.push(b'\n')?;
-    }
+    let outcome = answer(alloc, &mut Words::of_line(line), &mut out);
+    end_line(&mut out, outcome)?;
     Ok(out)
 }
 

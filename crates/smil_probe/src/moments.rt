@@ -2,7 +2,7 @@
 
 ghost use Rattle.smil_model.specs.Times.{IsMoment};
 
-use super::printed::{put_flag, put_number, put_time, put_word};
+use smil_cases::{put_flag, put_number, put_time, put_word};
 use smil_instances::Instances;
 use smil_model::{Bytes, Edge, Time};
 use smil_stretch::Clocks;

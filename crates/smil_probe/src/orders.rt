@@ -4,7 +4,7 @@ ghost use Rattle.std.specs.Prelude.{◌≡◌, true, IfOk, IfSome, IsSome};
 ghost use Rattle.smil_model.specs.document.Document.{node_at};
 ghost use Rattle.smil_model.specs.shown.Answers.{IsGiven};
 
-use super::case::Fault;
+use smil_cases::Fault;
 use smil_model::{Bytes, Order, TEXT_BYTES, Who, WordList};
 use smil_script::{Read, read_line};
 use smil_tree::Tree;

@@ -3,8 +3,7 @@
 ghost use Rattle.std.specs.Prelude.{IfOk};
 ghost use Rattle.smil_model.specs.document.Valid.{IsValid};
 
-use super::case::{Fault, Words};
-use super::printed::{put_fault, put_gap, put_number};
+use smil_cases::{Fault, Words, put_fault, put_gap, put_lines, put_number};
 use smil_model::{Bytes, Doc, Refusal};
 use smil_outline::{Builder, write_doc, write_doc_2};
 use std::alloc::{AllocError, Global};
@@ -61,12 +60,4 @@ pub fn put_saved(alloc: Global, out: &mut Bytes, doc: &Doc) -> Result<(), AllocE
     write_doc_2(doc, &mut text)?;
     put_gap(out)?;
     put_lines(out, &text)
-}
-
-// Lines, with `|` in the place of each line feed.
-fn put_lines(out: &mut Bytes, text: &Bytes) -> Result<(), AllocError> {
-    for byte in text.slice() {
-        out.push(if *byte == b'\n' { b'|' } else { *byte })?;
-    }
-    Ok(())
 }

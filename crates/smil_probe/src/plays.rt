@@ -6,11 +6,10 @@ ghost use Rattle.smil_model.specs.diary.Logs.{is_serial, may_happen};
 ghost use Rattle.smil_model.specs.document.Valid.{IsValid};
 ghost use Rattle.smil_model.specs.shown.Answers.{IsGiven};
 
-use super::case::{Fault, Words};
 use super::moments::{Present, put_clocks, put_instances};
 use super::orders::{lines_of, order_of, outline_and_orders};
 use super::outlines::document;
-use super::printed::{put_flag, put_gap, put_number};
+use smil_cases::{Fault, Words, put_bytes, put_flag, put_number};
 use smil_cells::PlainCells;
 use smil_diary::BookFault;
 use smil_instances::Instances;
@@ -182,7 +181,7 @@ fn tell_clocks(alloc: Global, out: &mut Bytes, cells: &PlainCells) -> Result<(),
     };
     put_clocks(&mut again, &anew, &whos)?;
     put_number(out, moment)?;
-    put_text(out, &shown)?;
+    put_bytes(out, &shown)?;
     put_flag(out, shown == again)?;
     Ok(())
 }
@@ -210,7 +209,7 @@ fn tell_times(alloc: Global, out: &mut Bytes, cells: &PlainCells) -> Result<(), 
     put_instances(&mut anew, &instances_anew(alloc, past)?, &present, &whos)?;
     let mut kept = Bytes::new(alloc);
     put_instances(&mut kept, past.instances(), &present, &whos)?;
-    put_text(out, &anew)?;
+    put_bytes(out, &anew)?;
     put_flag(out, anew == kept)?;
     Ok(())
 }
@@ -222,10 +221,4 @@ fn instances_anew(alloc: Global, past: &Past) -> Result<Instances, AllocError> {
     let mut instances = Instances::new(alloc, tree, past.graph())?;
     instances.rebuild(tree, past.log(), past.book())?;
     Ok(instances)
-}
-
-// Appends a text behind what stands there.
-fn put_text(out: &mut Bytes, text: &Bytes) -> Result<(), AllocError> {
-    put_gap(out)?;
-    out.append(text.slice())
 }

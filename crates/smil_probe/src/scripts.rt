@@ -1,7 +1,6 @@
 //! Calls of smil_script.
 
-use super::case::{Fault, Words};
-use super::printed::{put_fault, put_gap, put_number, put_word};
+use smil_cases::{Fault, Words, put_bytes, put_fault, put_number, put_word};
 use smil_model::{Bytes, Order, TEXT_BYTES, Who};
 use smil_script::{Read, ends_load, is_blank, opens_load, read_line};
 use std::alloc::{AllocError, Global};
@@ -44,12 +43,6 @@ fn put_read(out: &mut Bytes, read: &Read) -> Result<(), AllocError> {
 fn put_named(out: &mut Bytes, word: &str, bytes: &Bytes) -> Result<(), AllocError> {
     put_word(out, word)?;
     put_bytes(out, bytes)
-}
-
-// Bytes behind what stands there.
-fn put_bytes(out: &mut Bytes, bytes: &Bytes) -> Result<(), AllocError> {
-    put_gap(out)?;
-    out.append(bytes.slice())
 }
 
 // A word, and a node as `#SERIAL` or by its id.

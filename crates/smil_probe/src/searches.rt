@@ -3,9 +3,8 @@
 ghost use Rattle.std.specs.Prelude.{◌≡◌, ◌<◌};
 ghost use Rattle.smil_interval.specs.Rising.{IsRising, IsRisingTimes};
 
-use super::case::{Fault, Words, number, time};
-use super::printed::put_interval;
 use super::rising::{rises, times_rise};
+use smil_cases::{Fault, Words, number, put_interval, time};
 use smil_interval::{EndList, Facts, evaluate, first_interval, next_interval};
 use smil_model::{Bytes, Count, Interval, Play, Restart, Steps, Time};
 use std::alloc::Global;

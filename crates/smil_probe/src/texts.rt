@@ -1,8 +1,7 @@
 //! Calls of the readers and writers of clock values, lists and node lines.
 
-use super::case::{Fault, Words};
-use super::printed::{put_fault, put_gap, put_number, put_word};
 use smil_attrs::{NodeFault, read_kind, read_node, write_node};
+use smil_cases::{Fault, Words, put_gap, put_node_fault, put_number, put_placed, put_word};
 use smil_clock_value::{ClockFault, read_clock, write_clock};
 use smil_model::{Attrs, Bytes, Edge, HORIZON, Kind};
 use smil_time_list::{ListFault, read_list, write_list};
@@ -41,22 +40,15 @@ pub fn list(alloc: Global, words: &mut Words<'_>, out: &mut Bytes) -> Result<(),
     let seq_child = words.flag()?;
     match read_list(alloc, words.rest().as_bytes(), side, seq_child) {
         Ok(items) => Ok(write_list(&items, out)?),
-        Err(ListFault::Bad { place }) => placed(out, "bad-value", place),
-        Err(ListFault::Unsupported { place }) => placed(out, "unsupported", place),
+        Err(ListFault::Bad { place }) => Ok(put_placed(out, "bad-value", place)?),
+        Err(ListFault::Unsupported { place }) => Ok(put_placed(out, "unsupported", place)?),
         Err(ListFault::TooManyItems) => Ok(put_word(out, "too-many-items")?),
         Err(ListFault::Memory) => Err(Fault::Memory),
     }
 }
 
-/// A fault with its place.
-pub fn placed(out: &mut Bytes, word: &str, place: usize) -> Result<(), Fault> {
-    put_word(out, word)?;
-    put_number(out, place)?;
-    Ok(())
-}
-
-/// A kind by its word.
-pub fn kind(word: &str) -> Result<Kind, Fault> {
+// A kind by its word.
+fn kind(word: &str) -> Result<Kind, Fault> {
     read_kind(word.as_bytes()).ok().ok_or(Fault::Refused)
 }
 
@@ -69,22 +61,8 @@ pub fn node(alloc: Global, words: &mut Words<'_>, out: &mut Bytes) -> Result<(),
     };
     match read_node(alloc, parent, words.rest().as_bytes()) {
         Ok((kind, attrs)) => Ok(write_node(0, kind, &attrs, out)?),
-        Err(fault) => node_fault(out, fault),
+        Err(fault) => put_node_fault(out, fault),
     }
-}
-
-/// Why a node line has no reading.
-pub fn node_fault(out: &mut Bytes, fault: NodeFault) -> Result<(), Fault> {
-    let (word, column) = match fault {
-        NodeFault::BadOutline => ("bad-outline", None),
-        NodeFault::BadPlace => ("bad-place", None),
-        NodeFault::Unsupported { column } => ("unsupported", Some(column)),
-        NodeFault::UnknownAttribute { column } => ("unknown-attribute", Some(column)),
-        NodeFault::BadValue { column } => ("bad-value", Some(column)),
-        NodeFault::TooManyItems { column } => ("too-many-items", Some(column)),
-        NodeFault::Memory => return Err(Fault::Memory),
-    };
-    Ok(put_fault(out, word, column)?)
 }
 
 /// The attributes of a node line.

@@ -1,7 +1,6 @@
 //! Calls of smil_model: sums and the order of times.
 
-use super::case::{Fault, Words};
-use super::printed::put_time;
+use smil_cases::{Fault, Words, put_time};
 use smil_model::{Bytes, greatest, later, least};
 
 /// `later TIME BY`.

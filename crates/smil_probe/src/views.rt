@@ -5,7 +5,7 @@ ghost use Rattle.std.specs.Option.{ForSome};
 ghost use Rattle.smil_model.specs.declared.interval.Interval.{Interval as GivenInterval};
 ghost use Rattle.smil_fill.specs.Numbers.{HasNumbersWithin, IsWithin, IsTimeWithin};
 
-use super::case::{Fault, Words, natural, number};
+use smil_cases::{Fault, Words, natural, number};
 use smil_fill::{ViewFacts, view};
 use smil_model::{
     Bytes, CARRIED, Fill, Interval, NAME_BYTES, Refusal, Shown, State, Time, View, Who,

@@ -23,6 +23,12 @@ pub fn put_word(out: &mut Bytes, word: &str) -> Result<(), AllocError> {
     put(out, word)
 }
 
+/// Appends bytes behind what stands there.
+pub fn put_bytes(out: &mut Bytes, bytes: &Bytes) -> Result<(), AllocError> {
+    put_gap(out)?;
+    out.append(bytes.slice())
+}
+
 /// Appends a number behind what stands there.
 pub fn put_number<I: Integer>(out: &mut Bytes, number: I) -> Result<(), AllocError> {
     put_gap(out)?;
@@ -63,16 +69,7 @@ pub fn put_interval(out: &mut Bytes, interval: Option<Interval>) -> Result<(), A
     }
 }
 
-/// A word, and a column where there is one.
-pub fn put_fault(out: &mut Bytes, word: &str, column: Option<u32>) -> Result<(), AllocError> {
-    put_word(out, word)?;
-    match column {
-        Some(column) => put_number(out, column),
-        None => Ok(()),
-    }
-}
-
-/// Serials, one behind another.
+/// Appends serials, one behind another.
 pub fn put_serials(out: &mut Bytes, serials: &[u32]) -> Result<(), AllocError> {
     for serial in serials {
         put_number(out, *serial)?;

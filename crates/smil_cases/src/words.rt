@@ -1,31 +1,7 @@
 //! The words of a case, and the values that they give.
 
-use smil_model::{Interval, Refusal, Time};
-use std::alloc::AllocError;
-
-/// Why a case has no answer.
-#[derive(Clone, Copy, Debug, PartialEq, Eq)]
-pub enum Fault {
-    /// A word has no reading, or the call may not be made with its value.
-    Refused,
-    /// Memory ran out.
-    Memory,
-}
-
-impl From<AllocError> for Fault {
-    fn from(_: AllocError) -> Fault {
-        Fault::Memory
-    }
-}
-
-impl From<Refusal> for Fault {
-    fn from(refusal: Refusal) -> Fault {
-        match refusal {
-            Refusal::Memory => Fault::Memory,
-            _ => Fault::Refused,
-        }
-    }
-}
+use super::fault::Fault;
+use smil_model::{Interval, Time};
 
 /// Words that are separated by one character, taken one after another from the front.
 #[derive(Drop)]

@@ -1,0 +1,17 @@
+//! The cases that programs for tests read, a line each, and the lines that answer them.
+#![tactic(auto)]
+
+mod fault;
+mod faults;
+mod lines;
+mod printed;
+mod words;
+
+pub use fault::Fault;
+pub use faults::{put_fault, put_node_fault, put_placed};
+pub use lines::{end_line, put_lines};
+pub use printed::{
+    put, put_bytes, put_flag, put_gap, put_interval, put_maybe, put_number, put_serials, put_time,
+    put_word,
+};
+pub use words::{Words, natural, number, time};
