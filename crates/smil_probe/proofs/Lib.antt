@@ -1,4 +1,2 @@
-pub mod Fitted
 pub mod Lengths
-pub mod Played
 pub mod Rises

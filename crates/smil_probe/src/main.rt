@@ -6,20 +6,14 @@
 mod diaries;
 mod dues;
 mod durations;
-mod edits;
 mod ends;
 mod excls;
-mod graphs;
-mod moments;
-mod orders;
 mod outlines;
-mod plays;
 mod rising;
 mod scripts;
 mod searches;
 mod texts;
 mod times;
-mod trees;
 mod views;
 
 use smil_cases::{Fault, Words, end_line};
@@ -59,12 +53,9 @@ fn answer(alloc: Global, words: &mut Words<'_>, out: &mut Bytes) -> Result<(), F
         "intermediate" => durations::intermediate_of(alloc, words, out),
         "active-end" => durations::active_end_of(alloc, words, out),
         "outline" => outlines::outline(alloc, words, out),
-        "graph" => graphs::graph(alloc, words, out),
         "interval" => searches::interval(alloc, words, out),
         "endsync" => ends::implicit_by(alloc, words, out),
         "view" => views::viewed(words, out),
-        "tree" => trees::tree(alloc, words, out),
-        "play" => plays::play(alloc, words, out),
         word => answer_lists(alloc, word, words, out),
     }
 }

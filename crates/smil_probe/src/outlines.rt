@@ -1,11 +1,10 @@
 //! Calls of smil_outline.
 
-ghost use Rattle.std.specs.Prelude.{IfOk};
 ghost use Rattle.smil_model.specs.document.Valid.{IsValid};
 
-use smil_cases::{Fault, Words, put_fault, put_gap, put_lines, put_number};
+use smil_cases::{Fault, Words, put_fault, put_lines, put_number};
 use smil_model::{Bytes, Doc, Refusal};
-use smil_outline::{Builder, write_doc, write_doc_2};
+use smil_outline::{Builder, write_doc};
 use std::alloc::{AllocError, Global};
 
 /// `outline LINE|LINE|..`: the canonical outline, or the place of the first line that is refused,
@@ -25,18 +24,6 @@ pub fn outline(alloc: Global, words: &mut Words<'_>, out: &mut Bytes) -> Result<
     }
 }
 
-/// The document of an outline, with `|` between its lines.
-pub fn document(alloc: Global, text: &str) -> Result<Doc, Fault>
-    ensures { IfOk result IsValid }
-{
-    let mut builder = Builder::new(alloc)?;
-    for line in text.split('|') {
-        builder.push(line.as_bytes())?;
-    }
-    let doc = builder.finish()?;
-    Ok(doc)
-}
-
 // A refusal, with the number of its line.
 fn refused(out: &mut Bytes, line: u64, refusal: Refusal) -> Result<(), Fault> {
     put_number(out, line)?;
@@ -49,15 +36,5 @@ fn put_doc(alloc: Global, out: &mut Bytes, doc: &Doc) -> Result<(), AllocError>
 {
     let mut text = Bytes::new(alloc);
     write_doc(doc, &mut text)?;
-    put_lines(out, &text)
-}
-
-/// A document with its serials, with `|` behind each line.
-pub fn put_saved(alloc: Global, out: &mut Bytes, doc: &Doc) -> Result<(), AllocError>
-    requires { IsValid doc.now }
-{
-    let mut text = Bytes::new(alloc);
-    write_doc_2(doc, &mut text)?;
-    put_gap(out)?;
     put_lines(out, &text)
 }

@@ -1,5 +1,5 @@
-use Rattle.smil_probe.proofs.Fitted.{may_take_read}
-use Rattle.smil_probe.proofs.edits.Editor.set.Goals as goal
+use Rattle.smil_plays.proofs.Fitted.{may_take_read}
+use Rattle.smil_plays.proofs.edits.Editor.set.Goals as goal
 
 pub set-requires : goal.set-requires
 set-requires c =

@@ -1,5 +1,5 @@
-use Rattle.smil_probe.proofs.Fitted.{may_bear_read}
-use Rattle.smil_probe.proofs.edits.Editor.insert.Goals as goal
+use Rattle.smil_plays.proofs.Fitted.{may_bear_read}
+use Rattle.smil_plays.proofs.edits.Editor.insert.Goals as goal
 
 pub insert-requires : goal.insert-requires
 insert-requires c =

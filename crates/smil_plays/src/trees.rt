@@ -3,9 +3,9 @@
 ghost use Rattle.std.specs.Prelude.{IsSome};
 ghost use Rattle.smil_model.specs.document.Document.{node_at};
 
+use super::documents::{document, put_saved};
 use super::edits::Editor;
 use super::orders::{is_known, lines_of, order_of, outline_and_orders};
-use super::outlines::{document, put_saved};
 use smil_cases::{Fault, Words, put_maybe, put_number, put_serials, put_word};
 use smil_model::{Bytes, Duplicate, Fill, Restart, Who};
 use smil_tree::Tree;

@@ -1,7 +1,7 @@
 use Rattle.std.proofs.Common.{ap, ◌∙◌}
 use Rattle.smil_model.specs.document.Valid.{kind_of}
 use Rattle.smil_tree.proofs.ParentNodes.{parent_there}
-use Rattle.smil_probe.proofs.edits.parent_kind.Goals as goal
+use Rattle.smil_plays.proofs.edits.parent_kind.Goals as goal
 
 pub returns-in-Some : goal.returns-in-Some
 returns-in-Some c = λ n at.

@@ -1,5 +1,5 @@
-use Rattle.smil_probe.proofs.Played.{lawful_for}
-use Rattle.smil_probe.proofs.plays.instances_anew.Goals as goal
+use Rattle.smil_plays.proofs.Played.{lawful_for}
+use Rattle.smil_plays.proofs.plays.instances_anew.Goals as goal
 
 pub rebuild-requires-clause-lawful : goal.rebuild-requires-clause-lawful
 rebuild-requires-clause-lawful c = lawful_for c.args.past.now c.tree-tree.result.now c.book.result.now c.possible.ensures c.tree-tree.ensures c.book.ensures

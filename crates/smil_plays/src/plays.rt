@@ -6,9 +6,9 @@ ghost use Rattle.smil_model.specs.diary.Logs.{is_serial, may_happen};
 ghost use Rattle.smil_model.specs.document.Valid.{IsValid};
 ghost use Rattle.smil_model.specs.shown.Answers.{IsGiven};
 
+use super::documents::document;
 use super::moments::{Present, put_clocks, put_instances};
 use super::orders::{lines_of, order_of, outline_and_orders};
-use super::outlines::document;
 use smil_cases::{Fault, Words, put_bytes, put_flag, put_number};
 use smil_cells::PlainCells;
 use smil_diary::BookFault;

@@ -1,5 +1,5 @@
 use Rattle.std.proofs.Common.{◌≡◌, None}
-use Rattle.smil_probe.proofs.plays.played.Given as goal
+use Rattle.smil_plays.proofs.plays.played.Given as goal
 
 -- no refusal was answered
 abbrev pub invariant-loop-line : goal.invariant-loop-line

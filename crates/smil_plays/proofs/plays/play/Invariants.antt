@@ -1,4 +1,4 @@
-use Rattle.smil_probe.proofs.plays.play.Given as goal
+use Rattle.smil_plays.proofs.plays.play.Given as goal
 
 -- the ledger is the blank's
 abbrev pub ghosts-played : goal.ghosts-played

@@ -2,7 +2,7 @@
 
 ghost use Rattle.smil_model.specs.document.Valid.{IsValid};
 
-use super::outlines::document;
+use super::documents::document;
 use smil_cases::{Fault, Words, put, put_number, put_serials, put_word};
 use smil_graph::Graph;
 use smil_model::{Bytes, Doc, Duplicate, Edge, Items, Node, Serials};
