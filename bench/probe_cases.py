@@ -1,11 +1,12 @@
 #!/usr/bin/env python3
 """probe_cases.py --oracle DIR [--out FOLDER] [--seed S] [--cases N] [--files N] [--kind KIND..]
 
-Makes cases for smil_probe and what the reference model in DIR answers to them:
-FOLDER gets for each file of cases NAME, the input, and NAME.stdout, the text that
-is wanted. Without FOLDER the stored run is made: the files stdin and stdout of
-crates/smil_probe, with the cases of `FIXED` and some random ones of each kind.
-No value comes from the program. It prints how many cases there are of each kind."""
+Makes cases for smil_probe and smil_plays and what the reference model in DIR answers
+to them: FOLDER gets for each file of cases NAME, the input, and NAME.stdout, the text
+that is wanted. Without FOLDER the stored runs are made: the files stdin and stdout of
+crates/smil_probe and crates/smil_plays, with the cases of `fixed` and some random ones
+of each kind. No value comes from a program. It prints how many cases there are of each
+kind, or for each program."""
 import argparse
 import os
 import random
@@ -1180,6 +1181,8 @@ KINDS = {'times': times, 'texts': texts, 'outlines': outlines, 'durations': dura
          'excl': excls, 'keys': keys, 'diaries': diaries, 'graphs': graphs, 'views': views, 'lines': a_line, 'trees': trees, 'plays': plays}
 # cases of many lines, which another program reads (documents_compare.sh)
 LONG = {'documents': documents}
+# the words of cases that smil_plays answers; smil_probe answers all others
+PLAYED = ('graph', 'tree', 'play')
 
 
 # ------------------------------------------------------------ the stored cases
@@ -1361,16 +1364,21 @@ def write(folder, name, cases):
     return ''.join(wanted + '\n' for _, wanted in cases)
 
 
+def write_stored(program, cases):
+    folder = os.path.join(os.path.dirname(os.path.abspath(__file__)), '..', 'crates', program)
+    with open(os.path.join(folder, 'stdout'), 'w') as file:
+        file.write(write(folder, 'stdin', cases))
+    print('%s %d' % (program, len(cases)))
+
+
 def main():
     r = random.Random(ARGS.seed)
     if ARGS.out is None:
-        folder = os.path.join(os.path.dirname(os.path.abspath(__file__)), '..', 'crates', 'smil_probe')
         cases = list(fixed())
         for kind in KINDS:
             cases += [KINDS[kind](r) for _ in range(40)]
-        with open(os.path.join(folder, 'stdout'), 'w') as file:
-            file.write(write(folder, 'stdin', cases))
-        print('%d cases' % len(cases))
+        write_stored('smil_probe', [case for case in cases if case[0].split(' ')[0] not in PLAYED])
+        write_stored('smil_plays', [case for case in cases if case[0].split(' ')[0] in PLAYED])
         return
     os.makedirs(ARGS.out, exist_ok=True)
     for kind in ARGS.kind or KINDS:

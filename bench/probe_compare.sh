@@ -1,7 +1,8 @@
 #!/bin/sh
-# probe_compare.sh ORACLE [SEED] [CASES] [KIND..]: compares smil_probe with the reference model in the folder ORACLE on
-# random cases, CASES of each kind, ten thousand for each run of the program, and prints for each kind the cases, the runs
-# and the lines that differ; the first that differ are shown. The program is that which `rt run` builds, or PROBE.
+# probe_compare.sh ORACLE [SEED] [CASES] [KIND..]: compares smil_probe and smil_plays with the reference model in the folder
+# ORACLE on random cases, CASES of each kind, ten thousand for each run of a program, and prints for each kind the cases,
+# the runs and the lines that differ; the first that differ are shown. The programs are those which `rt run` builds, or
+# PROBE and PLAYS.
 set -eu
 here=$(cd "$(dirname "$0")/.." && pwd)
 oracle=$1
@@ -10,10 +11,20 @@ cases=${3:-10000}
 shift "$(($# < 3 ? $# : 3))"
 work=$(mktemp -d)
 trap 'rm -rf "$work"' EXIT
-program=${PROBE:-$here/crates/smil_probe/out/smil_probe}
-[ -n "${PROBE:-}" ] || (cd "$here/crates/smil_probe" && rt run < /dev/null > /dev/null 2>&1)
+probe=${PROBE:-}
+plays=${PLAYS:-}
+
+# built CRATE: builds the program of a crate, and prints where it is.
+built() {
+    (cd "$here/crates/$1" && rt run < /dev/null > /dev/null 2>&1) && echo "$here/crates/$1/out/$1"
+}
+
 kinds=${*:-times texts outlines durations intervals endsync excl keys diaries graphs views lines trees plays}
 for kind in $kinds; do
+    case $kind in
+    graphs | trees | plays) program=${plays:=$(built smil_plays)} ;;
+    *) program=${probe:=$(built smil_probe)} ;;
+    esac
     runs=0
     differ=0
     left=$cases
