@@ -3,7 +3,7 @@ pub mod Appending
 pub mod Cutting
 pub mod Finding
 pub mod Following
-pub mod Present
+pub mod Moments
 pub mod Told
 pub mod FactParts
 pub mod Keys

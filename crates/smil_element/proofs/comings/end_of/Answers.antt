@@ -8,7 +8,7 @@ use Rattle.smil_model.specs.happening.Keys.{ends}
 use Rattle.smil_instances.proofs.Sensitive.{serial_is}
 use Rattle.smil_past.specs.Past.{history_of}
 use Rattle.smil_element.proofs.Latest.{present_fits}
-use Rattle.smil_element.proofs.Present.{told_now}
+use Rattle.smil_element.proofs.Moments.{told_now}
 use Rattle.smil_element.proofs.Keys.{keyed, end_timed}
 use Rattle.smil_element.proofs.comings.end_of.Goals as goal
 

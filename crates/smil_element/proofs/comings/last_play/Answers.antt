@@ -1,5 +1,5 @@
 use Rattle.smil_past.specs.Past.{history_of}
-use Rattle.smil_element.proofs.Present.{reads}
+use Rattle.smil_element.proofs.Moments.{reads}
 use Rattle.smil_element.proofs.comings.last_play.Goals as goal
 
 pub returns-clause-iteration : goal.returns-clause-iteration

@@ -11,7 +11,7 @@ use Rattle.smil_model.specs.document.Defaults.{min_of, max_of}
 use Rattle.smil_past.specs.declared.plays.played.Played.{Played}
 use Rattle.smil_instances.proofs.Sensitive.{serial_is}
 use Rattle.smil_past.specs.Past.{history_of}
-use Rattle.smil_element.proofs.Present.{reads}
+use Rattle.smil_element.proofs.Moments.{reads}
 use Rattle.smil_element.proofs.FactParts.{facts_are, last_is}
 use Rattle.smil_element.proofs.Told.{tree_node, tree_restart}
 use Rattle.smil_element.proofs.facts.facts_of.Goals as goal

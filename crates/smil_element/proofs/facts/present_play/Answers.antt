@@ -7,7 +7,7 @@ use Rattle.smil_model.specs.diary.Clocks.{play_start, iteration_start}
 use Rattle.smil_past.specs.declared.plays.played.Played.{Played}
 use Rattle.smil_instances.proofs.Sensitive.{serial_is}
 use Rattle.smil_past.specs.Past.{history_of}
-use Rattle.smil_element.proofs.Present.{reads}
+use Rattle.smil_element.proofs.Moments.{reads}
 use Rattle.smil_element.proofs.FactParts.{play_idle, play_unbegun, play_begun}
 use Rattle.smil_element.proofs.facts.present_play.Goals as goal
 

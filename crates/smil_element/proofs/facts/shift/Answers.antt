@@ -3,7 +3,7 @@ use Rattle.std.proofs.lemmas.Int.{ints}
 use Rattle.smil_model.specs.diary.Clocks.{outer, run}
 use Rattle.smil_past.specs.Past.{history_of}
 use Rattle.smil_element.proofs.Latest.{present_fits}
-use Rattle.smil_element.proofs.Present.{shifted, told_now}
+use Rattle.smil_element.proofs.Moments.{shifted, told_now}
 use Rattle.smil_element.proofs.facts.shift.Goals as goal
 
 pub returns : goal.returns

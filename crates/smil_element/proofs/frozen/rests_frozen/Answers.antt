@@ -8,7 +8,7 @@ use Rattle.smil_past.specs.declared.plays.played.Played.{Played}
 use Rattle.smil_instances.proofs.Sensitive.{serial_is}
 use Rattle.smil_past.specs.Past.{history_of}
 use Rattle.smil_element.specs.Shown.{is_cut}
-use Rattle.smil_element.proofs.Present.{reads}
+use Rattle.smil_element.proofs.Moments.{reads}
 use Rattle.smil_element.proofs.Ancestors.{frozen_by_row}
 use Rattle.smil_element.proofs.frozen.rests_frozen.Goals as goal
 use Rattle.smil_element.proofs.frozen.rests_frozen.Goals.{then-is_some, else-is_some}

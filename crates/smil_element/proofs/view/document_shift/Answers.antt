@@ -3,7 +3,7 @@ use Rattle.std.proofs.lemmas.Int.{ints}
 use Rattle.smil_model.specs.diary.Clocks.{outer}
 use Rattle.smil_past.specs.Past.{history_of}
 use Rattle.smil_element.proofs.Latest.{present_fits}
-use Rattle.smil_element.proofs.Present.{told_now}
+use Rattle.smil_element.proofs.Moments.{told_now}
 use Rattle.smil_element.proofs.view.document_shift.Goals as goal
 
 pub returns-clause-value : goal.returns-clause-value

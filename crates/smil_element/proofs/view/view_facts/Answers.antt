@@ -14,7 +14,7 @@ use Rattle.smil_past.specs.declared.plays.played.Played.{Played}
 use Rattle.smil_instances.proofs.Sensitive.{serial_is}
 use Rattle.smil_past.specs.Past.{history_of}
 use Rattle.smil_element.specs.Shown.{minds}
-use Rattle.smil_element.proofs.Present.{reads}
+use Rattle.smil_element.proofs.Moments.{reads}
 use Rattle.smil_element.proofs.Views.{view_told, last_told, cut_told, interval_within}
 use Rattle.smil_element.proofs.Near.{begun_within, last_within, deferred_within}
 use Rattle.smil_element.proofs.view.view_facts.Goals as goal
