@@ -24,7 +24,7 @@ loop-at-preserved c =
       λ document log e are list.
           let kept = instances_of (history_of document log []) e side in
           let there : slice_get items i ≡ Some item =
-          ap (λ (xs : List Item). slice_get xs i) (sym c.slice-at-items.ensures) ∙ slice_get-get_or c.slice-at-items.result.now i item c.loop-at-test.true ∙ ap Some (sym c.loop-at-item.is) in
+          ap (λ (xs : List Item). slice_get xs i) (sym c.slice-item-items.ensures) ∙ slice_get-get_or c.slice-item-items.result.now i item c.loop-at-test.true ∙ ap Some (sym c.loop-at-item.is) in
           new
           ∙ ap (λ (r : Row). with_items r side (idle_kept c.idle_time-time.result ∷ [])) (c.loop-at.invariant.1 document log e are list)
           ∙ more_items c.args.row.now side (map kept (take i items)) _
@@ -35,6 +35,6 @@ loop-at-preserved c =
 
 pub returns : goal.returns
 returns c = λ document log e are list.
-    let many = ap (λ (xs : List Item). length xs) c.slice-at-items.ensures in
+    let many = ap (λ (xs : List Item). length xs) c.slice-item-items.ensures in
     c.loop-at.invariant.1 document log e are list
     ∙ ap (λ is. with_items c.args.row.now c.args.side (map (instances_of (history_of document log []) e c.args.side) is)) (take_all c.loop-at.at c.args.items.now (omega (arith, many, c.loop-at-test.false)))

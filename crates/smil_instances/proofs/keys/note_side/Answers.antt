@@ -16,11 +16,11 @@ loop-item-preserved c =
     let row = c.args.row in
     let side = c.args.side in
     let item = c.loop-item.item in
-    let all = c.sources-item-items.result.now in
+    let all = c.sources-source-items.result.now in
     let s = get_or all item source.Start in
     let r = c.index-rows-row.result in
     let read : slice_get (sources_of r side) item ≡ Some s =
-    ap (λ (ss : List Source). slice_get ss item) (sym c.sources-item-items.ensures) ∙ slice_get-get_or all item source.Start c.loop-item-test.true in
+    ap (λ (ss : List Source). slice_get ss item) (sym c.sources-source-items.ensures) ∙ slice_get-get_or all item source.Start c.loop-item-test.true in
     let is : s ≡ source_in rows (record { row = row; side = side; item = item }) =
     sym (ap source_or read) ∙ sym (ap (source_under (record { row = row; side = side; item = item })) (row_there rows row r c.index-rows-row.is c.requires)) in
     keys_then (first_keys rows row side item) (goes_to_key s (record { row = row; side = side; item = item })) (first_keys rows row side (item + 1))
@@ -29,7 +29,7 @@ loop-item-preserved c =
 
 pub returns : goal.returns
 returns c =
-    let same : length c.sources-item-items.result.now ≡ length (sources_of c.index-rows-row.result c.args.side) = ap length c.sources-item-items.ensures in
+    let same : length c.sources-source-items.result.now ≡ length (sources_of c.index-rows-row.result c.args.side) = ap length c.sources-source-items.ensures in
     let most : length (sources_of c.index-rows-row.result c.args.side) ≤ c.loop-item.item = omega (arith, same, c.loop-item-test.false) in
     keys_same (first_keys c.args.rows.now c.args.row c.args.side c.loop-item.item) (side_keys c.args.rows.now c.args.row c.args.side) c.args.keys.now.items c.loop-item.keys.items c.loop-item.invariant
     (all_of_side c.args.rows.now c.args.row c.args.side c.index-rows-row.result c.loop-item.item c.index-rows-row.is c.requires most)
