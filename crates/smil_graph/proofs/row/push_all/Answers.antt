@@ -4,6 +4,6 @@ use Rattle.std.proofs.lemmas.List.Folds.{list_any-append}
 use Rattle.smil_graph.specs.Links.{lists}
 use Rattle.smil_graph.proofs.row.push_all.Goals as goal
 
-pub returns-in_ok-append : goal.returns-in_ok-append
-returns-in_ok-append c = λ i.
+pub returns : goal.returns
+returns c = λ i.
     ap (λ r. lists r i) c.in_ok-append.ensures.ok ∙ list_any-append (λ j. i == j) c.args.row.now c.args.places.now
