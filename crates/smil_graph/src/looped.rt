@@ -62,7 +62,7 @@ fn push_marks(
     ensures { OnOk result (row.new ≡ row.old
         ++ map (λ item. is_on_level loops.now.levels.now place
         (places.named_by (λ id. get_by (λ k. bytes_eq id k.now) loops.now.ids.now) item))
-        (defaults.items_or [] (option_copied items))) }
+        (defaults.items_or [] (option_copied items.entry))) }
 {
     let Some(items) = items else {
         return Ok(());

@@ -6,4 +6,4 @@ use Rattle.smil_graph.specs.Places.{leads_to_place, source_of}
 use Rattle.smil_graph.proofs.feeders.push_heard.Given as goal
 
 abbrev pub invariant-loop-item : goal.invariant-loop-item
-invariant-loop-item l = (i : ℕ) → lists l.row i ≡ (lists l.fn.row i || leads_to_place (source_of (λ id. get_by (λ k. bytes_eq id k.now) l.ids) l.place) (take l.item-index l.items) i)
+invariant-loop-item l = (i : ℕ) → lists l.row i ≡ (lists l.fn.row i || leads_to_place (source_of (λ id. get_by (λ k. bytes_eq id k.now) l.ids) l.place) (take l.item-index l.item-items) i)

@@ -11,6 +11,7 @@ pub loop-item-preserved : goal.loop-item-preserved
 loop-item-preserved c =
     let i = c.loop-item.item-index in
     let item = c.item-item.result in
-    let at : slice_get c.in-Some.items i ≡ Some item = ap (λ xs. slice_get xs i) (sym c.slice-item-items.ensures) ∙ slice_get-get_or c.slice-item-items.result.now i item c.loop-item-test.true ∙ ap Some (sym c.item-item.is) in
+    let items = c.slice-item-items.result.now in
+    let at : slice_get items i ≡ Some item = slice_get-get_or items i item c.loop-item-test.true ∙ ap Some (sym c.item-item.is) in
     λ k.
-    leads_more (named_by (λ id. get_by (λ key. bytes_eq id key.now) c.args.ids.now)) c.in-Some.items i item c.named_by.result k (lists c.args.row.now k) (lists c.loop-item.row k) (lists c.push_one.new.row k) at c.named_by.ensures (c.loop-item.invariant k) (c.in_ok-push_one.ensures k)
+    leads_more (named_by (λ id. get_by (λ key. bytes_eq id key.now) c.args.ids.now)) items i item c.named_by.result k (lists c.args.row.now k) (lists c.loop-item.row k) (lists c.push_one.new.row k) at c.named_by.ensures (c.loop-item.invariant k) (c.in_ok-push_one.ensures k)

@@ -5,4 +5,4 @@ use Rattle.smil_graph.specs.Tables.{AreWithPlace}
 use Rattle.smil_graph.proofs.waiting.push_keys.Given as goal
 
 abbrev pub invariant-loop-item : goal.invariant-loop-item
-invariant-loop-item l = AreWithPlace (λ key. list_any (is_key_item key) (take l.item-index l.items)) l.place l.fn.rows.items l.rows.items
+invariant-loop-item l = AreWithPlace (λ key. list_any (is_key_item key) (take l.item-index l.item-items)) l.place l.fn.rows.items l.rows.items
