@@ -6,9 +6,7 @@ ghost use Rattle.smil_model.specs.shown.Lines.{closed_line, ok_line, refusal_lin
 ghost use Rattle.smil_report.specs.Words.{checked_line};
 
 use smil_model::Refusal;
-use smil_report::{
-    LAST_LINE_BYTES, REFUSAL_BYTES, put_checked, put_closed, put_ok, put_refusal,
-};
+use smil_report::{LAST_LINE_BYTES, REFUSAL_BYTES, put_checked, put_closed, put_ok, put_refusal};
 use std::marker::Model;
 
 /// A line for which no memory is taken, or none yet; seen as its bytes.
