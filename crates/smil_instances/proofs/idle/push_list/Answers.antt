@@ -18,13 +18,13 @@ loop-at-preserved c =
     let row = c.loop-at.row in
     let i = c.loop-at.at in
     let items = c.args.items.now in
-    let item = c.loop-at-item.result in
+    let item = c.item-item.result in
     let new = c.in_ok-push_item.ensures in (
       ap (λ (r : Row). length (side_of r side)) new ∙ items_grow row side _ ∙ ap (λ n. n + 1) c.loop-at.invariant.0,
       λ document log e are list.
           let kept = instances_of (history_of document log []) e side in
           let there : slice_get items i ≡ Some item =
-          ap (λ (xs : List Item). slice_get xs i) (sym c.slice-item-items.ensures) ∙ slice_get-get_or c.slice-item-items.result.now i item c.loop-at-test.true ∙ ap Some (sym c.loop-at-item.is) in
+          ap (λ (xs : List Item). slice_get xs i) (sym c.slice-item-items.ensures) ∙ slice_get-get_or c.slice-item-items.result.now i item c.loop-at-test.true ∙ ap Some (sym c.item-item.is) in
           new
           ∙ ap (λ (r : Row). with_items r side (idle_kept c.idle_time-time.result ∷ [])) (c.loop-at.invariant.1 document log e are list)
           ∙ more_items c.args.row.now side (map kept (take i items)) _

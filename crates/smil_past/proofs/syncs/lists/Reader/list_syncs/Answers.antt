@@ -12,9 +12,9 @@ loop-at-preserved c = λ e list.
     let nodes = c.args.self.now.graph.now.nodes in
     let items = c.args.items.now in
     let k = c.loop-at.at in
-    let item = c.loop-at-item.result in
+    let item = c.item-item.result in
     let there : slice_get items k ≡ Some item =
-    ap (λ (xs : List Item). slice_get xs k) (sym c.slice-item-items.ensures) ∙ slice_get-get_or c.slice-item-items.result.now k item c.loop-at-test.true ∙ ap Some (sym c.loop-at-item.is) in
+    ap (λ (xs : List Item). slice_get xs k) (sym c.slice-item-items.ensures) ∙ slice_get-get_or c.slice-item-items.result.now k item c.loop-at-test.true ∙ ap Some (sym c.item-item.is) in
     list_more nodes e.serial items k item c.loop-at.syncs.items c.push_some.new.syncs.items c.sync_by-sync.result there (c.loop-at.invariant e list)
     (c.sync_by-sync.ensures ∙ item_told nodes c.args.place c.args.who k c.args.side e items item c.args.self.now.dependents.now c.looped-looped.result c.source-source.result c.requires list there c.looped-looped.ensures c.source-source.ensures)
     c.in_ok-push_some.ensures
