@@ -1,7 +1,8 @@
 #!/usr/bin/env python3
-"""failing.py --oracle DIR --program PROGRAM [--jobs N] [--every N] SESSION..
+"""failing.py --oracle DIR --program PROGRAM [--jobs N] [--every N] [--random SEED] SESSION..
 
-Runs PROGRAM (with the word `run`) over the sessions, one behind another as one input, once for each call that takes
+Runs PROGRAM (with the word `run`) over the sessions, one behind another as one input, and with --random behind them over
+200 lines and more of orders of all kinds to up to three presentations at a time. It is run once for each call that takes
 memory, each read and each write, in which that call fails (failing.c, which cc compiles). Compared with the reference
 model in DIR:
 
@@ -12,7 +13,9 @@ model in DIR:
 
 and the exit number. --every N tries each Nth call that takes memory."""
 import argparse
+import functools
 import os
+import random
 import subprocess
 import sys
 import tempfile
@@ -28,12 +31,14 @@ def arguments():
     parser.add_argument('--program', required=True)
     parser.add_argument('--jobs', type=int, default=2)
     parser.add_argument('--every', type=int, default=1)
-    parser.add_argument('sessions', nargs='+')
+    parser.add_argument('--random')
+    parser.add_argument('sessions', nargs='*')
     return parser.parse_args()
 
 
 ARGS = arguments()
 sys.path.insert(0, ARGS.oracle)
+import diff  # noqa: E402
 import grammar  # noqa: E402
 import session  # noqa: E402
 
@@ -48,8 +53,17 @@ class Built(int):
 LIMITS = grammar.Limits(Built(20))
 
 
+def random_session(seed):
+    """Random orders, as the model's own generator makes them, with what was loaded closed behind each part."""
+    r, lines = random.Random(seed), []
+    while len(lines) < 200:
+        lines += diff.play(r, Built(20))[1] + [b'%%'] + [b'close ' + name for name in (b'a', b'b', b'c')]
+    return b'\n'.join(lines) + b'\n'
+
+
+@functools.lru_cache(maxsize=None)
 def answers(data):
-    """The text of the model, and whether an order is refused."""
+    """The text of the model, and whether an order is refused. Many calls fail in one order, so it is kept."""
     told = session.Session(LIMITS)
     told.run(session.cut_lines(data))
     return told.text(), told.refused
@@ -125,6 +139,8 @@ def whole_orders(data):
 
 def main():
     data = b''.join(open(name, 'rb').read() for name in ARGS.sessions)
+    if ARGS.random:
+        data += random_session(ARGS.random)
     faults = 0
     with tempfile.TemporaryDirectory() as folder, ThreadPoolExecutor(ARGS.jobs) as pool:
         machine = Machine(folder)
