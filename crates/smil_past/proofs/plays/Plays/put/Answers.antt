@@ -1,4 +1,4 @@
-use Rattle.std.proofs.Common.{sym, ◌∙◌, ap, subst, set, nat_eq}
+use Rattle.std.proofs.Common.{sym, ◌∙◌, ap, subst, set, nat_eq, arith}
 use Rattle.std.specs.HashMap.{get}
 use Rattle.smil_past.specs.Rows.{IsPut, row_of}
 use Rattle.smil_past.proofs.Rows.{first_below, first_indexed, keys_indexed, none_indexed, put_none, put_set}
@@ -12,8 +12,10 @@ returns-in_default c =
 
 pub index_mut-requires : goal.index_mut-requires
 index_mut-requires c =
-    first_below c.args.who c.self.inside.rows.items c.in-Some.place.now
-    (first_indexed c.args.who c.self.inside.rows.items (get nat_eq c.self.inside.places) c.self.invariant c.in-Some.place.now (sym c.in-Some.ensures.value))
+    let rows = c.self.inside.rows in
+    let place = c.in-Some.place.now in
+    let first = first_indexed c.args.who rows.items (get nat_eq c.self.inside.places) c.self.invariant place (sym c.in-Some.ensures.value) in
+    omega (arith, rows.ok.0, first_below c.args.who rows.items place first)
 
 pub invariant_of-self : goal.invariant_of-self
 invariant_of-self c =
