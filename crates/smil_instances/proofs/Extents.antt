@@ -70,7 +70,7 @@ same_rows (r ∷ rs) (o ∷ os) shape same =
 
 -- ---- one cell and another
 
-same_edge : (side other : Edge) → is_same_edge side other ≡ true → side ≡ other
+pub same_edge : (side other : Edge) → is_same_edge side other ≡ true → side ≡ other
 same_edge Begin Begin q = refl
 same_edge End End q = refl
 same_edge Begin End q = cc

@@ -21,7 +21,7 @@ use Rattle.smil_instances.specs.Keys.{is_for_key}
 use Rattle.smil_instances.specs.Spread.{AreSourcesOf, Takes, first_items, first_of_side, first_rows, fresh_row, fresh_rows, goes_to, goes_to_all, is_of_side, of_first_rows, of_row, of_side, one_if, side_items}
 use Rattle.smil_model.specs.document.Valid.{same_test}
 use Rattle.smil_instances.proofs.Growth.{sources_stay}
-use Rattle.smil_instances.proofs.Extents.{same_cell}
+use Rattle.smil_instances.proofs.Extents.{same_cell, same_edge}
 
 -- ---- one cell
 

@@ -4,4 +4,4 @@ use Rattle.smil_instances.proofs.sources.sources_of.Given as goal
 
 -- the sources of the first items
 abbrev pub invariant-loop-item : goal.invariant-loop-item
-invariant-loop-item l = l.sources.items ≡ map (source_of l.element.tree.nodes l.element.who) (take l.item-index l.fn.items)
+invariant-loop-item l = l.sources.items ≡ map (source_of l.element.tree.now.nodes l.element.who) (take l.item-index l.fn.items)
