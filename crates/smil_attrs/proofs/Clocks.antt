@@ -1,14 +1,13 @@
 -- Printed clock values are read again, as values of attributes.
-use Rattle.std.proofs.Common.{◌≡◌, ℕ, ◌<◌, ◌≤◌, Bool, true, false, not, eqb, List, [], ◌∷◌, ◌++◌, length, Some, None, option_map, refl, ap, arith, decimal}
+use Rattle.std.proofs.Common.{◌≡◌, ℕ, ◌<◌, ◌≤◌, true, false, eqb, List, [], ◌∷◌, ◌++◌, length, Some, refl, arith, decimal}
 use Rattle.std.specs.Prelude.{pos, codes, bytes_eq}
 use Rattle.std.specs.Char.{is_ascii_digit}
 use Rattle.std.proofs.lemmas.Bool.Decides.{nat_tests}
 use Rattle.std.proofs.lemmas.Fmt.{decimal_nonempty}
 use Rattle.smil_model.specs.declared.document.Dur.TheVariants as dur
 use Rattle.smil_model.specs.declared.times.Time.TheVariants as time
-use Rattle.smil_grammar.specs.Texts.{◌>>=◌, trim}
+use Rattle.smil_grammar.specs.Texts.{trim}
 use Rattle.smil_grammar.specs.Clock.{clock_text}
-use Rattle.smil_grammar.specs.Clock.{clock_within}
 use Rattle.smil_grammar.specs.Values.{above_zero, dur_of, time_of, repeat_dur_of}
 use Rattle.smil_lexis.proofs.Fronts.{Passes, passes_weaker, passes_on}
 use Rattle.smil_lexis.proofs.Decimals.{decimal_passes}

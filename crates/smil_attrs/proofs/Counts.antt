@@ -1,16 +1,15 @@
 -- Printed numbers of repetitions are read again.
-use Rattle.std.proofs.Common.{◌≡◌, ℕ, ◌+◌, ◌-◌, ◌*◌, ◌/◌, ◌%◌, ◌<◌, ◌≤◌, Bool, true, false, not, eqb, ltb, List, [], ◌∷◌, ◌++◌, length, Option, Some, None, option_map, refl, sym, ap, ◌∙◌, arith, decimal, append_assoc}
+use Rattle.std.proofs.Common.{◌≡◌, ℕ, ◌+◌, ◌-◌, ◌*◌, ◌/◌, ◌%◌, ◌<◌, ◌≤◌, true, false, not, eqb, ltb, List, [], ◌∷◌, ◌++◌, length, Option, Some, None, option_map, refl, sym, ap, arith, decimal}
 use Rattle.std.specs.Prelude.{codes, bytes_eq, IfSome}
 use Rattle.std.specs.Char.{is_ascii_digit}
-use Rattle.std.proofs.lemmas.Bool.{cond_both, le-ltb, ltb-false, eqb-true, eqb-false, eq-eqb, ne_eqb}
+use Rattle.std.proofs.lemmas.Bool.{cond_both, le-ltb, ltb-false, eqb-true}
 use Rattle.std.proofs.lemmas.Bool.Decides.{nat_tests}
 use Rattle.std.proofs.lemmas.Fmt.{decimal_nonempty, length-decimal-le}
 use Rattle.std.proofs.lemmas.List.{append-nil}
-use Rattle.smil_model.specs.declared.document.Count.{Count}
 use Rattle.smil_model.specs.declared.document.Count.TheVariants as count
 use Rattle.smil_grammar.specs.Texts.{◌>>=◌, cut_at, point, trim}
 use Rattle.smil_grammar.specs.Numbers.{number_after, number_of, weight, fraction_of, parts_of, with_fraction}
-use Rattle.smil_grammar.specs.Values.{above_zero, short_number_of, thousandths, count_of, either}
+use Rattle.smil_grammar.specs.Values.{above_zero, short_number_of, thousandths, count_of}
 use Rattle.smil_grammar.specs.Spellings.{decimals, count_text}
 use Rattle.smil_lexis.proofs.Fronts.{Passes, passes_weaker, passes_on, uncut, cut_front}
 use Rattle.smil_lexis.proofs.Decimals.{decimal_passes, number_of_decimal}

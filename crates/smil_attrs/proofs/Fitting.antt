@@ -1,6 +1,6 @@
 -- What a text can be read as: values that can be written.
-use Rattle.std.proofs.Common.{◌≡◌, ℕ, ◌≤◌, Bool, false, List, Option, Some, None, Result, Ok, Err, refl, subst, arith}
-use Rattle.std.specs.Prelude.{pos, codes, bytes_eq, IfOk, IfSome, IsTrue, All}
+use Rattle.std.proofs.Common.{◌≡◌, ℕ, Bool, false, List, Option, Some, None, Result, Ok, Err, refl, subst, arith}
+use Rattle.std.specs.Prelude.{pos, IfOk, IfSome, IsTrue, All}
 use Rattle.std.proofs.lemmas.Bool.{cond_both}
 use Rattle.std.proofs.lemmas.Int.{ints}
 use Rattle.std.proofs.lemmas.List.Elements.{All-weaker}
@@ -10,16 +10,14 @@ use Rattle.smil_model.specs.declared.document.Attr.TheVariants as attr
 use Rattle.smil_model.specs.declared.document.Attrs.{Attrs}
 use Rattle.smil_model.specs.declared.document.AttrName.{AttrName}
 use Rattle.smil_model.specs.declared.document.AttrName.TheVariants as name
-use Rattle.smil_model.specs.declared.document.Dur.TheVariants as dur
 use Rattle.smil_model.specs.declared.document.Item.{Item}
-use Rattle.smil_model.specs.declared.times.Time.TheVariants as time
 use Rattle.smil_grammar.specs.declared.fault.ListFault.{ListFault}
 use Rattle.smil_model.specs.Times.{IsMoment}
-use Rattle.smil_grammar.specs.Texts.{◌>>=◌, trim}
+use Rattle.smil_grammar.specs.Texts.{trim}
 use Rattle.smil_grammar.specs.Clock.{clock_within}
 use Rattle.smil_grammar.specs.Items.{IsItem}
 use Rattle.smil_grammar.specs.Lists.{list_of}
-use Rattle.smil_grammar.specs.Values.{above_zero, dur_of, time_of, repeat_dur_of, is_other_value, plain_value_of, value_of}
+use Rattle.smil_grammar.specs.Values.{dur_of, time_of, repeat_dur_of, is_other_value, plain_value_of, value_of}
 use Rattle.smil_grammar.specs.Spellings.{CanWrite, attr_at}
 use Rattle.smil_grammar.specs.Attributes.{has}
 use Rattle.smil_grammar.specs.Allowed.{name_of, IsAttr, IsAttrs}

@@ -1,5 +1,5 @@
 -- A printed line is read as the same kind and attributes.
-use Rattle.std.proofs.Common.{◌≡◌, ℕ, ◌+◌, ◌<◌, Bool, true, false, cond, List, [], ◌∷◌, ◌++◌, length, Option, Some, None, option_map, Result, Ok, Err, refl, sym, ap, subst, ◌∙◌}
+use Rattle.std.proofs.Common.{◌≡◌, ℕ, ◌+◌, ◌<◌, Bool, true, false, List, [], ◌∷◌, length, Option, Some, None, option_map, Result, Ok, Err, refl, sym, ap, subst, ◌∙◌}
 use Rattle.std.specs.Prelude.{pos, decimal, IfOk, IfSome, IsTrue}
 use Rattle.std.proofs.lemmas.Bool.{cond_both}
 use Rattle.smil_model.specs.declared.document.Kind.{Kind}
@@ -8,14 +8,12 @@ use Rattle.smil_model.specs.declared.document.Attr.TheVariants as attr
 use Rattle.smil_model.specs.declared.document.Attrs.{Attrs}
 use Rattle.smil_model.specs.declared.document.AttrName.{AttrName}
 use Rattle.smil_model.specs.declared.document.AttrName.TheVariants as name
-use Rattle.smil_model.specs.declared.document.Item.{Item}
 use Rattle.smil_model.specs.document.Edits.{with_attr, no_attrs}
 use Rattle.smil_model.specs.document.Values.{is_seq_parent}
 use Rattle.smil_model.specs.document.Valid.{may_stand}
 use Rattle.smil_grammar.specs.declared.fault.AttrFault.{AttrFault}
 use Rattle.smil_grammar.specs.declared.fault.AttrFault.TheVariants as fault
 use Rattle.smil_grammar.specs.declared.fault.NodeFault.{NodeFault}
-use Rattle.smil_grammar.specs.declared.fault.ListFault.{ListFault}
 use Rattle.smil_grammar.specs.Texts.{trim}
 use Rattle.smil_grammar.specs.Results.{◌>>=◌}
 use Rattle.smil_grammar.specs.Attributes.{kind_text, name_text, name_called, name_or, attr_name_of, has, names}

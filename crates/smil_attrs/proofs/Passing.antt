@@ -1,12 +1,12 @@
 -- Attributes of a line one by one.
-use Rattle.std.proofs.Common.{◌≡◌, ℕ, ◌+◌, ◌<◌, Bool, true, false, cond, eqb, ltb, ◌&&◌, List, [], ◌∷◌, length, Option, Some, None, refl, sym, ap, subst, ◌∙◌, arith, inl, inr}
-use Rattle.std.specs.Prelude.{MatchOption, option_map}
+use Rattle.std.proofs.Common.{◌≡◌, ℕ, ◌+◌, ◌<◌, Bool, true, false, cond, eqb, ltb, ◌&&◌, List, [], ◌∷◌, length, Option, Some, None, refl, subst, ◌∙◌, arith, inl, inr}
+use Rattle.std.specs.Prelude.{MatchOption}
 use Rattle.std.specs.List.{list_all, position_or_len}
 use Rattle.std.proofs.lemmas.Bool.{cases_lt, le-ltb}
 use Rattle.std.proofs.lemmas.Bool.Decides.{nat_tests}
 use Rattle.smil_grammar.specs.Texts.{cut_at}
 use Rattle.smil_grammar.specs.Nodes.{Written, is_space, attribute_at, attributes_at, pieces_of, with_written}
-use Rattle.smil_lexis.proofs.Pieces.{pieces, cut_pieces}
+use Rattle.smil_lexis.proofs.Pieces.{cut_pieces}
 
 -- what is left where no attribute stands
 abbrev pub ended : List ℕ → Option (List Written)

@@ -1,8 +1,8 @@
 -- The shape of a printed line: its kind, and each attribute that is there.
-use Rattle.std.proofs.Common.{◌≡◌, ℕ, ◌+◌, ◌-◌, ◌<◌, Bool, true, false, not, eqb, ltb, ◌&&◌, ◌||◌, List, [], ◌∷◌, ◌++◌, length, take, drop, flat_map, Option, Some, None, option_map, refl, sym, ap, subst, ◌∙◌, arith, append_assoc}
+use Rattle.std.proofs.Common.{◌≡◌, ℕ, ◌+◌, ◌<◌, Bool, true, false, not, eqb, ltb, ◌&&◌, List, [], ◌∷◌, ◌++◌, length, take, drop, flat_map, Option, Some, None, refl, ap, ◌∙◌, arith, append_assoc}
 use Rattle.std.specs.Prelude.{codes, decimal, bytes_eq, option_and_then, IfSome}
 use Rattle.std.specs.Char.{is_ascii_digit}
-use Rattle.std.specs.List.{AllByRecursion, prefix_len, slice_split, list_all, list_any}
+use Rattle.std.specs.List.{AllByRecursion, prefix_len, list_any}
 use Rattle.std.specs.Str.{is_utf8, chars}
 use Rattle.std.proofs.lemmas.Bool.{and_parts, or_parts, not-true}
 use Rattle.std.proofs.lemmas.List.{take_at, drop_at}
@@ -11,17 +11,16 @@ use Rattle.std.proofs.lemmas.List.Splits.{slice_split_at}
 use lib.Utf8.{encode}
 use Rattle.smil_model.specs.declared.document.Kind.{Kind}
 use Rattle.smil_model.specs.declared.document.Kind.TheVariants as kind
-use Rattle.smil_model.specs.declared.document.Attrs.{Attrs}
 use Rattle.smil_model.specs.declared.document.AttrName.{AttrName}
 use Rattle.smil_model.specs.declared.document.AttrName.TheVariants as name
 use Rattle.smil_grammar.specs.Texts.{space, quote, behind}
 use Rattle.smil_grammar.specs.Attributes.{kind_text, kind_called, name_text, names}
-use Rattle.smil_grammar.specs.Nodes.{Written, Shape, is_space, is_of_kind, is_named, attribute_at, attributes_at, with_written, pieces_of, shaped, shape_of, shape_behind, saved_shape_of, repeats}
+use Rattle.smil_grammar.specs.Nodes.{Written, is_of_kind, attribute_at, attributes_at, pieces_of, shape_of, shape_behind, saved_shape_of, repeats}
 use Rattle.smil_grammar.specs.Items.{count_of}
 use Rattle.smil_lexis.proofs.Decimals.{decimal_passes}
 use Rattle.smil_time_list.proofs.Spelled.{count_read}
-use Rattle.smil_grammar.specs.Spellings.{value_text, attribute_text, node_text}
-use Rattle.smil_lexis.proofs.Fronts.{Passes, tested, passes_front, passes_weaker}
+use Rattle.smil_grammar.specs.Spellings.{attribute_text}
+use Rattle.smil_lexis.proofs.Fronts.{Passes, tested, passes_front}
 use Rattle.smil_attrs.proofs.ValueBytes.{is_unquoted, Unquoted}
 
 -- what stands before the opening quote

@@ -1,5 +1,5 @@
 -- What holds of all that a text can be read as, part by part.
-use Rattle.std.proofs.Common.{◌≡◌, ℕ, ◌≤◌, Bool, true, false, cond, eqb, ltb, Option, Some, None, option_map, List, Result, Ok, Err, refl}
+use Rattle.std.proofs.Common.{◌≡◌, ℕ, ◌≤◌, Bool, cond, eqb, Option, Some, None, option_map, List, Result, Ok, Err, refl}
 use Rattle.std.specs.Prelude.{ℤ, pos, IfOk, IfSome}
 use Rattle.std.proofs.lemmas.Bool.{cond_both}
 use Rattle.smil_model.specs.declared.document.Attr.{Attr}

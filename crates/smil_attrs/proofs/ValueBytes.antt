@@ -1,8 +1,7 @@
 -- Each byte of a printed value is one of a text that is kept: neither a quote nor a control character.
-use Rattle.std.proofs.Common.{◌≡◌, ℕ, ◌+◌, ◌/◌, ◌%◌, ◌<◌, ◌≤◌, Bool, true, false, not, eqb, ◌||◌, ◌&&◌, List, [], ◌∷◌, ◌++◌, length, Option, Some, None, option_map, Result, Ok, Err, refl, subst, arith, decimal, append_assoc}
-use Rattle.std.specs.Prelude.{ℤ, pos, negsuc, zero, suc, codes, bytes_eq, IfOk, IfSome, All}
+use Rattle.std.proofs.Common.{◌≡◌, ℕ, ◌+◌, ◌/◌, ◌%◌, ◌<◌, ◌≤◌, Bool, true, false, not, eqb, ◌&&◌, List, [], ◌∷◌, Option, Some, None, Result, Ok, Err, refl, subst, arith, decimal}
+use Rattle.std.specs.Prelude.{pos, codes, IfOk, IfSome, All}
 use Rattle.std.specs.List.{list_all, AllByRecursion}
-use Rattle.std.specs.Char.{is_ascii_digit}
 use Rattle.std.specs.Str.{is_utf8}
 use Rattle.std.proofs.lemmas.Bool.{cond_both, and_parts}
 use Rattle.std.proofs.lemmas.Bool.Decides.{nat_tests}
@@ -12,7 +11,6 @@ use Rattle.smil_model.specs.declared.document.Attr.TheVariants as attr
 use Rattle.smil_model.specs.declared.document.AttrName.{AttrName}
 use Rattle.smil_model.specs.declared.document.AttrName.TheVariants as name
 use Rattle.smil_model.specs.declared.document.Dur.{Dur}
-use Rattle.smil_model.specs.declared.document.Dur.TheVariants as dur
 use Rattle.smil_model.specs.declared.document.Count.{Count}
 use Rattle.smil_model.specs.declared.document.Count.TheVariants as count
 use Rattle.smil_model.specs.declared.document.Restart.{Restart}
@@ -24,23 +22,20 @@ use Rattle.smil_model.specs.declared.document.RestartDefault.TheVariants as rest
 use Rattle.smil_model.specs.declared.document.FillDefault.{FillDefault}
 use Rattle.smil_model.specs.declared.document.FillDefault.TheVariants as fill_default
 use Rattle.smil_model.specs.declared.document.Endsync.{Endsync}
-use Rattle.smil_model.specs.declared.document.Endsync.TheVariants as endsync
 use Rattle.smil_model.specs.declared.document.Act.{Act}
 use Rattle.smil_model.specs.declared.document.Act.TheVariants as act
 use Rattle.smil_model.specs.declared.document.Item.{Item}
 use Rattle.smil_model.specs.declared.times.Time.{Time}
-use Rattle.smil_model.specs.declared.times.Time.TheVariants as time
 use Rattle.smil_grammar.specs.declared.fault.AttrFault.{AttrFault}
 use Rattle.smil_grammar.specs.declared.fault.ListFault.{ListFault}
-use Rattle.smil_grammar.specs.Texts.{◌>>=◌, trim, quote}
+use Rattle.smil_grammar.specs.Texts.{trim, quote}
 use Rattle.smil_model.specs.document.Words.{is_of_attribute}
 use Rattle.smil_grammar.specs.Words.{is_of_id}
 use Rattle.smil_grammar.specs.Clock.{clock_text}
-use Rattle.smil_grammar.specs.Numbers.{with_fraction}
 use Rattle.smil_grammar.specs.Clock.{clock_within}
 use Rattle.smil_grammar.specs.Items.{IsItem}
-use Rattle.smil_grammar.specs.Lists.{list_of, IsList}
-use Rattle.smil_grammar.specs.Values.{either, above_zero, short_number_of, thousandths, id_of, attribute_name_of, restart_default_of, fill_default_of, is_kept, kept_of, dur_of, time_of, repeat_dur_of, count_of, restart_of, fill_of, endsync_of, peers_of, higher_of, lower_of, is_other_value, plain_value_of, value_of}
+use Rattle.smil_grammar.specs.Lists.{list_of}
+use Rattle.smil_grammar.specs.Values.{id_of, attribute_name_of, restart_default_of, fill_default_of, is_kept, kept_of, dur_of, time_of, repeat_dur_of, count_of, restart_of, fill_of, endsync_of, peers_of, higher_of, lower_of, is_other_value, plain_value_of, value_of}
 use Rattle.smil_grammar.specs.Spellings.{item_text, list_text, attr_text, dur_text, time_text, decimals, count_text, endsync_text, act_text}
 use Rattle.smil_grammar.specs.Allowed.{name_of, IsAttr}
 use Rattle.smil_lexis.proofs.Fronts.{Passes, tested, passes_weaker, passes_on}

@@ -1,13 +1,13 @@
 -- Ids, names of attributes and kept texts are read again, as values of attributes.
-use Rattle.std.proofs.Common.{◌≡◌, ℕ, ◌+◌, ◌<◌, ◌≤◌, Bool, true, false, not, eqb, ltb, ◌&&◌, List, [], ◌∷◌, length, take, Some, None, refl, sym, ap, subst, ◌∙◌, arith}
-use Rattle.std.specs.Prelude.{IfSome, ◌||◌, nat_le, ◌==◌}
+use Rattle.std.proofs.Common.{◌≡◌, ℕ, ◌+◌, Bool, true, false, not, eqb, ltb, ◌&&◌, List, [], ◌∷◌, length, take, Some, None, refl, subst, arith}
+use Rattle.std.specs.Prelude.{IfSome}
 use Rattle.std.specs.List.{prefix_len, list_all}
 use Rattle.std.proofs.lemmas.Bool.{cond_both, and_parts, eqb-true}
 use Rattle.std.proofs.lemmas.Bool.Decides.{nat_tests}
 use Rattle.std.proofs.lemmas.List.{take_all}
-use Rattle.smil_grammar.specs.Texts.{trim, is_white}
+use Rattle.smil_grammar.specs.Texts.{trim}
 use Rattle.smil_model.specs.declared.limits.TheConstants.{ID_BYTES}
-use Rattle.smil_grammar.specs.Words.{is_initial, is_of_id, is_of_name, word_len, short_len, id_len}
+use Rattle.smil_grammar.specs.Words.{is_initial, is_of_id, short_len, id_len}
 use Rattle.smil_model.specs.document.Words.{is_word, is_of_attribute, is_attribute_name}
 use Rattle.smil_grammar.specs.Values.{id_of, kept_of, attribute_name_of}
 use Rattle.smil_lexis.proofs.Fronts.{Passes, tested, passes_weaker}
