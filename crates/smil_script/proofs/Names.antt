@@ -1,14 +1,14 @@
 -- Names of events are those that an order may name.
-use Rattle.std.proofs.Common.{◌≡◌, ℕ, ◌+◌, ◌<◌, ◌≤◌, Bool, true, false, cond, not, eqb, leb, ltb, ◌&&◌, ◌||◌, List, [], ◌∷◌, length, take, Option, Some, None, is_some, Result, Ok, Err, refl, sym, subst, arith}
+use Rattle.std.proofs.Common.{◌≡◌, ℕ, ◌<◌, Bool, true, false, cond, not, eqb, leb, ◌&&◌, ◌||◌, List, [], ◌∷◌, length, take, Some, None, is_some, Result, Ok, Err, refl, subst, arith}
 use Rattle.std.specs.Prelude.{bytes_eq, codes, IfOk}
-use Rattle.std.specs.List.{list_all, list_any}
+use Rattle.std.specs.List.{list_any}
 use Rattle.std.proofs.lemmas.Bool.{le-leb, eqb-true}
 use Rattle.std.proofs.lemmas.List.{take_all}
 use Rattle.smil_model.specs.declared.order.Refusal.{Refusal}
 use Rattle.smil_model.specs.document.Words.{is_word, is_list_word, is_event_name, is_raised_name}
-use Rattle.smil_grammar.specs.Words.{is_initial, is_of_name, name_len}
+use Rattle.smil_grammar.specs.Words.{is_of_name, name_len}
 use Rattle.smil_grammar.specs.Scripts.{event_of}
-use Rattle.smil_lexis.proofs.Fronts.{Passes, tests_pass}
+use Rattle.smil_lexis.proofs.Fronts.{tests_pass}
 use Rattle.smil_lexis.proofs.Words.{IsWord, name_word, word_short}
 use Rattle.smil_script.specs.Gives.{other_names}
 

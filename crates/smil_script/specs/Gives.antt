@@ -1,13 +1,12 @@
 -- What reading a line gives.
 use Rattle.std.specs.Prelude.{◌≡◌, ℕ, ℤ, List, [], ◌∷◌, Option, Some, None, Result, Ok, Err, codes}
-use Rattle.smil_model.specs.declared.order.Order.{Order}
 use Rattle.smil_model.specs.declared.order.Refusal.{Refusal}
 use Rattle.smil_model.specs.declared.order.Refusal.TheVariants as refusal
 use Rattle.smil_model.specs.shown.Answers.{IsGiven}
 use Rattle.smil_model.specs.declared.order.Who.{Who}
 use Rattle.smil_grammar.specs.Scripts.{Word, first_of, who_of}
 use Rattle.smil_grammar.specs.declared.read.Read.{Read}
-use Rattle.smil_grammar.specs.declared.read.Read.TheVariants.{Blank, Load, Close, To}
+use Rattle.smil_grammar.specs.declared.read.Read.TheVariants.{To}
 
 -- the order of a line, where it has one, is one that a presentation may be given
 abbrev pub HoldsGiven : Read → Type 0
