@@ -1,6 +1,5 @@
 -- A diary with one entry more.
-use Rattle.std.proofs.Common.{◌≡◌, sym, ◌∙◌, ap, subst, ℕ, ◌+◌, ◌-◌, ◌≤◌, List, [], ◌∷◌, ◌++◌, take, length, Option, Some, Bool, true, arith}
-use Rattle.std.specs.Prelude.{is_some}
+use Rattle.std.proofs.Common.{◌≡◌, sym, ◌∙◌, ap, subst, ℕ, ◌+◌, ◌-◌, ◌≤◌, List, [], ◌∷◌, ◌++◌, take, length, arith}
 use Rattle.std.proofs.Math.Seq.{take-length}
 use Rattle.std.proofs.lemmas.List.{take-append-le, length_push}
 use Rattle.smil_model.specs.declared.limits.TheConstants.{DIARY_ENTRIES}
@@ -9,8 +8,8 @@ use Rattle.smil_model.specs.declared.diary.LogEntry.{LogEntry}
 use Rattle.smil_model.specs.document.Document.{Document}
 use Rattle.smil_model.specs.diary.Diary.{with_entry}
 use Rattle.smil_model.specs.diary.Lawful.{IsLawful}
-use Rattle.smil_laws.specs.Near.{AllNear, HasNear}
-use Rattle.smil_laws.specs.Cut.{IsNamedBelow, NamesBelow}
+use Rattle.smil_laws.specs.Near.{HasNear}
+use Rattle.smil_laws.specs.Cut.{IsNamedBelow}
 use Rattle.smil_laws.proofs.Lists.{each_push}
 use Rattle.smil_stretch.specs.Clocks.{AreClocksOf}
 use Rattle.smil_past.specs.Played.{all_played}
@@ -18,7 +17,7 @@ use Rattle.smil_past.specs.Queues.{kept_queues}
 use Rattle.smil_instances.specs.Instances.{IsSettled}
 use Rattle.smil_instances.specs.Intake.{history_of}
 use Rattle.smil_past.specs.declared.readings.Readings.{Readings}
-use Rattle.smil_past.specs.Past.{Happened, IsPossible, MayFollow}
+use Rattle.smil_past.specs.Past.{IsPossible}
 use Rattle.smil_past.specs.Readings.{Holds, AreReadingsOf, IsLast}
 
 -- ---- lists

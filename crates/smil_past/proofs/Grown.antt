@@ -1,5 +1,5 @@
 -- A log of which the diary does not name the last entries.
-use Rattle.std.proofs.Common.{◌≡◌, refl, sym, ◌∙◌, ap, subst, ℕ, suc, zero, ◌+◌, List, [], ◌∷◌, ◌++◌, take, length, length-append, Option, Some, None, arith}
+use Rattle.std.proofs.Common.{◌≡◌, refl, sym, ◌∙◌, ap, subst, ℕ, suc, zero, ◌+◌, List, [], ◌∷◌, ◌++◌, take, length, length-append, Option, None, arith}
 use Rattle.std.specs.Prelude.{All, fold, map, unwrap_or}
 use Rattle.std.proofs.Math.Seq.{take-length}
 use Rattle.std.proofs.lemmas.List.{take-append-le}
@@ -21,7 +21,6 @@ use Rattle.smil_laws.proofs.Longer.{get_longer}
 use Rattle.smil_laws.proofs.Cutting.{names_weaker}
 use Rattle.smil_past.specs.declared.plays.played.Played.{Played}
 use Rattle.smil_past.specs.Played.{played, all_played}
-use Rattle.smil_instance_rows.specs.Rows.{Row}
 use Rattle.smil_instances.specs.Laws.{IsSameHeard}
 use Rattle.smil_instances.specs.SettledTimes.{instances_of, row_of, settled_rows}
 use Rattle.smil_instances.proofs.Logs.{kept_grown}

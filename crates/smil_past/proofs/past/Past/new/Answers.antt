@@ -1,4 +1,4 @@
-use Rattle.std.proofs.Common.{ap, [], None}
+use Rattle.std.proofs.Common.{ap, []}
 use Rattle.std.proofs.lemmas.Result.{IfOk-at_ok}
 use Rattle.smil_past.specs.Past.{unmarked}
 use Rattle.smil_past.specs.Chronicle.{TellsNothing}

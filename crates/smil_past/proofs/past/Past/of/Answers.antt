@@ -1,4 +1,4 @@
-use Rattle.std.proofs.Common.{◌≡◌, sym, ◌∙◌, ap, subst, List, None, take, ◌∷◌, ◌++◌, [], get_or}
+use Rattle.std.proofs.Common.{sym, ◌∙◌, ap, subst, List, None, ◌∷◌, ◌++◌, [], get_or}
 use Rattle.std.proofs.lemmas.List.{take_all}
 use Rattle.std.proofs.lemmas.Option.{slice_get-get_or}
 use Rattle.smil_model.specs.declared.diary.Entry.{Entry}
