@@ -21,7 +21,7 @@ cat > "$program/src/main.rt" <<'RT'
 
 use CELLS as ComparedCells;
 use smil_diary::BookFault;
-use smil_element::view_of;
+use smil_element::{Present, view_of};
 use smil_model::{Bytes, Doc, Entry, Happening, Interval, Kind, LogEntry, Shown, State, Step, Steps, Time, View};
 use smil_outline::Builder;
 use std::alloc::Global;
@@ -197,7 +197,12 @@ fn tell<W: Write>(out: &mut W, stage: &mut Stage) -> io::Result<()> {
             write_interval(&mut line, interval)?;
             tell_line(out, &mut stage.told, 2 * place, "interval", serial, line)?;
             let mut line = Vec::new(stage.alloc);
-            write_view(&mut line, &view_of(cells.past(), serial, cells.moment(), interval))?;
+            let present = Present {
+                past: cells.past(),
+                who: serial,
+                moment: cells.moment(),
+            };
+            write_view(&mut line, &view_of(&present, interval))?;
             tell_line(out, &mut stage.told, 2 * place + 1, "view", serial, line)?;
         }
         place += 1;

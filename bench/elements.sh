@@ -12,8 +12,10 @@ counts=$(echo "${*:-30 300 1800 8000}" | sed 's/  */, /g')
 cat > "$program/src/main.rt" <<'RT'
 #![tactic(auto)]
 
-use smil_element::{Intervals, Room, evaluation_of, facts_of, view_of};
-use smil_model::{Bytes, Entry, Happening, Interval, Log, LogEntry, Step, Steps, Time};
+use smil_element::{
+    Container, Containers, Intervals, Present, Room, evaluation_of, facts_of, view_of, walked_duration,
+};
+use smil_model::{Bytes, ChildEnd, Entry, Happening, Interval, Log, LogEntry, Step, Steps, Time};
 use smil_outline::Builder;
 use smil_past::Past;
 use smil_tree::Tree;
@@ -38,6 +40,14 @@ impl Intervals for Unknown {
 
     fn interval(&self, _who: u32) -> Option<Interval> {
         None
+    }
+}
+
+impl Containers for Unknown {
+    ghost knows_ends = { λ unknown h who. Unit {0} };
+
+    fn implicit(&self, container: &Container<'_>, children: &mut Vec<ChildEnd>) -> Result<Time, AllocError> {
+        walked_duration(container, self, children)
     }
 }
 
@@ -96,11 +106,20 @@ fn click_all(alloc: Global, past: &mut Past, count: u32) -> Option<()> {
     Some(())
 }
 
+/// The element of a sample at a moment.
+fn present(past: &Past, k: u32, count: u32, moment: i64) -> Present<'_> {
+    Present {
+        past,
+        who: sample(k, count),
+        moment,
+    }
+}
+
 /// Evaluates samples, and counts those that have an interval.
 fn evaluate_all<L: Ledger>(past: &Past, count: u32, now: i64, room: &mut Room, steps: &mut Steps<L>) -> Option<u32> {
     let mut found = 0;
     for k in 0..SAMPLES {
-        let made = evaluation_of(past, &Unknown, sample(k, count), now, room, steps).ok()?;
+        let made = evaluation_of(&present(past, k, count, now), &Unknown, room, steps).ok()?;
         found += u32::from(made.interval.is_some());
     }
     Some(found)
@@ -110,7 +129,7 @@ fn evaluate_all<L: Ledger>(past: &Past, count: u32, now: i64, room: &mut Room, s
 fn facts_all(past: &Past, count: u32, now: i64) -> u32 {
     let mut alive = 0;
     for k in 0..SAMPLES {
-        alive += u32::from(facts_of(past, sample(k, count), now, Time::At(5000)).alive);
+        alive += u32::from(facts_of(&present(past, k, count, now), Time::At(5000)).alive);
     }
     alive
 }
@@ -119,7 +138,7 @@ fn facts_all(past: &Past, count: u32, now: i64) -> u32 {
 fn views_all(past: &Past, count: u32, now: i64) -> u32 {
     let mut finished: u32 = 0;
     for k in 0..SAMPLES {
-        finished = finished.wrapping_add(view_of(past, sample(k, count), now, None).finished as u32);
+        finished = finished.wrapping_add(view_of(&present(past, k, count, now), None).finished as u32);
     }
     finished
 }

@@ -13,16 +13,16 @@ cat > "$program/src/main.rt" <<'RT'
 
 use smil_due::comes_before;
 use smil_element::{
-    Change, Coming, Comings, Evaluated, Intervals, Parts, Room, comings_of, evaluation_of, facts_of,
-    group_of, view_of,
+    Change, Coming, Comings, Container, Containers, Evaluated, Intervals, Parts, Present, Room,
+    comings_of, evaluation_of, facts_of, group_of, view_of, walked_duration,
 };
 use smil_model::{
-    Bytes, Count, EndList, Entry, Facts, Happening, Interval, Kind, Log, LogEntry, Restart, Shown, State, Step, Steps, Time, View,
+    Bytes, ChildEnd, Count, EndList, Entry, Facts, Happening, Interval, Kind, Log, LogEntry, Restart, Shown, State, Step, Steps, Time, View,
 };
 use smil_outline::Builder;
 use smil_past::Past;
 use smil_tree::Tree;
-use std::alloc::Global;
+use std::alloc::{AllocError, Global};
 use std::io::{self, BufRead, BufReader, BufWriter, Write};
 use std::marker::Brand;
 use std::sync::ledger::{Blank, Ledger};
@@ -48,6 +48,14 @@ impl Intervals for Given {
             }
         }
         None
+    }
+}
+
+impl Containers for Given {
+    ghost knows_ends = { λ given h who. Unit {0} };
+
+    fn implicit(&self, container: &Container<'_>, children: &mut Vec<ChildEnd>) -> Result<Time, AllocError> {
+        walked_duration(container, self, children)
     }
 }
 
@@ -363,8 +371,15 @@ fn tell_element<W: Write, L: Ledger>(
     now: i64,
     steps: &mut Steps<L>,
 ) -> io::Result<Comings> {
-    let made: Evaluated = evaluation_of(&case.past, &case.given, who, now, &mut case.room, steps)?;
-    let facts = facts_of(&case.past, who, now, made.simple);
+    let present = Present {
+        past: &case.past,
+        who,
+        moment: now,
+    };
+    let made: Evaluated = evaluation_of(&present, &case.given, &mut case.room, steps)?;
+    let facts = facts_of(&present, made.simple);
+    let comings = comings_of(&present, place, &made);
+    let view = view_of(&present, made.interval);
     let at = 1 + KINDS * place as usize;
     let mut line = Vec::new(alloc);
     write_facts(&mut line, &facts)?;
@@ -374,10 +389,8 @@ fn tell_element<W: Write, L: Ledger>(
     write!(line, " / ")?;
     write_time(&mut line, made.simple)?;
     tell(out, &mut case.told, at + 1, "interval", who, line)?;
-    let comings = comings_of(&case.past, who, place, now, &made);
     tell_coming(out, alloc, case, who, at + 2, now, comings.moved, ("moved", "group-moved"))?;
     tell_coming(out, alloc, case, who, at + 4, now, comings.repeat, ("repeat", "group-repeat"))?;
-    let view = view_of(&case.past, who, now, made.interval);
     let mut line = Vec::new(alloc);
     write_view(&mut line, &view)?;
     if view.serial != who {
