@@ -3,7 +3,6 @@ use Rattle.std.proofs.Common.{◌≡◌, ℕ, ◌+◌, ◌<◌, ◌≤◌, Bool,
 use Rattle.std.specs.Prelude.{ℤ, pos, negsuc, int_le, codes, bytes_eq, IfSome, IsTrue}
 use Rattle.std.specs.List.{AllByRecursion, prefix_len, list_all}
 use Rattle.std.proofs.lemmas.Bool.{and_parts, or_parts, not-true, not_from_false, leb-true, ltb-true, le-ltb, eq-eqb, ne_eqb, cond_both}
-use Rattle.std.proofs.lemmas.Bool.Decides.{nat_tests}
 use Rattle.std.proofs.lemmas.List.Elements.{All-from_recursion}
 use Rattle.smil_model.specs.declared.document.Kind.{Kind}
 use Rattle.smil_model.specs.declared.document.Attr.{Attr}

@@ -1,6 +1,6 @@
 -- An outline that meets no limit is read the same within larger limits.
 use Rattle.std.proofs.Common.{◌≡◌, refl, sym, ◌∙◌, ap, ℕ, ◌+◌, ◌∷◌, List, [], length, take, Bool, true, false, not, eqb, ltb, leb, Option, Some, None, Result, Ok, Err, arith}
-use Rattle.std.specs.Prelude.{◌/◌, ◌%◌, sum_by}
+use Rattle.std.specs.Prelude.{◌/◌, ◌%◌}
 use Rattle.std.specs.List.{prefix_len}
 use Rattle.std.proofs.lemmas.Bool.{leb-false, lt-leb, ltb-false, le-ltb}
 use Rattle.smil_model.specs.declared.limits.TheConstants.{DEPTH, LINE_BYTES}

@@ -1,5 +1,5 @@
 -- A node line's attributes below a parent.
-use Rattle.std.proofs.Common.{◌≡◌, ℕ, Bool, Result, Ok, Err, ap}
+use Rattle.std.proofs.Common.{ℕ, Bool, Result, Err, ap}
 use Rattle.std.specs.Prelude.{IfErr}
 use Rattle.smil_model.specs.declared.document.Kind.{Kind}
 use Rattle.smil_model.specs.declared.document.Attrs.{Attrs}

@@ -1,9 +1,8 @@
 -- A node line that is written has no control character.
-use Rattle.std.proofs.Common.{◌≡◌, ℕ, zero, suc, ◌+◌, ◌*◌, ◌/◌, ◌%◌, ◌<◌, ◌≤◌, Bool, true, false, not, eqb, ltb, leb, ◌&&◌, List, [], ◌∷◌, ◌++◌, length, replicate, flat_map, Option, Some, None, option_map, refl, ap, subst, ◌∙◌, arith, decimal, append_assoc}
-use Rattle.std.specs.Prelude.{ℤ, pos, negsuc, codes, IfSome, All}
-use Rattle.std.specs.Char.{is_ascii_digit}
+use Rattle.std.proofs.Common.{◌≡◌, ℕ, zero, suc, ◌*◌, ◌≤◌, Bool, true, false, not, eqb, ltb, List, [], ◌∷◌, ◌++◌, replicate, flat_map, Option, Some, None, option_map, refl, ap, ◌∙◌, arith, append_assoc}
+use Rattle.std.specs.Prelude.{codes, IfSome, All}
 use Rattle.std.specs.List.{AllByRecursion, list_all, slice_split}
-use Rattle.std.proofs.lemmas.Bool.{and_parts, leb-true, cond_both}
+use Rattle.std.proofs.lemmas.Bool.{and_parts}
 use Rattle.std.proofs.lemmas.Bool.Decides.{nat_tests}
 use Rattle.std.proofs.lemmas.List.Elements.{All-from_recursion}
 use Rattle.std.proofs.lemmas.List.Splits.{slice_split_at}

@@ -1,6 +1,6 @@
 -- A valid document's canonical outline is read as the same nodes, each with its place as its serial.
 use Rattle.std.proofs.Common.{◌≡◌, ℕ, zero, suc, ◌+◌, ◌<◌, ◌≤◌, Bool, true, false, not, cond, eqb, ltb, ◌&&◌, ◌||◌, List, [], ◌∷◌, ◌++◌, ◌-◌, length, take, map, reverse, Option, Some, None, option_map, Result, Ok, refl, sym, ap, subst, ◌∙◌, arith, length-append, append_assoc, add-one}
-use Rattle.std.specs.Prelude.{decimal, unwrap_or, bytes_eq, filter, All, slice_get}
+use Rattle.std.specs.Prelude.{decimal, unwrap_or, bytes_eq, All, slice_get}
 use Rattle.std.specs.List.{list_any, list_all, AllByRecursion}
 use Rattle.std.proofs.lemmas.Bool.{and_parts, or_parts, not_from_true, eqb-true, eq-eqb, ltb-true, lt-ltb, le-ltb, ne_eqb, cond_both}
 use Rattle.std.proofs.lemmas.List.{reverse-append, reverse-reverse, length-reverse, take_all, take-append-le, append-nil}

@@ -1,11 +1,10 @@
 -- A walk through a tree in document order: depths among the nodes before are those among the open ones.
-use Rattle.std.proofs.Common.{◌≡◌, ℕ, suc, ◌+◌, ◌<◌, Bool, true, false, eqb, ltb, ◌&&◌, List, [], ◌∷◌, ◌++◌, length, take, drop, reverse, get_or, Option, Some, None, refl, sym, ap, subst, ◌∙◌, arith, append_assoc}
+use Rattle.std.proofs.Common.{◌≡◌, ℕ, suc, ◌+◌, ◌<◌, Bool, true, false, eqb, ltb, ◌&&◌, List, [], ◌∷◌, ◌++◌, length, take, drop, reverse, get_or, Option, Some, refl, sym, ap, subst, ◌∙◌, arith, append_assoc}
 use Rattle.std.specs.Prelude.{flat_map, slice_get}
 use Rattle.std.specs.List.{list_any, list_all}
 use Rattle.std.proofs.lemmas.Bool.{and_parts, or_parts, eq-eqb, eqb-true, ltb-true, cond_both}
 use Rattle.std.proofs.Math.Seq.{drop-cons}
 use Rattle.std.proofs.lemmas.List.{reverse-append, take_more, take-append-drop, take_at, take_all}
-use Rattle.std.proofs.lemmas.List.Folds.{list_any-append}
 use Rattle.std.proofs.lemmas.Option.{get_or_from_slice_get, slice_get_within, slice_get-get_or}
 use Rattle.smil_model.specs.declared.document.Node.{Node}
 use Rattle.smil_model.specs.declared.document.Kind.{Kind}
@@ -217,24 +216,9 @@ can_write_at document place n valid e =
     let parent : Option Kind = kind_of (node_with document.nodes n.parent) in
     attrs_anywhere (is_seq_parent parent) n.kind n.attrs (fits n.kind parent n.attrs (passes_at (has_fitting_attrs document.nodes) document.nodes place n e valid.fitting))
 
--- ---- the same of a slice of the document's nodes
-
-next_at : (all nodes : List Node) (i : ℕ) (d : Node) → all ≡ nodes → i < length all → slice_get nodes i ≡ Some (get_or all i d)
-next_at all nodes i d same lt = ap (λ (ns : List Node). slice_get ns i) (sym same) ∙ slice_get-get_or all i d lt
-
-pub shallow_next : (document : Document) (all : List Node) (i : ℕ) (d : Node) (opened : List ℕ) → IsValid document → all ≡ document.nodes → i < length all → IsWalkedTo document.nodes i opened → length (open_from (get_or all i d).parent opened) < 32
-shallow_next document all i d opened valid same lt h = is_shallow document i opened (get_or all i d) valid (next_at all document.nodes i d same lt) h
-
-pub can_write_next : (document : Document) (all : List Node) (i : ℕ) (d : Node) → IsValid document → all ≡ document.nodes → i < length all → IsAttrs false (get_or all i d).kind (get_or all i d).attrs
-can_write_next document all i d valid same lt = can_write_at document i (get_or all i d) valid (next_at all document.nodes i d same lt)
-
-pub walked_next : (all nodes : List Node) (i : ℕ) (d : Node) (opened new : List ℕ) → all ≡ nodes → i < length all → IsWalkedTo nodes i opened → new ≡ (get_or all i d).serial ∷ open_from (get_or all i d).parent opened → IsWalkedTo nodes (i + 1) new
-walked_next all nodes i d opened new same lt h e = subst (IsWalkedTo nodes (i + 1)) (sym e) (walk_goes_on nodes i opened (get_or all i d) (next_at all nodes i d same lt) h)
-
-pub text_next : (saved : Bool) (all nodes : List Node) (i : ℕ) (d : Node) (opened out new whole : List ℕ) → all ≡ nodes → i < length all → IsWalkedTo nodes i opened
-    → out ++ text_behind saved (reverse (take i nodes)) (drop i nodes) ≡ whole → new ≡ out ++ line_text saved (length (open_from (get_or all i d).parent opened)) (get_or all i d) ++ 10 ∷ []
-    → new ++ text_behind saved (reverse (take (i + 1) nodes)) (drop (i + 1) nodes) ≡ whole
-text_next saved all nodes i d opened out new whole same lt h so-far e = text_goes_on saved nodes i opened (get_or all i d) out new whole (next_at all nodes i d same lt) h so-far e
+-- the item of a slice of the nodes is the node at its place
+pub item_at : (all nodes : List Node) (i : ℕ) (n : Node) → all ≡ nodes → i < length all → n ≡ get_or all i n → slice_get nodes i ≡ Some n
+item_at all nodes i n same lt is = ap (λ (ns : List Node). slice_get ns i) (sym same) ∙ slice_get-get_or all i n lt ∙ ap Some (sym is)
 
 -- ---- what stands at the front
 

@@ -1,17 +1,20 @@
-use Rattle.std.proofs.Common.{rules, ℕ, ◌≡◌, ◌≤◌, List, [], ◌++◌, drop, take, reverse, length, refl, sym, ap, subst, ◌∙◌, arith, append_assoc}
+use Rattle.std.proofs.Common.{rules, ℕ, ◌+◌, ◌≡◌, ◌≤◌, List, [], ◌++◌, drop, take, reverse, length, refl, sym, ap, subst, ◌∙◌, arith, append_assoc}
 use Rattle.std.proofs.lemmas.List.{append-nil, drop_all}
 use Rattle.smil_model.specs.declared.document.Node.{Node}
 use Rattle.smil_grammar.specs.Spellings.{Begins}
 use Rattle.smil_outline.specs.Open.{upwards}
-use Rattle.smil_outline.proofs.Walks.{IsWalkedTo, text_behind, text_ends, walk_starts, walked_next, text_next, shallow_next, can_write_next, begins_by, begins_more, begins_itself}
+use Rattle.smil_outline.proofs.Walks.{IsWalkedTo, text_behind, text_ends, walk_starts, item_at, walk_goes_on, text_goes_on, is_shallow, can_write_at, begins_by, begins_more, begins_itself}
 use Rattle.smil_outline.proofs.writer.put_nodes.Goals as goal
 
 pub put_next-requires-clause-can_write : goal.put_next-requires-clause-can_write
-put_next-requires-clause-can_write c = can_write_next c.args.doc.now _ c.loop-node.node-index _ c.requires c.nodes-node-items.ensures c.loop-node-test.true
+put_next-requires-clause-can_write c =
+    let there = item_at c.nodes-node-items.result.now c.args.doc.now.nodes c.loop-node.node-index c.node-item.result c.nodes-node-items.ensures c.loop-node-test.true c.node-item.is in
+    can_write_at c.args.doc.now c.loop-node.node-index c.node-item.result c.requires there
 
 pub put_next-requires-clause-shallow : goal.put_next-requires-clause-shallow
 put_next-requires-clause-shallow c =
-    shallow_next c.args.doc.now _ c.loop-node.node-index _ (upwards c.loop-node.branch) c.requires c.nodes-node-items.ensures c.loop-node-test.true c.loop-node.invariant.walked
+    let there = item_at c.nodes-node-items.result.now c.args.doc.now.nodes c.loop-node.node-index c.node-item.result c.nodes-node-items.ensures c.loop-node-test.true c.node-item.is in
+    is_shallow c.args.doc.now c.loop-node.node-index (upwards c.loop-node.branch) c.node-item.result c.requires there c.loop-node.invariant.walked
 
 pub loop-node-init : goal.loop-node-init
 loop-node-init c = record {
@@ -23,10 +26,13 @@ loop-node-init c = record {
 pub loop-node-preserved : goal.loop-node-preserved
 loop-node-preserved c =
     let nodes : List Node = c.args.doc.now.nodes in
+    let i = c.loop-node.node-index in
+    let node = c.node-item.result in
     let opened : List ℕ = upwards c.loop-node.branch in
+    let there = item_at c.nodes-node-items.result.now nodes i node c.nodes-node-items.ensures c.loop-node-test.true c.node-item.is in
     record {
-      walked = walked_next _ nodes c.loop-node.node-index _ opened _ c.nodes-node-items.ensures c.loop-node-test.true c.loop-node.invariant.walked c.in_ok-put_next.ensures.branch;
-      text = text_next c.args.saved _ nodes c.loop-node.node-index _ opened c.loop-node.out c.put_next.new.out _ c.nodes-node-items.ensures c.loop-node-test.true c.loop-node.invariant.walked c.loop-node.invariant.text c.in_ok-put_next.ensures.ok;
+      walked = subst (IsWalkedTo nodes (i + 1)) (sym c.in_ok-put_next.ensures.branch) (walk_goes_on nodes i opened node there c.loop-node.invariant.walked);
+      text = text_goes_on c.args.saved nodes i opened node c.loop-node.out c.put_next.new.out _ there c.loop-node.invariant.walked c.loop-node.invariant.text c.in_ok-put_next.ensures.ok;
       begins = begins_more c.args.out.now c.loop-node.out c.put_next.new.out _ c.loop-node.invariant.begins (c.in_ok-put_next.ensures.ok ∙ append_assoc c.loop-node.out _ _);
     }
 

@@ -1,4 +1,4 @@
-use Rattle.std.proofs.Common.{rules, ◌≡◌, ℕ, Err, sym, ap, subst, ◌∙◌, Option, option_map, Result}
+use Rattle.std.proofs.Common.{rules, ◌≡◌, ℕ, Err, sym, ap, subst, ◌∙◌, Option, option_map}
 use Rattle.smil_model.specs.declared.document.Kind.{Kind}
 use Rattle.smil_model.specs.declared.document.Attrs.{Attrs}
 use Rattle.smil_model.specs.declared.order.Refusal.{Refusal}

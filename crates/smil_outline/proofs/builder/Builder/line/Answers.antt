@@ -1,4 +1,4 @@
-use Rattle.std.proofs.Common.{◌≡◌, ◌/◌, Err, ap, sym, subst, ◌∙◌, take, ℕ, List}
+use Rattle.std.proofs.Common.{◌≡◌, ◌/◌, Err, ap, sym, ◌∙◌, take}
 use Rattle.std.proofs.lemmas.Result.{err_from_is_err_and}
 use Rattle.smil_grammar.specs.Outlines.{Outline, last_of}
 use Rattle.smil_outline.specs.Steps.{node_with}
