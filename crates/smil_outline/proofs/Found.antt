@@ -1,12 +1,9 @@
 -- Ids and serials in ordered sets.
-use Rattle.std.proofs.Common.{◌≡◌, ℕ, Bool, true, false, cond, not, eqb, ◌&&◌, ◌||◌, List, [], ◌∷◌, ◌++◌, map, refl, sym, ap, ◌∙◌, arith}
+use Rattle.std.proofs.Common.{◌≡◌, ℕ, Bool, true, false, cond, not, eqb, ◌&&◌, ◌||◌, List, [], ◌∷◌, map, refl, sym, ap, ◌∙◌, arith}
 use Rattle.std.specs.declared.cmp.Ordering.{Ordering}
 use Rattle.std.specs.declared.cmp.Ordering.TheVariants.{Less, Equal, Greater}
 use Rattle.std.specs.Ordering.{is_eq, nat_cmp, match_ordering}
 use Rattle.std.specs.Cmp.{unsigned_ties}
-use Rattle.std.proofs.lemmas.Bool.{eqb-true}
-use Rattle.std.proofs.lemmas.List.Folds.{list_any-append}
-use Rattle.smil_model.specs.declared.document.Node.{Node}
 use Rattle.std.specs.Cmp.Lexicographic.{slice_cmp}
 use Rattle.std.specs.List.{list_any}
 use Rattle.std.specs.Str.{bytes_eq}
@@ -107,30 +104,3 @@ serial_out old new serial updates other =
     without true false = refl
     without false true = refl
     without false false = refl
-
--- a serial that is put in and taken back leaves the serials as they were
-pub serial_back : (old put new : List ℕ) (serial : ℕ) (was : Bool) → was ≡ is_among old serial → ((other : ℕ) → is_among put other ≡ (is_among old other || eqb serial other))
-    → ((other : ℕ) → is_among new other ≡ cond was (is_among put other) (is_among put other && not (eqb serial other))) → (other : ℕ) → is_among new other ≡ is_among old other
-serial_back old put new serial was is there back other =
-    back other ∙ ap (λ b. cond was b (b && not (eqb serial other))) (there other) ∙ by was (eqb serial other) (is_among old other) own
-  where
-    own : eqb serial other ≡ true → is_among old other ≡ was
-    own e = ap (is_among old) (sym (eqb-true serial other e)) ∙ sym is
-
-    by : (was same old : Bool) → (same ≡ true → old ≡ was) → cond was (old || same) ((old || same) && not same) ≡ old
-    by true true true own = refl
-    by true true false own = sym (own refl)
-    by true false true own = refl
-    by true false false own = refl
-    by false true true own = sym (own refl)
-    by false true false own = refl
-    by false false true own = refl
-    by false false false own = refl
-
--- one more node has its serial
-pub serial_on : (nodes : List Node) (node : Node) (old new : List ℕ) → ((s : ℕ) → is_among old s ≡ list_any (λ (n : Node). eqb n.serial s) nodes) → ((s : ℕ) → is_among new s ≡ (is_among old s || eqb node.serial s))
-    → (s : ℕ) → is_among new s ≡ list_any (λ (n : Node). eqb n.serial s) (nodes ++ node ∷ [])
-serial_on nodes node old new are more s =
-    more s ∙ ap (λ b. b || eqb node.serial s) (are s)
-    ∙ ap (λ b. list_any (λ (n : Node). eqb n.serial s) nodes || b) (sym (alone (eqb node.serial s)))
-    ∙ sym (list_any-append (λ (n : Node). eqb n.serial s) nodes (node ∷ []))
