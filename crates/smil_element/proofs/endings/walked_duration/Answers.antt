@@ -1,13 +1,9 @@
-use Rattle.std.proofs.Common.{◌≡◌, ◌∙◌, sym, ap, ℕ, List, rules}
-use Rattle.std.specs.Prelude.{Option, map}
+use Rattle.std.proofs.Common.{◌∙◌, ap, rules}
 use Rattle.std.proofs.lemmas.Int.{to_z-of_z}
 use mir.Syntax.{w64}
-use mir.Val.{SFits, to_z, of_z}
-use Rattle.smil_model.specs.declared.interval.ChildEnd.{ChildEnd}
-use Rattle.smil_model.specs.declared.interval.Interval.{Interval}
+use mir.Val.{SFits}
 use Rattle.smil_model.specs.document.Defaults.{endsync_of}
 use Rattle.smil_model.specs.interval.Durations.{container_duration}
-use Rattle.smil_past.specs.Past.{history_of}
 use Rattle.smil_element.proofs.endings.walked_duration.Goals as goal
 
 pub returns : goal.returns

@@ -1,6 +1,6 @@
 use Rattle.std.proofs.Common.{◌≡◌, ◌∙◌, ap, sym, subst, ℤ, Option}
 use Rattle.std.proofs.lemmas.Int.{ints}
-use Rattle.std.specs.Prelude.{◌&&◌, ◌||◌, ◌-ℤ◌}
+use Rattle.std.specs.Prelude.{◌&&◌, ◌||◌}
 use Rattle.std.proofs.Common.{arith}
 use Rattle.std.specs.Option.{ForSome}
 use Rattle.smil_fill.specs.Numbers.{IsWithin}
@@ -8,7 +8,6 @@ use mir.Syntax.{w64}
 use mir.Val.{to_z, of_z}
 use Rattle.smil_model.specs.document.Document.{time_parent}
 use Rattle.smil_model.specs.diary.Diary.{is_active, is_paused, lives_under}
-use Rattle.smil_model.specs.diary.Clocks.{outer}
 use Rattle.smil_model.specs.shown.Views.{is_displaced}
 use Rattle.smil_past.specs.declared.plays.played.Played.{Played}
 use Rattle.smil_instances.proofs.Sensitive.{serial_is}
