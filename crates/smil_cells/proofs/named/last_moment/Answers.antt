@@ -1,5 +1,5 @@
-use Rattle.std.proofs.Common.{◌≡◌, ◌∙◌, ◌<◌, ◌-◌, sym, ap, subst, arith, ℤ, List, length, suc, w64}
-use Rattle.std.specs.Prelude.{None, Some, pos, ◌≤ℤ◌, slice_get}
+use Rattle.std.proofs.Common.{◌≡◌, ◌∙◌, ◌<◌, ◌-◌, sym, ap, subst, arith, ℤ, List, length, w64}
+use Rattle.std.specs.Prelude.{Some, pos, ◌≤ℤ◌, slice_get}
 use Rattle.std.proofs.lemmas.Int.{to_z-of_z}
 use Rattle.std.proofs.lemmas.Option.{slice_get_within}
 use Rattle.smil_model.specs.declared.diary.Entry.{Entry}

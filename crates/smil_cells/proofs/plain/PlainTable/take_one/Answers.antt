@@ -1,8 +1,6 @@
-use Rattle.std.proofs.Common.{◌≡◌, ◌∙◌, ap, sym, subst, refl, ℕ, ◌<◌, ◌≤◌, Option, Some, true, false, length, set, arith}
-use Rattle.std.specs.Prelude.{◌==◌, is_some}
-use Rattle.std.specs.List.{position}
+use Rattle.std.proofs.Common.{◌≡◌, ◌∙◌, ap, sym, subst, ◌<◌, ◌≤◌, false, length, arith}
+use Rattle.std.specs.Prelude.{is_some}
 use Rattle.std.proofs.lemmas.Option.{same_Some}
-use Rattle.smil_model.specs.declared.interval.Interval.{Interval as AnyInterval}
 use Rattle.smil_model.specs.document.Document.{elements}
 use Rattle.smil_laws.specs.Near.{IsIntervalNear}
 use Rattle.smil_laws.proofs.NearIntervals.{interval_near}
@@ -11,7 +9,7 @@ use Rattle.smil_cells.proofs.Rows.{IsFirst}
 use Rattle.smil_cells.specs.declared.plain.known.Row.{Row}
 use Rattle.smil_cells.specs.Plain.{interval_in}
 use Rattle.smil_cells.specs.Round.{StayUnchanged}
-use Rattle.smil_cells.proofs.Taking.{IsFound, found, elements_few, near_where, taken_of, unchanged_pushed, unchanged_same}
+use Rattle.smil_cells.proofs.Taking.{found, elements_few, near_where, taken_of, unchanged_pushed, unchanged_same}
 use Rattle.smil_cells.proofs.plain.PlainTable.take_one.Goals as goal
 use Rattle.smil_cells.proofs.plain.PlainTable.take_one.Goals.{then-not-is_same+in_ok-push, else-not-is_same}
 
@@ -30,8 +28,8 @@ overflow_cast-place g c =
     let all : length nodes ≤ 8000 = c.possible.ensures.valid.nodes in
     omega (arith, is, within, few, all)
 
-pub evaluation_of-made-requires-clause-known : goal.evaluation_of-made-requires-clause-known
-evaluation_of-made-requires-clause-known g c = λ e here implicit. tt
+pub evaluation_of-requires-clause-known : goal.evaluation_of-requires-clause-known
+evaluation_of-requires-clause-known g c = λ e here implicit. tt
 
 pub comings_of-comings-requires-clause-near : goal.comings_of-comings-requires-clause-near
 comings_of-comings-requires-clause-near g c =

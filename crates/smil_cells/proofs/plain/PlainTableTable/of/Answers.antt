@@ -1,5 +1,4 @@
-use Rattle.std.proofs.Common.{◌∙◌, ap, List}
-use Rattle.smil_model.specs.declared.document.Node.{Node}
+use Rattle.std.proofs.Common.{◌∙◌, ap}
 use Rattle.smil_model.specs.document.Document.{Document, elements, serials}
 use Rattle.smil_cells.proofs.Empty.{empty_serials}
 use Rattle.smil_cells.proofs.Paired.{serials_in}
