@@ -1,6 +1,6 @@
 -- Rows that are as their own intervals give them are the current ones.
-use Rattle.std.proofs.Common.{◌≡◌, refl, ◌∙◌, ap, sym, ℕ, suc, zero, ◌+◌, ◌<◌, List, [], ◌∷◌, length, Option, Some, None, ℤ, Bool, true, false, get_or, arith, map}
-use Rattle.std.specs.Prelude.{◌==◌, ◌||◌, cond, is_some, reverse, slice_get, Result, Ok, Err, OnOk}
+use Rattle.std.proofs.Common.{◌≡◌, refl, ◌∙◌, ap, sym, ℕ, suc, zero, ◌+◌, ◌<◌, List, [], ◌∷◌, length, Option, Some, ℤ, Bool, true, false, get_or, arith, map}
+use Rattle.std.specs.Prelude.{◌==◌, ◌||◌, cond, is_some, slice_get, Result, Ok, Err, OnOk}
 use Rattle.std.specs.List.{list_any}
 use Rattle.std.specs.FinSet as set
 use Rattle.std.proofs.lemmas.Bool.{or_left, or_right, eq-eqb, eqb-true}

@@ -1,6 +1,6 @@
 -- What comes first, by its key and the row at its place.
 use Rattle.std.proofs.Common.{◌≡◌, refl, ◌∙◌, ap, sym, subst, ℕ, suc, zero, ◌+◌, List, [], ◌∷◌, ◌++◌, Option, Some, None, ℤ, Bool, true, false, arith, inl, inr, map}
-use Rattle.std.specs.Prelude.{◌⊎◌, ◌≢◌, pos, cond, fold, option_map, slice_get, is_some, not, ◌&&◌, ◌||◌}
+use Rattle.std.specs.Prelude.{◌⊎◌, pos, cond, fold, option_map, slice_get, is_some, not, ◌&&◌, ◌||◌}
 use Rattle.std.specs.FinSet as set
 use Rattle.smil_model.specs.declared.happening.Key.{Key}
 use Rattle.smil_model.specs.declared.interval.Interval.{Interval}
@@ -19,12 +19,12 @@ use Rattle.smil_laws.proofs.FirstKey.{first_key}
 use Rattle.smil_due.specs.Order.{key_cmp}
 use Rattle.smil_element.specs.declared.happening.change.Coming.{Coming}
 use Rattle.smil_element.specs.Parts.{coming_meant}
-use Rattle.smil_element.specs.Element.{and_coming, both}
+use Rattle.smil_element.specs.Element.{both}
 use Rattle.smil_element.specs.Comings.{HaveComings}
 use Rattle.smil_cells.specs.declared.plain.known.Row.{Row}
 use Rattle.smil_cells.specs.Plain.{IsCurrent}
 use Rattle.smil_cells.specs.Rows.{IsChosen}
-use Rattle.smil_cells.proofs.Paired.{serials_in, row_at}
+use Rattle.smil_cells.proofs.Paired.{row_at}
 use Rattle.smil_cells.proofs.Current.{current_elements}
 
 -- ---- what comes first is one of those that come

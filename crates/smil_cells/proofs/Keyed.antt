@@ -9,7 +9,7 @@ use Rattle.smil_model.specs.diary.Diary.{History}
 use Rattle.smil_model.specs.interval.Current.{current_interval}
 use Rattle.smil_model.specs.happening.Keys as model
 use Rattle.smil_model.specs.happening.Keys.{coming_of, coming_from}
-use Rattle.smil_due.specs.Order.{key_cmp, key_cmp_total}
+use Rattle.smil_due.specs.Order.{key_cmp_total}
 use Rattle.smil_due.proofs.Before.{key_cmp_antisymmetric}
 use Rattle.smil_element.specs.declared.happening.change.Coming.{Coming}
 use Rattle.smil_element.specs.Element.{both}
