@@ -21,28 +21,28 @@ use Rattle.smil_element.proofs.Known.{passes, serial_is}
 
 member_any : (p : Node → Bool) (ns : List Node) (i : ℕ) (c : Node) → slice_get (filter p ns) i ≡ Some c → list_any (λ (n : Node). (n.serial == c.serial) && p n) ns ≡ true
 member_any p [] i c at = absurd (cc)
-member_any p (n ∷ ns) i c at = by_test (p n) refl i at
+member_any p (n ∷ ns) i c at = by_test (λ j a. member_any p ns j c a) (p n) refl i at
   where
-    by_test : (t : Bool) → p n ≡ t → (j : ℕ) → slice_get (cond t (n ∷ filter p ns) (filter p ns)) j ≡ Some c → list_any (λ (m : Node). (m.serial == c.serial) && p m) (n ∷ ns) ≡ true
-    by_test true q zero a =
+    by_test : ((j : ℕ) → slice_get (filter p ns) j ≡ Some c → list_any (λ (m : Node). (m.serial == c.serial) && p m) ns ≡ true) → (t : Bool) → p n ≡ t → (j : ℕ) → slice_get (cond t (n ∷ filter p ns) (filter p ns)) j ≡ Some c → list_any (λ (m : Node). (m.serial == c.serial) && p m) (n ∷ ns) ≡ true
+    by_test later true q zero a =
         let one : n ≡ c = cc in
         or_left _ _ (and_from _ _ (eq-eqb n.serial c.serial (ap (λ (m : Node). m.serial) one)) q)
-    by_test true q (suc j) a = or_right _ _ (member_any p ns j c a)
-    by_test false q j a = or_right _ _ (member_any p ns j c a)
+    by_test later true q (suc j) a = or_right _ _ (later j a)
+    by_test later false q j a = or_right _ _ (later j a)
 
 -- what passes one test passes another that it implies
 kept_in : (p q : Node → Bool) → ((n : Node) → p n ≡ true → q n ≡ true) → (ns : List Node) (i : ℕ) (c : Node) → slice_get (filter p ns) i ≡ Some c → (j : ℕ) × (slice_get (filter q ns) j ≡ Some c)
 kept_in p q implies [] i c at = absurd (cc)
-kept_in p q implies (n ∷ ns) i c at = by_test (p n) refl i at
+kept_in p q implies (n ∷ ns) i c at = by_test (λ j a. kept_in p q implies ns j c a) (p n) refl i at
   where
     behind : (t : Bool) → q n ≡ t → (j : ℕ) × (slice_get (filter q ns) j ≡ Some c) → (j : ℕ) × (slice_get (filter q (n ∷ ns)) j ≡ Some c)
     behind true e (j, a) = (suc j, ap (λ t. slice_get (cond t (n ∷ filter q ns) (filter q ns)) (suc j)) e ∙ a)
     behind false e (j, a) = (j, ap (λ t. slice_get (cond t (n ∷ filter q ns) (filter q ns)) j) e ∙ a)
 
-    by_test : (t : Bool) → p n ≡ t → (j : ℕ) → slice_get (cond t (n ∷ filter p ns) (filter p ns)) j ≡ Some c → (j : ℕ) × (slice_get (filter q (n ∷ ns)) j ≡ Some c)
-    by_test true e zero a = (0, ap (λ t. slice_get (cond t (n ∷ filter q ns) (filter q ns)) 0) (implies n e) ∙ a)
-    by_test true e (suc j) a = behind (q n) refl (kept_in p q implies ns j c a)
-    by_test false e j a = behind (q n) refl (kept_in p q implies ns j c a)
+    by_test : ((j : ℕ) → slice_get (filter p ns) j ≡ Some c → (k : ℕ) × (slice_get (filter q ns) k ≡ Some c)) → (t : Bool) → p n ≡ t → (j : ℕ) → slice_get (cond t (n ∷ filter p ns) (filter p ns)) j ≡ Some c → (k : ℕ) × (slice_get (filter q (n ∷ ns)) k ≡ Some c)
+    by_test later true e zero a = (0, ap (λ t. slice_get (cond t (n ∷ filter q ns) (filter q ns)) 0) (implies n e) ∙ a)
+    by_test later true e (suc j) a = behind (q n) refl (later j a)
+    by_test later false e j a = behind (q n) refl (later j a)
 
 -- ---- time children
 

@@ -1,6 +1,7 @@
 //! The ends of the time children of each element, kept under a change of one of them.
 
-ghost use Rattle.std.specs.Prelude.{◌≡◌, ◌<◌, [], Some, true, length, map, slice_get, slice_index_or, IfOk};
+ghost use Rattle.std.specs.Prelude.{◌≡◌, ◌==◌, ◌<◌, [], Some, true, length, map, slice_get, slice_index_or, IfOk};
+ghost use Rattle.std.specs.List.{position};
 ghost use Rattle.smil_model.specs.declared.document.Node.{Node as AnyNode};
 ghost use Rattle.smil_model.specs.document.Document.{elements, node_at};
 ghost use Rattle.smil_model.specs.document.Closure.{has};
@@ -56,10 +57,10 @@ impl Model for Endings {
 
 impl Duplicate for Endings {
     fn copy(&self) -> Result<Self, AllocError> {
-        Ok(Endings {
-            homes: self.homes.clone()?,
-            ends: copy_each(*self.ends.allocator(), &self.ends)?,
-        })
+        let alloc = *self.homes.allocator();
+        let homes = Vec::from_slice(alloc, &self.homes)?;
+        let ends = copy_each(alloc, &self.ends)?;
+        Ok(Endings { homes, ends })
     }
 }
 
@@ -187,7 +188,14 @@ fn place_among(serials: &[u32], who: u32, expected: usize) -> usize
     if is_at(serials, expected, who) {
         return expected;
     }
-    serials.iter().position(|serial| *serial == who).unwrap()
+    position_of(serials, who).unwrap()
+}
+
+// The first place of a serial among others.
+fn position_of(serials: &[u32], who: u32) -> Option<usize>
+    ensures { result ≡ position (λ s. s == who) serials.now }
+{
+    serials.iter().position(|serial| *serial == who)
 }
 
 // Whether a serial stands at a place.

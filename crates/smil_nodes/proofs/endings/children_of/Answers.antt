@@ -17,8 +17,8 @@ use Rattle.smil_nodes.proofs.endings.children_of.Goals as goal
 pub attrs-requires : goal.attrs-requires
 attrs-requires c = tree_node c.args.tree.now c.args.tree.now c.args.who refl c.requires
 
-pub attrs-requires-2 : goal.attrs-requires-2
-attrs-requires-2 c =
+pub attrs-requires-in-loop-child : goal.attrs-requires-in-loop-child
+attrs-requires-in-loop-child c =
     let document = c.args.tree.now in
     let there = child_at document c.valid.ensures.numbered c.args.who c.loop-child.child-index c.time_children-child-items.result.now c.time_children-child-items.ensures c.loop-child-test.true in
     tree_node document document _ refl (ap is_some there.known)
@@ -31,7 +31,7 @@ loop-child-preserved c = λ e here.
     let there = child_at document c.valid.ensures.numbered c.args.who k c.time_children-child-items.result.now c.time_children-child-items.ensures c.loop-child-test.true in
     let distinct = c.valid.ensures.numbered.distinct in
     let named : c.is_named.result ≡ is_named_child e.attrs.endsync there.node =
-    c.is_named.ensures there.node (sym (tree_attrs document document _ there.node c.attrs-2.result.now distinct refl there.known c.attrs-2.ensures))
+    c.is_named.ensures there.node (sym (tree_attrs document document _ there.node c.attrs-in-loop-child.result.now distinct refl there.known c.attrs-in-loop-child.ensures))
     ∙ ap (λ (a : Attrs). is_named_child a.endsync there.node) (tree_attrs document document c.args.who e c.attrs.result.now distinct refl here c.attrs.ensures) in
     c.in_ok-push.ensures.items
     ∙ ap (λ (xs : List ChildEnd). xs ++ record { named = c.is_named.result; first = None; latest = None } ∷ []) (c.loop-child.invariant e here)

@@ -1,10 +1,17 @@
-use Rattle.std.proofs.Common.{◌≡◌, ◌∙◌, ap, sym, subst, ◌<◌, List, length}
+use Rattle.std.proofs.Common.{◌≡◌, ◌∙◌, ap, sym, subst, ◌<◌, List, length, arith}
 use Rattle.std.specs.Prelude.{Option, Some, slice_get}
 use Rattle.smil_model.specs.declared.interval.ChildEnd.{ChildEnd}
 use Rattle.smil_nodes.specs.declared.endings.Home.{Home}
 use Rattle.smil_nodes.specs.Endings.{KeptEnds, ending_from, ending_home, ending_in, home_at}
 use Rattle.smil_nodes.proofs.Housing.{row_free}
 use Rattle.smil_nodes.proofs.endings.Endings.ending.Goals as goal
+
+pub index-requires : goal.index-requires
+index-requires c =
+    let i = c.self.inside in
+    let at : home_at i.homes.items c.args.place ≡ Some c.in-Some.home = ap (λ (hs : List (Option Home)). home_at hs c.args.place) (sym c.deref.ensures.value) ∙ sym c.in-Some.ensures in
+    let within = c.self.invariant c.args.place c.in-Some.home at in
+    omega (arith, within.0, i.ends.ok.0)
 
 pub end-end-requires : goal.end-end-requires
 end-end-requires c =

@@ -15,6 +15,13 @@ returns-in_default c =
     ∙ (λ j. record { homes = i.homes.items; ends = put_home i.ends.items c.args.ending (sym none j) })
     ∙ ap (λ (kept : KeptEnds). put_ending kept c.args.place c.args.ending) c.self.view_is
 
+pub index_mut-requires : goal.index_mut-requires
+index_mut-requires c =
+    let i = c.self.inside in
+    let at : home_at i.homes.items c.args.place ≡ Some c.in-Some.home = ap (λ (hs : List (Option Home)). home_at hs c.args.place) (sym c.deref.ensures.value) ∙ sym c.in-Some.ensures in
+    let within = c.self.invariant c.args.place c.in-Some.home at in
+    omega (arith, within.0, i.ends.ok.0)
+
 pub set-requires : goal.set-requires
 set-requires c =
     let i = c.self.inside in

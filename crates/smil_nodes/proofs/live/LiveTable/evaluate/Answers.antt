@@ -35,8 +35,8 @@ comings_of-comings-requires-clause-near g c =
     let at = found c.args.present.now.past.now.document.nodes c.args.self.now.schedule c.args.present.now.who c.possible.ensures.valid.numbered.distinct c.requires.of_elements c.requires.element in
     interval_near (history_of c.args.present.now.past.now) (interval_in c.args.self.now.schedule) _ at.element i c.possible.ensures.near (sym (c.in_ok-made.ensures.made at.element at.node).interval ∙ q))
 
-pub evaluation_of-made-requires-clause-known : goal.evaluation_of-made-requires-clause-known
-evaluation_of-made-requires-clause-known g c = λ e here implicit. c.requires.known e here implicit
+pub evaluation_of-requires-clause-known : goal.evaluation_of-requires-clause-known
+evaluation_of-requires-clause-known g c = λ e here implicit. c.requires.known e here implicit
 
 pub replace-requires-clause-near : goal.replace-requires-clause-near
 replace-requires-clause-near g c =

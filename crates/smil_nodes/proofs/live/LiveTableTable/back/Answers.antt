@@ -27,6 +27,6 @@ returns-clause-current c = λ h now marked.
     let rows = c.loop-noted.self.schedule in
     let kept = c.loop-noted.self.endings in
     let stands = subst (λ (b : Bool). IsMarked b old.undo old.schedule old.endings h now) c.requires marked in
-    let rows_are : rows_back old.schedule old.undo ≡ rows = sym c.loop-noted.invariant.0 ∙ ap (rows_back rows) c.in_default.ensures in
-    let ends_are : ends_back old.schedule old.endings old.undo ≡ kept = sym c.loop-noted.invariant.1 ∙ ap (ends_back rows kept) c.in_default.ensures in
+    let rows_are : rows_back old.schedule old.undo ≡ rows = sym c.loop-noted.invariant.0 ∙ ap (rows_back rows) c.in_default.ensures.last in
+    let ends_are : ends_back old.schedule old.endings old.undo ≡ kept = sym c.loop-noted.invariant.1 ∙ ap (ends_back rows kept) c.in_default.ensures.last in
     subst (λ (x : List Row × KeptEnds). IsWhole x.0 x.1 h now) (λ i. (rows_are i, ends_are i)) stands

@@ -5,7 +5,7 @@ use Rattle.smil_past.specs.Past.{history_of}
 use Rattle.smil_cells.proofs.Empty.{empty_serials}
 use Rattle.smil_cells.proofs.Paired.{serials_in}
 use Rattle.smil_nodes.proofs.Finishing.{any_least}
-use Rattle.std.proofs.Common.{◌≡◌, List, map, subst}
+use Rattle.std.proofs.Common.{◌≡◌, List, map, subst, sym}
 use Rattle.smil_model.specs.declared.document.Node.{Node}
 use Rattle.smil_cells.specs.Plain.{interval_in}
 use Rattle.smil_nodes.specs.Endings.{AreHomes, named_ends}
@@ -26,8 +26,10 @@ pub returns-clause-least : goal.returns-clause-least
 returns-clause-least g c =
     any_least c.args.past.now.document.nodes (current_interval (history_of c.args.past.now) c.args.moment) c.args.steps.now c.evaluate_all.new.steps c.in_ok-evaluate_all.ensures.steps
 
-pub of-requires : goal.of-requires
-of-requires g c = ap serials_in c.in_ok-schedule.ensures ∙ empty_serials (elements c.tree.result.now.nodes)
+pub of-requires-2 : goal.of-requires-2
+of-requires-2 g c =
+    ap serials_in c.in_ok-schedule.ensures ∙ empty_serials (elements c.tree.result.now.nodes)
+    ∙ ap (λ (d : Document). serials (elements d.nodes)) (c.tree.ensures ∙ sym c.tree-2.ensures)
 
 pub evaluate_all-requires-clause-known : goal.evaluate_all-requires-clause-known
 evaluate_all-requires-clause-known g c =
