@@ -56,4 +56,3 @@ current_near h now s law near = in_round (length (elements h.nodes))
     in_round : (k : ℕ) → IfSome (in_table (table h now k) s) IsIntervalNear
     in_round zero = tt
     in_round (suc k) = in_rows (in_table (table h now k)) (elements h.nodes)
-

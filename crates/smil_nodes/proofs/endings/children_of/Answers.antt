@@ -4,7 +4,7 @@ use Rattle.std.proofs.lemmas.List.{length-map, take_all}
 use Rattle.smil_model.specs.declared.interval.ChildEnd.{ChildEnd}
 use Rattle.smil_model.specs.declared.document.Attrs.{Attrs}
 use Rattle.smil_model.specs.declared.document.Node.{Node}
-use Rattle.smil_model.specs.document.Document.{elements, serials, time_children}
+use Rattle.smil_model.specs.document.Document.{elements, time_children}
 use Rattle.smil_model.specs.interval.Current.{is_named_child}
 use Rattle.smil_laws.proofs.Rounds.{find-serial}
 use Rattle.smil_instances.proofs.Lists.{map_next}

@@ -1,8 +1,7 @@
-use Rattle.std.proofs.Common.{◌≡◌, ◌∙◌, ap, sym, subst, ◌≤◌, List, length, map, take, arith}
+use Rattle.std.proofs.Common.{◌≡◌, ◌∙◌, ap, ◌≤◌, List, length, map, arith}
 use Rattle.std.specs.Prelude.{is_some}
 use Rattle.std.proofs.lemmas.List.{length-map, take_all}
 use Rattle.smil_model.specs.declared.interval.ChildEnd.{ChildEnd}
-use Rattle.smil_model.specs.declared.document.Node.{Node}
 use Rattle.smil_model.specs.document.Document.{elements, time_children}
 use Rattle.smil_nodes.specs.Endings.{named_end, named_ends}
 use Rattle.smil_nodes.proofs.Housing.{ends_next, few_children, rowed, rows_count}

@@ -1,15 +1,12 @@
-use Rattle.std.proofs.Common.{◌≡◌, ◌∙◌, ap, sym, subst, ◌<◌, ◌≤◌, ℕ, List, length, arith, refl}
-use Rattle.std.specs.Prelude.{Option, Some, IfSome, is_some, slice_get, true}
-use Rattle.std.proofs.lemmas.Option.{same_Some, slice_get_within}
-use Rattle.std.proofs.lemmas.List.{length-map}
-use Rattle.smil_model.specs.declared.document.Node.{Node}
-use Rattle.smil_model.specs.document.Document.{elements, serial_of, time_children, time_parent}
+use Rattle.std.proofs.Common.{◌≡◌, ◌∙◌, ap, sym, subst, ℕ, refl}
+use Rattle.std.specs.Prelude.{Option, IfSome, is_some, true}
+use Rattle.std.proofs.lemmas.Option.{same_Some}
+use Rattle.smil_model.specs.document.Document.{time_children, time_parent}
 use Rattle.smil_model.specs.diary.Lawful.{has_element}
-use Rattle.smil_element.proofs.Known.{known_node}
 use Rattle.smil_element.proofs.Told.{parent_known, tree_node}
 use Rattle.smil_cells.proofs.Taking.{found}
 use Rattle.smil_nodes.specs.Endings.{HasHome}
-use Rattle.smil_nodes.proofs.Housing.{among_children, few_children, is_home, rows_count}
+use Rattle.smil_nodes.proofs.Housing.{among_children, is_home}
 use Rattle.smil_instances.proofs.Targets.{element_of}
 use Rattle.smil_nodes.proofs.endings.home_of.Goals as goal
 

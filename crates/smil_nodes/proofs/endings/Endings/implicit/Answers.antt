@@ -1,7 +1,6 @@
-use Rattle.std.proofs.Common.{◌≡◌, ◌∙◌, ap, sym, subst, ◌<◌, List, length, w64}
+use Rattle.std.proofs.Common.{◌∙◌, ap, sym, subst, ◌<◌, length, w64}
 use Rattle.std.specs.Prelude.{slice_index_or, []}
 use Rattle.std.proofs.lemmas.Int.{to_z-of_z}
-use Rattle.smil_model.specs.declared.interval.ChildEnd.{ChildEnd}
 use Rattle.smil_model.specs.document.Defaults.{endsync_of}
 use Rattle.smil_model.specs.interval.Durations.{container_duration}
 use Rattle.smil_nodes.specs.Endings.{KeptEnds}
