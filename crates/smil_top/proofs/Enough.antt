@@ -1,6 +1,6 @@
 -- No definition refuses anything since memory ran out: the orders.
 use Rattle.std.proofs.Common.{◌≡◌, ◌∷◌, ◌+◌, Bool, true, false, List, [], length, Option, Some, None, Result, Ok, Err, refl}
-use Rattle.std.specs.Prelude.{ℕ, ℤ, ◌-◌, unwrap_or, option_map, sum_by, ◌/◌, ◌%◌, ◌||◌, ◌==◌, nat_le, take, drop, nat_abs, nat_lt, is_some, bytes_eq, codes}
+use Rattle.std.specs.Prelude.{ℕ, ℤ, ◌-◌, unwrap_or, option_map, ◌/◌, ◌%◌, ◌||◌, ◌==◌, nat_le, take, drop, nat_abs, nat_lt, is_some, bytes_eq, codes}
 use Rattle.std.specs.List.{prefix_len}
 use Rattle.smil_model.specs.declared.diary.Entry.{Entry}
 use Rattle.smil_model.specs.declared.diary.Happening.{Happening}

@@ -1,6 +1,6 @@
 -- The session of a number: its one transcript, and what is told of it.
-use Rattle.std.proofs.Common.{◌≡◌, ℕ, ◌<◌, ◌≤◌, min, length, Bool, true, false, List, [], ◌∷◌, ◌++◌, Option, Some, None, Ok, Err, refl, ap, sym, ◌∙◌, arith, append_assoc, inl, inr}
-use Rattle.std.specs.Prelude.{pos, fold, nat_abs, nat_le, unwrap_or, ◌||◌, ◌&&◌, ◌==◌, codes, bytes_eq, option_map, option_and_then, slice_get, if◌then◌else◌}
+use Rattle.std.proofs.Common.{◌≡◌, ℕ, ◌<◌, min, true, false, List, [], ◌∷◌, ◌++◌, Option, Some, None, Ok, Err, refl, ap, sym, ◌∙◌, arith, append_assoc, inl, inr}
+use Rattle.std.specs.Prelude.{pos, fold, nat_abs, unwrap_or, option_map, option_and_then, slice_get}
 use Rattle.std.specs.Option.{option_map_or}
 use Rattle.std.proofs.lemmas.Bool.{or_parts}
 use Rattle.smil_model.specs.declared.order.Refusal.TheVariants.{Memory}

@@ -33,4 +33,5 @@ returns-in_err-given-clause-answer g c session lines holds read =
 pub returns-in_err-given-clause-evaluated : goal.returns-in_err-given-clause-evaluated
 returns-in_err-given-clause-evaluated g c session lines holds read runs =
     let p = err_from_is_err_and c.from_residual.result c.from_residual.ensures.1 in
-    rw p.1 (counted-fault p.0 (λ bound. number_of bound session (load lines (Some c.args.number))) c.args.steps.now)
+    subst (λ a. IsOrderCounted a (λ bound. number_of bound session (load lines (Some c.args.number))) (c.args.steps.now - c.args.steps.now)) (sym p.1)
+    (counted-fault p.0 (λ bound. number_of bound session (load lines (Some c.args.number))) c.args.steps.now)

@@ -19,7 +19,9 @@ returns-in_err-may_load-clause-answer g c session holds =
     let refusal : Refusal = c.in_err-may_load.field-0.0 in
     let p = err_from_is_err_and c.from_residual.result c.from_residual.ensures.1 in
     let taken : load_refusal c.args.given.name house ≡ Err refusal = refusal-of c.args.given.name c.slice.result.now house (Err refusal) c.slice.ensures c.in_err-may_load.ensures in
-    rw p.1 (subst (λ e. Makes (Err e) c.args.answer.now house session (loaded_within limits session c.args.number (given_of c.args.given))) (sym p.2)
+    let made = loaded_within limits session c.args.number (given_of c.args.given) in
+    subst (λ r. Makes r c.args.answer.now house session made) (sym p.1)
+    (subst (λ e. Makes (Err e) c.args.answer.now house session made) (sym p.2)
     (unloaded (given_of c.args.given) house session c.args.number holds c.args.answer.now refusal taken))
 
 pub returns-clause-answer : goal.returns-clause-answer
@@ -47,13 +49,17 @@ returns-in_err-player-clause-answer g c session holds =
     let free : load_refusal c.args.given.name house ≡ Ok tt = refusal-of c.args.given.name c.slice.result.now house (Ok c.in_ok-may_load.field-0) c.slice.ensures c.in_ok-may_load.ensures in
     let refusal : Refusal = c.in_err-player.field-0.0 in
     let p = err_from_is_err_and c.from_residual-in_err-player.result c.from_residual-in_err-player.ensures.1 in
-    rw p.1 (subst (λ e. Makes (Err e) c.args.answer.now house session (loaded_within limits session c.args.number (given_of c.args.given))) (sym p.2)
-    (unmade-loaded (given_of c.args.given) house session c.args.number holds c.args.answer.now refusal free c.in_err-player.ensures.refused))
+    let text : AnswerText = record { told = c.new.new.out; last = c.args.answer.now.last } in
+    let made = loaded_within limits session c.args.number (given_of c.args.given) in
+    subst (λ r. Makes r text house session made) (sym p.1)
+    (subst (λ e. Makes (Err e) text house session made) (sym p.2)
+    (unmade-loaded (given_of c.args.given) house session c.args.number holds text refusal free c.in_err-player.ensures.refused))
 
 pub returns-in_err-may_load-clause-evaluated : goal.returns-in_err-may_load-clause-evaluated
 returns-in_err-may_load-clause-evaluated g c session holds =
     let p = err_from_is_err_and c.from_residual.result c.from_residual.ensures.1 in
-    rw p.1 (counted-refused p.0 (λ bound. loaded_number bound session (given_of c.args.given)) c.args.steps.now)
+    subst (λ r. IsCounted r (λ bound. loaded_number bound session (given_of c.args.given)) (c.args.steps.now - c.args.steps.now)) (sym p.1)
+    (counted-refused p.0 (λ bound. loaded_number bound session (given_of c.args.given)) c.args.steps.now)
 
 pub returns-clause-evaluated : goal.returns-clause-evaluated
 returns-clause-evaluated g c session holds =
@@ -66,5 +72,6 @@ returns-in_err-player-clause-evaluated g c session holds =
     let rise : ℕ = c.new.new.steps - c.args.steps.now in
     let refusal : Refusal = c.in_err-player.field-0.0 in
     let p = err_from_is_err_and c.from_residual-in_err-player.result c.from_residual-in_err-player.ensures.1 in
-    rw p.1 (subst (λ e. IsCounted (Err e) (λ bound. loaded_number bound session (given_of c.args.given)) rise) (sym p.2)
+    subst (λ r. IsCounted r (λ bound. loaded_number bound session (given_of c.args.given)) rise) (sym p.1)
+    (subst (λ e. IsCounted (Err e) (λ bound. loaded_number bound session (given_of c.args.given)) rise) (sym p.2)
     (counted-unloaded (given_of c.args.given) c.args.self.now.house session holds rise refusal c.in_err-player.ensures.refused))
