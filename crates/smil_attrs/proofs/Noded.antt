@@ -18,7 +18,7 @@ use Rattle.smil_grammar.specs.Texts.{trim}
 use Rattle.smil_grammar.specs.Results.{◌>>=◌}
 use Rattle.smil_grammar.specs.Attributes.{kind_text, name_text, name_called, name_or, attr_name_of, has, names}
 use Rattle.smil_grammar.specs.Values.{is_other_value, plain_value_of, value_of}
-use Rattle.smil_grammar.specs.Nodes.{Written, Shape, shape_of, saved_shape_of, kind_of, kind_of_shape, at_column, attribute_of, attr_of, attrs_from, attrs_of, node_of}
+use Rattle.smil_grammar.specs.Nodes.{WrittenAttr, Shape, shape_of, saved_shape_of, kind_of, kind_of_shape, at_column, attribute_of, attr_of, attrs_from, attrs_of, node_of}
 use Rattle.smil_grammar.specs.Spellings.{attr_at, attr_text, value_text, node_text, saved_node_text}
 use Rattle.smil_grammar.specs.Allowed.{name_of, IsAttr, IsAttrs}
 use Rattle.smil_attrs.proofs.Readings.{any_value, listed}
@@ -70,7 +70,7 @@ attrs_read in_seq k attrs h place before (n ∷ ns) = one in_seq k attrs place b
   where
     one : (in_seq : Bool) (k : Kind) (attrs : Attrs) (place : ℕ) (before : Attrs) (n : AttrName) (ns : List AttrName) (o : Option Attr) → IfSome o (λ given. name_of given ≡ n) → IsHad in_seq k n o
         → ((place : ℕ) (before : Attrs) → attrs_from in_seq k before (written_from place (value_text attrs) ns) ≡ Ok (filled before attrs ns))
-        → attrs_from in_seq k before (elim (option_map attr_text o) as (λ o. List Written) [ None ↦ written_from place (value_text attrs) ns | Some value ↦ written_at place n value ∷ written_from (place + length (lead n) + length value + 2) (value_text attrs) ns ]) ≡ Ok (filled (put before o) attrs ns)
+        → attrs_from in_seq k before (elim (option_map attr_text o) as (λ o. List WrittenAttr) [ None ↦ written_from place (value_text attrs) ns | Some value ↦ written_at place n value ∷ written_from (place + length (lead n) + length value + 2) (value_text attrs) ns ]) ≡ Ok (filled (put before o) attrs ns)
     one in_seq k attrs place before n ns None e had others = others place before
     one in_seq k attrs place before n ns (Some given) e had others = rw (attr_read in_seq k place n given e had.0 had.1) (others (place + length (lead n) + length (attr_text given) + 2) (with_attr before given))
 
@@ -163,7 +163,7 @@ attribute_had in_seq k text value = called in_seq k text value (name_called text
 pub attribute_is : (in_seq : Bool) (k : Kind) (text value : List ℕ) (given : Attr) → attribute_of in_seq k text value ≡ Ok given → Had in_seq k given
 attribute_is in_seq k text value given e = subst (λ (r : Result Attr AttrFault). IfOk r (Had in_seq k)) e (attribute_had in_seq k text value)
 
-column : {A : Type 0} (P : A → Type 0) (written : Written) (r : Result A AttrFault) → IfOk r P → IfOk (at_column written r) P
+column : {A : Type 0} (P : A → Type 0) (written : WrittenAttr) (r : Result A AttrFault) → IfOk r P → IfOk (at_column written r) P
 column P written (Ok x) h = h
 column P written (Err fault.UnknownAttribute) h = tt
 column P written (Err fault.UnsupportedName) h = tt
@@ -172,11 +172,11 @@ column P written (Err (fault.BadValue place)) h = tt
 column P written (Err fault.TooManyItems) h = tt
 column P written (Err fault.Memory) h = tt
 
-attrs_had : (in_seq : Bool) (k : Kind) (before : Attrs) (ws : List Written) → IsAttrs in_seq k before → IfOk (attrs_from in_seq k before ws) (IsAttrs in_seq k)
+attrs_had : (in_seq : Bool) (k : Kind) (before : Attrs) (ws : List WrittenAttr) → IsAttrs in_seq k before → IfOk (attrs_from in_seq k before ws) (IsAttrs in_seq k)
 attrs_had in_seq k before [] h = h
 attrs_had in_seq k before (w ∷ ws) h = one in_seq k before ws h (attr_of in_seq k w) (column (Had in_seq k) w (attribute_of in_seq k w.name w.value) (attribute_had in_seq k w.name w.value)) (λ next is. attrs_had in_seq k next ws is)
   where
-    one : (in_seq : Bool) (k : Kind) (before : Attrs) (ws : List Written) → IsAttrs in_seq k before → (r : Result Attr NodeFault) → IfOk r (Had in_seq k) → ((next : Attrs) → IsAttrs in_seq k next → IfOk (attrs_from in_seq k next ws) (IsAttrs in_seq k))
+    one : (in_seq : Bool) (k : Kind) (before : Attrs) (ws : List WrittenAttr) → IsAttrs in_seq k before → (r : Result Attr NodeFault) → IfOk r (Had in_seq k) → ((next : Attrs) → IsAttrs in_seq k next → IfOk (attrs_from in_seq k next ws) (IsAttrs in_seq k))
         → IfOk (r >>= λ given. attrs_from in_seq k (with_attr before given) ws) (IsAttrs in_seq k)
     one in_seq k before ws h (Err e) had others = tt
     one in_seq k before ws h (Ok given) had others = others (with_attr before given) (with_stays in_seq k before given h had.0 had.1)
@@ -204,8 +204,8 @@ node_had parent s (Ok k) = attrs_are parent k s
 pub node_is : (parent : Option Kind) (line : List ℕ) (k : Kind) (attrs : Attrs) → node_of parent line ≡ Ok (k, attrs) → IsChild parent (k, attrs)
 node_is parent line k attrs e = subst (λ (r : Result (Kind × Attrs) NodeFault). IfOk r (IsChild parent)) e (node_had parent (shape_of line) (kind_of line))
 
-pub attrs_had_from : (in_seq : Bool) (k : Kind) (ws : List Written) (attrs : Attrs) → attrs_from in_seq k no_attrs ws ≡ Ok attrs → IsAttrs in_seq k attrs
+pub attrs_had_from : (in_seq : Bool) (k : Kind) (ws : List WrittenAttr) (attrs : Attrs) → attrs_from in_seq k no_attrs ws ≡ Ok attrs → IsAttrs in_seq k attrs
 attrs_had_from in_seq k ws attrs e = subst (λ (r : Result Attrs NodeFault). IfOk r (IsAttrs in_seq k)) e (attrs_had in_seq k no_attrs ws (none in_seq k))
 
-pub attrs_allowed : (in_seq : Bool) (k : Kind) (ws : List Written) (attrs : Attrs) → attrs_from in_seq k no_attrs ws ≡ Ok attrs → IsAttrs false k attrs
+pub attrs_allowed : (in_seq : Bool) (k : Kind) (ws : List WrittenAttr) (attrs : Attrs) → attrs_from in_seq k no_attrs ws ≡ Ok attrs → IsAttrs false k attrs
 attrs_allowed in_seq k ws attrs e = attrs_anywhere in_seq k attrs (attrs_had_from in_seq k ws attrs e)

@@ -5,11 +5,11 @@ use Rattle.std.specs.List.{list_all, position_or_len}
 use Rattle.std.proofs.lemmas.Bool.{cases_lt, le-ltb}
 use Rattle.std.proofs.lemmas.Bool.Decides.{nat_tests}
 use Rattle.smil_grammar.specs.Texts.{cut_at}
-use Rattle.smil_grammar.specs.Nodes.{Written, is_space, attribute_at, attributes_at, pieces_of, with_written}
+use Rattle.smil_grammar.specs.Nodes.{WrittenAttr, is_space, attribute_at, attributes_at, pieces_of, with_written}
 use Rattle.smil_lexis.proofs.Pieces.{cut_pieces}
 
 -- what is left where no attribute stands
-abbrev pub ended : List ℕ → Option (List Written)
+abbrev pub ended : List ℕ → Option (List WrittenAttr)
 ended text = cond (list_all is_space text) (Some []) None
 
 quote_no_space : (b : ℕ) → eqb b 34 ≡ true → eqb b 32 ≡ false
@@ -44,7 +44,7 @@ says text found e = subst (Says text) e (cut_pieces 34 text)
 pub no_more : (place : ℕ) (text : List ℕ) → cut_at 34 text ≡ None → attributes_at place (pieces_of text) ≡ ended text
 no_more place text e = rw (says text None e) refl
 
-nothing : (w : Option Written) → with_written w None ≡ None
+nothing : (w : Option WrittenAttr) → with_written w None ≡ None
 nothing None = refl
 nothing (Some w) = refl
 
@@ -67,7 +67,7 @@ pub malformed : (place : ℕ) (text lead behind value rest : List ℕ) → cut_a
 malformed place text lead behind value rest e f none =
     two_cuts place text lead behind value rest e f ∙ rw (none, cut_not_spaces text (lead, behind) e) refl
 
-pub passed : (place : ℕ) (text lead behind value rest : List ℕ) (w : Written) → cut_at 34 text ≡ Some (lead, behind) → cut_at 34 behind ≡ Some (value, rest)
+pub passed : (place : ℕ) (text lead behind value rest : List ℕ) (w : WrittenAttr) → cut_at 34 text ≡ Some (lead, behind) → cut_at 34 behind ≡ Some (value, rest)
     → attribute_at place lead value ≡ Some w → attributes_at place (pieces_of text) ≡ with_written (Some w) (attributes_at (place + (length lead + length value + 2)) (pieces_of rest))
 passed place text lead behind value rest w e f some =
     let on : place + length lead + length value + 2 ≡ place + (length lead + length value + 2) = omega arith in

@@ -15,7 +15,7 @@ use Rattle.smil_model.specs.declared.document.AttrName.{AttrName}
 use Rattle.smil_model.specs.declared.document.AttrName.TheVariants as name
 use Rattle.smil_grammar.specs.Texts.{space, quote, behind}
 use Rattle.smil_grammar.specs.Attributes.{kind_text, kind_called, name_text, names}
-use Rattle.smil_grammar.specs.Nodes.{Written, is_of_kind, attribute_at, attributes_at, pieces_of, shape_of, shape_behind, saved_shape_of, repeats}
+use Rattle.smil_grammar.specs.Nodes.{WrittenAttr, is_of_kind, attribute_at, attributes_at, pieces_of, shape_of, shape_behind, saved_shape_of, repeats}
 use Rattle.smil_grammar.specs.Items.{count_of}
 use Rattle.smil_lexis.proofs.Decimals.{decimal_passes}
 use Rattle.smil_time_list.proofs.Spelled.{count_read}
@@ -92,13 +92,13 @@ piece front rest h = slice_split_at (λ b. eqb b quote) front quote rest (All-fr
 
 -- the attributes that are written, from this place on
 
-abbrev pub written_at : ℕ → AttrName → List ℕ → Written
+abbrev pub written_at : ℕ → AttrName → List ℕ → WrittenAttr
 written_at place n value = record { name = name_text n; name_place = place + 1; value = value; value_place = place + length (lead n) + 1 }
 
 -- each attribute that is there, with its place
-abbrev pub written_from : ℕ → (AttrName → Option (List ℕ)) → List AttrName → List Written
+abbrev pub written_from : ℕ → (AttrName → Option (List ℕ)) → List AttrName → List WrittenAttr
 written_from place values [] = []
-written_from place values (n ∷ ns) = elim (values n) as (λ o. List Written) [ None ↦ written_from place values ns | Some value ↦ written_at place n value ∷ written_from (place + length (lead n) + length value + 2) values ns ]
+written_from place values (n ∷ ns) = elim (values n) as (λ o. List WrittenAttr) [ None ↦ written_from place values ns | Some value ↦ written_at place n value ∷ written_from (place + length (lead n) + length value + 2) values ns ]
 
 abbrev line_of : (AttrName → Option (List ℕ)) → List AttrName → List ℕ
 line_of values ns = flat_map (λ n. attribute_text n (values n)) ns
@@ -115,7 +115,7 @@ attributes_read values h place (n ∷ ns) = one values place n ns (values n) (h 
   where
     one : (values : AttrName → Option (List ℕ)) (place : ℕ) (n : AttrName) (ns : List AttrName) (o : Option (List ℕ)) → IfSome o Unquoted
         → ((place : ℕ) → attributes_at place (pieces_of (line_of values ns)) ≡ Some (written_from place values ns))
-        → attributes_at place (pieces_of (attribute_text n o ++ line_of values ns)) ≡ Some (elim o as (λ o. List Written) [ None ↦ written_from place values ns | Some value ↦ written_at place n value ∷ written_from (place + length (lead n) + length value + 2) values ns ])
+        → attributes_at place (pieces_of (attribute_text n o ++ line_of values ns)) ≡ Some (elim o as (λ o. List WrittenAttr) [ None ↦ written_from place values ns | Some value ↦ written_at place n value ∷ written_from (place + length (lead n) + length value + 2) values ns ])
     one values place n ns None h others = others place
     one values place n ns (Some value) h others =
         ap (attributes_at place) (pieces_read n value (line_of values ns) h) ∙ rw (lead_read place value n, others (place + length (lead n) + length value + 2)) refl
@@ -129,13 +129,13 @@ abbrev distinct : List AttrName → Bool
 distinct [] = true
 distinct (n ∷ ns) = not (list_any (same n) ns) && distinct ns
 
-absent : (values : AttrName → Option (List ℕ)) (n : AttrName) (place : ℕ) (ns : List AttrName) → list_any (same n) ns ≡ false → list_any (λ (other : Written). bytes_eq other.name (name_text n)) (written_from place values ns) ≡ false
+absent : (values : AttrName → Option (List ℕ)) (n : AttrName) (place : ℕ) (ns : List AttrName) → list_any (same n) ns ≡ false → list_any (λ (other : WrittenAttr). bytes_eq other.name (name_text n)) (written_from place values ns) ≡ false
 absent values n place [] e = refl
 absent values n place (m ∷ ns) e = one values n place m ns (values m) (or_parts (same n m) (list_any (same n) ns) e).0 (λ place. absent values n place ns (or_parts (same n m) (list_any (same n) ns) e).1)
   where
     one : (values : AttrName → Option (List ℕ)) (n : AttrName) (place : ℕ) (m : AttrName) (ns : List AttrName) (o : Option (List ℕ)) → same n m ≡ false
-        → ((place : ℕ) → list_any (λ (other : Written). bytes_eq other.name (name_text n)) (written_from place values ns) ≡ false)
-        → list_any (λ (other : Written). bytes_eq other.name (name_text n)) (elim o as (λ o. List Written) [ None ↦ written_from place values ns | Some value ↦ written_at place m value ∷ written_from (place + length (lead m) + length value + 2) values ns ]) ≡ false
+        → ((place : ℕ) → list_any (λ (other : WrittenAttr). bytes_eq other.name (name_text n)) (written_from place values ns) ≡ false)
+        → list_any (λ (other : WrittenAttr). bytes_eq other.name (name_text n)) (elim o as (λ o. List WrittenAttr) [ None ↦ written_from place values ns | Some value ↦ written_at place m value ∷ written_from (place + length (lead m) + length value + 2) values ns ]) ≡ false
     one values n place m ns None e others = others place
     one values n place m ns (Some value) e others = rw (e, others (place + length (lead m) + length value + 2)) refl
 
@@ -145,7 +145,7 @@ no_repeats values place (n ∷ ns) e = one values place n ns (values n) (not-tru
   where
     one : (values : AttrName → Option (List ℕ)) (place : ℕ) (n : AttrName) (ns : List AttrName) (o : Option (List ℕ)) → list_any (same n) ns ≡ false
         → ((place : ℕ) → repeats (written_from place values ns) ≡ false)
-        → repeats (elim o as (λ o. List Written) [ None ↦ written_from place values ns | Some value ↦ written_at place n value ∷ written_from (place + length (lead n) + length value + 2) values ns ]) ≡ false
+        → repeats (elim o as (λ o. List WrittenAttr) [ None ↦ written_from place values ns | Some value ↦ written_at place n value ∷ written_from (place + length (lead n) + length value + 2) values ns ]) ≡ false
     one values place n ns None e others = others place
     one values place n ns (Some value) e others = rw (absent values n (place + length (lead n) + length value + 2) ns e, others (place + length (lead n) + length value + 2)) refl
 

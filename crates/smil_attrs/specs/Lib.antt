@@ -1,3 +1,3 @@
 pub mod Reads
-pub mod Left
+pub mod Remainder
 pub mod Fits

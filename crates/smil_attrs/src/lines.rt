@@ -4,7 +4,8 @@ ghost use Rattle.std.specs.Prelude.{◌≡◌, ◌++◌, ◌*◌, ℕ, replicate
 ghost use Rattle.smil_grammar.specs.Attributes.{names as all_names};
 ghost use Rattle.smil_grammar.specs.Texts.{space};
 ghost use Rattle.smil_grammar.specs.Outlines.{header_of};
-ghost use Rattle.smil_grammar.specs.Spellings.{attr_at, value_text, attribute_text, node_text, saved_node_text, header_text, Begins};
+ghost use Rattle.smil_grammar.specs.Spellings.{attr_at, value_text, attribute_text, node_text, saved_node_text, header_text};
+ghost use Rattle.smil_model.specs.document.Words.{Begins};
 ghost use Rattle.smil_grammar.specs.Allowed.{IsAttrs};
 
 use super::kinds;
@@ -43,7 +44,7 @@ const NAMES: [AttrName; 23] = [
 ];
 
 // Appends two spaces for each level.
-#[tactic(auto, using(smil_lexis::proofs::Growing::begins_on))]
+#[tactic(auto, using(smil_model::proofs::Growing::begins_on))]
 fn put_indent(depth: u32, out: &mut Bytes) -> Result<(), AllocError>
     ensures ok { OnOk result (out.new ≡ out.old ++ replicate (2 * depth) space) }
     ensures err { OnErr result (Begins out.old out.new) }
@@ -55,7 +56,7 @@ fn put_indent(depth: u32, out: &mut Bytes) -> Result<(), AllocError>
 }
 
 // Appends the attributes that are there, in their order.
-#[tactic(auto, using(smil_lexis::proofs::Growing::begins_on))]
+#[tactic(auto, using(smil_model::proofs::Growing::begins_on))]
 fn put_attrs(kind: Kind, attrs: &Attrs, out: &mut Bytes) -> Result<(), AllocError>
     requires { IsAttrs false kind attrs.now }
     ensures ok { OnOk result (out.new ≡ out.old
@@ -69,7 +70,7 @@ fn put_attrs(kind: Kind, attrs: &Attrs, out: &mut Bytes) -> Result<(), AllocErro
 }
 
 // Appends the line of a node.
-#[tactic(auto, using(smil_lexis::proofs::Growing::begins_on))]
+#[tactic(auto, using(smil_model::proofs::Growing::begins_on))]
 fn put_node(depth: u32, kind: Kind, attrs: &Attrs, out: &mut Bytes) -> Result<(), AllocError>
     requires { IsAttrs false kind attrs.now }
     ensures ok { OnOk result (out.new ≡ out.old ++ node_text depth kind attrs.now) }
@@ -100,7 +101,7 @@ pub fn write_node(depth: u32, kind: Kind, attrs: &Attrs, out: &mut Bytes) -> Res
 }
 
 // A number behind a text.
-#[tactic(auto, using(smil_lexis::proofs::Growing::begins_on))]
+#[tactic(auto, using(smil_model::proofs::Growing::begins_on))]
 fn put_number(text: &[u8], number: u32, out: &mut Bytes) -> Result<(), AllocError>
     ensures ok { OnOk result (out.new ≡ out.old ++ text.now ++ decimal number) }
     ensures err { OnErr result (Begins out.old out.new) }
@@ -111,7 +112,7 @@ fn put_number(text: &[u8], number: u32, out: &mut Bytes) -> Result<(), AllocErro
 }
 
 // Appends the line of a node with its serial.
-#[tactic(auto, using(smil_lexis::proofs::Growing::begins_on))]
+#[tactic(auto, using(smil_model::proofs::Growing::begins_on))]
 fn put_node_2(depth: u32, node: &Node, out: &mut Bytes) -> Result<(), AllocError>
     requires { IsAttrs false node.now.kind node.now.attrs }
     ensures ok { OnOk result (out.new ≡ out.old

@@ -2,7 +2,7 @@
 
 ghost use Rattle.std.specs.Prelude.{◌≡◌, ℕ, Some, IfOk, false};
 ghost use Rattle.smil_grammar.specs.Allowed.{IsAttrs};
-ghost use Rattle.smil_grammar.specs.Nodes.{Written as WrittenText, Shape as ShapeText, column_at, attr_of, attrs_from, attrs_of, kind_of, kind_of_shape, node_of};
+ghost use Rattle.smil_grammar.specs.Nodes.{WrittenAttr as WrittenText, Shape as ShapeText, column_at, attr_of, attrs_from, attrs_of, kind_of, kind_of_shape, node_of};
 ghost use Rattle.smil_grammar.specs.Gives.{GivesNode};
 ghost use Rattle.smil_model.specs.document.Edits.{no_attrs};
 ghost use Rattle.smil_model.specs.document.Values.{is_seq_parent};
@@ -10,7 +10,7 @@ ghost use Rattle.smil_model.specs.document.Valid.{may_stand};
 
 use super::attribute::read_attr;
 use super::kinds;
-use super::shape::{Shape, Written};
+use super::shape::{Shape, WrittenAttr};
 use smil_grammar::{AttrFault, NodeFault};
 use smil_model::{Attr, Attrs, Kind, with_attr};
 use std::alloc::Global;
@@ -31,7 +31,7 @@ fn attr(
     alloc: Global,
     parent: Option<Kind>,
     kind: Kind,
-    written: &Written<'_>,
+    written: &WrittenAttr<'_>,
 ) -> Result<Attr, NodeFault>
     ensures { GivesNode result (attr_of (is_seq_parent parent) kind written.now) }
 {
@@ -65,7 +65,8 @@ pub fn shape_attrs(
     kind: Kind,
     shape: &Shape<'_>,
 ) -> Result<Attrs, NodeFault>
-    ensures { GivesNode result (attrs_from (is_seq_parent parent) kind no_attrs shape.now.attributes) }
+    ensures { GivesNode result
+        (attrs_from (is_seq_parent parent) kind no_attrs shape.now.attributes) }
 {
     let mut attrs = Attrs::none();
     let mut left = shape.attributes.again();

@@ -2,8 +2,8 @@
 
 ghost use Rattle.std.specs.Prelude.{◌≡◌, ◌<◌, ◌≤◌, ◌+◌, ◌-◌, ◌^◌, ℕ, Option, List, take, length, option_map, Some, None, IsSome, is_some, bytes_eq, if◌then◌else◌};
 ghost use Rattle.std.specs.List.{prefix_len, list_all, list_any};
-ghost use Rattle.smil_grammar.specs.Nodes.{Written as WrittenText, is_no_space, is_of_kind, shaped, shape_of, saved_shape_of, attributes_at, pieces_of, is_named, attribute_at, repeats as repeats_name};
-ghost use Rattle.smil_attrs.specs.Left.{Passes, attributes_in, written_in};
+ghost use Rattle.smil_grammar.specs.Nodes.{WrittenAttr as WrittenText, is_no_space, is_of_kind, shaped, shape_of, saved_shape_of, attributes_at, pieces_of, is_named, attribute_at, repeats as repeats_name};
+ghost use Rattle.smil_attrs.specs.Remainder.{Passes, attributes_in, written_in};
 
 use smil_lexis::runs;
 use smil_lexis::texts::{behind, cut, is};
@@ -13,15 +13,15 @@ use std::marker::Model;
 
 /// An attribute as it is written, with the places of its name and its value in the line.
 #[derive(Drop)]
-pub struct Written<'a> {
+pub struct WrittenAttr<'a> {
     pub name: &'a [u8],
     pub name_place: usize,
     pub value: &'a [u8],
     pub value_place: usize,
 }
 
-impl<'a> Model for Written<'a> {
-    ghost use Rattle.smil_grammar.specs.Nodes.{Written as WrittenText};
+impl<'a> Model for WrittenAttr<'a> {
+    ghost use Rattle.smil_grammar.specs.Nodes.{WrittenAttr as WrittenText};
 
     ghost Value = { WrittenText };
 
@@ -37,9 +37,9 @@ pub struct Attributes<'a> {
 
 impl<'a> Model for Attributes<'a> {
     ghost use Rattle.std.specs.Prelude.{◌<◌, ◌+◌, ◌^◌, length};
-    ghost use Rattle.smil_attrs.specs.Left.{Left};
+    ghost use Rattle.smil_attrs.specs.Remainder.{Remainder};
 
-    ghost Value = { Left };
+    ghost Value = { Remainder };
 
     ghost view = { λ a. record { text = a.text.now; place = a.place } };
 
@@ -65,13 +65,13 @@ fn name(run: &[u8]) -> Option<&[u8]>
 }
 
 // The attribute of what stands before an opening quote, and what stands behind it.
-fn attribute<'a>(lead: &'a [u8], value: &'a [u8], place: usize) -> Option<Written<'a>>
+fn attribute<'a>(lead: &'a [u8], value: &'a [u8], place: usize) -> Option<WrittenAttr<'a>>
     requires { place + length lead.now + 1 < 2 ^ 64 }
     ensures { result ≡ attribute_at place lead.now value.now }
 {
     let (front, run) = lead.split_at(runs::spaces(lead));
     match name(run) {
-        Some(name) if !front.is_empty() => Some(Written {
+        Some(name) if !front.is_empty() => Some(WrittenAttr {
             name,
             name_place: place + front.len(),
             value,
@@ -83,7 +83,7 @@ fn attribute<'a>(lead: &'a [u8], value: &'a [u8], place: usize) -> Option<Writte
 
 impl<'a> Attributes<'a> {
     /// Takes the first attribute; where none stands there, nothing is taken.
-    pub fn next(&mut self) -> Option<Written<'a>>
+    pub fn next(&mut self) -> Option<WrittenAttr<'a>>
         ensures { Passes self.old result self.new }
     {
         let Some((lead, behind)) = cut(self.text, b'"') else {
@@ -159,7 +159,7 @@ pub struct Shape<'a> {
 impl<'a> Model for Shape<'a> {
     ghost use Rattle.std.specs.Prelude.{IsSome};
     ghost use Rattle.smil_grammar.specs.Nodes.{Shape as ShapeText};
-    ghost use Rattle.smil_attrs.specs.Left.{attributes_in, written_in};
+    ghost use Rattle.smil_attrs.specs.Remainder.{attributes_in, written_in};
 
     ghost Value = { ShapeText };
 

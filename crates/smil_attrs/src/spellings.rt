@@ -5,7 +5,8 @@ ghost use Rattle.smil_model.specs.Times.{IsMoment};
 ghost use Rattle.smil_grammar.specs.Attributes.{name_text};
 ghost use Rattle.smil_grammar.specs.Texts.{space};
 ghost use Rattle.smil_grammar.specs.Clock.{clock_text};
-ghost use Rattle.smil_grammar.specs.Spellings.{dur_text, time_text, decimals, count_text, restart_text, fill_text, restart_default_text, fill_default_text, endsync_text, act_text, list_text, attr_at, attr_text, value_text, attribute_text, CanWrite, Begins};
+ghost use Rattle.smil_grammar.specs.Spellings.{dur_text, time_text, decimals, count_text, restart_text, fill_text, restart_default_text, fill_default_text, endsync_text, act_text, list_text, attr_at, attr_text, value_text, attribute_text, CanWrite};
+ghost use Rattle.smil_model.specs.document.Words.{Begins};
 ghost use Rattle.smil_attrs.specs.Fits.{FitsDur, FitsTime, FitsAttr};
 
 use super::names;
@@ -154,7 +155,7 @@ fn put_count(count: Count, out: &mut Bytes) -> Result<(), AllocError>
 }
 
 // The name of an attribute, behind a space and before its value.
-#[tactic(auto, using(smil_lexis::proofs::Growing::begins_on))]
+#[tactic(auto, using(smil_model::proofs::Growing::begins_on))]
 fn put_name(name: AttrName, out: &mut Bytes) -> Result<(), AllocError>
     ensures ok { OnOk result (out.new ≡ out.old ++ space ∷ (name_text name ++ codes "=\"")) }
     ensures err { OnErr result (Begins out.old out.new) }
@@ -165,7 +166,7 @@ fn put_name(name: AttrName, out: &mut Bytes) -> Result<(), AllocError>
 }
 
 // An attribute whose value is this text.
-#[tactic(auto, using(smil_lexis::proofs::Growing::begins_on))]
+#[tactic(auto, using(smil_model::proofs::Growing::begins_on))]
 fn put_word(name: AttrName, word: &[u8], out: &mut Bytes) -> Result<(), AllocError>
     ensures ok { OnOk result (out.new ≡ out.old ++ attribute_text name (Some word.now)) }
     ensures err { OnErr result (Begins out.old out.new) }
@@ -200,7 +201,8 @@ fn put_restart(name: AttrName, value: Option<Restart>, out: &mut Bytes) -> Resul
 
 // Appends a `fill` with its name.
 fn put_fill(name: AttrName, value: Option<Fill>, out: &mut Bytes) -> Result<(), AllocError>
-    ensures ok { OnOk result (out.new ≡ out.old ++ attribute_text name (option_map fill_text value)) }
+    ensures ok { OnOk result (out.new ≡ out.old
+        ++ attribute_text name (option_map fill_text value)) }
     ensures err { OnErr result (Begins out.old out.new) }
 {
     match value {
@@ -243,7 +245,8 @@ fn put_fill_default(
 
 // Appends an attribute of a priorityClass.
 fn put_act(name: AttrName, value: Option<Act>, out: &mut Bytes) -> Result<(), AllocError>
-    ensures ok { OnOk result (out.new ≡ out.old ++ attribute_text name (option_map act_text value)) }
+    ensures ok { OnOk result (out.new ≡ out.old
+        ++ attribute_text name (option_map act_text value)) }
     ensures err { OnErr result (Begins out.old out.new) }
 {
     match value {
@@ -265,7 +268,7 @@ fn put_endsync(name: AttrName, value: &Option<Endsync>, out: &mut Bytes) -> Resu
 }
 
 // Appends a list with its name.
-#[tactic(auto, using(smil_lexis::proofs::Growing::begins_on))]
+#[tactic(auto, using(smil_model::proofs::Growing::begins_on))]
 fn put_list(name: AttrName, value: &Option<Items>, out: &mut Bytes) -> Result<(), AllocError>
     requires { IfSome value.now (All CanWrite) }
     ensures ok { OnOk result (out.new ≡ out.old
@@ -283,7 +286,7 @@ fn put_list(name: AttrName, value: &Option<Items>, out: &mut Bytes) -> Result<()
 }
 
 // Appends a `min` with its name.
-#[tactic(auto, using(smil_lexis::proofs::Growing::begins_on))]
+#[tactic(auto, using(smil_model::proofs::Growing::begins_on))]
 fn put_min(name: AttrName, value: Option<i64>, out: &mut Bytes) -> Result<(), AllocError>
     requires { IfSome value IsMoment }
     ensures ok { OnOk result (out.new ≡ out.old
@@ -301,10 +304,11 @@ fn put_min(name: AttrName, value: Option<i64>, out: &mut Bytes) -> Result<(), Al
 }
 
 // Appends a `dur` with its name.
-#[tactic(auto, using(smil_lexis::proofs::Growing::begins_on))]
+#[tactic(auto, using(smil_model::proofs::Growing::begins_on))]
 fn put_duration(name: AttrName, value: Option<Dur>, out: &mut Bytes) -> Result<(), AllocError>
     requires { IfSome value FitsDur }
-    ensures ok { OnOk result (out.new ≡ out.old ++ attribute_text name (option_map dur_text value)) }
+    ensures ok { OnOk result (out.new ≡ out.old
+        ++ attribute_text name (option_map dur_text value)) }
     ensures err { OnErr result (Begins out.old out.new) }
 {
     match value {
@@ -318,10 +322,11 @@ fn put_duration(name: AttrName, value: Option<Dur>, out: &mut Bytes) -> Result<(
 }
 
 // Appends a `max` or a `repeatDur` with its name.
-#[tactic(auto, using(smil_lexis::proofs::Growing::begins_on))]
+#[tactic(auto, using(smil_model::proofs::Growing::begins_on))]
 fn put_limit(name: AttrName, value: Option<Time>, out: &mut Bytes) -> Result<(), AllocError>
     requires { IfSome value FitsTime }
-    ensures ok { OnOk result (out.new ≡ out.old ++ attribute_text name (option_map time_text value)) }
+    ensures ok { OnOk result (out.new ≡ out.old
+        ++ attribute_text name (option_map time_text value)) }
     ensures err { OnErr result (Begins out.old out.new) }
 {
     match value {
@@ -335,7 +340,7 @@ fn put_limit(name: AttrName, value: Option<Time>, out: &mut Bytes) -> Result<(),
 }
 
 // Appends a `repeatCount` with its name.
-#[tactic(auto, using(smil_lexis::proofs::Growing::begins_on))]
+#[tactic(auto, using(smil_model::proofs::Growing::begins_on))]
 fn put_repeat_count(name: AttrName, value: Option<Count>, out: &mut Bytes) -> Result<(), AllocError>
     ensures ok { OnOk result (out.new ≡ out.old
         ++ attribute_text name (option_map count_text value)) }
@@ -355,7 +360,8 @@ fn put_repeat_count(name: AttrName, value: Option<Count>, out: &mut Bytes) -> Re
 /// stays at the front.
 pub fn put_attr(name: AttrName, attrs: &Attrs, out: &mut Bytes) -> Result<(), AllocError>
     requires { IfSome (attr_at attrs.now name) FitsAttr }
-    ensures ok { OnOk result (out.new ≡ out.old ++ attribute_text name (value_text attrs.now name)) }
+    ensures ok { OnOk result (out.new ≡ out.old
+        ++ attribute_text name (value_text attrs.now name)) }
     ensures err { OnErr result (Begins out.old out.new) }
 {
     match name {

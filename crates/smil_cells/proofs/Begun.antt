@@ -21,7 +21,7 @@ use Rattle.smil_laws.specs.Near.{AllNear, ResolvedIsNear}
 use Rattle.smil_laws.proofs.ResolvedSteps.{resolved_lawful}
 use Rattle.smil_stretch.proofs.Moments.{timed_of}
 use Rattle.smil_past.specs.Past as past_of
-use Rattle.smil_past.specs.Past.{Happened, IsPossible, IsPresent}
+use Rattle.smil_past.specs.Past.{MarkedHistory, IsPossible, IsPresent}
 use Rattle.smil_cells.specs.Standing.{Standing, IsRebuilt, MayRebuild, cut_log}
 use Rattle.smil_diary.specs.declared.fault.BookFault.{BookFault}
 use Rattle.smil_cells.specs.Standings.{IsKept, MayBegin, begun, marked_by}
@@ -29,7 +29,7 @@ use Rattle.smil_cells.proofs.Heeded.{first_is_log, heeded}
 use Rattle.smil_cells.proofs.Grown.{positive}
 use Rattle.smil_model.proofs.Orders.{le_from}
 
-module _ (past : Happened) (moment : ℤ) (may : MayBegin past moment) where
+module _ (past : MarkedHistory) (moment : ℤ) (may : MayBegin past moment) where
   pub is_present : ReachedIsPast → IsPresent past moment
   is_present law = record {
     past_is = subst (λ (z : ℤ). until z past.diary ≡ past.diary) (sym (positive moment may.from))
@@ -150,27 +150,27 @@ module _ (s : Standing) (document : Document) (len : ℕ) (may : MayRebuild s do
 
 -- what is begun is the presentation rebuilt
 module _ (s : Standing) (document : Document) (len : ℕ) (may : MayRebuild s document len) where
-  abbrev rebuilt_past : Happened
+  abbrev rebuilt_past : MarkedHistory
   rebuilt_past = record { document = document; log = cut_log s.presentation.log (take len s.diary); diary = take len s.diary; marked = None }
 
-  pub rebuilt_is : (past : Happened) (z : ℤ) (cells : Standing) → past ≡ rebuilt_past → z ≡ pos may.at.moment → cells ≡ begun past z → IsRebuilt s document len cells
+  pub rebuilt_is : (past : MarkedHistory) (z : ℤ) (cells : Standing) → past ≡ rebuilt_past → z ≡ pos may.at.moment → cells ≡ begun past z → IsRebuilt s document len cells
   rebuilt_is past z cells is at made =
-      subst (λ (x : Standing). IsRebuilt s document len x) (sym (made ∙ (ap (λ (p : Happened). begun p z) is ∙ ap (λ (v : ℤ). begun rebuilt_past v) at)))
+      subst (λ (x : Standing). IsRebuilt s document len x) (sym (made ∙ (ap (λ (p : MarkedHistory). begun p z) is ∙ ap (λ (v : ℤ). begun rebuilt_past v) at)))
       (record { document_is = refl; diary_is = refl; log_is = refl; moment_is = moment_is s document len may; sound = refl; unmarked = refl })
 
 -- ---- a copy
 
-pub no_mark : (past : Happened) (mark : Option ℤ) (lens : Option (ℕ × ℕ)) → is_some lens ≡ is_some mark → marked_by past mark lens ≡ None → (mark ≡ None) × (lens ≡ None)
+pub no_mark : (past : MarkedHistory) (mark : Option ℤ) (lens : Option (ℕ × ℕ)) → is_some lens ≡ is_some mark → marked_by past mark lens ≡ None → (mark ≡ None) × (lens ≡ None)
 no_mark past None None same none = (refl, refl)
 no_mark past None (Some l) same none = cc
 no_mark past (Some m) None same none = cc
 no_mark past (Some m) (Some l) same none = cc
 
-pub copied : (is_current is_marked is_current' is_marked' : History → ℤ → Type 0) (has_mark has_mark' : Bool) (past past' : Happened) (moment z : ℤ) (fault : Option BookFault) (mark : Option ℤ) (touched touched' : List ℕ)
+pub copied : (is_current is_marked is_current' is_marked' : History → ℤ → Type 0) (has_mark has_mark' : Bool) (past past' : MarkedHistory) (moment z : ℤ) (fault : Option BookFault) (mark : Option ℤ) (touched touched' : List ℕ)
     → z ≡ moment → past' ≡ past → fault ≡ None → (mark ≡ None) × (past.marked ≡ None) → has_mark' ≡ false → ((h : History) (now : ℤ) → is_current h now → is_current' h now)
     → IsKept is_current is_marked has_mark past moment fault mark touched → IsKept is_current' is_marked' has_mark' past' z None None touched'
 copied is_current is_marked is_current' is_marked' has_mark has_mark' past past' moment z fault mark touched touched' same is sound none unmarked given kept =
-    subst (λ (p : Happened). IsKept is_current' is_marked' has_mark' p z None None touched') (sym is)
+    subst (λ (p : MarkedHistory). IsKept is_current' is_marked' has_mark' p z None None touched') (sym is)
     (subst (λ (v : ℤ). IsKept is_current' is_marked' has_mark' past v None None touched') (sym same)
     (record {
       present = kept.present;

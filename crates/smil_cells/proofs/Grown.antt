@@ -36,7 +36,7 @@ use Rattle.smil_laws.proofs.Grouped.{group_filled}
 use Rattle.smil_past.specs.Past as past_of
 use Rattle.smil_cells.proofs.OnWay.{untouched}
 use Rattle.smil_laws.specs.Firsts.{FirstIsOfElement}
-use Rattle.smil_past.specs.Past.{Happened, IsPresent, with_diary}
+use Rattle.smil_past.specs.Past.{MarkedHistory, IsPresent, with_diary}
 use Rattle.smil_cells.specs.Standing.{IsFront, IsNext, IsRefusing, WhereTold, fresh, fresh_since, MayAppendAll, history_of}
 use Rattle.smil_stretch.specs.Clocks.{AreClocksOf}
 use Rattle.smil_past.specs.Queues.{kept_queues}
@@ -57,7 +57,7 @@ until_moment m [] = refl
 until_moment m (x ∷ xs) = rw (le_self m) (ap (λ (k : List Entry). record { moment = m; step = x } ∷ k) (until_moment m xs))
 
 -- the entries of a moment leave it the moment
-pub present_with : (past : Happened) (m : ℤ) (steps : List Step) → IsPresent past m → IsPresent (with_diary past (past.diary ++ at_moment m steps)) m
+pub present_with : (past : MarkedHistory) (m : ℤ) (steps : List Step) → IsPresent past m → IsPresent (with_diary past (past.diary ++ at_moment m steps)) m
 present_with past m steps was = record {
   past_is = filter-append (λ (x : Entry). int_le x.moment m) past.diary (at_moment m steps) ∙ (ap (λ (k : List Entry). k ++ until m (at_moment m steps)) was.past_is ∙ ap (λ (k : List Entry). past.diary ++ k) (until_moment m steps));
   from = was.from;
@@ -66,8 +66,8 @@ present_with past m steps was = record {
 
 -- ---- what the mark goes back to
 
-module _ (past : Happened) (more : List Entry) where
-  abbrev grown_past : Happened
+module _ (past : MarkedHistory) (more : List Entry) where
+  abbrev grown_past : MarkedHistory
   grown_past = with_diary past (past.diary ++ more)
 
   pub same_mark : (mark : Option ℤ) (lens : Option (ℕ × ℕ)) → ((l : ℕ × ℕ) → lens ≡ Some l → (l.0 ≤ length past.log) × (l.1 ≤ length past.diary)) → marked_by grown_past mark lens ≡ marked_by past mark lens
@@ -98,11 +98,11 @@ module _ (past : Happened) (more : List Entry) where
         by_mark None k = k
         by_mark (Some x) k = record { state = k.state; reached = k.reached; current = given (history_of (at_mark touched x)) (pos x.0.now) k.current }
 
-pub refusing : (past new : Happened) (more : List Entry) (m : ℤ) (fault : Option BookFault) (f : BookFault) (mark : Option ℤ) (touched touched' : List ℕ) → new ≡ with_diary past (past.diary ++ more)
+pub refusing : (past new : MarkedHistory) (more : List Entry) (m : ℤ) (fault : Option BookFault) (f : BookFault) (mark : Option ℤ) (touched touched' : List ℕ) → new ≡ with_diary past (past.diary ++ more)
     → ((l : ℕ × ℕ) → past.marked ≡ Some l → (l.0 ≤ length past.log) × (l.1 ≤ length past.diary))
     → IsRefusing (standing_of past m fault mark touched) (standing_of new m (Some f) mark touched') f
 refusing past new more m fault f mark touched touched' made in_it =
-    subst (λ (x : Happened). IsRefusing (standing_of past m fault mark touched) (standing_of x m (Some f) mark touched') f) (sym made)
+    subst (λ (x : MarkedHistory). IsRefusing (standing_of past m fault mark touched) (standing_of x m (Some f) mark touched') f) (sym made)
     (record { fault_is = refl; document = refl; marked = same_mark past more mark past.marked in_it })
 
 -- ---- what comes first is of an element
@@ -157,7 +157,7 @@ first_part nodes log front rest lawful =
     subst (λ (d : List Entry). IsLawful (record { nodes = nodes; log = log; diary = d })) (take-append_seam front rest)
     (lawful_first (record { nodes = nodes; log = log; diary = front ++ rest }) (length front) lawful)
 
-pub all_may : (past : Happened) (m : ℤ) (steps : List Step) → IsLawful (record { nodes = past.document.nodes; log = past.log; diary = past.diary ++ at_moment m steps }) → AllNear (past.diary ++ at_moment m steps) → NamesBelow (length past.log) (past.diary ++ at_moment m steps) → MayAppendAll past (at_moment m steps)
+pub all_may : (past : MarkedHistory) (m : ℤ) (steps : List Step) → IsLawful (record { nodes = past.document.nodes; log = past.log; diary = past.diary ++ at_moment m steps }) → AllNear (past.diary ++ at_moment m steps) → NamesBelow (length past.log) (past.diary ++ at_moment m steps) → MayAppendAll past (at_moment m steps)
 all_may past m [] lawful near named = tt
 all_may past m (x ∷ xs) lawful near named =
     let y : Entry = record { moment = m; step = x } in
@@ -178,7 +178,7 @@ all_may past m (x ∷ xs) lawful near named =
 pub is_late : (m : ℤ) (diary : List Entry) → pos 0 ≤ℤ m → until m diary ≡ diary → last_moment diary ≤ℤ m
 is_late m diary from is = last_from m (pos 0) diary from is
 
-pub parts : (past : Happened) (m : ℤ) (given : Parts) → given.moment ≡ m → IsPresent past m
+pub parts : (past : MarkedHistory) (m : ℤ) (given : Parts) → given.moment ≡ m → IsPresent past m
     → given.tree.now ≡ past.document → given.book.now ≡ past.diary → AreClocksOf given.clocks.now (past_of.history_of past) → given.queues.now ≡ kept_queues (past_of.history_of past)
     → ArePartsOf given (past_of.history_of past)
 parts past m given whole present d b c q = record {
@@ -190,7 +190,7 @@ parts past m given whole present d b c q = record {
   late = subst (λ (v : ℤ). last_moment past.diary ≤ℤ v) (sym whole) (is_late m past.diary present.from present.past_is);
 }
 
-pub known_in : (past : Happened) (document : Document) (s : ℕ) → document ≡ past.document → has_element past.document.nodes s ≡ true → is_some (node_at document.nodes s) ≡ true
+pub known_in : (past : MarkedHistory) (document : Document) (s : ℕ) → document ≡ past.document → has_element past.document.nodes s ≡ true → is_some (node_at document.nodes s) ≡ true
 known_in past document s is q = subst (λ (d : Document). is_some (node_at d.nodes s) ≡ true) (sym is) (known_node past.document.nodes s q)
 
 take_at : (m : ℤ) (k : ℕ) (steps : List Step) → take k (at_moment m steps) ≡ at_moment m (take k steps)
@@ -203,17 +203,17 @@ length_at m [] = refl
 length_at m (x ∷ xs) = ap suc (length_at m xs)
 
 -- the list of the group is the steps at the moment
-module _ (past : Happened) (m z : ℤ) (serial : ℕ) (change : Change) (entries : List Entry) (whole : z ≡ m) (made : entries ≡ group (past_of.history_of past) z serial change) where
+module _ (past : MarkedHistory) (m z : ℤ) (serial : ℕ) (change : Change) (entries : List Entry) (whole : z ≡ m) (made : entries ≡ group (past_of.history_of past) z serial change) where
   abbrev pub now_steps : List Step
   now_steps = steps_of (past_of.history_of past) m serial change
 
   pub made_now : entries ≡ at_moment m now_steps
   made_now = made ∙ ap (λ (v : ℤ). group (past_of.history_of past) v serial change) whole
 
-  pub all_now : (new : Happened) → new ≡ with_diary past (past.diary ++ entries) → new ≡ with_diary past (past.diary ++ at_moment m now_steps)
+  pub all_now : (new : MarkedHistory) → new ≡ with_diary past (past.diary ++ entries) → new ≡ with_diary past (past.diary ++ at_moment m now_steps)
   all_now new is = is ∙ ap (λ (l : List Entry). with_diary past (past.diary ++ l)) made_now
 
-  pub some_now : (new : Happened) (k : ℕ) → new ≡ with_diary past (past.diary ++ take k entries) → new ≡ with_diary past (past.diary ++ at_moment m (take k now_steps))
+  pub some_now : (new : MarkedHistory) (k : ℕ) → new ≡ with_diary past (past.diary ++ take k entries) → new ≡ with_diary past (past.diary ++ at_moment m (take k now_steps))
   some_now new k is = is ∙ ap (λ (l : List Entry). with_diary past (past.diary ++ l)) (ap (λ (l : List Entry). take k l) made_now ∙ take_at m k now_steps)
 
   pub many_now : (d : ℕ) → d < length past.diary + length entries → d < length past.diary + length now_steps
@@ -230,7 +230,7 @@ split_at m zero steps = (at_moment m steps, refl)
 split_at m (suc k) [] = ([], refl)
 split_at m (suc k) (x ∷ xs) = let r = split_at m k xs in (r.0, ap (λ (l : List Entry). record { moment = m; step = x } ∷ l) r.1)
 
-module _ (past : Happened) (m : ℤ) (steps : List Step) (next : Coming) (valid : IsValid past.document) (present : IsPresent past m) (reached : Reaches (course_on past.document.nodes past.log (nat_abs m)) (record { moment = nat_abs m; heard = length past.log; diary = past.diary })) (first : first_coming (coming (record { nodes = past.document.nodes; log = past.log; diary = past.diary }) (pos (nat_abs m))) ≡ Some next) (due : next.key.value ≤ℤ pos (nat_abs m)) (made : steps ≡ steps_of (record { nodes = past.document.nodes; log = past.log; diary = past.diary }) m next.key.serial next.change) where
+module _ (past : MarkedHistory) (m : ℤ) (steps : List Step) (next : Coming) (valid : IsValid past.document) (present : IsPresent past m) (reached : Reaches (course_on past.document.nodes past.log (nat_abs m)) (record { moment = nat_abs m; heard = length past.log; diary = past.diary })) (first : first_coming (coming (record { nodes = past.document.nodes; log = past.log; diary = past.diary }) (pos (nat_abs m))) ≡ Some next) (due : next.key.value ≤ℤ pos (nat_abs m)) (made : steps ≡ steps_of (record { nodes = past.document.nodes; log = past.log; diary = past.diary }) m next.key.serial next.change) where
   is_due_now : is_due (pos (nat_abs m)) next.key ≡ true
   is_due_now = is_le next.key.value (pos (nat_abs m)) due
 
@@ -264,13 +264,13 @@ module _ (past : Happened) (m : ℤ) (steps : List Step) (next : Coming) (valid 
       let e = length-append past.diary (at_moment m steps) in
       omega (arith, some, e)
 
-  pub fronted : (new : Happened) (k : ℕ) → new ≡ with_diary past (past.diary ++ at_moment m (take k steps)) → length new.diary ≡ DIARY_ENTRIES → DIARY_ENTRIES < length past.diary + length steps
+  pub fronted : (new : MarkedHistory) (k : ℕ) → new ≡ with_diary past (past.diary ++ at_moment m (take k steps)) → length new.diary ≡ DIARY_ENTRIES → DIARY_ENTRIES < length past.diary + length steps
       → IsFront (course_on past.document.nodes past.log (nat_abs m)) new.diary
   fronted new k is filled many = record {
     at = record { moment = nat_abs m; heard = length past.log; diary = past.diary ++ at_moment m steps };
     reached = reached_after;
     front = sym (subst (λ (n : ℕ). take n (past.diary ++ at_moment m steps) ≡ new.diary) filled
-        (subst (λ (d : List Entry). take (length d) (past.diary ++ at_moment m steps) ≡ d) (sym (ap (λ (x : Happened). x.diary) is))
+        (subst (λ (d : List Entry). take (length d) (past.diary ++ at_moment m steps) ≡ d) (sym (ap (λ (x : MarkedHistory). x.diary) is))
         (ap (λ (l : List Entry). take (length (past.diary ++ at_moment m (take k steps))) l) seam ∙ take-append_seam (past.diary ++ at_moment m (take k steps)) (split_at m k steps).0)));
     many = numbers (length past.diary) (length steps) (length (past.diary ++ at_moment m steps)) DIARY_ENTRIES (length-append past.diary (at_moment m steps) ∙ ap (λ (n : ℕ). length past.diary + n) (length_at m steps)) many;
   }
@@ -283,20 +283,20 @@ module _ (past : Happened) (m : ℤ) (steps : List Step) (next : Coming) (valid 
 
 -- ---- the group has been taken in
 
-module _ (past : Happened) (m z : ℤ) (steps : List Step) (fault : Option BookFault) (mark : Option ℤ) (touched mid others : List ℕ) (start : ℕ) (here : z ≡ pos (nat_abs m)) (begins : start ≡ length past.diary) where
-  abbrev after : Happened
+module _ (past : MarkedHistory) (m z : ℤ) (steps : List Step) (fault : Option BookFault) (mark : Option ℤ) (touched mid others : List ℕ) (start : ℕ) (here : z ≡ pos (nat_abs m)) (begins : start ≡ length past.diary) where
+  abbrev after : MarkedHistory
   after = with_diary past (past.diary ++ at_moment m steps)
 
-  abbrev Shown : Happened → Type 0
+  abbrev Shown : MarkedHistory → Type 0
   Shown x = (e : Node) → node_at (elements x.document.nodes) e.serial ≡ Some e → any_shows x.document.nodes x.log (drop start x.diary) e.serial ≡ true → has mid e.serial ≡ true
 
-  abbrev Changed : Happened → Type 0
+  abbrev Changed : MarkedHistory → Type 0
   Changed x = (s : ℕ) → has others s ≡ false → current_interval (past_of.history_of x) z s ≡ current_interval (past_of.front x start) z s
 
-  abbrev Stays : Happened → Type 0
+  abbrev Stays : MarkedHistory → Type 0
   Stays x = (e : Node) → node_at (elements x.document.nodes) e.serial ≡ Some e → has touched e.serial ≡ true → has mid e.serial ≡ true
 
-  abbrev Came : Happened → Type 0
+  abbrev Came : MarkedHistory → Type 0
   Came x = IsNext (standing_of past m fault mark touched) (standing_of x m None mark others)
 
   front_is : take start (past.diary ++ at_moment m steps) ≡ past.diary
@@ -324,14 +324,14 @@ module _ (past : Happened) (m z : ℤ) (steps : List Step) (fault : Option BookF
           (changed e.serial free ∙ ap (λ (l : List Entry). current_interval (record { nodes = past.document.nodes; log = past.log; diary = l }) z e.serial) front_is));
     }
 
-    pub came_to : (new : Happened) → new ≡ after → length new.diary ≤ DIARY_ENTRIES → Stays new → Shown new → Changed new → Came new
-    came_to new is = subst (λ (x : Happened). length x.diary ≤ DIARY_ENTRIES → Stays x → Shown x → Changed x → Came x) (sym is) came
+    pub came_to : (new : MarkedHistory) → new ≡ after → length new.diary ≤ DIARY_ENTRIES → Stays new → Shown new → Changed new → Came new
+    came_to new is = subst (λ (x : MarkedHistory). length x.diary ≤ DIARY_ENTRIES → Stays x → Shown x → Changed x → Came x) (sym is) came
 
-  abbrev Fewer : Bool → ℕ → Happened → Type 0
+  abbrev Fewer : Bool → ℕ → MarkedHistory → Type 0
   Fewer flag n x = WhereTold flag (fresh x.document.nodes (current_interval (past_of.front x start) z) (current_interval (past_of.history_of x) z) ≤ n)
 
-  pub least_fresh : (flag : Bool) (n : ℕ) (new : Happened) → new ≡ after → Fewer flag n new → WhereTold flag (fresh_since (standing_of past m fault mark touched) (standing_of new m None mark others) ≤ n)
+  pub least_fresh : (flag : Bool) (n : ℕ) (new : MarkedHistory) → new ≡ after → Fewer flag n new → WhereTold flag (fresh_since (standing_of past m fault mark touched) (standing_of new m None mark others) ≤ n)
   least_fresh flag n new is =
-      subst (λ (x : Happened). Fewer flag n x → WhereTold flag (fresh_since (standing_of past m fault mark touched) (standing_of x m None mark others) ≤ n)) (sym is)
+      subst (λ (x : MarkedHistory). Fewer flag n x → WhereTold flag (fresh_since (standing_of past m fault mark touched) (standing_of x m None mark others) ≤ n)) (sym is)
       (λ q. subst (λ (x : ℤ). WhereTold flag (fresh past.document.nodes (current_interval (record { nodes = past.document.nodes; log = past.log; diary = past.diary }) x) (current_interval (record { nodes = past.document.nodes; log = past.log; diary = past.diary ++ at_moment m steps }) x) ≤ n)) here
       (subst (λ (l : List Entry). WhereTold flag (fresh past.document.nodes (current_interval (record { nodes = past.document.nodes; log = past.log; diary = l }) z) (current_interval (record { nodes = past.document.nodes; log = past.log; diary = past.diary ++ at_moment m steps }) z) ≤ n)) front_is q))

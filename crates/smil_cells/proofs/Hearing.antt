@@ -30,7 +30,7 @@ use Rattle.smil_laws.proofs.Numbered.{ordered}
 use Rattle.smil_laws.proofs.ResolvedSteps.{resolved_lawful}
 use Rattle.smil_diary.specs.declared.fault.BookFault.{BookFault}
 use Rattle.smil_past.specs.Past as past_of
-use Rattle.smil_past.specs.Past.{Happened, IsPresent, MayHear, logged_entry, with_heard}
+use Rattle.smil_past.specs.Past.{MarkedHistory, IsPresent, MayHear, logged_entry, with_heard}
 use Rattle.smil_cells.specs.Standing.{Standing, IsFront, IsHeard, IsRefusing, NothingBefore, WhereTold, fresh, fresh_since, with_logged}
 use Rattle.smil_cells.specs.Standings.{IsKept, IsSound, WhereMarked, marked_by, standing_of}
 use Rattle.smil_cells.proofs.Heard.{reached_heard}
@@ -47,8 +47,8 @@ from_first n = grind (arith, ints)
 
 -- ---- what the mark goes back to, and what is kept
 
-module _ (past : Happened) (entry : LogEntry) where
-  abbrev pub heard : Happened
+module _ (past : MarkedHistory) (entry : LogEntry) where
+  abbrev pub heard : MarkedHistory
   heard = with_heard past entry
 
   pub same_mark : (mark : Option ℤ) (lens : Option (ℕ × ℕ)) → ((l : ℕ × ℕ) → lens ≡ Some l → (l.0 ≤ length past.log) × (l.1 ≤ length past.diary)) → marked_by heard mark lens ≡ marked_by past mark lens
@@ -92,7 +92,7 @@ module _ (past : Happened) (entry : LogEntry) where
 
 -- ---- the course
 
-module _ (past : Happened) (m : ℤ) (entry : LogEntry) (fault : Option BookFault) (mark : Option ℤ) (touched : List ℕ) where
+module _ (past : MarkedHistory) (m : ℤ) (entry : LogEntry) (fault : Option BookFault) (mark : Option ℤ) (touched : List ℕ) where
   abbrev now : ℕ
   now = nat_abs m
 
@@ -105,7 +105,7 @@ module _ (past : Happened) (m : ℤ) (entry : LogEntry) (fault : Option BookFaul
   abbrev line : Entry
   line = logged_entry (length past.log) entry.moment
 
-  abbrev later : Happened
+  abbrev later : MarkedHistory
   later = with_heard past entry
 
   abbrev was : Standing
@@ -192,9 +192,9 @@ module _ (past : Happened) (m : ℤ) (entry : LogEntry) (fault : Option BookFaul
       rest_is : drop start later.diary ≡ line ∷ []
       rest_is = subst (λ (n : ℕ). drop n later.diary ≡ line ∷ []) (sym begins) (drop-append_seam past.diary (line ∷ []))
 
-      pub current_before : (is_current : History → ℤ → Type 0) → ((a b : History) (x y : ℤ) → IsSame a x b y → is_current a x → is_current b y) → is_current h (pos now) → (new : Happened) → new ≡ later → is_current (past_of.front new start) z
+      pub current_before : (is_current : History → ℤ → Type 0) → ((a b : History) (x y : ℤ) → IsSame a x b y → is_current a x → is_current b y) → is_current h (pos now) → (new : MarkedHistory) → new ≡ later → is_current (past_of.front new start) z
       current_before is_current stays current new is =
-          subst (λ (x : Happened). is_current (past_of.front x start) z) (sym is)
+          subst (λ (x : MarkedHistory). is_current (past_of.front x start) z) (sym is)
           (subst (λ (d : List Entry). is_current (record { nodes = past.document.nodes; log = past.log ++ entry ∷ []; diary = d }) z) (sym front_is)
           (subst (λ (v : ℤ). is_current h' v) (sym at_now) (stays h h' (pos now) (pos now) (same_heard law longer_law) current)))
 
@@ -206,16 +206,16 @@ module _ (past : Happened) (m : ℤ) (entry : LogEntry) (fault : Option BookFaul
           ∙ ap (λ (table : List (ℕ × Option Interval)). in_table table s) (same_heard law longer_law).table)
 
       module _ (mid others : List ℕ) where
-        abbrev Shown : Happened → Type 0
+        abbrev Shown : MarkedHistory → Type 0
         Shown x = (e : Node) → node_at (elements x.document.nodes) e.serial ≡ Some e → any_shows x.document.nodes x.log (drop start x.diary) e.serial ≡ true → has mid e.serial ≡ true
 
-        abbrev Changed : Happened → Type 0
+        abbrev Changed : MarkedHistory → Type 0
         Changed x = (s : ℕ) → has others s ≡ false → current_interval (past_of.history_of x) z s ≡ current_interval (past_of.front x start) z s
 
-        abbrev Stays : Happened → Type 0
+        abbrev Stays : MarkedHistory → Type 0
         Stays x = (e : Node) → node_at (elements x.document.nodes) e.serial ≡ Some e → has touched e.serial ≡ true → has mid e.serial ≡ true
 
-        abbrev Came : Happened → Type 0
+        abbrev Came : MarkedHistory → Type 0
         Came x = IsHeard was entry (standing_of x m None mark others)
 
         module _ (leaves : LeavesViews) (lens : (l : ℕ × ℕ) → past.marked ≡ Some l → (l.0 ≤ length past.log) × (l.1 ≤ length past.diary)) (two : (s : ℕ) → has mid s ≡ true → has others s ≡ true) where
@@ -235,8 +235,8 @@ module _ (past : Happened) (m : ℤ) (entry : LogEntry) (fault : Option BookFaul
                 ∙ (same_heard law longer_law).view e;
           }
 
-          pub came_heard : (new : Happened) → new ≡ later → Stays new → Shown new → Changed new → Came new
-          came_heard new is = subst (λ (x : Happened). Stays x → Shown x → Changed x → Came x) (sym is) came
+          pub came_heard : (new : MarkedHistory) → new ≡ later → Stays new → Shown new → Changed new → Came new
+          came_heard new is = subst (λ (x : MarkedHistory). Stays x → Shown x → Changed x → Came x) (sym is) came
 
       -- what differs from what it was before differs from what it was by the longer log
       fresh_same : (a b c : ℕ → Option Interval) → ((s : ℕ) → a s ≡ b s) → (es : List Node) → length (filter (λ (e : Node). is_fresh (a e.serial) (c e.serial)) es) ≡ length (filter (λ (e : Node). is_fresh (b e.serial) (c e.serial)) es)
@@ -250,34 +250,34 @@ module _ (past : Happened) (m : ℤ) (entry : LogEntry) (fault : Option BookFaul
           by_test true q = ap suc q
           by_test false q = q
 
-      abbrev Fewer : Bool → ℕ → Happened → Type 0
+      abbrev Fewer : Bool → ℕ → MarkedHistory → Type 0
       Fewer flag n x = WhereTold flag (fresh x.document.nodes (current_interval (past_of.front x start) z) (current_interval (past_of.history_of x) z) ≤ n)
 
-      pub least_heard : (flag : Bool) (n : ℕ) (others : List ℕ) (new : Happened) → new ≡ later → Fewer flag n new → WhereTold flag (fresh_since was (standing_of new m None mark others) ≤ n)
+      pub least_heard : (flag : Bool) (n : ℕ) (others : List ℕ) (new : MarkedHistory) → new ≡ later → Fewer flag n new → WhereTold flag (fresh_since was (standing_of new m None mark others) ≤ n)
       least_heard flag n others new is =
-          subst (λ (x : Happened). Fewer flag n x → WhereTold flag (fresh_since was (standing_of x m None mark others) ≤ n)) (sym is)
+          subst (λ (x : MarkedHistory). Fewer flag n x → WhereTold flag (fresh_since was (standing_of x m None mark others) ≤ n)) (sym is)
           (λ q. subst (λ (v : ℤ). WhereTold flag (fresh past.document.nodes (current_interval h (pos now)) (current_interval (past_of.history_of later) v) ≤ n)) at_now
           (subst (λ (k : ℕ). WhereTold flag (k ≤ n)) (fresh_same (current_interval (past_of.front later start) z) (current_interval h (pos now)) (current_interval (past_of.history_of later) z) same_before (elements past.document.nodes)) q))
 
 -- a refusal by which nothing was heard
-pub refusing_still : (past new : Happened) (m : ℤ) (fault : Option BookFault) (f : BookFault) (mark : Option ℤ) (touched touched' : List ℕ) → new ≡ past
+pub refusing_still : (past new : MarkedHistory) (m : ℤ) (fault : Option BookFault) (f : BookFault) (mark : Option ℤ) (touched touched' : List ℕ) → new ≡ past
     → IsRefusing (standing_of past m fault mark touched) (standing_of new m (Some f) mark touched') f
 refusing_still past new m fault f mark touched touched' is =
-    subst (λ (x : Happened). IsRefusing (standing_of past m fault mark touched) (standing_of x m (Some f) mark touched') f) (sym is)
+    subst (λ (x : MarkedHistory). IsRefusing (standing_of past m fault mark touched) (standing_of x m (Some f) mark touched') f) (sym is)
     (record { fault_is = refl; document = refl; marked = refl })
 
-pub refusing_heard : (past new : Happened) (entry : LogEntry) (m : ℤ) (fault : Option BookFault) (f : BookFault) (mark : Option ℤ) (touched touched' : List ℕ) → new ≡ with_heard past entry
+pub refusing_heard : (past new : MarkedHistory) (entry : LogEntry) (m : ℤ) (fault : Option BookFault) (f : BookFault) (mark : Option ℤ) (touched touched' : List ℕ) → new ≡ with_heard past entry
     → ((l : ℕ × ℕ) → past.marked ≡ Some l → (l.0 ≤ length past.log) × (l.1 ≤ length past.diary))
     → IsRefusing (standing_of past m fault mark touched) (standing_of new m (Some f) mark touched') f
 refusing_heard past new entry m fault f mark touched touched' made in_it =
-    subst (λ (x : Happened). IsRefusing (standing_of past m fault mark touched) (standing_of x m (Some f) mark touched') f) (sym made)
+    subst (λ (x : MarkedHistory). IsRefusing (standing_of past m fault mark touched) (standing_of x m (Some f) mark touched') f) (sym made)
     (record { fault_is = refl; document = refl; marked = same_mark past entry mark past.marked in_it })
 
 -- and the cells are kept
-pub kept_still : (is_current is_marked : History → ℤ → Type 0) (has_mark : Bool) (past new : Happened) (moment : ℤ) (fault : Option BookFault) (f : BookFault) (mark : Option ℤ) (touched : List ℕ) → new ≡ past
+pub kept_still : (is_current is_marked : History → ℤ → Type 0) (has_mark : Bool) (past new : MarkedHistory) (moment : ℤ) (fault : Option BookFault) (f : BookFault) (mark : Option ℤ) (touched : List ℕ) → new ≡ past
     → IsKept is_current is_marked has_mark past moment fault mark touched → IsKept is_current is_marked has_mark new moment (Some f) mark touched
 kept_still is_current is_marked has_mark past new moment fault f mark touched is kept =
-    subst (λ (x : Happened). IsKept is_current is_marked has_mark x moment (Some f) mark touched) (sym is)
+    subst (λ (x : MarkedHistory). IsKept is_current is_marked has_mark x moment (Some f) mark touched) (sym is)
     (record {
       present = kept.present;
       log = kept.log;

@@ -26,7 +26,7 @@ use Rattle.smil_model.specs.happening.Resolution.{Reaches}
 use Rattle.smil_laws.specs.Agreement.{course_on}
 use Rattle.smil_laws.specs.Courses.{ReachesFurther}
 use Rattle.smil_diary.specs.declared.fault.BookFault.{BookFault}
-use Rattle.smil_past.specs.Past.{Happened}
+use Rattle.smil_past.specs.Past.{MarkedHistory}
 use Rattle.smil_cells.specs.Standings.{IsKept, WhereMarked, marked_by, standing_of}
 use Rattle.smil_laws.specs.Same.{IsSame}
 use Rattle.smil_cells.specs.Standing.{Standing, is_same_interval, fresh, IsOnWay, IsPassed, IsNext, IsFront, GoesOn, StayTouched, WhereTold, moved_to, history_of, reached_since, fresh_since, interval_at}
@@ -219,7 +219,7 @@ front_later further p q last diary numbered d l from front =
 -- ---- what has come to rest
 
 -- other elements are touched, and no refusal is answered
-pub touched_anew : (is_current is_marked : History → ℤ → Type 0) (has_mark : Bool) (past : Happened) (moment : ℤ) (fault : Option BookFault) (mark : Option ℤ) (touched others : List ℕ) → fault ≡ None
+pub touched_anew : (is_current is_marked : History → ℤ → Type 0) (has_mark : Bool) (past : MarkedHistory) (moment : ℤ) (fault : Option BookFault) (mark : Option ℤ) (touched others : List ℕ) → fault ≡ None
     → IsKept is_current is_marked has_mark past moment fault mark touched → IsKept is_current is_marked has_mark past moment None mark others
 touched_anew is_current is_marked has_mark past moment fault mark touched others sound kept = record {
   present = kept.present;
@@ -348,7 +348,7 @@ pub no_fewer : (a b c : ℕ) → a ≤ b → b ≤ c → a ≤ c
 no_fewer a b c p q = omega (arith, p, q)
 
 -- what was touched before is of no account
-pub goes_on_from : {A : Type 0} (past : Happened) (moment : ℤ) (fault : Option BookFault) (mark : Option ℤ) (touched others : List ℕ) (new : Standing) (r : Result A BookFault)
+pub goes_on_from : {A : Type 0} (past : MarkedHistory) (moment : ℤ) (fault : Option BookFault) (mark : Option ℤ) (touched others : List ℕ) (new : Standing) (r : Result A BookFault)
     → OnOk r (GoesOn (standing_of past moment fault mark others) new) → OnOk r (GoesOn (standing_of past moment fault mark touched) new)
 goes_on_from past moment fault mark touched others new (Ok x) q = record { diary = q.diary; sound = q.sound; marked = q.marked; touched = q.touched; views = q.views }
 goes_on_from past moment fault mark touched others new (Err f) q = q

@@ -11,7 +11,7 @@ use Rattle.smil_model.specs.reach.Reach.{reach}
 use Rattle.smil_model.specs.reach.Bounds.{reaches}
 use Rattle.smil_model.specs.shown.Orders.{Presentation, course_of}
 use Rattle.smil_diary.specs.declared.fault.BookFault.{BookFault}
-use Rattle.smil_past.specs.Past.{Happened, logged_entry}
+use Rattle.smil_past.specs.Past.{MarkedHistory, logged_entry}
 use Rattle.smil_cells.specs.Standing.{Standing, GoesOn, IsFront, IsHeard, IsRefusing, StayTouched, WhereTold, fresh, fresh_since, interval_at, moved_to, reached_since, with_logged}
 use Rattle.smil_cells.specs.Standings.{standing_of}
 use Rattle.smil_cells.proofs.OnWay.{triangle, untouched}
@@ -96,6 +96,6 @@ module _ (old mid : Standing) (entry : LogEntry) (heard : IsHeard old entry mid)
           numbers r r' w e x y = omega (arith, p, q, e, x, y)
 
 -- what was touched before is of no account for a refusal either
-pub refusing_from : (past : Happened) (moment : ℤ) (fault : Option BookFault) (mark : Option ℤ) (touched others : List ℕ) (new : Standing) (f : BookFault)
+pub refusing_from : (past : MarkedHistory) (moment : ℤ) (fault : Option BookFault) (mark : Option ℤ) (touched others : List ℕ) (new : Standing) (f : BookFault)
     → IsRefusing (standing_of past moment fault mark others) new f → IsRefusing (standing_of past moment fault mark touched) new f
 refusing_from past moment fault mark touched others new f q = record { fault_is = q.fault_is; document = q.document; marked = q.marked }

@@ -18,7 +18,7 @@ use Rattle.smil_diary.specs.declared.fault.BookFault.{BookFault}
 use Rattle.smil_laws.specs.Same.{IsSame, TimePassesQuietly}
 use Rattle.smil_laws.specs.Courses.{ReachedIsPast}
 use Rattle.smil_laws.specs.Courses.{ReachesOverQuiet}
-use Rattle.smil_past.specs.Past.{Happened}
+use Rattle.smil_past.specs.Past.{MarkedHistory}
 use Rattle.smil_cells.specs.Standing.{IsSettled, NothingBefore, first_at, history_of}
 use Rattle.smil_cells.specs.Standings.{IsKept, standing_of}
 use Rattle.std.proofs.lemmas.Bool.{and_from, and_parts}
@@ -73,7 +73,7 @@ module _ (c : Course) (p : Progress) (heard : slice_get c.log p.heard ≡ None) 
 
 -- ---- the cells
 
-module _ (is_current is_marked : History → ℤ → Type 0) (has_mark : Bool) (past : Happened) (fault : Option BookFault) (mark : Option ℤ) (touched : List ℕ) where
+module _ (is_current is_marked : History → ℤ → Type 0) (has_mark : Bool) (past : MarkedHistory) (fault : Option BookFault) (mark : Option ℤ) (touched : List ℕ) where
   abbrev At : ℤ → Type 0
   At m = IsKept is_current is_marked has_mark past m fault mark touched
 

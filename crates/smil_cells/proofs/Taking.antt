@@ -14,7 +14,7 @@ use Rattle.smil_model.specs.diary.Diary.{History}
 use Rattle.smil_laws.proofs.Members.{Differ, differ_all, differ_kept}
 use Rattle.smil_graph.specs.Graph.{IsOrder}
 use Rattle.smil_element.specs.declared.comings.Comings.{Comings}
-use Rattle.smil_element.specs.declared.evaluation.Evaluated.{Evaluated}
+use Rattle.smil_element.specs.declared.evaluation.Evaluation.{Evaluation}
 use Rattle.smil_element.specs.Element.{IsEvaluated, both, coming_by}
 use Rattle.smil_cells.specs.declared.plain.known.Row.{Row}
 use Rattle.smil_cells.specs.Plain.{interval_in}
@@ -89,7 +89,7 @@ near_where P None f = tt
 near_where P (Some i) f = f i refl
 
 -- an element is taken where its evaluation is that by the rows as they were
-pub taken_of : (h : History) (now : ℤ) (who : ℕ) (before after : List Row) (place : ℕ) (made : Evaluated) (comings : Comings) → (at : IsFound h.nodes before who) → place ≡ at.place → IsEvaluated h (interval_in before) now at.element made → both comings.moved comings.repeat ≡ coming_by h made.interval made.simple now place at.element → after ≡ set before place (record { serial = who; interval = made.interval; comings = comings }) → IsTaken h now who before after
+pub taken_of : (h : History) (now : ℤ) (who : ℕ) (before after : List Row) (place : ℕ) (made : Evaluation) (comings : Comings) → (at : IsFound h.nodes before who) → place ≡ at.place → IsEvaluated h (interval_in before) now at.element made → both comings.moved comings.repeat ≡ coming_by h made.interval made.simple now place at.element → after ≡ set before place (record { serial = who; interval = made.interval; comings = comings }) → IsTaken h now who before after
 taken_of h now who before after place made comings at is evaluated come after_is = record {
   place = place;
   element = at.element;

@@ -5,17 +5,17 @@ use Rattle.smil_model.specs.diary.Diary.{History}
 use Rattle.smil_model.specs.diary.Logs.{is_log}
 use Rattle.smil_model.specs.shown.Orders.{Presentation, IsState}
 use Rattle.smil_diary.specs.declared.fault.BookFault.{BookFault}
-use Rattle.smil_past.specs.Past.{Happened, IsPresent}
+use Rattle.smil_past.specs.Past.{MarkedHistory, IsPresent}
 use Rattle.smil_cells.specs.Standing.{Standing, history_of, IsReached}
 
 -- the moment of a mark, with the lengths of log and diary there
-abbrev pub marked_by : Happened → Option ℤ → Option (ℕ × ℕ) → Option (Presentation × List Entry)
+abbrev pub marked_by : MarkedHistory → Option ℤ → Option (ℕ × ℕ) → Option (Presentation × List Entry)
 marked_by past None lens = None
 marked_by past (Some moment) None = None
 marked_by past (Some moment) (Some lens) =
     Some (record { document = past.document; log = take lens.0 past.log; now = nat_abs moment }, take lens.1 past.diary)
 
-abbrev pub standing_of : Happened → ℤ → Option BookFault → Option ℤ → List ℕ → Standing
+abbrev pub standing_of : MarkedHistory → ℤ → Option BookFault → Option ℤ → List ℕ → Standing
 standing_of past moment fault mark touched = record {
   presentation = record { document = past.document; log = past.log; now = nat_abs moment };
   diary = past.diary;
@@ -25,11 +25,11 @@ standing_of past moment fault mark touched = record {
 }
 
 -- what has happened, under way at a moment, with nothing marked or touched
-abbrev pub begun : Happened → ℤ → Standing
+abbrev pub begun : MarkedHistory → ℤ → Standing
 begun past moment = standing_of past moment None None []
 
 -- a moment and what a resolution up to it comes to, with the whole log heard; no mark stands
-pub record MayBegin (past : Happened) (moment : ℤ) : Type 0 where
+pub record MayBegin (past : MarkedHistory) (moment : ℤ) : Type 0 where
   pub unmarked : past.marked ≡ None
   pub from : pos 0 ≤ℤ moment
   pub state : IsState (begun past moment).presentation
@@ -49,7 +49,7 @@ abbrev pub WhereMarked : (History → ℤ → Type 0) → List ℕ → Option (P
 WhereMarked is_marked touched None = Unit {0}
 WhereMarked is_marked touched (Some mark) = IsSound is_marked (at_mark touched mark)
 
-pub record IsKept (is_current is_marked : History → ℤ → Type 0) (has_mark : Bool) (past : Happened)
+pub record IsKept (is_current is_marked : History → ℤ → Type 0) (has_mark : Bool) (past : MarkedHistory)
     (moment : ℤ) (fault : Option BookFault) (mark : Option ℤ) (touched : List ℕ) : Type 0 where
   pub present : IsPresent past moment
   pub log : is_log past.log ≡ true

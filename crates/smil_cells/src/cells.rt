@@ -97,7 +97,8 @@ impl<T: Table> Cells<T> {
         ensures sound { IfOk result (λ cells. cells.fault ≡ None) }
         ensures unmarked { IfOk result (λ cells. cells.marked ≡ None) }
         ensures counted { steps.old ≤ steps.new }
-        ensures most { WhereTold T.counts (steps.new - steps.old ≤ length (elements doc.now.nodes)) }
+        ensures most { WhereTold T.counts (steps.new - steps.old
+            ≤ length (elements doc.now.nodes)) }
         ensures least { IfOk result (λ cells. WhereTold T.counts
             (any_interval doc.now.nodes (interval_at cells) ≤ steps.new - steps.old)) }
     {
@@ -288,7 +289,8 @@ impl<T: Table> Cells<T> {
         requires { MayRebuild self.now doc.now len }
         ensures rebuilt { IfOk result (IsRebuilt self.now doc.now len) }
         ensures counted { steps.old ≤ steps.new }
-        ensures most { WhereTold T.counts (steps.new - steps.old ≤ length (elements doc.now.nodes)) }
+        ensures most { WhereTold T.counts (steps.new - steps.old
+            ≤ length (elements doc.now.nodes)) }
     {
         reached_is_past();
         resolved_is_near();
@@ -312,7 +314,8 @@ impl<T: Table> Cells<T> {
         ensures rebuilt { OnOk result (IsRebuilt self.old doc.now len self.new) }
         ensures refused { OnErr result (self.new.fault ≡ Some book_fault.Memory) }
         ensures counted { steps.old ≤ steps.new }
-        ensures most { WhereTold T.counts (steps.new - steps.old ≤ length (elements doc.now.nodes)) }
+        ensures most { WhereTold T.counts (steps.new - steps.old
+            ≤ length (elements doc.now.nodes)) }
     {
         match self.rebuilt(doc, len, steps) {
             Ok(rebuilt) => {
@@ -354,7 +357,7 @@ impl<T: Table> Cells<T> {
         self.fault = None;
     }
 
-    /// Lets the mark go. It takes no memory.
+    /// Takes the mark away. It takes no memory.
     pub fn forget(&mut self)
         requires { is_some self.old.marked ≡ true }
         ensures { self.new ≡ record self.old { marked = None } }

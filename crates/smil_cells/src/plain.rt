@@ -10,7 +10,7 @@ pub mod known;
 
 use super::cells::Cells;
 use super::table::{Since, Table};
-use known::{Known, Row};
+use known::{CurrentRows, Row};
 use smil_due::DueQueue;
 use smil_element::{Coming, Intervals, Present, Room, comings_of, evaluation_of};
 use smil_model::{Duplicate, Interval, Serials, Steps};
@@ -24,10 +24,10 @@ pub type PlainCells = Cells<PlainTable>;
 /// A table whose elements are all evaluated after each happening, in an order in which the
 /// dependencies that are not looped go forward.
 pub struct PlainTable {
-    known: Known,
+    known: CurrentRows,
     due: DueQueue,
     /// Where a mark stands and something changed since, both as they were there.
-    noted: Option<(Known, DueQueue)>,
+    noted: Option<(CurrentRows, DueQueue)>,
     has_mark: bool,
     room: Room,
     alloc: Global,
@@ -66,7 +66,7 @@ impl Table for PlainTable {
         steps: &mut Steps<L>,
     ) -> Result<Self, AllocError> {
         let mut table = PlainTable {
-            known: Known::of(alloc, past.tree())?,
+            known: CurrentRows::of(alloc, past.tree())?,
             due: DueQueue::new(alloc),
             noted: None,
             has_mark: false,

@@ -122,7 +122,7 @@ pub trait Table: Drop {
             → is_current self.new h now }
         ensures has_mark { has_mark self.new ≡ false };
 
-    /// Lets the mark go. It takes no memory.
+    /// Takes the mark away. It takes no memory.
     fn forget(&mut self)
         requires { has_mark self.old ≡ true }
         ensures current { (h : History) (now : ℤ) → is_current self.old h now
@@ -130,5 +130,6 @@ pub trait Table: Drop {
         ensures has_mark { has_mark self.new ≡ false };
 
     /// What is current stays so where the same is current by another history.
-    ghost stays: { (t : Self) (h k : History) (m n : ℤ) → IsSame h m k n → is_current t h m → is_current t k n };
+    ghost stays: { (t : Self) (h k : History) (m n : ℤ) → IsSame h m k n → is_current t h m
+        → is_current t k n };
 }

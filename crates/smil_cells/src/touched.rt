@@ -120,7 +120,8 @@ fn plays_one(kind: Kind) -> bool
 fn touch_within(tree: &Tree, who: u32, touched: &mut Serials) -> Result<(), AllocError>
     requires { IsSome (node_at tree.now.nodes who) }
     ensures { OnOk result (touched.new ≡ touched.old
-        ++ serials (filter (λ (n : AnyNode). is_within tree.now.nodes who n.serial) tree.now.nodes)) }
+        ++ serials
+        (filter (λ (n : AnyNode). is_within tree.now.nodes who n.serial) tree.now.nodes)) }
 {
     let (start, past) = tree.span(who);
     for at in start..past {

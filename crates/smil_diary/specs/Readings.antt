@@ -1,8 +1,7 @@
 -- Which history a diary and a time parent belong to.
-use Rattle.std.specs.Prelude.{◌≡◌, ℕ, suc, List, Option, Some, None, option_map}
+use Rattle.std.specs.Prelude.{◌≡◌, ℕ, suc, List, Option, Some, None}
 use Rattle.std.specs.Option.{option_map_or}
 use Rattle.smil_model.specs.declared.diary.Entry.{Entry}
-use Rattle.smil_model.specs.declared.document.Node.{Node}
 use Rattle.smil_model.specs.document.Document.{time_parent, serial_of}
 use Rattle.smil_model.specs.diary.Diary.{History, gives_birth, last_place}
 

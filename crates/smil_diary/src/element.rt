@@ -191,7 +191,7 @@ impl ElementPlaces {
         finished
     }
 
-    /// Lets go of the last entry, which is of this kind.
+    /// Drops the last entry, which is of this kind.
     pub(crate) fn forget(&mut self, kind: StepKind)
         ensures { self.new ≡ forgotten kind self.old }
     {

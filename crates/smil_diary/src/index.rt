@@ -73,7 +73,7 @@ impl Index {
         Ok(())
     }
 
-    /// Lets go of the last entry, which is of this kind and on this element. An element without
+    /// Drops the last entry, which is of this kind and on this element. An element without
     /// entries takes no memory.
     pub(crate) fn forget(&mut self, who: u32, kind: StepKind)
         ensures { (serial : ℕ) → kept self.new serial

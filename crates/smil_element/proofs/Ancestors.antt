@@ -16,7 +16,7 @@ use Rattle.smil_graph.proofs.Answered.{element_at, only_element}
 use Rattle.smil_element.proofs.Above.{parent_node}
 use Rattle.smil_instances.proofs.Sensitive.{serial_is}
 use Rattle.smil_model.specs.document.Defaults.{effective_fill}
-use Rattle.smil_model.specs.diary.Plays.{Finished, last_finished}
+use Rattle.smil_model.specs.diary.Plays.{FinishedInterval, last_finished}
 use Rattle.smil_past.specs.declared.plays.played.PastInterval.{PastInterval}
 use Rattle.smil_past.specs.Played.{past_interval}
 use Rattle.smil_element.specs.Shown.{frozen_at, is_cut}
@@ -148,6 +148,6 @@ frozen_by_row h who e last kept shows above same told keeps_it =
     ∙ by (last_finished h who)
     ∙ ap (λ k. is_some (option_map (finished_values h k) (last_finished h k)) && ((keeps (effective_fill h.nodes e) (is_displaced h k) && shows) || (was_cut (last_finished h k) && above))) (sym same)
   where
-    by : (l : Option Finished) → (is_some (option_map (past_interval h who) l) && (((is_some (option_map (past_interval h who) l) && keeps (effective_fill h.nodes e) (is_displaced h who)) && shows) || (is_cut (option_map (past_interval h who) l) && above))) ≡ (is_some (option_map (finished_values h who) l) && ((keeps (effective_fill h.nodes e) (is_displaced h who) && shows) || (was_cut l && above)))
+    by : (l : Option FinishedInterval) → (is_some (option_map (past_interval h who) l) && (((is_some (option_map (past_interval h who) l) && keeps (effective_fill h.nodes e) (is_displaced h who)) && shows) || (is_cut (option_map (past_interval h who) l) && above))) ≡ (is_some (option_map (finished_values h who) l) && ((keeps (effective_fill h.nodes e) (is_displaced h who) && shows) || (was_cut l && above)))
     by None = refl
     by (Some f) = refl

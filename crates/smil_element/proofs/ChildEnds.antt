@@ -16,11 +16,11 @@ use Rattle.smil_model.specs.document.Document.{is_class_kind, is_container_kind,
 use Rattle.smil_model.specs.document.Defaults.{endsync_of}
 use Rattle.smil_model.specs.diary.Diary.{History, is_active, is_deferred}
 use Rattle.smil_model.specs.diary.Clocks.{iteration_start}
-use Rattle.smil_model.specs.diary.Plays.{Finished, first_of, plays}
+use Rattle.smil_model.specs.diary.Plays.{FinishedInterval, first_of, plays}
 use Rattle.smil_model.specs.interval.Current.{child_end, container_implicit, finish_time, implicit_of, is_named_child, media_length}
 use Rattle.smil_model.specs.interval.Durations.{container_duration}
 use Rattle.smil_past.specs.declared.plays.played.PastInterval.{PastInterval}
-use Rattle.smil_past.specs.declared.plays.played.Played.{Played}
+use Rattle.smil_past.specs.declared.plays.played.PlayFacts.{PlayFacts}
 use Rattle.smil_past.specs.Played.{past_interval, played}
 use Rattle.smil_element.specs.declared.endings.Ending.{Ending}
 use Rattle.smil_element.specs.Element.{last_alone}
@@ -32,8 +32,8 @@ finish_in past = option_map (λ (f : PastInterval). At f.finish) past
 abbrev pub unless_deferred : Bool → Option Time → Option Time
 unless_deferred deferred last = if deferred then Some Unresolved else last
 
-module _ (h : History) (child : ℕ) (kept : Played) (kept_is : kept ≡ played h child) where
-  finishes : (o : Option Finished) → finish_in (option_map (past_interval h child) o) ≡ option_map finish_time o
+module _ (h : History) (child : ℕ) (kept : PlayFacts) (kept_is : kept ≡ played h child) where
+  finishes : (o : Option FinishedInterval) → finish_in (option_map (past_interval h child) o) ≡ option_map finish_time o
   finishes None = refl
   finishes (Some f) = refl
 

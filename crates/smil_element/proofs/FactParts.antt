@@ -12,7 +12,7 @@ use Rattle.smil_model.specs.declared.document.Restart.{Restart}
 use Rattle.smil_model.specs.document.Defaults.{restart_of, min_of, max_of}
 use Rattle.smil_model.specs.diary.Diary.{History, is_active, is_alive, is_deferred, iteration}
 use Rattle.smil_model.specs.diary.Clocks.{play_start, iteration_start, parent_start}
-use Rattle.smil_model.specs.diary.Plays.{Mark, Finished, plays, last_finished, passed}
+use Rattle.smil_model.specs.diary.Plays.{Mark, FinishedInterval, plays, last_finished, passed}
 use Rattle.smil_model.specs.interval.Current.{present_play, facts_of, finish_time, end_list_of, simple_of}
 use Rattle.smil_past.specs.declared.plays.played.PastInterval.{PastInterval}
 use Rattle.smil_past.specs.Played.{past_interval}
@@ -62,7 +62,7 @@ module _ (h : History) (who : ℕ) (now : ℤ) (e : Node) (same : e.serial ≡ w
     deferred = is_deferred h k;
     play = present_play h now e;
     parent_start = parent_start h k;
-    last = option_map (λ (f : Finished). record { begin = f.begin.value; «end» = finish_time f }) (last_finished h k);
+    last = option_map (λ (f : FinishedInterval). record { begin = f.begin.value; «end» = finish_time f }) (last_finished h k);
     passed = passed h k;
     end_list = end_list_of e.attrs.«end»;
     restart = restart_of h.nodes e;
@@ -83,9 +83,9 @@ module _ (h : History) (who : ℕ) (now : ℤ) (e : Node) (same : e.serial ≡ w
       rw (p1, p2, p3, p4, p5, p6, p7, p8, p9, p10, p11, p12, p13) (ap (told_facts intervals) (sym same))
 
 -- the last finished interval, as it is kept and as the search sees it
-pub last_is : (h : History) (who : ℕ) (o : Option PastInterval) → o ≡ option_map (past_interval h who) (last_finished h who) → option_map interval_in o ≡ option_map (λ (f : Finished). record { begin = f.begin.value; «end» = finish_time f }) (last_finished h who)
+pub last_is : (h : History) (who : ℕ) (o : Option PastInterval) → o ≡ option_map (past_interval h who) (last_finished h who) → option_map interval_in o ≡ option_map (λ (f : FinishedInterval). record { begin = f.begin.value; «end» = finish_time f }) (last_finished h who)
 last_is h who o told = ap (option_map interval_in) told ∙ by (last_finished h who)
   where
-    by : (l : Option Finished) → option_map interval_in (option_map (past_interval h who) l) ≡ option_map (λ (g : Finished). record { begin = g.begin.value; «end» = finish_time g }) l
+    by : (l : Option FinishedInterval) → option_map interval_in (option_map (past_interval h who) l) ≡ option_map (λ (g : FinishedInterval). record { begin = g.begin.value; «end» = finish_time g }) l
     by None = refl
     by (Some g) = refl

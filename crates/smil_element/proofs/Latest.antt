@@ -7,7 +7,7 @@ use Rattle.smil_model.specs.Times.{IsNear}
 use Rattle.smil_model.specs.diary.Diary.{last_moment}
 use Rattle.smil_model.specs.diary.Clocks.{until}
 use Rattle.smil_model.proofs.Orders.{le_from}
-use Rattle.smil_past.specs.Past.{Happened, IsPresent}
+use Rattle.smil_past.specs.Past.{MarkedHistory, IsPresent}
 use Rattle.smil_laws.proofs.Lists.{filter_shorter}
 
 -- the last moment of entries of which none is later than a moment
@@ -20,7 +20,7 @@ last_from m from (x ∷ xs) low all =
     ] refl all
 
 -- no entry is later than the present moment
-pub last_up_to : (past : Happened) (now : ℤ) → IsPresent past now → last_moment past.diary ≤ℤ now
+pub last_up_to : (past : MarkedHistory) (now : ℤ) → IsPresent past now → last_moment past.diary ≤ℤ now
 last_up_to past now present = last_from now _ past.diary present.from present.past_is
 
 -- a number near the first moment fits
@@ -29,6 +29,6 @@ near_fits (pos k) near = record { sfits = omega (arith, ints, near.high) }
 near_fits (negsuc k) near = record { sfits = omega (arith, ints, near.low) }
 
 -- a present moment fits
-pub present_fits : (past : Happened) (now : ℤ) → IsPresent past now → FitsSigned w64 now
+pub present_fits : (past : MarkedHistory) (now : ℤ) → IsPresent past now → FitsSigned w64 now
 present_fits past (pos k) present = record { sfits = omega (arith, ints, present.within) }
 present_fits past (negsuc k) present = absurd (omega (arith, ints, present.from))

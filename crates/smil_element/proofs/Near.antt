@@ -10,14 +10,13 @@ use Rattle.smil_model.specs.declared.diary.Entry.{Entry}
 use Rattle.smil_model.specs.declared.diary.Step.{Step}
 use Rattle.smil_model.specs.declared.diary.Step.TheVariants.{Began, Repeated, Ended, Cut, Paused, Resumed, Deferred, Passed, Logged}
 use Rattle.smil_model.specs.declared.document.Node.{Node}
-use Rattle.smil_model.specs.Times.{IsMoment, IsNear}
+use Rattle.smil_model.specs.Times.{IsCarried, IsMoment, IsNear}
 use Rattle.smil_model.specs.document.Document.{time_parent}
 use Rattle.smil_model.specs.diary.Diary.{History, deferral, deferral_after, is_active, is_alive, since_birth}
 use Rattle.smil_model.specs.diary.Lawful.{is_rising_from, IsLawful}
 use Rattle.smil_model.specs.diary.Clocks.{run, outer, outer_under, to_document}
-use Rattle.smil_model.specs.diary.Plays.{Mark, Finished, Plays, finish_with, play_after, is_birth_under, plays, last_finished}
+use Rattle.smil_model.specs.diary.Plays.{Mark, FinishedInterval, Plays, finish_with, play_after, is_birth_under, plays, last_finished}
 use Rattle.smil_model.specs.shown.Views.{document_value, deferred_begin, finished_values, present_begin}
-use Rattle.smil_fill.specs.Numbers.{IsWithin}
 use Rattle.smil_laws.specs.Near.{AllNear, HasNear}
 use Rattle.smil_laws.proofs.Aside.{each_both, each_drop}
 use Rattle.smil_laws.proofs.NearDiary.{elapsed_within}
@@ -41,8 +40,12 @@ outer_near h s m is = under (time_parent h.nodes s)
     under None = record { low = omega (arith, ints, is.low, is.high); high = is.high }
     under (Some p) = at_run p.serial m is
 
-pub document_within : (h : History) (s : ℕ) (v m : ℤ) → IsNear v → IsMoment m → IsWithin (to_document h s v m)
-document_within h s v m near is = let out = outer_near h s m is in grind (arith, ints, near.low, near.high, is.low, is.high, out.low, out.high)
+pub document_within : (h : History) (s : ℕ) (v m : ℤ) → IsNear v → IsMoment m → IsCarried (to_document h s v m)
+document_within h s v m near is = let out = outer_near h s m is in
+    record {
+      low = grind (arith, ints, near.low, near.high, is.low, is.high, out.low, out.high);
+      high = grind (arith, ints, near.low, near.high, is.low, is.high, out.low, out.high);
+    }
 
 -- ---- entries
 
@@ -66,7 +69,7 @@ pub record IsMarkNear (m : Mark) : Type 0 where
   pub value : IsNear m.value
   pub moment : IsMoment m.moment
 
-pub record IsFinishedNear (f : Finished) : Type 0 where
+pub record IsFinishedNear (f : FinishedInterval) : Type 0 where
   pub begin : IsMarkNear f.begin
   pub finish : IsMarkNear f.finish
 
@@ -78,11 +81,11 @@ record ArePlaysNear (b : Plays) : Type 0 where
   present : IsPresentNear b.present
   finished : AllByRecursion IsFinishedNear b.finished
 
-one_more : (fs : List Finished) (f : Finished) → AllByRecursion IsFinishedNear fs → IsFinishedNear f → AllByRecursion IsFinishedNear (fs ++ f ∷ [])
+one_more : (fs : List FinishedInterval) (f : FinishedInterval) → AllByRecursion IsFinishedNear fs → IsFinishedNear f → AllByRecursion IsFinishedNear (fs ++ f ∷ [])
 one_more [] f each is = (is, tt)
 one_more (g ∷ gs) f each is = (each.0, one_more gs f each.1 is)
 
-finish_near : (o : Option Mark) (k : Mark) (cut : Bool) (fs : List Finished) → IsPresentNear o → IsMarkNear k → AllByRecursion IsFinishedNear fs → AllByRecursion IsFinishedNear (finish_with o k cut fs)
+finish_near : (o : Option Mark) (k : Mark) (cut : Bool) (fs : List FinishedInterval) → IsPresentNear o → IsMarkNear k → AllByRecursion IsFinishedNear fs → AllByRecursion IsFinishedNear (finish_with o k cut fs)
 finish_near None k cut fs is at each = each
 finish_near (Some b) k cut fs is at each = one_more fs _ each (record { begin = is; finish = at })
 
@@ -126,23 +129,23 @@ module _ (h : History) (s : ℕ) where
     plays_near = fold_near h.diary (record { present = None; finished = [] }) (timed h lawful near) (record { present = tt; finished = tt })
 
     -- the begin of the present play, the last finished interval and a deferred begin, in document time
-    mark_within : (m : Mark) → IsMarkNear m → IsWithin (document_value h s m)
+    mark_within : (m : Mark) → IsMarkNear m → IsCarried (document_value h s m)
     mark_within m is = document_within h s m.value m.moment is.value is.moment
 
-    pub begun_within : ForSome (present_begin h s) IsWithin
+    pub begun_within : ForSome (present_begin h s) IsCarried
     begun_within = by (is_active h.diary s) (plays h s).present plays_near.present
       where
-        by : (t : Bool) (o : Option Mark) → IsPresentNear o → ForSome (cond t (option_map (document_value h s) o) None) IsWithin
-        by true None is = none_for IsWithin
-        by true (Some m) is = one_for IsWithin (document_value h s m) (mark_within m is)
-        by false o is = none_for IsWithin
+        by : (t : Bool) (o : Option Mark) → IsPresentNear o → ForSome (cond t (option_map (document_value h s) o) None) IsCarried
+        by true None is = none_for IsCarried
+        by true (Some m) is = one_for IsCarried (document_value h s m) (mark_within m is)
+        by false o is = none_for IsCarried
 
-    last_near : (fs : List Finished) (o : Option Finished) → AllByRecursion IsFinishedNear fs → ForSome (option_map (finished_values h s) o) (λ (last : ℤ × ℤ). IsWithin last.0 × IsWithin last.1) → ForSome (option_map (finished_values h s) (last_or o fs)) (λ (last : ℤ × ℤ). IsWithin last.0 × IsWithin last.1)
+    last_near : (fs : List FinishedInterval) (o : Option FinishedInterval) → AllByRecursion IsFinishedNear fs → ForSome (option_map (finished_values h s) o) (λ (last : ℤ × ℤ). IsCarried last.0 × IsCarried last.1) → ForSome (option_map (finished_values h s) (last_or o fs)) (λ (last : ℤ × ℤ). IsCarried last.0 × IsCarried last.1)
     last_near [] o each is = is
-    last_near (f ∷ fs) o each is = last_near fs (Some f) each.1 (one_for (λ (last : ℤ × ℤ). IsWithin last.0 × IsWithin last.1) (finished_values h s f) (mark_within f.begin (each.0).begin, mark_within f.finish (each.0).finish))
+    last_near (f ∷ fs) o each is = last_near fs (Some f) each.1 (one_for (λ (last : ℤ × ℤ). IsCarried last.0 × IsCarried last.1) (finished_values h s f) (mark_within f.begin (each.0).begin, mark_within f.finish (each.0).finish))
 
-    pub last_within : ForSome (option_map (finished_values h s) (last_finished h s)) (λ (last : ℤ × ℤ). IsWithin last.0 × IsWithin last.1)
-    last_within = last_near (plays h s).finished None plays_near.finished (none_for (λ (last : ℤ × ℤ). IsWithin last.0 × IsWithin last.1))
+    pub last_within : ForSome (option_map (finished_values h s) (last_finished h s)) (λ (last : ℤ × ℤ). IsCarried last.0 × IsCarried last.1)
+    last_within = last_near (plays h s).finished None plays_near.finished (none_for (λ (last : ℤ × ℤ). IsCarried last.0 × IsCarried last.1))
 
     abbrev IsEntryNear : Option Entry → Type 0
     IsEntryNear None = Unit {0}
@@ -183,14 +186,14 @@ module _ (h : History) (s : ℕ) where
     deferrals_near [] before each was = was
     deferrals_near (x ∷ xs) before each was = deferrals_near xs _ each.1 (deferral_near x before x.step each.0 was)
 
-    begin_within : (m : ℤ) (step : Step) → IsMoment m → HasNear step → ForSome (deferred_begin h s m step) IsWithin
-    begin_within m (Deferred who begin) at is = one_for IsWithin (to_document h s begin m) (document_within h s begin m is at)
-    begin_within m _ at is = none_for IsWithin
+    begin_within : (m : ℤ) (step : Step) → IsMoment m → HasNear step → ForSome (deferred_begin h s m step) IsCarried
+    begin_within m (Deferred who begin) at is = one_for IsCarried (to_document h s begin m) (document_within h s begin m is at)
+    begin_within m _ at is = none_for IsCarried
 
-    pub deferred_within : ForSome (option_and_then (λ (x : Entry). deferred_begin h s x.moment x.step) (deferral h s)) IsWithin
+    pub deferred_within : ForSome (option_and_then (λ (x : Entry). deferred_begin h s x.moment x.step) (deferral h s)) IsCarried
     deferred_within = by (is_alive h s) (fold (λ before (x : Entry). deferral_after s x before x.step) None (since_birth h s)) (deferrals_near (since_birth h s) None (each_drop IsTimed _ h.diary (timed h lawful near)) tt)
       where
-        by : (t : Bool) (o : Option Entry) → IsEntryNear o → ForSome (option_and_then (λ (x : Entry). deferred_begin h s x.moment x.step) (cond t o None)) IsWithin
-        by true None is = none_for IsWithin
+        by : (t : Bool) (o : Option Entry) → IsEntryNear o → ForSome (option_and_then (λ (x : Entry). deferred_begin h s x.moment x.step) (cond t o None)) IsCarried
+        by true None is = none_for IsCarried
         by true (Some x) is = begin_within x.moment x.step is.0 is.1
-        by false o is = none_for IsWithin
+        by false o is = none_for IsCarried

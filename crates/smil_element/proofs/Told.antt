@@ -15,7 +15,7 @@ use Rattle.smil_graph.proofs.Answered.{element_at, only_element}
 use Rattle.smil_element.proofs.Above.{parent_node}
 use Rattle.smil_instances.proofs.Targets.{element_in, known_node, attrs_of}
 use Rattle.smil_instances.proofs.Sensitive.{serial_is}
-use Rattle.smil_past.specs.declared.plays.played.Played.{Played}
+use Rattle.smil_past.specs.declared.plays.played.PlayFacts.{PlayFacts}
 use Rattle.smil_past.specs.Played.{played, played_at}
 
 -- the restart and the fill that the tree tells are the element's
@@ -38,7 +38,7 @@ has_row h s known = by (node_at (elements h.nodes) s) known
     by (Some e) q = refl
 
 -- what is kept of it
-pub row_told : (h : History) (s : ℕ) (r : Played) → has_element h.nodes s ≡ true → Some r ≡ played_at h s → r ≡ played h s
+pub row_told : (h : History) (s : ℕ) (r : PlayFacts) → has_element h.nodes s ≡ true → Some r ≡ played_at h s → r ≡ played h s
 row_told h s r known is = by (node_at (elements h.nodes) s) refl known
   where
     by : (o : Option Node) → node_at (elements h.nodes) s ≡ o → is_some o ≡ true → r ≡ played h s

@@ -14,13 +14,13 @@ use Rattle.smil_model.specs.declared.view.State.{State}
 use Rattle.smil_model.specs.declared.view.State.TheVariants as state
 use Rattle.smil_model.specs.declared.view.View.{View}
 use Rattle.smil_model.specs.declared.view.ViewFacts.{ViewFacts}
-use Rattle.smil_model.specs.Times.{IsNear}
+use Rattle.smil_model.specs.Times.{IsCarried, IsNear}
 use Rattle.smil_model.specs.document.Defaults.{effective_fill}
 use Rattle.smil_model.specs.diary.Diary.{History, deferral, is_active, is_paused, iteration}
 use Rattle.smil_model.specs.diary.Clocks.{outer, outer_stands}
-use Rattle.smil_model.specs.diary.Plays.{Finished, plays, last_finished}
+use Rattle.smil_model.specs.diary.Plays.{FinishedInterval, plays, last_finished}
 use Rattle.smil_model.specs.shown.Views.{deferred_begin, finished_values, is_displaced, is_frozen_by, keeps, present_begin, shown_begin, shown_end, state_by, view_by, view_facts, was_cut}
-use Rattle.smil_fill.specs.Numbers.{IsWithin, IsTimeWithin}
+use Rattle.smil_fill.specs.Numbers.{IsTimeCarried}
 use Rattle.smil_laws.specs.Near.{IsIntervalNear, IsTimeNear}
 use Rattle.smil_past.specs.declared.plays.played.PastInterval.{PastInterval}
 use Rattle.smil_past.specs.Played.{past_interval}
@@ -103,27 +103,27 @@ view_told h who now interval shows above e same active paused cut d standing def
 pub last_told : (h : History) (who : ℕ) (o : Option PastInterval) → o ≡ option_map (past_interval h who) (last_finished h who) → option_map shown_last o ≡ option_map (finished_values h who) (last_finished h who)
 last_told h who o told = ap (option_map shown_last) told ∙ by (last_finished h who)
   where
-    by : (l : Option Finished) → option_map shown_last (option_map (past_interval h who) l) ≡ option_map (finished_values h who) l
+    by : (l : Option FinishedInterval) → option_map shown_last (option_map (past_interval h who) l) ≡ option_map (finished_values h who) l
     by None = refl
     by (Some f) = refl
 
 pub cut_told : (h : History) (who : ℕ) (o : Option PastInterval) → o ≡ option_map (past_interval h who) (last_finished h who) → is_cut o ≡ was_cut (last_finished h who)
 cut_told h who o told = ap is_cut told ∙ by (last_finished h who)
   where
-    by : (l : Option Finished) → is_cut (option_map (past_interval h who) l) ≡ was_cut l
+    by : (l : Option FinishedInterval) → is_cut (option_map (past_interval h who) l) ≡ was_cut l
     by None = refl
     by (Some f) = refl
 
 -- ---- numbers
 
-near_within : (n : ℤ) → IsNear n → IsWithin n
-near_within n is = grind (arith, ints, is.low, is.high)
+near_within : (n : ℤ) → IsNear n → IsCarried n
+near_within n is = record { low = grind (arith, ints, is.low, is.high); high = grind (arith, ints, is.low, is.high) }
 
-time_within : (t : Time) → IsTimeNear t → IsTimeWithin t
+time_within : (t : Time) → IsTimeNear t → IsTimeCarried t
 time_within (At n) is = near_within n is
 time_within Indefinite is = tt
 time_within Unresolved is = tt
 
-pub interval_within : (o : Option Interval) → IfSome o IsIntervalNear → ForSome o (λ (i : Interval). IsWithin i.begin × IsTimeWithin i.«end»)
-interval_within None is = none_for (λ (i : Interval). IsWithin i.begin × IsTimeWithin i.«end»)
-interval_within (Some i) is = one_for (λ (i : Interval). IsWithin i.begin × IsTimeWithin i.«end») i (near_within i.begin is.begin, time_within i.«end» is.finish)
+pub interval_within : (o : Option Interval) → IfSome o IsIntervalNear → ForSome o (λ (i : Interval). IsCarried i.begin × IsTimeCarried i.«end»)
+interval_within None is = none_for (λ (i : Interval). IsCarried i.begin × IsTimeCarried i.«end»)
+interval_within (Some i) is = one_for (λ (i : Interval). IsCarried i.begin × IsTimeCarried i.«end») i (near_within i.begin is.begin, time_within i.«end» is.finish)

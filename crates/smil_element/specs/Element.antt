@@ -15,11 +15,11 @@ use Rattle.smil_model.specs.happening.Keys.{coming_begin, coming_end, coming_rep
 use Rattle.smil_past.specs.declared.plays.played.PastInterval.{PastInterval}
 use Rattle.smil_element.specs.declared.happening.change.Coming.{Coming}
 use Rattle.smil_element.specs.Parts.{coming_meant}
-use Rattle.smil_element.specs.declared.evaluation.Evaluated.{Evaluated}
+use Rattle.smil_element.specs.declared.evaluation.Evaluation.{Evaluation}
 
 -- the interval and the simple duration of an element, given the intervals of the others
 pub record IsEvaluated (h : History) (intervals : ℕ → Option Interval) (now : ℤ) (e : Node)
-    (made : Evaluated) : Type 0 where
+    (made : Evaluation) : Type 0 where
   pub interval : made.interval ≡ interval_given h intervals now e
   pub simple : made.simple ≡ simple_of h intervals e
 

@@ -15,7 +15,7 @@ ghost use Rattle.smil_model.specs.happening.Keys.{coming_begin, coming_end, comi
 ghost use Rattle.smil_model.specs.interval.Durations.{bounds_of};
 ghost use Rattle.smil_element.specs.Parts.{coming_meant};
 
-use super::evaluation::Evaluated;
+use super::evaluation::Evaluation;
 use super::facts::{attrs_of, parent_of, played_of};
 use super::happening::{Change, Coming};
 use super::present::Present;
@@ -33,7 +33,7 @@ pub struct Comings {
 /// What comes of an element by its interval and its simple duration, at a moment: its begin, or its
 /// end and its repeat. `place` is its place among the elements. The numbers of the interval are
 /// from -10^12 to 10^12. It takes no memory.
-pub fn comings_of(present: &Present<'_>, place: u32, made: &Evaluated) -> Comings
+pub fn comings_of(present: &Present<'_>, place: u32, made: &Evaluation) -> Comings
     requires element { has_element present.now.past.now.document.nodes present.now.who ≡ true }
     requires moment { IsPresent present.now.past.now present.now.moment }
     requires near { IfSome made.now.interval IsIntervalNear }

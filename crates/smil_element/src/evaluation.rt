@@ -27,7 +27,7 @@ use std::sync::ledger::Ledger;
 
 /// The interval of an element and its simple duration.
 #[derive(Clone, Copy, Debug, PartialEq, Eq)]
-pub struct Evaluated {
+pub struct Evaluation {
     pub interval: Option<Interval>,
     pub simple: Time,
 }
@@ -59,7 +59,7 @@ pub fn evaluation_of<J: Containers, L: Ledger>(
     intervals: &J,
     room: &mut Room,
     steps: &mut Steps<L>,
-) -> Result<Evaluated, AllocError>
+) -> Result<Evaluation, AllocError>
     requires element { has_element present.now.past.now.document.nodes present.now.who ≡ true }
     requires moment { IsPresent present.now.past.now present.now.moment }
     requires known { (e : AnyNode)
@@ -87,7 +87,7 @@ pub fn evaluation_of<J: Containers, L: Ledger>(
     let facts = facts_of(present, simple);
     let begins = begins_told(past, who, &room.begins);
     let ends = ends_told(past, who, &room.ends);
-    Ok(Evaluated {
+    Ok(Evaluation {
         interval: evaluate(begins, ends, &facts, steps),
         simple,
     })
@@ -176,7 +176,8 @@ fn simple_duration<J: Containers>(
     requires known { (e : AnyNode) → node_at (elements past.now.document.nodes) who ≡ Some e
         → has_implicit_duration e ≡ true → J.knows_ends intervals.now (history_of past.now) who }
     ensures { (e : AnyNode) → node_at (elements past.now.document.nodes) who ≡ Some e
-        → IfOk result (λ simple. simple ≡ simple_of (history_of past.now) (J.given intervals.now) e) }
+        → IfOk result (λ simple. simple
+        ≡ simple_of (history_of past.now) (J.given intervals.now) e) }
 {
     let attrs = attrs_of(past, who);
     if takes_implicit(attrs) {

@@ -17,7 +17,7 @@ ghost use Rattle.smil_element.specs.Element.{interval_in, shift_of};
 use super::present::Present;
 use smil_duration::Bounds;
 use smil_model::{Attrs, EndList, Facts, Interval, Item, Items, Kind, Play, Time};
-use smil_past::{Past, PastInterval, Played};
+use smil_past::{Past, PastInterval, PlayFacts};
 
 /// The facts of an element at a moment, by its simple duration. It takes no memory, and a step for
 /// each node above it.
@@ -53,7 +53,7 @@ pub fn facts_of(present: &Present<'_>, simple: Time) -> Facts
 }
 
 // What is kept of the plays of an element.
-pub(crate) fn played_of(past: &Past, who: u32) -> Played
+pub(crate) fn played_of(past: &Past, who: u32) -> PlayFacts
     requires { has_element past.now.document.nodes who ≡ true }
     ensures { result ≡ kept_of (history_of past.now) who }
 {
@@ -114,7 +114,7 @@ fn parent_start(past: &Past, parent: Option<u32>) -> i64
 }
 
 // The present play of an active element, whose time parent is `parent`.
-fn present_play(present: &Present<'_>, parent: Option<u32>, played: &Played) -> Option<Play>
+fn present_play(present: &Present<'_>, parent: Option<u32>, played: &PlayFacts) -> Option<Play>
     requires element { has_element present.now.past.now.document.nodes present.now.who ≡ true }
     requires moment { IsPresent present.now.past.now present.now.moment }
     requires kept { played.now ≡ kept_of (history_of present.now.past.now) present.now.who }
@@ -151,7 +151,7 @@ fn shift(present: &Present<'_>) -> Option<i64>
 }
 
 // The last finished interval, as the search for the next one sees it.
-fn last_interval(played: &Played) -> Option<Interval>
+fn last_interval(played: &PlayFacts) -> Option<Interval>
     ensures { result ≡ option_map interval_in played.now.last_finished }
 {
     played.last_finished.map(|last| interval_of(last))

@@ -72,7 +72,8 @@ pub(crate) fn shows(past: &Past, parent: Option<u32>, frozen: bool) -> bool
 fn is_kept(past: &Past, who: u32) -> bool
     requires { has_element past.now.document.nodes who ≡ true }
     ensures { (e : AnyNode) → node_at (elements past.now.document.nodes) who ≡ Some e → result
-        ≡ keeps (effective_fill past.now.document.nodes e) (is_displaced (history_of past.now) who) }
+        ≡ keeps (effective_fill past.now.document.nodes e)
+        (is_displaced (history_of past.now) who) }
 {
     match fill_of(past, who) {
         Fill::Hold => true,

@@ -16,7 +16,7 @@ pub mod view;
 
 pub use comings::{Comings, comings_of};
 pub use endings::{Ending, ending_of, is_named, walked_duration};
-pub use evaluation::{Evaluated, Room, evaluation_of};
+pub use evaluation::{Evaluation, Room, evaluation_of};
 pub use facts::facts_of;
 pub use happening::{Change, Coming, Parts, group_of};
 pub use intervals::{Container, Containers, Intervals};

@@ -8,7 +8,8 @@ ghost use Rattle.smil_model.specs.diary.Clocks.{outer};
 ghost use Rattle.smil_model.specs.diary.Diary.{lives_under};
 ghost use Rattle.smil_model.specs.diary.Lawful.{has_element};
 ghost use Rattle.smil_model.specs.shown.Views as model;
-ghost use Rattle.smil_fill.specs.Numbers.{HasNumbersWithin, IsWithin};
+ghost use Rattle.smil_fill.specs.Numbers.{HasNumbersWithin};
+ghost use Rattle.smil_model.specs.Times.{IsCarried};
 ghost use Rattle.smil_laws.specs.Near.{IsIntervalNear};
 ghost use Rattle.smil_past.specs.Past.{IsPresent, history_of};
 ghost use Rattle.smil_element.specs.Shown.{is_cut, minds, shown_last};
@@ -19,7 +20,7 @@ use super::frozen::{fill_of, is_frozen, shows};
 use super::present::Present;
 use smil_fill::view;
 use smil_model::{Fill, Interval, View, ViewFacts};
-use smil_past::Played;
+use smil_past::PlayFacts;
 
 /// The view of an element at a moment, by its current interval, whose numbers are from -10^12 to
 /// 10^12. It takes no memory, and a step for each element above it up to an active one; for each of
@@ -80,7 +81,7 @@ fn view_facts(present: &Present<'_>, interval: Option<Interval>, above: bool) ->
 }
 
 // The last finished interval in document time.
-fn last_shown(played: &Played) -> Option<(i64, i64)>
+fn last_shown(played: &PlayFacts) -> Option<(i64, i64)>
     ensures { result ≡ option_map shown_last played.now.last_finished }
 {
     played
@@ -89,7 +90,7 @@ fn last_shown(played: &Played) -> Option<(i64, i64)>
 }
 
 // Whether the last finished interval was cut.
-fn was_cut(played: &Played) -> bool
+fn was_cut(played: &PlayFacts) -> bool
     ensures { result ≡ is_cut played.now.last_finished }
 {
     match played.last_finished {
@@ -113,7 +114,7 @@ fn document_shift(present: &Present<'_>) -> i64
     requires { IsPresent present.now.past.now present.now.moment }
     ensures value { result ≡ present.now.moment
         -ℤ outer (history_of present.now.past.now) present.now.who present.now.moment }
-    ensures within { IsWithin result }
+    ensures within { IsCarried result }
 {
     present.moment - present.past.clocks().outer(present.who, present.moment)
 }

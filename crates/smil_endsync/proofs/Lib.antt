@@ -2,5 +2,4 @@ pub mod Children
 pub mod Orders
 pub mod Summaries
 pub mod Tournament
-pub mod Climb
 pub mod Naming

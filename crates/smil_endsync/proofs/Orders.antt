@@ -1,55 +1,11 @@
 -- The lesser and the greater of times don't depend on which two are compared first.
-use Rattle.std.proofs.Common.{◌≡◌, refl, ◌∙◌, ap, sym, ℤ, Bool, true, false, arith, List, [], ◌∷◌}
-use Rattle.std.specs.Prelude.{◌≤ℤ◌, ◌<ℤ◌, int_le, Option, Some, None, fold, if◌then◌else◌}
-use Rattle.std.proofs.lemmas.Int.{ints}
+use Rattle.std.proofs.Common.{◌≡◌, refl, ◌∙◌, ap, sym, Bool, true, false, List, [], ◌∷◌}
+use Rattle.std.specs.Prelude.{Option, Some, None, fold, if◌then◌else◌}
 use Rattle.smil_model.specs.declared.times.Time.{Time}
 use Rattle.smil_model.specs.declared.times.Time.TheVariants.{At, Indefinite, Unresolved}
 use Rattle.smil_model.specs.Times.{time_le, least_time, greatest_time}
+use Rattle.smil_model.proofs.Orders.{time_both, time_total}
 use Rattle.smil_endsync.specs.Known.{greatest_known}
-
-is_le : (a b : ℤ) → a ≤ℤ b → int_le a b ≡ true
-is_le a b q = grind (arith, ints, q)
-
-le_from : (a b : ℤ) → int_le a b ≡ true → a ≤ℤ b
-le_from a b q = grind (arith, ints, q)
-
-lt_from : (a b : ℤ) → int_le a b ≡ false → b <ℤ a
-lt_from a b q = grind (arith, ints, q)
-
-le_trans : (a b c : ℤ) → int_le a b ≡ true → int_le b c ≡ true → int_le a c ≡ true
-le_trans a b c q r =
-    let s : a ≤ℤ b = le_from a b q in
-    let t : b ≤ℤ c = le_from b c r in
-    is_le a c (omega (arith, ints, s, t))
-
-le_total : (a b : ℤ) → int_le a b ≡ false → int_le b a ≡ true
-le_total a b q = let s : b <ℤ a = lt_from a b q in is_le b a (omega (arith, ints, s))
-
-time_total : (s t : Time) → time_le s t ≡ false → time_le t s ≡ true
-time_total (At x) (At y) q = le_total x y q
-time_total (At x) Indefinite q = cc
-time_total (At x) Unresolved q = cc
-time_total Indefinite (At y) q = refl
-time_total Indefinite Indefinite q = refl
-time_total Indefinite Unresolved q = cc
-time_total Unresolved (At y) q = refl
-time_total Unresolved Indefinite q = refl
-time_total Unresolved Unresolved q = refl
-
-time_trans : (s t u : Time) → time_le s t ≡ true → time_le t u ≡ true → time_le s u ≡ true
-time_trans (At x) (At y) (At z) q r = le_trans x y z q r
-time_trans (At x) Indefinite (At z) q r = cc
-time_trans (At x) Unresolved (At z) q r = cc
-time_trans (At x) t Indefinite q r = refl
-time_trans (At x) t Unresolved q r = refl
-time_trans Indefinite (At y) u q r = cc
-time_trans Indefinite Indefinite u q r = r
-time_trans Indefinite Unresolved (At z) q r = r
-time_trans Indefinite Unresolved Indefinite q r = refl
-time_trans Indefinite Unresolved Unresolved q r = refl
-time_trans Unresolved (At y) u q r = cc
-time_trans Unresolved Indefinite u q r = cc
-time_trans Unresolved Unresolved u q r = r
 
 time_over : (s t u : Time) → time_le s t ≡ false → time_le t u ≡ false → time_le s u ≡ false
 time_over s t u q r = by_test (time_le s u) refl
@@ -57,11 +13,11 @@ time_over s t u q r = by_test (time_le s u) refl
     by_test : (b : Bool) → time_le s u ≡ b → b ≡ false
     by_test false e = refl
     by_test true e =
-        let never : true ≡ false = sym (time_trans t s u (time_total s t q) e) ∙ r in
+        let never : true ≡ false = sym (time_both t s u (time_total s t q) e) ∙ r in
         cc
 
 least_by : (a b c : Time) (s t : Bool) → time_le a b ≡ s → time_le b c ≡ t → least_time (if s then a else b) c ≡ least_time a (if t then b else c)
-least_by a b c true true q r = ap (λ x. if x then a else c) (time_trans a b c q r) ∙ sym (ap (λ x. if x then a else b) q)
+least_by a b c true true q r = ap (λ x. if x then a else c) (time_both a b c q r) ∙ sym (ap (λ x. if x then a else b) q)
 least_by a b c true false q r = refl
 least_by a b c false true q r = ap (λ x. if x then b else c) r ∙ sym (ap (λ x. if x then a else b) q)
 least_by a b c false false q r = ap (λ x. if x then b else c) r ∙ sym (ap (λ x. if x then a else c) (time_over a b c q r))
@@ -70,7 +26,7 @@ pub least_grouped : (a b c : Time) → least_time (least_time a b) c ≡ least_t
 least_grouped a b c = least_by a b c (time_le a b) (time_le b c) refl refl
 
 greatest_by : (a b c : Time) (s t : Bool) → time_le a b ≡ s → time_le b c ≡ t → greatest_time (if s then b else a) c ≡ greatest_time a (if t then c else b)
-greatest_by a b c true true q r = ap (λ x. if x then c else b) r ∙ sym (ap (λ x. if x then c else a) (time_trans a b c q r))
+greatest_by a b c true true q r = ap (λ x. if x then c else b) r ∙ sym (ap (λ x. if x then c else a) (time_both a b c q r))
 greatest_by a b c true false q r = ap (λ x. if x then c else b) r ∙ sym (ap (λ x. if x then b else a) q)
 greatest_by a b c false true q r = refl
 greatest_by a b c false false q r = ap (λ x. if x then c else a) (time_over a b c q r) ∙ sym (ap (λ x. if x then b else a) q)

@@ -1,10 +1,11 @@
 -- What the ends of children side by side come to, and a tournament of them.
-use Rattle.std.specs.Prelude.{◌≡◌, ◌≢◌, ℕ, zero, suc, ◌+◌, ◌/◌, ◌<◌, ◌≤◌, ◌^◌, List, [], ◌∷◌, length, drop, map, slice_index_or, Option, Some, None, unwrap_or}
+use Rattle.std.specs.Prelude.{◌≡◌, ℕ, zero, suc, ◌+◌, ◌<◌, ◌≤◌, ◌^◌, List, [], ◌∷◌, length, drop, map, Option, Some, None, unwrap_or}
 use Rattle.std.specs.List.{position}
 use Rattle.smil_model.specs.declared.times.Time.{Time}
 use Rattle.smil_model.specs.declared.times.Time.TheVariants.{Unresolved}
 use Rattle.smil_model.specs.declared.interval.ChildEnd.{ChildEnd}
 use Rattle.smil_model.specs.Times.{least_time}
+use Rattle.smil_laws.specs.Tournaments.{IsDecided}
 use Rattle.smil_endsync.specs.declared.ends.Summary.{Summary}
 use Rattle.smil_endsync.specs.Known.{greatest_known}
 
@@ -34,25 +35,6 @@ set_ends [] child first latest = []
 set_ends (c ∷ cs) zero first latest = record { named = c.named; first = first; latest = latest } ∷ cs
 set_ends (c ∷ cs) (suc child) first latest = c ∷ set_ends cs child first latest
 
--- ---- the places of a tournament
-
--- a place past the last one has no children
-abbrev pub at_place : List Summary → ℕ → Summary
-at_place places i = slice_index_or places i no_ends
-
--- a place has what the two come to that are below it
-abbrev pub IsDecided : List Summary → ℕ → Type 0
-IsDecided places i = at_place places i ≡ both_ends (at_place places (i + i)) (at_place places (i + i + 1))
-
--- so many places up from a place
-abbrev pub place_up : ℕ → ℕ → ℕ
-place_up zero place = place
-place_up (suc steps) place = place_up steps (place / 2)
-
--- a place is not on the way up from another, which is on it itself
-abbrev pub IsOff : ℕ → ℕ → Type 0
-IsOff i place = (steps : ℕ) → i ≢ place_up steps place
-
 -- behind the places from 1 to below `half`, a power of 2, are those of the children, and each of the former has what is below it
 pub record AreSummed (children : List ChildEnd) (named : Option ℕ) (places : List Summary)
     (half : ℕ) : Type 0 where
@@ -62,5 +44,5 @@ pub record AreSummed (children : List ChildEnd) (named : Option ℕ) (places : L
   pub from : half ≤ length places
   pub enough : length places ≤ half + half
   pub own : drop half places ≡ map one_end children
-  pub decided : (i : ℕ) → 0 < i → i < half → IsDecided places i
+  pub decided : (i : ℕ) → 0 < i → i < half → IsDecided no_ends both_ends places i
   pub named_is : named ≡ position (λ (c : ChildEnd). c.named) children

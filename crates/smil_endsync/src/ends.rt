@@ -5,7 +5,8 @@ ghost use Rattle.std.specs.List.{position};
 ghost use Rattle.smil_model.specs.declared.interval.ChildEnd.{ChildEnd as AnyEnd};
 ghost use Rattle.smil_model.specs.interval.Durations;
 ghost use Rattle.smil_model.specs.interval.Durations.{container_duration};
-ghost use Rattle.smil_endsync.specs.Ends.{at_place, both_ends, no_ends, one_end, set_ends, IsDecided, IsOff};
+ghost use Rattle.smil_laws.specs.Tournaments.{at_place, IsDecided, IsOff};
+ghost use Rattle.smil_endsync.specs.Ends.{both_ends, no_ends, one_end, set_ends};
 
 use super::{greatest_known, seq_end, since};
 use smil_model::{ChildEnd, Duplicate, Endsync, Kind, Time, greatest, least};
@@ -231,7 +232,7 @@ fn summaries(alloc: Global, half: usize, children: &[ChildEnd]) -> Result<Vec<Su
 fn decide_all(places: &mut [Summary], half: usize)
     requires half { half ≤ 2 ^ 32 }
     requires from { half ≤ length places.old }
-    ensures decided { (i : ℕ) → 0 < i → i < half → IsDecided places.new i }
+    ensures decided { (i : ℕ) → 0 < i → i < half → IsDecided no_ends both_ends places.new i }
     ensures kept { drop half places.new ≡ drop half places.old }
 {
     let mut decided = half;
@@ -249,8 +250,9 @@ fn decide_above(places: &mut [Summary], half: usize, place: usize)
     requires above { 0 < place }
     requires half { half ≤ 2 ^ 32 }
     requires from { half ≤ length places.old }
-    requires off { (i : ℕ) → 0 < i → i < half → IsOff i (place / 2) → IsDecided places.old i }
-    ensures decided { (i : ℕ) → 0 < i → i < half → IsDecided places.new i }
+    requires off { (i : ℕ) → 0 < i → i < half → IsOff i (place / 2)
+        → IsDecided no_ends both_ends places.old i }
+    ensures decided { (i : ℕ) → 0 < i → i < half → IsDecided no_ends both_ends places.new i }
     ensures kept { drop half places.new ≡ drop half places.old }
 {
     let mut decided = place;
@@ -264,7 +266,7 @@ fn decide_above(places: &mut [Summary], half: usize, place: usize)
 
 // What a place comes to; a place past the last one has no children.
 fn at(places: &[Summary], place: usize) -> Summary
-    ensures { result ≡ at_place places.now place }
+    ensures { result ≡ at_place no_ends places.now place }
 {
     match places.get(place) {
         Some(summary) => *summary,

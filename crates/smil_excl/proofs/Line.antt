@@ -7,19 +7,19 @@ use Rattle.std.specs.List.{insert, position_or_len}
 use Rattle.smil_model.specs.declared.document.Node.{Node}
 use Rattle.smil_model.specs.happening.Queue
 use Rattle.smil_model.specs.happening.Queue.{rank, put_paused, put_deferred}
-use Rattle.smil_excl.specs.declared.held.Held.{Held}
+use Rattle.smil_excl.specs.declared.held.QueuedChild.{QueuedChild}
 use Rattle.smil_excl.specs.Line.{Line, paused_before, deferred_after, without, ranked}
 
-abbrev line : List Held → ℕ → Line
+abbrev line : List QueuedChild → ℕ → Line
 line held room = record { held = held; room = room }
 
 -- a change of what is held, seen from outside
-pub changed : (change : List Held → List Held) (now : Line) (inside after : List Held) (room : ℕ) → line inside room ≡ now → after ≡ change inside → line after room ≡ line (change now.held) now.room
+pub changed : (change : List QueuedChild → List QueuedChild) (now : Line) (inside after : List QueuedChild) (room : ℕ) → line inside room ≡ now → after ≡ change inside → line after room ≡ line (change now.held) now.room
 changed change now inside after room seen made =
     ap (λ held. line held room) made ∙ ap (λ (now : Line). line (change now.held) now.room) seen
 
 -- the place of what isn't there is the length
-pub or_length : (p : Held → Bool) (held : List Held) → unwrap_or (position p held) (length held) ≡ position_or_len p held
+pub or_length : (p : QueuedChild → Bool) (held : List QueuedChild) → unwrap_or (position p held) (length held) ≡ position_or_len p held
 or_length p held = elim (cases_lt (position_or_len p held) (length held)) [
   | inl lt ↦ let t : ltb (position_or_len p held) (length held) ≡ true = lt-ltb _ _ lt in rw t refl
   | inr le ↦ let t : ltb (position_or_len p held) (length held) ≡ false = le-ltb _ _ le in
@@ -28,25 +28,25 @@ or_length p held = elim (cases_lt (position_or_len p held) (length held)) [
       rw t same
 ]
 
-pub paused_at : (child : Held) (held : List Held) → insert held (position_or_len (λ (o : Held). nat_le child.rank o.rank) held) child ≡ paused_before child held
+pub paused_at : (child : QueuedChild) (held : List QueuedChild) → insert held (position_or_len (λ (o : QueuedChild). nat_le child.rank o.rank) held) child ≡ paused_before child held
 paused_at child [] = refl
 paused_at child (other ∷ others) = step (nat_le child.rank other.rank) refl (paused_at child others)
   where
-    step : (t : Bool) → nat_le child.rank other.rank ≡ t → insert others (position_or_len (λ (o : Held). nat_le child.rank o.rank) others) child ≡ paused_before child others → insert (other ∷ others) (position_or_len (λ (o : Held). nat_le child.rank o.rank) (other ∷ others)) child ≡ paused_before child (other ∷ others)
+    step : (t : Bool) → nat_le child.rank other.rank ≡ t → insert others (position_or_len (λ (o : QueuedChild). nat_le child.rank o.rank) others) child ≡ paused_before child others → insert (other ∷ others) (position_or_len (λ (o : QueuedChild). nat_le child.rank o.rank) (other ∷ others)) child ≡ paused_before child (other ∷ others)
     step true e rest = rw e refl
     step false e rest =
-        let more : position_or_len (λ (o : Held). nat_le child.rank o.rank) (other ∷ others) ≡ suc (position_or_len (λ (o : Held). nat_le child.rank o.rank) others) = rw e (omega arith) in
+        let more : position_or_len (λ (o : QueuedChild). nat_le child.rank o.rank) (other ∷ others) ≡ suc (position_or_len (λ (o : QueuedChild). nat_le child.rank o.rank) others) = rw e (omega arith) in
         let on : paused_before child (other ∷ others) ≡ other ∷ paused_before child others = rw e refl in
         ap (λ i. insert (other ∷ others) i child) more ∙ ap (λ os. other ∷ os) rest ∙ sym on
 
-pub deferred_at : (child : Held) (held : List Held) → insert held (position_or_len (λ (o : Held). nat_lt child.rank o.rank) held) child ≡ deferred_after child held
+pub deferred_at : (child : QueuedChild) (held : List QueuedChild) → insert held (position_or_len (λ (o : QueuedChild). nat_lt child.rank o.rank) held) child ≡ deferred_after child held
 deferred_at child [] = refl
 deferred_at child (other ∷ others) = step (nat_lt child.rank other.rank) refl (deferred_at child others)
   where
-    step : (t : Bool) → nat_lt child.rank other.rank ≡ t → insert others (position_or_len (λ (o : Held). nat_lt child.rank o.rank) others) child ≡ deferred_after child others → insert (other ∷ others) (position_or_len (λ (o : Held). nat_lt child.rank o.rank) (other ∷ others)) child ≡ deferred_after child (other ∷ others)
+    step : (t : Bool) → nat_lt child.rank other.rank ≡ t → insert others (position_or_len (λ (o : QueuedChild). nat_lt child.rank o.rank) others) child ≡ deferred_after child others → insert (other ∷ others) (position_or_len (λ (o : QueuedChild). nat_lt child.rank o.rank) (other ∷ others)) child ≡ deferred_after child (other ∷ others)
     step true e rest = rw e refl
     step false e rest =
-        let more : position_or_len (λ (o : Held). nat_lt child.rank o.rank) (other ∷ others) ≡ suc (position_or_len (λ (o : Held). nat_lt child.rank o.rank) others) = rw e (omega arith) in
+        let more : position_or_len (λ (o : QueuedChild). nat_lt child.rank o.rank) (other ∷ others) ≡ suc (position_or_len (λ (o : QueuedChild). nat_lt child.rank o.rank) others) = rw e (omega arith) in
         let on : deferred_after child (other ∷ others) ≡ other ∷ deferred_after child others = rw e refl in
         ap (λ i. insert (other ∷ others) i child) more ∙ ap (λ os. other ∷ os) rest ∙ sym on
 

@@ -7,5 +7,5 @@ mod held;
 mod queue;
 
 pub use decision::decide;
-pub use held::Held;
+pub use held::QueuedChild;
 pub use queue::Queue;

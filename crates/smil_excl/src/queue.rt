@@ -4,7 +4,7 @@ ghost use Rattle.std.specs.Prelude.{◌≡◌, ◌<◌, ◌≤◌, ◌==◌, nat
 ghost use Rattle.std.specs.List.{list_any, position};
 ghost use Rattle.smil_excl.specs.Line.{Line, paused_before, deferred_after, without};
 
-use super::held::Held;
+use super::held::QueuedChild;
 use smil_model::Duplicate;
 use std::alloc::{AllocError, Global};
 use std::marker::Model;
@@ -13,7 +13,7 @@ use std::marker::Model;
 /// that it has room for.
 #[derive(Debug, Drop)]
 pub struct Queue {
-    held: Vec<Held>,
+    held: Vec<QueuedChild>,
     room: usize,
 }
 
@@ -58,7 +58,7 @@ impl Queue {
         } }
     {
         let place = first_not_above(&self.held, rank).unwrap_or(self.held.len());
-        self.held.insert(place, Held { who, rank }).unwrap();
+        self.held.insert(place, QueuedChild { who, rank }).unwrap();
     }
 
     /// Puts in a deferred child, behind all of its rank and before those of later ones. There is
@@ -72,7 +72,7 @@ impl Queue {
         } }
     {
         let place = first_below(&self.held, rank).unwrap_or(self.held.len());
-        self.held.insert(place, Held { who, rank }).unwrap();
+        self.held.insert(place, QueuedChild { who, rank }).unwrap();
     }
 
     /// The next child; None exactly where the queue is empty. It takes no memory.
@@ -103,7 +103,8 @@ impl Queue {
     /// Takes out this child; false exactly where it isn't in the queue. It takes no memory.
     pub fn leave(&mut self, who: u32) -> bool
         ensures was { result ≡ list_any (λ other. other.who == who) self.old.held }
-        ensures rest { self.new ≡ record { held = without who self.old.held; room = self.old.room } }
+        ensures rest { self.new
+            ≡ record { held = without who self.old.held; room = self.old.room } }
     {
         let was = self.holds(who);
         self.held.retain(|other| other.who != who);
@@ -119,7 +120,7 @@ impl Queue {
 }
 
 // The place of the first child of this rank or a later one.
-fn first_not_above(held: &[Held], rank: u32) -> Option<usize>
+fn first_not_above(held: &[QueuedChild], rank: u32) -> Option<usize>
     ensures place { result ≡ position (λ other. nat_le rank other.rank) held.now }
     ensures bound { IfSome result (λ place. place < length held.now) }
 {
@@ -127,7 +128,7 @@ fn first_not_above(held: &[Held], rank: u32) -> Option<usize>
 }
 
 // The place of the first child of a rank later than this one.
-fn first_below(held: &[Held], rank: u32) -> Option<usize>
+fn first_below(held: &[QueuedChild], rank: u32) -> Option<usize>
     ensures place { result ≡ position (λ other. nat_lt rank other.rank) held.now }
     ensures bound { IfSome result (λ place. place < length held.now) }
 {

@@ -5,7 +5,7 @@ ghost use Rattle.smil_model.specs.declared.interval.Interval.{Interval as Curren
 ghost use Rattle.smil_model.specs.declared.times.Time.TheVariants as time;
 ghost use Rattle.smil_model.specs.declared.view.Shown.TheVariants as shown;
 ghost use Rattle.smil_model.specs.shown.Views.{shown_time, shown_or, shown_begin, shown_end, view_by};
-ghost use Rattle.smil_fill.specs.Numbers.{IsTimeWithin, HasNumbersWithin};
+ghost use Rattle.smil_fill.specs.Numbers.{IsTimeCarried, HasNumbersWithin};
 
 use super::states::state;
 use smil_model::{Shown, State, Time, View, ViewFacts};
@@ -13,7 +13,7 @@ use smil_model::{Shown, State, Time, View, ViewFacts};
 // A time on the time parent's clock, as it is shown at the present moment.
 fn present(facts: &ViewFacts, time: Time) -> Shown
     requires facts { HasNumbersWithin facts.now }
-    requires time { IsTimeWithin time }
+    requires time { IsTimeCarried time }
     ensures { result ≡ shown_time facts.now time }
 {
     match time {

@@ -10,11 +10,11 @@ use Rattle.smil_model.specs.shown.Orders.{Formats}
 use Rattle.smil_model.specs.document.Values.{is_seq_parent}
 use Rattle.smil_grammar.specs.Results.{◌>>=◌}
 use Rattle.smil_grammar.specs.Attributes.{attr_name_of}
-use Rattle.smil_grammar.specs.Nodes.{Written, at_column, attr_of, kind_of, node_of}
+use Rattle.smil_grammar.specs.Nodes.{WrittenAttr, at_column, attr_of, kind_of, node_of}
 use Rattle.smil_grammar.specs.Outlines.{in_line, outline_text, saved_text}
 
 -- an attribute whose name and value begin at these columns
-abbrev pub written_at : List ℕ → List ℕ → ℕ → ℕ → Written
+abbrev pub written_at : List ℕ → List ℕ → ℕ → ℕ → WrittenAttr
 written_at name value name_column column = record {
   name = name;
   name_place = name_column - 1;

@@ -29,7 +29,7 @@ abbrev pub is_no_space : ℕ → Bool
 is_no_space b = not (b == space)
 
 -- an attribute as it is written, with the places of its name and its value in the line
-pub record Written : Type 0 where
+pub record WrittenAttr : Type 0 where
   pub name : List ℕ
   pub name_place : ℕ
   pub value : List ℕ
@@ -42,7 +42,7 @@ is_named run =
     && list_all is_no_space run && is_utf8 run
 
 -- spaces, a name and `=`, at this place of the line
-abbrev pub attribute_at : ℕ → List ℕ → List ℕ → Option Written
+abbrev pub attribute_at : ℕ → List ℕ → List ℕ → Option WrittenAttr
 attribute_at place lead value =
     let spaces : ℕ = prefix_len is_space lead in
     let run : List ℕ = drop spaces lead in
@@ -55,12 +55,12 @@ attribute_at place lead value =
     })
     else None
 
-abbrev pub with_written : Option Written → Option (List Written) → Option (List Written)
+abbrev pub with_written : Option WrittenAttr → Option (List WrittenAttr) → Option (List WrittenAttr)
 with_written (Some attribute) (Some attributes) = Some (attribute ∷ attributes)
 with_written _ _ = None
 
 -- the pieces between quotes, from this place of the line on
-abbrev pub attributes_at : ℕ → List (List ℕ) → Option (List Written)
+abbrev pub attributes_at : ℕ → List (List ℕ) → Option (List WrittenAttr)
 attributes_at place [] = None
 attributes_at place (last ∷ []) = if list_all is_space last then Some [] else None
 attributes_at place (lead ∷ value ∷ pieces) =
@@ -70,9 +70,9 @@ attributes_at place (lead ∷ value ∷ pieces) =
 -- a kind, and the attributes behind it
 pub record Shape : Type 0 where
   pub kind : List ℕ
-  pub attributes : List Written
+  pub attributes : List WrittenAttr
 
-abbrev pub shaped : List ℕ → Option (List Written) → Option Shape
+abbrev pub shaped : List ℕ → Option (List WrittenAttr) → Option Shape
 shaped kind None = None
 shaped kind (Some attributes) =
     if nat_lt 0 (length kind) && is_utf8 kind
@@ -110,10 +110,10 @@ saved_shape_of line =
     shape_behind (take kind line) (option_and_then (behind number_sign) (behind space (drop kind line)))
 
 -- a name that stands twice
-abbrev pub repeats : List Written → Bool
+abbrev pub repeats : List WrittenAttr → Bool
 repeats [] = false
 repeats (attribute ∷ attributes) =
-    list_any (λ (other : Written). bytes_eq other.name attribute.name) attributes || repeats attributes
+    list_any (λ (other : WrittenAttr). bytes_eq other.name attribute.name) attributes || repeats attributes
 
 -- the kind of a node line: its shape and repeated names come before it
 abbrev pub kind_or : List ℕ → Option Kind → Result Kind NodeFault
@@ -133,7 +133,7 @@ abbrev pub column_at : ℕ → ℕ
 column_at place = min (place + 1) 4_294_967_295
 
 -- a fault with its column
-abbrev pub at_column : {A : Type 0} → Written → Result A AttrFault → Result A NodeFault
+abbrev pub at_column : {A : Type 0} → WrittenAttr → Result A AttrFault → Result A NodeFault
 at_column written (Ok x) = Ok x
 at_column written (Err attr.UnknownAttribute) = Err (UnknownAttribute (column_at written.name_place))
 at_column written (Err attr.UnsupportedName) = Err (Unsupported (column_at written.name_place))
@@ -146,11 +146,11 @@ at_column written (Err attr.Memory) = Err Memory
 abbrev pub attribute_of : Bool → Kind → List ℕ → List ℕ → Result Attr AttrFault
 attribute_of in_seq k name value = attr_name_of k name >>= λ n. value_of in_seq n value
 
-abbrev pub attr_of : Bool → Kind → Written → Result Attr NodeFault
+abbrev pub attr_of : Bool → Kind → WrittenAttr → Result Attr NodeFault
 attr_of in_seq k written = at_column written (attribute_of in_seq k written.name written.value)
 
 -- from left to right, up to the first fault
-abbrev pub attrs_from : Bool → Kind → Attrs → List Written → Result Attrs NodeFault
+abbrev pub attrs_from : Bool → Kind → Attrs → List WrittenAttr → Result Attrs NodeFault
 attrs_from in_seq k attrs [] = Ok attrs
 attrs_from in_seq k attrs (written ∷ others) =
     attr_of in_seq k written >>= λ given. attrs_from in_seq k (with_attr attrs given) others

@@ -1,5 +1,5 @@
 -- The one printed spelling of each value, and of outlines.
-use Rattle.std.specs.Prelude.{◌≡◌, ◌≤◌, take, ℕ, zero, suc, ◌+◌, ◌*◌, ◌/◌, ◌%◌, ℤ, pos, negsuc, nat_abs, List, [], ◌∷◌, ◌++◌, length, replicate, flat_map, Option, Some, None, option_map, ◌==◌, if◌then◌else◌, codes, decimal}
+use Rattle.std.specs.Prelude.{ℕ, zero, suc, ◌+◌, ◌*◌, ◌/◌, ◌%◌, ℤ, pos, negsuc, nat_abs, List, [], ◌∷◌, ◌++◌, replicate, flat_map, Option, Some, None, option_map, ◌==◌, if◌then◌else◌, codes, decimal}
 use Rattle.smil_model.specs.declared.document.Kind.{Kind}
 use Rattle.smil_model.specs.declared.document.Item.{Item}
 use Rattle.smil_model.specs.declared.document.Item.TheVariants.{Offset, Sync, Event, Repeat, Key, Indefinite}
@@ -219,7 +219,3 @@ CanWrite (Event who name offset) = IsNear offset
 CanWrite (Repeat who n offset) = IsNear offset
 CanWrite (Key key offset) = IsNear offset
 CanWrite Indefinite = Unit {0}
-
--- where memory runs out, what was written before stays at the front
-abbrev pub Begins : List ℕ → List ℕ → Type 0
-Begins front text = take (length front) text ≡ front

@@ -5,9 +5,8 @@ use Rattle.std.specs.List.Sorted.{IsPermutation}
 use Rattle.smil_model.specs.declared.document.Node.{Node}
 use Rattle.smil_model.specs.declared.document.Item.{Item}
 use Rattle.smil_model.specs.declared.document.Edge.{Edge}
-use Rattle.smil_model.specs.declared.document.Edge.TheVariants.{Begin, End}
 use Rattle.smil_model.specs.document.Document.{elements, node_at, has_serial, is_time_child, previous_in_seq, serials}
-use Rattle.smil_model.specs.document.Defaults.{begin_list, end_list, items_of}
+use Rattle.smil_model.specs.document.Defaults.{items_of}
 use Rattle.smil_model.specs.document.Dependencies.{has_implicit_duration, all_items, is_sync_with, is_looped, leads_to}
 use Rattle.smil_model.specs.reach.Reach.{reads}
 

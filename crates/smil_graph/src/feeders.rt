@@ -14,7 +14,7 @@ ghost use Rattle.smil_model.specs.document.Valid.{IsNumberedTree, IsDistinct};
 use super::outline::{TimeTree, is_element, place_at, previous_in_seqs};
 use super::row::{push_all, push_one, row_at};
 use smil_duration::takes_implicit;
-use smil_model::{Attrs, Bytes, Doc, Item, Items, Listed, Node};
+use smil_model::{Attrs, Bytes, Doc, GrowingList, Item, Items, Node};
 use std::alloc::{AllocError, Global};
 use std::collections::HashMap;
 
@@ -22,7 +22,7 @@ use std::collections::HashMap;
 // the child before each node in a seq, and the elements by their ids.
 #[derive(Drop)]
 struct Index<'a, 'b> {
-    children: &'a [Listed<usize>],
+    children: &'a [GrowingList<usize>],
     previous: &'a [Option<usize>],
     ids: &'a HashMap<&'b [u8], usize>,
 }
@@ -33,7 +33,7 @@ pub fn feeders(
     alloc: Global,
     tree: &TimeTree<'_>,
     ids: &HashMap<&[u8], usize>,
-) -> Result<Vec<Listed<usize>>, AllocError>
+) -> Result<Vec<GrowingList<usize>>, AllocError>
     requires numbered { IsNumberedTree tree.now.doc.now }
     requires parents { IsTable tree.now.doc.now.nodes
         (λ n. model.time_parent tree.now.doc.now.nodes n.serial) tree.now.parents.now }
@@ -58,7 +58,7 @@ fn feeder_rows(
     alloc: Global,
     doc: &Doc,
     index: &Index<'_, '_>,
-) -> Result<Vec<Listed<usize>>, AllocError>
+) -> Result<Vec<GrowingList<usize>>, AllocError>
     ensures { IfOk result (λ rows. AreRows (length doc.now.nodes)
         (λ j i. element_follows (row index.now.children.now j) (up index.now.previous.now j)
         (λ id. get_by (λ k. bytes_eq id k.now) index.now.ids.now) (slice_get doc.now.nodes j) i)
@@ -66,7 +66,7 @@ fn feeder_rows(
 {
     let mut rows = Vec::with_capacity(alloc, doc.len())?;
     for place in 0..doc.len() {
-        let mut row = Listed::new(alloc);
+        let mut row = GrowingList::new(alloc);
         if let Some(node) = doc.get(place) {
             push_feeders(&mut row, index, node, place)?;
         }
@@ -80,9 +80,9 @@ fn feeder_rows(
 pub fn sources(
     alloc: Global,
     doc: &Doc,
-    feeders: &[Listed<usize>],
+    feeders: &[GrowingList<usize>],
     ids: &HashMap<&[u8], usize>,
-) -> Result<Vec<Listed<usize>>, AllocError>
+) -> Result<Vec<GrowingList<usize>>, AllocError>
     requires distinct { IsDistinct doc.now.nodes }
     requires feeders { AreRows (length doc.now.nodes) (feeds_place doc.now.nodes) feeders.now }
     requires ids { IsIndex doc.now.nodes (model.element_named doc.now.nodes)
@@ -92,7 +92,7 @@ pub fn sources(
 {
     let mut rows = Vec::with_capacity(alloc, doc.len())?;
     for place in 0..doc.len() {
-        let mut row = Listed::new(alloc);
+        let mut row = GrowingList::new(alloc);
         push_all(&mut row, row_at(feeders, place))?;
         if let Some(node) = doc.get(place) {
             push_heard_by(&mut row, node, ids, place)?;
@@ -105,7 +105,7 @@ pub fn sources(
 // Appends the places of those from which the times of the element at a place follow; nothing for a
 // priorityClass.
 fn push_feeders(
-    row: &mut Listed<usize>,
+    row: &mut GrowingList<usize>,
     index: &Index<'_, '_>,
     node: &Node,
     place: usize,
@@ -127,7 +127,7 @@ fn push_feeders(
 
 // Appends the time children where the simple duration is implicit.
 fn push_children(
-    row: &mut Listed<usize>,
+    row: &mut GrowingList<usize>,
     attrs: &Attrs,
     time_children: &[usize],
 ) -> Result<(), AllocError>
@@ -144,7 +144,7 @@ fn push_children(
 
 // Appends the places of those whose events an element hears; nothing for a priorityClass.
 fn push_heard_by(
-    row: &mut Listed<usize>,
+    row: &mut GrowingList<usize>,
     node: &Node,
     ids: &HashMap<&[u8], usize>,
     place: usize,
@@ -163,7 +163,7 @@ fn push_heard_by(
 
 // Appends the places of the elements to whose begins or ends the items refer.
 fn push_named(
-    row: &mut Listed<usize>,
+    row: &mut GrowingList<usize>,
     items: &Option<Items>,
     ids: &HashMap<&[u8], usize>,
 ) -> Result<(), AllocError>
@@ -194,7 +194,7 @@ pub fn named_by(ids: &HashMap<&[u8], usize>, item: &Item) -> Option<usize>
 // Appends the places of the elements whose events or repeats the items of the element at a place
 // mean.
 fn push_heard(
-    row: &mut Listed<usize>,
+    row: &mut GrowingList<usize>,
     items: &Option<Items>,
     ids: &HashMap<&[u8], usize>,
     place: usize,

@@ -15,7 +15,7 @@ use super::outline::{TimeTree, is_element_at};
 use super::row::row_at;
 use super::search::search;
 use super::tables::{Tables, serials_at, tables_like, tables_of};
-use smil_model::{Doc, Duplicate, Edge, Listed, Serials};
+use smil_model::{Doc, Duplicate, Edge, GrowingList, Serials};
 use smil_tree::Tree;
 use std::alloc::{AllocError, Global};
 use std::collections::HashMap;
@@ -139,7 +139,8 @@ impl Graph {
     /// Where memory runs out `out` is as before. It takes time and memory for what is reached and
     /// for those that read it.
     pub fn down(&self, serial: u32, out: &mut Serials) -> Result<(), AllocError>
-        ensures ok { OnOk result (out.new ≡ out.old ++ model.down_from self.now.nodes (Some serial)) }
+        ensures ok { OnOk result (out.new
+            ≡ out.old ++ model.down_from self.now.nodes (Some serial)) }
         ensures err { OnErr result (out.new ≡ out.old) }
     {
         match element_place(&self.doc, &self.tables.places, serial) {
@@ -230,7 +231,7 @@ fn row_of(rows: &[Serials], place: Option<usize>) -> &[u32]
 }
 
 // Whether there is a mark at an item of the row at a place.
-fn is_marked(rows: &[Listed<bool>], place: Option<usize>, item: usize) -> bool
+fn is_marked(rows: &[GrowingList<bool>], place: Option<usize>, item: usize) -> bool
     ensures { result ≡ marked_at rows.now place item }
 {
     match place {

@@ -12,7 +12,7 @@ ghost use Rattle.smil_model.specs.document.Valid.{IsDistinct};
 use super::feeders::named_by;
 use super::outline::is_element;
 use super::row::number_at;
-use smil_model::{Doc, Edge, Items, Listed};
+use smil_model::{Doc, Edge, GrowingList, Items};
 use std::alloc::{AllocError, Global};
 use std::collections::HashMap;
 
@@ -31,7 +31,7 @@ pub fn looped_marks(
     doc: &Doc,
     loops: &Loops<'_, '_>,
     side: Edge,
-) -> Result<Vec<Listed<bool>>, AllocError>
+) -> Result<Vec<GrowingList<bool>>, AllocError>
     requires distinct { IsDistinct doc.now.nodes }
     requires ids { IsIndex doc.now.nodes (model.element_named doc.now.nodes)
         (λ id. get_by (λ k. bytes_eq id k.now) loops.now.ids.now) }
@@ -40,7 +40,7 @@ pub fn looped_marks(
 {
     let mut rows = Vec::with_capacity(alloc, doc.len())?;
     for place in 0..doc.len() {
-        let mut row = Listed::new(alloc);
+        let mut row = GrowingList::new(alloc);
         if let Some(node) = doc.get(place) {
             if is_element(node) {
                 push_marks(&mut row, node.attrs.list(side), loops, place)?;
@@ -54,7 +54,7 @@ pub fn looped_marks(
 // Appends for each item whether it is a reference of the element at a place to one of the same
 // level.
 fn push_marks(
-    row: &mut Listed<bool>,
+    row: &mut GrowingList<bool>,
     items: Option<&Items>,
     loops: &Loops<'_, '_>,
     place: usize,

@@ -10,7 +10,7 @@ ghost use Rattle.smil_graph.specs.Places.{up, IsTable, IsIndex, before, is_eleme
 
 use super::row::{push_one, row_at};
 use super::turned::turned;
-use smil_model::{Doc, Kind, Listed, Node};
+use smil_model::{Doc, GrowingList, Kind, Node};
 use std::alloc::{AllocError, Global};
 use std::collections::HashMap;
 
@@ -19,7 +19,7 @@ use std::collections::HashMap;
 pub struct TimeTree<'a> {
     pub doc: &'a Doc,
     pub parents: &'a [Option<usize>],
-    pub children: &'a [Listed<usize>],
+    pub children: &'a [GrowingList<usize>],
 }
 
 /// Whether a node is an element.
@@ -65,7 +65,8 @@ pub fn time_parents(
     parents: &[Option<usize>],
 ) -> Result<Vec<Option<usize>>, AllocError>
     requires tree { IsNumberedTree doc.now }
-    requires parents { IsTable doc.now.nodes (λ n. model.node_at doc.now.nodes n.parent) parents.now }
+    requires parents { IsTable doc.now.nodes
+        (λ n. model.node_at doc.now.nodes n.parent) parents.now }
     ensures { IfOk result (λ table. IsTable doc.now.nodes
         (λ n. model.time_parent doc.now.nodes n.serial) table.items) }
 {
@@ -118,7 +119,7 @@ pub fn time_children(
     alloc: Global,
     doc: &Doc,
     time_parents: &[Option<usize>],
-) -> Result<Vec<Listed<usize>>, AllocError>
+) -> Result<Vec<GrowingList<usize>>, AllocError>
     requires { IsTable doc.now.nodes (λ n. model.time_parent doc.now.nodes n.serial)
         time_parents.now }
     ensures count { IfOk result (λ rows. length rows.items ≡ length doc.now.nodes) }
@@ -135,13 +136,13 @@ fn parent_rows(
     alloc: Global,
     doc: &Doc,
     time_parents: &[Option<usize>],
-) -> Result<Vec<Listed<usize>>, AllocError>
+) -> Result<Vec<GrowingList<usize>>, AllocError>
     ensures { IfOk result (λ rows. AreRows (length doc.now.nodes)
         (λ p q. is_element_at doc.now.nodes p && is_option q (up time_parents.now p)) rows.items) }
 {
     let mut rows = Vec::with_capacity(alloc, doc.len())?;
     for place in 0..doc.len() {
-        let mut row = Listed::new(alloc);
+        let mut row = GrowingList::new(alloc);
         if is_element_at(doc, place) {
             push_one(&mut row, place_at(time_parents, place))?;
         }
@@ -176,7 +177,7 @@ pub fn previous_in_seqs(
 fn previous_of(
     doc: &Doc,
     parent: Option<usize>,
-    time_children: &[Listed<usize>],
+    time_children: &[GrowingList<usize>],
     place: usize,
 ) -> Option<usize>
     requires { (q : ℕ) → IsRising (row time_children.now q) }

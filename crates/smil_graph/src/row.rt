@@ -4,23 +4,27 @@ ghost use Rattle.std.specs.Prelude.{◌≡◌, ℕ, ◌<◌, [], ◌∷◌, ◌+
 ghost use Rattle.smil_model.specs.reach.Reach.{is_option};
 ghost use Rattle.smil_graph.specs.Links.{row, lists};
 
-use smil_model::Listed;
+use smil_model::GrowingList;
 use std::alloc::{AllocError, Global};
 
 /// So many empty rows.
-pub fn empty_rows(alloc: Global, count: usize) -> Result<Vec<Listed<usize>>, AllocError>
+pub fn empty_rows(alloc: Global, count: usize) -> Result<Vec<GrowingList<usize>>, AllocError>
     ensures count { IfOk result (λ rows. length rows.items ≡ count) }
     ensures empty { IfOk result (λ rows. (i : ℕ) → row rows.items i ≡ []) }
 {
     let mut rows = Vec::with_capacity(alloc, count)?;
     for _ in 0..count {
-        rows.push(Listed::new(alloc))?;
+        rows.push(GrowingList::new(alloc))?;
     }
     Ok(rows)
 }
 
 /// Appends a place to a row.
-pub fn push_at(rows: &mut Vec<Listed<usize>>, at: usize, place: usize) -> Result<(), AllocError>
+pub fn push_at(
+    rows: &mut Vec<GrowingList<usize>>,
+    at: usize,
+    place: usize,
+) -> Result<(), AllocError>
     requires { at < length rows.old.items }
     ensures { OnOk result (rows.new.items
         ≡ slice_set rows.old.items at (row rows.old.items at ++ place ∷ [])) }
@@ -29,7 +33,7 @@ pub fn push_at(rows: &mut Vec<Listed<usize>>, at: usize, place: usize) -> Result
 }
 
 /// The row at a place; it is empty past the last one.
-pub fn row_at(rows: &[Listed<usize>], place: usize) -> &[usize]
+pub fn row_at(rows: &[GrowingList<usize>], place: usize) -> &[usize]
     ensures { result.now ≡ row rows.now place }
 {
     match rows.get(place) {
@@ -49,7 +53,7 @@ pub fn number_at(numbers: &[usize], place: usize) -> usize
 }
 
 /// Appends all of these places.
-pub fn push_all(row: &mut Listed<usize>, places: &[usize]) -> Result<(), AllocError>
+pub fn push_all(row: &mut GrowingList<usize>, places: &[usize]) -> Result<(), AllocError>
     ensures { OnOk result ((i : ℕ) → lists row.new i ≡ (lists row.old i || lists places.now i)) }
 {
     row.append(places)?;
@@ -57,7 +61,7 @@ pub fn push_all(row: &mut Listed<usize>, places: &[usize]) -> Result<(), AllocEr
 }
 
 /// Appends a place, if there is one.
-pub fn push_one(row: &mut Listed<usize>, place: Option<usize>) -> Result<(), AllocError>
+pub fn push_one(row: &mut GrowingList<usize>, place: Option<usize>) -> Result<(), AllocError>
     ensures { OnOk result ((i : ℕ) → lists row.new i ≡ (lists row.old i || is_option i place)) }
 {
     match place {

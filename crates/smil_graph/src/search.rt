@@ -4,14 +4,14 @@ ghost use Rattle.std.specs.Prelude.{◌≡◌, length, OnOk, IfOk};
 ghost use Rattle.smil_graph.specs.Links.{StayBelow, AreBelow, IsReached, with_places};
 
 use indexmap::IndexSet;
-use smil_model::Listed;
+use smil_model::GrowingList;
 use std::alloc::{AllocError, Global};
 
 /// What is reached from the starts along the links of the rows, unless memory runs out. It takes
 /// time and memory for what is reached and its links alone.
 pub fn search(
     alloc: Global,
-    rows: &[Listed<usize>],
+    rows: &[GrowingList<usize>],
     starts: &[usize],
 ) -> Result<IndexSet<usize>, AllocError>
     requires rows { StayBelow (length rows.now) rows.now }

@@ -19,7 +19,7 @@ use super::places::{id_places, serial_places};
 use super::ranks::ranks_of;
 use super::turned::turned;
 use super::waiting::waiting;
-use smil_model::{Doc, Edge, Listed, Serials};
+use smil_model::{Doc, Edge, GrowingList, Serials};
 use std::alloc::{AllocError, Global};
 use std::collections::HashMap;
 
@@ -28,12 +28,12 @@ use std::collections::HashMap;
 pub struct Tables {
     pub places: HashMap<u32, usize>,
     pub time_parents: Vec<Option<usize>>,
-    pub time_children: Vec<Listed<usize>>,
-    pub begins: Vec<Listed<bool>>,
-    pub ends: Vec<Listed<bool>>,
-    pub heads: Vec<Listed<usize>>,
+    pub time_children: Vec<GrowingList<usize>>,
+    pub begins: Vec<GrowingList<bool>>,
+    pub ends: Vec<GrowingList<bool>>,
+    pub heads: Vec<GrowingList<usize>>,
     pub readers: Vec<Serials>,
-    pub waiting: Vec<Listed<usize>>,
+    pub waiting: Vec<GrowingList<usize>>,
     pub order: Serials,
     pub ranks: HashMap<u32, usize>,
 }
@@ -108,7 +108,7 @@ pub fn tables_like(alloc: Global, doc: &Doc, other: &Tables) -> Result<Tables, A
 }
 
 // A level for each node, from the rows of what each element's times follow from.
-fn element_levels(alloc: Global, feeders: &[Listed<usize>]) -> Result<Vec<usize>, AllocError>
+fn element_levels(alloc: Global, feeders: &[GrowingList<usize>]) -> Result<Vec<usize>, AllocError>
     requires { StayBelow (length feeders.now) feeders.now }
     ensures { IfOk result (λ levels. (nodes : List Node) → IsDistinct nodes
         → AreRows (length nodes) (feeds_place nodes) feeders.now
@@ -122,9 +122,9 @@ fn element_levels(alloc: Global, feeders: &[Listed<usize>]) -> Result<Vec<usize>
 fn heads(
     alloc: Global,
     doc: &Doc,
-    feeders: &[Listed<usize>],
+    feeders: &[GrowingList<usize>],
     ids: &HashMap<&[u8], usize>,
-) -> Result<Vec<Listed<usize>>, AllocError>
+) -> Result<Vec<GrowingList<usize>>, AllocError>
     requires distinct { IsDistinct doc.now.nodes }
     requires feeders { AreRows (length doc.now.nodes) (feeds_place doc.now.nodes) feeders.now }
     requires ids { IsIndex doc.now.nodes (element_named doc.now.nodes)
@@ -136,7 +136,11 @@ fn heads(
 }
 
 // For each element the serials of those that read it, in document order.
-fn readers(alloc: Global, doc: &Doc, heads: &[Listed<usize>]) -> Result<Vec<Serials>, AllocError>
+fn readers(
+    alloc: Global,
+    doc: &Doc,
+    heads: &[GrowingList<usize>],
+) -> Result<Vec<Serials>, AllocError>
     requires distinct { IsDistinct doc.now.nodes }
     requires heads { AreHeads doc.now.nodes heads.now }
     ensures { IfOk result (λ rows. AreReaders doc.now.nodes rows.items) }
@@ -153,7 +157,7 @@ fn readers(alloc: Global, doc: &Doc, heads: &[Listed<usize>]) -> Result<Vec<Seri
 pub fn serials_at(alloc: Global, doc: &Doc, places: &[usize]) -> Result<Serials, AllocError>
     ensures { IfOk result (λ serials. serials ≡ serials_of_places doc.now.nodes places.now) }
 {
-    let mut serials = Listed::new(alloc);
+    let mut serials = GrowingList::new(alloc);
     for place in places {
         if let Some(node) = doc.get(*place) {
             serials.push(node.serial)?;

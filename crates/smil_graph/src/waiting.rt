@@ -8,14 +8,14 @@ ghost use Rattle.smil_model.specs.reach.Reach.{is_key_item, is_option};
 ghost use Rattle.smil_graph.specs.Tables.{has_key_item, key_of, AreWaiting, AreWithPlace};
 
 use super::row::{empty_rows, push_at};
-use smil_model::{Doc, Item, Items, Listed, Node};
+use smil_model::{Doc, GrowingList, Item, Items, Node};
 use std::alloc::{AllocError, Global};
 
 /// How many keys there are: one for each byte.
 pub const KEYS: usize = 256;
 
 /// For each key a row of the places of the elements that have an item for it.
-pub fn waiting(alloc: Global, doc: &Doc) -> Result<Vec<Listed<usize>>, AllocError>
+pub fn waiting(alloc: Global, doc: &Doc) -> Result<Vec<GrowingList<usize>>, AllocError>
     ensures { IfOk result (λ rows. AreWaiting doc.now.nodes rows.items) }
 {
     let mut rows = empty_rows(alloc, KEYS)?;
@@ -29,7 +29,11 @@ pub fn waiting(alloc: Global, doc: &Doc) -> Result<Vec<Listed<usize>>, AllocErro
 
 // Puts the place of an element into the row of each key for which it has an item; that of a
 // priorityClass into none.
-fn push_waits(rows: &mut Vec<Listed<usize>>, node: &Node, place: usize) -> Result<(), AllocError>
+fn push_waits(
+    rows: &mut Vec<GrowingList<usize>>,
+    node: &Node,
+    place: usize,
+) -> Result<(), AllocError>
     requires { KEYS ≤ length rows.old.items }
     ensures { OnOk result (AreWithPlace (λ key. is_element node.now && has_key_item key node.now)
         place rows.old.items rows.new.items) }
@@ -43,7 +47,7 @@ fn push_waits(rows: &mut Vec<Listed<usize>>, node: &Node, place: usize) -> Resul
 
 // Puts a place into the row of each key for which there is an item.
 fn push_keys(
-    rows: &mut Vec<Listed<usize>>,
+    rows: &mut Vec<GrowingList<usize>>,
     items: &Option<Items>,
     place: usize,
 ) -> Result<(), AllocError>
@@ -71,9 +75,14 @@ fn key_of(item: &Item) -> Option<u8>
 }
 
 // Puts a place into the row of a key, if there is one.
-fn push_key(rows: &mut Vec<Listed<usize>>, key: Option<u8>, place: usize) -> Result<(), AllocError>
+fn push_key(
+    rows: &mut Vec<GrowingList<usize>>,
+    key: Option<u8>,
+    place: usize,
+) -> Result<(), AllocError>
     requires { KEYS ≤ length rows.old.items }
-    ensures { OnOk result (AreWithPlace (λ i. is_option i key) place rows.old.items rows.new.items) }
+    ensures { OnOk result
+        (AreWithPlace (λ i. is_option i key) place rows.old.items rows.new.items) }
 {
     match key {
         Some(key) => push_at(rows, key as usize, place),

@@ -5,11 +5,11 @@ use Rattle.std.proofs.lemmas.Option.{slice_get_read}
 use Rattle.std.proofs.lemmas.List.Quantifiers.{position-Some}
 use Rattle.smil_model.specs.declared.order.Order.{Order}
 use Rattle.smil_model.specs.shown.Orders.{Formats}
-use Rattle.smil_house.specs.declared.house.Held.{Held}
+use Rattle.smil_house.specs.declared.house.NamedPlayer.{NamedPlayer}
 use Rattle.smil_house.specs.House.{IsAt, IsTurned, place_of}
 
 -- what stands at the place that was found
-pub at_found : {P : Type 0} (name : List ℕ) (items held : List (Held P)) (found : Option ℕ) (place : ℕ) (h : Held P)
+pub at_found : {P : Type 0} (name : List ℕ) (items held : List (NamedPlayer P)) (found : Option ℕ) (place : ℕ) (h : NamedPlayer P)
     → items ≡ held → found ≡ place_of name held → found ≡ Some place → h ≡ slice_index_or items place h → IsAt name held place h
 at_found name items held found place h same is some here =
     let at : place_of name held ≡ Some place = sym is ∙ some in
@@ -19,7 +19,7 @@ at_found name items held found place h same is some here =
     }
 
 -- another player put in its place
-pub turned_to : {P : Type 0} (formats : P → Formats) (takes : P → Order → Bool) (name : List ℕ) (items held : List (Held P)) (found : Option ℕ) (place : ℕ) (h : Held P) (player : P)
+pub turned_to : {P : Type 0} (formats : P → Formats) (takes : P → Order → Bool) (name : List ℕ) (items held : List (NamedPlayer P)) (found : Option ℕ) (place : ℕ) (h : NamedPlayer P) (player : P)
     → items ≡ held → found ≡ place_of name held → found ≡ Some place → h ≡ slice_index_or items place h
     → formats player ≡ formats h.player → takes player ≡ takes h.player
     → IsTurned formats takes name held (slice_set items place (record { name = h.name; player = player })) place h (record { name = h.name; player = player })

@@ -12,7 +12,7 @@ use std::sync::ledger::Ledger;
 
 /// What keeps a presentation, under its name.
 #[derive(Drop)]
-pub struct Held<P> {
+pub struct NamedPlayer<P> {
     pub name: Bytes,
     pub player: P,
 }
@@ -21,13 +21,13 @@ pub struct Held<P> {
 /// order in which they were loaded.
 #[derive(Drop)]
 pub struct House<P> {
-    held: Vec<Held<P>>,
+    held: Vec<NamedPlayer<P>>,
 }
 
 impl<P> Model for House<P> {
     ghost use Rattle.std.specs.Prelude.{List, length, ◌≤◌, vec_capacity};
     ghost use Rattle.smil_model.specs.declared.limits.TheConstants.{PRESENTATIONS as the_most};
-    ghost use Rattle.smil_house.specs.declared.house.Held.{Held as AnyHeld};
+    ghost use Rattle.smil_house.specs.declared.house.NamedPlayer.{NamedPlayer as AnyHeld};
 
     ghost Value = { List (AnyHeld P) };
 
@@ -67,7 +67,7 @@ impl<P: Player + Drop> House<P> {
         requires { load_refusal name self.old ≡ Ok tt }
         ensures { self.new ≡ self.old ++ record { name = name; player = player } ∷ [] }
     {
-        self.held.push(Held { name, player }).unwrap();
+        self.held.push(NamedPlayer { name, player }).unwrap();
     }
 
     /// Answers an order to the presentation of this name: appends its text but for the `ok` line,

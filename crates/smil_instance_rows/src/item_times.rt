@@ -6,7 +6,7 @@ ghost use Rattle.smil_instance_rows.specs.Values.{with_value, without_value};
 ghost use Rattle.smil_instance_rows.specs.Places.{IsNotAfter, TakesFirst, TakesMore, last_part, Replaces, IsUndone};
 
 use super::instant::Instant;
-use super::sorted::Sorted;
+use super::sorted::SortedList;
 use smil_model::{Duplicate, Time};
 use std::alloc::{AllocError, Global};
 use std::collections::VecDeque;
@@ -108,12 +108,13 @@ impl ItemTimes {
 /// before.
 pub fn add<T: Instant>(
     kept: &mut ItemTimes,
-    sorted: &mut Sorted<T>,
+    sorted: &mut SortedList<T>,
     last: InstanceTime,
 ) -> Result<(), AllocError>
     requires { IsNotAfter last.place kept.old }
     ensures kept { OnOk result (kept.new ≡ kept.old ++ last ∷ []) }
-    ensures sorted { OnOk result (sorted.new ≡ with_value T.at_most (T.choose last.time) sorted.old) }
+    ensures sorted { OnOk result (sorted.new
+        ≡ with_value T.at_most (T.choose last.time) sorted.old) }
     ensures kept_stays { OnErr result (kept.new ≡ kept.old) }
     ensures sorted_stays { OnErr result (sorted.new ≡ sorted.old) }
 {
@@ -131,37 +132,37 @@ pub fn add<T: Instant>(
 }
 
 /// Takes out what is of places before this one, with its values. It takes no memory.
-pub fn cut<T: Instant>(kept: &mut ItemTimes, sorted: &mut Sorted<T>, place: usize)
+pub fn cut<T: Instant>(kept: &mut ItemTimes, sorted: &mut SortedList<T>, place: usize)
     ensures kept { kept.new ≡ from_place place kept.old }
     ensures sorted { Replaces T.at_most T.choose kept.old kept.new sorted.old sorted.new }
 {
     while let Some(first) = kept.pop_before(place) {
-        let_go(sorted, first.time);
+        take_out_value(sorted, first.time);
     }
 }
 
 /// Takes out all but the last, with their values. It takes no memory.
-pub fn keep_last<T: Instant>(kept: &mut ItemTimes, sorted: &mut Sorted<T>)
+pub fn keep_last<T: Instant>(kept: &mut ItemTimes, sorted: &mut SortedList<T>)
     ensures kept { kept.new ≡ last_part kept.old }
     ensures sorted { Replaces T.at_most T.choose kept.old kept.new sorted.old sorted.new }
 {
     while let Some(first) = kept.pop_more() {
-        let_go(sorted, first.time);
+        take_out_value(sorted, first.time);
     }
 }
 
 /// Takes the last out, with its value. It takes no memory.
-pub fn undo<T: Instant>(kept: &mut ItemTimes, sorted: &mut Sorted<T>)
+pub fn undo<T: Instant>(kept: &mut ItemTimes, sorted: &mut SortedList<T>)
     requires { 0 < length kept.old }
     ensures { IsUndone T.at_most T.choose kept.old kept.new sorted.old sorted.new }
 {
     if let Some(last) = kept.pop_last() {
-        let_go(sorted, last.time);
+        take_out_value(sorted, last.time);
     }
 }
 
 // Takes out the value that a time gave, if any.
-fn let_go<T: Instant>(sorted: &mut Sorted<T>, time: Time)
+fn take_out_value<T: Instant>(sorted: &mut SortedList<T>, time: Time)
     ensures { sorted.new ≡ without_value T.at_most (T.choose time) sorted.old }
 {
     if let Some(value) = T::of_time(time) {

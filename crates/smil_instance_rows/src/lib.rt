@@ -20,4 +20,4 @@ pub use item_times::{InstanceTime, ItemTimes};
 pub use row::InstanceRow;
 pub use rows::Rows;
 pub use side::Side;
-pub use sorted::Sorted;
+pub use sorted::SortedList;

@@ -8,7 +8,7 @@ ghost use Rattle.smil_instance_rows.specs.Places.{IsNotAfter, EndsWith, last_par
 use super::copies::copy_each;
 use super::instant::Instant;
 use super::item_times::{InstanceTime, ItemTimes, add, cut, keep_last, undo};
-use super::sorted::Sorted;
+use super::sorted::SortedList;
 use smil_model::Duplicate;
 use std::alloc::{AllocError, Global};
 use std::marker::Model;
@@ -17,7 +17,7 @@ use std::marker::Model;
 #[derive(Drop)]
 pub struct Side<T: Instant> {
     items: Vec<ItemTimes>,
-    sorted: Sorted<T>,
+    sorted: SortedList<T>,
 }
 
 impl<T: Instant> Model for Side<T> {
@@ -48,7 +48,7 @@ impl<T: Instant> Side<T> {
     {
         Side {
             items: Vec::new(alloc),
-            sorted: Sorted::new(alloc),
+            sorted: SortedList::new(alloc),
         }
     }
 

@@ -18,11 +18,11 @@ fn place_from<T: Instant>(values: &[T], value: T) -> usize
 
 /// Values in rising order, repetitions kept; seen as their list.
 #[derive(Drop)]
-pub struct Sorted<T: Instant> {
+pub struct SortedList<T: Instant> {
     values: Vec<T>,
 }
 
-impl<T: Instant> Model for Sorted<T> {
+impl<T: Instant> Model for SortedList<T> {
     ghost use Rattle.std.specs.Prelude.{List};
     ghost use Rattle.smil_instance_rows.specs.Rising.{IsRising};
 
@@ -33,20 +33,20 @@ impl<T: Instant> Model for Sorted<T> {
     ghost invariant = { λ a. IsRising T.at_most a.values.items };
 }
 
-impl<T: Instant> Duplicate for Sorted<T> {
+impl<T: Instant> Duplicate for SortedList<T> {
     fn copy(&self) -> Result<Self, AllocError> {
-        Ok(Sorted {
+        Ok(SortedList {
             values: Vec::from_slice(*self.values.allocator(), &self.values)?,
         })
     }
 }
 
-impl<T: Instant> Sorted<T> {
+impl<T: Instant> SortedList<T> {
     /// No values. It takes no memory.
-    pub fn new(alloc: Global) -> Sorted<T>
+    pub fn new(alloc: Global) -> SortedList<T>
         ensures { result ≡ [] }
     {
-        Sorted {
+        SortedList {
             values: Vec::new(alloc),
         }
     }

@@ -10,7 +10,7 @@ use super::fresh::fresh_rows;
 use super::keys::cells_by_key;
 use super::source::Source;
 use smil_instance_rows::{Cell, copy_each};
-use smil_model::{Duplicate, Listed};
+use smil_model::{Duplicate, GrowingList};
 use smil_tree::Tree;
 use std::alloc::{AllocError, Global};
 use std::marker::Model;
@@ -22,7 +22,7 @@ use std::marker::Model;
 /// key, from 0.
 pub struct Dependents {
     rows: Vec<DependentsRow>,
-    keys: Vec<Listed<Cell>>,
+    keys: Vec<GrowingList<Cell>>,
 }
 
 impl Drop for Dependents {

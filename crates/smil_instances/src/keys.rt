@@ -8,12 +8,15 @@ ghost use Rattle.smil_instances.specs.Keys.{TakesKeys, goes_to_key, is_for_key, 
 use super::dependents_row::DependentsRow;
 use super::source::Source;
 use smil_instance_rows::Cell;
-use smil_model::{Edge, Listed};
+use smil_model::{Edge, GrowingList};
 use std::alloc::{AllocError, Global};
 
 /// The cells whose items wait for each key, by the sources in the rows. It takes time linear in the
 /// items.
-pub fn cells_by_key(alloc: Global, rows: &[DependentsRow]) -> Result<Vec<Listed<Cell>>, AllocError>
+pub fn cells_by_key(
+    alloc: Global,
+    rows: &[DependentsRow],
+) -> Result<Vec<GrowingList<Cell>>, AllocError>
     ensures { IfOk result (λ keys. (key : ℕ)
         → AreThose (is_for_key rows.now key) (keyed_in keys.items key)) }
 {
@@ -27,7 +30,7 @@ pub fn cells_by_key(alloc: Global, rows: &[DependentsRow]) -> Result<Vec<Listed<
 
 // Notes each cell of one side of an element with its key.
 fn note_side(
-    keys: &mut Vec<Listed<Cell>>,
+    keys: &mut Vec<GrowingList<Cell>>,
     rows: &[DependentsRow],
     row: usize,
     side: Edge,
@@ -42,7 +45,7 @@ fn note_side(
 }
 
 // Notes a cell whose item has this source with its key, if it waits for one.
-fn note_key(keys: &mut Vec<Listed<Cell>>, source: Source, cell: Cell) -> Result<(), AllocError>
+fn note_key(keys: &mut Vec<GrowingList<Cell>>, source: Source, cell: Cell) -> Result<(), AllocError>
     ensures { OnOk result (TakesKeys (goes_to_key source cell) keys.old.items keys.new.items) }
 {
     match source {
@@ -56,14 +59,14 @@ fn note_key(keys: &mut Vec<Listed<Cell>>, source: Source, cell: Cell) -> Result<
 }
 
 // Makes an empty list for each key up to this one that has none.
-fn make_room(keys: &mut Vec<Listed<Cell>>, key: u8) -> Result<(), AllocError>
+fn make_room(keys: &mut Vec<GrowingList<Cell>>, key: u8) -> Result<(), AllocError>
     ensures room { OnOk result (key < length keys.new.items) }
     ensures same { OnOk result ((k : ℕ) → keyed_in keys.new.items k ≡ keyed_in keys.old.items k) }
 {
     let alloc = *keys.allocator();
     let place = usize::from(key);
     while keys.len() <= place {
-        keys.push(Listed::new(alloc))?;
+        keys.push(GrowingList::new(alloc))?;
     }
     Ok(())
 }

@@ -1,6 +1,6 @@
 -- What a course reaches, it reaches with the part of the log that was heard by then, and up to that moment.
 use Rattle.std.proofs.Common.{◌≡◌, refl, sym, ◌∙◌, ap, ℕ, suc, zero, ◌<◌, ◌≤◌, List, [], ◌∷◌, ◌++◌, Option, Some, None, ℤ, Bool, true, false, arith, inl, inr, length, length-append, ◌+◌}
-use Rattle.std.specs.Prelude.{◌⊎◌, fold, cond, pos, int_le, nat_lt, slice_get, take, map, reverse, filter, ◌||◌, ◌&&◌, ◌==◌}
+use Rattle.std.specs.Prelude.{◌⊎◌, fold, cond, pos, int_le, nat_lt, slice_get, take, map, reverse, filter, ◌&&◌, ◌==◌}
 use Rattle.std.specs.Option.{option_map_or}
 use Rattle.std.proofs.lemmas.List.Sums.{fold-append}
 use Rattle.std.proofs.lemmas.List.Elements.{filter-append}
@@ -14,7 +14,7 @@ use Rattle.smil_model.specs.declared.diary.Step.TheVariants.{Began, Repeated, En
 use Rattle.smil_model.specs.declared.document.Act.{Act}
 use Rattle.smil_model.specs.declared.document.Act.TheVariants.{Stop, Pause, Defer, Never}
 use Rattle.smil_model.specs.declared.document.Node.{Node}
-use Rattle.smil_model.specs.document.Document.{Document, is_element, elements, time_parent, descendants, is_excl_kind, has_serial}
+use Rattle.smil_model.specs.document.Document.{Document, time_parent, descendants, is_excl_kind, has_serial}
 use Rattle.smil_model.specs.document.Valid.{IsNumberedTree}
 use Rattle.smil_laws.specs.Locality.{ParentsBefore}
 use Rattle.smil_model.specs.diary.Diary.{History, is_active, is_paused, last_moment}
@@ -23,13 +23,14 @@ use Rattle.smil_model.specs.happening.Queue.{playing_child, queue_of, decision}
 use Rattle.smil_model.specs.happening.Keys.{Change, begins, ends, repeats}
 use Rattle.smil_model.specs.happening.Groups.{cuts, follower, followers, interruption, begin_beside, begin_under, steps_of, at_moment, group}
 use Rattle.smil_model.specs.happening.Resolution.{Course, Progress, outset, history_at, after_quiet, after_settling, next_step, after_steps, Reaches}
-use Rattle.smil_laws.specs.Agreement.{IsPlaced, IsAside, DifferBelow, SparesAll, course_on}
+use Rattle.smil_laws.specs.Agreement.{IsAside, DifferBelow, SparesAll, course_on}
 use Rattle.smil_model.specs.reach.Bounds.{has_begun}
-use Rattle.smil_laws.proofs.Aside.{SameLogged, NamesAlike, each_append, find_each, spared}
+use Rattle.smil_laws.proofs.Aside.{SameLogged, NamesAlike, each_append, spared}
+use Rattle.smil_laws.proofs.Fresh.{IsFresh, is_fresh, fresh_aside, fresh_differ}
 use Rattle.smil_laws.proofs.AsideGroups.{each_map}
 use Rattle.smil_laws.proofs.Agreed.{next_alike, next_frees}
 use Rattle.smil_laws.proofs.Numbered.{all_low, ordered}
-use Rattle.smil_laws.proofs.Lists.{each_weaker, each_kept}
+use Rattle.smil_laws.proofs.Lists.{each_weaker}
 use Rattle.smil_laws.proofs.Stepped.{Steps, steps_so}
 use Rattle.std.specs.List.{AllByRecursion}
 
@@ -202,10 +203,10 @@ leq_cases (suc a) (suc b) l = by_case (leq_cases a b (omega (arith, l)))
     by_case (inl s) = inl (omega (arith, s))
     by_case (inr s) = inr (ap suc s)
 
-module _ (nodes : List Node) (first : ParentsBefore (reverse nodes)) (fresh : ℕ) (unused : AllByRecursion (λ (x : Node). (x.serial == fresh ≡ false) × (x.parent == fresh ≡ false)) nodes) (log : List LogEntry) (last n m : ℕ) where
+module _ (nodes : List Node) (first : ParentsBefore (reverse nodes)) (fresh : ℕ) (unused : IsFresh fresh nodes) (log : List LogEntry) (last n m : ℕ) where
   -- nothing has this serial, so the document differs from itself only below it
   abbrev aside : ℕ → Bool
-  aside s = s == fresh
+  aside = is_fresh fresh
 
   abbrev whole : Course
   whole = course_on nodes log last
@@ -214,21 +215,10 @@ module _ (nodes : List Node) (first : ParentsBefore (reverse nodes)) (fresh : �
   cut = course_on nodes (take n log) m
 
   is_aside : IsAside aside fresh nodes
-  is_aside = record {
-    first = first;
-    placed =
-        each_weaker (λ (x : Node). (x.serial == fresh ≡ false) × (x.parent == fresh ≡ false)) (IsPlaced aside fresh) nodes unused
-        (λ x u. (u.0 ∙ sym (ap (λ t. t || t) u.1), λ t. let never : false ≡ true = sym u.0 ∙ t in cc));
-    under = λ e here a.
-        let free : e.serial == fresh ≡ false =
-        find_each (λ (x : Node). x.serial == fresh ≡ false) (λ (x : Node). x.serial == e.serial) (elements nodes) e
-        (each_kept (λ (x : Node). x.serial == fresh ≡ false) is_element nodes
-        (each_weaker (λ (x : Node). (x.serial == fresh ≡ false) × (x.parent == fresh ≡ false)) (λ (x : Node). x.serial == fresh ≡ false) nodes unused (λ x u. u.0))) here in
-        let never : false ≡ true = sym free ∙ a in cc;
-  }
+  is_aside = fresh_aside nodes first fresh unused
 
   itself : DifferBelow aside fresh nodes nodes
-  itself = record { same = refl; in_old = is_aside; in_new = is_aside; ids = λ id. refl; loops = λ e x here a t. refl }
+  itself = fresh_differ nodes first fresh unused
 
   module _ (q : Progress) (low : q.heard ≤ n) (going : (r : Progress) → next_step whole q ≡ Some r → (r.heard ≤ n) × (r.moment ≤ m)) (ending : next_step whole q ≡ None → (q.heard ≡ n) × (q.moment ≡ m)) where
     quiets : next_step whole q ≡ after_quiet whole q → after_quiet whole q ≡ after_quiet cut q

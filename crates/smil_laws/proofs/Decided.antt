@@ -1,6 +1,6 @@
 -- Each step of a resolution appends an entry or takes the next moment, so it has ended, or has too many entries, after as many
 -- steps as there are entries and moments.
-use Rattle.std.proofs.Common.{◌≡◌, refl, sym, ◌∙◌, ap, ℕ, suc, zero, ◌<◌, ◌≤◌, ◌+◌, List, [], ◌∷◌, Option, Some, None, true, arith, inl, inr, length, length-append}
+use Rattle.std.proofs.Common.{◌≡◌, refl, sym, ◌∙◌, ap, ℕ, suc, zero, ◌<◌, ◌≤◌, ◌+◌, List, [], ◌∷◌, Option, Some, None, arith, inl, inr, length, length-append}
 use Rattle.std.specs.Prelude.{◌⊎◌, cond, pos, nat_le, slice_get}
 use Rattle.std.specs.Option.{option_map_or}
 use Rattle.std.proofs.lemmas.Bool.{ltb-true, le-leb, lt-leb}

@@ -1,6 +1,6 @@
 -- A course with a longer log and a later last moment comes to what the shorter one comes to.
 use Rattle.std.proofs.Common.{◌≡◌, refl, sym, ◌∙◌, ap, ℕ, suc, zero, ◌<◌, ◌≤◌, List, [], ◌∷◌, ◌++◌, Option, Some, None, Bool, true, false, arith, length}
-use Rattle.std.specs.Prelude.{cond, pos, int_le, nat_lt, slice_get, reverse, ◌||◌, ◌==◌}
+use Rattle.std.specs.Prelude.{cond, pos, int_le, nat_lt, slice_get, reverse, ◌==◌}
 use Rattle.std.specs.Option.{option_map_or}
 use Rattle.std.proofs.lemmas.Bool.{lt-ltb, ltb-true, eq-eqb, ne_eqb}
 use Rattle.std.proofs.lemmas.Int.{ints}
@@ -10,7 +10,7 @@ use Rattle.smil_model.specs.declared.diary.LogEntry.{LogEntry}
 use Rattle.smil_model.specs.declared.diary.Step.{Step}
 use Rattle.smil_model.specs.declared.diary.Step.TheVariants.{Began, Repeated, Ended, Cut, Paused, Resumed, Deferred, Passed, Logged}
 use Rattle.smil_model.specs.declared.document.Node.{Node}
-use Rattle.smil_model.specs.document.Document.{Document, is_element, elements}
+use Rattle.smil_model.specs.document.Document.{Document}
 use Rattle.smil_model.specs.document.Valid.{IsNumberedTree}
 use Rattle.smil_model.specs.diary.Clocks.{until}
 use Rattle.smil_model.specs.happening.Keys.{Coming, coming, first_coming, is_due}
@@ -18,14 +18,15 @@ use Rattle.smil_model.specs.happening.Groups.{steps_of, at_moment, group}
 use Rattle.smil_model.specs.happening.Resolution.{Course, Progress, outset, history_at, after_quiet, after_settling, after_coming, next_step, after_steps, Reaches}
 use Rattle.smil_model.specs.reach.Bounds.{has_begun}
 use Rattle.smil_laws.specs.Locality.{ParentsBefore}
-use Rattle.smil_laws.specs.Agreement.{IsPlaced, IsAside, DifferBelow, SparesAll, course_on}
+use Rattle.smil_laws.specs.Agreement.{IsAside, DifferBelow, SparesAll, course_on}
 use Rattle.smil_laws.specs.Cut.{logged, IsNamedBelow, NamesBelow}
-use Rattle.smil_laws.proofs.Aside.{SameLogged, NamesAlike, each_append, find_each, spared}
+use Rattle.smil_laws.proofs.Aside.{SameLogged, NamesAlike, each_append, spared}
+use Rattle.smil_laws.proofs.Fresh.{IsFresh, is_fresh, fresh_aside, fresh_differ}
 use Rattle.smil_laws.proofs.Agreed.{next_alike, next_frees}
 use Rattle.smil_laws.proofs.Numbered.{all_low, ordered}
 use Rattle.smil_laws.proofs.Cutting.{next_on, steps_on}
 use Rattle.smil_laws.proofs.Quiet.{le_later, not_due}
-use Rattle.smil_laws.proofs.Lists.{each_weaker, each_kept}
+use Rattle.smil_laws.proofs.Lists.{each_weaker}
 use Rattle.smil_laws.specs.Courses.{IsPast}
 
 -- ---- no entry is later than the moment
@@ -143,10 +144,10 @@ module _ (log more : List LogEntry) where
       by_step (Deferred who begin) p = tt
       by_step (Passed who begin) p = tt
 
-module _ (nodes : List Node) (first : ParentsBefore (reverse nodes)) (fresh : ℕ) (unused : AllByRecursion (λ (x : Node). (x.serial == fresh ≡ false) × (x.parent == fresh ≡ false)) nodes) (log more : List LogEntry) (last later : ℕ) (goal : Progress) (after : AllByRecursion (λ (x : LogEntry). int_le (pos goal.moment) x.moment ≡ true) more) (further : last ≤ later) where
+module _ (nodes : List Node) (first : ParentsBefore (reverse nodes)) (fresh : ℕ) (unused : IsFresh fresh nodes) (log more : List LogEntry) (last later : ℕ) (goal : Progress) (after : AllByRecursion (λ (x : LogEntry). int_le (pos goal.moment) x.moment ≡ true) more) (further : last ≤ later) where
   -- nothing has this serial, so the document differs from itself only below it
   abbrev aside : ℕ → Bool
-  aside s = s == fresh
+  aside = is_fresh fresh
 
   abbrev short : Course
   short = course_on nodes log last
@@ -155,21 +156,10 @@ module _ (nodes : List Node) (first : ParentsBefore (reverse nodes)) (fresh : �
   long = course_on nodes (log ++ more) later
 
   is_aside : IsAside aside fresh nodes
-  is_aside = record {
-    first = first;
-    placed =
-        each_weaker (λ (x : Node). (x.serial == fresh ≡ false) × (x.parent == fresh ≡ false)) (IsPlaced aside fresh) nodes unused
-        (λ x u. (u.0 ∙ sym (ap (λ t. t || t) u.1), λ t. let never : false ≡ true = sym u.0 ∙ t in cc));
-    under = λ e here a.
-        let free : e.serial == fresh ≡ false =
-        find_each (λ (x : Node). x.serial == fresh ≡ false) (λ (x : Node). x.serial == e.serial) (elements nodes) e
-        (each_kept (λ (x : Node). x.serial == fresh ≡ false) is_element nodes
-        (each_weaker (λ (x : Node). (x.serial == fresh ≡ false) × (x.parent == fresh ≡ false)) (λ (x : Node). x.serial == fresh ≡ false) nodes unused (λ x u. u.0))) here in
-        let never : false ≡ true = sym free ∙ a in cc;
-  }
+  is_aside = fresh_aside nodes first fresh unused
 
   itself : DifferBelow aside fresh nodes nodes
-  itself = record { same = refl; in_old = is_aside; in_new = is_aside; ids = λ id. refl; loops = λ e x here a t. refl }
+  itself = fresh_differ nodes first fresh unused
 
   module _ (q r : Progress) (goes : next_step short q ≡ Some r) (within : r.moment ≤ goal.moment) where
     quiets : next_step short q ≡ after_quiet short q → after_quiet short q ≡ after_quiet long q

@@ -9,6 +9,7 @@ pub mod Below
 pub mod Built
 pub mod Chained
 pub mod Closures
+pub mod Fresh
 pub mod Cutting
 pub mod EditsBelow
 pub mod Foreign
@@ -53,3 +54,4 @@ pub mod TouchedStay
 pub mod ViewsAbove
 pub mod ViewsStay
 pub mod ViewsLeft
+pub mod Tournaments

@@ -1,6 +1,6 @@
 -- While nothing comes and nothing is logged, the resolution only moves on in time.
 use Rattle.std.proofs.Common.{◌≡◌, refl, sym, ◌∙◌, ap, ℕ, suc, zero, ◌+◌, ◌<◌, ◌≤◌, List, [], ◌∷◌, ◌++◌, length, Option, Some, None, ℤ, Bool, true, false, arith}
-use Rattle.std.specs.Prelude.{pos, int_le, cond, filter, reverse, slice_get}
+use Rattle.std.specs.Prelude.{pos, int_le, cond, reverse, slice_get}
 use Rattle.std.specs.Option.{option_map_or}
 use Rattle.std.proofs.lemmas.Int.{ints}
 use Rattle.std.proofs.lemmas.Bool.{lt-ltb}

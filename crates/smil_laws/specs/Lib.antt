@@ -13,3 +13,4 @@ pub mod Touched
 pub mod Seen
 pub mod Near
 pub mod Firsts
+pub mod Tournaments

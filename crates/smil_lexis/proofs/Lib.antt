@@ -2,7 +2,6 @@ pub mod Digits
 pub mod Fronts
 pub mod Decimals
 pub mod Words
-pub mod Growing
 pub mod Encoded
 pub mod Pieces
 pub mod Trims

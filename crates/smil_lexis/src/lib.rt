@@ -1,4 +1,4 @@
-//! Words of bytes: what readers and writers of all the formats share.
+//! What the readers and writers of all formats share: a cursor over bytes, numbers, runs and texts.
 #![tactic(auto)]
 
 pub mod cursor;

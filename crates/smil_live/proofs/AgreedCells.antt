@@ -18,19 +18,19 @@ use Rattle.smil_model.specs.shown.Answers.{Accepts}
 use Rattle.smil_model.specs.shown.Orders.{IsState, Presentation, course_of}
 use Rattle.smil_grammar.specs.Formats.{formats}
 use Rattle.smil_cells.specs.Standing.{IsRebuilt, MayRebuild, Standing, WhereTold}
-use Rattle.smil_live.specs.Counted.{IsAtLeast, IsAtMost, IsBounded, IsFree}
+use Rattle.smil_live.specs.Counted.{IsAtLeast, IsAtMost, KeepsToCounts, IsFree}
 use Rattle.smil_live.specs.Counts.{diary_at, least_between, least_seeking, most_between, most_number, most_seeking, reached_behind, told_where}
 use Rattle.smil_live.specs.Editing.{IsEdited, edit_of}
-use Rattle.smil_live.specs.ShownViews.{IsPlaying}
+use Rattle.smil_shown.specs.ShownViews.{IsPlaying}
 use Rattle.smil_live.specs.Moves.{IsReplayed, IsTooFull, IsUnderWay, edited_to, sought_of}
-use Rattle.smil_live.specs.ViewTable.{Shown}
+use Rattle.smil_shown.specs.ViewTable.{Shown}
 use Rattle.smil_live.specs.Sites.{IsMade, most_resolving, site_of, staying}
 use Rattle.smil_live.specs.Telling.{is_edit}
 use Rattle.smil_live.specs.declared.edits.Site.{Site}
 use Rattle.smil_live.proofs.AgreedParts.{staying_part, staying_within}
 use Rattle.smil_live.proofs.CountedOrders.{at_least, at_most, free_too_full}
 use Rattle.smil_live.proofs.Edited.{edited_accepted, edited_state}
-use Rattle.smil_live.proofs.Ended.{diary_is}
+use Rattle.smil_shown.proofs.Ended.{diary_is}
 use Rattle.smil_live.proofs.Outcomes.{clock_from, sought_state}
 use Rattle.smil_live.proofs.RebuiltCells.{may_rebuild, rebuilt_way}
 use Rattle.smil_live.proofs.RebuiltParts.{IsPart, front_until}
@@ -109,7 +109,7 @@ edited_least (Ok x) counts p q o d old new rise edits edited is =
     none false = tt
 
 pub edited_bounded : (r : Result (Unit {0}) Refusal) (counts : Bool) (p q : Presentation) (o : Order) (d : Document) (at : Site) (old new : List ℕ) (rise : ℕ) → is_edit o ≡ true → edit_of p o ≡ Ok d → at ≡ site_of p.document o
-    → OnOk r (IsEdited p d q old new) → OnOk r (WhereTold counts (rise ≤ most_resolving p at d)) → IfErr r (IsTooFull (edited_to p d)) → IsBounded counts p o r rise
+    → OnOk r (IsEdited p d q old new) → OnOk r (WhereTold counts (rise ≤ most_resolving p at d)) → IfErr r (IsTooFull (edited_to p d)) → KeepsToCounts counts p o r rise
 edited_bounded r counts p q o d at old new rise edits edited here is most refused = record {
   most = edited_most r counts p q o d at old new rise edits edited here is most;
   least = edited_least r counts p q o d old new rise edits edited is;

@@ -25,16 +25,16 @@ use Rattle.smil_model.specs.interval.Current.{current_table, in_table}
 use Rattle.smil_laws.proofs.Aside.{find_each}
 use Rattle.smil_laws.proofs.Members.{Differ, differ_all}
 use Rattle.smil_laws.proofs.Lists.{each_kept}
-use Rattle.smil_report.specs.Words.{Begins}
+use Rattle.smil_model.specs.document.Words.{Begins}
 use Rattle.smil_past.proofs.References.{kept_known as kept_found}
 use Rattle.smil_cells.specs.Standing.{IsSettled, Standing, history_of}
-use Rattle.smil_live.specs.Histories.{told_line}
-use Rattle.smil_live.specs.ShownViews.{IsPlaying, views_at}
-use Rattle.smil_live.specs.ViewTable.{AreOf, Shown}
-use Rattle.smil_live.specs.Sets.{AreOfElements}
+use Rattle.smil_shown.specs.Histories.{told_line}
+use Rattle.smil_shown.specs.ShownViews.{IsPlaying, views_at}
+use Rattle.smil_shown.specs.ViewTable.{AreOf, Shown}
+use Rattle.smil_shown.specs.Sets.{AreOfElements}
 use Rattle.smil_live.specs.Telling.{element_named, layers_text}
-use Rattle.smil_live.proofs.Apart.{found_each, views_known}
-use Rattle.smil_live.proofs.Lined.{begins_more}
+use Rattle.smil_shown.proofs.Apart.{found_each, views_known}
+use Rattle.smil_shown.proofs.Lined.{begins_more}
 use Rattle.smil_live.proofs.Resolved.{resolved_is, views_are}
 
 -- ---- the views

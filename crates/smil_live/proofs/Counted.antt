@@ -16,10 +16,10 @@ use Rattle.smil_cells.specs.Standing.{GoesOn, IsSettled, Standing, WhereTold, fr
 use Rattle.smil_cells.proofs.OnWay.{nothing_fresh, nothing_reached, triangle}
 use Rattle.smil_live.specs.Counts.{diary_at, interval_by, least_onward, most_onward}
 use Rattle.smil_live.specs.Moves.{IsShownAt, made}
-use Rattle.smil_live.specs.ViewTable.{Shown}
+use Rattle.smil_shown.specs.ViewTable.{Shown}
 use Rattle.smil_live.specs.declared.moves.Move.{Move}
 use Rattle.smil_live.specs.declared.moves.Move.TheVariants as move
-use Rattle.smil_live.proofs.Ended.{diary_is}
+use Rattle.smil_shown.proofs.Ended.{diary_is}
 use Rattle.smil_live.proofs.Resolved.{resolved_is}
 
 -- ---- one standing after another

@@ -10,7 +10,7 @@ use Rattle.smil_model.specs.shown.Answers.{Accepts, MayEvaluate}
 use Rattle.smil_model.specs.shown.Orders.{Presentation, outcome}
 use Rattle.smil_grammar.specs.Formats.{formats}
 use Rattle.smil_cells.specs.Standing.{WhereTold}
-use Rattle.smil_live.specs.Counted.{IsAtLeast, IsAtMost, IsBounded, IsFree}
+use Rattle.smil_live.specs.Counted.{IsAtLeast, IsAtMost, KeepsToCounts, IsFree}
 use Rattle.smil_live.specs.Counts.{least_between, least_onward, least_seeking, most_between, most_number, most_onward, most_seeking, told_where, when_accepted}
 use Rattle.smil_live.specs.Moves.{IsTooFull}
 
@@ -71,7 +71,7 @@ free_too_full (Some most) p given rise (inr full) = inl full.0
 -- ---- by what came of an order
 
 pub bounded_accepted : (counts : Bool) (before after : Presentation) (given : Order) (rise : ℕ) → outcome formats before given ≡ Ok after → WhereTold counts (rise ≤ most_between before given after)
-    → WhereTold counts (least_between before given after ≤ rise) → IsBounded counts before given (Ok tt) rise
+    → WhereTold counts (least_between before given after ≤ rise) → KeepsToCounts counts before given (Ok tt) rise
 bounded_accepted counts before after given rise state most least = record {
   most = at_most counts before after given rise state most;
   least = at_least counts before after given rise state least;
@@ -80,7 +80,7 @@ bounded_accepted counts before after given rise state most least = record {
 
 pub bounded_then : (r : Result (Unit {0}) Refusal) (counts : Bool) (before after : Presentation) (given : Order) (text : List ℕ) (rise : ℕ) → OnOk r (Accepts formats before after given text)
     → OnOk r (WhereTold counts (rise ≤ most_between before given after)) → OnOk r (WhereTold counts (least_between before given after ≤ rise))
-    → IfErr r (λ (e : Refusal). IsFree counts before given e rise) → IsBounded counts before given r rise
+    → IfErr r (λ (e : Refusal). IsFree counts before given e rise) → KeepsToCounts counts before given r rise
 bounded_then r counts before after given text rise accepted most least free = record {
   most = at_most_then r counts before after given text rise accepted most;
   least = at_least_then r counts before after given text rise accepted least;
@@ -88,7 +88,7 @@ bounded_then r counts before after given text rise accepted most least free = re
 }
 
 pub seek_bounded : (counts : Bool) (before after : Presentation) (to : ℤ) (rise : ℕ) → pos before.now ≤ℤ to → outcome formats before (order.Seek to) ≡ Ok after → WhereTold counts (rise ≤ most_onward before after)
-    → WhereTold counts (least_onward before after ≤ rise) → IsBounded counts before (order.Seek to) (Ok tt) rise
+    → WhereTold counts (least_onward before after ≤ rise) → KeepsToCounts counts before (order.Seek to) (Ok tt) rise
 seek_bounded counts before after to rise from state most least = record {
   most = seek_at_most counts before after to rise from state most;
   least = seek_at_least counts before after to rise from state least;
@@ -96,11 +96,11 @@ seek_bounded counts before after to rise from state most least = record {
 }
 
 -- one that is refused before anything is evaluated
-pub bounded_at_once : (r : Result (Unit {0}) Refusal) (counts : Bool) (before : Presentation) (given : Order) (steps : ℕ) → IsErr r → IsBounded counts before given r (steps - steps)
+pub bounded_at_once : (r : Result (Unit {0}) Refusal) (counts : Bool) (before : Presentation) (given : Order) (steps : ℕ) → IsErr r → KeepsToCounts counts before given r (steps - steps)
 bounded_at_once (Ok x) counts before given steps err = cc
 bounded_at_once (Err e) counts before given steps err = record { most = tt; least = tt; free = free_at_once (told_where counts (most_number before given)) e steps }
 
 -- one that is refused since a presentation has too many entries
-pub bounded_too_full : (r : Result (Unit {0}) Refusal) (counts : Bool) (before full : Presentation) (given : Order) (rise : ℕ) → IsErr r → IfErr r (IsTooFull full) → IsBounded counts before given r rise
+pub bounded_too_full : (r : Result (Unit {0}) Refusal) (counts : Bool) (before full : Presentation) (given : Order) (rise : ℕ) → IsErr r → IfErr r (IsTooFull full) → KeepsToCounts counts before given r rise
 bounded_too_full (Ok x) counts before full given rise err too_full = cc
 bounded_too_full (Err e) counts before full given rise err too_full = record { most = tt; least = tt; free = free_too_full (told_where counts (most_number before given)) full e rise too_full }

@@ -4,7 +4,7 @@ use Rattle.std.specs.Prelude.{pos, flat_map, map, filter, is_some, is_err, IsSom
 use Rattle.std.specs.List.{AllByRecursion}
 use Rattle.std.proofs.Math.Seq.{drop-append_seam}
 use Rattle.std.proofs.lemmas.List.{length-take}
-use Rattle.smil_grammar.specs.Spellings.{Begins}
+use Rattle.smil_model.specs.document.Words.{Begins}
 use Rattle.std.proofs.lemmas.List.Elements.{All-from_recursion}
 use Rattle.smil_model.specs.declared.document.Node.{Node}
 use Rattle.smil_model.specs.declared.order.Order.{Order}
@@ -23,12 +23,13 @@ use Rattle.smil_model.specs.shown.Views.{view_of}
 use Rattle.smil_grammar.specs.Formats.{formats}
 use Rattle.smil_tree.proofs.Spans.{all_known}
 use Rattle.smil_cells.specs.Standing.{Standing, history_of}
-use Rattle.smil_live.specs.Editing.{IsEdited, IsRefusedBy, at_node, edit_of}
-use Rattle.smil_live.specs.ShownViews.{IsPlaying, views_at}
+use Rattle.smil_live.specs.Editing.{IsEdited, edit_of}
+use Rattle.smil_revision.specs.Editing.{IsRefusedBy, at_node}
+use Rattle.smil_shown.specs.ShownViews.{IsPlaying, views_at}
 use Rattle.smil_live.specs.Moves.{IsReplayed, IsTooFull, edited_to, text_of}
-use Rattle.smil_live.specs.ViewTable.{AreOf, Shown}
+use Rattle.smil_shown.specs.ViewTable.{AreOf, Shown}
 use Rattle.smil_live.specs.Telling.{is_edit}
-use Rattle.smil_live.proofs.Copying.{at_there, some_from}
+use Rattle.smil_revision.proofs.Copying.{at_there, some_from}
 use Rattle.smil_live.proofs.Editing.{edit_accepted, is_found, known, state_refused}
 use Rattle.smil_live.proofs.Growth.{is_appended}
 use Rattle.smil_model.specs.declared.diary.Entry.{Entry}

@@ -16,7 +16,7 @@ use Rattle.smil_model.proofs.Orders.{le_self}
 use Rattle.smil_laws.specs.Agreement.{course_on}
 use Rattle.smil_laws.proofs.Decided.{too_long_is_full}
 use Rattle.smil_laws.proofs.Further.{reaches_further}
-use Rattle.smil_live.proofs.Ended.{comes_within}
+use Rattle.smil_shown.proofs.Ended.{comes_within}
 
 many_entries : (r : Progress) (most : ℕ) → cond (nat_le (length r.diary) most) (Some r.diary) None ≡ None → most < length r.diary
 many_entries r most e = by_test (nat_le (length r.diary) most) refl e

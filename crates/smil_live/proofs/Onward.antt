@@ -16,9 +16,9 @@ use Rattle.smil_model.specs.shown.Orders.{Presentation, as_of, course_of, change
 use Rattle.smil_cells.specs.Standing.{NothingBefore, Standing, moved_to}
 use Rattle.smil_cells.proofs.OnWay.{sooner}
 use Rattle.smil_cells.proofs.Passing.{over}
-use Rattle.smil_live.specs.ShownViews.{IsShown}
+use Rattle.smil_shown.specs.ShownViews.{IsShown}
 use Rattle.smil_live.specs.Moves.{IsFirstDue, IsShownAt, IsTooFull, text_of}
-use Rattle.smil_live.specs.ViewTable.{Shown}
+use Rattle.smil_shown.specs.ViewTable.{Shown}
 use Rattle.smil_live.proofs.Full.{full_later}
 use Rattle.smil_live.proofs.Quiet.{HasDiary, IsQuiet}
 use Rattle.smil_live.proofs.Standings.{has_diary, nothing_before}

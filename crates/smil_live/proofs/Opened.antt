@@ -10,9 +10,9 @@ use Rattle.smil_model.specs.happening.Resolution.{diary_of}
 use Rattle.smil_model.specs.shown.Answers.{load_text}
 use Rattle.smil_model.specs.shown.Orders.{Presentation, course_of, kept_where, opened, unless_too_full, views_of}
 use Rattle.smil_cells.specs.Standing.{IsSettled, Standing}
-use Rattle.smil_live.specs.ShownViews.{views_at}
+use Rattle.smil_shown.specs.ShownViews.{views_at}
 use Rattle.smil_live.specs.Moves.{IsReplayed, IsTooFull}
-use Rattle.smil_live.specs.Told.{lines_between}
+use Rattle.smil_shown.specs.Told.{lines_between}
 use Rattle.smil_live.proofs.Standings.{views_settled}
 
 -- the lines of what is shown first

@@ -10,9 +10,9 @@ use Rattle.smil_model.specs.shown.Orders.{IsState, Presentation, at_moment, chan
 use Rattle.smil_model.specs.shown.Views.{view_of}
 use Rattle.smil_tree.proofs.Spans.{all_known}
 use Rattle.smil_cells.specs.Standing.{IsSettled, Standing, history_of}
-use Rattle.smil_live.specs.ShownViews.{views_at}
+use Rattle.smil_shown.specs.ShownViews.{views_at}
 use Rattle.smil_live.specs.Moves.{text_of}
-use Rattle.smil_live.specs.ViewTable.{AreOf, Shown}
+use Rattle.smil_shown.specs.ViewTable.{AreOf, Shown}
 use Rattle.smil_live.proofs.Standings.{views_settled}
 use Rattle.smil_live.proofs.Edited.{each_view}
 

@@ -22,7 +22,7 @@ use Rattle.smil_laws.proofs.Jumping.{over_quiet}
 use Rattle.smil_laws.proofs.Numbered.{ordered}
 use Rattle.smil_laws.proofs.Quiet.{same_later, until_later}
 use Rattle.smil_cells.proofs.Passing.{rests}
-use Rattle.smil_live.proofs.Ended.{comes_to, diary_few}
+use Rattle.smil_shown.proofs.Ended.{comes_to, diary_few}
 use Rattle.smil_live.proofs.Resolved.{history_with, views_are}
 
 -- ---- time passes

@@ -23,7 +23,7 @@ use Rattle.smil_cells.specs.Standing.{GoesOn, IsSettled, Standing, WhereTold, an
 use Rattle.smil_live.specs.Counts.{interval_by, least_loading, reached_behind}
 use Rattle.smil_live.specs.Moves.{IsReplayed}
 use Rattle.smil_live.proofs.Counted.{IsCounted, counted_by, drops}
-use Rattle.smil_live.proofs.Ended.{diary_is, has_ended}
+use Rattle.smil_shown.proofs.Ended.{diary_is, has_ended}
 use Rattle.smil_live.proofs.Resolved.{resolved_is}
 
 -- ---- a longer log

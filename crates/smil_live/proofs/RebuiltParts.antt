@@ -27,7 +27,7 @@ use Rattle.smil_laws.proofs.Back.{reaches_back}
 use Rattle.smil_laws.proofs.Cutting.{reaches_at_last}
 use Rattle.smil_laws.proofs.Further.{is_past}
 use Rattle.smil_cells.proofs.Hearing.{from_first}
-use Rattle.smil_live.proofs.Ended.{comes_to}
+use Rattle.smil_shown.proofs.Ended.{comes_to}
 use Rattle.smil_live.proofs.RebuiltLogs.{has_heard, heard_moments, log_moments}
 
 -- ---- logs

@@ -21,7 +21,7 @@ use Rattle.smil_laws.specs.Agreement.{course_on}
 use Rattle.smil_laws.proofs.Decided.{then, stays}
 use Rattle.smil_laws.proofs.Further.{is_past, reaches_further}
 use Rattle.smil_laws.proofs.Through.{more_added}
-use Rattle.smil_live.proofs.Ended.{has_ended}
+use Rattle.smil_shown.proofs.Ended.{has_ended}
 use Rattle.smil_live.proofs.Full.{AreFrom}
 
 -- ---- entries are only added

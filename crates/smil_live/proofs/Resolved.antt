@@ -5,7 +5,7 @@ use Rattle.smil_model.specs.diary.Diary.{History}
 use Rattle.smil_model.specs.happening.Resolution.{diary_of}
 use Rattle.smil_model.specs.shown.Orders.{Presentation, course_of, resolved_history, views_of}
 use Rattle.smil_model.specs.shown.Views.{views}
-use Rattle.smil_live.proofs.Ended.{diary_is}
+use Rattle.smil_shown.proofs.Ended.{diary_is}
 
 -- a presentation with a diary
 abbrev pub history_with : Presentation → List Entry → History

@@ -5,12 +5,12 @@ use Rattle.smil_model.specs.declared.times.TheConstants.{HORIZON}
 use Rattle.smil_model.specs.shown.Orders.{IsState, Presentation, course_of, views_of}
 use Rattle.smil_cells.specs.Standing.{IsSettled, NothingBefore, Standing, moved_to}
 use Rattle.smil_cells.proofs.Passing.{over}
-use Rattle.smil_live.specs.ShownViews.{IsShown, views_at}
+use Rattle.smil_shown.specs.ShownViews.{IsShown, views_at}
 use Rattle.smil_live.specs.Moves.{MayMove, made}
-use Rattle.smil_live.specs.ViewTable.{Shown}
+use Rattle.smil_shown.specs.ViewTable.{Shown}
 use Rattle.smil_live.specs.declared.moves.Move.{Move}
 use Rattle.smil_live.specs.declared.moves.Move.TheVariants as move
-use Rattle.smil_live.proofs.Ended.{nothing_due}
+use Rattle.smil_shown.proofs.Ended.{nothing_due}
 use Rattle.smil_live.proofs.Quiet.{HasDiary}
 use Rattle.smil_live.proofs.Resolved.{views_are}
 use Rattle.smil_live.proofs.States.{state_logged, state_moved}

@@ -9,14 +9,10 @@ use Rattle.smil_model.specs.declared.diary.LogEntry.{LogEntry}
 use Rattle.smil_model.specs.declared.times.TheConstants.{HORIZON}
 use Rattle.smil_model.specs.diary.Logs.{is_logged_by, may_happen, moments_rise}
 use Rattle.smil_model.specs.shown.Orders.{IsState, Presentation, as_of}
-use Rattle.smil_model.proofs.Orders.{le_from, is_le}
+use Rattle.smil_model.proofs.Orders.{is_le}
 use Rattle.smil_cells.proofs.Heeded.{all_first, all_one}
 use Rattle.smil_cells.proofs.Hearing.{from_first}
 use Rattle.smil_live.proofs.Quiet.{logged_later}
-
--- a state is not beyond the horizon
-pub within_horizon : (p : Presentation) → IsState p → pos p.now ≤ℤ HORIZON
-within_horizon p state = le_from (pos p.now) HORIZON state.now
 
 -- at a later moment
 pub state_moved : (p : Presentation) (n : ℕ) → IsState p → p.now ≤ n → pos n ≤ℤ HORIZON → IsState (as_of p n)

@@ -14,14 +14,14 @@ use Rattle.smil_model.specs.document.Valid.{IsDistinct}
 use Rattle.smil_model.specs.shown.Answers.{name_in}
 use Rattle.smil_model.specs.shown.Lines.{change_line}
 use Rattle.smil_model.specs.shown.Orders.{IsState, changed, view_eq}
-use Rattle.smil_report.specs.Words.{Begins}
+use Rattle.smil_model.specs.document.Words.{Begins}
 use Rattle.smil_instances.proofs.Siblings.{distinct_elements}
-use Rattle.smil_outline.proofs.Walks.{begins_by, begins_itself}
+use Rattle.smil_model.proofs.Growing.{begins_by, begins_itself}
 use Rattle.smil_cells.specs.Standing.{GoesOn, Standing}
-use Rattle.smil_live.specs.ShownViews.{views_at}
-use Rattle.smil_live.specs.ViewTable.{Shown, differs, has_view, view_in, view_now, with_view}
-use Rattle.smil_live.specs.Told.{lines_between, lines_of}
-use Rattle.smil_live.proofs.LinesTold.{difference_on, next_view}
+use Rattle.smil_shown.specs.ShownViews.{views_at}
+use Rattle.smil_shown.specs.ViewTable.{Shown, differs, has_view, view_in, view_now, with_view}
+use Rattle.smil_shown.specs.Told.{lines_between, lines_of}
+use Rattle.smil_shown.proofs.LinesTold.{difference_on, next_view}
 use Rattle.smil_live.proofs.Touching.{AreLeft, IsTurn, OwnsIn, Stays, all_left, all_put, own_all, put_all, put_next, told_same, touched_of, touched_serials, turn_of}
 
 -- ---- the line of one view

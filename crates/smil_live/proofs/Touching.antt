@@ -13,9 +13,9 @@ use Rattle.smil_model.specs.shown.Views.{blank}
 use Rattle.smil_laws.proofs.Lineages.{swap_eqb}
 use Rattle.smil_laws.proofs.Members.{differ_each}
 use Rattle.smil_laws.proofs.Lists.{each_at}
-use Rattle.smil_live.specs.ViewTable.{put_in, view_in, has_view, AreOne}
+use Rattle.smil_shown.specs.ViewTable.{put_in, view_in, has_view, AreOne}
 use Rattle.smil_live.proofs.Through.{same_view}
-use Rattle.smil_live.proofs.ViewPlaces.{of, untouched, has_put}
+use Rattle.smil_shown.proofs.ViewPlaces.{of, untouched, has_put}
 
 -- views put in place, the first of them first
 abbrev pub put_all : List View → List View → List View

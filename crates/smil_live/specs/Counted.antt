@@ -21,7 +21,7 @@ IsFree counts before given refusal rise =
     MayEvaluate (told_where counts (most_number before given)) refusal rise
 
 -- by what came of it
-pub record IsBounded (counts : Bool) (before : Presentation) (given : Order)
+pub record KeepsToCounts (counts : Bool) (before : Presentation) (given : Order)
     (answer : Result (Unit {0}) Refusal) (rise : ℕ) : Type 0 where
   pub most : OnOk answer (IsAtMost counts before given rise)
   pub least : OnOk answer (IsAtLeast counts before given rise)

@@ -1,16 +1,14 @@
 -- The edit of the document that an order makes, apart from the resolution of what comes of it.
-use Rattle.std.specs.Prelude.{◌≡◌, ◌⊎◌, ℕ, List, ◌++◌, Some, Result, Ok, Err}
+use Rattle.std.specs.Prelude.{◌≡◌, ℕ, List, ◌++◌, Some, Result, Ok}
 use Rattle.smil_model.specs.declared.diary.Entry.{Entry}
-use Rattle.smil_model.specs.declared.document.Node.{Node}
 use Rattle.smil_model.specs.declared.order.Order.{Order}
 use Rattle.smil_model.specs.declared.order.Order.TheVariants as order
 use Rattle.smil_model.specs.declared.order.Refusal.{Refusal}
-use Rattle.smil_model.specs.declared.order.Refusal.TheVariants as refusal
-use Rattle.smil_model.specs.document.Document.{Document, node_at}
+use Rattle.smil_model.specs.document.Document.{Document}
 use Rattle.smil_model.specs.document.Limits.{limits}
 use Rattle.smil_model.specs.happening.Resolution.{diary_of}
 use Rattle.smil_model.specs.shown.Answers.{gone_text}
-use Rattle.smil_model.specs.shown.Orders.{Presentation, and_then, attr_set_by, attr_unset_by, changes_between, course_of, found, node_inserted_by, node_removed_from, on_node}
+use Rattle.smil_model.specs.shown.Orders.{Presentation, attr_set_by, attr_unset_by, changes_between, course_of, node_inserted_by, node_removed_from, on_node}
 use Rattle.smil_grammar.specs.Formats.{formats}
 use Rattle.smil_live.specs.Moves.{edited_to, text_of}
 
@@ -24,14 +22,6 @@ edit_of p (order.Insert who place line column) =
     on_node p who (λ n. node_inserted_by limits formats p.document n place line column)
 edit_of p (order.Remove who) = on_node p who (λ n. node_removed_from p.document n)
 edit_of p _ = Ok p.document
-
--- a refusal is that of the outcome, or memory ran out
-abbrev pub IsRefusedBy : {A : Type 0} → Result A Refusal → Refusal → Type 0
-IsRefusedBy outcome given = (given ≡ refusal.Memory) ⊎ (outcome ≡ Err given)
-
--- goes on with the node of this serial
-abbrev pub at_node : {A : Type 0} → List Node → ℕ → (Node → Result A Refusal) → Result A Refusal
-at_node nodes serial next = and_then (found (node_at nodes serial)) next
 
 -- the edited document has a diary, and this was told
 pub record IsEdited (before : Presentation) (document : Document) (after : Presentation)

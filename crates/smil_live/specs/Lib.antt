@@ -1,16 +1,7 @@
 pub mod Counted
 pub mod Counts
 pub mod Editing
-pub mod Histories
-pub mod Linked
 pub mod Moves
-pub mod Names
-pub mod References
-pub mod Refusing
-pub mod Sets
-pub mod ShownViews
 pub mod Sites
 pub mod Telling
-pub mod Told
-pub mod ViewTable
 pub mod WorkedCounts

@@ -15,8 +15,8 @@ use Rattle.smil_model.specs.happening.Resolution.{diary_of}
 use Rattle.smil_model.specs.shown.Answers.{change_text}
 use Rattle.smil_model.specs.shown.Orders.{Presentation, course_of, changes_between, changes_through, with_logged as logged_within}
 use Rattle.smil_cells.specs.Standing.{Standing, IsSettled, first_at, moved_to, with_logged}
-use Rattle.smil_live.specs.ShownViews.{IsShown}
-use Rattle.smil_live.specs.ViewTable.{Shown}
+use Rattle.smil_shown.specs.ShownViews.{IsShown}
+use Rattle.smil_shown.specs.ViewTable.{Shown}
 use Rattle.smil_live.specs.declared.moves.Move.{Move}
 use Rattle.smil_live.specs.declared.moves.Move.TheVariants as move
 

@@ -8,7 +8,7 @@ use Rattle.smil_model.specs.shown.Orders.{Presentation}
 use Rattle.smil_laws.specs.Edited.{Edit, edited, edited_node, nodes_with}
 use Rattle.smil_live.specs.Counts.{agreed_under, diary_at, edited_serial, reached_behind}
 use Rattle.smil_live.specs.Moves.{edited_to}
-use Rattle.smil_live.specs.References.{keeps_references}
+use Rattle.smil_revision.specs.References.{keeps_references}
 use Rattle.smil_live.specs.declared.edits.Site.{Site}
 use Rattle.smil_live.specs.declared.edits.Site.TheVariants as site
 

@@ -7,28 +7,29 @@ ghost use Rattle.smil_model.specs.document.Document.{serial_of, time_parent};
 ghost use Rattle.smil_model.specs.shown.Answers.{Accepts, IsGiven, Refuses, gone_text};
 ghost use Rattle.smil_model.specs.shown.Orders.{IsState, changes_between, node_of};
 ghost use Rattle.smil_grammar.specs.Formats.{formats};
-ghost use Rattle.smil_report.specs.Words.{Begins};
+ghost use Rattle.smil_model.specs.document.Words.{Begins};
 ghost use Rattle.smil_cells.specs.Standing.{WhereTold};
-ghost use Rattle.smil_live.specs.Counted.{IsBounded};
+ghost use Rattle.smil_live.specs.Counted.{KeepsToCounts};
 ghost use Rattle.smil_live.specs.Counts.{agreed_under, serial_or_0};
-ghost use Rattle.smil_live.specs.Editing.{IsEdited, IsRefusedBy, edit_of};
-ghost use Rattle.smil_live.specs.ShownViews.{IsPlaying};
+ghost use Rattle.smil_live.specs.Editing.{IsEdited, edit_of};
+ghost use Rattle.smil_revision.specs.Editing.{IsRefusedBy};
+ghost use Rattle.smil_shown.specs.ShownViews.{IsPlaying};
 ghost use Rattle.smil_live.specs.Moves.{IsReplayed, IsTooFull, edited_to, text_of};
-ghost use Rattle.smil_live.specs.References.{keeps_references};
+ghost use Rattle.smil_revision.specs.References.{keeps_references};
 ghost use Rattle.smil_live.specs.Sites.{IsMade, most_resolving, site_nodes, site_serial, staying};
 
-use super::copies::{with_child, with_value, without_name, without_node};
-use super::lines::{Scene, put_all_gone, put_differences};
 use super::playing::Playing;
-use super::references::{Linked, Revision, keeps_references};
 use super::replay::{cells_with, diary_through};
-use super::values::{Child, Placed, Setting};
-use super::view_table::ViewTable;
 use smil_cells::{Cells, Table};
 use smil_diary::Book;
 use smil_graph::Graph;
 use smil_instances::parent_of;
 use smil_model::{Bytes, Doc, Refusal, Steps, Who};
+use smil_revision::{
+    Child, GraphedDocument, LineText, Revision, Setting, keeps_references, with_child, with_value,
+    without_name, without_node,
+};
+use smil_shown::{Scene, ViewTable, put_all_gone, put_differences};
 use smil_tree::Tree;
 use std::alloc::AllocError;
 use std::mem::swap;
@@ -63,9 +64,9 @@ impl<T: Table> Playing<T> {
         ensures kept { OnErr result (self.new ≡ self.old) }
         ensures text { OnErr result (out.new ≡ out.old) }
         ensures counted { steps.old ≤ steps.new }
-        ensures bounded { IsBounded T.counts self.old (order.Set who.now setting.entry.attr.text.now
-            setting.entry.value.text.now setting.entry.attr.column setting.entry.value.column)
-            result (steps.new - steps.old) }
+        ensures bounded { KeepsToCounts T.counts self.old
+            (order.Set who.now setting.entry.attr.text.now setting.entry.value.text.now
+            setting.entry.attr.column setting.entry.value.column) result (steps.new - steps.old) }
     {
         let edited = self.set_copy(who, setting)?;
         let site = self.site(who);
@@ -77,7 +78,7 @@ impl<T: Table> Playing<T> {
     pub fn unset<L: Ledger>(
         &mut self,
         who: &Who,
-        attr: Placed<'_>,
+        attr: LineText<'_>,
         out: &mut Bytes,
         steps: &mut Steps<L>,
     ) -> Result<(), Refusal>
@@ -91,7 +92,7 @@ impl<T: Table> Playing<T> {
         ensures kept { OnErr result (self.new ≡ self.old) }
         ensures text { OnErr result (out.new ≡ out.old) }
         ensures counted { steps.old ≤ steps.new }
-        ensures bounded { IsBounded T.counts self.old
+        ensures bounded { KeepsToCounts T.counts self.old
             (order.Unset who.now attr.entry.text.now attr.entry.column) result
             (steps.new - steps.old) }
     {
@@ -109,7 +110,8 @@ impl<T: Table> Playing<T> {
         out: &mut Bytes,
         steps: &mut Steps<L>,
     ) -> Result<(), Refusal>
-        requires { IsGiven (order.Insert who.now child.place child.line.text.now child.line.column) }
+        requires { IsGiven
+            (order.Insert who.now child.place child.line.text.now child.line.column) }
         ensures ok { OnOk result (Accepts formats self.old self.new
             (order.Insert who.now child.entry.place child.entry.line.text.now
             child.entry.line.column) (drop (length out.old) out.new)) }
@@ -120,7 +122,7 @@ impl<T: Table> Playing<T> {
         ensures kept { OnErr result (self.new ≡ self.old) }
         ensures text { OnErr result (out.new ≡ out.old) }
         ensures counted { steps.old ≤ steps.new }
-        ensures bounded { IsBounded T.counts self.old (order.Insert who.now child.entry.place
+        ensures bounded { KeepsToCounts T.counts self.old (order.Insert who.now child.entry.place
             child.entry.line.text.now child.entry.line.column) result (steps.new - steps.old) }
     {
         let edited = self.insert_copy(who, child)?;
@@ -143,7 +145,7 @@ impl<T: Table> Playing<T> {
         ensures kept { OnErr result (self.new ≡ self.old) }
         ensures text { OnErr result (out.new ≡ out.old) }
         ensures counted { steps.old ≤ steps.new }
-        ensures bounded { IsBounded T.counts self.old (order.Remove who.now) result
+        ensures bounded { KeepsToCounts T.counts self.old (order.Remove who.now) result
             (steps.new - steps.old) }
     {
         let edited = self.remove_copy(who)?;
@@ -162,21 +164,21 @@ impl<T: Table> Playing<T> {
             (order.Set who.now setting.entry.attr.text.now setting.entry.value.text.now
             setting.entry.attr.column setting.entry.value.column))) }
     {
-        let tree = self.watched.cells.tree();
+        let tree = self.viewer.cells.tree();
         tree.valid();
         let serial = self.node(who)?;
         with_value(self.alloc, tree, serial, setting)
     }
 
     // The document with an attribute of a node absent.
-    fn unset_copy(&self, who: &Who, attr: Placed<'_>) -> Result<Tree, Refusal>
+    fn unset_copy(&self, who: &Who, attr: LineText<'_>) -> Result<Tree, Refusal>
         requires { IsGiven (order.Unset who.now attr.text.now attr.column) }
         ensures ok { IfOk result (λ edited. edit_of self.now
             (order.Unset who.now attr.entry.text.now attr.entry.column) ≡ Ok edited) }
         ensures err { IfErr result (IsRefusedBy
             (edit_of self.now (order.Unset who.now attr.entry.text.now attr.entry.column))) }
     {
-        let tree = self.watched.cells.tree();
+        let tree = self.viewer.cells.tree();
         tree.valid();
         let serial = self.node(who)?;
         without_name(tree, serial, attr)
@@ -184,7 +186,8 @@ impl<T: Table> Playing<T> {
 
     // The document with one more node.
     fn insert_copy(&self, who: &Who, child: Child<'_>) -> Result<Tree, Refusal>
-        requires { IsGiven (order.Insert who.now child.place child.line.text.now child.line.column) }
+        requires { IsGiven
+            (order.Insert who.now child.place child.line.text.now child.line.column) }
         ensures ok { IfOk result (λ edited. edit_of self.now
             (order.Insert who.now child.entry.place child.entry.line.text.now
             child.entry.line.column) ≡ Ok edited) }
@@ -192,7 +195,7 @@ impl<T: Table> Playing<T> {
             (order.Insert who.now child.entry.place child.entry.line.text.now
             child.entry.line.column))) }
     {
-        let tree = self.watched.cells.tree();
+        let tree = self.viewer.cells.tree();
         tree.valid();
         let parent = self.node(who)?;
         with_child(self.alloc, tree, parent, child)
@@ -203,7 +206,7 @@ impl<T: Table> Playing<T> {
         ensures ok { IfOk result (λ edited. edit_of self.now (order.Remove who.now) ≡ Ok edited) }
         ensures err { IfErr result (IsRefusedBy (edit_of self.now (order.Remove who.now))) }
     {
-        let tree = self.watched.cells.tree();
+        let tree = self.viewer.cells.tree();
         tree.valid();
         let serial = self.node(who)?;
         without_node(tree, serial)
@@ -214,7 +217,7 @@ impl<T: Table> Playing<T> {
     fn site(&self, who: &Who) -> Site
         ensures { result ≡ Site.Old (serial_or_0 (node_of self.now.document.nodes who.now)) }
     {
-        match self.watched.cells.tree().find(who) {
+        match self.viewer.cells.tree().find(who) {
             Some(serial) => Site::Old(serial),
             None => Site::Old(0),
         }
@@ -260,8 +263,8 @@ impl<T: Table> Playing<T> {
             out.cut_back(len);
             return Err(Refusal::Memory);
         }
-        swap(&mut self.watched.cells, cells);
-        self.watched.seen = seen;
+        swap(&mut self.viewer.cells, cells);
+        self.viewer.seen = seen;
         Ok(())
     }
 
@@ -284,7 +287,7 @@ impl<T: Table> Playing<T> {
         edited.valid();
         let doc = edited.doc_copy()?;
         let len = self.staying(edited, &doc, site)?;
-        cells_with(&self.watched.cells, &doc, len, steps)
+        cells_with(&self.viewer.cells, &doc, len, steps)
     }
 
     // How many entries of the diary stay by an edit, unless memory runs out: those through the
@@ -295,9 +298,9 @@ impl<T: Table> Playing<T> {
         requires doc { doc.now ≡ edited.now }
         ensures { IfOk result (λ len. len ≡ staying self.now edited.now site) }
     {
-        let (serial, parent) = edited_node(self.watched.cells.tree(), edited, doc, site);
+        let (serial, parent) = edited_node(self.viewer.cells.tree(), edited, doc, site);
         let keeps = self.keeps_references(serial, edited, doc)?;
-        Ok(entries_staying(self.watched.cells.book(), keeps, parent))
+        Ok(entries_staying(self.viewer.cells.book(), keeps, parent))
     }
 
     // Whether an edit of a node leaves the references as they were, unless memory runs out.
@@ -306,15 +309,15 @@ impl<T: Table> Playing<T> {
         ensures { IfOk result (λ keeps. keeps
             ≡ keeps_references serial self.now.document.nodes edited.now.nodes) }
     {
-        let tree = self.watched.cells.tree();
+        let tree = self.viewer.cells.tree();
         let before = tree.doc_copy()?;
         let graph = Graph::of(self.alloc, edited)?;
-        let old = Linked {
+        let old = GraphedDocument {
             tree,
             nodes: before.nodes(),
-            graph: self.watched.cells.past().graph(),
+            graph: self.viewer.cells.past().graph(),
         };
-        let new = Linked {
+        let new = GraphedDocument {
             tree: edited,
             nodes: doc.nodes(),
             graph: &graph,
@@ -341,7 +344,7 @@ impl<T: Table> Playing<T> {
     {
         let now = cells.moment();
         let before = Scene {
-            tree: self.watched.cells.tree(),
+            tree: self.viewer.cells.tree(),
             moment: now,
         };
         put_all_gone(before, cells.tree(), out)?;
@@ -349,7 +352,7 @@ impl<T: Table> Playing<T> {
             tree: cells.tree(),
             moment: now,
         };
-        put_differences(after, &self.watched.seen, seen, out)
+        put_differences(after, &self.viewer.seen, seen, out)
     }
 }
 

@@ -9,7 +9,7 @@ ghost use Rattle.smil_model.specs.shown.Answers.{Accepts, IsGiven, MayEvaluate, 
 ghost use Rattle.smil_model.specs.shown.Orders.{IsState};
 ghost use Rattle.smil_grammar.specs.Formats.{formats};
 ghost use Rattle.smil_cells.specs.Standing.{WhereTold};
-ghost use Rattle.smil_live.specs.Counted.{IsBounded};
+ghost use Rattle.smil_live.specs.Counted.{KeepsToCounts};
 ghost use Rattle.smil_live.specs.Counts.{least_onward, most_onward};
 ghost use Rattle.smil_live.specs.Moves.{IsHeardBy, IsNotHeard, IsReplayed, IsTooFull, MayMove, changes_by, made, sought_of, text_of};
 
@@ -49,10 +49,10 @@ impl<T: Table> Playing<T> {
         ensures kept { OnErr result (self.new ≡ self.old) }
         ensures text { OnErr result (out.new ≡ out.old) }
         ensures counted { steps.old ≤ steps.new }
-        ensures bounded { IsBounded T.counts self.old (order.Advance by) result
+        ensures bounded { KeepsToCounts T.counts self.old (order.Advance by) result
             (steps.new - steps.old) }
     {
-        let to = self.watched.cells.moment() + by;
+        let to = self.viewer.cells.moment() + by;
         if to > HORIZON {
             return Err(Refusal::BeyondHorizon);
         }
@@ -77,10 +77,10 @@ impl<T: Table> Playing<T> {
         ensures kept { OnErr result (self.new ≡ self.old) }
         ensures text { OnErr result (out.new ≡ out.old) }
         ensures counted { steps.old ≤ steps.new }
-        ensures bounded { IsBounded T.counts self.old (order.Seek to) result
+        ensures bounded { KeepsToCounts T.counts self.old (order.Seek to) result
             (steps.new - steps.old) }
     {
-        if to < self.watched.cells.moment() {
+        if to < self.viewer.cells.moment() {
             return self.seek_back(to, out, steps);
         }
         self.go(Move::Settle(to), out, steps)?;
@@ -105,7 +105,7 @@ impl<T: Table> Playing<T> {
         ensures kept { OnErr result (self.new ≡ self.old) }
         ensures text { OnErr result (out.new ≡ out.old) }
         ensures counted { steps.old ≤ steps.new }
-        ensures bounded { IsBounded T.counts self.old (order.Seek to) result
+        ensures bounded { KeepsToCounts T.counts self.old (order.Seek to) result
             (steps.new - steps.old) }
     {
         self.settled();
@@ -124,7 +124,7 @@ impl<T: Table> Playing<T> {
         ensures most { OnOk result (WhereTold T.counts
             (steps.new - steps.old ≤ length_of (elements self.now.document.nodes))) }
     {
-        cells_at(&self.watched.cells, to, steps)
+        cells_at(&self.viewer.cells, to, steps)
     }
 
     /// An event on an element. `NoElement` where there is no such node, `BadPlace` where it is a
@@ -144,7 +144,7 @@ impl<T: Table> Playing<T> {
         ensures kept { OnErr result (self.new ≡ self.old) }
         ensures text { OnErr result (out.new ≡ out.old) }
         ensures counted { steps.old ≤ steps.new }
-        ensures bounded { IsBounded T.counts self.old (order.Event who.now name.now) result
+        ensures bounded { KeepsToCounts T.counts self.old (order.Event who.now name.now) result
             (steps.new - steps.old) }
     {
         self.settled();
@@ -170,11 +170,11 @@ impl<T: Table> Playing<T> {
         ensures kept { OnErr result (self.new ≡ self.old) }
         ensures text { OnErr result (out.new ≡ out.old) }
         ensures counted { steps.old ≤ steps.new }
-        ensures bounded { IsBounded T.counts self.old (order.Media who.now length) result
+        ensures bounded { KeepsToCounts T.counts self.old (order.Media who.now length) result
             (steps.new - steps.old) }
     {
         let serial = self.node(who)?;
-        if !is_continuous(self.watched.cells.tree().kind(serial)) {
+        if !is_continuous(self.viewer.cells.tree().kind(serial)) {
             return Err(Refusal::NotContinuous);
         }
         let what = Happening::Media {
@@ -207,10 +207,10 @@ impl<T: Table> Playing<T> {
         ensures free { (most : Option ℕ)
             → IfErr result (λ refusal. MayEvaluate most refusal (steps.new - steps.old)) }
     {
-        if self.watched.cells.log().len() >= LOG_ENTRIES {
+        if self.viewer.cells.log().len() >= LOG_ENTRIES {
             return Err(Refusal::LogFull);
         }
-        let moment = self.watched.cells.moment();
+        let moment = self.viewer.cells.moment();
         let entry = LogEntry { moment, what };
         self.go(Move::Hear(entry), out, steps)?;
         self.settled();
@@ -238,17 +238,17 @@ impl<T: Table> Playing<T> {
             (least_onward self.old (made self.old step) ≤ steps.new - steps.old)) }
     {
         let len = out.len();
-        let watched = &mut self.watched;
-        watched.cells.mark();
-        let gone = watched.go_on(step, out, steps);
+        let viewer = &mut self.viewer;
+        viewer.cells.mark();
+        let gone = viewer.go_on(step, out, steps);
         match gone {
             Ok(()) => {
-                watched.cells.forget();
-                watched.seen.forget();
+                viewer.cells.forget();
+                viewer.seen.forget();
             }
             Err(_) => {
-                watched.cells.back();
-                watched.seen.back();
+                viewer.cells.back();
+                viewer.seen.back();
                 out.cut_back(len);
             }
         }

@@ -11,20 +11,19 @@ ghost use Rattle.smil_model.specs.shown.Orders.{IsState, course_of, found, node_
 ghost use Rattle.smil_model.specs.shown.Answers.{Accepts, IsGiven, Refuses, load_text};
 ghost use Rattle.smil_grammar.specs.Formats.{formats};
 ghost use Rattle.smil_cells.specs.Standing.{WhereTold};
-ghost use Rattle.smil_live.specs.Counted.{IsBounded};
+ghost use Rattle.smil_live.specs.Counted.{KeepsToCounts};
 ghost use Rattle.smil_live.specs.Counts.{least_loading, most_loading};
-ghost use Rattle.smil_live.specs.ShownViews.{IsPlaying};
+ghost use Rattle.smil_shown.specs.ShownViews.{IsPlaying};
 ghost use Rattle.smil_live.specs.Moves.{IsReplayed};
 ghost use Rattle.smil_live.specs.Telling.{element_named, is_edit};
 
-use super::lines::{Scene, put_differences};
 use super::replay::{Replay, replayed};
-use super::values::{Child, Placed, Setting};
-use super::view_table::ViewTable;
-use super::watched::Watched;
+use super::viewer::Viewer;
 use smil_cells::{Cells, Table};
 use smil_model::{Bytes, Doc, Happening, Log, Order, Player, Refusal, Steps, Who};
 use smil_nodes::LiveTable;
+use smil_revision::{Child, LineText, Setting};
+use smil_shown::{Scene, ViewTable, put_differences};
 use std::alloc::Global;
 use std::marker::Model;
 use std::sync::ledger::Ledger;
@@ -36,7 +35,7 @@ pub type Presentation = Playing<LiveTable>;
 /// It answers every order, and tells bounds of its interval evaluations where its table counts
 /// them.
 pub struct Playing<T: Table> {
-    pub watched: Watched<T>,
+    pub viewer: Viewer<T>,
     pub alloc: Global,
 }
 
@@ -44,7 +43,7 @@ impl<T: Table> Drop for Playing<T> {
     // One call for each holder: its fields are dropped here alone.
     fn drop(self) {
         let Playing {
-            watched: _watched,
+            viewer: _viewer,
             alloc: _alloc,
         } = self;
     }
@@ -52,13 +51,13 @@ impl<T: Table> Drop for Playing<T> {
 
 impl<T: Table> Model for Playing<T> {
     ghost use Rattle.smil_model.specs.shown.Orders.{Presentation as State};
-    ghost use Rattle.smil_live.specs.ShownViews.{IsPlaying};
+    ghost use Rattle.smil_shown.specs.ShownViews.{IsPlaying};
 
     ghost Value = { State };
 
-    ghost view = { λ p. p.watched.cells.presentation };
+    ghost view = { λ p. p.viewer.cells.presentation };
 
-    ghost invariant = { λ p. IsPlaying p.watched.cells p.watched.seen };
+    ghost invariant = { λ p. IsPlaying p.viewer.cells p.viewer.seen };
 }
 
 impl<T: Table> Playing<T> {
@@ -106,7 +105,7 @@ impl<T: Table> Playing<T> {
     {
         let seen = put_first(alloc, &cells, out)?;
         Ok(Playing {
-            watched: Watched { cells, seen },
+            viewer: Viewer { cells, seen },
             alloc,
         })
     }
@@ -120,7 +119,7 @@ impl<T: Table> Playing<T> {
         ensures err { IfErr result (λ refusal. found (node_of self.now.document.nodes who.now)
             ≡ Err refusal) }
     {
-        match self.watched.cells.tree().find(who) {
+        match self.viewer.cells.tree().find(who) {
             Some(serial) => Ok(serial),
             None => Err(Refusal::NoElement),
         }
@@ -135,7 +134,7 @@ impl<T: Table> Playing<T> {
         ensures err { IfErr result (λ refusal. element_named self.now who.now ≡ Err refusal) }
     {
         let serial = self.node(who)?;
-        if self.watched.cells.tree().kind(serial).is_element() {
+        if self.viewer.cells.tree().kind(serial).is_element() {
             Ok(serial)
         } else {
             Err(Refusal::BadPlace)
@@ -147,7 +146,7 @@ impl<T: Table> Playing<T> {
         ensures state { IsState self.now }
         ensures diary { IsSome (diary_of (course_of self.now)) }
     {
-        let _kept = &self.watched;
+        let _kept = &self.viewer;
     }
 
     // Hears a key, and tells what changes.
@@ -165,7 +164,7 @@ impl<T: Table> Playing<T> {
         ensures kept { OnErr result (self.new ≡ self.old) }
         ensures text { OnErr result (out.new ≡ out.old) }
         ensures counted { steps.old ≤ steps.new }
-        ensures bounded { IsBounded T.counts self.old (order.Key key) result
+        ensures bounded { KeepsToCounts T.counts self.old (order.Key key) result
             (steps.new - steps.old) }
     {
         self.settled();
@@ -188,7 +187,7 @@ impl<T: Table> Playing<T> {
         ensures kept { OnErr result (self.new ≡ self.old) }
         ensures text { OnErr result (out.new ≡ out.old) }
         ensures counted { steps.old ≤ steps.new }
-        ensures bounded { IsBounded T.counts self.old order.now result (steps.new - steps.old) }
+        ensures bounded { KeepsToCounts T.counts self.old order.now result (steps.new - steps.old) }
     {
         match order {
             Order::Set {
@@ -243,7 +242,7 @@ impl<T: Table> Player for Playing<T> {
     ghost most_steps = { λ p order. told_where T.counts (most_number p order) };
 
     fn now(&self) -> i64 {
-        self.watched.cells.moment()
+        self.viewer.cells.moment()
     }
 
     fn answer<L: Ledger>(
@@ -272,11 +271,11 @@ impl<T: Table> Player for Playing<T> {
 }
 
 // A text in an order's line, with its column.
-fn placed(text: &Bytes, column: u32) -> Placed<'_>
+fn placed(text: &Bytes, column: u32) -> LineText<'_>
     ensures text { result.text.now ≡ text.now }
     ensures column { result.column ≡ column }
 {
-    Placed {
+    LineText {
         text: text.slice(),
         column,
     }

@@ -158,7 +158,8 @@ fn hear_again<T: Table, L: Ledger>(
     requires within { entry.now.moment ≤ℤ the_horizon }
     requires may { may_happen entry.now.what ≡ true }
     requires numbered { IsNumberedTree cells.old.presentation.document }
-    ensures state { OnOk result (cells.new.presentation ≡ heard_at cells.old.presentation entry.now) }
+    ensures state { OnOk result
+        (cells.new.presentation ≡ heard_at cells.old.presentation entry.now) }
     ensures sound { OnOk result (cells.new.fault ≡ None) }
     ensures marked { OnOk result (cells.new.marked ≡ cells.old.marked) }
     ensures settled { OnOk result (IsSettled cells.new) }

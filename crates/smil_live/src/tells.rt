@@ -11,25 +11,23 @@ ghost use Rattle.smil_model.specs.shown.Lines.{entry_line};
 ghost use Rattle.smil_model.specs.shown.Orders.{node_of, outcome};
 ghost use Rattle.smil_model.specs.shown.Sandwich.{stack_of};
 ghost use Rattle.smil_grammar.specs.Formats.{formats};
-ghost use Rattle.smil_report.specs.Words.{Begins};
-ghost use Rattle.smil_live.specs.Sets.{AreSetsAmong, AreSetsOf};
+ghost use Rattle.smil_model.specs.document.Words.{Begins};
+ghost use Rattle.smil_shown.specs.Sets.{AreSetsAmong, AreSetsOf};
 ghost use Rattle.smil_live.specs.Telling.{element_named, is_plain_telling, is_telling, layers_text, setter_text};
 
-use super::intervals::{Subject, put_intervals};
-use super::lines::{Scene, name_of, put_views};
 use super::playing::Playing;
-use super::sets::Sets;
 use smil_cells::Table;
 use smil_diary::Book;
 use smil_model::{Bytes, Log, Order, Refusal, Who};
 use smil_outline::{write_doc, write_doc_2};
 use smil_report::{SetValue, put_entry, put_layer, put_now, put_outline_end, put_value};
+use smil_shown::{Scene, Sets, Subject, name_of, put_intervals, put_views};
 use smil_tree::Tree;
 use std::alloc::AllocError;
 
 /// A document with what all its sets set.
 #[derive(Clone, Copy)]
-struct Layered<'a> {
+struct LayeredDocument<'a> {
     tree: &'a Tree,
     sets: &'a Sets,
 }
@@ -93,10 +91,10 @@ impl<T: Table> Playing<T> {
         ensures begins { Begins out.old out.new }
     {
         let scene = Scene {
-            tree: self.watched.cells.tree(),
-            moment: self.watched.cells.moment(),
+            tree: self.viewer.cells.tree(),
+            moment: self.viewer.cells.moment(),
         };
-        put_views(scene, &self.watched.seen, out)
+        put_views(scene, &self.viewer.seen, out)
     }
 
     // Appends the outline of the document.
@@ -105,7 +103,7 @@ impl<T: Table> Playing<T> {
             ++ answer_text formats self.now self.now order.Text) }
         ensures begins { Begins out.old out.new }
     {
-        write_doc(&self.watched.cells.tree().doc_copy()?, out)
+        write_doc(&self.viewer.cells.tree().doc_copy()?, out)
     }
 
     // Appends the outline of the document with its serials.
@@ -114,13 +112,14 @@ impl<T: Table> Playing<T> {
             ++ answer_text formats self.now self.now order.Save) }
         ensures begins { Begins out.old out.new }
     {
-        write_doc_2(&self.watched.cells.tree().doc_copy()?, out)
+        write_doc_2(&self.viewer.cells.tree().doc_copy()?, out)
     }
 
     // Appends the intervals of an element. `NoElement` where there is no such node, `BadPlace`
     // where it is a priorityClass.
     fn put_history_of(&self, who: &Who, out: &mut Bytes) -> Result<(), Refusal>
-        ensures state { OnOk result (outcome formats self.now (order.History who.now) ≡ Ok self.now) }
+        ensures state { OnOk result
+            (outcome formats self.now (order.History who.now) ≡ Ok self.now) }
         ensures told { OnOk result (out.new ≡ out.old
             ++ history_text self.now (node_of self.now.document.nodes who.now)) }
         ensures refused { IfErr result (Refuses formats self.now (order.History who.now)) }
@@ -138,12 +137,12 @@ impl<T: Table> Playing<T> {
             ≡ n.serial → OnOk result (out.new ≡ out.old ++ history_text self.now (Some n)) }
         ensures begins { Begins out.old out.new }
     {
-        let name = name_of(self.watched.cells.tree(), serial)?;
+        let name = name_of(self.viewer.cells.tree(), serial)?;
         let subject = Subject {
             serial,
             name: &name,
         };
-        put_intervals(self.alloc, &self.watched.cells, subject, out)
+        put_intervals(self.alloc, &self.viewer.cells, subject, out)
     }
 
     // Appends each attribute that is set, targets in document order.
@@ -152,9 +151,9 @@ impl<T: Table> Playing<T> {
             ++ answer_text formats self.now self.now order.Values) }
         ensures begins { Begins out.old out.new }
     {
-        let tree = self.watched.cells.tree();
-        let sets = Sets::of(self.alloc, tree, self.watched.seen.views())?;
-        put_all_values(Layered { tree, sets: &sets }, out)
+        let tree = self.viewer.cells.tree();
+        let sets = Sets::of(self.alloc, tree, self.viewer.seen.views())?;
+        put_all_values(LayeredDocument { tree, sets: &sets }, out)
     }
 
     // Appends the sets of an attribute of a node, from the top of their stack down. `NoElement`
@@ -177,9 +176,9 @@ impl<T: Table> Playing<T> {
             → OnOk result (out.new ≡ out.old ++ stack_text self.now attr.now (Some n)) }
         ensures begins { Begins out.old out.new }
     {
-        let tree = self.watched.cells.tree();
-        let sets = Sets::of(self.alloc, tree, self.watched.seen.views())?;
-        put_layers(Layered { tree, sets: &sets }, target, attr, out)
+        let tree = self.viewer.cells.tree();
+        let sets = Sets::of(self.alloc, tree, self.viewer.seen.views())?;
+        put_layers(LayeredDocument { tree, sets: &sets }, target, attr, out)
     }
 
     // Appends the document with its serials, the diary entry by entry, and the moment.
@@ -190,8 +189,8 @@ impl<T: Table> Playing<T> {
     {
         self.put_saved(out)?;
         put_outline_end(out)?;
-        put_entries(self.watched.cells.log(), self.watched.cells.book(), out)?;
-        put_now(out, self.watched.cells.moment())
+        put_entries(self.viewer.cells.log(), self.viewer.cells.book(), out)?;
+        put_now(out, self.viewer.cells.moment())
     }
 }
 
@@ -207,7 +206,7 @@ fn put_entries(log: &Log, book: &Book, out: &mut Bytes) -> Result<(), AllocError
 }
 
 // Appends each attribute that is set, targets in document order.
-fn put_all_values(document: Layered<'_>, out: &mut Bytes) -> Result<(), AllocError>
+fn put_all_values(document: LayeredDocument<'_>, out: &mut Bytes) -> Result<(), AllocError>
     requires setters { (all : List (ℕ × AnyLayer))
         × AreSetsAmong document.tree.now.nodes document.sets.now all }
     ensures told { (all : List (ℕ × AnyLayer)) → AreSetsOf document.entry.sets.now all
@@ -226,7 +225,11 @@ fn put_all_values(document: Layered<'_>, out: &mut Bytes) -> Result<(), AllocErr
 
 // Appends each attribute of a target that is set, by the top of its stack, in the order of the
 // names' bytes.
-fn put_values_on(document: Layered<'_>, target: u32, out: &mut Bytes) -> Result<(), AllocError>
+fn put_values_on(
+    document: LayeredDocument<'_>,
+    target: u32,
+    out: &mut Bytes,
+) -> Result<(), AllocError>
     requires target { IsSome (node_at document.tree.now.nodes target) }
     requires setters { (all : List (ℕ × AnyLayer))
         × AreSetsAmong document.tree.now.nodes document.sets.now all }
@@ -243,7 +246,7 @@ fn put_values_on(document: Layered<'_>, target: u32, out: &mut Bytes) -> Result<
 
 // Appends an attribute of a target, with the value of the set on top of its stack.
 fn put_top(
-    document: Layered<'_>,
+    document: LayeredDocument<'_>,
     target: u32,
     name: &Bytes,
     out: &mut Bytes,
@@ -274,7 +277,7 @@ fn put_top(
 
 // Appends the sets of an attribute of a target, from the top of their stack down.
 fn put_layers(
-    document: Layered<'_>,
+    document: LayeredDocument<'_>,
     target: u32,
     attr: &Bytes,
     out: &mut Bytes,

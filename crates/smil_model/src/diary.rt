@@ -1,7 +1,7 @@
 //! The log of what came from outside, and the diary of what happened.
 
 use super::duplicate::Duplicate;
-use super::listed::{Bytes, Listed};
+use super::listed::{Bytes, GrowingList};
 use std::alloc::AllocError;
 use std::mem::size_of;
 
@@ -47,7 +47,7 @@ impl Duplicate for LogEntry {
 }
 
 /// What came from outside, in order.
-pub type Log = Listed<LogEntry>;
+pub type Log = GrowingList<LogEntry>;
 
 /// What happened to the element with the serial `who`, or which log entry was heard. A begin, an
 /// end and a deferred or passed begin are on the time parent's clock, the start of an iteration on
@@ -85,7 +85,7 @@ pub struct Entry {
 const _: () = prove!(size_of::<Entry>() <= 48);
 
 /// What happened, in order.
-pub type Diary = Listed<Entry>;
+pub type Diary = GrowingList<Entry>;
 
 /// The kinds of steps that happen to an element.
 #[derive(Clone, Copy, Debug, PartialEq, Eq)]

@@ -4,7 +4,7 @@ ghost use Rattle.std.specs.Prelude.{◌≡◌, ℕ, ◌<◌, List, [], ◌∷◌
 
 use super::duplicate::{Duplicate, copy_of};
 use super::limits::ITEMS;
-use super::listed::{Bytes, Listed};
+use super::listed::{Bytes, GrowingList};
 use super::times::Time;
 use std::alloc::{AllocError, Global};
 use std::marker::Model;
@@ -131,7 +131,7 @@ impl Duplicate for Item {
 /// A begin or end list, seen as the list of its 1 to 32 items.
 #[derive(Debug, PartialEq, Drop)]
 pub struct Items {
-    items: Listed<Item>,
+    items: GrowingList<Item>,
 }
 
 impl Model for Items {
@@ -153,7 +153,7 @@ impl Items {
     pub fn new(alloc: Global, first: Item) -> Result<Items, AllocError>
         ensures { IfOk result (λ items. items ≡ first ∷ []) }
     {
-        let mut items = Listed::new(alloc);
+        let mut items = GrowingList::new(alloc);
         items.push(first)?;
         Ok(Items { items })
     }
@@ -480,7 +480,7 @@ pub enum AttrName {
 /// A document, seen as its nodes in document order and the next serial.
 #[derive(Debug, PartialEq)]
 pub struct Doc {
-    nodes: Listed<Node>,
+    nodes: GrowingList<Node>,
     next: u32,
 }
 
@@ -513,7 +513,7 @@ impl Doc {
         ensures next { result.next ≡ next }
     {
         Doc {
-            nodes: Listed::new(alloc),
+            nodes: GrowingList::new(alloc),
             next,
         }
     }

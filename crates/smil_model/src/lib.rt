@@ -30,7 +30,7 @@ pub use limits::{
     ITERATIONS, LINE_BYTES, LOG_ENTRIES, NAME_BYTES, NODES, PRESENTATIONS, REFERENCES, SERIALS,
     TEXT_BYTES,
 };
-pub use listed::{Bytes, Listed, Serials, WordList};
+pub use listed::{Bytes, GrowingList, Serials, WordList};
 pub use order::{Order, Refusal, Who};
 pub use player::Player;
 pub use steps::Steps;

@@ -8,17 +8,17 @@ use std::marker::Model;
 
 /// A list that grows at its end, seen as the list of its elements.
 #[derive(Debug, Drop)]
-pub struct Listed<T> {
+pub struct GrowingList<T> {
     items: Vec<T>,
 }
 
-impl<T> Model for Listed<T> {
+impl<T> Model for GrowingList<T> {
     ghost Value = { List T };
 
     ghost view = { λ a. a.items.items };
 }
 
-impl<T: PartialEq> PartialEq for Listed<T> {
+impl<T: PartialEq> PartialEq for GrowingList<T> {
     ghost use Rattle.std.specs.Cmp.Lexicographic.{pointwise, lists_per};
 
     ghost eq = { λ x y. pointwise T.eq x y };
@@ -30,31 +30,31 @@ impl<T: PartialEq> PartialEq for Listed<T> {
     }
 }
 
-impl<T: Duplicate> Duplicate for Listed<T> {
+impl<T: Duplicate> Duplicate for GrowingList<T> {
     fn copy(&self) -> Result<Self, AllocError> {
         let mut items = Vec::with_capacity(*self.items.allocator(), self.items.len())?;
         for item in self.items.as_slice() {
             items.push(item.copy()?)?;
         }
-        Ok(Listed { items })
+        Ok(GrowingList { items })
     }
 }
 
 /// A list of bytes.
-pub type Bytes = Listed<u8>;
+pub type Bytes = GrowingList<u8>;
 
 /// A list of serials of nodes.
-pub type Serials = Listed<u32>;
+pub type Serials = GrowingList<u32>;
 
 /// A list of words, each a list of bytes.
-pub type WordList = Listed<Bytes>;
+pub type WordList = GrowingList<Bytes>;
 
-impl<T: Drop> Listed<T> {
+impl<T: Drop> GrowingList<T> {
     /// The empty list, which takes no memory.
     pub fn new(alloc: Global) -> Self
         ensures { result ≡ [] }
     {
-        Listed {
+        GrowingList {
             items: Vec::new(alloc),
         }
     }
@@ -99,12 +99,12 @@ impl<T: Drop> Listed<T> {
     }
 }
 
-impl<T: Copy> Listed<T> {
+impl<T: Copy> GrowingList<T> {
     /// The list of these elements, unless memory runs out.
     pub fn of(alloc: Global, items: &[T]) -> Result<Self, AllocError>
         ensures { IfOk result (λ list. list ≡ items.now) }
     {
-        Ok(Listed {
+        Ok(GrowingList {
             items: Vec::from_slice(alloc, items)?,
         })
     }

@@ -55,7 +55,8 @@ pub trait Player {
         ensures counted { steps.old ≤ steps.new }
         ensures least { OnOk result (AtLeast (least_steps self.old order.now)
             (steps.new - steps.old)) }
-        ensures most { OnOk result (AtMost (most_steps self.old order.now) (steps.new - steps.old)) }
+        ensures most { OnOk result
+            (AtMost (most_steps self.old order.now) (steps.new - steps.old)) }
         ensures free { IfErr result (λ refusal. MayEvaluate (most_steps self.old order.now) refusal
             (steps.new - steps.old)) };
 }

@@ -1,20 +1,19 @@
--- The winner of a tournament is the least of the keys in its slots.
-use Rattle.std.proofs.Common.{◌≡◌, ◌∙◌, ap, sym, subst, refl, ℕ, zero, suc, ◌+◌, ◌*◌, ◌^◌, ◌<◌, ◌≤◌, Bool, true, false, List, [], ◌∷◌, ◌++◌, length, drop, arith, ◌⊎◌, inl, inr}
+-- The winner of a tournament is the least of the keys in its slots; one without keys has no winner.
+use Rattle.std.proofs.Common.{◌≡◌, ◌∙◌, ap, sym, refl, ℕ, max, ◌-◌, ◌+◌, ◌/◌, ◌^◌, ◌<◌, ◌≤◌, Bool, true, false, List, [], ◌∷◌, ◌++◌, length, drop, replicate, arith, ◌⊎◌, inl, inr}
 use Rattle.std.specs.Prelude.{Option, None, Some, fold, if◌then◌else◌}
 use Rattle.std.proofs.Common.{Ordering, Less, Equal, Greater}
 use Rattle.std.specs.Ordering.{is_lt, ordering_reverse}
 use Rattle.std.proofs.lemmas.Bool.{cases_lt}
-use Rattle.std.proofs.Math.Seq.{drop-cons}
-use Rattle.std.proofs.Math.ListN.{drop_of_length-le}
-use Rattle.std.proofs.Math.Nat.{pow-suc, one-le-pow, mul-le-mul_left}
-use Rattle.std.proofs.lemmas.List.{get_or_past}
+use Rattle.std.proofs.lemmas.List.{drop-replicate, get_or-replicate, get_or_past, length-replicate}
 use Rattle.std.proofs.lemmas.List.Elements.{filter_map-append}
 use Rattle.std.proofs.lemmas.List.Sums.{fold-append}
 use Rattle.smil_model.specs.declared.happening.Key.{Key}
 use Rattle.smil_model.specs.happening.Keys.{comes_before, earlier_key, least_key}
+use Rattle.smil_laws.specs.Tournaments.{at_place, IsDecided}
+use Rattle.smil_laws.proofs.Tournaments.{few_places, top_sums, IsSum}
 use Rattle.smil_due.specs.Order.{happening_cmp, happening_cmp_total}
 use Rattle.smil_due.proofs.Before.{before_is_less, transitive, less_from}
-use Rattle.smil_nodes.specs.Slots.{keys_in, earlier_of, at_place, IsWon, IsTournament}
+use Rattle.smil_nodes.specs.Slots.{keys_in, earlier_of, IsTournament}
 
 -- a key that comes before a second one, which a third doesn't come before either, comes before the third
 not_after : (a b c : Key) → comes_before c a ≡ true → comes_before b a ≡ false → comes_before c b ≡ true
@@ -92,79 +91,50 @@ least_of_both xs ys =
     ∙ fold-append earlier_key None (keys_in xs) (keys_in ys)
     ∙ from_sofar (least_in xs) (keys_in ys)
 
--- ---- parts of the places
+-- ---- the winner
 
--- so many places from a place on, the empty ones past the last one too
-abbrev part : List (Option Key) → ℕ → ℕ → List (Option Key)
-part places zero from = []
-part places (suc n) from = at_place places from ∷ part places n (suc from)
-
-part_of_both : (places : List (Option Key)) (m n from : ℕ) → part places (m + n) from ≡ part places m from ++ part places n (from + m)
-part_of_both places zero n from =
-    let sum : 0 + n ≡ n = omega arith in
-    let start : from + 0 ≡ from = omega arith in
-    rw (sum, start)
-part_of_both places (suc m) n from =
-    let sum : suc m + n ≡ suc (m + n) = omega arith in
-    let start : from + suc m ≡ suc from + m = omega arith in
-    rw (sum, start) (ap (λ (rest : List (Option Key)). at_place places from ∷ rest) (part_of_both places m n (suc from)))
-
-none_past : (places : List (Option Key)) (n from : ℕ) → length places ≤ from → keys_in (part places n from) ≡ []
-none_past places zero from h = refl
-none_past places (suc n) from h =
-    ap (λ (key : Option Key). keys_in (key ∷ part places n (suc from))) (get_or_past places from None h) ∙ none_past places n (suc from) (omega arith)
-
-keys_head : (key : Option Key) (xs ys : List (Option Key)) → keys_in xs ≡ keys_in ys → keys_in (key ∷ xs) ≡ keys_in (key ∷ ys)
-keys_head None xs ys e = e
-keys_head (Some k) xs ys e = ap (λ (ks : List Key). k ∷ ks) e
-
--- past the last place there are no keys
-keys_of_part : (places : List (Option Key)) (n from : ℕ) → length places ≤ from + n → keys_in (part places n from) ≡ keys_in (drop from places)
-keys_of_part places zero from h =
-    let start : length places ≤ from = omega arith in
-    sym (ap keys_in (drop_of_length-le places start))
-keys_of_part places (suc n) from h = by_case (keys_of_part places n (suc from) (omega arith)) (cases_lt from (length places))
-  where
-    by_case : keys_in (part places n (suc from)) ≡ keys_in (drop (suc from) places) → (from < length places) ⊎ (length places ≤ from) → keys_in (part places (suc n) from) ≡ keys_in (drop from places)
-    by_case rest (inl below) =
-        keys_head (at_place places from) (part places n (suc from)) (drop (suc from) places) rest
-        ∙ sym (ap keys_in (drop-cons places from None below))
-    by_case rest (inr beyond) = none_past places (suc n) from beyond ∙ sym (ap keys_in (drop_of_length-le places beyond))
-
--- ---- the winners
-
--- a place has the least key of the slots below it, whose number doubles with each level
-won : (places : List (Option Key)) (half : ℕ) → ((i : ℕ) → 0 < i → i < half → IsWon places i) → (height place : ℕ) → 0 < place → (place + 1) * 2 ^ height ≤ half + half → at_place places place ≡ least_in (part places (2 ^ height) (place * 2 ^ height))
-won places half winners zero place above fits =
-    let start : place * 2 ^ 0 ≡ place = omega arith in
-    sym (ap (λ (from : ℕ). least_in (part places 1 from)) start ∙ of_one (at_place places place))
+-- the first place has the least key of all slots
+pub top_is_least : (places : List (Option Key)) (half : ℕ) → IsTournament places half → at_place None places 1 ≡ least_key (keys_in (drop half places))
+top_is_least places half t = top_sums None earlier_of least_in sums places half t.height t.half_is t.enough t.winners
   where
     of_one : (key : Option Key) → least_in (key ∷ []) ≡ key
     of_one None = refl
     of_one (Some k) = refl
-won places half winners (suc height) place above fits =
-    let w : ℕ = 2 ^ height in
-    let twice : 2 ^ suc height ≡ w + w = omega (arith, pow-suc 2 height) in
-    let one : 1 ≤ w = one-le-pow height 2 (omega arith) in
-    let fits2 : (place + 1) * (w + w) ≤ half + half = subst (λ (n : ℕ). (place + 1) * n ≤ half + half) twice fits in
-    let below : place < half = omega (arith, mul-le-mul_left (place + 1) one) in
-    let start : place * 2 ^ suc height ≡ (place + place) * w = omega (arith, ap (λ (n : ℕ). place * n) twice) in
-    let next : (place + place) * w + w ≡ (place + place + 1) * w = omega arith in
-    let first : at_place places (place + place) ≡ least_in (part places w ((place + place) * w)) = won places half winners height (place + place) (omega arith) (omega arith) in
-    let second : at_place places (place + place + 1) ≡ least_in (part places w ((place + place + 1) * w)) = won places half winners height (place + place + 1) (omega arith) (omega arith) in
-    winners place above below
-    ∙ (λ i. earlier_of (first i) (second i))
-    ∙ ap (λ (from : ℕ). earlier_of (least_in (part places w ((place + place) * w))) (least_in (part places w from))) (sym next)
-    ∙ sym (least_of_both (part places w ((place + place) * w)) (part places w ((place + place) * w + w)))
-    ∙ ap least_in (sym (part_of_both places w w ((place + place) * w)))
-    ∙ (λ i. least_in (part places (sym twice i) (sym start i)))
 
--- the first place has the least key of all slots
-pub top_is_least : (places : List (Option Key)) (half : ℕ) → IsTournament places half → at_place places 1 ≡ least_key (keys_in (drop half places))
-top_is_least places half t =
-    let start : 1 * 2 ^ t.height ≡ half = omega (arith, t.half_is) in
-    let number : 2 ^ t.height ≡ half = sym t.half_is in
-    let fits : (1 + 1) * 2 ^ t.height ≤ half + half = omega (arith, t.half_is) in
-    won places half t.winners t.height 1 (omega arith) fits
-    ∙ (λ i. least_in (part places (number i) (start i)))
-    ∙ ap least_key (keys_of_part places half half t.enough)
+    sums : IsSum None earlier_of least_in
+    sums = record { of_none = refl; of_one = of_one; of_both = least_of_both }
+
+-- ---- without keys
+
+abbrev pub no_key : Option Key
+no_key = None
+
+-- in an empty tournament nobody wins
+empty_at : (n i : ℕ) → at_place None (replicate n no_key) i ≡ None
+empty_at n i = by_case (cases_lt i n)
+  where
+    by_case : (i < n) ⊎ (n ≤ i) → at_place None (replicate n no_key) i ≡ None
+    by_case (inl below) = get_or-replicate n i no_key no_key below
+    by_case (inr beyond) =
+        let past : length (replicate n no_key) ≤ i = omega (arith, length-replicate n no_key) in
+        get_or_past (replicate n no_key) i no_key past
+
+pub empty_won : (n i : ℕ) → IsDecided None earlier_of (replicate n no_key) i
+empty_won n i = empty_at n i ∙ (λ j. earlier_of (sym (empty_at n (i + i)) j) (sym (empty_at n (i + i + 1)) j))
+
+pub empty_tournament : (half slots : ℕ) → (k : ℕ) × (half ≡ 2 ^ k) → slots ≤ half → half / 2 < max 1 slots → slots ≤ 2 ^ 32 → IsTournament (replicate (half + slots) no_key) half
+empty_tournament half slots (k, half_is) enough tight few =
+    let count : length (replicate (half + slots) no_key) ≡ half + slots = length-replicate (half + slots) no_key in
+    record {
+      height = k;
+      half_is = half_is;
+      few = few_places half slots (k, half_is) tight few;
+      from = omega arith;
+      enough = omega arith;
+      winners = λ i _ _. empty_won (half + slots) i;
+    }
+
+pub empty_slots : (half slots : ℕ) → drop half (replicate (half + slots) no_key) ≡ replicate slots no_key
+empty_slots half slots =
+    let rest : half + slots - half ≡ slots = omega arith in
+    drop-replicate half (half + slots) no_key ∙ ap (λ (n : ℕ). replicate n no_key) rest

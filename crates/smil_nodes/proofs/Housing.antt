@@ -162,6 +162,24 @@ row_free [] p own is lt = absurd (omega (arith, lt))
 row_free (e ∷ es) zero own is lt = is
 row_free (e ∷ es) (suc p) own is lt = row_free es p own is (omega (arith, lt))
 
+-- the home at a place, which is among the ends of a container
+pub record IsHoused (homes : List (Option Home)) (ends : List (List ChildEnd)) (place : ℕ) (home : Home) : Type 0 where
+  pub at : home_at homes place ≡ Some home
+  pub container : home.container < length ends
+  pub child : home.child < length (slice_index_or ends home.container [])
+
+-- a home that is read is so
+pub looked_up : (homes read : List (Option Home)) (ends : List (List ChildEnd)) (place : ℕ) (home : Home) → AreHoused homes ends → read ≡ homes → Some home ≡ home_at read place → IsHoused homes ends place home
+looked_up homes read ends place home are same found =
+    let at : home_at homes place ≡ Some home = ap (λ (hs : List (Option Home)). home_at hs place) (sym same) ∙ sym found in
+    let within = are place home at in
+    record { at = at; container = within.0; child = within.1 }
+
+-- the child is among the ends that are read there
+pub child_within : (homes : List (Option Home)) (ends : List (List ChildEnd)) (place : ℕ) (home : Home) (own : List ChildEnd) → IsHoused homes ends place home → own ≡ get_or ends home.container own → home.child < length own
+child_within homes ends place home own is read =
+    subst (λ (cs : List ChildEnd). home.child < length cs) (sym (row_free ends home.container own read is.container)) is.child
+
 -- those that are put in the place of others are as many
 count_at : (ends : List (List ChildEnd)) (p q : ℕ) (own new : List ChildEnd) → own ≡ get_or ends p own → p < length ends → length new ≡ length own → length (slice_index_or (set ends p new) q []) ≡ length (slice_index_or ends q [])
 count_at [] p q own new is lt same = absurd (omega (arith, lt))

@@ -18,7 +18,7 @@ use Rattle.smil_laws.proofs.Rounds.{find-serial}
 use Rattle.smil_graph.specs.Graph.{IsOrder}
 use Rattle.smil_element.specs.declared.endings.Ending.{Ending}
 use Rattle.smil_element.specs.Endings.{ending_by}
-use Rattle.smil_past.specs.Past.{Happened, front, history_of}
+use Rattle.smil_past.specs.Past.{MarkedHistory, front, history_of}
 use Rattle.smil_cells.specs.declared.plain.known.Row.{Row}
 use Rattle.smil_cells.specs.Plain.{interval_in}
 use Rattle.smil_cells.specs.Round.{AreOfElements}
@@ -260,7 +260,7 @@ children_unlisted nodes order old mid rank e distinct is lt at here implicit off
 
 -- ---- entries are taken in
 
-module _ (past : Happened) (from : ℕ) (order : List ℕ) (listed : ℕ → Bool) (ordered : IsOrdered past.document.nodes) (distinct : IsApart nat_eq order) (told : (s r : ℕ) → position (λ t. t == s) order ≡ Some r → listed r ≡ is_noted_by past.document.nodes past.log (drop from past.diary) s) where
+module _ (past : MarkedHistory) (from : ℕ) (order : List ℕ) (listed : ℕ → Bool) (ordered : IsOrdered past.document.nodes) (distinct : IsApart nat_eq order) (told : (s r : ℕ) → position (λ t. t == s) order ≡ Some r → listed r ≡ is_noted_by past.document.nodes past.log (drop from past.diary) s) where
   whole : up_to (front past from) ((front past from).diary ++ drop from past.diary) ≡ history_of past
   whole = ap (λ d. up_to (history_of past) d) (take-append-drop from past.diary)
 

@@ -1,5 +1,4 @@
 pub mod Best
-pub mod Climb
 pub mod Counting
 pub mod Listing
 pub mod Noted

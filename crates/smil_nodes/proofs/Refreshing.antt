@@ -7,7 +7,7 @@ use Rattle.smil_model.specs.declared.document.Node.{Node}
 use Rattle.smil_model.specs.document.Closure.{has}
 use Rattle.smil_model.specs.document.Valid as valid
 use Rattle.smil_graph.specs.Graph.{IsOrder, OrderedNodes}
-use Rattle.smil_past.specs.Past.{Happened}
+use Rattle.smil_past.specs.Past.{MarkedHistory}
 use Rattle.smil_nodes.specs.Agenda.{IsTaken}
 use Rattle.smil_nodes.specs.Noted.{AreNoted, NotesEntries, is_noted_by}
 use Rattle.smil_nodes.specs.Work.{is_later_reader}
@@ -22,7 +22,7 @@ pub differ_in : (nodes : List Node) (order : List ℕ) → valid.IsDistinct node
 differ_in nodes order distinct is = order_distinct nodes order (elements_distinct nodes distinct) is
 
 -- what the entries have listed
-module _ (graph : OrderedNodes) (past : Happened) (from : ℕ) (old new order : List ℕ) (kept : order ≡ graph.order) (same : graph.nodes ≡ past.document.nodes) (none : old ≡ []) (notes : NotesEntries graph past from old new) where
+module _ (graph : OrderedNodes) (past : MarkedHistory) (from : ℕ) (old new order : List ℕ) (kept : order ≡ graph.order) (same : graph.nodes ≡ past.document.nodes) (none : old ≡ []) (notes : NotesEntries graph past from old new) where
   noted : AreNoted order (is_noted_by past.document.nodes past.log (drop from past.diary)) [] new
   noted =
       subst (λ o. AreNoted order (is_noted_by past.document.nodes past.log (drop from past.diary)) o new) none

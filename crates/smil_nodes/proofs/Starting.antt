@@ -12,7 +12,7 @@ use Rattle.smil_laws.specs.Touched.{GivesSame, in_reaches, is_touched_by}
 use Rattle.smil_laws.proofs.TouchedStay.{leaves_untouched}
 use Rattle.smil_graph.specs.Graph.{IsOrder}
 use Rattle.smil_element.specs.Element.{coming_by}
-use Rattle.smil_past.specs.Past.{Happened, front, history_of}
+use Rattle.smil_past.specs.Past.{MarkedHistory, front, history_of}
 use Rattle.smil_cells.specs.declared.plain.known.Row.{Row}
 use Rattle.smil_cells.specs.Plain.{interval_in}
 use Rattle.smil_cells.specs.Round.{IsRowOf}
@@ -25,7 +25,7 @@ use Rattle.smil_nodes.proofs.Fixed.{current_elements, row_of_current}
 use Rattle.smil_nodes.proofs.Noted.{noted_reached, untouched}
 use Rattle.smil_nodes.proofs.Ranked.{element_of, found_place}
 
-module _ (past : Happened) (from : ℕ) (now : ℤ) (order : List ℕ) (rows : List Row) (listed : ℕ → Bool) (ordered : IsOrdered past.document.nodes) (is : IsOrder past.document.nodes order) (distinct : IsDistinct nat_eq order) (told : (s r : ℕ) → position (λ t. t == s) order ≡ Some r → listed r ≡ is_noted_by past.document.nodes past.log (drop from past.diary) s) where
+module _ (past : MarkedHistory) (from : ℕ) (now : ℤ) (order : List ℕ) (rows : List Row) (listed : ℕ → Bool) (ordered : IsOrdered past.document.nodes) (is : IsOrder past.document.nodes order) (distinct : IsDistinct nat_eq order) (told : (s r : ℕ) → position (λ t. t == s) order ≡ Some r → listed r ≡ is_noted_by past.document.nodes past.log (drop from past.diary) s) where
   whole : up_to (front past from) ((front past from).diary ++ drop from past.diary) ≡ history_of past
   whole = ap (λ d. up_to (history_of past) d) (take-append-drop from past.diary)
 

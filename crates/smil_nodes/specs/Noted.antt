@@ -10,7 +10,7 @@ use Rattle.smil_model.specs.document.Closure.{has}
 use Rattle.smil_model.specs.reach.Reach.{down_key, key_of, reads, subject_of}
 use Rattle.smil_laws.specs.Touched.{is_touched_from}
 use Rattle.smil_graph.specs.Graph.{OrderedNodes}
-use Rattle.smil_past.specs.Past.{Happened}
+use Rattle.smil_past.specs.Past.{MarkedHistory}
 
 -- an element itself, and what reads it; nothing for a serial of no element
 abbrev pub is_self_or_reader : List Node → ℕ → ℕ → Bool
@@ -39,6 +39,6 @@ NotesStep graph log step old new =
     AreNoted graph.order (is_noted_through graph.nodes (key_of log step) (subject_of log step)) old new
 
 -- what the entries from a place on have listed
-abbrev pub NotesEntries : OrderedNodes → Happened → ℕ → List ℕ → List ℕ → Type 0
+abbrev pub NotesEntries : OrderedNodes → MarkedHistory → ℕ → List ℕ → List ℕ → Type 0
 NotesEntries graph past from old new =
     AreNoted graph.order (is_noted_by graph.nodes past.log (drop from past.diary)) old new

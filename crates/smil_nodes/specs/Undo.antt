@@ -5,7 +5,7 @@ use Rattle.smil_model.specs.document.Closure.{has}
 use Rattle.smil_laws.specs.Near.{IsIntervalNear}
 use Rattle.smil_element.specs.declared.endings.Ending.{Ending}
 use Rattle.smil_cells.specs.declared.plain.known.Row.{Row}
-use Rattle.smil_nodes.specs.declared.undo.Noted.{Noted}
+use Rattle.smil_nodes.specs.declared.undo.Note.{Note}
 use Rattle.smil_nodes.specs.Endings.{KeptEnds, put_ending}
 
 -- a row in the place of another; nothing where there is none
@@ -18,7 +18,7 @@ abbrev pub row_back : List Row → Row → List Row
 row_back rows row = row_put rows row (position (λ (r : Row). r.serial == row.serial) rows)
 
 -- the rows put back from the last to the first
-abbrev pub rows_back : List Row → List Noted → List Row
+abbrev pub rows_back : List Row → List Note → List Row
 rows_back rows [] = rows
 rows_back rows (noted ∷ later) = row_back (rows_back rows later) noted.row
 
@@ -28,27 +28,27 @@ ending_put kept ending None = kept
 ending_put kept ending (Some place) = put_ending kept place ending
 
 -- an ending put for the element of its row
-abbrev pub ending_back : List Row → KeptEnds → Noted → KeptEnds
+abbrev pub ending_back : List Row → KeptEnds → Note → KeptEnds
 ending_back rows kept noted =
     ending_put kept noted.ending (position (λ (r : Row). r.serial == noted.row.serial) rows)
 
 -- the endings put back from the last to the first, by the places of the elements' rows
-abbrev pub ends_back : List Row → KeptEnds → List Noted → KeptEnds
+abbrev pub ends_back : List Row → KeptEnds → List Note → KeptEnds
 ends_back rows kept [] = kept
 ends_back rows kept (noted ∷ later) = ending_back rows (ends_back rows kept later) noted
 
 -- the numbers of each noted interval are near
-abbrev pub AreNearNotes : List Noted → Type 0
-AreNearNotes notes = AllByRecursion (λ (n : Noted). IfSome n.row.interval IsIntervalNear) notes
+abbrev pub AreNearNotes : List Note → Type 0
+AreNearNotes notes = AllByRecursion (λ (n : Note). IfSome n.row.interval IsIntervalNear) notes
 
 -- whether one of the notes is of the element
-abbrev pub has_row : List Noted → ℕ → Bool
-has_row notes serial = list_any (λ (n : Noted). n.row.serial == serial) notes
+abbrev pub has_row : List Note → ℕ → Bool
+has_row notes serial = list_any (λ (n : Note). n.row.serial == serial) notes
 
 -- each of the elements has one of the notes
-abbrev pub HaveRows : List ℕ → List Noted → Type 0
+abbrev pub HaveRows : List ℕ → List Note → Type 0
 HaveRows noted notes = (s : ℕ) → has noted s ≡ true → has_row notes s ≡ true
 
 -- a note is put behind the others, or none
-abbrev pub MayGrow : List Noted → Noted → List Noted → Type 0
+abbrev pub MayGrow : List Note → Note → List Note → Type 0
 MayGrow old note new = (new ≡ old) ⊎ (new ≡ old ++ note ∷ [])

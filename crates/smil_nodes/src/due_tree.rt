@@ -2,7 +2,8 @@
 
 ghost use Rattle.std.specs.Prelude.{◌≡◌, ℕ, ◌+◌, ◌/◌, ◌<◌, ◌≤◌, ◌^◌, None, IfOk, length, drop, replicate, slice_set};
 ghost use Rattle.smil_model.specs.happening.Keys.{least_key};
-ghost use Rattle.smil_nodes.specs.Slots.{at_place, earlier_of, keys_in, IsOff, IsWon};
+ghost use Rattle.smil_laws.specs.Tournaments.{at_place, IsDecided, IsOff};
+ghost use Rattle.smil_nodes.specs.Slots.{earlier_of, keys_in};
 
 use smil_due::comes_before;
 use smil_model::{Duplicate, Key};
@@ -79,8 +80,9 @@ fn decide_above(places: &mut [Option<Key>], half: usize, place: usize)
     requires above { 0 < place }
     requires half { half ≤ 2 ^ 32 }
     requires from { half ≤ length places.old }
-    requires off { (i : ℕ) → 0 < i → i < half → IsOff i (place / 2) → IsWon places.old i }
-    ensures won { (i : ℕ) → 0 < i → i < half → IsWon places.new i }
+    requires off { (i : ℕ) → 0 < i → i < half → IsOff i (place / 2)
+        → IsDecided None earlier_of places.old i }
+    ensures won { (i : ℕ) → 0 < i → i < half → IsDecided None earlier_of places.new i }
     ensures kept { drop half places.new ≡ drop half places.old }
 {
     let mut decided = place;
@@ -94,7 +96,7 @@ fn decide_above(places: &mut [Option<Key>], half: usize, place: usize)
 
 // The key at a place, if it has one; a place past the last one has none.
 fn at(places: &[Option<Key>], place: usize) -> Option<Key>
-    ensures { result ≡ at_place places.now place }
+    ensures { result ≡ at_place None places.now place }
 {
     match places.get(place) {
         Some(key) => *key,

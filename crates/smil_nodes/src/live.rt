@@ -12,7 +12,7 @@ ghost use Rattle.smil_cells.specs.declared.plain.known.Row.{Row as AnyRow};
 ghost use Rattle.smil_cells.specs.Round.{AreOfElements, IsTaken};
 ghost use Rattle.smil_cells.specs.Plain.{interval_in};
 ghost use Rattle.smil_nodes.specs.Endings.{AreKnown, IsEnded, KnowsEnds, nobody, put_ending};
-ghost use Rattle.smil_nodes.specs.Marked.{GoesBack, IsWhole};
+ghost use Rattle.smil_nodes.specs.Marked.{GoesBack, IsUpToDate};
 ghost use Rattle.smil_nodes.specs.Undo.{ending_back, row_back};
 ghost use Rattle.smil_nodes.specs.Work.{HasSame};
 
@@ -22,7 +22,7 @@ use super::readers::put_readers;
 use super::schedule::Schedule;
 use super::sources::Sources;
 use super::touched::{Network, note_touched};
-use super::undo::{Noted, Undo};
+use super::undo::{Note, Undo};
 use smil_cells::plain::known::Row;
 use smil_cells::{Cells, Since, Table};
 use smil_element::{
@@ -68,9 +68,9 @@ impl Drop for LiveTable {
 
 impl Table for LiveTable {
     ghost use Rattle.std.specs.Prelude.{true};
-    ghost use Rattle.smil_nodes.specs.Marked.{IsMarked, IsWhole, stay_whole};
+    ghost use Rattle.smil_nodes.specs.Marked.{IsMarked, IsUpToDate, stay_up_to_date};
 
-    ghost is_current = { λ t h now. IsWhole t.schedule t.endings h now };
+    ghost is_current = { λ t h now. IsUpToDate t.schedule t.endings h now };
 
     ghost is_marked = { λ t h now. IsMarked t.has_mark t.undo t.schedule t.endings h now };
 
@@ -160,7 +160,7 @@ impl Table for LiveTable {
         self.has_mark = false;
     }
 
-    ghost stays = { λ t h k m n same is. stay_whole t.schedule t.endings h k m n same is };
+    ghost stays = { λ t h k m n same is. stay_up_to_date t.schedule t.endings h k m n same is };
 }
 
 impl LiveTable {
@@ -175,7 +175,7 @@ impl LiveTable {
         requires of_elements { AreOfElements past.now.document.nodes self.old.schedule }
         requires known { AreKnown (history_of past.now) (interval_in self.old.schedule) nobody
             self.old.endings }
-        ensures current { OnOk result (IsWhole self.new.schedule self.new.endings
+        ensures current { OnOk result (IsUpToDate self.new.schedule self.new.endings
             (history_of past.now) moment) }
         ensures has_mark { self.new.has_mark ≡ self.old.has_mark }
         ensures counted { steps.old ≤ steps.new }
@@ -260,7 +260,7 @@ impl LiveTable {
         ensures has_mark { self.new.has_mark ≡ self.old.has_mark }
     {
         if self.has_mark {
-            self.undo.note(Noted {
+            self.undo.note(Note {
                 row: self.schedule.row(place),
                 ending: self.endings.ending(place),
             })?;
@@ -272,7 +272,7 @@ impl LiveTable {
 }
 
 // Puts back the row and the ending of an element; where it has no row nothing changes.
-fn put_back(schedule: &mut Schedule, endings: &mut Endings, noted: Noted)
+fn put_back(schedule: &mut Schedule, endings: &mut Endings, noted: Note)
     requires { IfSome noted.row.interval IsIntervalNear }
     ensures rows { schedule.new ≡ row_back schedule.old noted.row }
     ensures ends { endings.new ≡ ending_back schedule.old endings.old noted }

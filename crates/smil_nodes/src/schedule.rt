@@ -9,7 +9,7 @@ ghost use Rattle.smil_cells.specs.Rows.{empty_row};
 ghost use Rattle.smil_nodes.specs.Schedule.{ComesFirst, slot_of};
 
 use super::due_tree::DueTree;
-use smil_cells::plain::known::{Known, Row};
+use smil_cells::plain::known::{CurrentRows, Row};
 use smil_element::{Coming, Intervals};
 use smil_model::{Duplicate, Interval, Key};
 use smil_tree::Tree;
@@ -20,7 +20,7 @@ use std::marker::Model;
 /// -10^12 to 10^12, and what comes of it, with a tournament of the keys of all that comes; seen as
 /// the list of the rows.
 pub struct Schedule {
-    known: Known,
+    known: CurrentRows,
     /// Two slots a row: that of its begin or end, and that of its repeat.
     due: DueTree,
 }
@@ -73,7 +73,7 @@ impl Schedule {
         ensures { IfOk result (λ schedule. schedule ≡ map empty_row (elements tree.now.nodes)) }
     {
         tree.valid();
-        let known = Known::of(alloc, tree)?;
+        let known = CurrentRows::of(alloc, tree)?;
         let due = DueTree::new(alloc, 2 * known.rows().len())?;
         Ok(Schedule { known, due })
     }

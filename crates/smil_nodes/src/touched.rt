@@ -116,7 +116,8 @@ fn note_all(graph: &Graph, serials: &[u32], agenda: &mut Agenda) -> Result<(), A
 
 // Lists an element; a serial of no element is passed over.
 fn note(graph: &Graph, serial: u32, agenda: &mut Agenda) -> Result<(), AllocError>
-    ensures { OnOk result (AreNoted graph.now.order (λ (s : ℕ). serial == s) agenda.old agenda.new) }
+    ensures { OnOk result
+        (AreNoted graph.now.order (λ (s : ℕ). serial == s) agenda.old agenda.new) }
 {
     match graph.place_in_order(serial) {
         Some(rank) => agenda.put(rank),

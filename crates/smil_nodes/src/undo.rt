@@ -1,4 +1,4 @@
-//! What was before elements changed.
+//! Elements as they were before they changed, by which a table goes back to its mark.
 
 ghost use Rattle.std.specs.Prelude.{◌≡◌, [], ◌∷◌, ◌++◌, true, OnOk, IfSome, MatchOption};
 ghost use Rattle.smil_laws.specs.Near.{IsIntervalNear};
@@ -12,7 +12,7 @@ use std::marker::Model;
 
 /// The row of an element, and its ending, as they were before they changed.
 #[derive(Clone, Copy, Debug)]
-pub struct Noted {
+pub struct Note {
     pub row: Row,
     pub ending: Ending,
 }
@@ -21,17 +21,17 @@ pub struct Noted {
 /// them.
 #[derive(Drop)]
 pub struct Undo {
-    notes: Vec<Noted>,
+    notes: Vec<Note>,
     /// Elements that have a note here, whose later ones are not needed.
     noted: BTreeSet<u32>,
 }
 
 impl Model for Undo {
     ghost use Rattle.std.specs.Prelude.{List};
-    ghost use Rattle.smil_nodes.specs.declared.undo.Noted.{Noted as AnyNoted};
+    ghost use Rattle.smil_nodes.specs.declared.undo.Note.{Note as AnyNote};
     ghost use Rattle.smil_nodes.specs.Undo.{AreNearNotes, HaveRows};
 
-    ghost Value = { List AnyNoted };
+    ghost Value = { List AnyNote };
 
     ghost view = { λ a. a.notes.items };
 
@@ -51,7 +51,7 @@ impl Undo {
 
     /// Notes an element before it changes, unless it is noted already. It takes memory for each
     /// element once, and log n steps for n of them; where memory runs out it may be noted.
-    pub fn note(&mut self, noted: Noted) -> Result<(), AllocError>
+    pub fn note(&mut self, noted: Note) -> Result<(), AllocError>
         requires { IfSome noted.row.interval IsIntervalNear }
         ensures grown { MayGrow self.old noted self.new }
         ensures noted { OnOk result (has_row self.new noted.row.serial ≡ true) }
@@ -64,7 +64,7 @@ impl Undo {
     }
 
     /// Takes the element of the last change; None exactly where there is none. It takes no memory.
-    pub fn take_last(&mut self) -> Option<Noted>
+    pub fn take_last(&mut self) -> Option<Note>
         ensures last { MatchOption result (self.old ≡ []) (λ noted. self.old
             ≡ self.new ++ noted ∷ []) }
         ensures near { IfSome result (λ noted. IfSome noted.row.interval IsIntervalNear) }

@@ -30,7 +30,7 @@ use Rattle.smil_grammar.specs.Lists.{item_at, piece_at, items_from, few_items, p
 use Rattle.smil_grammar.specs.Values.{id_of, attribute_name_of, restart_default_of, fill_default_of, dur_of, time_of, count_of, repeat_dur_of, restart_of, fill_of, endsync_of, peers_of, higher_of, lower_of, kept_of, is_other_value, of_list, of_value, plain_value_of, value_of}
 use Rattle.smil_grammar.specs.Clock.{clock_within}
 use Rattle.smil_grammar.specs.Attributes.{attr_name_of, name_called, name_or, unnamed, is_other_name, has, kind_called, is_other_kind}
-use Rattle.smil_grammar.specs.Nodes.{is_space, is_of_kind, is_named, Written, attribute_at, attributes_at, with_written, Shape, shaped, shape_of, with_serial, shape_behind, saved_shape_of, repeats, kind_or, kind_of_shape, column_at, at_column, attribute_of, attr_of, attrs_from}
+use Rattle.smil_grammar.specs.Nodes.{is_space, is_of_kind, is_named, WrittenAttr, attribute_at, attributes_at, with_written, Shape, shaped, shape_of, with_serial, shape_behind, saved_shape_of, repeats, kind_or, kind_of_shape, column_at, at_column, attribute_of, attr_of, attrs_from}
 use Rattle.smil_outline.specs.Steps.{StandsWithin, AllWithin, IsInLine, IsNear}
 
 -- how long a text is that was cut into these pieces, and one more
@@ -161,7 +161,7 @@ FaultWithin n _ = Unit {0}
 column_near : (n place : ℕ) → place + 1 ≤ n → column_at place ≤ n
 column_near n place le = omega arith
 
-at_near : (n : ℕ) (w : Written) (r : Result Attr AttrFault) → StandsWithin n w → IfErr r (AttrPlace (length w.value + 1)) → IfErr (at_column w r) (FaultWithin (n + 2))
+at_near : (n : ℕ) (w : WrittenAttr) (r : Result Attr AttrFault) → StandsWithin n w → IfErr r (AttrPlace (length w.value + 1)) → IfErr (at_column w r) (FaultWithin (n + 2))
 at_near n w (Ok x) s h = tt
 at_near n w (Err attr_fault.UnknownAttribute) s h = column_near (n + 2) w.name_place (omega arith)
 at_near n w (Err attr_fault.UnsupportedName) s h = column_near (n + 2) w.name_place (omega arith)
@@ -170,7 +170,7 @@ at_near n w (Err (attr_fault.BadValue place)) s h = column_near (n + 2) (w.value
 at_near n w (Err attr_fault.TooManyItems) s h = column_near (n + 2) w.value_place (omega arith)
 at_near n w (Err attr_fault.Memory) s h = tt
 
-attrs_near : (n : ℕ) (in_seq : Bool) (k : Kind) (attrs : Attrs) (ws : List Written) → AllWithin n ws → IfErr (attrs_from in_seq k attrs ws) (FaultWithin (n + 2))
+attrs_near : (n : ℕ) (in_seq : Bool) (k : Kind) (attrs : Attrs) (ws : List WrittenAttr) → AllWithin n ws → IfErr (attrs_from in_seq k attrs ws) (FaultWithin (n + 2))
 attrs_near n in_seq k attrs [] h = tt
 attrs_near n in_seq k attrs (w ∷ ws) h =
     after (FaultWithin (n + 2)) (attr_of in_seq k w) (λ given. attrs_from in_seq k (with_attr attrs given) ws)
@@ -182,7 +182,7 @@ written_near n place lead value le =
     let spaces : prefix_len is_space lead ≤ length lead = prefix_len-le-length is_space lead in
     cond_both (ltb 0 (prefix_len is_space lead) && is_named (drop (prefix_len is_space lead) lead)) (Some (record { name = take (length (drop (prefix_len is_space lead) lead) - 1) (drop (prefix_len is_space lead) lead); name_place = place + prefix_len is_space lead; value = value; value_place = place + length lead + 1 })) None (λ r. IfSome r (StandsWithin n)) (λ e. record { name = omega arith; value = omega arith }) (λ e. tt)
 
-with_near : (n : ℕ) (w : Option Written) (ws : Option (List Written)) → IfSome w (StandsWithin n) → IfSome ws (AllWithin n) → IfSome (with_written w ws) (AllWithin n)
+with_near : (n : ℕ) (w : Option WrittenAttr) (ws : Option (List WrittenAttr)) → IfSome w (StandsWithin n) → IfSome ws (AllWithin n) → IfSome (with_written w ws) (AllWithin n)
 with_near n None None h k = tt
 with_near n None (Some ws) h k = tt
 with_near n (Some w) None h k = tt
@@ -199,7 +199,7 @@ attributes_near n place (lead ∷ value ∷ pieces) le =
 abbrev ShapeWithin : ℕ → Shape → Type 0
 ShapeWithin n shape = AllWithin n shape.attributes
 
-shaped_near : (n : ℕ) (word : List ℕ) (attributes : Option (List Written)) → IfSome attributes (AllWithin n) → IfSome (shaped word attributes) (ShapeWithin n)
+shaped_near : (n : ℕ) (word : List ℕ) (attributes : Option (List WrittenAttr)) → IfSome attributes (AllWithin n) → IfSome (shaped word attributes) (ShapeWithin n)
 shaped_near n word None h = tt
 shaped_near n word (Some attributes) h = cond_both _ (Some (record { kind = word; attributes = attributes })) None (λ r. IfSome r (ShapeWithin n)) (λ e. h) (λ e. tt)
 

@@ -4,19 +4,19 @@ use Rattle.std.specs.Prelude.{flat_map, slice_get}
 use Rattle.std.specs.List.{list_any, list_all}
 use Rattle.std.proofs.lemmas.Bool.{and_parts, or_parts, eq-eqb, eqb-true, ltb-true, cond_both}
 use Rattle.std.proofs.Math.Seq.{drop-cons}
-use Rattle.std.proofs.lemmas.List.{reverse-append, take_more, take-append-drop, take_at, take_all}
+use Rattle.std.proofs.lemmas.List.{reverse-append, take_more, take-append-drop, take_at}
 use Rattle.std.proofs.lemmas.Option.{get_or_from_slice_get, slice_get_within, slice_get-get_or}
 use Rattle.smil_model.specs.declared.document.Node.{Node}
 use Rattle.smil_model.specs.declared.document.Kind.{Kind}
 use Rattle.smil_model.specs.document.Document.{Document, upwards, node_at as node_with}
 use Rattle.smil_model.specs.document.Valid.{open_from, IsTreeFrom, IsTree, IsDistinct, IsValid, depth_of, kind_of, may_stand, agree_with, is_well_placed, has_fitting_attrs}
 use Rattle.smil_model.specs.document.Values.{is_seq_parent}
-use Rattle.smil_grammar.specs.Spellings.{Begins}
+use Rattle.smil_model.specs.document.Words.{Begins}
 use Rattle.smil_laws.proofs.Unreached.{absent_reverse}
 use Rattle.smil_outline.specs.Written.{line_text, lines_behind}
 use Rattle.smil_grammar.specs.Allowed.{IsAttrs}
 use Rattle.smil_grammar.specs.Outlines.{depth_among}
-use Rattle.smil_lexis.proofs.Growing.{begins_on}
+use Rattle.smil_model.proofs.Growing.{begins_by}
 use Rattle.smil_attrs.proofs.Kept.{attrs_anywhere}
 use Rattle.smil_outline.proofs.Fitting.{fits}
 
@@ -222,14 +222,5 @@ item_at all nodes i n same lt is = ap (λ (ns : List Node). slice_get ns i) (sym
 
 -- ---- what stands at the front
 
-front_of : (front text : List ℕ) → Begins front text → front ++ drop (length front) text ≡ text
-front_of front text h = ap (λ (xs : List ℕ). xs ++ drop (length front) text) (sym h) ∙ take-append-drop (length front) text
-
-pub begins_by : (front text more : List ℕ) → Begins front text → Begins text more → Begins front more
-begins_by front text more h k = begins_on front (drop (length front) text) more (subst (λ (xs : List ℕ). Begins xs more) (sym (front_of front text h)) k)
-
 pub begins_more : (front text new x : List ℕ) → Begins front text → new ≡ text ++ x → Begins front new
 begins_more front text new x h e = subst (Begins front) (sym e) (begins_by front text (text ++ x) h (take_at text x (length text) refl))
-
-pub begins_itself : (text : List ℕ) → Begins text text
-begins_itself text = take_all (length text) text (omega arith)

@@ -1,4 +1,4 @@
--- What a builder keeps.
+-- The open branch of an outline that is read, and what is kept of the lines before.
 use Rattle.std.specs.Prelude.{◌≡◌, ℕ, ◌≤◌, Bool, true, false, not, ◌||◌, ◌==◌, List, [], ◌∷◌, length, take, Option, Some, None, Ok, unwrap_or, option_map, slice_get, bytes_eq}
 use Rattle.std.specs.List.{list_any}
 use Rattle.smil_model.specs.declared.limits.TheConstants.{NODES, REFERENCES}

@@ -11,7 +11,7 @@ use Rattle.smil_model.specs.document.Valid.{references, references_among}
 use Rattle.smil_grammar.specs.declared.fault.NodeFault.{NodeFault}
 use Rattle.smil_grammar.specs.declared.fault.NodeFault.TheVariants.{Unsupported, UnknownAttribute, BadValue, TooManyItems}
 use Rattle.smil_grammar.specs.Results.{◌>>=◌}
-use Rattle.smil_grammar.specs.Nodes.{Written, Shape, is_space, kind_of_shape}
+use Rattle.smil_grammar.specs.Nodes.{WrittenAttr, Shape, is_space, kind_of_shape}
 use Rattle.smil_grammar.specs.Outlines.{Outline, unless, in_line, is_misplaced, is_bad_serial, has_id, attrs_in, last_of, with_node}
 
 -- a line without its leading spaces
@@ -53,11 +53,11 @@ node_kept outline depth (Ok node) = Ok (with_node outline depth node)
 node_kept outline depth (Err refusal) = Err refusal
 
 -- an attribute that stands within so many bytes
-pub record StandsWithin (bytes : ℕ) (written : Written) : Type 0 where
+pub record StandsWithin (bytes : ℕ) (written : WrittenAttr) : Type 0 where
   pub name : written.name_place ≤ bytes
   pub value : written.value_place + length written.value ≤ bytes
 
-abbrev pub AllWithin : ℕ → List Written → Type 0
+abbrev pub AllWithin : ℕ → List WrittenAttr → Type 0
 AllWithin bytes [] = Unit {0}
 AllWithin bytes (written ∷ others) = StandsWithin bytes written × AllWithin bytes others
 

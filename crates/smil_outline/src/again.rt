@@ -28,7 +28,8 @@ pub fn attrs_fit()
 /// rest. No line has a control character, so no carriage return either.
 pub fn outline_lines()
     ensures cut { (document : Document) → IsValid document
-        → slice_split (λ b. b == line_feed) (outline_text document.nodes) ≡ lines_from [] document.nodes
+        → slice_split (λ b. b == line_feed) (outline_text document.nodes)
+        ≡ lines_from [] document.nodes
         ++ [] ∷ [] }
     ensures shown { (document : Document) → IsValid document
         → All (All (λ (b : ℕ). space ≤ b)) (lines_from [] document.nodes) }

@@ -9,7 +9,7 @@ ghost use Rattle.smil_grammar.specs.Outlines.{has_id as has_id_among};
 use super::ids::Ids;
 use super::references::{in_list, references};
 use super::serials::SerialSet;
-use smil_model::listed::Listed;
+use smil_model::listed::GrowingList;
 use smil_model::{Attrs, Bytes, Node, REFERENCES};
 use std::alloc::{AllocError, Global};
 use std::marker::Model;
@@ -18,7 +18,7 @@ use std::marker::Model;
 #[derive(Drop)]
 pub struct Nodes {
     alloc: Global,
-    nodes: Listed<Node>,
+    nodes: GrowingList<Node>,
     ids: Ids,
     serials: SerialSet,
     references: usize,
@@ -53,7 +53,7 @@ impl Nodes {
     {
         Nodes {
             alloc,
-            nodes: Listed::new(alloc),
+            nodes: GrowingList::new(alloc),
             ids: Ids::new(alloc),
             serials: SerialSet::new(alloc),
             references: 0,

@@ -23,7 +23,7 @@ fn in_items(items: &Items) -> usize
     items.slice().iter().filter(|item| refers(*item)).count()
 }
 
-/// The same of a list that may be absent.
+/// How many items of a list refer to something; 0 where it is absent.
 #[tactic(auto, using(crate::proofs::Taken::counted))]
 pub fn in_list(items: &Option<Items>) -> usize
     ensures { result ≡ listed_references items.now }

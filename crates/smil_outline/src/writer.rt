@@ -3,9 +3,8 @@
 ghost use Rattle.std.specs.Prelude.{◌≡◌, ◌≤◌, ◌<◌, ◌++◌, ◌∷◌, [], false, length, take, IfOk, OnOk, OnErr};
 ghost use Rattle.smil_model.specs.declared.limits.TheConstants.{DEPTH};
 ghost use Rattle.smil_grammar.specs.Allowed.{IsAttrs};
-ghost use Rattle.smil_grammar.specs.Spellings.{Begins};
+ghost use Rattle.smil_model.specs.document.Words.{Begins, line_feed};
 ghost use Rattle.smil_grammar.specs.Outlines.{outline_text, saved_text};
-ghost use Rattle.smil_model.specs.document.Words.{line_feed};
 ghost use Rattle.smil_model.specs.document.Valid.{IsValid, open_from};
 ghost use Rattle.smil_outline.specs.Open.{upwards, is_node as is_node_with};
 ghost use Rattle.smil_outline.specs.Written.{line_text, nodes_text};
@@ -50,7 +49,7 @@ fn put_line(node: &Node, depth: usize, saved: bool, out: &mut Bytes) -> Result<(
 }
 
 // Appends the line of the next node, which goes on the branch below its parent.
-#[tactic(auto, using(smil_lexis::proofs::Growing::begins_on))]
+#[tactic(auto, using(smil_model::proofs::Growing::begins_on))]
 fn put_next(
     node: &Node,
     branch: &mut Branch,
@@ -74,7 +73,7 @@ fn put_next(
 }
 
 // Appends the lines of all nodes.
-#[tactic(auto, using(smil_lexis::proofs::Growing::begins_on))]
+#[tactic(auto, using(smil_model::proofs::Growing::begins_on))]
 fn put_nodes(doc: &Doc, saved: bool, out: &mut Bytes) -> Result<(), AllocError>
     requires { IsValid doc.now }
     ensures ok { OnOk result (out.new ≡ out.old ++ nodes_text saved doc.now.nodes) }
@@ -105,7 +104,7 @@ pub fn write_doc(doc: &Doc, out: &mut Bytes) -> Result<(), AllocError>
 }
 
 // Appends the header and the lines of all nodes.
-#[tactic(auto, using(smil_lexis::proofs::Growing::begins_on))]
+#[tactic(auto, using(smil_model::proofs::Growing::begins_on))]
 fn put_saved(doc: &Doc, out: &mut Bytes) -> Result<(), AllocError>
     requires { IsValid doc.now }
     ensures ok { OnOk result (out.new ≡ out.old ++ saved_text doc.now) }

@@ -3,7 +3,8 @@ use Rattle.std.proofs.Common.{◌≡◌, ◌≢◌, ◌==◌, true, ℕ, ◌+◌
 use Rattle.std.proofs.lemmas.Bool.{cases_lt, eq-eqb, eqb-true}
 use Rattle.std.proofs.lemmas.List.{get_or-drop, length-drop, take_rest}
 use Rattle.memchr.specs.Find.{NoneBefore}
-use Rattle.smil_outside.specs.Lines.{line_feed, HasNoLineFeed}
+use Rattle.smil_outside.specs.Lines.{HasNoLineFeed}
+use Rattle.smil_model.specs.document.Words.{line_feed}
 
 -- a place behind `from` is one of what is left from there on
 index_behind : (xs : List ℕ) (from k : ℕ) → from ≤ k → slice_index (drop from xs) (k - from) ≡ slice_index xs k

@@ -4,7 +4,8 @@ use Rattle.std.specs.Str.Lines.{strip_carriage_return, lines, lines_of_parts}
 use Rattle.std.proofs.lemmas.Bool.{ne_eqb}
 use Rattle.std.proofs.lemmas.List.{get_or_default}
 use Rattle.std.proofs.lemmas.List.Splits.{slice_split_at, slice_split_none, length-slice_split}
-use Rattle.smil_outside.specs.Lines.{line_feed, parts, whole_lines, whole_lines_of_parts, HasNoLineFeed, StartsWithLine, IsUnendedLine}
+use Rattle.smil_outside.specs.Lines.{parts, whole_lines, whole_lines_of_parts, HasNoLineFeed, StartsWithLine, IsUnendedLine}
+use Rattle.smil_model.specs.document.Words.{line_feed}
 
 -- the test of each byte of a text without a line feed
 passes_none : (text : List ℕ) → HasNoLineFeed text → All (λ byte. (byte == line_feed) ≡ false) text

@@ -11,7 +11,8 @@ use Rattle.smil_outside.specs.declared.line.Line.TheVariants.{Bytes, LongLine}
 use Rattle.smil_outside.specs.declared.line.Ending.TheVariants as ending
 use Rattle.smil_outside.specs.declared.scan.Scan.{Scan}
 use Rattle.smil_outside.specs.declared.scan.Stop.TheVariants.{LineFeed, InputEnd}
-use Rattle.smil_outside.specs.Lines.{line_feed, HasNoLineFeed, StartsWithLine, IsUnendedLine}
+use Rattle.smil_outside.specs.Lines.{HasNoLineFeed, StartsWithLine, IsUnendedLine}
+use Rattle.smil_model.specs.document.Words.{line_feed}
 use Rattle.smil_outside.specs.Reading.{Reading, Reads, within_limit}
 use Rattle.smil_outside.specs.Scan.{Scans, Stops, IsCutFront}
 use Rattle.smil_outside.proofs.ScanLemmas.{HasNoLineFeed-append}

@@ -6,10 +6,11 @@ use Rattle.std.proofs.lemmas.List.{append-nil, length-append, length-take, lengt
 use Rattle.std.specs.Io.KnownBytes.{Consumes, Keeps}
 use Rattle.smil_outside.specs.declared.line.TheConstants.{INPUT_BYTES}
 use Rattle.smil_model.specs.declared.limits.TheConstants.{LINE_BYTES}
-use Rattle.smil_outside.specs.Lines.{line_feed, HasNoLineFeed}
+use Rattle.smil_outside.specs.Lines.{HasNoLineFeed}
+use Rattle.smil_model.specs.document.Words.{line_feed}
 use Rattle.smil_outside.specs.Reading.{within_limit}
 use Rattle.smil_outside.specs.Scan.{Scans, Stops, IsCutFront}
-use Rattle.smil_outside.specs.Window.{Held}
+use Rattle.smil_outside.specs.Window.{HeldBytes}
 use Rattle.smil_outside.specs.declared.scan.Stop.{Stop}
 use Rattle.std.proofs.KnownBytes.{Consumes-nil, Consumes-trans, Consumes-kept}
 
@@ -111,10 +112,10 @@ Scanning-keeps old bytes before taken is_long scanned rest now after s keeps = r
 }
 
 -- the front of a line that is too long is dropped
-let_go_front : (old bytes new : List ℕ) (before taken : ℕ) (is_long : Bool) (scanned : ℕ) (rest now : Option (List ℕ)) →
+drop_front_front : (old bytes new : List ℕ) (before taken : ℕ) (is_long : Bool) (scanned : ℕ) (rest now : Option (List ℕ)) →
     Scanning old bytes before taken is_long scanned rest now → HasNoLineFeed bytes →
     LINE_BYTES + 1 < length bytes → new ≡ drop (length bytes - 1) bytes → Scanning old new before taken true (length new) rest now
-let_go_front old bytes new before taken is_long scanned rest now s none long is =
+drop_front_front old bytes new before taken is_long scanned rest now s none long is =
     let n = length bytes - 1 in
     let size : length new ≡ 1 = ap length is ∙ length-drop n bytes ∙ omega arith in
     record {
@@ -138,9 +139,9 @@ let_go_front old bytes new before taken is_long scanned rest now s none long is 
     }
 
 -- nothing is dropped
-let_go_nothing : (old bytes new : List ℕ) (before taken : ℕ) (is_long : Bool) (scanned : ℕ) (rest now : Option (List ℕ)) →
+drop_front_nothing : (old bytes new : List ℕ) (before taken : ℕ) (is_long : Bool) (scanned : ℕ) (rest now : Option (List ℕ)) →
     Scanning old bytes before taken is_long scanned rest now → HasNoLineFeed bytes → new ≡ bytes → Scanning old new before taken is_long (length new) rest now
-let_go_nothing old bytes new before taken is_long scanned rest now s none is = record {
+drop_front_nothing old bytes new before taken is_long scanned rest now s none is = record {
   came = s.came;
   dropped = s.dropped;
   took = s.took;
@@ -152,18 +153,18 @@ let_go_nothing old bytes new before taken is_long scanned rest now s none is = r
   searched = subst HasNoLineFeed (sym is) none;
 }
 
-pub Scanning-let_go : (old : List ℕ) (held new : Held) (before taken : ℕ) (is_long went : Bool) (scanned : ℕ) (rest now : Option (List ℕ)) →
+pub Scanning-drop_front : (old : List ℕ) (held new : HeldBytes) (before taken : ℕ) (is_long went : Bool) (scanned : ℕ) (rest now : Option (List ℕ)) →
     Scanning old held.bytes before taken is_long scanned rest now → HasNoLineFeed held.bytes →
     MatchBool went ((LINE_BYTES + 1 < length held.bytes) × (new ≡ record { line = []; bytes = drop (length held.bytes - 1) held.bytes })) ((length held.bytes ≤ LINE_BYTES + 1) × (new ≡ held)) →
     Scanning old new.bytes before taken (is_long || went) (length new.bytes) rest now
-Scanning-let_go old held new before taken true false scanned rest now s none is =
-    let_go_nothing old held.bytes new.bytes before taken true scanned rest now s none (ap (λ h. h.bytes) is.1)
-Scanning-let_go old held new before taken false false scanned rest now s none is =
-    let_go_nothing old held.bytes new.bytes before taken false scanned rest now s none (ap (λ h. h.bytes) is.1)
-Scanning-let_go old held new before taken true true scanned rest now s none is =
-    let_go_front old held.bytes new.bytes before taken true scanned rest now s none is.0 (ap (λ h. h.bytes) is.1)
-Scanning-let_go old held new before taken false true scanned rest now s none is =
-    let_go_front old held.bytes new.bytes before taken false scanned rest now s none is.0 (ap (λ h. h.bytes) is.1)
+Scanning-drop_front old held new before taken true false scanned rest now s none is =
+    drop_front_nothing old held.bytes new.bytes before taken true scanned rest now s none (ap (λ h. h.bytes) is.1)
+Scanning-drop_front old held new before taken false false scanned rest now s none is =
+    drop_front_nothing old held.bytes new.bytes before taken false scanned rest now s none (ap (λ h. h.bytes) is.1)
+Scanning-drop_front old held new before taken true true scanned rest now s none is =
+    drop_front_front old held.bytes new.bytes before taken true scanned rest now s none is.0 (ap (λ h. h.bytes) is.1)
+Scanning-drop_front old held new before taken false true scanned rest now s none is =
+    drop_front_front old held.bytes new.bytes before taken false scanned rest now s none is.0 (ap (λ h. h.bytes) is.1)
 
 -- where a scan stops
 pub Scanning-stops : (old bytes : List ℕ) (before taken : ℕ) (is_long : Bool) (scanned : ℕ) (rest now : Option (List ℕ)) (stop : Stop) →

@@ -3,9 +3,7 @@
 use Rattle.std.specs.Prelude.{◌≡◌, ◌≢◌, ℕ, ◌<◌, ◌==◌, List, [], ◌∷◌, ◌++◌, length, slice_index, EachIndex}
 use Rattle.std.specs.List.{slice_split}
 use Rattle.std.specs.Str.Lines.{strip_carriage_return}
-
-abbrev pub line_feed : ℕ
-line_feed = 10
+use Rattle.smil_model.specs.document.Words.{line_feed}
 
 -- the parts of a text between its line feeds, one more than line feeds
 abbrev pub parts : List ℕ → List (List ℕ)

@@ -6,7 +6,8 @@ use Rattle.smil_model.specs.declared.limits.TheConstants.{LINE_BYTES}
 use Rattle.smil_outside.specs.declared.scan.Scan.{Scan}
 use Rattle.smil_outside.specs.declared.scan.Stop.{Stop}
 use Rattle.smil_outside.specs.declared.scan.Stop.TheVariants.{LineFeed, InputEnd, InputTooLong, Fault}
-use Rattle.smil_outside.specs.Lines.{line_feed, HasNoLineFeed}
+use Rattle.smil_outside.specs.Lines.{HasNoLineFeed}
+use Rattle.smil_model.specs.document.Words.{line_feed}
 use Rattle.smil_outside.specs.Reading.{within_limit}
 
 -- where a scan stopped

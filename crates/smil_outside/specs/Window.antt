@@ -4,12 +4,12 @@ use Rattle.smil_outside.specs.declared.window.TheConstants.{WINDOW_BYTES}
 use Rattle.smil_outside.specs.declared.window.Window.TheInside.{Inside}
 
 -- the line that was cut last, and the bytes behind it
-pub record Held : Type 0 where
+pub record HeldBytes : Type 0 where
   pub line : List ℕ
   pub bytes : List ℕ
 
 -- these parts of the buffer
-abbrev pub held_in : Inside → Held
+abbrev pub held_in : Inside → HeldBytes
 held_in w = record {
   line = slice_range w.buffer.items w.line w.line_end;
   bytes = slice_range w.buffer.items w.start w.end;

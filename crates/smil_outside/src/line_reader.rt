@@ -139,7 +139,8 @@ impl LineReader {
     // Ends the reading, and drops what is pending.
     fn close(&mut self, ending: Ending) -> Line
         ensures answer { result ≡ answer_of ending }
-        ensures after { self.new ≡ record self.old { pending = []; line = []; closed = Some ending } }
+        ensures after { self.new
+            ≡ record self.old { pending = []; line = []; closed = Some ending } }
     {
         let len = self.window.bytes().len();
         self.window.cut(0, len);

@@ -77,7 +77,8 @@ impl Sink for MemSink {
             ⊎ (self.old.room < length self.old.taken + length piece.now)) }
         ensures whole { IfOk result (λ n. n ≡ length piece.now) }
         ensures ok { OnOk result (self.new
-            ≡ record self.old { taken = self.old.taken ++ piece.now; plan = called self.old.plan }) }
+            ≡ record self.old
+            { taken = self.old.taken ++ piece.now; plan = called self.old.plan }) }
         ensures err { OnErr result (self.new
             ≡ record self.old { plan = faulted (called self.old.plan) }) }
     {

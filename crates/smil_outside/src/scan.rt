@@ -58,7 +58,7 @@ pub(crate) fn seek_line_end<S: Source>(
         if *taken > INPUT_BYTES {
             break Stop::InputTooLong;
         }
-        is_long |= let_go(window);
+        is_long |= drop_front(window);
         scanned = window.bytes().len();
         match window.fill(source, INPUT_BYTES - *taken) {
             Err(Failed) => break Stop::Fault,
@@ -71,7 +71,7 @@ pub(crate) fn seek_line_end<S: Source>(
 
 // Drops the front of a line that is too long, and says whether it did. The last byte stays: it
 // may be the carriage return before the line feed.
-fn let_go(window: &mut Window) -> bool
+fn drop_front(window: &mut Window) -> bool
     ensures { let len = length window.old.bytes in MatchBool result
         ((LINE_BYTES + 1 < len)
         × (window.new ≡ record { line = []; bytes = drop (len - 1) window.old.bytes }))

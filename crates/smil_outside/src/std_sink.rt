@@ -20,9 +20,9 @@ pub struct StdSink<W: Write + Drop> {
 }
 
 impl<W: Write + Drop> Model for StdSink<W> {
-    ghost use Rattle.smil_outside.specs.Std.{Counted};
+    ghost use Rattle.smil_outside.specs.Std.{CountedBytes};
 
-    ghost Value = { Counted };
+    ghost Value = { CountedBytes };
 
     ghost view = { λ s. record { bytes = W.contents s.writer; faults = s.faults } };
 }
@@ -45,7 +45,8 @@ impl<W: Write + Drop> Sink for StdSink<W> {
         ensures bound { IfOk result (λ n. n ≤ length piece.now) }
         ensures progress { IfOk result (λ n. 0 < length piece.now → 0 < n) }
         ensures bytes { WriteAppends None None result piece.now }
-        ensures taken { IfOk result (λ n. Appends self.old.bytes self.new.bytes (take n piece.now)) }
+        ensures taken { IfOk result
+            (λ n. Appends self.old.bytes self.new.bytes (take n piece.now)) }
         ensures part { OnErr result ((n : ℕ) × (n ≤ length piece.now)
             × Appends self.old.bytes self.new.bytes (take n piece.now)) }
         ensures cause { OnErr result (HasRisen self.old.faults self.new.faults) }

@@ -18,9 +18,9 @@ pub struct StdSource<R: Read + Drop> {
 }
 
 impl<R: Read + Drop> Model for StdSource<R> {
-    ghost use Rattle.smil_outside.specs.Std.{Counted};
+    ghost use Rattle.smil_outside.specs.Std.{CountedBytes};
 
-    ghost Value = { Counted };
+    ghost Value = { CountedBytes };
 
     ghost view = { λ s. record { bytes = R.remaining s.reader; faults = s.faults } };
 }

@@ -3,7 +3,7 @@
 ghost use Rattle.std.specs.Prelude.{◌≡◌, ◌≢◌, ℕ, ◌+◌, ◌-◌, ◌<◌, ◌≤◌, List, [], ◌++◌, length, take, drop, slice_index, slice_range, EachIndex, MatchOption, IsOk, IfOk, OnErr};
 ghost use Rattle.std.specs.Io.KnownBytes.{Consumes, IsAtEnd, Keeps};
 ghost use Rattle.smil_outside.specs.Faults.{HasRisen};
-ghost use Rattle.smil_outside.specs.Lines.{line_feed};
+ghost use Rattle.smil_model.specs.document.Words.{line_feed};
 
 use crate::failed::Failed;
 use crate::source::Source;
@@ -29,9 +29,9 @@ pub(crate) struct Window {
 }
 
 impl Model for Window {
-    ghost use Rattle.smil_outside.specs.Window.{held_in, Held, IsWindow};
+    ghost use Rattle.smil_outside.specs.Window.{held_in, HeldBytes, IsWindow};
 
-    ghost Value = { Held };
+    ghost Value = { HeldBytes };
 
     ghost view = { held_in };
 

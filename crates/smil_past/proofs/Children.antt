@@ -9,7 +9,7 @@ use Rattle.smil_model.specs.document.Document.{elements, is_element, has_serial,
 use Rattle.smil_model.specs.diary.Lawful.{has_element}
 use Rattle.smil_model.specs.diary.Plays.{is_birth_under}
 use Rattle.smil_laws.proofs.Lineages.{swap_eqb}
-use Rattle.smil_past.specs.declared.plays.played.Played.{Played}
+use Rattle.smil_past.specs.declared.plays.played.PlayFacts.{PlayFacts}
 use Rattle.smil_past.specs.Rows.{row_of, AreTurned, AreChildrenTaken}
 use Rattle.smil_past.specs.Followed.{is_death_under, child_after}
 use Rattle.smil_past.proofs.Rows.{found_any}
@@ -43,12 +43,12 @@ any_child nodes who s (n ∷ ns) = by_test (n.serial == s) (is_element n) (has_s
 is_child : (nodes : List Node) (who s : ℕ) → has_element nodes s ≡ true → list_any (λ (n : Node). n.serial == s) (time_children nodes who) ≡ has_serial who (time_parent nodes s)
 is_child nodes who s q = any_child nodes who s nodes ∙ ap (λ t. t && has_serial who (time_parent nodes s)) (sym (found_any s (elements nodes)) ∙ q)
 
-same_map : (o : Option Played) → o ≡ option_map (child_after false false) o
+same_map : (o : Option PlayFacts) → o ≡ option_map (child_after false false) o
 same_map None = refl
 same_map (Some r) = refl
 
 -- a step of `who` by which its time children are born, or are left
-pub children_taken : (nodes : List Node) (step : Step) (who : ℕ) (birth : Bool) (old new : List (ℕ × Played)) → ((p : Node) → is_birth_under (Some p) step ≡ (birth && (who == p.serial))) → ((p : Node) → is_death_under (Some p) step ≡ (not birth && (who == p.serial))) → AreTurned (time_children nodes who) birth old new → AreChildrenTaken nodes step old new
+pub children_taken : (nodes : List Node) (step : Step) (who : ℕ) (birth : Bool) (old new : List (ℕ × PlayFacts)) → ((p : Node) → is_birth_under (Some p) step ≡ (birth && (who == p.serial))) → ((p : Node) → is_death_under (Some p) step ≡ (not birth && (who == p.serial))) → AreTurned (time_children nodes who) birth old new → AreChildrenTaken nodes step old new
 children_taken nodes step who birth old new born left are = record {
   same_keys = are.same_keys;
   rows = λ s known.
@@ -56,7 +56,7 @@ children_taken nodes step who birth old new born left are = record {
       ∙ under (time_parent nodes s) (row_of old s);
 }
   where
-    by_both : (b t : Bool) (o : Option Played) → cond t (option_map (child_after b (not b)) o) o ≡ option_map (child_after (b && t) (not b && t)) o
+    by_both : (b t : Bool) (o : Option PlayFacts) → cond t (option_map (child_after b (not b)) o) o ≡ option_map (child_after (b && t) (not b && t)) o
     by_both true true o = refl
     by_both false true o = refl
     by_both true false o = same_map o
@@ -66,7 +66,7 @@ children_taken nodes step who birth old new born left are = record {
     swap a b true q = ap (λ k. a == k) (eqb-true b a q) ∙ ap (λ k. k == a) (sym (eqb-true b a q)) ∙ q
     swap a b false q = swap_eqb b a q
 
-    under : (o : Option Node) (r : Option Played) → cond (has_serial who o) (option_map (child_after birth (not birth)) r) r ≡ option_map (child_after (is_birth_under o step) (is_death_under o step)) r
+    under : (o : Option Node) (r : Option PlayFacts) → cond (has_serial who o) (option_map (child_after birth (not birth)) r) r ≡ option_map (child_after (is_birth_under o step) (is_death_under o step)) r
     under None r = same_map r
     under (Some p) r =
         ap (λ t. cond t (option_map (child_after birth (not birth)) r) r) (sym (swap who p.serial (p.serial == who) refl))

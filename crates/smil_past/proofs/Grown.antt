@@ -19,7 +19,7 @@ use Rattle.smil_model.specs.interval.Current.{length_of, length_after, media_len
 use Rattle.smil_laws.specs.Cut.{IsNamedBelow, NamesBelow}
 use Rattle.smil_laws.proofs.Longer.{get_longer}
 use Rattle.smil_laws.proofs.Cutting.{names_weaker}
-use Rattle.smil_past.specs.declared.plays.played.Played.{Played}
+use Rattle.smil_past.specs.declared.plays.played.PlayFacts.{PlayFacts}
 use Rattle.smil_past.specs.Played.{played, all_played}
 use Rattle.smil_instances.specs.Laws.{IsSameHeard}
 use Rattle.smil_instances.specs.SettledTimes.{instances_of, row_of, settled_rows}
@@ -73,7 +73,7 @@ module _ (document : Document) (log more : List LogEntry) (diary : List Entry) (
   played_same : (s : ℕ) → played (history_of document (log ++ more) diary) s ≡ played (history_of document log diary) s
   played_same s = ap (λ t. record (played (history_of document log diary) s) { length = t }) (media_same s)
 
-  abbrev play_row : List LogEntry → Node → ℕ × Played
+  abbrev play_row : List LogEntry → Node → ℕ × PlayFacts
   play_row l e = (e.serial, played (history_of document l diary) e.serial)
 
   plays_same : (es : List Node) → map (play_row (log ++ more)) es ≡ map (play_row log) es

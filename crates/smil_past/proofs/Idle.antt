@@ -9,7 +9,7 @@ use Rattle.smil_model.specs.document.Document.{elements, serials}
 use Rattle.smil_model.specs.diary.Diary.{History, up_to, birth, since_birth, is_alive, deferral, deferral_after}
 use Rattle.smil_model.specs.diary.Plays.{passed, passed_after}
 use Rattle.smil_model.specs.shown.Views.{deferred_begin}
-use Rattle.smil_past.specs.declared.plays.played.Played.{Played}
+use Rattle.smil_past.specs.declared.plays.played.PlayFacts.{PlayFacts}
 use Rattle.smil_past.specs.declared.plays.TheConstants.{IDLE}
 use Rattle.smil_past.specs.Played.{all_played, played}
 use Rattle.smil_past.specs.Rows.{idle_row, keys_of}
@@ -39,7 +39,7 @@ module _ (h : History) where
   passed_none : (s : ℕ) → passed fresh s ≡ None
   passed_none s = ap (fold (λ before (x : Entry). passed_after s before x.step) None) (none_since s)
 
-  abbrev row_by : Option ℤ → Option ℤ → Played
+  abbrev row_by : Option ℤ → Option ℤ → PlayFacts
   row_by deferred passed = record { begun = None; shown_begun = None; first = pos 0; start = pos 0; first_finished = None; last_finished = None; shown_deferred = deferred; passed = passed; length = Unresolved }
 
   played_idle : (s : ℕ) → IDLE ≡ played fresh s

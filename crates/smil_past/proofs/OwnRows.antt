@@ -17,7 +17,7 @@ use Rattle.smil_model.specs.diary.Plays.{greater_begin}
 use Rattle.smil_model.specs.interval.Current.{logged_length}
 use Rattle.smil_instances.specs.Contribution.{AreClocksAt}
 use Rattle.smil_past.specs.declared.plays.played.PastInterval.{PastInterval}
-use Rattle.smil_past.specs.declared.plays.played.Played.{Played}
+use Rattle.smil_past.specs.declared.plays.played.PlayFacts.{PlayFacts}
 use Rattle.smil_model.specs.reach.Reach.{subject, logged_subject, subject_of}
 use Rattle.smil_past.specs.Rows.{row_of, IsPut, IsOwnTaken}
 use Rattle.smil_past.specs.Followed.{began_row, deferred_row, finished_row, finished_interval, told_by, own_after}
@@ -29,48 +29,48 @@ or_none (Some x) = refl
 abbrev at : ℤ → Step → Entry
 at m step = record { moment = m; step = step }
 
-abbrev began_by : History → ℤ → ℕ → Played → ℤ → Bool → Played
+abbrev began_by : History → ℤ → ℕ → PlayFacts → ℤ → Bool → PlayFacts
 began_by h m s r b t = record { begun = cond t (Some b) r.begun; shown_begun = cond t (Some (to_document h s b m)) r.shown_begun; first = cond t (start_of h s m b) r.first; start = cond t (start_of h s m b) r.start; first_finished = option_or r.first_finished None; last_finished = r.last_finished; shown_deferred = cond t None r.shown_deferred; passed = r.passed; length = r.length }
 
-abbrev finished_by : History → ℤ → ℕ → Played → ℤ → Bool → Bool → Played
+abbrev finished_by : History → ℤ → ℕ → PlayFacts → ℤ → Bool → Bool → PlayFacts
 finished_by h m s r v cut t = record { begun = cond t None r.begun; shown_begun = cond t None r.shown_begun; first = r.first; start = r.start; first_finished = option_or r.first_finished (cond t (finished_interval h s m v cut r.begun r.shown_begun) None); last_finished = option_or (cond t (finished_interval h s m v cut r.begun r.shown_begun) None) r.last_finished; shown_deferred = cond t None r.shown_deferred; passed = r.passed; length = r.length }
 
-abbrev deferred_by : History → ℤ → ℕ → Played → ℤ → Bool → Played
+abbrev deferred_by : History → ℤ → ℕ → PlayFacts → ℤ → Bool → PlayFacts
 deferred_by h m s r b t = record { begun = r.begun; shown_begun = r.shown_begun; first = r.first; start = r.start; first_finished = option_or r.first_finished None; last_finished = r.last_finished; shown_deferred = cond t (Some (to_document h s b m)) r.shown_deferred; passed = r.passed; length = r.length }
 
-fix : (r : Played) → record r { first_finished = option_or r.first_finished None } ≡ r
+fix : (r : PlayFacts) → record r { first_finished = option_or r.first_finished None } ≡ r
 fix r = ap (λ o. record r { first_finished = o }) (or_none r.first_finished)
 
 -- of the element itself
-pub own_began : (h : History) (e : Entry) (who w : ℕ) (b : ℤ) (r : Played) → e.step ≡ Began w b → subject_of h.log e.step ≡ Some who → began_row h who e.moment b r ≡ own_after h e who r
+pub own_began : (h : History) (e : Entry) (who w : ℕ) (b : ℤ) (r : PlayFacts) → e.step ≡ Began w b → subject_of h.log e.step ≡ Some who → began_row h who e.moment b r ≡ own_after h e who r
 own_began h e who w b r is on =
     let one : Some w ≡ Some who = sym (ap (subject_of h.log) is) ∙ on in
     let same : w ≡ who = cc in
     subst (λ (st : Step). began_row h who e.moment b r ≡ own_after h (at e.moment st) who r) (sym is)
     (sym (ap (λ o. record (began_row h who e.moment b r) { first_finished = o }) (or_none r.first_finished)) ∙ sym (ap (began_by h e.moment who r b) (eq-eqb w who same)))
 
-pub own_ended : (h : History) (e : Entry) (who w : ℕ) (b : ℤ) (r : Played) → e.step ≡ Ended w b → subject_of h.log e.step ≡ Some who → finished_row h who e.moment b false r ≡ own_after h e who r
+pub own_ended : (h : History) (e : Entry) (who w : ℕ) (b : ℤ) (r : PlayFacts) → e.step ≡ Ended w b → subject_of h.log e.step ≡ Some who → finished_row h who e.moment b false r ≡ own_after h e who r
 own_ended h e who w b r is on =
     let one : Some w ≡ Some who = sym (ap (subject_of h.log) is) ∙ on in
     let same : w ≡ who = cc in
     subst (λ (st : Step). finished_row h who e.moment b false r ≡ own_after h (at e.moment st) who r) (sym is)
     (sym (ap (finished_by h e.moment who r b false) (eq-eqb w who same)))
 
-pub own_cut : (h : History) (e : Entry) (who w : ℕ) (r : Played) → e.step ≡ Cut w → subject_of h.log e.step ≡ Some who → finished_row h who e.moment (outer h who e.moment) true r ≡ own_after h e who r
+pub own_cut : (h : History) (e : Entry) (who w : ℕ) (r : PlayFacts) → e.step ≡ Cut w → subject_of h.log e.step ≡ Some who → finished_row h who e.moment (outer h who e.moment) true r ≡ own_after h e who r
 own_cut h e who w r is on =
     let one : Some w ≡ Some who = sym (ap (subject_of h.log) is) ∙ on in
     let same : w ≡ who = cc in
     subst (λ (st : Step). finished_row h who e.moment (outer h who e.moment) true r ≡ own_after h (at e.moment st) who r) (sym is)
     (sym (ap (finished_by h e.moment who r (outer h who e.moment) true) (eq-eqb w who same)))
 
-pub own_deferred : (h : History) (e : Entry) (who w : ℕ) (b : ℤ) (r : Played) → e.step ≡ Deferred w b → subject_of h.log e.step ≡ Some who → record r { shown_deferred = Some (to_document h who b e.moment) } ≡ own_after h e who r
+pub own_deferred : (h : History) (e : Entry) (who w : ℕ) (b : ℤ) (r : PlayFacts) → e.step ≡ Deferred w b → subject_of h.log e.step ≡ Some who → record r { shown_deferred = Some (to_document h who b e.moment) } ≡ own_after h e who r
 own_deferred h e who w b r is on =
     let one : Some w ≡ Some who = sym (ap (subject_of h.log) is) ∙ on in
     let same : w ≡ who = cc in
     subst (λ (st : Step). record r { shown_deferred = Some (to_document h who b e.moment) } ≡ own_after h (at e.moment st) who r) (sym is)
     (sym (ap (λ o. record r { shown_deferred = Some (to_document h who b e.moment); first_finished = o }) (or_none r.first_finished)) ∙ sym (ap (deferred_by h e.moment who r b) (eq-eqb w who same)))
 
-quiet_step : (h : History) (m : ℤ) (s : ℕ) (r : Played) (step : Step) → ((w : ℕ) → subject_of h.log step ≡ Some w → w == s ≡ false) → own_after h (at m step) s r ≡ r
+quiet_step : (h : History) (m : ℤ) (s : ℕ) (r : PlayFacts) (step : Step) → ((w : ℕ) → subject_of h.log step ≡ Some w → w == s ≡ false) → own_after h (at m step) s r ≡ r
 quiet_step h m s r (Began w b) far = ap (began_by h m s r b) (far w refl) ∙ fix r
 quiet_step h m s r (Repeated w b) far = ap (λ t. record { begun = r.begun; shown_begun = r.shown_begun; first = r.first; start = cond t b r.start; first_finished = option_or r.first_finished None; last_finished = r.last_finished; shown_deferred = r.shown_deferred; passed = r.passed; length = r.length }) (far w refl) ∙ fix r
 quiet_step h m s r (Ended w b) far = ap (finished_by h m s r b false) (far w refl) ∙ fix r
@@ -92,15 +92,15 @@ quiet_step h m s r (Logged place) far =
         by_what (Media who length) off = ap (λ t. unwrap_or (cond t (Some (At length)) (Some r.length)) Unresolved) (off who refl)
         by_what (Key key) off = refl
 
-pub quiet : (h : History) (y : Entry) (s : ℕ) (r : Played) → ((w : ℕ) → subject_of h.log y.step ≡ Some w → w == s ≡ false) → own_after h y s r ≡ r
+pub quiet : (h : History) (y : Entry) (s : ℕ) (r : PlayFacts) → ((w : ℕ) → subject_of h.log y.step ≡ Some w → w == s ≡ false) → own_after h y s r ≡ r
 quiet h y s r far = quiet_step h y.moment s r y.step far
 
-quiet_map : (h : History) (y : Entry) (s : ℕ) (o : Option Played) → ((w : ℕ) → subject_of h.log y.step ≡ Some w → w == s ≡ false) → o ≡ option_map (own_after h y s) o
+quiet_map : (h : History) (y : Entry) (s : ℕ) (o : Option PlayFacts) → ((w : ℕ) → subject_of h.log y.step ≡ Some w → w == s ≡ false) → o ≡ option_map (own_after h y s) o
 quiet_map h y s None far = refl
 quiet_map h y s (Some r) far = ap Some (sym (quiet h y s r far))
 
 -- no element
-pub own_nobody : (h : History) (y : Entry) (rows : List (ℕ × Played)) → subject_of h.log y.step ≡ None → IsOwnTaken h y rows rows
+pub own_nobody : (h : History) (y : Entry) (rows : List (ℕ × PlayFacts)) → subject_of h.log y.step ≡ None → IsOwnTaken h y rows rows
 own_nobody h y rows none = record { same_keys = refl; rows = λ s. quiet_map h y s (row_of rows s) (λ w some. (let never : None ≡ Some w = sym none ∙ some in cc)) }
 
 module _ (h : History) (y : Entry) (who : ℕ) (on : subject_of h.log y.step ≡ Some who) where
@@ -108,7 +108,7 @@ module _ (h : History) (y : Entry) (who : ℕ) (on : subject_of h.log y.step ≡
   away s off w some = let one : Some who ≡ Some w = sym on ∙ some in let same : who ≡ w = cc in ap (λ k. k == s) (sym same) ∙ off
 
   -- an element with no row
-  pub own_unknown : (rows : List (ℕ × Played)) → row_of rows who ≡ None → IsOwnTaken h y rows rows
+  pub own_unknown : (rows : List (ℕ × PlayFacts)) → row_of rows who ≡ None → IsOwnTaken h y rows rows
   own_unknown rows none = record { same_keys = refl; rows = λ s. by_test s (who == s) refl }
     where
       by_test : (s : ℕ) (t : Bool) → who == s ≡ t → row_of rows s ≡ option_map (own_after h y s) (row_of rows s)
@@ -117,34 +117,34 @@ module _ (h : History) (y : Entry) (who : ℕ) (on : subject_of h.log y.step ≡
           gone ∙ sym (ap (option_map (own_after h y s)) gone)
       by_test s false e = quiet_map h y s (row_of rows s) (away s e)
 
-  pub own_put : (old new : List (ℕ × Played)) (row result : Played) → row_of old who ≡ Some row → result ≡ own_after h y who row → IsPut who result old new → IsOwnTaken h y old new
+  pub own_put : (old new : List (ℕ × PlayFacts)) (row result : PlayFacts) → row_of old who ≡ Some row → result ≡ own_after h y who row → IsPut who result old new → IsOwnTaken h y old new
   own_put old new row result had is put = record { same_keys = put.same_keys; rows = λ s. put.rows s ∙ by_test s (who == s) refl }
     where
-      by_test : (s : ℕ) (t : Bool) → who == s ≡ t → cond t (option_map (λ (r : Played). result) (row_of old s)) (row_of old s) ≡ option_map (own_after h y s) (row_of old s)
+      by_test : (s : ℕ) (t : Bool) → who == s ≡ t → cond t (option_map (λ (r : PlayFacts). result) (row_of old s)) (row_of old s) ≡ option_map (own_after h y s) (row_of old s)
       by_test s true e =
           let same : who ≡ s = eqb-true who s e in
           let here : row_of old s ≡ Some row = ap (row_of old) (sym same) ∙ had in
-          ap (option_map (λ (r : Played). result)) here ∙ ap Some is ∙ ap (λ k. Some (own_after h y k row)) same ∙ sym (ap (option_map (own_after h y s)) here)
+          ap (option_map (λ (r : PlayFacts). result)) here ∙ ap Some is ∙ ap (λ k. Some (own_after h y k row)) same ∙ sym (ap (option_map (own_after h y s)) here)
       by_test s false e = quiet_map h y s (row_of old s) (away s e)
 
 -- ---- by numbers as they are passed
 
-pub read_began : (h : History) (clocks : List NodeClock) (e : Entry) (who w : ℕ) (b m' b' : ℤ) (r result : Played) → m' ≡ e.moment → b' ≡ b → ((k : History) → AreClocksAt k clocks m' → result ≡ began_row k who m' b' r) → AreClocksAt h clocks e.moment → e.step ≡ Began w b → subject_of h.log e.step ≡ Some who → result ≡ own_after h e who r
+pub read_began : (h : History) (clocks : List NodeClock) (e : Entry) (who w : ℕ) (b m' b' : ℤ) (r result : PlayFacts) → m' ≡ e.moment → b' ≡ b → ((k : History) → AreClocksAt k clocks m' → result ≡ began_row k who m' b' r) → AreClocksAt h clocks e.moment → e.step ≡ Began w b → subject_of h.log e.step ≡ Some who → result ≡ own_after h e who r
 read_began h clocks e who w b m' b' r result at_m at_b got are is on =
     got h (subst (AreClocksAt h clocks) (sym at_m) are) ∙ ap (λ m. began_row h who m b' r) at_m ∙ ap (λ v. began_row h who e.moment v r) at_b
     ∙ own_began h e who w b r is on
 
-pub read_ended : (h : History) (clocks : List NodeClock) (e : Entry) (who w : ℕ) (b m' b' : ℤ) (r result : Played) → m' ≡ e.moment → b' ≡ b → ((k : History) → AreClocksAt k clocks m' → result ≡ finished_row k who m' b' false r) → AreClocksAt h clocks e.moment → e.step ≡ Ended w b → subject_of h.log e.step ≡ Some who → result ≡ own_after h e who r
+pub read_ended : (h : History) (clocks : List NodeClock) (e : Entry) (who w : ℕ) (b m' b' : ℤ) (r result : PlayFacts) → m' ≡ e.moment → b' ≡ b → ((k : History) → AreClocksAt k clocks m' → result ≡ finished_row k who m' b' false r) → AreClocksAt h clocks e.moment → e.step ≡ Ended w b → subject_of h.log e.step ≡ Some who → result ≡ own_after h e who r
 read_ended h clocks e who w b m' b' r result at_m at_b got are is on =
     got h (subst (AreClocksAt h clocks) (sym at_m) are) ∙ ap (λ m. finished_row h who m b' false r) at_m ∙ ap (λ v. finished_row h who e.moment v false r) at_b
     ∙ own_ended h e who w b r is on
 
-pub read_cut : (h : History) (clocks : List NodeClock) (e : Entry) (who w : ℕ) (m' b' : ℤ) (r result : Played) → m' ≡ e.moment → b' ≡ outer h who m' → ((k : History) → AreClocksAt k clocks m' → result ≡ finished_row k who m' b' true r) → AreClocksAt h clocks e.moment → e.step ≡ Cut w → subject_of h.log e.step ≡ Some who → result ≡ own_after h e who r
+pub read_cut : (h : History) (clocks : List NodeClock) (e : Entry) (who w : ℕ) (m' b' : ℤ) (r result : PlayFacts) → m' ≡ e.moment → b' ≡ outer h who m' → ((k : History) → AreClocksAt k clocks m' → result ≡ finished_row k who m' b' true r) → AreClocksAt h clocks e.moment → e.step ≡ Cut w → subject_of h.log e.step ≡ Some who → result ≡ own_after h e who r
 read_cut h clocks e who w m' b' r result at_m at_b got are is on =
     got h (subst (AreClocksAt h clocks) (sym at_m) are) ∙ ap (λ v. finished_row h who m' v true r) at_b ∙ ap (λ m. finished_row h who m (outer h who m) true r) at_m
     ∙ own_cut h e who w r is on
 
-pub read_deferred : (h : History) (clocks : List NodeClock) (e : Entry) (who w : ℕ) (b m' b' : ℤ) (r result : Played) → m' ≡ e.moment → b' ≡ b → ((k : History) → AreClocksAt k clocks m' → result ≡ deferred_row k who m' b' r) → AreClocksAt h clocks e.moment → e.step ≡ Deferred w b → subject_of h.log e.step ≡ Some who → result ≡ own_after h e who r
+pub read_deferred : (h : History) (clocks : List NodeClock) (e : Entry) (who w : ℕ) (b m' b' : ℤ) (r result : PlayFacts) → m' ≡ e.moment → b' ≡ b → ((k : History) → AreClocksAt k clocks m' → result ≡ deferred_row k who m' b' r) → AreClocksAt h clocks e.moment → e.step ≡ Deferred w b → subject_of h.log e.step ≡ Some who → result ≡ own_after h e who r
 read_deferred h clocks e who w b m' b' r result at_m at_b got are is on =
     got h (subst (AreClocksAt h clocks) (sym at_m) are) ∙ ap (λ m. deferred_row h who m b' r) at_m ∙ ap (λ v. deferred_row h who e.moment v r) at_b
     ∙ own_deferred h e who w b r is on

@@ -9,11 +9,11 @@ use Rattle.smil_model.specs.document.Valid.{IsDistinct}
 use Rattle.smil_model.specs.reach.Reach.{is_option}
 use Rattle.smil_tree.proofs.Holding.{same_test}
 use Rattle.smil_instances.specs.Spread.{IsIndex}
-use Rattle.smil_past.specs.declared.plays.played.Played.{Played}
+use Rattle.smil_past.specs.declared.plays.played.PlayFacts.{PlayFacts}
 use Rattle.smil_past.specs.Rows.{row_of, keys_of, IsPut}
 
 abbrev pub Row : Type 0
-Row = ℕ × Played
+Row = ℕ × PlayFacts
 
 abbrev is_of : ℕ → Row → Bool
 is_of s row = row.0 == s
@@ -44,29 +44,29 @@ cons_row s x xs = by_test (x.0 == s)
     by_test true = refl
     by_test false = refl
 
-pub set_keys : (who : ℕ) (r : Played) (xs : List Row) (k : ℕ) → IsFirst who xs k → keys_of (set xs k (who, r)) ≡ keys_of xs
+pub set_keys : (who : ℕ) (r : PlayFacts) (xs : List Row) (k : ℕ) → IsFirst who xs k → keys_of (set xs k (who, r)) ≡ keys_of xs
 set_keys who r [] k is = cc
 set_keys who r (x ∷ xs) zero is = ap (λ n. n ∷ keys_of xs) (sym (eqb-true x.0 who is))
 set_keys who r (x ∷ xs) (suc k) is = ap (λ ns. x.0 ∷ ns) (set_keys who r xs k is.1)
 
-abbrev put_at : ℕ → Played → ℕ → Option Played → Option Played
-put_at who r s o = cond (who == s) (option_map (λ (q : Played). r) o) o
+abbrev put_at : ℕ → PlayFacts → ℕ → Option PlayFacts → Option PlayFacts
+put_at who r s o = cond (who == s) (option_map (λ (q : PlayFacts). r) o) o
 
-pub set_row : (who : ℕ) (r : Played) (xs : List Row) (k : ℕ) (s : ℕ) → IsFirst who xs k → row_of (set xs k (who, r)) s ≡ put_at who r s (row_of xs s)
+pub set_row : (who : ℕ) (r : PlayFacts) (xs : List Row) (k : ℕ) (s : ℕ) → IsFirst who xs k → row_of (set xs k (who, r)) s ≡ put_at who r s (row_of xs s)
 set_row who r [] k s is = elim is [ ]
 set_row who r (x ∷ xs) zero s is =
     cons_row s (who, r) xs ∙ by_test (who == s)
     ∙ ap (λ n. put_at who r s (cond (n == s) (Some x.1) (row_of xs s))) (sym (eqb-true x.0 who is))
     ∙ ap (put_at who r s) (sym (cons_row s x xs))
   where
-    by_test : (t : Bool) → cond t (Some r) (row_of xs s) ≡ cond t (option_map (λ (q : Played). r) (cond t (Some x.1) (row_of xs s))) (cond t (Some x.1) (row_of xs s))
+    by_test : (t : Bool) → cond t (Some r) (row_of xs s) ≡ cond t (option_map (λ (q : PlayFacts). r) (cond t (Some x.1) (row_of xs s))) (cond t (Some x.1) (row_of xs s))
     by_test true = refl
     by_test false = refl
 set_row who r (x ∷ xs) (suc k) s is =
     cons_row s x (set xs k (who, r)) ∙ by_test (x.0 == s) (who == s) refl refl (set_row who r xs k s is.1)
     ∙ ap (put_at who r s) (sym (cons_row s x xs))
   where
-    by_test : (t u : Bool) → x.0 == s ≡ t → who == s ≡ u → row_of (set xs k (who, r)) s ≡ cond u (option_map (λ (q : Played). r) (row_of xs s)) (row_of xs s) → cond t (Some x.1) (row_of (set xs k (who, r)) s) ≡ cond u (option_map (λ (q : Played). r) (cond t (Some x.1) (row_of xs s))) (cond t (Some x.1) (row_of xs s))
+    by_test : (t u : Bool) → x.0 == s ≡ t → who == s ≡ u → row_of (set xs k (who, r)) s ≡ cond u (option_map (λ (q : PlayFacts). r) (row_of xs s)) (row_of xs s) → cond t (Some x.1) (row_of (set xs k (who, r)) s) ≡ cond u (option_map (λ (q : PlayFacts). r) (cond t (Some x.1) (row_of xs s))) (cond t (Some x.1) (row_of xs s))
     by_test true true e f more =
         let one : x.0 ≡ who = eqb-true x.0 s e ∙ sym (eqb-true who s f) in
         let never : true ≡ false = sym (eq-eqb x.0 who one) ∙ is.0 in
@@ -108,7 +108,7 @@ keys_indexed old new index same is = subst (λ (keys : List ℕ). IsIndex keys i
 
 -- ---- rows of nodes
 
-pub row_map : (f : ℕ → Played) (ns : List Node) (s : ℕ) → row_of (map (λ (e : Node). (e.serial, f e.serial)) ns) s ≡ cond (list_any (λ (n : Node). n.serial == s) ns) (Some (f s)) None
+pub row_map : (f : ℕ → PlayFacts) (ns : List Node) (s : ℕ) → row_of (map (λ (e : Node). (e.serial, f e.serial)) ns) s ≡ cond (list_any (λ (n : Node). n.serial == s) ns) (Some (f s)) None
 row_map f [] s = refl
 row_map f (n ∷ ns) s =
     cons_row s (n.serial, f n.serial) (map (λ (e : Node). (e.serial, f e.serial)) ns)
@@ -119,7 +119,7 @@ row_map f (n ∷ ns) s =
     by_test false e more = more
 
 -- and by the node that is found
-pub row_of_found : (f : ℕ → Played) (ns : List Node) (s : ℕ) → row_of (map (λ (e : Node). (e.serial, f e.serial)) ns) s ≡ option_map (λ (e : Node). f e.serial) (find (λ (n : Node). n.serial == s) ns)
+pub row_of_found : (f : ℕ → PlayFacts) (ns : List Node) (s : ℕ) → row_of (map (λ (e : Node). (e.serial, f e.serial)) ns) s ≡ option_map (λ (e : Node). f e.serial) (find (λ (n : Node). n.serial == s) ns)
 row_of_found f [] s = refl
 row_of_found f (n ∷ ns) s = by_test (n.serial == s) (row_of_found f ns s)
   where
@@ -149,10 +149,10 @@ any_filter s (n ∷ ns) q =
     by_test false here more = more
 
 -- rows of the elements of distinct nodes, by what they have for each
-abbrev Has : (ℕ → Played) → List Node → List Row → Type 0
+abbrev Has : (ℕ → PlayFacts) → List Node → List Row → Type 0
 Has g es xs = (s : ℕ) → list_any (λ (n : Node). n.serial == s) es ≡ true → row_of xs s ≡ Some (g s)
 
-pub rows_are : (g : ℕ → Played) (ns : List Node) (xs : List Row) → IsDistinct ns → keys_of xs ≡ map (λ (n : Node). n.serial) (filter is_element ns) → Has g (filter is_element ns) xs → xs ≡ map (λ (e : Node). (e.serial, g e.serial)) (filter is_element ns)
+pub rows_are : (g : ℕ → PlayFacts) (ns : List Node) (xs : List Row) → IsDistinct ns → keys_of xs ≡ map (λ (n : Node). n.serial) (filter is_element ns) → Has g (filter is_element ns) xs → xs ≡ map (λ (e : Node). (e.serial, g e.serial)) (filter is_element ns)
 rows_are g [] [] distinct keys has = refl
 rows_are g [] (x ∷ xs) distinct keys has = cc
 rows_are g (n ∷ ns) xs distinct keys has = by_test (is_element n) xs keys has (λ zs. rows_are g ns zs distinct.1)
@@ -191,14 +191,14 @@ rows_are g (n ∷ ns) xs distinct keys has = by_test (is_element n) xs keys has 
 
 -- ---- rows that are put
 
-pub put_none : (who : ℕ) (r : Played) (rows : List Row) → row_of rows who ≡ None → IsPut who r rows rows
+pub put_none : (who : ℕ) (r : PlayFacts) (rows : List Row) → row_of rows who ≡ None → IsPut who r rows rows
 put_none who r rows none = record { same_keys = refl; rows = λ s. by_test s (who == s) refl }
   where
-    by_test : (s : ℕ) (t : Bool) → who == s ≡ t → row_of rows s ≡ cond t (option_map (λ (q : Played). r) (row_of rows s)) (row_of rows s)
+    by_test : (s : ℕ) (t : Bool) → who == s ≡ t → row_of rows s ≡ cond t (option_map (λ (q : PlayFacts). r) (row_of rows s)) (row_of rows s)
     by_test s true e =
         let gone : row_of rows s ≡ None = ap (row_of rows) (sym (eqb-true who s e)) ∙ none in
-        gone ∙ sym (ap (option_map (λ (q : Played). r)) gone)
+        gone ∙ sym (ap (option_map (λ (q : PlayFacts). r)) gone)
     by_test s false e = refl
 
-pub put_set : (who : ℕ) (r : Played) (rows : List Row) (k : ℕ) → IsFirst who rows k → IsPut who r rows (set rows k (who, r))
+pub put_set : (who : ℕ) (r : PlayFacts) (rows : List Row) (k : ℕ) → IsFirst who rows k → IsPut who r rows (set rows k (who, r))
 put_set who r rows k is = record { same_keys = set_keys who r rows k is; rows = λ s. set_row who r rows k s is }

@@ -12,7 +12,7 @@ use Rattle.smil_laws.proofs.Lists.{take-more_at}
 use Rattle.smil_tree.proofs.KinLists.{each_left}
 use Rattle.smil_past.specs.declared.chronicle.Chronicle.{Chronicle}
 use Rattle.smil_past.specs.declared.readings.Readings.{Readings}
-use Rattle.smil_past.specs.Past.{Happened, IsPossible, MayFollow, at_mark, unmarked}
+use Rattle.smil_past.specs.Past.{MarkedHistory, IsPossible, MayFollow, at_mark, unmarked}
 use Rattle.smil_past.specs.Readings.{Holds}
 use Rattle.smil_past.specs.Chronicle.{BacksUp, EndsAtMark, HoldsAt, Lags, LagsIfAny, Tells, TellsNothing, reach}
 use Rattle.smil_past.proofs.Fronts.{follows_at, possible_before}
@@ -235,13 +235,13 @@ module _ (document : Document) (log : List LogEntry) (diary : List Entry) (secon
         (subst (λ l. Holds document l c.book c.readings) (sym log_is) (backs.lags c here).tells)
 
 -- what has happened is then what had at the mark
-pub went_back : (document : Document) (log less : List LogEntry) (diary fewer : List Entry) (marked none : Option (ℕ × ℕ)) (now : Happened) (mark other : ℕ × ℕ) → record { document = document; log = log; diary = diary; marked = marked } ≡ now → marked ≡ Some mark → now.marked ≡ Some other → less ≡ take mark.0 log → fewer ≡ take mark.1 diary → none ≡ None
+pub went_back : (document : Document) (log less : List LogEntry) (diary fewer : List Entry) (marked none : Option (ℕ × ℕ)) (now : MarkedHistory) (mark other : ℕ × ℕ) → record { document = document; log = log; diary = diary; marked = marked } ≡ now → marked ≡ Some mark → now.marked ≡ Some other → less ≡ take mark.0 log → fewer ≡ take mark.1 diary → none ≡ None
     → record { document = document; log = less; diary = fewer; marked = none } ≡ at_mark now other
 went_back document log less diary fewer marked none now mark other view is stands cut few gone =
-    let both : Some mark ≡ Some other = sym is ∙ ap (λ (h : Happened). h.marked) view ∙ stands in
+    let both : Some mark ≡ Some other = sym is ∙ ap (λ (h : MarkedHistory). h.marked) view ∙ stands in
     let same : mark ≡ other = cc in
     ap (λ l. record { document = document; log = l; diary = fewer; marked = none }) cut
     ∙ ap (λ ds. record { document = document; log = take mark.0 log; diary = ds; marked = none }) few
     ∙ ap (λ m. record { document = document; log = take mark.0 log; diary = take mark.1 diary; marked = m }) gone
-    ∙ ap (λ (h : Happened). at_mark h mark) view
+    ∙ ap (λ (h : MarkedHistory). at_mark h mark) view
     ∙ ap (at_mark now) same

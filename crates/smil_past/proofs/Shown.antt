@@ -12,7 +12,7 @@ use Rattle.smil_model.specs.document.Document.{time_parent}
 use Rattle.smil_model.specs.diary.Diary.{History, active_after, is_active, with_entry}
 use Rattle.smil_model.specs.diary.Lawful.{IsLawful}
 use Rattle.smil_model.specs.diary.Clocks.{outer}
-use Rattle.smil_model.specs.diary.Plays.{Mark, Finished, Plays, finish_with, play_after, is_birth_under, plays, first_of}
+use Rattle.smil_model.specs.diary.Plays.{Mark, FinishedInterval, Plays, finish_with, play_after, is_birth_under, plays, first_of}
 use Rattle.smil_model.specs.shown.Views.{document_value}
 use Rattle.smil_stretch.proofs.Moments.{EachUntil}
 use Rattle.smil_past.specs.Played.{past_interval}
@@ -119,7 +119,7 @@ abbrev pub IsMarked : ℤ → Option Mark → Type 0
 IsMarked m None = Unit {0}
 IsMarked m (Some k) = int_le k.moment m ≡ true
 
-pub record IsUntil (m : ℤ) (f : Finished) : Type 0 where
+pub record IsUntil (m : ℤ) (f : FinishedInterval) : Type 0 where
   pub begin : int_le f.begin.moment m ≡ true
   pub finish : int_le f.finish.moment m ≡ true
 
@@ -127,11 +127,11 @@ pub record AreUntil (m : ℤ) (b : Plays) : Type 0 where
   pub present : IsMarked m b.present
   pub finished : AllByRecursion (IsUntil m) b.finished
 
-each_more : (m : ℤ) (fs : List Finished) (f : Finished) → AllByRecursion (IsUntil m) fs → IsUntil m f → AllByRecursion (IsUntil m) (fs ++ f ∷ [])
+each_more : (m : ℤ) (fs : List FinishedInterval) (f : FinishedInterval) → AllByRecursion (IsUntil m) fs → IsUntil m f → AllByRecursion (IsUntil m) (fs ++ f ∷ [])
 each_more m [] f each is = (is, tt)
 each_more m (g ∷ gs) f each is = (each.0, each_more m gs f each.1 is)
 
-finish_until : (m : ℤ) (o : Option Mark) (k : Mark) (cut : Bool) (fs : List Finished) → IsMarked m o → int_le k.moment m ≡ true → AllByRecursion (IsUntil m) fs → AllByRecursion (IsUntil m) (finish_with o k cut fs)
+finish_until : (m : ℤ) (o : Option Mark) (k : Mark) (cut : Bool) (fs : List FinishedInterval) → IsMarked m o → int_le k.moment m ≡ true → AllByRecursion (IsUntil m) fs → AllByRecursion (IsUntil m) (finish_with o k cut fs)
 finish_until m None k cut fs is le each = each
 finish_until m (Some b) k cut fs is le each = each_more m fs _ each (record { begin = is; finish = le })
 
@@ -179,20 +179,20 @@ module _ (h : History) (y : Entry) (s : ℕ) where
   pub mark_with : (k : Mark) → int_le k.moment y.moment ≡ true → document_value (with_entry h y) s k ≡ document_value h s k
   mark_with k le = document_with h y s k.value k.moment le
 
-  pub past_with : (f : Finished) → IsUntil y.moment f → past_interval (with_entry h y) s f ≡ past_interval h s f
+  pub past_with : (f : FinishedInterval) → IsUntil y.moment f → past_interval (with_entry h y) s f ≡ past_interval h s f
   past_with f is =
       ap (λ v. record { begin = f.begin.value; finish = f.finish.value; shown_begin = v; shown_finish = document_value (with_entry h y) s f.finish; was_cut = f.was_cut }) (mark_with f.begin is.begin)
       ∙ ap (λ v. record { begin = f.begin.value; finish = f.finish.value; shown_begin = document_value h s f.begin; shown_finish = v; was_cut = f.was_cut }) (mark_with f.finish is.finish)
 
-  pub first_with : (fs : List Finished) → AllByRecursion (IsUntil y.moment) fs → option_map (past_interval (with_entry h y) s) (first_of fs) ≡ option_map (past_interval h s) (first_of fs)
+  pub first_with : (fs : List FinishedInterval) → AllByRecursion (IsUntil y.moment) fs → option_map (past_interval (with_entry h y) s) (first_of fs) ≡ option_map (past_interval h s) (first_of fs)
   first_with [] each = refl
   first_with (f ∷ fs) each = ap Some (past_with f each.0)
 
-  last_from : (o : Option Finished) (fs : List Finished) → option_map (past_interval (with_entry h y) s) o ≡ option_map (past_interval h s) o → AllByRecursion (IsUntil y.moment) fs → option_map (past_interval (with_entry h y) s) (last_or o fs) ≡ option_map (past_interval h s) (last_or o fs)
+  last_from : (o : Option FinishedInterval) (fs : List FinishedInterval) → option_map (past_interval (with_entry h y) s) o ≡ option_map (past_interval h s) o → AllByRecursion (IsUntil y.moment) fs → option_map (past_interval (with_entry h y) s) (last_or o fs) ≡ option_map (past_interval h s) (last_or o fs)
   last_from o [] q each = q
   last_from o (f ∷ fs) q each = last_from (Some f) fs (ap Some (past_with f each.0)) each.1
 
-  pub last_with : (fs : List Finished) → AllByRecursion (IsUntil y.moment) fs → option_map (past_interval (with_entry h y) s) (last_or None fs) ≡ option_map (past_interval h s) (last_or None fs)
+  pub last_with : (fs : List FinishedInterval) → AllByRecursion (IsUntil y.moment) fs → option_map (past_interval (with_entry h y) s) (last_or None fs) ≡ option_map (past_interval h s) (last_or None fs)
   last_with fs each = last_from None fs refl each
 
 -- ---- the first and the last of one more

@@ -17,7 +17,7 @@ use Rattle.smil_model.specs.document.Document.{time_parent}
 use Rattle.smil_model.specs.diary.Diary.{History, active_after, is_active, lives_under, is_alive, since_birth, birth, deferral, deferral_after, with_entry}
 use Rattle.smil_model.specs.diary.Lawful.{IsLawful, has_element, may_begin, is_lawful_step}
 use Rattle.smil_model.specs.diary.Clocks.{outer, to_document, play_start, play_start_after, iteration_start, iteration_start_after}
-use Rattle.smil_model.specs.diary.Plays.{Mark, Finished, Plays, finish_with, play_after, is_birth_under, plays, first_of, passed, passed_after}
+use Rattle.smil_model.specs.diary.Plays.{Mark, FinishedInterval, Plays, finish_with, play_after, is_birth_under, plays, first_of, passed, passed_after}
 use Rattle.smil_model.specs.interval.Current.{logged_length, length_of, length_after, media_length}
 use Rattle.smil_model.specs.shown.Views.{document_value, deferred_begin, present_begin}
 use Rattle.smil_model.proofs.Orders.{le_self}
@@ -175,18 +175,18 @@ module _ (h : History) (y : Entry) (s : ℕ) (lawful : IsLawful (with_entry h y)
   or_none None = refl
   or_none (Some x) = refl
 
-  abbrev past_now : Finished → PastInterval
+  abbrev past_now : FinishedInterval → PastInterval
   past_now = past_interval h s
 
-  abbrev past_then : Finished → PastInterval
+  abbrev past_then : FinishedInterval → PastInterval
   past_then = past_interval (with_entry h y) s
 
-  close_first : (o : Option Mark) → IsMarked y.moment o → (v : ℤ) (cut : Bool) (fs : List Finished) → AllByRecursion (IsUntil y.moment) fs → option_map past_then (first_of (finish_with o (record { value = v; moment = y.moment }) cut fs)) ≡ option_or (option_map past_now (first_of fs)) (finished_interval h s y.moment v cut (option_map value_of o) (option_map (document_value h s) o))
+  close_first : (o : Option Mark) → IsMarked y.moment o → (v : ℤ) (cut : Bool) (fs : List FinishedInterval) → AllByRecursion (IsUntil y.moment) fs → option_map past_then (first_of (finish_with o (record { value = v; moment = y.moment }) cut fs)) ≡ option_or (option_map past_now (first_of fs)) (finished_interval h s y.moment v cut (option_map value_of o) (option_map (document_value h s) o))
   close_first None is v cut fs each = first_with h y s fs each ∙ sym (or_none (option_map past_now (first_of fs)))
   close_first (Some k) is v cut [] each = ap Some (past_with h y s (record { begin = k; finish = record { value = v; moment = y.moment }; was_cut = cut }) (record { begin = is; finish = le_self y.moment }))
   close_first (Some k) is v cut (f ∷ fs) each = ap Some (past_with h y s f each.0)
 
-  close_last : (o : Option Mark) → IsMarked y.moment o → (v : ℤ) (cut : Bool) (fs : List Finished) → AllByRecursion (IsUntil y.moment) fs → option_map past_then (last_or None (finish_with o (record { value = v; moment = y.moment }) cut fs)) ≡ option_or (finished_interval h s y.moment v cut (option_map value_of o) (option_map (document_value h s) o)) (option_map past_now (last_or None fs))
+  close_last : (o : Option Mark) → IsMarked y.moment o → (v : ℤ) (cut : Bool) (fs : List FinishedInterval) → AllByRecursion (IsUntil y.moment) fs → option_map past_then (last_or None (finish_with o (record { value = v; moment = y.moment }) cut fs)) ≡ option_or (finished_interval h s y.moment v cut (option_map value_of o) (option_map (document_value h s) o)) (option_map past_now (last_or None fs))
   close_last None is v cut fs each = last_with h y s fs each
   close_last (Some k) is v cut fs each =
       ap (option_map past_then) (last_more None fs (record { begin = k; finish = record { value = v; moment = y.moment }; was_cut = cut }))

@@ -9,14 +9,14 @@ use Rattle.smil_model.specs.diary.Diary.{History, with_entry}
 use Rattle.smil_laws.proofs.Ancestry.{below_none, parent_apart}
 use Rattle.smil_laws.proofs.Numbered.{ordered}
 use Rattle.smil_stretch.specs.declared.clock.NodeClock.{NodeClock}
-use Rattle.smil_past.specs.declared.plays.played.Played.{Played}
+use Rattle.smil_past.specs.declared.plays.played.PlayFacts.{PlayFacts}
 use Rattle.smil_past.specs.Played.{played, all_played}
 use Rattle.smil_past.specs.Rows.{row_of, keys_of, IsOwnTaken, AreChildrenTaken}
 use Rattle.smil_past.specs.Followed.{own_after, child_step, IsEntryAfter}
 use Rattle.smil_past.proofs.Rows.{row_map, row_of_found, found_any, rows_are}
 use Rattle.smil_past.proofs.Stepped.{played_with}
 
-keys_map : (f : ℕ → Played) (ns : List Node) → keys_of (map (λ (e : Node). (e.serial, f e.serial)) ns) ≡ map (λ (n : Node). n.serial) ns
+keys_map : (f : ℕ → PlayFacts) (ns : List Node) → keys_of (map (λ (e : Node). (e.serial, f e.serial)) ns) ≡ map (λ (n : Node). n.serial) ns
 keys_map f [] = refl
 keys_map f (n ∷ ns) = ap (λ ks. n.serial ∷ ks) (keys_map f ns)
 
@@ -40,7 +40,7 @@ module _ (h : History) (y : Entry) (document : Document) (clocks : List NodeCloc
   apart : (s : ℕ) (p : Node) → time_parent h.nodes s ≡ Some p → p.serial == s ≡ false
   apart s p q = (parent_apart h.nodes (ordered tree is.known.document) s s p (below_none h.nodes (ordered tree is.known.document) s) q).0
 
-  pub taken : (old mid new : List (ℕ × Played)) → old ≡ all_played h → IsOwnTaken h y old mid → AreChildrenTaken document.nodes y.step mid new → new ≡ all_played (with_entry h y)
+  pub taken : (old mid new : List (ℕ × PlayFacts)) → old ≡ all_played h → IsOwnTaken h y old mid → AreChildrenTaken document.nodes y.step mid new → new ≡ all_played (with_entry h y)
   taken old mid new before own children =
       rows_are (played (with_entry h y)) h.nodes new is.known.document.distinct
       (children.same_keys ∙ own.same_keys ∙ ap keys_of before ∙ keys_map (played h) (elements h.nodes))

@@ -12,7 +12,7 @@ use Rattle.smil_model.specs.document.Document.{node_at, time_children}
 use Rattle.smil_model.specs.diary.Diary.{History, is_active, is_paused}
 use Rattle.smil_model.specs.diary.Lawful.{has_element, is_lawful_step, may_begin}
 use Rattle.smil_model.specs.happening.Queue.{is_child_of, put_paused, put_deferred, queue_after, queue_of, without}
-use Rattle.smil_excl.specs.declared.held.Held.{Held}
+use Rattle.smil_excl.specs.declared.held.QueuedChild.{QueuedChild}
 use Rattle.smil_excl.specs.Line.{Line, ranked}
 use Rattle.smil_model.specs.diary.Diary.{with_entry}
 use Rattle.smil_past.specs.Queues.{HasRoom, MayTakeIn, with_deferred, without_children, without_child, lines, with_paused, queues_after}
@@ -20,7 +20,7 @@ use Rattle.smil_past.proofs.Listing.{known_node}
 use Rattle.smil_past.proofs.Placing.{lines_same}
 use Rattle.smil_past.proofs.Waiting.{left_is, has_room}
 
-pub first_of : (nodes : List Node) (queue : List ℕ) → option_map (λ (f : Held). f.who) (slice_get (map (ranked nodes) queue) 0) ≡ slice_get queue 0
+pub first_of : (nodes : List Node) (queue : List ℕ) → option_map (λ (f : QueuedChild). f.who) (slice_get (map (ranked nodes) queue) 0) ≡ slice_get queue 0
 first_of nodes [] = refl
 first_of nodes (x ∷ xs) = refl
 

@@ -52,7 +52,7 @@ EndsAtMark second marked = (mark : ℕ × ℕ) → marked ≡ Some mark → reac
 
 -- a document with its log, and what is kept of it: its graph, what its items wait for, a chronicle,
 -- a second one that lags behind, and a mark
-pub record IsWhole (document : Document) (log : List LogEntry) (graph : OrderedNodes) (syncs : List SyncRow)
+pub record KeepsPast (document : Document) (log : List LogEntry) (graph : OrderedNodes) (syncs : List SyncRow)
     (first : Chronicle) (second : Option Chronicle) (mark : Option (ℕ × ℕ)) : Type 0 where
   pub graph_is : graph.nodes ≡ document.nodes
   pub syncs_are : syncs ≡ all_syncs document.nodes

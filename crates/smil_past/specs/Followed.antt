@@ -17,7 +17,7 @@ use Rattle.smil_model.specs.interval.Current.{length_of, length_after}
 use Rattle.smil_stretch.specs.declared.clock.NodeClock.{NodeClock}
 use Rattle.smil_stretch.specs.Clocks.{AreClocksOf}
 use Rattle.smil_past.specs.declared.plays.played.PastInterval.{PastInterval}
-use Rattle.smil_past.specs.declared.plays.played.Played.{Played}
+use Rattle.smil_past.specs.declared.plays.played.PlayFacts.{PlayFacts}
 
 -- an end or a cut of the time parent
 abbrev pub is_death_under : Option Node → Step → Bool
@@ -78,7 +78,7 @@ abbrev pub none_if : {A : Type 0} → Bool → Option A → Option A
 none_if gone before = if gone then None else before
 
 -- the entry's own part of it
-abbrev pub own_after : History → Entry → ℕ → Played → Played
+abbrev pub own_after : History → Entry → ℕ → PlayFacts → PlayFacts
 own_after h y s r = record {
   begun = begun_after s r.begun y.step;
   shown_begun = shown_begun_after h s y.moment r.shown_begun y.step;
@@ -93,7 +93,7 @@ own_after h y s r = record {
 
 -- what a birth or an end of the time parent leaves: a birth forgets what finished, was put off or passed since the last one,
 -- and with an end nothing is put off
-abbrev pub child_after : Bool → Bool → Played → Played
+abbrev pub child_after : Bool → Bool → PlayFacts → PlayFacts
 child_after birth death r = record r {
   first_finished = none_if birth r.first_finished;
   last_finished = none_if birth r.last_finished;
@@ -102,16 +102,16 @@ child_after birth death r = record r {
 }
 
 -- what a step leaves of what is kept of an element by its time parent
-abbrev pub child_step : List Node → Step → ℕ → Played → Played
+abbrev pub child_step : List Node → Step → ℕ → PlayFacts → PlayFacts
 child_step nodes step s =
     child_after (is_birth_under (time_parent nodes s) step) (is_death_under (time_parent nodes s) step)
 
 -- what is kept of an element after one entry more
-abbrev pub row_after : History → Entry → ℕ → Played → Played
+abbrev pub row_after : History → Entry → ℕ → PlayFacts → PlayFacts
 row_after h y s r = child_step h.nodes y.step s (own_after h y s r)
 
 -- what a begin, and a finish with a value, make of the element's own row
-abbrev pub began_row : History → ℕ → ℤ → ℤ → Played → Played
+abbrev pub began_row : History → ℕ → ℤ → ℤ → PlayFacts → PlayFacts
 began_row h s m begin r = record r {
   begun = Some begin;
   shown_begun = Some (to_document h s begin m);
@@ -120,7 +120,7 @@ began_row h s m begin r = record r {
   shown_deferred = None;
 }
 
-abbrev pub finished_row : History → ℕ → ℤ → ℤ → Bool → Played → Played
+abbrev pub finished_row : History → ℕ → ℤ → ℤ → Bool → PlayFacts → PlayFacts
 finished_row h s m finish was_cut r = record r {
   begun = None;
   shown_begun = None;
@@ -129,7 +129,7 @@ finished_row h s m finish was_cut r = record r {
   shown_deferred = None;
 }
 
-abbrev pub deferred_row : History → ℕ → ℤ → ℤ → Played → Played
+abbrev pub deferred_row : History → ℕ → ℤ → ℤ → PlayFacts → PlayFacts
 deferred_row h s m begin r = record r { shown_deferred = Some (to_document h s begin m) }
 
 -- ---- what is at hand

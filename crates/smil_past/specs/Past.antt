@@ -15,21 +15,21 @@ use Rattle.smil_laws.specs.Near.{AllNear, HasNear}
 use Rattle.smil_laws.specs.Cut.{IsNamedBelow, NamesBelow}
 
 -- a document, its log and its diary; and how long log and diary were where a mark stands
-pub record Happened : Type 0 where
+pub record MarkedHistory : Type 0 where
   pub document : Document
   pub log : List LogEntry
   pub diary : List Entry
   pub marked : Option (ℕ × ℕ)
 
-abbrev pub history_of : Happened → History
+abbrev pub history_of : MarkedHistory → History
 history_of past = record { nodes = past.document.nodes; log = past.log; diary = past.diary }
 
 -- what has happened, where no mark stands
-abbrev pub unmarked : Document → List LogEntry → List Entry → Happened
+abbrev pub unmarked : Document → List LogEntry → List Entry → MarkedHistory
 unmarked document log diary = record { document = document; log = log; diary = diary; marked = None }
 
 -- the past without what came after its first entries
-abbrev pub front : Happened → ℕ → History
+abbrev pub front : MarkedHistory → ℕ → History
 front past len = record { nodes = past.document.nodes; log = past.log; diary = take len past.diary }
 
 -- what can have happened to a document: a lawful diary with numbers near 0, which names entries of the log
@@ -41,13 +41,13 @@ pub record IsPossible (document : Document) (log : List LogEntry) (diary : List 
   pub few : length diary ≤ DIARY_ENTRIES
 
 -- an entry that may follow
-pub record MayFollow (past : Happened) (entry : Entry) : Type 0 where
+pub record MayFollow (past : MarkedHistory) (entry : Entry) : Type 0 where
   pub lawful : IsLawful (with_entry (history_of past) entry)
   pub near : HasNear entry.step
   pub named : IsNamedBelow (length past.log) entry.step
 
 -- a moment that is not before the last entry, up to the horizon
-pub record IsPresent (past : Happened) (now : ℤ) : Type 0 where
+pub record IsPresent (past : MarkedHistory) (now : ℤ) : Type 0 where
   pub past_is : until now past.diary ≡ past.diary
   pub from : pos 0 ≤ℤ now
   pub within : now ≤ℤ HORIZON
@@ -56,7 +56,7 @@ abbrev pub logged_entry : ℕ → ℤ → Entry
 logged_entry place moment = record { moment = moment; step = Logged place }
 
 -- a log entry that may be heard
-pub record MayHear (past : Happened) (entry : LogEntry) : Type 0 where
+pub record MayHear (past : MarkedHistory) (entry : LogEntry) : Type 0 where
   pub lawful : IsLawful (record {
     nodes = past.document.nodes;
     log = past.log
@@ -66,11 +66,11 @@ pub record MayHear (past : Happened) (entry : LogEntry) : Type 0 where
   pub near : AllNear past.diary
   pub named : NamesBelow (length past.log) past.diary
 
-abbrev pub with_diary : Happened → List Entry → Happened
+abbrev pub with_diary : MarkedHistory → List Entry → MarkedHistory
 with_diary past diary = record { document = past.document; log = past.log; diary = diary; marked = past.marked }
 
 -- the log entry was heard
-abbrev pub with_heard : Happened → LogEntry → Happened
+abbrev pub with_heard : MarkedHistory → LogEntry → MarkedHistory
 with_heard past entry = record {
   document = past.document;
   log = past.log ++ entry ∷ [];
@@ -79,7 +79,7 @@ with_heard past entry = record {
 }
 
 -- the past at the mark
-abbrev pub at_mark : Happened → ℕ × ℕ → Happened
+abbrev pub at_mark : MarkedHistory → ℕ × ℕ → MarkedHistory
 at_mark past mark = record {
   document = past.document;
   log = take mark.0 past.log;

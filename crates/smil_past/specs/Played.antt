@@ -5,14 +5,14 @@ use Rattle.smil_model.specs.declared.document.Node.{Node}
 use Rattle.smil_model.specs.document.Document.{elements, node_at}
 use Rattle.smil_model.specs.diary.Diary.{History, deferral, with_entry}
 use Rattle.smil_model.specs.diary.Clocks.{play_start, iteration_start}
-use Rattle.smil_model.specs.diary.Plays.{Mark, Finished, plays, first_of, last_finished, passed}
+use Rattle.smil_model.specs.diary.Plays.{Mark, FinishedInterval, plays, first_of, last_finished, passed}
 use Rattle.smil_model.specs.interval.Current.{media_length}
 use Rattle.smil_model.specs.shown.Views.{document_value, deferred_begin, present_begin}
 use Rattle.smil_past.specs.declared.plays.played.PastInterval.{PastInterval}
-use Rattle.smil_past.specs.declared.plays.played.Played.{Played}
+use Rattle.smil_past.specs.declared.plays.played.PlayFacts.{PlayFacts}
 
 -- a finished interval: its begin and its finish on the time parent's clock, both in document time, and whether it was cut
-abbrev pub past_interval : History → ℕ → Finished → PastInterval
+abbrev pub past_interval : History → ℕ → FinishedInterval → PastInterval
 past_interval h serial f = record {
   begin = f.begin.value;
   finish = f.finish.value;
@@ -22,7 +22,7 @@ past_interval h serial f = record {
 }
 
 -- what is kept of an element
-abbrev pub played : History → ℕ → Played
+abbrev pub played : History → ℕ → PlayFacts
 played h serial = record {
   begun = option_map (λ (m : Mark). m.value) (plays h serial).present;
   shown_begun = present_begin h serial;
@@ -37,14 +37,14 @@ played h serial = record {
 }
 
 -- what is kept of all elements, in document order
-abbrev pub all_played : History → List (ℕ × Played)
+abbrev pub all_played : History → List (ℕ × PlayFacts)
 all_played h = map (λ (e : Node). (e.serial, played h e.serial)) (elements h.nodes)
 
 -- what is kept of one, where the document has such an element
-abbrev pub played_at : History → ℕ → Option Played
+abbrev pub played_at : History → ℕ → Option PlayFacts
 played_at h serial =
     option_map (λ (e : Node). played h e.serial) (node_at (elements h.nodes) serial)
 
 -- from what is kept of a history to what is kept after one entry more
-abbrev pub TakesIn : History → Entry → List (ℕ × Played) → List (ℕ × Played) → Type 0
+abbrev pub TakesIn : History → Entry → List (ℕ × PlayFacts) → List (ℕ × PlayFacts) → Type 0
 TakesIn h y before after = before ≡ all_played h → after ≡ all_played (with_entry h y)

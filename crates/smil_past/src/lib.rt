@@ -10,7 +10,7 @@ pub mod readings;
 pub mod syncs;
 
 pub use past::Past;
-pub use plays::{PastInterval, Played, Plays};
+pub use plays::{PastInterval, PlayFacts, Plays};
 pub use queues::Queues;
 pub use readings::Readings;
 pub use syncs::{Syncbase, Syncs};

@@ -56,14 +56,14 @@ impl Drop for Past {
 }
 
 impl Model for Past {
-    ghost use Rattle.smil_past.specs.Past.{Happened};
-    ghost use Rattle.smil_past.specs.Chronicle.{IsWhole};
+    ghost use Rattle.smil_past.specs.Past.{MarkedHistory};
+    ghost use Rattle.smil_past.specs.Chronicle.{KeepsPast};
 
-    ghost Value = { Happened };
+    ghost Value = { MarkedHistory };
 
     ghost view = { λ p. record { document = p.tree; log = p.log; diary = p.chronicle.book; marked = p.mark } };
 
-    ghost invariant = { λ p. IsWhole p.tree p.log p.graph p.syncs p.chronicle p.second p.mark };
+    ghost invariant = { λ p. KeepsPast p.tree p.log p.graph p.syncs p.chronicle p.second p.mark };
 }
 
 impl Past {
@@ -178,7 +178,7 @@ impl Past {
         }
     }
 
-    /// Lets the mark go, from which on the second chronicle lags behind. A mark stands, and none
+    /// Takes the mark away, from which on the second chronicle lags behind. A mark stands, and none
     /// does afterwards. It takes no memory.
     pub fn forget(&mut self)
         requires { is_some self.old.marked ≡ true }

@@ -15,7 +15,7 @@ ghost use Rattle.smil_past.specs.Followed.{IsEntryAfter, MayBeTaken};
 pub mod played;
 mod row;
 
-pub use played::{PastInterval, Played};
+pub use played::{PastInterval, PlayFacts};
 use row::{OwnEntry, child, own_row};
 use smil_instances::elements::{elements, places_of};
 use smil_instances::subject;
@@ -27,7 +27,7 @@ use std::collections::HashMap;
 use std::marker::Model;
 
 // What is kept of an element to which nothing has happened yet.
-const IDLE: Played = Played {
+const IDLE: PlayFacts = PlayFacts {
     begun: None,
     shown_begun: None,
     first: 0,
@@ -42,7 +42,7 @@ const IDLE: Played = Played {
 /// What a diary says of the plays of each element, seen as the list of it in document order.
 pub struct Plays {
     places: HashMap<u32, usize>,
-    rows: Vec<(u32, Played)>,
+    rows: Vec<(u32, PlayFacts)>,
 }
 
 impl Drop for Plays {
@@ -60,7 +60,7 @@ impl Model for Plays {
     ghost use Rattle.std.specs.HashMap.{get};
     ghost use Rattle.smil_instances.specs.Spread.{IsIndex};
     ghost use Rattle.smil_past.specs.Rows.{keys_of};
-    ghost use Rattle.smil_past.specs.declared.plays.played.Played.{Played as AnyPlayed};
+    ghost use Rattle.smil_past.specs.declared.plays.played.PlayFacts.{PlayFacts as AnyPlayed};
 
     ghost Value = { List (ℕ × AnyPlayed) };
 
@@ -107,14 +107,14 @@ impl Plays {
 
     /// What is kept of an element; None exactly where the document has no such element. It takes no
     /// memory.
-    pub fn of(&self, who: u32) -> Option<Played>
+    pub fn of(&self, who: u32) -> Option<PlayFacts>
         ensures { (h : History) → self.now ≡ all_played h → result ≡ played_at h who }
     {
         self.row(who)
     }
 
     // The row of an element.
-    fn row(&self, who: u32) -> Option<Played>
+    fn row(&self, who: u32) -> Option<PlayFacts>
         ensures { result ≡ row_of self.now who }
     {
         let place = self.places.get(&who)?;
@@ -122,7 +122,7 @@ impl Plays {
     }
 
     // Puts a row in the place of the one that an element has; nothing where it has none.
-    fn put(&mut self, who: u32, played: Played)
+    fn put(&mut self, who: u32, played: PlayFacts)
         ensures { IsPut who played self.old self.new }
     {
         let Some(place) = self.places.get(&who) else {
@@ -191,7 +191,7 @@ impl Plays {
 }
 
 // The rows of elements to which nothing has happened yet.
-fn idle_rows(alloc: Global, whos: &[u32]) -> Result<Vec<(u32, Played)>, AllocError>
+fn idle_rows(alloc: Global, whos: &[u32]) -> Result<Vec<(u32, PlayFacts)>, AllocError>
     ensures { IfOk result (λ rows. rows.items ≡ map idle_row whos.now) }
 {
     let mut rows = Vec::with_capacity(alloc, whos.len())?;

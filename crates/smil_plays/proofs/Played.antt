@@ -8,10 +8,10 @@ use Rattle.smil_model.specs.document.Document.{Document}
 use Rattle.smil_model.specs.document.Values.{is_clock}
 use Rattle.smil_model.specs.document.Words.{is_event_name, is_raised_name}
 use Rattle.smil_model.specs.diary.Logs.{is_serial, may_happen}
-use Rattle.smil_past.specs.Past.{Happened, IsPossible}
+use Rattle.smil_past.specs.Past.{MarkedHistory, IsPossible}
 use Rattle.smil_stretch.specs.Clocks.{IsLawfulFor}
 
-pub lawful_for : (past : Happened) (document : Document) (diary : List Entry) → IsPossible past.document past.log past.diary → document ≡ past.document → diary ≡ past.diary → IsLawfulFor document diary
+pub lawful_for : (past : MarkedHistory) (document : Document) (diary : List Entry) → IsPossible past.document past.log past.diary → document ≡ past.document → diary ≡ past.diary → IsLawfulFor document diary
 lawful_for past document diary possible same_document same_diary = record {
   past = record { nodes = past.document.nodes; log = past.log; diary = past.diary };
   history = record {

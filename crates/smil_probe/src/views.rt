@@ -3,7 +3,8 @@
 ghost use Rattle.std.specs.Prelude.{◌≡◌, ℤ, true};
 ghost use Rattle.std.specs.Option.{ForSome};
 ghost use Rattle.smil_model.specs.declared.interval.Interval.{Interval as GivenInterval};
-ghost use Rattle.smil_fill.specs.Numbers.{HasNumbersWithin, IsWithin, IsTimeWithin};
+ghost use Rattle.smil_fill.specs.Numbers.{HasNumbersWithin, IsTimeCarried};
+ghost use Rattle.smil_model.specs.Times.{IsCarried};
 
 use smil_cases::{Fault, Words, natural, number};
 use smil_fill::{ViewFacts, view};
@@ -73,14 +74,14 @@ fn fill(word: &str) -> Result<Fill, Fault> {
 
 // Whether a number is from -10^13 to 10^13.
 fn is_within(number: i64) -> bool
-    ensures { result ≡ true → IsWithin number }
+    ensures { result ≡ true → IsCarried number }
 {
-    number.unsigned_abs() <= CARRIED.unsigned_abs()
+    -CARRIED <= number && number <= CARRIED
 }
 
 // Whether a time is such a number, or no number.
 fn is_time_within(time: Time) -> bool
-    ensures { result ≡ true → IsTimeWithin time }
+    ensures { result ≡ true → IsTimeCarried time }
 {
     match time {
         Time::At(value) => is_within(value),
@@ -91,7 +92,7 @@ fn is_time_within(time: Time) -> bool
 // Whether begin and end of an interval are so, where there is one.
 fn is_interval_within(interval: Option<Interval>) -> bool
     ensures { result ≡ true → ForSome interval
-        (λ (i : GivenInterval). IsWithin i.begin × IsTimeWithin i.«end») }
+        (λ (i : GivenInterval). IsCarried i.begin × IsTimeCarried i.«end») }
 {
     match interval {
         Some(interval) => is_within(interval.begin) && is_time_within(interval.end),
@@ -101,7 +102,7 @@ fn is_interval_within(interval: Option<Interval>) -> bool
 
 // Whether a number is so, where there is one.
 fn is_maybe_within(number: Option<i64>) -> bool
-    ensures { result ≡ true → ForSome number IsWithin }
+    ensures { result ≡ true → ForSome number IsCarried }
 {
     match number {
         Some(number) => is_within(number),
@@ -111,7 +112,7 @@ fn is_maybe_within(number: Option<i64>) -> bool
 
 // Whether two numbers are so, where they are there.
 fn is_pair_within(pair: Option<(i64, i64)>) -> bool
-    ensures { result ≡ true → ForSome pair (λ (p : ℤ × ℤ). IsWithin p.0 × IsWithin p.1) }
+    ensures { result ≡ true → ForSome pair (λ (p : ℤ × ℤ). IsCarried p.0 × IsCarried p.1) }
 {
     match pair {
         Some((begin, end)) => is_within(begin) && is_within(end),

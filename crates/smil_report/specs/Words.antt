@@ -1,5 +1,5 @@
--- The words of a line, and what stays of a text that memory cut off.
-use Rattle.std.specs.Prelude.{ℕ, List, [], ◌∷◌, ◌≡◌, take, length, codes, decimal}
+-- The words of a line.
+use Rattle.std.specs.Prelude.{ℕ, List, [], ◌∷◌, codes, decimal}
 use Rattle.std.specs.Fmt.{signed_decimal}
 use Rattle.smil_model.specs.shown.Lines.{line_of, quoted, reference_text, serial_text, shown_text, refusal_text, refusal_column, column_words}
 use Rattle.smil_model.specs.declared.order.Refusal.{Refusal}
@@ -19,10 +19,6 @@ word_text (word.Number number) = decimal number
 -- a refusal's word, and its column if it has one
 abbrev pub cause_words : Refusal → List (List ℕ)
 cause_words refusal = refusal_text refusal ∷ column_words (refusal_column refusal)
-
--- where memory runs out, what was written before stays at the front
-abbrev pub Begins : List ℕ → List ℕ → Type 0
-Begins front text = take (length front) text ≡ front
 
 -- the last line of the answer to a load that is only read
 abbrev pub checked_line : ℕ → List ℕ → List ℕ

@@ -38,7 +38,7 @@ fn put_cause(buf: &mut [u8], at: usize, refusal: Refusal) -> usize
 /// the front of the buffer, and gives its length. `line` is the number of the line where the fault
 /// stands. The bytes behind it stay as they were.
 #[tactic(auto, using(crate::proofs::Places::drop_later))]
-pub fn put_refusal(buf: &mut [u8; 64], line: u32, refusal: &Refusal) -> usize
+pub fn put_refusal(buf: &mut [u8; REFUSAL_BYTES], line: u32, refusal: &Refusal) -> usize
     ensures len { result ≡ length (refusal_line line refusal.now) }
     ensures within { result ≤ REFUSAL_BYTES }
     ensures written { take result buf.new ≡ refusal_line line refusal.now }

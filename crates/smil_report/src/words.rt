@@ -2,7 +2,8 @@
 
 ghost use Rattle.std.specs.Prelude.{◌≡◌, ◌++◌, List, map, OnOk, OnErr};
 ghost use Rattle.smil_model.specs.shown.Lines.{line_of, quoted, reference_text, serial_text, shown_text, state_text, how_text};
-ghost use Rattle.smil_report.specs.Words.{word_text, Begins};
+ghost use Rattle.smil_report.specs.Words.{word_text};
+ghost use Rattle.smil_model.specs.document.Words.{Begins};
 
 use itoa::{Buffer, Integer};
 use smil_model::{Bytes, How, Shown, State, Who};
@@ -78,7 +79,7 @@ fn put_serial(out: &mut Bytes, serial: u32) -> Result<(), AllocError>
 }
 
 // Appends a text between quotes.
-#[tactic(auto, using(crate::proofs::Growing::begins_on))]
+#[tactic(auto, using(smil_model::proofs::Growing::begins_on))]
 fn put_quoted(out: &mut Bytes, text: &[u8]) -> Result<(), AllocError>
     ensures ok { OnOk result (out.new ≡ out.old ++ quoted text.now) }
     ensures err { OnErr result (Begins out.old out.new) }
@@ -119,7 +120,7 @@ fn put_word(out: &mut Bytes, word: &Word) -> Result<(), AllocError>
 }
 
 // Appends the words, with a space between them, and a line feed.
-#[tactic(auto, using(crate::proofs::Growing::begins_on))]
+#[tactic(auto, using(smil_model::proofs::Growing::begins_on))]
 fn put_words(out: &mut Bytes, words: &[Word]) -> Result<(), AllocError>
     ensures ok { OnOk result (out.new ≡ out.old ++ line_of (map word_text words.now)) }
     ensures err { OnErr result (Begins out.old out.new) }

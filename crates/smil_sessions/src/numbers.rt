@@ -1,7 +1,7 @@
 //! Numbers, read.
 
 use super::fault::Fault;
-use smil_model::Listed;
+use smil_model::GrowingList;
 use std::alloc::Global;
 use std::str::FromStr;
 
@@ -14,8 +14,8 @@ where
 }
 
 /// Numbers, with a comma between two.
-pub fn numbers(alloc: Global, word: &str) -> Result<Listed<u32>, Fault> {
-    let mut numbers = Listed::new(alloc);
+pub fn numbers(alloc: Global, word: &str) -> Result<GrowingList<u32>, Fault> {
+    let mut numbers = GrowingList::new(alloc);
     for part in word.split(',') {
         numbers.push(number(part)?)?;
     }

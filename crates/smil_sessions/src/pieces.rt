@@ -4,7 +4,7 @@ ghost use Rattle.std.specs.Prelude.{◌<◌};
 
 use super::fault::Fault;
 use super::numbers::{number, numbers};
-use smil_model::{Bytes, Listed};
+use smil_model::{Bytes, GrowingList};
 use std::alloc::Global;
 use std::num::NonZeroUsize;
 
@@ -20,8 +20,8 @@ pub struct Pieces {
     pub text: Bytes,
     pub chunk: usize,
     pub room: usize,
-    pub reads: Listed<u32>,
-    pub writes: Listed<u32>,
+    pub reads: GrowingList<u32>,
+    pub writes: GrowingList<u32>,
     ghost gives: { 0 < chunk },
 }
 
@@ -32,8 +32,8 @@ impl Pieces {
             text: Bytes::new(alloc),
             chunk: CHUNK,
             room: ROOM,
-            reads: Listed::new(alloc),
-            writes: Listed::new(alloc),
+            reads: GrowingList::new(alloc),
+            writes: GrowingList::new(alloc),
         }
     }
 

@@ -2,13 +2,13 @@
 
 use super::fault::Fault;
 use super::numbers::number;
-use smil_model::{Bytes, Listed};
+use smil_model::{Bytes, GrowingList};
 use std::alloc::Global;
 
 /// An input of which each line waits for the answers before it, and so does its end.
 #[derive(Drop)]
 pub struct Turns {
-    pub lines: Listed<Turn>,
+    pub lines: GrowingList<Turn>,
     /// How many bytes of answers are taken when the input ends.
     pub answered: usize,
 }
@@ -25,7 +25,7 @@ impl Turns {
     /// An input without a line.
     pub fn new(alloc: Global) -> Turns {
         Turns {
-            lines: Listed::new(alloc),
+            lines: GrowingList::new(alloc),
             answered: 0,
         }
     }

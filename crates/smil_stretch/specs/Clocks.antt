@@ -1,5 +1,5 @@
 -- The clocks of a document after what has happened so far: one for each node, which runs or stands since the last entry.
-use Rattle.std.specs.Prelude.{◌≡◌, ℕ, ℤ, ◌-ℤ◌, List, [], map, Bool, true, false, ◌&&◌, ◌==◌, Option, option_and_then}
+use Rattle.std.specs.Prelude.{◌≡◌, ℕ, ℤ, ◌-ℤ◌, List, map, Bool, true, false, ◌&&◌, ◌==◌, Option, option_and_then}
 use Rattle.std.specs.List.{position}
 use Rattle.smil_model.specs.declared.diary.Entry.{Entry}
 use Rattle.smil_model.specs.declared.diary.Step.{Step}

@@ -243,7 +243,8 @@ impl Clocks {
 // nothing.
 fn idle_clocks(alloc: Global, tree: &Tree) -> Result<Vec<NodeClock>, AllocError>
     requires { IsNumberedTree tree.now }
-    ensures { IfOk result (λ clocks. clocks.items ≡ map (idle_clock tree.now.nodes) tree.now.nodes) }
+    ensures { IfOk result (λ clocks. clocks.items
+        ≡ map (idle_clock tree.now.nodes) tree.now.nodes) }
 {
     let mut clocks = Vec::new(alloc);
     while let Some(serial) = tree.serial_at(clocks.len()) {

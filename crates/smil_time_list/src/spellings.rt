@@ -4,7 +4,8 @@ ghost use Rattle.std.specs.Prelude.{◌≡◌, ℕ, ◌++◌, nat_abs, codes, Li
 ghost use Rattle.smil_model.specs.Times.{IsMoment, IsNear};
 ghost use Rattle.smil_model.specs.declared.document.Item.TheVariants.{Sync, Event, Repeat, Key};
 ghost use Rattle.smil_grammar.specs.Clock.{clock_text};
-ghost use Rattle.smil_grammar.specs.Spellings.{escaped, offset_text, tail_text, of_who, edge_text, item_text, list_text, CanWrite, Begins};
+ghost use Rattle.smil_grammar.specs.Spellings.{escaped, offset_text, tail_text, of_who, edge_text, item_text, list_text, CanWrite};
+ghost use Rattle.smil_model.specs.document.Words.{Begins};
 ghost use Rattle.smil_time_list.specs.Joined.{next_text};
 
 use itoa::Buffer;
@@ -90,7 +91,7 @@ fn put_edge(edge: Edge, out: &mut Bytes) -> Result<(), AllocError>
 }
 
 // Appends the begin or the end of an element.
-#[tactic(auto, using(smil_lexis::proofs::Growing::begins_on))]
+#[tactic(auto, using(smil_model::proofs::Growing::begins_on))]
 fn put_sync(who: &Bytes, edge: Edge, offset: i64, out: &mut Bytes) -> Result<(), AllocError>
     requires { IsNear offset }
     ensures ok { OnOk result (out.new ≡ out.old ++ item_text (Sync who.now edge offset)) }
@@ -103,7 +104,7 @@ fn put_sync(who: &Bytes, edge: Edge, offset: i64, out: &mut Bytes) -> Result<(),
 }
 
 // Appends an event.
-#[tactic(auto, using(smil_lexis::proofs::Growing::begins_on))]
+#[tactic(auto, using(smil_model::proofs::Growing::begins_on))]
 fn put_event(
     who: &Option<Bytes>,
     name: &Bytes,
@@ -120,7 +121,7 @@ fn put_event(
 }
 
 // Appends an iteration.
-#[tactic(auto, using(smil_lexis::proofs::Growing::begins_on))]
+#[tactic(auto, using(smil_model::proofs::Growing::begins_on))]
 fn put_repeat(who: &Option<Bytes>, n: u32, offset: i64, out: &mut Bytes) -> Result<(), AllocError>
     requires { IsNear offset }
     ensures ok { OnOk result (out.new ≡ out.old ++ item_text (Repeat who.now n offset)) }
@@ -135,9 +136,10 @@ fn put_repeat(who: &Option<Bytes>, n: u32, offset: i64, out: &mut Bytes) -> Resu
 }
 
 // Appends an access key.
-#[tactic(auto, using(smil_lexis::proofs::Growing::begins_on))]
+#[tactic(auto, using(smil_model::proofs::Growing::begins_on))]
 fn put_call(key: u8, out: &mut Bytes) -> Result<(), AllocError>
-    ensures ok { OnOk result (out.new ≡ out.old ++ (codes "accesskey(" ++ (key ∷ []) ++ codes ")")) }
+    ensures ok { OnOk result (out.new ≡ out.old ++ (codes "accesskey(" ++ (key ∷ [])
+        ++ codes ")")) }
     ensures err { OnErr result (Begins out.old out.new) }
 {
     out.append(b"accesskey(")?;
@@ -146,7 +148,7 @@ fn put_call(key: u8, out: &mut Bytes) -> Result<(), AllocError>
 }
 
 // Appends an access key with its offset.
-#[tactic(auto, using(smil_lexis::proofs::Growing::begins_on))]
+#[tactic(auto, using(smil_model::proofs::Growing::begins_on))]
 fn put_key(key: u8, offset: i64, out: &mut Bytes) -> Result<(), AllocError>
     requires { IsNear offset }
     ensures ok { OnOk result (out.new ≡ out.old ++ item_text (Key key offset)) }
@@ -185,7 +187,7 @@ fn put_next(place: usize, item: &Item, out: &mut Bytes) -> Result<(), AllocError
 }
 
 // Appends the items, with `;` between them.
-#[tactic(auto, using(smil_lexis::proofs::Growing::begins_on))]
+#[tactic(auto, using(smil_model::proofs::Growing::begins_on))]
 fn put_list(items: &Items, out: &mut Bytes) -> Result<(), AllocError>
     requires { All CanWrite items.now }
     ensures ok { OnOk result (out.new ≡ out.old ++ list_text items.now) }

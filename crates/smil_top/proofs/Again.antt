@@ -3,13 +3,13 @@ use Rattle.std.proofs.Common.{◌≡◌, ◌<◌, ◌≤◌, ℕ, suc, Bool, tru
 use Rattle.std.specs.Prelude.{map, filter, flat_map, codes, nat_le, if◌then◌else◌}
 use Rattle.std.proofs.lemmas.Bool.{le-leb, lt-leb}
 use Rattle.std.proofs.lemmas.List.{append-nil}
-use Rattle.smil_top.specs.Cut.{Numbered, LoadLines, OrderLines, single, load, Cut, opens, ends, is_silent, cut_by, with_line, cut_further, cut_of, unended, orders}
+use Rattle.smil_top.specs.Cut.{NumberedLine, LoadLines, OrderLines, single, load, Cut, opens, ends, is_silent, cut_by, with_line, cut_further, cut_of, unended, orders}
 use Rattle.smil_top.specs.Laws.{numbered_by, renumbered, lines_of}
 
 -- ---- lines that rise
 
 -- node lines with rising numbers above one, up to another
-abbrev Nodes : ℕ → List Numbered → ℕ → Type 0
+abbrev Nodes : ℕ → List NumberedLine → ℕ → Type 0
 Nodes low [] high = low ≤ high
 Nodes low (line ∷ lines) high = (ends line.text ≡ false) × (is_silent line.text ≡ false) × (low < line.number) × Nodes line.number lines high
 
@@ -27,7 +27,7 @@ Chain low (load lines (Some end_line) ∷ others) high = ((last : ℕ) × Opened
 Chain low (load lines None ∷ []) high = Opened low lines high
 Chain low (load lines None ∷ next ∷ others) high = ⊥
 
-nodes_le : (low : ℕ) (lines : List Numbered) (high : ℕ) → Nodes low lines high → low ≤ high
+nodes_le : (low : ℕ) (lines : List NumberedLine) (high : ℕ) → Nodes low lines high → low ≤ high
 nodes_le low [] high h = h
 nodes_le low (line ∷ lines) high h = omega (arith, h.2, nodes_le line.number lines high h.3)
 
@@ -69,12 +69,12 @@ filter_chain kept low (load lines None ∷ next ∷ others) high h = elim h [ ]
 
 -- ---- what is cut is such a chain
 
-nodes_more : (low : ℕ) (lines : List Numbered) (high : ℕ) (line : Numbered) → Nodes low lines high → ends line.text ≡ false → is_silent line.text ≡ false → high < line.number
+nodes_more : (low : ℕ) (lines : List NumberedLine) (high : ℕ) (line : NumberedLine) → Nodes low lines high → ends line.text ≡ false → is_silent line.text ≡ false → high < line.number
     → Nodes low (lines ++ line ∷ []) line.number
 nodes_more low [] high line h e s more = (e, s, omega (arith, h, more), omega arith)
 nodes_more low (first ∷ lines) high line h e s more = (h.0, h.1, h.2, nodes_more first.number lines high line h.3 e s more)
 
-nodes_higher : (low : ℕ) (lines : List Numbered) (high higher : ℕ) → high ≤ higher → Nodes low lines high → Nodes low lines higher
+nodes_higher : (low : ℕ) (lines : List NumberedLine) (high higher : ℕ) → high ≤ higher → Nodes low lines high → Nodes low lines higher
 nodes_higher low [] high higher le h = omega (arith, le, h)
 nodes_higher low (line ∷ lines) high higher le h = (h.0, h.1, h.2, nodes_higher line.number lines high higher le h.3)
 
@@ -97,7 +97,7 @@ whole_higher low (single line ∷ others) high higher le h = (h.0, h.1, h.2, who
 whole_higher low (load lines (Some end_line) ∷ others) high higher le h = (h.0, whole_higher end_line others high higher le h.1)
 whole_higher low (load lines None ∷ others) high higher le h = elim h [ ]
 
-whole_single : (low : ℕ) (all : List OrderLines) (high : ℕ) (line : Numbered) → Whole low all high → opens line.text ≡ false → is_silent line.text ≡ false → high < line.number
+whole_single : (low : ℕ) (all : List OrderLines) (high : ℕ) (line : NumberedLine) → Whole low all high → opens line.text ≡ false → is_silent line.text ≡ false → high < line.number
     → Whole low (all ++ single line ∷ []) line.number
 whole_single low [] high line h o s more = (o, s, omega (arith, h, more), omega arith)
 whole_single low (single first ∷ others) high line h o s more = (h.0, h.1, h.2, whole_single first.number others high line h.3 o s more)
@@ -116,7 +116,7 @@ abbrev Fine : Option LoadLines → List OrderLines → ℕ → Type 0
 Fine None whole count = Whole 0 whole count
 Fine (Some lines) whole count = (high : ℕ) × Whole 0 whole high × Opened high lines count
 
-outside_fine : (whole : List OrderLines) (count : ℕ) (line : Numbered) → Whole 0 whole count → count < line.number → (o s : Bool) → opens line.text ≡ o → is_silent line.text ≡ s
+outside_fine : (whole : List OrderLines) (count : ℕ) (line : NumberedLine) → Whole 0 whole count → count < line.number → (o s : Bool) → opens line.text ≡ o → is_silent line.text ≡ s
     → let cut : Cut = if o then record { count = line.number; whole = whole; «open» = Some (record { head = line; nodes = [] }) }
     else (if s then record { count = line.number; whole = whole; «open» = None } else record { count = line.number; whole = whole ++ single line ∷ []; «open» = None }) in
     Fine cut.«open» cut.whole cut.count
@@ -124,7 +124,7 @@ outside_fine whole count line h more true s e d = (count, h, record { head = e; 
 outside_fine whole count line h more false true e d = whole_higher 0 whole count line.number (omega (arith, more)) h
 outside_fine whole count line h more false false e d = whole_single 0 whole count line h e d more
 
-inside_fine : (whole : List OrderLines) (lines : LoadLines) (count : ℕ) (line : Numbered) → Fine (Some lines) whole count → count < line.number → (t s : Bool) → ends line.text ≡ t → is_silent line.text ≡ s
+inside_fine : (whole : List OrderLines) (lines : LoadLines) (count : ℕ) (line : NumberedLine) → Fine (Some lines) whole count → count < line.number → (t s : Bool) → ends line.text ≡ t → is_silent line.text ≡ s
     → let cut : Cut = if t then record { count = line.number; whole = whole ++ load lines (Some line.number) ∷ []; «open» = None }
     else (if s then record { count = line.number; whole = whole; «open» = Some lines } else record { count = line.number; whole = whole; «open» = Some (record lines { nodes = lines.nodes ++ line ∷ [] }) }) in
     Fine cut.«open» cut.whole cut.count
@@ -134,7 +134,7 @@ inside_fine whole lines count line h more false true e d =
 inside_fine whole lines count line h more false false e d =
     (h.0, h.1, record { head = h.2.head; above = h.2.above; nodes = nodes_more lines.head.number lines.nodes count line h.2.nodes e d more })
 
-fine_by : (at : Option LoadLines) (whole : List OrderLines) (count : ℕ) (line : Numbered) → Fine at whole count → count < line.number
+fine_by : (at : Option LoadLines) (whole : List OrderLines) (count : ℕ) (line : NumberedLine) → Fine at whole count → count < line.number
     → Fine (cut_by at whole line).«open» (cut_by at whole line).whole (cut_by at whole line).count
 fine_by None whole count line h more = outside_fine whole count line h more (opens line.text) (is_silent line.text) refl refl
 fine_by (Some lines) whole count line h more = inside_fine whole lines count line h more (ends line.text) (is_silent line.text) refl refl
@@ -154,11 +154,11 @@ orders_chain lines = all_fine (cut_of lines).«open» (cut_of lines).whole (cut_
 
 -- ---- what is cut of such a chain
 
-abbrev numbered_from : ℕ → List Numbered → List Numbered
+abbrev numbered_from : ℕ → List NumberedLine → List NumberedLine
 numbered_from n [] = []
 numbered_from n (line ∷ lines) = record { number = suc n; text = line.text } ∷ numbered_from (suc n) lines
 
-abbrev count_after : ℕ → List Numbered → ℕ
+abbrev count_after : ℕ → List NumberedLine → ℕ
 count_after n [] = n
 count_after n (line ∷ lines) = count_after (suc n) lines
 
@@ -182,20 +182,20 @@ inside n whole lines = record { count = n; whole = whole; «open» = Some lines 
 cut_single : (n : ℕ) (whole : List OrderLines) (text : List ℕ) → opens text ≡ false → is_silent text ≡ false
     → with_line (outside n whole) text ≡ outside (suc n) (whole ++ single (record { number = suc n; text = text }) ∷ [])
 cut_single n whole text o s =
-    let line : Numbered = record { number = suc n; text = text } in
+    let line : NumberedLine = record { number = suc n; text = text } in
     ap (λ (b : Bool). if b then inside (suc n) whole (record { head = line; nodes = [] }) else (if is_silent text then outside (suc n) whole else outside (suc n) (whole ++ single line ∷ []))) o
     ∙ ap (λ (b : Bool). if b then outside (suc n) whole else outside (suc n) (whole ++ single line ∷ [])) s
 
 cut_head : (n : ℕ) (whole : List OrderLines) (text : List ℕ) → opens text ≡ true
     → with_line (outside n whole) text ≡ inside (suc n) whole (record { head = record { number = suc n; text = text }; nodes = [] })
 cut_head n whole text o =
-    let line : Numbered = record { number = suc n; text = text } in
+    let line : NumberedLine = record { number = suc n; text = text } in
     ap (λ (b : Bool). if b then inside (suc n) whole (record { head = line; nodes = [] }) else (if is_silent text then outside (suc n) whole else outside (suc n) (whole ++ single line ∷ []))) o
 
 cut_node : (n : ℕ) (whole : List OrderLines) (lines : LoadLines) (text : List ℕ) → ends text ≡ false → is_silent text ≡ false
     → with_line (inside n whole lines) text ≡ inside (suc n) whole (record { head = lines.head; nodes = lines.nodes ++ record { number = suc n; text = text } ∷ [] })
 cut_node n whole lines text e s =
-    let line : Numbered = record { number = suc n; text = text } in
+    let line : NumberedLine = record { number = suc n; text = text } in
     let more : Cut = inside (suc n) whole (record { head = lines.head; nodes = lines.nodes ++ line ∷ [] }) in
     ap (λ (b : Bool). if b then outside (suc n) (whole ++ load lines (Some (suc n)) ∷ []) else (if is_silent text then inside (suc n) whole lines else more)) e
     ∙ ap (λ (b : Bool). if b then inside (suc n) whole lines else more) s
@@ -203,21 +203,21 @@ cut_node n whole lines text e s =
 cut_end : (n : ℕ) (whole : List OrderLines) (lines : LoadLines) → with_line (inside n whole lines) (codes "%%") ≡ outside (suc n) (whole ++ load lines (Some (suc n)) ∷ [])
 cut_end n whole lines = refl
 
-cut_nodes : (n : ℕ) (whole : List OrderLines) (head : Numbered) (before : List Numbered) (low : ℕ) (nodes : List Numbered) (high : ℕ) → Nodes low nodes high → (more : List (List ℕ))
-    → cut_further (inside n whole (record { head = head; nodes = before })) (map (λ (line : Numbered). line.text) nodes ++ more)
+cut_nodes : (n : ℕ) (whole : List OrderLines) (head : NumberedLine) (before : List NumberedLine) (low : ℕ) (nodes : List NumberedLine) (high : ℕ) → Nodes low nodes high → (more : List (List ℕ))
+    → cut_further (inside n whole (record { head = head; nodes = before })) (map (λ (line : NumberedLine). line.text) nodes ++ more)
     ≡ cut_further (inside (count_after n nodes) whole (record { head = head; nodes = before ++ numbered_from n nodes })) more
-cut_nodes n whole head before low [] high h more = ap (λ (zs : List Numbered). cut_further (inside n whole (record { head = head; nodes = zs })) more) (sym (append-nil before))
+cut_nodes n whole head before low [] high h more = ap (λ (zs : List NumberedLine). cut_further (inside n whole (record { head = head; nodes = zs })) more) (sym (append-nil before))
 cut_nodes n whole head before low (line ∷ nodes) high h more =
-    let new : Numbered = record { number = suc n; text = line.text } in
-    ap (λ (cut : Cut). cut_further cut (map (λ (line : Numbered). line.text) nodes ++ more)) (cut_node n whole (record { head = head; nodes = before }) line.text h.0 h.1)
+    let new : NumberedLine = record { number = suc n; text = line.text } in
+    ap (λ (cut : Cut). cut_further cut (map (λ (line : NumberedLine). line.text) nodes ++ more)) (cut_node n whole (record { head = head; nodes = before }) line.text h.0 h.1)
     ∙ cut_nodes (suc n) whole head (before ++ new ∷ []) line.number nodes high h.3 more
-    ∙ ap (λ (zs : List Numbered). cut_further (inside (count_after (suc n) nodes) whole (record { head = head; nodes = zs })) more) (append_assoc before (new ∷ []) (numbered_from (suc n) nodes))
+    ∙ ap (λ (zs : List NumberedLine). cut_further (inside (count_after (suc n) nodes) whole (record { head = head; nodes = zs })) more) (append_assoc before (new ∷ []) (numbered_from (suc n) nodes))
 
 cut_load : (n : ℕ) (whole : List OrderLines) (low : ℕ) (lines : LoadLines) (high : ℕ) → Opened low lines high → (more : List (List ℕ))
-    → cut_further (outside n whole) (lines.head.text ∷ map (λ (line : Numbered). line.text) lines.nodes ++ more)
+    → cut_further (outside n whole) (lines.head.text ∷ map (λ (line : NumberedLine). line.text) lines.nodes ++ more)
     ≡ cut_further (inside (count_after (suc n) lines.nodes) whole (load_from n lines)) more
 cut_load n whole low lines high h more =
-    ap (λ (cut : Cut). cut_further cut (map (λ (line : Numbered). line.text) lines.nodes ++ more)) (cut_head n whole lines.head.text h.head)
+    ap (λ (cut : Cut). cut_further cut (map (λ (line : NumberedLine). line.text) lines.nodes ++ more)) (cut_head n whole lines.head.text h.head)
     ∙ cut_nodes (suc n) whole (record { number = suc n; text = lines.head.text }) [] lines.head.number lines.nodes high h.nodes more
 
 abbrev all_of : Cut → List OrderLines
@@ -234,18 +234,18 @@ cut_chain n whole low (single line ∷ others) high h =
 cut_chain n whole low (load lines (Some end_line) ∷ others) high h =
     let last : ℕ = count_after (suc n) lines.nodes in
     let new : OrderLines = load (load_from n lines) (Some (suc last)) in
-    ap (λ (zs : List (List ℕ)). all_of (cut_further (outside n whole) (lines.head.text ∷ zs))) (append_assoc (map (λ (line : Numbered). line.text) lines.nodes) (codes "%%" ∷ []) (flat_map lines_of others))
+    ap (λ (zs : List (List ℕ)). all_of (cut_further (outside n whole) (lines.head.text ∷ zs))) (append_assoc (map (λ (line : NumberedLine). line.text) lines.nodes) (codes "%%" ∷ []) (flat_map lines_of others))
     ∙ ap all_of (cut_load n whole low lines h.0.0 h.0.1 (codes "%%" ∷ flat_map lines_of others))
     ∙ cut_chain (suc last) (whole ++ new ∷ []) end_line others high h.1
     ∙ append_assoc whole (new ∷ []) (orders_from (suc last) others)
 cut_chain n whole low (load lines None ∷ []) high h =
-    ap (λ (zs : List (List ℕ)). all_of (cut_further (outside n whole) (lines.head.text ∷ zs))) (append-nil (map (λ (line : Numbered). line.text) lines.nodes ++ []))
+    ap (λ (zs : List (List ℕ)). all_of (cut_further (outside n whole) (lines.head.text ∷ zs))) (append-nil (map (λ (line : NumberedLine). line.text) lines.nodes ++ []))
     ∙ ap all_of (cut_load n whole low lines high h [])
 cut_chain n whole low (load lines None ∷ next ∷ others) high h = elim h [ ]
 
 -- ---- the numbers that they are given
 
-abbrev in_nodes : ℕ → List Numbered → ℕ → ℕ
+abbrev in_nodes : ℕ → List NumberedLine → ℕ → ℕ
 in_nodes n [] k = suc n
 in_nodes n (line ∷ lines) k = if nat_le k line.number then suc n else in_nodes (suc n) lines k
 
@@ -268,18 +268,18 @@ first-if k bound x y le = ap (λ (b : Bool). if b then x else y) (le-leb k bound
 second-if : (k bound : ℕ) (x y : ℕ) → bound < k → (if nat_le k bound then x else y) ≡ y
 second-if k bound x y lt = ap (λ (b : Bool). if b then x else y) (lt-leb k bound lt)
 
-nodes_same : (f g : ℕ → ℕ) (low : ℕ) (lines : List Numbered) (high : ℕ) → Nodes low lines high → Agree f g low high → map (numbered_by f) lines ≡ map (numbered_by g) lines
+nodes_same : (f g : ℕ → ℕ) (low : ℕ) (lines : List NumberedLine) (high : ℕ) → Nodes low lines high → Agree f g low high → map (numbered_by f) lines ≡ map (numbered_by g) lines
 nodes_same f g low [] high h same = refl
 nodes_same f g low (line ∷ lines) high h same =
     let le : line.number ≤ high = nodes_le line.number lines high h.3 in
     ap (λ (k : ℕ). record { number = k; text = line.text } ∷ map (numbered_by f) lines) (same line.number h.2 le)
-    ∙ ap (λ (zs : List Numbered). numbered_by g line ∷ zs) (nodes_same f g line.number lines high h.3 (λ k more less. same k (omega (arith, h.2, more)) less))
+    ∙ ap (λ (zs : List NumberedLine). numbered_by g line ∷ zs) (nodes_same f g line.number lines high h.3 (λ k more less. same k (omega (arith, h.2, more)) less))
 
-nodes_given : (n low : ℕ) (lines : List Numbered) (high : ℕ) → Nodes low lines high → map (numbered_by (in_nodes n lines)) lines ≡ numbered_from n lines
+nodes_given : (n low : ℕ) (lines : List NumberedLine) (high : ℕ) → Nodes low lines high → map (numbered_by (in_nodes n lines)) lines ≡ numbered_from n lines
 nodes_given n low [] high h = refl
 nodes_given n low (line ∷ lines) high h =
     ap (λ (k : ℕ). record { number = k; text = line.text } ∷ map (numbered_by (in_nodes n (line ∷ lines))) lines) (first-if line.number line.number (suc n) (in_nodes (suc n) lines line.number) (omega arith))
-    ∙ ap (λ (zs : List Numbered). record { number = suc n; text = line.text } ∷ zs)
+    ∙ ap (λ (zs : List NumberedLine). record { number = suc n; text = line.text } ∷ zs)
     (nodes_same (in_nodes n (line ∷ lines)) (in_nodes (suc n) lines) line.number lines high h.3 (λ k more less. second-if k line.number (suc n) (in_nodes (suc n) lines k) more)
     ∙ nodes_given (suc n) line.number lines high h.3)
 
@@ -289,18 +289,18 @@ load_by given lines = record { head = numbered_by given lines.head; nodes = map 
 load_same : (f g : ℕ → ℕ) (low : ℕ) (lines : LoadLines) (high : ℕ) → Opened low lines high → Agree f g low high → load_by f lines ≡ load_by g lines
 load_same f g low lines high h same =
     ap (λ (k : ℕ). record { head = record { number = k; text = lines.head.text }; nodes = map (numbered_by f) lines.nodes }) (same lines.head.number h.above (nodes_le lines.head.number lines.nodes high h.nodes))
-    ∙ ap (λ (zs : List Numbered). record { head = numbered_by g lines.head; nodes = zs }) (nodes_same f g lines.head.number lines.nodes high h.nodes (λ k more less. same k (omega (arith, h.above, more)) less))
+    ∙ ap (λ (zs : List NumberedLine). record { head = numbered_by g lines.head; nodes = zs }) (nodes_same f g lines.head.number lines.nodes high h.nodes (λ k more less. same k (omega (arith, h.above, more)) less))
 
 load_given : (n low : ℕ) (lines : LoadLines) (high : ℕ) → Opened low lines high → load_by (in_load n lines) lines ≡ load_from n lines
 load_given n low lines high h =
     ap (λ (k : ℕ). record { head = record { number = k; text = lines.head.text }; nodes = map (numbered_by (in_load n lines)) lines.nodes })
     (first-if lines.head.number lines.head.number (suc n) (in_nodes (suc n) lines.nodes lines.head.number) (omega arith))
-    ∙ ap (λ (zs : List Numbered). record { head = record { number = suc n; text = lines.head.text }; nodes = zs })
+    ∙ ap (λ (zs : List NumberedLine). record { head = record { number = suc n; text = lines.head.text }; nodes = zs })
     (nodes_same (in_load n lines) (in_nodes (suc n) lines.nodes) lines.head.number lines.nodes high h.nodes (λ k more less. second-if k lines.head.number (suc n) (in_nodes (suc n) lines.nodes k) more)
     ∙ nodes_given (suc n) lines.head.number lines.nodes high h.nodes)
 
 -- the number of the line that ends a load
-past_nodes : (n low : ℕ) (lines : List Numbered) (high k : ℕ) → Nodes low lines high → high < k → in_nodes n lines k ≡ suc (count_after n lines)
+past_nodes : (n low : ℕ) (lines : List NumberedLine) (high k : ℕ) → Nodes low lines high → high < k → in_nodes n lines k ≡ suc (count_after n lines)
 past_nodes n low [] high k h more = refl
 past_nodes n low (line ∷ lines) high k h more =
     second-if k line.number (suc n) (in_nodes (suc n) lines k) (omega (arith, more, nodes_le line.number lines high h.3)) ∙ past_nodes (suc n) line.number lines high k h.3 more

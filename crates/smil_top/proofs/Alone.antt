@@ -8,7 +8,7 @@ use Rattle.smil_top.specs.Cut.{OrderLines}
 use Rattle.smil_top.specs.Session.{Session}
 use Rattle.smil_top.specs.Answers.{Answer, answer_within}
 use Rattle.smil_top.specs.Transcript.{Answering, untold}
-use Rattle.smil_top.specs.Laws.{Tried, Answered, Heard, answer_to, heard, session_after, answered_from, answered_by, refuses_as, any_refused_as, is_of, part_of, is_too_many, renumbered_try, AllSameBut, IsAlone}
+use Rattle.smil_top.specs.Laws.{OrderAttempt, AnsweredOrder, Heard, answer_to, heard, session_after, answered_from, answered_by, refuses_as, any_refused_as, is_of, part_of, is_too_many, renumbered_try, AllSameBut, IsAlone}
 use Rattle.smil_top.proofs.Apart.{order_stays, own_order}
 use Rattle.smil_top.proofs.Aside.{are_aside}
 use Rattle.smil_top.proofs.Retold.{sessions_from, sessions-told}
@@ -17,11 +17,11 @@ module _ (allowed : Limits) (name : List ℕ) (title : is_title name ≡ true) w
   abbrev answering : Answering
   answering = answer_within allowed
 
-  abbrev own : List Tried → List Tried
-  own tried = filter (λ (one : Tried). is_of name one.order) tried
+  abbrev own : List OrderAttempt → List OrderAttempt
+  own tried = filter (λ (one : OrderAttempt). is_of name one.order) tried
 
   -- one order more, of the name or not
-  record Same (session : Session) (one : Tried) : Type 0 where
+  record Same (session : Session) (one : OrderAttempt) : Type 0 where
     answer : heard (answer_to answering (part_of name session) one) ≡ heard (answer_to answering session one)
     after : session_after (part_of name session) (answer_to answering (part_of name session) one) ≡ part_of name (session_after session (answer_to answering session one))
 
@@ -30,7 +30,7 @@ module _ (allowed : Limits) (name : List ℕ) (title : is_title name ≡ true) w
   own_by session order true h few = record { answer = refl; after = refl }
   own_by session order false h few = let own = own_order allowed name session order title h few in record { answer = own.answer; after = own.after }
 
-  own_one : (session : Session) (one : Tried) → is_of name one.order ≡ true → refuses_as is_too_many (heard (answer_to answering session one)) ≡ false → Same session one
+  own_one : (session : Session) (one : OrderAttempt) → is_of name one.order ≡ true → refuses_as is_too_many (heard (answer_to answering session one)) ≡ false → Same session one
   own_one session one h few = own_by session one.order one.lacks h few
 
   other_by : (session : Session) (order : OrderLines) (lacks : Bool) → is_of name order ≡ false
@@ -38,38 +38,38 @@ module _ (allowed : Limits) (name : List ℕ) (title : is_title name ≡ true) w
   other_by session order true h = refl
   other_by session order false h = order_stays allowed name session order h
 
-  other_one : (session : Session) (one : Tried) → is_of name one.order ≡ false → part_of name (session_after session (answer_to answering session one)) ≡ part_of name session
+  other_one : (session : Session) (one : OrderAttempt) → is_of name one.order ≡ false → part_of name (session_after session (answer_to answering session one)) ≡ part_of name session
   other_one session one h = other_by session one.order one.lacks h
 
-  answers-step : (session : Session) (one : Tried) (others : List Tried) (answered : List Answered) (b : Bool) → is_of name one.order ≡ b
+  answers-step : (session : Session) (one : OrderAttempt) (others : List OrderAttempt) (answered : List AnsweredOrder) (b : Bool) → is_of name one.order ≡ b
       → refuses_as is_too_many (heard (answer_to answering session one)) ≡ false
       → answered ≡ answered_from answering (part_of name (session_after session (answer_to answering session one))) others
       → (if b then record { order = one.order; answer = heard (answer_to answering session one) } ∷ answered else answered)
       ≡ answered_from answering (part_of name session) (if b then one ∷ others else others)
   answers-step session one others answered true h few rest =
       let same = own_one session one h few in
-      ap (λ (zs : List Answered). record { order = one.order; answer = heard (answer_to answering session one) } ∷ zs) rest
+      ap (λ (zs : List AnsweredOrder). record { order = one.order; answer = heard (answer_to answering session one) } ∷ zs) rest
       ∙ ap (λ (s : Session). record { order = one.order; answer = heard (answer_to answering session one) } ∷ answered_from answering s others) (sym same.after)
       ∙ ap (λ (a : Heard). record { order = one.order; answer = a } ∷ answered_from answering (session_after (part_of name session) (answer_to answering (part_of name session) one)) others) (sym same.answer)
   answers-step session one others answered false h few rest = rest ∙ ap (λ (s : Session). answered_from answering s others) (other_one session one h)
 
-  answers_alone : (session : Session) (tried : List Tried) → any_refused_as is_too_many (answered_from answering session tried) ≡ false
-      → filter (λ (one : Answered). is_of name one.order) (answered_from answering session tried) ≡ answered_from answering (part_of name session) (own tried)
+  answers_alone : (session : Session) (tried : List OrderAttempt) → any_refused_as is_too_many (answered_from answering session tried) ≡ false
+      → filter (λ (one : AnsweredOrder). is_of name one.order) (answered_from answering session tried) ≡ answered_from answering (part_of name session) (own tried)
   answers_alone session [] few = refl
   answers_alone session (one ∷ others) few =
       let answer : Answer = answer_to answering session one in
       let parts = or_parts (refuses_as is_too_many (heard answer)) (any_refused_as is_too_many (answered_from answering (session_after session answer) others)) few in
-      answers-step session one (own others) (filter (λ (one : Answered). is_of name one.order) (answered_from answering (session_after session answer) others)) (is_of name one.order) refl parts.0
+      answers-step session one (own others) (filter (λ (one : AnsweredOrder). is_of name one.order) (answered_from answering (session_after session answer) others)) (is_of name one.order) refl parts.0
       (answers_alone (session_after session answer) others parts.1)
 
-  session-step : (session : Session) (one : Tried) (others : List Tried) (left : Session) (b : Bool) → is_of name one.order ≡ b
+  session-step : (session : Session) (one : OrderAttempt) (others : List OrderAttempt) (left : Session) (b : Bool) → is_of name one.order ≡ b
       → refuses_as is_too_many (heard (answer_to answering session one)) ≡ false
       → left ≡ sessions_from answering (part_of name (session_after session (answer_to answering session one))) others
       → left ≡ sessions_from answering (part_of name session) (if b then one ∷ others else others)
   session-step session one others left true h few rest = rest ∙ ap (λ (s : Session). sessions_from answering s others) (sym (own_one session one h few).after)
   session-step session one others left false h few rest = rest ∙ ap (λ (s : Session). sessions_from answering s others) (other_one session one h)
 
-  session_alone : (session : Session) (tried : List Tried) → any_refused_as is_too_many (answered_from answering session tried) ≡ false
+  session_alone : (session : Session) (tried : List OrderAttempt) → any_refused_as is_too_many (answered_from answering session tried) ≡ false
       → part_of name (sessions_from answering session tried) ≡ sessions_from answering (part_of name session) (own tried)
   session_alone session [] few = refl
   session_alone session (one ∷ others) few =
@@ -78,10 +78,10 @@ module _ (allowed : Limits) (name : List ℕ) (title : is_title name ≡ true) w
       session-step session one (own others) (part_of name (sessions_from answering (session_after session answer) others)) (is_of name one.order) refl parts.0
       (session_alone (session_after session answer) others parts.1)
 
-  pub is_alone : (tried : List Tried) → any_refused_as is_too_many (answered_by answering tried) ≡ false → IsAlone answering name tried
+  pub is_alone : (tried : List OrderAttempt) → any_refused_as is_too_many (answered_by answering tried) ≡ false → IsAlone answering name tried
   is_alone tried few = record {
     answers = answers_alone [] tried few;
-    aside = λ given. subst (λ (zs : List Answered). AllSameBut given zs (answered_by answering (map (renumbered_try given) (own tried)))) (sym (answers_alone [] tried few))
+    aside = λ given. subst (λ (zs : List AnsweredOrder). AllSameBut given zs (answered_by answering (map (renumbered_try given) (own tried)))) (sym (answers_alone [] tried few))
         (are_aside allowed given (own tried)).answers;
     session = ap (part_of name) (sessions-told answering untold tried) ∙ session_alone [] tried few ∙ sym (sessions-told answering untold (own tried));
   }

@@ -17,20 +17,20 @@ use Rattle.smil_grammar.specs.Results.{◌>>=◌}
 use Rattle.smil_grammar.specs.Scripts.{line_of}
 use Rattle.smil_grammar.specs.Formats.{formats}
 use Rattle.smil_grammar.specs.Outlines.{Outline, no_lines, line_within, ended, version_of}
-use Rattle.smil_top.specs.Cut.{Numbered, OrderLines, single, load, first_line}
+use Rattle.smil_top.specs.Cut.{NumberedLine, OrderLines, single, load, first_line}
 use Rattle.smil_top.specs.Session.{Session, presentation_of, with_state, without, may_load}
-use Rattle.smil_top.specs.Answers.{Refused, Answer, Given, at_line, read_of, found_presentation, said_within, name_of, outline_from, given_within, loaded_within, answer_within}
+use Rattle.smil_top.specs.Answers.{RefusedOrder, Answer, LoadedDocument, at_line, read_of, found_presentation, said_within, name_of, outline_from, given_within, loaded_within, answer_within}
 use Rattle.smil_top.specs.Transcript.{Answering, untold}
-use Rattle.smil_top.specs.Laws.{Tried, Answered, answer_to, heard, session_after, answered_from, numbered_by, renumbered, renumbered_try, AreSameBut, without_text, with_text, refused_at, AreAside}
+use Rattle.smil_top.specs.Laws.{OrderAttempt, AnsweredOrder, answer_to, heard, session_after, answered_from, numbered_by, renumbered, renumbered_try, AreSameBut, without_text, with_text, refused_at, AreAside}
 use Rattle.smil_top.proofs.Retold.{sessions_from, sessions-told}
 
 -- what a load gives, by its name, its outline and what the outline's end gives
-abbrev pub document_from : List ℕ → Outline → Result Document Refused → Result Given Refused
+abbrev pub document_from : List ℕ → Outline → Result Document RefusedOrder → Result LoadedDocument RefusedOrder
 document_from name outline d = d >>= λ document. Ok (record { name = name; document = document; version = version_of outline })
 
 module _ (allowed : Limits) (given : ℕ → ℕ) where
   -- the same with the line of a fault moved
-  abbrev moved : {A : Type 0} → Result A Refused → Result A Refused
+  abbrev moved : {A : Type 0} → Result A RefusedOrder → Result A RefusedOrder
   moved (Ok x) = Ok x
   moved (Err fault) = Err (record { line = given fault.line; refusal = fault.refusal })
 
@@ -40,13 +40,13 @@ module _ (allowed : Limits) (given : ℕ → ℕ) where
 
   -- ---- what a load gives
 
-  lines-step : (line : ℕ) (lines : List Numbered) (r : Result Outline Refusal)
+  lines-step : (line : ℕ) (lines : List NumberedLine) (r : Result Outline Refusal)
       → ((more : Outline) → outline_from allowed more (map (numbered_by given) lines) ≡ moved (outline_from allowed more lines))
       → (at_line (given line) r >>= λ more. outline_from allowed more (map (numbered_by given) lines)) ≡ moved (at_line line r >>= λ more. outline_from allowed more lines)
   lines-step line lines (Ok more) rest = rest more
   lines-step line lines (Err refusal) rest = refl
 
-  outline-moved : (outline : Outline) (lines : List Numbered) → outline_from allowed outline (map (numbered_by given) lines) ≡ moved (outline_from allowed outline lines)
+  outline-moved : (outline : Outline) (lines : List NumberedLine) → outline_from allowed outline (map (numbered_by given) lines) ≡ moved (outline_from allowed outline lines)
   outline-moved outline [] = refl
   outline-moved outline (line ∷ lines) = lines-step line.number lines (line_within allowed outline line.text) (λ more. outline-moved more lines)
 
@@ -55,14 +55,14 @@ module _ (allowed : Limits) (given : ℕ → ℕ) where
   ended-moved name outline end_line (Ok document) = refl
   ended-moved name outline end_line (Err refusal) = refl
 
-  abbrev nodes_from : List ℕ → ℕ → Result Outline Refused → Result Given Refused
+  abbrev nodes_from : List ℕ → ℕ → Result Outline RefusedOrder → Result LoadedDocument RefusedOrder
   nodes_from name end_line o = o >>= λ outline. document_from name outline (at_line end_line (ended outline))
 
-  nodes-moved : (name : List ℕ) (end_line : ℕ) (o : Result Outline Refused) → nodes_from name (given end_line) (moved o) ≡ moved (nodes_from name end_line o)
+  nodes-moved : (name : List ℕ) (end_line : ℕ) (o : Result Outline RefusedOrder) → nodes_from name (given end_line) (moved o) ≡ moved (nodes_from name end_line o)
   nodes-moved name end_line (Ok outline) = ended-moved name outline end_line (ended outline)
   nodes-moved name end_line (Err fault) = refl
 
-  title-moved : (line end_line : ℕ) (nodes : List Numbered) (r : Result (List ℕ) Refusal)
+  title-moved : (line end_line : ℕ) (nodes : List NumberedLine) (r : Result (List ℕ) Refusal)
       → (at_line (given line) r >>= λ name. nodes_from name (given end_line) (outline_from allowed no_lines (map (numbered_by given) nodes)))
       ≡ moved (at_line line r >>= λ name. nodes_from name end_line (outline_from allowed no_lines nodes))
   title-moved line end_line nodes (Ok name) = ap (nodes_from name (given end_line)) (outline-moved no_lines nodes) ∙ nodes-moved name end_line (outline_from allowed no_lines nodes)
@@ -104,25 +104,25 @@ module _ (allowed : Limits) (given : ℕ → ℕ) where
     read_same line (Ok Blank) = (without_text, refl)
     read_same line (Err refusal) = (refused_at line refusal, refl)
 
-    abbrev opened_at : Given → ℕ → Result Presentation Refusal → Answer
+    abbrev opened_at : LoadedDocument → ℕ → Result Presentation Refusal → Answer
     opened_at what line r = at_line line (r >>= λ loaded. Ok (record { text = load_text loaded ++ ok_line line what.name (pos loaded.now); session = session ++ record { name = what.name; presentation = loaded } ∷ [] }))
 
-    opened_same : (line : ℕ) (what : Given) (r : Result Presentation Refusal) → Same line (opened_at what line r) (opened_at what (given line) r)
+    opened_same : (line : ℕ) (what : LoadedDocument) (r : Result Presentation Refusal) → Same line (opened_at what line r) (opened_at what (given line) r)
     opened_same line what (Ok loaded) = (with_text (load_text loaded) (what.name ∷ signed_decimal (pos loaded.now) ∷ []), refl)
     opened_same line what (Err refusal) = (refused_at line refusal, refl)
 
-    abbrev loaded_at : Given → ℕ → Result (Unit {0}) Refusal → Answer
+    abbrev loaded_at : LoadedDocument → ℕ → Result (Unit {0}) Refusal → Answer
     loaded_at what line m = at_line line (m >>= λ free. opened_within allowed what.document >>= λ loaded.
         Ok (record { text = load_text loaded ++ ok_line line what.name (pos loaded.now); session = session ++ record { name = what.name; presentation = loaded } ∷ [] }))
 
-    loaded_same : (line : ℕ) (what : Given) (m : Result (Unit {0}) Refusal) → Same line (loaded_at what line m) (loaded_at what (given line) m)
+    loaded_same : (line : ℕ) (what : LoadedDocument) (m : Result (Unit {0}) Refusal) → Same line (loaded_at what line m) (loaded_at what (given line) m)
     loaded_same line what (Ok free) = opened_same line what (opened_within allowed what.document)
     loaded_same line what (Err refusal) = (refused_at line refusal, refl)
 
-    abbrev given_at : ℕ → Result Given Refused → Answer
+    abbrev given_at : ℕ → Result LoadedDocument RefusedOrder → Answer
     given_at line g = g >>= λ what. at_line line (loaded_within allowed session line what)
 
-    given_same : (line : ℕ) (g : Result Given Refused) → Same line (given_at line g) (given_at (given line) (moved g))
+    given_same : (line : ℕ) (g : Result LoadedDocument RefusedOrder) → Same line (given_at line g) (given_at (given line) (moved g))
     given_same line (Ok what) = loaded_same line what (may_load what.name session)
     given_same line (Err fault) = (refused_at fault.line fault.refusal, refl)
 
@@ -130,7 +130,7 @@ module _ (allowed : Limits) (given : ℕ → ℕ) where
     order_same (single line) = read_same line.number (read_of line.text)
     order_same (load lines None) = (refused_at lines.head.number _, refl)
     order_same (load lines (Some end_line)) =
-        subst (λ (g : Result Given Refused). Same lines.head.number (given_at lines.head.number (given_within allowed lines end_line)) (given_at (given lines.head.number) g))
+        subst (λ (g : Result LoadedDocument RefusedOrder). Same lines.head.number (given_at lines.head.number (given_within allowed lines end_line)) (given_at (given lines.head.number) g))
         (sym (title-moved lines.head.number end_line lines.nodes (line_of lines.head.text >>= name_of))) (given_same lines.head.number (given_within allowed lines end_line))
 
     renumbered-first : (order : OrderLines) → first_line (renumbered given order) ≡ given (first_line order)
@@ -143,7 +143,7 @@ module _ (allowed : Limits) (given : ℕ → ℕ) where
         subst (λ (n : ℕ). Same (first_line order) (at_line (first_line order) (Err Memory)) (at_line n (Err Memory))) (sym (renumbered-first order)) (refused_at (first_line order) Memory, refl)
     try_same order false = order_same order
 
-    one_same : (one : Tried) → Same (first_line one.order) (answer_to (answer_within allowed) session one) (answer_to (answer_within allowed) session (renumbered_try given one))
+    one_same : (one : OrderAttempt) → Same (first_line one.order) (answer_to (answer_within allowed) session one) (answer_to (answer_within allowed) session (renumbered_try given one))
     one_same one = try_same one.order one.lacks
 
   -- ---- transcripts
@@ -151,26 +151,26 @@ module _ (allowed : Limits) (given : ℕ → ℕ) where
   abbrev answering : Answering
   answering = answer_within allowed
 
-  abbrev Pair : Answered → Answered → Type 0
+  abbrev Pair : AnsweredOrder → AnsweredOrder → Type 0
   Pair one other = AreSameBut given (first_line one.order) one.answer other.answer
 
-  answers_same : (session : Session) (tried : List Tried) → AllZip Pair (answered_from answering session tried) (answered_from answering session (map (renumbered_try given) tried))
+  answers_same : (session : Session) (tried : List OrderAttempt) → AllZip Pair (answered_from answering session tried) (answered_from answering session (map (renumbered_try given) tried))
   answers_same session [] = tt
   answers_same session (one ∷ others) =
       let same = one_same session one in
-      let behind : List Answered = answered_from answering (session_after session (answer_to answering session one)) others in (
+      let behind : List AnsweredOrder = answered_from answering (session_after session (answer_to answering session one)) others in (
         same.0,
         subst (λ (s : Session). AllZip Pair behind (answered_from answering s (map (renumbered_try given) others))) (sym same.1)
             (answers_same (session_after session (answer_to answering session one)) others),
       )
 
-  sessions_same : (session : Session) (tried : List Tried) → sessions_from answering session (map (renumbered_try given) tried) ≡ sessions_from answering session tried
+  sessions_same : (session : Session) (tried : List OrderAttempt) → sessions_from answering session (map (renumbered_try given) tried) ≡ sessions_from answering session tried
   sessions_same session [] = refl
   sessions_same session (one ∷ others) =
       ap (λ (s : Session). sessions_from answering s (map (renumbered_try given) others)) (one_same session one).1
       ∙ sessions_same (session_after session (answer_to answering session one)) others
 
-  pub are_aside : (tried : List Tried) → AreAside answering given tried
+  pub are_aside : (tried : List OrderAttempt) → AreAside answering given tried
   are_aside tried = record {
     answers = answers_same [] tried;
     session = sessions-told answering untold (map (renumbered_try given) tried) ∙ sessions_same [] tried ∙ sym (sessions-told answering untold tried);

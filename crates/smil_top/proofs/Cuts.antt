@@ -2,7 +2,7 @@
 use Rattle.std.proofs.Common.{◌≡◌, ℕ, ◌+◌, suc, Bool, true, false, List, [], ◌∷◌, ◌++◌, length, Option, Some, None, refl, ap, sym, ◌∙◌, arith, append_assoc}
 use Rattle.std.specs.Prelude.{if◌then◌else◌}
 use Rattle.std.proofs.lemmas.List.{append-nil}
-use Rattle.smil_top.specs.Cut.{Numbered, LoadLines, OrderLines, single, load, Cut, opens, ends, is_silent, cut_by, with_line, cut_further, cut_of, unended, orders}
+use Rattle.smil_top.specs.Cut.{NumberedLine, LoadLines, OrderLines, single, load, Cut, opens, ends, is_silent, cut_by, with_line, cut_further, cut_of, unended, orders}
 
 -- one line more
 cut_further-append : (cut : Cut) (lines more : List (List ℕ)) → cut_further cut (lines ++ more) ≡ cut_further (cut_further cut lines) more
@@ -18,7 +18,7 @@ if_either true x y P h k = h
 if_either false x y P h k = k
 
 -- lines are counted
-count_by : (at : Option LoadLines) (whole : List OrderLines) (line : Numbered) → (cut_by at whole line).count ≡ line.number
+count_by : (at : Option LoadLines) (whole : List OrderLines) (line : NumberedLine) → (cut_by at whole line).count ≡ line.number
 count_by None whole line =
     if_either (opens line.text) _ _ (λ (cut : Cut). cut.count ≡ line.number) refl (if_either (is_silent line.text) _ _ (λ (cut : Cut). cut.count ≡ line.number) refl refl)
 count_by (Some lines) whole line =
@@ -39,7 +39,7 @@ count-cut_of lines = omega (arith, count_further (record { count = 0; whole = []
 abbrev pub IsLater : List OrderLines → Cut → Type 0
 IsLater whole cut = (later : List OrderLines) × (cut.whole ≡ whole ++ later)
 
-later_by : (at : Option LoadLines) (whole : List OrderLines) (line : Numbered) → IsLater whole (cut_by at whole line)
+later_by : (at : Option LoadLines) (whole : List OrderLines) (line : NumberedLine) → IsLater whole (cut_by at whole line)
 later_by None whole line =
     if_either (opens line.text) _ _ (IsLater whole) ([], sym (append-nil whole)) (if_either (is_silent line.text) _ _ (IsLater whole) ([], sym (append-nil whole)) (single line ∷ [], refl))
 later_by (Some lines) whole line =

@@ -31,9 +31,9 @@ use Rattle.smil_grammar.specs.Scripts.{Word, Reading, given, timed, end_timed, f
 use Rattle.smil_grammar.specs.Formats.{formats, written_at}
 use Rattle.smil_grammar.specs.Nodes.{Shape, is_space, shape_of, kind_of_shape}
 use Rattle.smil_grammar.specs.Outlines.{Outline, no_lines, unless, is_misplaced, is_bad_serial, has_id, in_line, attrs_in, last_of, node_within, opens_saved, shape_in, with_header, header_of, shape_within, read_within, line_within, ended, with_node}
-use Rattle.smil_top.specs.Cut.{Numbered, LoadLines, OrderLines, single, load}
+use Rattle.smil_top.specs.Cut.{NumberedLine, LoadLines, OrderLines, single, load}
 use Rattle.smil_top.specs.Session.{Session, presentation_of, may_load}
-use Rattle.smil_top.specs.Answers.{Refused, Answer, Given, at_line, read_of, found_presentation, said_within, name_of, outline_from, given_within, loaded_within, silent, answer_within, check_within}
+use Rattle.smil_top.specs.Answers.{RefusedOrder, Answer, LoadedDocument, at_line, read_of, found_presentation, said_within, name_of, outline_from, given_within, loaded_within, silent, answer_within, check_within}
 use Rattle.smil_top.specs.Transcript.{is_memory}
 use Rattle.smil_top.specs.Laws.{heard, refuses_as}
 use Rattle.smil_top.proofs.Sure.{Sure, made, refused, either, onward, attr_sure, attrs_sure, kind_shape_sure, node_sure, name_sure, column_sure, node_lacks}
@@ -255,7 +255,7 @@ outcome_sure allowed p (order.Stack who name) = on_sure p who _ (λ n. made is_m
 
 -- ---- orders
 
-abbrev fault_lacks : Refused → Bool
+abbrev fault_lacks : RefusedOrder → Bool
 fault_lacks fault = is_memory fault.refusal
 
 at_line_sure : {A : Type 0} (line : ℕ) (r : Result A Refusal) → Fine r → Sure fault_lacks (at_line line r)
@@ -280,7 +280,7 @@ title_sure (Close name) = no refusal.NotACommand refl
 title_sure (To name order) = no refusal.NotACommand refl
 title_sure Blank = no refusal.NotACommand refl
 
-outline_sure : (allowed : Limits) (outline : Outline) (lines : List Numbered) → Sure fault_lacks (outline_from allowed outline lines)
+outline_sure : (allowed : Limits) (outline : Outline) (lines : List NumberedLine) → Sure fault_lacks (outline_from allowed outline lines)
 outline_sure allowed outline [] = made fault_lacks outline
 outline_sure allowed outline (line ∷ lines) =
     onward fault_lacks (at_line line.number (line_within allowed outline line.text)) _ (at_line_sure line.number _ (line_sure allowed outline line.text)) (λ more. outline_sure allowed more lines)
@@ -297,7 +297,7 @@ given_sure allowed lines end_line =
 may_load_sure : (name : List ℕ) (session : Session) → Fine (may_load name session)
 may_load_sure name session = either is_memory (is_some (presentation_of name session)) _ _ (no refusal.NameTaken refl) (either is_memory (nat_lt (length session) PRESENTATIONS) _ _ (made is_memory tt) (no refusal.TooManyPresentations refl))
 
-loaded_sure : (allowed : Limits) (session : Session) (line : ℕ) (given : Given) → Fine (loaded_within allowed session line given)
+loaded_sure : (allowed : Limits) (session : Session) (line : ℕ) (given : LoadedDocument) → Fine (loaded_within allowed session line given)
 loaded_sure allowed session line what =
     onward is_memory (may_load what.name session) _ (may_load_sure what.name session) (λ free. onward is_memory (opened_within allowed what.document) _ (room_sure allowed (record { document = what.document; log = []; now = 0 })) (λ loaded. made is_memory _))
 

@@ -21,12 +21,12 @@ use Rattle.smil_live.specs.Counts.{least_loading, most_loading}
 use Rattle.smil_top.specs.declared.answer.Answer.{Answer as AnswerText}
 use Rattle.smil_top.specs.declared.counts.Counts.{Counts}
 use Rattle.smil_top.specs.declared.fault.Fault.{Fault}
-use Rattle.smil_top.specs.declared.given.Given.{Given as GivenDoc}
+use Rattle.smil_top.specs.declared.given.LoadedDoc.{LoadedDoc as GivenDoc}
 use Rattle.smil_top.specs.declared.run.Run.{Run}
 use Rattle.smil_top.specs.Cut.{Cut, LoadLines, OrderLines, cut_of, load, unended, with_line}
 use Rattle.smil_top.specs.Session.{Session, presentation_of, may_load}
-use Rattle.smil_top.specs.Answers.{Answer, Given, Refused, at_line, found_presentation, given_within, answer_of}
-use Rattle.smil_top.specs.Transcript.{Told, MayAnswer, is_memory, transcript_by, untold}
+use Rattle.smil_top.specs.Answers.{Answer, LoadedDocument, RefusedOrder, at_line, found_presentation, given_within, answer_of}
+use Rattle.smil_top.specs.Transcript.{Progress, MayAnswer, is_memory, transcript_by, untold}
 use Rattle.smil_top.specs.Serving.{status_by}
 use Rattle.smil_top.specs.Laws.{heard, refuses_as}
 use Rattle.smil_top.specs.Evaluations.{Bound, most, least, ordered_number, said_number, line_number, loaded_number, number_of, least_of, most_of, sum_of, is_diary_full, IsBounded, AreEvaluated}
@@ -76,7 +76,7 @@ full-cause : (p : Presentation) (diary : Option (List Entry)) (refusal : Refusal
 full-cause p None refusal is = cc
 full-cause p (Some diary) refusal is = absurd cc
 
-module _ (given : Given) (house : Presentations) (session : Session) (holds : Holds house session) where
+module _ (given : LoadedDocument) (house : Presentations) (session : Session) (holds : Holds house session) where
   abbrev number_by : Bound → Result (Unit {0}) Refusal → Result Presentation Refusal → Result ℕ Refusal
   number_by bound free loaded = free >>= λ done. loaded >>= λ (p : Presentation). Ok (bound.loading p)
 
@@ -137,7 +137,7 @@ counted-load r session lines line end_line given rise (inl gives) counted =
     let same : (bound : Bound) → result_unwrap_or (loaded_number bound session (given_of given)) 0 ≡ number_of bound session (load lines (Some end_line)) =
     λ bound.
     at_line-number lines.head.number (loaded_number bound session (given_of given))
-    ∙ sym (ap (λ (g : Result Given Refused). result_unwrap_or (g >>= λ (g : Given). at_line lines.head.number (loaded_number bound session g)) 0) gives)
+    ∙ sym (ap (λ (g : Result LoadedDocument RefusedOrder). result_unwrap_or (g >>= λ (g : LoadedDocument). at_line lines.head.number (loaded_number bound session g)) 0) gives)
     in
     counted-same (λ (fault : Fault). fault.refusal) (fault_at line r)
     (λ bound. result_unwrap_or (loaded_number bound session (given_of given)) 0)
@@ -178,7 +178,7 @@ within-bounds (Err fault) text counts house session order rise made counted enou
         let least_is : number_of least session order ≡ 0 = refused-0 least least_spares session order (refused_by fault) (sym is) in
         (omega arith, omega arith)
 
-pub evaluated-more : (run : Run) (new : Counts) (orders : List OrderLines) (told : Told) (order : OrderLines) (answered : Result (Unit {0}) Fault) (text : AnswerText) (house : Presentations) (before after : ℕ) →
+pub evaluated-more : (run : Run) (new : Counts) (orders : List OrderLines) (told : Progress) (order : OrderLines) (answered : Result (Unit {0}) Fault) (text : AnswerText) (house : Presentations) (before after : ℕ) →
     Tells false run orders told → MakesAnswer answered text house told.session answer_of order →
     IsOrderCounted answered (λ bound. number_of bound told.session order) (after - before) → before ≤ after →
     new ≡ counted_as answered text run.counts → EvaluatesOn run.counts new orders (orders ++ order ∷ []) before after
@@ -189,11 +189,11 @@ evaluated-more run new orders told order answered text house before after tells 
       let enough_before : run.counts.memory ≡ false = was_enough answered text run.counts enough_now in
       let one : told ≡ transcript_by answer_of orders = is_one answer_of tells.transcript (sym tells.counted.memory_is ∙ enough_before) in
       let parts = full-snoc untold orders order none in
-      let not_full : refuses_as is_diary_full (heard (answer_of told.session order)) ≡ false = ap (λ (t : Told). refuses_as is_diary_full (heard (answer_of t.session order))) one ∙ parts.1 in
+      let not_full : refuses_as is_diary_full (heard (answer_of told.session order)) ≡ false = ap (λ (t : Progress). refuses_as is_diary_full (heard (answer_of t.session order))) one ∙ parts.1 in
       let was : IsBounded orders (before - start) = evaluated.bounded enough_before parts.0 in
       let here = within-bounds answered text run.counts house told.session order (after - before) made counted enough_now not_full in
       let sum_is : (number : Session → OrderLines → ℕ) → sum_of number (orders ++ order ∷ []) ≡ sum_of number orders + number told.session order =
-      λ number. sum-snoc number untold orders order ∙ ap (λ (t : Told). sum_of number orders + number t.session order) (sym one)
+      λ number. sum-snoc number untold orders order ∙ ap (λ (t : Progress). sum_of number orders + number t.session order) (sym one)
       in
       record {
         at_least = omega (arith, was.at_least, here.0, sum_is least_of, evaluated.risen, le);

@@ -8,13 +8,13 @@ use Rattle.smil_model.specs.shown.Orders.{Presentation}
 use Rattle.smil_tree.proofs.KinLists.{lt-first, lt-more}
 use Rattle.smil_outline.proofs.Validity.{bytes_turned}
 use Rattle.smil_live.proofs.AgreedReferences.{bytes_same}
-use Rattle.smil_house.specs.declared.house.Held.{Held}
+use Rattle.smil_house.specs.declared.house.NamedPlayer.{NamedPlayer}
 use Rattle.smil_house.specs.House.{place_of, load_refusal, without as house_without}
-use Rattle.smil_top.specs.Session.{Named, is_named, presentation_of, with_state, without, may_load}
+use Rattle.smil_top.specs.Session.{NamedPresentation, is_named, presentation_of, with_state, without, may_load}
 use Rattle.smil_top.specs.Houses.{Presentations, shown, AreApart}
 
 abbrev Place : Type 0
-Place = Held Presentation
+Place = NamedPlayer Presentation
 
 pub either : (b : Bool) → (b ≡ true) ⊎ (b ≡ false)
 either true = inl refl
@@ -55,9 +55,9 @@ get-later h hs (Some k) = refl
 
 -- ---- what is found
 
-found-by : (b : Bool) (h : Place) (o : Option Named) (hs : Presentations) (place : Option ℕ) →
-    option_map (λ (n : Named). n.presentation) o ≡ option_map (λ (x : Place). x.player) (option_and_then (slice_get hs) place) →
-    option_map (λ (n : Named). n.presentation) (cond b (Some (shown h)) o)
+found-by : (b : Bool) (h : Place) (o : Option NamedPresentation) (hs : Presentations) (place : Option ℕ) →
+    option_map (λ (n : NamedPresentation). n.presentation) o ≡ option_map (λ (x : Place). x.player) (option_and_then (slice_get hs) place) →
+    option_map (λ (n : NamedPresentation). n.presentation) (cond b (Some (shown h)) o)
     ≡ option_map (λ (x : Place). x.player) (option_and_then (slice_get (h ∷ hs)) (cond b (Some 0) (option_map suc place)))
 found-by true h o hs place same = refl
 found-by false h o hs place same = same ∙ ap (λ z. option_map (λ (x : Place). x.player) z) (sym (get-later h hs place))
@@ -69,9 +69,9 @@ presentation-held name (h ∷ hs) =
     found-by (bytes_eq h.name name) h (find (is_named name) (map shown hs)) hs (place_of name hs) (presentation-held name hs)
     ∙ ap (λ o. option_map (λ (x : Place). x.player) (option_and_then (slice_get (h ∷ hs)) o)) (sym (first-cons name h hs))
 
-some-by : (b : Bool) (h : Place) (o : Option Named) (place : Option ℕ) →
-    is_some place ≡ is_some (option_map (λ (n : Named). n.presentation) o) →
-    is_some (cond b (Some 0) (option_map suc place)) ≡ is_some (option_map (λ (n : Named). n.presentation) (cond b (Some (shown h)) o))
+some-by : (b : Bool) (h : Place) (o : Option NamedPresentation) (place : Option ℕ) →
+    is_some place ≡ is_some (option_map (λ (n : NamedPresentation). n.presentation) o) →
+    is_some (cond b (Some 0) (option_map suc place)) ≡ is_some (option_map (λ (n : NamedPresentation). n.presentation) (cond b (Some (shown h)) o))
 some-by true h o place same = refl
 some-by false h o None same = same
 some-by false h o (Some k) same = same
@@ -95,11 +95,11 @@ unnamed name h hs none = elim (either (bytes_eq h.name name)) [
   | inr not ↦ (not, none-later (place_of name hs) (sym (place-later name h hs not) ∙ none))
 ]
 
-if-false : (b : Bool) (x y : Named) → b ≡ false → (if b then x else y) ≡ y
+if-false : (b : Bool) (x y : NamedPresentation) → b ≡ false → (if b then x else y) ≡ y
 if-false true x y h = absurd cc
 if-false false x y h = refl
 
-if-true : (b : Bool) (x y : Named) → b ≡ true → (if b then x else y) ≡ x
+if-true : (b : Bool) (x y : NamedPresentation) → b ≡ true → (if b then x else y) ≡ x
 if-true true x y h = refl
 if-true false x y h = absurd cc
 

@@ -5,8 +5,8 @@ use Rattle.smil_model.specs.document.Limits.{Limits}
 use Rattle.smil_grammar.specs.Scripts.{is_title}
 use Rattle.smil_top.specs.Cut.{OrderLines, orders}
 use Rattle.smil_top.specs.Answers.{answer_within}
-use Rattle.smil_top.specs.Transcript.{Answering, Told}
-use Rattle.smil_top.specs.Laws.{Tried, with_ease, told_by, answered_by, any_refused_as, is_of, part_of, is_too_many, renumbered, renumbered_try, lines_of, own_tried, own_answered, AllSameBut, IsAloneInInput}
+use Rattle.smil_top.specs.Transcript.{Answering, Progress}
+use Rattle.smil_top.specs.Laws.{OrderAttempt, with_ease, told_by, answered_by, any_refused_as, is_of, part_of, is_too_many, renumbered, renumbered_try, lines_of, own_tried, own_answered, AllSameBut, IsAloneInInput}
 use Rattle.smil_top.proofs.Again.{cut_again}
 use Rattle.smil_top.proofs.Alone.{is_alone}
 use Rattle.smil_top.proofs.Aside.{are_aside}
@@ -19,18 +19,18 @@ if_ease false order others = refl
 own-ease : (name : List ℕ) (all : List OrderLines) → own_tried name (map with_ease all) ≡ map with_ease (filter (is_of name) all)
 own-ease name [] = refl
 own-ease name (order ∷ others) =
-    ap (λ (zs : List Tried). if is_of name order then with_ease order ∷ zs else zs) (own-ease name others) ∙ if_ease (is_of name order) order (filter (is_of name) others)
+    ap (λ (zs : List OrderAttempt). if is_of name order then with_ease order ∷ zs else zs) (own-ease name others) ∙ if_ease (is_of name order) order (filter (is_of name) others)
 
 ease-renumbered : (given : ℕ → ℕ) (all : List OrderLines) → map (renumbered_try given) (map with_ease all) ≡ map with_ease (map (renumbered given) all)
 ease-renumbered given [] = refl
-ease-renumbered given (order ∷ others) = ap (λ (zs : List Tried). with_ease (renumbered given order) ∷ zs) (ease-renumbered given others)
+ease-renumbered given (order ∷ others) = ap (λ (zs : List OrderAttempt). with_ease (renumbered given order) ∷ zs) (ease-renumbered given others)
 
 pub alone_in_input : (allowed : Limits) (name : List ℕ) (lines : List (List ℕ)) → is_title name ≡ true
     → any_refused_as is_too_many (answered_by (answer_within allowed) (map with_ease (orders lines))) ≡ false
     → IsAloneInInput (answer_within allowed) name lines
 alone_in_input allowed name lines title few =
     let answering : Answering = answer_within allowed in
-    let tried : List Tried = map with_ease (orders lines) in
+    let tried : List OrderAttempt = map with_ease (orders lines) in
     let alone = is_alone allowed name title tried few in
     let cut = cut_again lines (is_of name) in
     let own : List (List ℕ) = flat_map lines_of (filter (is_of name) (orders lines)) in
@@ -40,8 +40,8 @@ alone_in_input allowed name lines title few =
       own = own;
       own_is = refl;
       given = cut.0;
-      answers = subst (λ (zs : List Tried). AllSameBut cut.0 (own_answered name (answered_by answering tried)) (answered_by answering zs)) same (alone.aside cut.0);
-      session = ap (λ (t : Told). part_of name t.session) (sym (with_ease_told answering (orders lines))) ∙ alone.session
-          ∙ sym (are_aside allowed cut.0 (own_tried name tried)).session ∙ ap (λ (zs : List Tried). (told_by answering zs).session) same
-          ∙ ap (λ (t : Told). t.session) (with_ease_told answering (orders own));
+      answers = subst (λ (zs : List OrderAttempt). AllSameBut cut.0 (own_answered name (answered_by answering tried)) (answered_by answering zs)) same (alone.aside cut.0);
+      session = ap (λ (t : Progress). part_of name t.session) (sym (with_ease_told answering (orders lines))) ∙ alone.session
+          ∙ sym (are_aside allowed cut.0 (own_tried name tried)).session ∙ ap (λ (zs : List OrderAttempt). (told_by answering zs).session) same
+          ∙ ap (λ (t : Progress). t.session) (with_ease_told answering (orders own));
     }

@@ -7,39 +7,39 @@ use Rattle.smil_grammar.specs.Results.{◌>>=◌}
 use Rattle.smil_grammar.specs.Scripts.{line_of}
 use Rattle.smil_grammar.specs.Outlines.{Outline, no_lines, line_within}
 use Rattle.smil_top.specs.declared.fault.Fault.{Fault}
-use Rattle.smil_top.specs.declared.given.Given.{Given as GivenDoc}
+use Rattle.smil_top.specs.declared.given.LoadedDoc.{LoadedDoc as GivenDoc}
 use Rattle.smil_top.specs.declared.load.Load.{Load}
-use Rattle.smil_top.specs.declared.given.Titled.{Titled}
-use Rattle.smil_top.specs.Cut.{Numbered, LoadLines}
-use Rattle.smil_top.specs.Answers.{Refused, at_line, name_of, outline_from, given_within}
+use Rattle.smil_top.specs.declared.given.NamedOutline.{NamedOutline}
+use Rattle.smil_top.specs.Cut.{NumberedLine, LoadLines}
+use Rattle.smil_top.specs.Answers.{RefusedOrder, at_line, name_of, outline_from, given_within}
 use Rattle.smil_top.specs.Running.{Gives, IsRead, Reads, ReadsTitle, given_at, reading_of, with_node}
 
 -- ---- chains of steps that may be refused
 
-unit-step : {A : Type 0} (r : Result A Refused) → r ≡ (r >>= λ x. Ok x)
+unit-step : {A : Type 0} (r : Result A RefusedOrder) → r ≡ (r >>= λ x. Ok x)
 unit-step (Ok x) = refl
 unit-step (Err e) = refl
 
-outline-append : (outline : Outline) (lines : List Numbered) (this : Numbered) →
+outline-append : (outline : Outline) (lines : List NumberedLine) (this : NumberedLine) →
     outline_from limits outline (lines ++ this ∷ [])
     ≡ (outline_from limits outline lines >>= λ (o : Outline). at_line this.number (line_within limits o this.text))
 outline-append outline [] this = sym (unit-step (at_line this.number (line_within limits outline this.text)))
 outline-append outline (line ∷ lines) this = go (at_line line.number (line_within limits outline line.text)) (λ more. outline-append more lines this)
   where
-    go : (r : Result Outline Refused) →
+    go : (r : Result Outline RefusedOrder) →
         ((more : Outline) → outline_from limits more (lines ++ this ∷ []) ≡ (outline_from limits more lines >>= λ (o : Outline). at_line this.number (line_within limits o this.text))) →
         (r >>= λ (more : Outline). outline_from limits more (lines ++ this ∷ []))
         ≡ ((r >>= λ (more : Outline). outline_from limits more lines) >>= λ (o : Outline). at_line this.number (line_within limits o this.text))
     go (Ok more) rest = rest more
     go (Err e) rest = refl
 
-abbrev joined : Result (List ℕ) Refused → Result Outline Refused → Result (List ℕ × Outline) Refused
+abbrev joined : Result (List ℕ) RefusedOrder → Result Outline RefusedOrder → Result (List ℕ × Outline) RefusedOrder
 joined r s = r >>= λ (name : List ℕ). s >>= λ (o : Outline). Ok (name, o)
 
-abbrev further : (Outline → Result Outline Refused) → List ℕ × Outline → Result (List ℕ × Outline) Refused
+abbrev further : (Outline → Result Outline RefusedOrder) → List ℕ × Outline → Result (List ℕ × Outline) RefusedOrder
 further f x = f x.1 >>= λ (o : Outline). Ok (x.0, o)
 
-chain : (r : Result (List ℕ) Refused) (s : Result Outline Refused) (f : Outline → Result Outline Refused) →
+chain : (r : Result (List ℕ) RefusedOrder) (s : Result Outline RefusedOrder) (f : Outline → Result Outline RefusedOrder) →
     joined r (s >>= f) ≡ (joined r s >>= further f)
 chain (Err e) s f = refl
 chain (Ok name) (Err e) f = refl
@@ -50,33 +50,33 @@ is_memory_at lines result = result ≡ Err (record { line = lines.head.number; r
 
 -- ---- one line further
 
-abbrev pub more_lines : LoadLines → Numbered → LoadLines
+abbrev pub more_lines : LoadLines → NumberedLine → LoadLines
 more_lines lines this = record lines { nodes = lines.nodes ++ this ∷ [] }
 
-reading-more : (lines : LoadLines) (this : Numbered) →
+reading-more : (lines : LoadLines) (this : NumberedLine) →
     reading_of (more_lines lines this) ≡ (reading_of lines >>= λ (x : List ℕ × Outline). with_node x.0 x.1 this)
 reading-more lines this =
     let name = at_line lines.head.number (line_of lines.head.text >>= name_of) in
-    ap (λ (s : Result Outline Refused). joined name s) (outline-append no_lines lines.nodes this)
+    ap (λ (s : Result Outline RefusedOrder). joined name s) (outline-append no_lines lines.nodes this)
     ∙ chain name (outline_from limits no_lines lines.nodes) (λ (o : Outline). at_line this.number (line_within limits o this.text))
 
 -- the line was read behind those before it
-pub reads-ok : (lines : LoadLines) (this : Numbered) (titled : Titled) (reading : Result Titled Fault) → Reads (Ok titled) (reading_of lines) →
+pub reads-ok : (lines : LoadLines) (this : NumberedLine) (titled : NamedOutline) (reading : Result NamedOutline Fault) → Reads (Ok titled) (reading_of lines) →
     Reads reading (with_node titled.name titled.outline this) → Reads reading (reading_of (more_lines lines this))
 reads-ok lines this titled reading was step =
     subst (λ r. Reads reading r) (sym (reading-more lines this ∙ ap (λ r. r >>= λ (x : List ℕ × Outline). with_node x.0 x.1 this) was)) step
 
 -- the fault of a line before it stays
-pub reads-err : (lines : LoadLines) (this : Numbered) (fault : Fault) → Reads (Err fault) (reading_of lines) →
+pub reads-err : (lines : LoadLines) (this : NumberedLine) (fault : Fault) → Reads (Err fault) (reading_of lines) →
     Reads (Err fault) (reading_of (more_lines lines this))
 reads-err lines this fault was = reading-more lines this ∙ ap (λ r. r >>= λ (x : List ℕ × Outline). with_node x.0 x.1 this) was
 
 -- a line behind this title, in a load that begins at a line
-abbrev pub IsNodeAt : ℕ → Numbered → Result Titled Fault → Titled → Type 0
+abbrev pub IsNodeAt : ℕ → NumberedLine → Result NamedOutline Fault → NamedOutline → Type 0
 IsNodeAt first this reading titled =
     Reads reading (with_node titled.name titled.outline this) ⊎ (reading ≡ Err (record { line = first; refusal = Memory }))
 
-pub IsRead-ok : (load : Load) (lines : LoadLines) (this : Numbered) (titled : Titled) (reading : Result Titled Fault) → load.reading ≡ Ok titled → IsRead load lines →
+pub IsRead-ok : (load : Load) (lines : LoadLines) (this : NumberedLine) (titled : NamedOutline) (reading : Result NamedOutline Fault) → load.reading ≡ Ok titled → IsRead load lines →
     Reads reading (with_node titled.name titled.outline this) ⊎ (reading ≡ Err (record { line = load.line; refusal = Memory })) →
     IsRead (record { line = load.line; reading = reading }) (more_lines lines this)
 IsRead-ok load lines this titled reading is read step = record { line = read.line; reading = go read.reading step }
@@ -88,18 +88,18 @@ IsRead-ok load lines this titled reading is read step = record { line = read.lin
     go (inl was) (inl s) = inl (reads-ok lines this titled reading (subst (λ r. Reads r (reading_of lines)) is was) s)
     go (inl was) (inr m) = inr (m ∙ ap (λ k. Err (record { line = k; refusal = Memory })) read.line)
 
-pub IsRead-err : (load : Load) (lines : LoadLines) (this : Numbered) (fault : Fault) → load.reading ≡ Err fault → IsRead load lines →
+pub IsRead-err : (load : Load) (lines : LoadLines) (this : NumberedLine) (fault : Fault) → load.reading ≡ Err fault → IsRead load lines →
     IsRead (record { line = load.line; reading = Err fault }) (more_lines lines this)
 IsRead-err load lines this fault is read = record { line = read.line; reading = go read.reading }
   where
     go : Reads load.reading (reading_of lines) ⊎ (load.reading ≡ Err (record { line = lines.head.number; refusal = Memory })) →
-        Reads (Err fault) (reading_of (more_lines lines this)) ⊎ is_memory_at {A = Titled} lines (Err fault)
+        Reads (Err fault) (reading_of (more_lines lines this)) ⊎ is_memory_at {A = NamedOutline} lines (Err fault)
     go (inl was) = inl (reads-err lines this fault (subst (λ r. Reads r (reading_of lines)) is was))
     go (inr memory) = inr (sym is ∙ memory)
 
 -- ---- the first line
 
-pub IsRead-titled : (line : ℕ) (head : List ℕ) (titled : Titled) → ReadsTitle (Ok titled) head →
+pub IsRead-titled : (line : ℕ) (head : List ℕ) (titled : NamedOutline) → ReadsTitle (Ok titled) head →
     IsRead (record { line = line; reading = Ok titled }) (record { head = record { number = line; text = head }; nodes = [] })
 IsRead-titled line head titled reads = record {
   line = refl;
@@ -119,7 +119,7 @@ IsRead-untitled line head refusal (inr is) = record {
 
 -- ---- the end
 
-chain-end : (r : Result (List ℕ) Refused) (s : Result Outline Refused) (end_line : ℕ) →
+chain-end : (r : Result (List ℕ) RefusedOrder) (s : Result Outline RefusedOrder) (end_line : ℕ) →
     (r >>= λ (name : List ℕ). s >>= λ (o : Outline). given_at name o end_line)
     ≡ (joined r s >>= λ (x : List ℕ × Outline). given_at x.0 x.1 end_line)
 chain-end (Err e) s end_line = refl
@@ -130,11 +130,11 @@ given-end : (lines : LoadLines) (end_line : ℕ) → given_within limits lines e
 given-end lines end_line = chain-end (at_line lines.head.number (line_of lines.head.text >>= name_of)) (outline_from limits no_lines lines.nodes) end_line
 
 -- what a load gives whose lines had no fault
-abbrev pub IsGivenAt : ℕ → ℕ → Result GivenDoc Fault → Titled → Type 0
+abbrev pub IsGivenAt : ℕ → ℕ → Result GivenDoc Fault → NamedOutline → Type 0
 IsGivenAt first end_line result titled =
     Gives result (given_at titled.name titled.outline end_line) ⊎ (result ≡ Err (record { line = first; refusal = Memory }))
 
-pub Gives-ok : (load : Load) (lines : LoadLines) (end_line : ℕ) (titled : Titled) (result : Result GivenDoc Fault) → load.reading ≡ Ok titled → IsRead load lines →
+pub Gives-ok : (load : Load) (lines : LoadLines) (end_line : ℕ) (titled : NamedOutline) (result : Result GivenDoc Fault) → load.reading ≡ Ok titled → IsRead load lines →
     Gives result (given_at titled.name titled.outline end_line) ⊎ (result ≡ Err (record { line = load.line; refusal = Memory })) →
     Gives result (given_within limits lines end_line) ⊎ (result ≡ Err (record { line = lines.head.number; refusal = Memory }))
 Gives-ok load lines end_line titled result is read step = go read.reading step
@@ -148,7 +148,7 @@ Gives-ok load lines end_line titled result is read step = go read.reading step
         inl (subst (λ r. Gives result r) (sym (given-end lines end_line ∙ ap (λ r. r >>= λ (x : List ℕ × Outline). given_at x.0 x.1 end_line) (subst (λ r. Reads r (reading_of lines)) is was))) s)
 
 -- the same fault, in place of another value
-abbrev same_fault : Result Titled Fault → Result GivenDoc Fault
+abbrev same_fault : Result NamedOutline Fault → Result GivenDoc Fault
 same_fault (Err fault) = Err fault
 same_fault (Ok titled) = Err (record { line = 0; refusal = Memory })
 

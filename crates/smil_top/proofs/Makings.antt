@@ -17,11 +17,11 @@ use Rattle.smil_grammar.specs.Scripts.{line_of}
 use Rattle.smil_grammar.specs.Formats.{formats}
 use Rattle.smil_grammar.specs.Gives.{GivesReading}
 use Rattle.smil_live.specs.Counts.{least_number, most_number}
-use Rattle.smil_house.specs.declared.house.Held.{Held}
+use Rattle.smil_house.specs.declared.house.NamedPlayer.{NamedPlayer}
 use Rattle.smil_house.specs.House.{place_of, load_refusal, without as house_without, IsAt, IsAnsweredBy, AreKept, IsRefused}
 use Rattle.smil_top.specs.declared.answer.Answer.{Answer as AnswerText}
 use Rattle.smil_top.specs.Session.{Session, presentation_of, with_state, without, may_load}
-use Rattle.smil_top.specs.Answers.{Accepted, Given, found_presentation, ordered_within, close_answer, loaded_within, checked}
+use Rattle.smil_top.specs.Answers.{AcceptedOrder, LoadedDocument, found_presentation, ordered_within, close_answer, loaded_within, checked}
 use Rattle.smil_top.specs.Houses.{Presentations, shown, AreApart, Holds}
 use Rattle.smil_top.specs.Running.{Makes, Checks, line_by, single_by}
 use Rattle.smil_top.proofs.HouseLemmas.{presentation-held, some-held, may_load-held, may_load-free, turned-session, turned-apart, closed-session, closed-apart, added-session, added-apart}
@@ -41,13 +41,13 @@ unmade-line checks house session number line holds text refusal gives = (holds, 
     by_reading (inr is) = inr (ap (λ (r : Result Read Refusal). r >>= single_by checks session number) is)
 
 -- the presentation that stands at the place of a name
-pub held-at : (name : List ℕ) (house : Presentations) (session : Session) (place : ℕ) (h : Held Presentation) → Holds house session → IsAt name house place h →
+pub held-at : (name : List ℕ) (house : Presentations) (session : Session) (place : ℕ) (h : NamedPlayer Presentation) → Holds house session → IsAt name house place h →
     presentation_of name session ≡ Some h.player
 held-at name house session place h holds at =
     ap (presentation_of name) holds.session_is
     ∙ presentation-held name house
-    ∙ ap (λ o. option_map (λ (x : Held Presentation). x.player) (option_and_then (slice_get house) o)) at.found
-    ∙ ap (λ o. option_map (λ (x : Held Presentation). x.player) o) at.here
+    ∙ ap (λ o. option_map (λ (x : NamedPlayer Presentation). x.player) (option_and_then (slice_get house) o)) at.found
+    ∙ ap (λ o. option_map (λ (x : NamedPlayer Presentation). x.player) o) at.here
 
 -- there is none of this name
 pub held-nowhere : (name : List ℕ) (house : Presentations) (session : Session) → Holds house session → place_of name house ≡ None →
@@ -55,7 +55,7 @@ pub held-nowhere : (name : List ℕ) (house : Presentations) (session : Session)
 held-nowhere name house session holds none =
     ap (presentation_of name) holds.session_is
     ∙ presentation-held name house
-    ∙ ap (λ o. option_map (λ (x : Held Presentation). x.player) (option_and_then (slice_get house) o)) none
+    ∙ ap (λ o. option_map (λ (x : NamedPlayer Presentation). x.player) (option_and_then (slice_get house) o)) none
 
 -- where there is a place, there is one
 pub some-presentation : (name : List ℕ) (house : Presentations) (session : Session) (place : ℕ) → Holds house session → place_of name house ≡ Some place →
@@ -155,7 +155,7 @@ module _ (name : List ℕ) (order : Order) (house new : Presentations) (session 
 abbrev refused : Refusal → Result (Unit {0}) Refusal
 refused refusal = Err refusal
 
-abbrev as_accepted : Result (Unit {0}) Refusal → Result Accepted Refusal
+abbrev as_accepted : Result (Unit {0}) Refusal → Result AcceptedOrder Refusal
 as_accepted (Err refusal) = Err refusal
 as_accepted (Ok done) = Err Memory
 
@@ -213,11 +213,11 @@ opened-now document p h =
 pub refusal-of : (name slice : List ℕ) (house : Presentations) (r : Result (Unit {0}) Refusal) → slice ≡ name → r ≡ load_refusal slice house → load_refusal name house ≡ r
 refusal-of name slice house r same is = ap (λ n. load_refusal n house) (sym same) ∙ sym is
 
-module _ (given : Given) (house : Presentations) (session : Session) (number : ℕ) (holds : Holds house session) where
+module _ (given : LoadedDocument) (house : Presentations) (session : Session) (number : ℕ) (holds : Holds house session) where
   may : may_load given.name session ≡ load_refusal given.name house
   may = ap (may_load given.name) holds.session_is ∙ sym (may_load-held given.name house)
 
-  abbrev loaded_by : Result (Unit {0}) Refusal → Result Presentation Refusal → Result Accepted Refusal
+  abbrev loaded_by : Result (Unit {0}) Refusal → Result Presentation Refusal → Result AcceptedOrder Refusal
   loaded_by free loaded = free >>= λ done. loaded >>= λ (p : Presentation). Ok (record {
     text = load_text p ++ ok_line number given.name (pos p.now);
     session = session ++ record { name = given.name; presentation = p } ∷ [];
@@ -226,7 +226,7 @@ module _ (given : Given) (house : Presentations) (session : Session) (number : �
   pub made-loaded : (p : Presentation) (told : List ℕ) → load_refusal given.name house ≡ Ok tt → opened given.document ≡ Ok p → told ≡ load_text p →
       Makes (Ok tt) (record { told = told; last = ok_line number given.name (pos 0) }) (house ++ record { name = given.name; player = p } ∷ []) session (loaded_within limits session number given)
   made-loaded p told free is text_is =
-      let h : Held Presentation = record { name = given.name; player = p } in
+      let h : NamedPlayer Presentation = record { name = given.name; player = p } in
       let line : ok_line number given.name (pos 0) ≡ ok_line number given.name (pos p.now) = ap (λ n. ok_line number given.name (pos n)) (sym (opened-now given.document p is)) in (
         session ++ record { name = given.name; presentation = p } ∷ [],
         record {

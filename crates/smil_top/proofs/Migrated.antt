@@ -17,15 +17,15 @@ use Rattle.smil_grammar.specs.Outlines.{Outline, no_lines, line_within, ended, v
 use Rattle.smil_laws.specs.Migration.{AreBelow, is_for_limit, meets_no_limit}
 use Rattle.smil_laws.proofs.Migrating.{outcome_same, opening_same}
 use Rattle.smil_outline.proofs.Migrating.{line_same, then_same as plain_same}
-use Rattle.smil_top.specs.Cut.{Numbered, LoadLines, OrderLines, single, load}
+use Rattle.smil_top.specs.Cut.{NumberedLine, LoadLines, OrderLines, single, load}
 use Rattle.smil_top.specs.Session.{Session, presentation_of, with_state, may_load}
-use Rattle.smil_top.specs.Answers.{Accepted, Refused, Answer, Given, at_line, read_of, found_presentation, ordered_within, said_within, name_of, outline_from, given_within, loaded_within, checked, answer_within, check_within}
-use Rattle.smil_top.specs.Transcript.{Answering, Told, with_answer, untold}
-use Rattle.smil_top.specs.Laws.{Tried, answer_to, told_by, heard, session_after, answered_from, answered_by, refuses_as, any_refused_as}
+use Rattle.smil_top.specs.Answers.{AcceptedOrder, RefusedOrder, Answer, LoadedDocument, at_line, read_of, found_presentation, ordered_within, said_within, name_of, outline_from, given_within, loaded_within, checked, answer_within, check_within}
+use Rattle.smil_top.specs.Transcript.{Answering, Progress, with_answer, untold}
+use Rattle.smil_top.specs.Laws.{OrderAttempt, answer_to, told_by, heard, session_after, answered_from, answered_by, refuses_as, any_refused_as}
 use Rattle.smil_top.proofs.Retold.{told_further, session_with}
 
 -- accepted, or refused for another cause than a limit, at a line
-spares : {A : Type 0} → Result A Refused → Bool
+spares : {A : Type 0} → Result A RefusedOrder → Bool
 spares (Ok x) = true
 spares (Err fault) = not (is_for_limit fault.refusal)
 
@@ -35,7 +35,7 @@ unlimited (Ok accepted) m = refl
 unlimited (Err fault) m = ap not m
 
 -- what goes on the same way has the same outcome
-then_same : {A B : Type 0} (r q : Result A Refused) (f g : A → Result B Refused) → spares (r >>= f) ≡ true → (spares r ≡ true → q ≡ r) → ((x : A) → spares (f x) ≡ true → g x ≡ f x) → (q >>= g) ≡ (r >>= f)
+then_same : {A B : Type 0} (r q : Result A RefusedOrder) (f g : A → Result B RefusedOrder) → spares (r >>= f) ≡ true → (spares r ≡ true → q ≡ r) → ((x : A) → spares (f x) ≡ true → g x ≡ f x) → (q >>= g) ≡ (r >>= f)
 unfolding spares
 then_same (Ok x) q f g m first later = ap (λ z. z >>= g) (first refl) ∙ later x m
 then_same (Err e) q f g m first later = ap (λ z. z >>= g) (first m)
@@ -52,7 +52,7 @@ module _ (small large : Limits) (below : AreBelow small large) where
   ordered_same : (session : Session) (line : ℕ) (name : List ℕ) (order : Order) → meets_no_limit (ordered_within small session line name order) ≡ true
       → ordered_within large session line name order ≡ ordered_within small session line name order
   ordered_same session line name order m =
-      let with : Presentation → Presentation → Result Accepted Refusal = λ before after. Ok (record {
+      let with : Presentation → Presentation → Result AcceptedOrder Refusal = λ before after. Ok (record {
         text = answer_text formats before after order ++ ok_line line name (pos after.now);
         session = with_state name after session;
       }) in
@@ -68,7 +68,7 @@ module _ (small large : Limits) (below : AreBelow small large) where
 
   -- ---- loads
 
-  outline_same : (outline : Outline) (lines : List Numbered) → spares (outline_from small outline lines) ≡ true → outline_from large outline lines ≡ outline_from small outline lines
+  outline_same : (outline : Outline) (lines : List NumberedLine) → spares (outline_from small outline lines) ≡ true → outline_from large outline lines ≡ outline_from small outline lines
   outline_same outline [] m = refl
   outline_same outline (line ∷ lines) m =
       then_same (at_line line.number (line_within small outline line.text)) (at_line line.number (line_within large outline line.text)) (λ more. outline_from small more lines) (λ more. outline_from large more lines) m
@@ -76,14 +76,14 @@ module _ (small large : Limits) (below : AreBelow small large) where
 
   given_same : (lines : LoadLines) (end_line : ℕ) → spares (given_within small lines end_line) ≡ true → given_within large lines end_line ≡ given_within small lines end_line
   given_same lines end_line m =
-      let with : List ℕ → Outline → Result Given Refused = λ name outline. at_line end_line (ended outline) >>= λ document. Ok (record { name = name; document = document; version = version_of outline }) in
+      let with : List ℕ → Outline → Result LoadedDocument RefusedOrder = λ name outline. at_line end_line (ended outline) >>= λ document. Ok (record { name = name; document = document; version = version_of outline }) in
       then_same (at_line lines.head.number (line_of lines.head.text >>= name_of)) (at_line lines.head.number (line_of lines.head.text >>= name_of))
       (λ name. outline_from small no_lines lines.nodes >>= with name) (λ name. outline_from large no_lines lines.nodes >>= with name) m (λ _. refl)
       (λ name v. then_same (outline_from small no_lines lines.nodes) (outline_from large no_lines lines.nodes) (with name) (with name) v (outline_same no_lines lines.nodes) (λ outline w. refl))
 
-  loaded_same : (session : Session) (line : ℕ) (given : Given) → meets_no_limit (loaded_within small session line given) ≡ true → loaded_within large session line given ≡ loaded_within small session line given
+  loaded_same : (session : Session) (line : ℕ) (given : LoadedDocument) → meets_no_limit (loaded_within small session line given) ≡ true → loaded_within large session line given ≡ loaded_within small session line given
   loaded_same session line given m =
-      let with : Presentation → Result Accepted Refusal = λ loaded. Ok (record {
+      let with : Presentation → Result AcceptedOrder Refusal = λ loaded. Ok (record {
         text = load_text loaded ++ ok_line line given.name (pos loaded.now);
         session = session ++ record { name = given.name; presentation = loaded } ∷ [];
       }) in
@@ -119,7 +119,7 @@ module _ (small large : Limits) (below : AreBelow small large) where
     tried_same session order true m = refl
     tried_same session order false m = each session order (unlimited (within small session order) m)
 
-    further_same : (told : Told) (tried : List Tried) → any_refused_as is_for_limit (answered_from (within small) told.session tried) ≡ false
+    further_same : (told : Progress) (tried : List OrderAttempt) → any_refused_as is_for_limit (answered_from (within small) told.session tried) ≡ false
         → told_further (within large) told tried ≡ told_further (within small) told tried
     further_same told [] m = refl
     further_same told (one ∷ others) m =
@@ -128,8 +128,8 @@ module _ (small large : Limits) (below : AreBelow small large) where
         ap (λ (a : Answer). told_further (within large) (with_answer told a) others) (tried_same told.session one.order one.lacks parts.0)
         ∙ further_same (with_answer told answer) others (ap (λ (s : Session). any_refused_as is_for_limit (answered_from (within small) s others)) (session_with told answer) ∙ parts.1)
 
-  pub told_same : (tried : List Tried) → any_refused_as is_for_limit (answered_by (answer_within small) tried) ≡ false → told_by (answer_within large) tried ≡ told_by (answer_within small) tried
+  pub told_same : (tried : List OrderAttempt) → any_refused_as is_for_limit (answered_by (answer_within small) tried) ≡ false → told_by (answer_within large) tried ≡ told_by (answer_within small) tried
   told_same tried m = further_same answer_within answer_same untold tried m
 
-  pub told_checked_same : (tried : List Tried) → any_refused_as is_for_limit (answered_by (check_within small) tried) ≡ false → told_by (check_within large) tried ≡ told_by (check_within small) tried
+  pub told_checked_same : (tried : List OrderAttempt) → any_refused_as is_for_limit (answered_by (check_within small) tried) ≡ false → told_by (check_within large) tried ≡ told_by (check_within small) tried
   told_checked_same tried m = further_same check_within checked_same untold tried m

@@ -6,12 +6,13 @@ use Rattle.std.specs.Str.Lines.{strip_carriage_return, lines, lines_of_parts}
 use Rattle.std.proofs.lemmas.List.{append-nil}
 use Rattle.std.proofs.lemmas.List.Sums.{fold-append}
 use Rattle.std.proofs.lemmas.List.Splits.{slice_split-cons_yes, slice_split-cons_no}
-use Rattle.smil_outside.specs.Lines.{line_feed, parts, whole_lines, whole_lines_of_parts}
+use Rattle.smil_outside.specs.Lines.{parts, whole_lines, whole_lines_of_parts}
+use Rattle.smil_model.specs.document.Words.{line_feed}
 use Rattle.smil_outside.proofs.LineLemmas.{lines_of_parts-cons, some_part}
-use Rattle.smil_top.specs.Cut.{Numbered, LoadLines, OrderLines, single, load, Cut, opens, ends, is_silent, cut_by, cut_of, unended, orders, whole_orders}
+use Rattle.smil_top.specs.Cut.{NumberedLine, LoadLines, OrderLines, single, load, Cut, opens, ends, is_silent, cut_by, cut_of, unended, orders, whole_orders}
 use Rattle.smil_top.specs.Answers.{Answer}
-use Rattle.smil_top.specs.Transcript.{Answering, Told, untold, with_answer, IsTranscriptBy, and_then, transcript_by}
-use Rattle.smil_top.specs.Laws.{Tried, answer_to, told_by, heard, answer_lines, AtMostOne, SharesFirstOrders, HasFront, IsFrontAndOne}
+use Rattle.smil_top.specs.Transcript.{Answering, Progress, untold, with_answer, IsTranscriptBy, and_then, transcript_by}
+use Rattle.smil_top.specs.Laws.{OrderAttempt, answer_to, told_by, heard, answer_lines, AtMostOne, SharesFirstOrders, HasFront, IsFrontAndOne}
 use Rattle.smil_top.proofs.Cuts.{cut_of-one_more, if_either, orders-first}
 use Rattle.smil_top.proofs.Retold.{text_with, is_told, each_is_told, is_some}
 
@@ -94,7 +95,7 @@ lines-few came = ap lines (sym (append-nil came)) ∙ lines-append came []
 abbrev IsFew : List OrderLines → Cut → Type 0
 IsFew whole cut = (last : List OrderLines) × (cut.whole ++ unended cut.«open» ≡ whole ++ last) × AtMostOne last
 
-few_by : (at : Option LoadLines) (whole : List OrderLines) (line : Numbered) → IsFew whole (cut_by at whole line)
+few_by : (at : Option LoadLines) (whole : List OrderLines) (line : NumberedLine) → IsFew whole (cut_by at whole line)
 few_by None whole line =
     if_either (opens line.text) _ _ (IsFew whole) (load (record { head = line; nodes = [] }) None ∷ [], refl, tt)
     (if_either (is_silent line.text) _ _ (IsFew whole) ([], refl, tt) (single line ∷ [], append-nil _, tt))
@@ -131,26 +132,26 @@ inputs_cut came more =
 
 module _ (answering : Answering) where
   -- a text only grows
-  grows : (told : Told) (tried : List Tried) → (rest : List ℕ) × ((fold (λ (told : Told) (one : Tried). with_answer told (answer_to answering told.session one)) told tried).text ≡ told.text ++ rest)
+  grows : (told : Progress) (tried : List OrderAttempt) → (rest : List ℕ) × ((fold (λ (told : Progress) (one : OrderAttempt). with_answer told (answer_to answering told.session one)) told tried).text ≡ told.text ++ rest)
   grows told [] = ([], sym (append-nil told.text))
   grows told (one ∷ others) =
       let answer : Answer = answer_to answering told.session one in
       let rest = grows (with_answer told answer) others in
       (answer_lines (heard answer) ++ rest.0, rest.1 ∙ ap (λ (zs : List ℕ). zs ++ rest.0) (text_with told answer) ∙ append_assoc told.text (answer_lines (heard answer)) rest.0)
 
-  abbrev Splits : List Tried → List OrderLines → Type 0
-  Splits tried first = (a : List Tried) × (b : List Tried) × (tried ≡ a ++ b) × (map (λ (one : Tried). one.order) a ≡ first)
+  abbrev Splits : List OrderAttempt → List OrderLines → Type 0
+  Splits tried first = (a : List OrderAttempt) × (b : List OrderAttempt) × (tried ≡ a ++ b) × (map (λ (one : OrderAttempt). one.order) a ≡ first)
 
-  split_tried : (tried : List Tried) (first later : List OrderLines) → map (λ (one : Tried). one.order) tried ≡ first ++ later → Splits tried first
+  split_tried : (tried : List OrderAttempt) (first later : List OrderLines) → map (λ (one : OrderAttempt). one.order) tried ≡ first ++ later → Splits tried first
   split_tried tried [] later e = ([], tried, refl, refl)
   split_tried [] (order ∷ first) later e = absurd cc
   split_tried (one ∷ tried) (order ∷ first) later e =
       let head : one.order ≡ order = cc in
-      let tail : map (λ (one : Tried). one.order) tried ≡ first ++ later = cc in
+      let tail : map (λ (one : OrderAttempt). one.order) tried ≡ first ++ later = cc in
       let rest = split_tried tried first later tail in
-      (one ∷ rest.0, rest.1, ap (λ (zs : List Tried). one ∷ zs) rest.2, cc)
+      (one ∷ rest.0, rest.1, ap (λ (zs : List OrderAttempt). one ∷ zs) rest.2, cc)
 
-  pub has_front : (first later : List OrderLines) (told : Told) → IsTranscriptBy answering (first ++ later) told → HasFront answering first told
+  pub has_front : (first later : List OrderLines) (told : Progress) → IsTranscriptBy answering (first ++ later) told → HasFront answering first told
   has_front first later told h =
       let all = is_told answering h in
       let cut = split_tried all.0 first later all.1 in
@@ -159,15 +160,15 @@ module _ (answering : Answering) where
         front = told_by answering cut.0;
         rest = more.0;
         transcript = subst (λ (zs : List OrderLines). IsTranscriptBy answering zs (told_by answering cut.0)) cut.3 (each_is_told answering cut.0);
-        text = ap (λ (t : Told). t.text) (sym all.2) ∙ ap (λ (zs : List Tried). (told_by answering zs).text) cut.2
-            ∙ ap (λ (t : Told). t.text) (fold-append (λ (told : Told) (one : Tried). with_answer told (answer_to answering told.session one)) untold cut.0 cut.1) ∙ more.1;
+        text = ap (λ (t : Progress). t.text) (sym all.2) ∙ ap (λ (zs : List OrderAttempt). (told_by answering zs).text) cut.2
+            ∙ ap (λ (t : Progress). t.text) (fold-append (λ (told : Progress) (one : OrderAttempt). with_answer told (answer_to answering told.session one)) untold cut.0 cut.1) ∙ more.1;
       }
 
   -- the front, and the answers behind it
-  abbrev of_orders : Told → List OrderLines → Told
-  of_orders told orders = fold (λ (told : Told) (order : OrderLines). with_answer told (answering told.session order)) told orders
+  abbrev of_orders : Progress → List OrderLines → Progress
+  of_orders told orders = fold (λ (told : Progress) (order : OrderLines). with_answer told (answering told.session order)) told orders
 
-  grows_easily : (told : Told) (orders : List OrderLines) → (rest : List ℕ) × ((of_orders told orders).text ≡ told.text ++ rest)
+  grows_easily : (told : Progress) (orders : List OrderLines) → (rest : List ℕ) × ((of_orders told orders).text ≡ told.text ++ rest)
   grows_easily told [] = ([], sym (append-nil told.text))
   grows_easily told (order ∷ others) =
       let answer : Answer = answering told.session order in
@@ -175,12 +176,12 @@ module _ (answering : Answering) where
       (answer_lines (heard answer) ++ rest.0, rest.1 ∙ ap (λ (zs : List ℕ). zs ++ rest.0) (text_with told answer) ∙ append_assoc told.text (answer_lines (heard answer)) rest.0)
 
   of_more : (first later : List OrderLines) → transcript_by answering (first ++ later) ≡ of_orders (transcript_by answering first) later
-  of_more first later = fold-append (λ (told : Told) (order : OrderLines). with_answer told (answering told.session order)) untold first later
+  of_more first later = fold-append (λ (told : Progress) (order : OrderLines). with_answer told (answering told.session order)) untold first later
 
-  abbrev IsOne : Told → Told → Type 0
+  abbrev IsOne : Progress → Progress → Type 0
   IsOne front part = (part ≡ front) ⊎ ((order : OrderLines) × (part ≡ with_answer front (answering front.session order)))
 
-  one_more : (front : Told) (last : List OrderLines) → AtMostOne last → IsOne front (of_orders front last)
+  one_more : (front : Progress) (last : List OrderLines) → AtMostOne last → IsOne front (of_orders front last)
   one_more front [] few = inl refl
   one_more front (order ∷ []) few = inr (order, refl)
   one_more front (order ∷ next ∷ last) few = elim few [ ]
@@ -195,14 +196,14 @@ module _ (answering : Answering) where
         front = transcript_by answering first;
         rest = grown.0;
         transcript = is_some answering first;
-        text = ap (λ (zs : List OrderLines). (transcript_by answering zs).text) cut.whole ∙ ap (λ (t : Told). t.text) (of_more first cut.later) ∙ grown.1;
+        text = ap (λ (zs : List OrderLines). (transcript_by answering zs).text) cut.whole ∙ ap (λ (t : Progress). t.text) (of_more first cut.later) ∙ grown.1;
         one = subst (IsOne (transcript_by answering first)) (sym part) (one_more (transcript_by answering first) cut.last cut.few);
       }
 
-  abbrev AnyPart : List ℕ → Told → List OrderLines → Type 0
-  AnyPart came whole all = (part : Told) × IsTranscriptBy answering all part × IsFrontAndOne answering came part whole
+  abbrev AnyPart : List ℕ → Progress → List OrderLines → Type 0
+  AnyPart came whole all = (part : Progress) × IsTranscriptBy answering all part × IsFrontAndOne answering came part whole
 
-  with_last : (came : List ℕ) (whole : Told) (front : HasFront answering (whole_orders (whole_lines came)) whole) (last : List OrderLines) → AtMostOne last
+  with_last : (came : List ℕ) (whole : Progress) (front : HasFront answering (whole_orders (whole_lines came)) whole) (last : List OrderLines) → AtMostOne last
       → AnyPart came whole (whole_orders (whole_lines came) ++ last)
   with_last came whole front [] few = (
     front.front,
@@ -216,7 +217,7 @@ module _ (answering : Answering) where
   )
   with_last came whole front (order ∷ next ∷ last) few = elim few [ ]
 
-  pub any_part : (came more : List ℕ) (whole : Told) → IsTranscriptBy answering (orders (lines (came ++ more))) whole → AnyPart came whole (orders (lines came))
+  pub any_part : (came more : List ℕ) (whole : Progress) → IsTranscriptBy answering (orders (lines (came ++ more))) whole → AnyPart came whole (orders (lines came))
   any_part came more whole h =
       let cut = inputs_cut came more in
       let front = has_front (whole_orders (whole_lines came)) cut.later whole (subst (λ (zs : List OrderLines). IsTranscriptBy answering zs whole) cut.whole h) in

@@ -21,9 +21,9 @@ use Rattle.smil_top.specs.declared.status.Status.TheVariants as status
 use Rattle.smil_words.specs.declared.mode.Mode.{Mode}
 use Rattle.smil_words.specs.declared.mode.Mode.TheVariants as mode
 use Rattle.smil_top.specs.Cut.{Cut, OrderLines, cut_of, with_line, orders, unended, whole_orders}
-use Rattle.smil_top.specs.Transcript.{Told, IsTranscriptBy, untold}
+use Rattle.smil_top.specs.Transcript.{Progress, IsTranscriptBy, untold}
 use Rattle.smil_top.specs.Words.{is_told}
-use Rattle.smil_top.specs.Serving.{counted_bytes, status_by, status_of, IsWhole, IsPart, AreFirst, IsBroken, Runs, Explains, Generates, Serves, reads}
+use Rattle.smil_top.specs.Serving.{counted_bytes, status_by, status_of, IsWholeTranscript, IsPart, AreFirst, IsBroken, Runs, Explains, Generates, Serves, reads}
 use Rattle.smil_top.specs.Evaluations.{AreEvaluated, Evaluates, EvaluatesBy}
 use Rattle.smil_top.specs.Running.{answering, asked_by, ended_by, IsAll, IsRunning, IsLine, Tells, WritesAll, WritesPart, Goes, Answers, AnswersOrders, Ends, Ran, RanCounted, RunsBy}
 use Rattle.smil_top.proofs.Cuts.{cut_of-one_more, count-cut_of, whole-first, orders-first}
@@ -39,7 +39,7 @@ pub record HasRead (reader : Reading) (before rest : Option (List ℕ)) (came : 
   pub unbroken : IsUnbroken reader rest
 
 -- this was told and written, and answers the orders that are whole in these lines
-pub record HasWritten (checks : Bool) (run : Run) (before taken : Option (List ℕ)) (room left : ℕ) (answered : List (List ℕ)) (told : Told) : Type 0 where
+pub record HasWritten (checks : Bool) (run : Run) (before taken : Option (List ℕ)) (room left : ℕ) (answered : List (List ℕ)) (told : Progress) : Type 0 where
   pub running : IsRunning checks run (cut_of answered) told
   pub written : WritesAll before taken room left told.text
 
@@ -50,12 +50,12 @@ pub record IsReading (reader : Reading) (before rest : Option (List ℕ)) : Type
   pub has : HasRead reader before rest came answered
 
 abbrev pub Wrote : Bool → Run → Option (List ℕ) → Option (List ℕ) → ℕ → ℕ → List (List ℕ) → Type 0
-Wrote checks run before taken room left answered = (told : Told) × HasWritten checks run before taken room left answered told
+Wrote checks run before taken room left answered = (told : Progress) × HasWritten checks run before taken room left answered told
 
 pub record IsServing (checks : Bool) (reader : Reading) (run : Run) (before rest taken_before taken : Option (List ℕ)) (room left : ℕ) : Type 0 where
   pub came : List ℕ
   pub answered : List (List ℕ)
-  pub told : Told
+  pub told : Progress
   pub reading : HasRead reader before rest came answered
   pub writing : HasWritten checks run taken_before taken room left answered told
 
@@ -223,12 +223,12 @@ all-of told text before taken after room left left' one two =
     (Appends-trans before taken after told text one.0 two.0, omega (arith, one.1, two.1, length-append told text))
 
 -- more was told
-all-told : (told more : Told) (before taken after : Option (List ℕ)) (room left left' : ℕ) (goes : Goes (Ok tt) told more taken after left left') →
+all-told : (told more : Progress) (before taken after : Option (List ℕ)) (room left left' : ℕ) (goes : Goes (Ok tt) told more taken after left left') →
     WritesAll before taken room left told.text → WritesAll before after room left' more.text
 all-told told more before taken after room left left' goes one =
     subst (λ zs. WritesAll before after room left' zs) (sym goes.text_is) (all-of told.text goes.text before taken after room left left' one goes.writes)
 
-part-told : (e : Failed) (told more : Told) (before taken after : Option (List ℕ)) (room left left' : ℕ) (goes : Goes (Err e) told more taken after left left') →
+part-told : (e : Failed) (told more : Progress) (before taken after : Option (List ℕ)) (room left left' : ℕ) (goes : Goes (Err e) told more taken after left left') →
     WritesAll before taken room left told.text → (said : List ℕ) × Appends before after said × IsPart said more.text room
 part-told e told more before taken after room left left' goes one =
     let p = part-of told.text goes.text before taken after room left one goes.writes in
@@ -268,7 +268,7 @@ module _ (checks : Bool) (old new : Reading) (run after_run : Run) (before rest 
       (answers : AnswersOrders checks result after_run (cut.whole ++ unended cut.«open») serving.told taken taken_after left left') →
       ended ≡ ended_by result answers.more → Ran checks ended after_run before after taken_before taken_after room
   ended-by came (Ok done) ended read at_end lines_are within answers is =
-      let more : Told = answers.more in
+      let more : Progress = answers.more in
       let same_orders : cut.whole ++ unended cut.«open» ≡ orders (lines came) = ap orders (sym lines_are) in
       let tells : Tells checks after_run (orders (lines came)) more = subst (λ os. Tells checks after_run os more) same_orders answers.tells in
       let all : IsAll checks (status_of more) after_run came more.text = record { told = more; tells = tells; text_is = refl; ended_is = refl; within = within } in
@@ -280,7 +280,7 @@ module _ (checks : Bool) (old new : Reading) (run after_run : Run) (before rest 
         runs = subst (λ s. RunsBy checks s after_run after came more.text room) (sym is) (runs_all checks (nat_lt 0 more.refused) more.memory after_run after came more.text room at_end all);
       }
   ended-by came (Err e) ended read at_end lines_are within answers is =
-      let more : Told = answers.more in
+      let more : Progress = answers.more in
       let same_orders : cut.whole ++ unended cut.«open» ≡ orders (lines came) = ap orders (sym lines_are) in
       let tells : Tells checks after_run (orders (lines came)) more = subst (λ os. Tells checks after_run os more) same_orders answers.tells in
       let p = part-told e serving.told more taken_before taken taken_after room left left' answers.goes serving.writing.written in
@@ -295,7 +295,7 @@ module _ (checks : Bool) (old new : Reading) (run after_run : Run) (before rest 
       }
 
   pub Ran-end : (ended : Status) → Nexts old new End rest after →
-      ((checks : Bool) (cut : Cut) (told : Told) → IsRunning checks run cut told → Ends checks ended after_run cut told taken taken_after left left') →
+      ((checks : Bool) (cut : Cut) (told : Progress) → IsRunning checks run cut told → Ends checks ended after_run cut told taken taken_after left left') →
       Ran checks ended after_run before after taken_before taken_after room
   Ran-end ended nexts ends =
       let e : Ends checks ended after_run cut serving.told taken taken_after left left' = ends checks cut serving.told serving.writing.running in
@@ -311,7 +311,7 @@ module _ (checks : Bool) (old new : Reading) (run after_run : Run) (before rest 
   ended-came came (Err e) ended read at_end lines_are within answers is = refl
 
   lines-came : (ended : Status) (nexts : Nexts old new End rest after)
-      (ends : (checks : Bool) (cut : Cut) (told : Told) → IsRunning checks run cut told → Ends checks ended after_run cut told taken taken_after left left') →
+      (ends : (checks : Bool) (cut : Cut) (told : Progress) → IsRunning checks run cut told → Ends checks ended after_run cut told taken taken_after left left') →
       lines (Ran-end ended nexts ends).came ≡ serving.answered
   unfolding Ran-end
   lines-came ended nexts ends =
@@ -321,7 +321,7 @@ module _ (checks : Bool) (old new : Reading) (run after_run : Run) (before rest 
 
   -- with the evaluations of its orders
   pub RanCounted-end : (ended : Status) → Nexts old new End rest after →
-      ((checks : Bool) (cut : Cut) (told : Told) → IsRunning checks run cut told → Ends checks ended after_run cut told taken taken_after left left') →
+      ((checks : Bool) (cut : Cut) (told : Progress) → IsRunning checks run cut told → Ends checks ended after_run cut told taken taken_after left left') →
       (rise : ℕ) → (checks ≡ false → AreEvaluated ended (cut.whole ++ unended cut.«open») rise) → RanCounted checks ended after_run before after taken_before taken_after room rise
   RanCounted-end ended nexts ends rise evaluated = record {
     ran = Ran-end ended nexts ends;
@@ -353,7 +353,7 @@ module _ (checks : Bool) (old new : Reading) (run after_run : Run) (before rest 
       }
 
 -- a line was read behind those answered, and the session went on
-module _ (checks : Bool) (new : Reading) (run : Run) (before after taken_before taken taken_after : Option (List ℕ)) (room left left' : ℕ) (came line : List ℕ) (told : Told) (answered : List (List ℕ))
+module _ (checks : Bool) (new : Reading) (run : Run) (before after taken_before taken taken_after : Option (List ℕ)) (room left left' : ℕ) (came line : List ℕ) (told : Progress) (answered : List (List ℕ))
     (has : HasRead new before after came (answered ++ line ∷ [])) (said : WritesAll taken_before taken room left told.text) where
   abbrev Goes_on : Result (Unit {0}) Failed → Type 0
   Goes_on r = Answers checks r run (with_line (cut_of answered) line) told taken taken_after left left'
@@ -393,7 +393,7 @@ Wrote-fresh checks run taken room running = (untold, record { running = running;
 -- ---- by what was asked for
 
 -- all was answered
-whole-of : (checks : Bool) (ended : Status) (run : Run) (came text : List ℕ) → IsAll checks ended run came text → IsWhole (answering checks) ended came text
+whole-of : (checks : Bool) (ended : Status) (run : Run) (came text : List ℕ) → IsAll checks ended run came text → IsWholeTranscript (answering checks) ended came text
 whole-of checks ended run came text all = record { told = all.told; transcript = all.tells.transcript; text_is = all.text_is; ended_is = all.ended_is; within = all.within }
 
 runs-of : (checks : Bool) (ended : Status) (run : Run) (rest : Option (List ℕ)) (came text : List ℕ) (room : ℕ) → RunsBy checks ended run rest came text room → Runs (answering checks) ended rest came text room

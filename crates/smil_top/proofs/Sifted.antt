@@ -10,7 +10,7 @@ use Rattle.smil_model.specs.declared.order.Refusal.{Refusal}
 use Rattle.smil_model.specs.declared.order.Refusal.TheVariants.{NameTaken, TooManyPresentations}
 use Rattle.smil_model.specs.shown.Orders.{Presentation}
 use Rattle.smil_live.proofs.AgreedReferences.{bytes_same}
-use Rattle.smil_top.specs.Session.{Named, Session, is_named, presentation_of, with_state, without, may_load}
+use Rattle.smil_top.specs.Session.{NamedPresentation, Session, is_named, presentation_of, with_state, without, may_load}
 use Rattle.smil_top.specs.Laws.{part_of, is_too_many}
 use Rattle.smil_laws.proofs.Lists.{filter_shorter}
 
@@ -75,24 +75,24 @@ abbrev may_by : Bool → Bool → Result (Unit {0}) Refusal
 may_by taken room = if taken then Err NameTaken else (if room then Ok tt else Err TooManyPresentations)
 
 module _ (name : List ℕ) where
-  named-kept : (b : Bool) (after : Presentation) (held : Named) → is_named name (if b then record { name = held.name; presentation = after } else held) ≡ is_named name held
+  named-kept : (b : Bool) (after : Presentation) (held : NamedPresentation) → is_named name (if b then record { name = held.name; presentation = after } else held) ≡ is_named name held
   named-kept true after held = refl
   named-kept false after held = refl
 
   pub part-with : (other : List ℕ) (after : Presentation) (session : Session) → part_of name (with_state other after session) ≡ with_state other after (part_of name session)
   part-with other after session =
-      filter-map (is_named name) (λ (held : Named). if is_named other held then record { name = held.name; presentation = after } else held) (λ held. named-kept (is_named other held) after held) session
+      filter-map (is_named name) (λ (held : NamedPresentation). if is_named other held then record { name = held.name; presentation = after } else held) (λ held. named-kept (is_named other held) after held) session
 
   pub part-without : (session : Session) → part_of name (without name session) ≡ without name (part_of name session)
-  part-without session = filter-swap (is_named name) (λ (held : Named). not (is_named name held)) session
+  part-without session = filter-swap (is_named name) (λ (held : NamedPresentation). not (is_named name held)) session
 
   pub part-own : (session : Session) (loaded : Presentation) → part_of name (session ++ record { name = name; presentation = loaded } ∷ []) ≡ part_of name session ++ record { name = name; presentation = loaded } ∷ []
   part-own session loaded =
-      let new : Named = record { name = name; presentation = loaded } in
+      let new : NamedPresentation = record { name = name; presentation = loaded } in
       filter-append (is_named name) session (new ∷ []) ∙ ap (λ (b : Bool). part_of name session ++ (if b then new ∷ [] else [])) ((bytes_eq-Decides name name).1 refl)
 
   pub presentation-part : (session : Session) → presentation_of name (part_of name session) ≡ presentation_of name session
-  presentation-part session = ap (option_map (λ (held : Named). held.presentation)) (find-filter (is_named name) session)
+  presentation-part session = ap (option_map (λ (held : NamedPresentation). held.presentation)) (find-filter (is_named name) session)
 
   may-by : (taken : Bool) (few more : ℕ) → few ≤ more → (t : Bool) → nat_lt more PRESENTATIONS ≡ t
       → ((e : Refusal) → may_by taken t ≡ Err e → is_too_many e ≡ false) → may_by taken (nat_lt few PRESENTATIONS) ≡ may_by taken t
@@ -107,10 +107,10 @@ module _ (name : List ℕ) where
 
 -- what is done to another name
 module _ (name other : List ℕ) (apart : bytes_eq other name ≡ false) where
-  not_both : (held : Named) → is_named other held ≡ true → is_named name held ≡ false
+  not_both : (held : NamedPresentation) → is_named other held ≡ true → is_named name held ≡ false
   not_both held e = ap (λ (word : List ℕ). bytes_eq word name) (bytes_same held.name other e) ∙ apart
 
-  with-by : (after : Presentation) (held : Named) (b : Bool) → is_named other held ≡ b
+  with-by : (after : Presentation) (held : NamedPresentation) (b : Bool) → is_named other held ≡ b
       → ((if b then record { name = held.name; presentation = after } else held) ≡ held)
       ⊎ ((is_named name held ≡ false) × (is_named name (if b then record { name = held.name; presentation = after } else held) ≡ false))
   with-by after held true e = inr (not_both held e, not_both held e)
@@ -118,16 +118,16 @@ module _ (name other : List ℕ) (apart : bytes_eq other name ≡ false) where
 
   pub with-other : (after : Presentation) (session : Session) → part_of name (with_state other after session) ≡ part_of name session
   with-other after session =
-      filter-other (is_named name) (λ (held : Named). if is_named other held then record { name = held.name; presentation = after } else held) (λ held. with-by after held (is_named other held) refl) session
+      filter-other (is_named name) (λ (held : NamedPresentation). if is_named other held then record { name = held.name; presentation = after } else held) (λ held. with-by after held (is_named other held) refl) session
 
-  without-by : (held : Named) (b : Bool) → is_named other held ≡ b → is_named name held ≡ true → not b ≡ true
+  without-by : (held : NamedPresentation) (b : Bool) → is_named other held ≡ b → is_named name held ≡ true → not b ≡ true
   without-by held true e h = let never : false ≡ true = sym (not_both held e) ∙ h in absurd cc
   without-by held false e h = refl
 
   pub without-other : (session : Session) → part_of name (without other session) ≡ part_of name session
-  without-other session = filter-dropped (is_named name) (λ (held : Named). not (is_named other held)) (λ held h. without-by held (is_named other held) refl h) session
+  without-other session = filter-dropped (is_named name) (λ (held : NamedPresentation). not (is_named other held)) (λ held h. without-by held (is_named other held) refl h) session
 
   pub loaded-other : (loaded : Presentation) (session : Session) → part_of name (session ++ record { name = other; presentation = loaded } ∷ []) ≡ part_of name session
   loaded-other loaded session =
-      let new : Named = record { name = other; presentation = loaded } in
+      let new : NamedPresentation = record { name = other; presentation = loaded } in
       filter-append (is_named name) session (new ∷ []) ∙ ap (λ (b : Bool). part_of name session ++ (if b then new ∷ [] else [])) apart ∙ append-nil (part_of name session)

@@ -16,8 +16,8 @@ use Rattle.smil_grammar.specs.Results.{◌>>=◌}
 use Rattle.smil_live.specs.Counts.{least_between, when_accepted}
 use Rattle.smil_top.specs.Cut.{OrderLines, single, load}
 use Rattle.smil_top.specs.Session.{Session, presentation_of, with_state, may_load}
-use Rattle.smil_top.specs.Answers.{Accepted, Answer, Given, Refused, at_line, read_of, found_presentation, said_within, given_within, loaded_within, answer_of}
-use Rattle.smil_top.specs.Transcript.{Told, with_answer}
+use Rattle.smil_top.specs.Answers.{AcceptedOrder, Answer, LoadedDocument, RefusedOrder, at_line, read_of, found_presentation, said_within, given_within, loaded_within, answer_of}
+use Rattle.smil_top.specs.Transcript.{Progress, with_answer}
 use Rattle.smil_top.specs.Laws.{with_ease, heard, session_after, answered_from, refuses_as, any_refused_as}
 use Rattle.smil_top.specs.Evaluations.{Bound, least, number_of, loaded_number, said_number, sum_from, is_diary_full}
 use Rattle.smil_top.proofs.Retold.{session_with}
@@ -25,16 +25,16 @@ use Rattle.smil_top.proofs.Retold.{session_with}
 -- ---- one order more
 
 -- what is told once these orders were answered too
-abbrev pub told_on : Told → List OrderLines → Told
-told_on told orders = fold (λ (t : Told) (order : OrderLines). with_answer t (answer_of t.session order)) told orders
+abbrev pub told_on : Progress → List OrderLines → Progress
+told_on told orders = fold (λ (t : Progress) (order : OrderLines). with_answer t (answer_of t.session order)) told orders
 
 -- its bound is added, in the session that the orders before it left
-pub sum-snoc : (number : Session → OrderLines → ℕ) (told : Told) (orders : List OrderLines) (order : OrderLines) →
+pub sum-snoc : (number : Session → OrderLines → ℕ) (told : Progress) (orders : List OrderLines) (order : OrderLines) →
     sum_from number told.session (orders ++ order ∷ []) ≡ sum_from number told.session orders + number (told_on told orders).session order
 sum-snoc number told [] order = omega arith
 sum-snoc number told (first ∷ others) order =
     let answer : Answer = answer_of told.session first in
-    let next : Told = with_answer told answer in
+    let next : Progress = with_answer told answer in
     let last : ℕ = number (told_on next others).session order in
     let behind : sum_from number (session_after told.session answer) (others ++ order ∷ []) ≡ sum_from number (session_after told.session answer) others + last =
     subst (λ (s : Session). sum_from number s (others ++ order ∷ []) ≡ sum_from number s others + last) (session_with told answer) (sum-snoc number next others order)
@@ -46,12 +46,12 @@ abbrev is_full_from : Session → List OrderLines → Bool
 is_full_from session orders = any_refused_as is_diary_full (answered_from answer_of session (map with_ease orders))
 
 -- where none is refused so, none before it is, nor is it
-pub full-snoc : (told : Told) (orders : List OrderLines) (order : OrderLines) → is_full_from told.session (orders ++ order ∷ []) ≡ false →
+pub full-snoc : (told : Progress) (orders : List OrderLines) (order : OrderLines) → is_full_from told.session (orders ++ order ∷ []) ≡ false →
     (is_full_from told.session orders ≡ false) × (refuses_as is_diary_full (heard (answer_of (told_on told orders).session order)) ≡ false)
 full-snoc told [] order none = (refl, (or_parts (refuses_as is_diary_full (heard (answer_of told.session order))) false none).0)
 full-snoc told (first ∷ others) order none =
     let answer : Answer = answer_of told.session first in
-    let next : Told = with_answer told answer in
+    let next : Progress = with_answer told answer in
     let here : Bool = refuses_as is_diary_full (heard answer) in
     let parts = or_parts here (is_full_from (session_after told.session answer) (others ++ order ∷ [])) none in
     let behind = full-snoc next others order (ap (λ (s : Session). is_full_from s (others ++ order ∷ [])) (session_with told answer) ∙ parts.1) in
@@ -67,8 +67,8 @@ SparesRefused bound = (p : Presentation) (order : Order) (refusal : Refusal) →
 pub least_spares : SparesRefused least
 least_spares p order refusal is = ap (λ (r : Result Presentation Refusal). when_accepted r (least_between p order)) is
 
-module _ (bound : Bound) (spares : SparesRefused bound) (session : Session) (line : ℕ) (fault : Refused) where
-  ordered_by : List ℕ → Order → Presentation → Result Presentation Refusal → Result Accepted Refusal
+module _ (bound : Bound) (spares : SparesRefused bound) (session : Session) (line : ℕ) (fault : RefusedOrder) where
+  ordered_by : List ℕ → Order → Presentation → Result Presentation Refusal → Result AcceptedOrder Refusal
   ordered_by name order before outcome = outcome >>= λ (after : Presentation). Ok (record {
     text = answer_text formats before after order ++ ok_line line name (pos after.now);
     session = with_state name after session;
@@ -94,7 +94,7 @@ module _ (bound : Bound) (spares : SparesRefused bound) (session : Session) (lin
   said-0 (Ok (To name order)) refused = held-0 name order (presentation_of name session) refused
 
   -- what is loaded is accepted
-  abbrev loaded_by : Given → Result (Unit {0}) Refusal → Result Presentation Refusal → Result Accepted Refusal
+  abbrev loaded_by : LoadedDocument → Result (Unit {0}) Refusal → Result Presentation Refusal → Result AcceptedOrder Refusal
   loaded_by given free loaded = free >>= λ done. loaded >>= λ (p : Presentation). Ok (record {
     text = load_text p ++ ok_line line given.name (pos p.now);
     session = session ++ record { name = given.name; presentation = p } ∷ [];
@@ -103,19 +103,19 @@ module _ (bound : Bound) (spares : SparesRefused bound) (session : Session) (lin
   abbrev number_by : Result (Unit {0}) Refusal → Result Presentation Refusal → Result ℕ Refusal
   number_by free loaded = free >>= λ done. loaded >>= λ (p : Presentation). Ok (bound.loading p)
 
-  loaded-0 : (given : Given) (free : Result (Unit {0}) Refusal) (loaded : Result Presentation Refusal) → at_line line (loaded_by given free loaded) ≡ Err fault →
+  loaded-0 : (given : LoadedDocument) (free : Result (Unit {0}) Refusal) (loaded : Result Presentation Refusal) → at_line line (loaded_by given free loaded) ≡ Err fault →
       result_unwrap_or (at_line line (number_by free loaded)) 0 ≡ 0
   loaded-0 given (Err refusal) loaded refused = refl
   loaded-0 given (Ok done) (Err refusal) refused = refl
   loaded-0 given (Ok done) (Ok p) refused = absurd cc
 
-  given-0 : (r : Result Given Refused) → (r >>= λ given. at_line line (loaded_within limits session line given)) ≡ Err fault →
+  given-0 : (r : Result LoadedDocument RefusedOrder) → (r >>= λ given. at_line line (loaded_within limits session line given)) ≡ Err fault →
       result_unwrap_or (r >>= λ given. at_line line (loaded_number bound session given)) 0 ≡ 0
   given-0 (Err e) refused = refl
   given-0 (Ok given) refused = loaded-0 given (may_load given.name session) (opened given.document) refused
 
 -- so does an order that a session refuses
-pub refused-0 : (bound : Bound) → SparesRefused bound → (session : Session) (order : OrderLines) (fault : Refused) → answer_of session order ≡ Err fault →
+pub refused-0 : (bound : Bound) → SparesRefused bound → (session : Session) (order : OrderLines) (fault : RefusedOrder) → answer_of session order ≡ Err fault →
     number_of bound session order ≡ 0
 refused-0 bound spares session (single line) fault refused = said-0 bound spares session line.number fault (read_of line.text) refused
 refused-0 bound spares session (load lines None) fault refused = refl

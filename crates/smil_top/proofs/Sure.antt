@@ -24,7 +24,7 @@ use Rattle.smil_grammar.specs.Words.{id_len}
 use Rattle.smil_grammar.specs.Lists.{item_at, piece_at, items_from, pieces_of, few_items, list_of}
 use Rattle.smil_grammar.specs.Values.{of_list, of_value, plain_value_of, value_of}
 use Rattle.smil_grammar.specs.Attributes.{attr_name_of, name_or, is_other_name}
-use Rattle.smil_grammar.specs.Nodes.{Written, Shape, at_column, attribute_of, attr_of, attrs_from, attrs_of, kind_or, kind_of_shape, kind_of, node_of, shape_of}
+use Rattle.smil_grammar.specs.Nodes.{WrittenAttr, Shape, at_column, attribute_of, attr_of, attrs_from, attrs_of, kind_or, kind_of_shape, kind_of, node_of, shape_of}
 use Rattle.smil_model.specs.document.Edits.{no_attrs, with_attr}
 use Rattle.smil_model.specs.document.Values.{is_seq_parent}
 
@@ -167,7 +167,7 @@ abbrev pub node_lacks : NodeFault → Bool
 node_lacks node.Memory = true
 node_lacks _ = false
 
-pub column_sure : {A : Type 0} (written : Written) (r : Result A AttrFault) → Sure attr_lacks r → Sure node_lacks (at_column written r)
+pub column_sure : {A : Type 0} (written : WrittenAttr) (r : Result A AttrFault) → Sure attr_lacks r → Sure node_lacks (at_column written r)
 column_sure written (Ok x) h = made node_lacks x
 column_sure written (Err attr.UnknownAttribute) h = refused node_lacks _ refl
 column_sure written (Err attr.UnsupportedName) h = refused node_lacks _ refl
@@ -176,12 +176,12 @@ column_sure written (Err (attr.BadValue place)) h = refused node_lacks _ refl
 column_sure written (Err attr.TooManyItems) h = refused node_lacks _ refl
 column_sure written (Err attr.Memory) h = let never : true ≡ false = h.never in absurd cc
 
-pub attr_sure : (in_seq : Bool) (kind : Kind) (written : Written) → Sure node_lacks (attr_of in_seq kind written)
+pub attr_sure : (in_seq : Bool) (kind : Kind) (written : WrittenAttr) → Sure node_lacks (attr_of in_seq kind written)
 attr_sure in_seq kind written =
     column_sure written (attribute_of in_seq kind written.name written.value)
     (onward attr_lacks (attr_name_of kind written.name) (λ called. value_of in_seq called written.value) (name_sure kind written.name) (λ called. value_sure in_seq called written.value))
 
-pub attrs_sure : (in_seq : Bool) (kind : Kind) (attrs : Attrs) (all : List Written) → Sure node_lacks (attrs_from in_seq kind attrs all)
+pub attrs_sure : (in_seq : Bool) (kind : Kind) (attrs : Attrs) (all : List WrittenAttr) → Sure node_lacks (attrs_from in_seq kind attrs all)
 attrs_sure in_seq kind attrs [] = made node_lacks attrs
 attrs_sure in_seq kind attrs (written ∷ others) =
     onward node_lacks (attr_of in_seq kind written) (λ given. attrs_from in_seq kind (with_attr attrs given) others) (attr_sure in_seq kind written) (λ given. attrs_sure in_seq kind (with_attr attrs given) others)

@@ -10,20 +10,20 @@ use Rattle.smil_model.specs.document.Limits.{limits}
 use Rattle.smil_model.specs.shown.Lines.{refusal_line}
 use Rattle.smil_outside.specs.declared.failed.Failed.{Failed}
 use Rattle.smil_outside.specs.Faults.{last_count}
-use Rattle.smil_outside.specs.Lines.{line_feed}
+use Rattle.smil_model.specs.document.Words.{line_feed}
 use Rattle.smil_grammar.specs.declared.read.Read.{Read}
 use Rattle.smil_grammar.specs.Results.{◌>>=◌}
 use Rattle.smil_grammar.specs.Scripts.{line_of}
 use Rattle.smil_top.specs.declared.answer.Answer.{Answer as AnswerText}
 use Rattle.smil_top.specs.declared.counts.Counts.{Counts}
 use Rattle.smil_top.specs.declared.fault.Fault.{Fault}
-use Rattle.smil_top.specs.declared.given.Given.{Given as GivenDoc}
+use Rattle.smil_top.specs.declared.given.LoadedDoc.{LoadedDoc as GivenDoc}
 use Rattle.smil_top.specs.declared.load.Load.{Load}
 use Rattle.smil_top.specs.declared.run.Run.{Run}
 use Rattle.smil_top.specs.Cut.{OrderLines, single, load as load_order, LoadLines, Cut}
 use Rattle.smil_top.specs.Session.{Session}
-use Rattle.smil_top.specs.Answers.{Refused, Answer, Given, at_line, said_within, silent, given_within, loaded_within, checked}
-use Rattle.smil_top.specs.Transcript.{Told, and_then, is_memory, with_answer}
+use Rattle.smil_top.specs.Answers.{RefusedOrder, Answer, LoadedDocument, at_line, said_within, silent, given_within, loaded_within, checked}
+use Rattle.smil_top.specs.Transcript.{Progress, and_then, is_memory, with_answer}
 use Rattle.smil_top.specs.Summary.{line_count}
 use Rattle.smil_top.specs.Houses.{Presentations, Holds}
 use Rattle.smil_top.specs.Running.{answering, with_order, counted_on, fault_at, given_of, line_by, load_by, refused_by, said, text_of, AreCounted, Answers, AnswersOrders, Gives, Goes, IsOpen, IsRead, IsRunning, IsLine, Makes, MakesAnswer, Tells, Writes, WritesAll}
@@ -63,7 +63,7 @@ refused-counted true count refused is = is
 refused-counted false count refused is = ap (λ n. min (n + 1) last_count) is ∙ one-more last_count refused ∙ ap (λ n. min n last_count) (omega arith)
 
 -- the counts of an order that was answered so
-told-counted : (answered : Result (Unit {0}) Fault) (text : AnswerText) (counts : Counts) (orders : List OrderLines) (told : Told) (order : OrderLines) (after : Session) →
+told-counted : (answered : Result (Unit {0}) Fault) (text : AnswerText) (counts : Counts) (orders : List OrderLines) (told : Progress) (order : OrderLines) (after : Session) →
     AreCounted counts orders told →
     AreCounted (with_order answered (min (line_count (said answered text)) last_count) counts) (orders ++ order ∷ []) (with_answer told (answer_as answered text after))
 told-counted (Ok done) text counts orders told order after were = record {
@@ -82,10 +82,10 @@ told-counted (Err fault) text counts orders told order after were = record {
 -- ---- one order more
 
 -- what is told with an order that was answered so
-pub told-more : (checks : Bool) (run new : Run) (whole : List OrderLines) (told : Told) (order : OrderLines) (answered : Result (Unit {0}) Fault) (text : AnswerText) →
+pub told-more : (checks : Bool) (run new : Run) (whole : List OrderLines) (told : Progress) (order : OrderLines) (answered : Result (Unit {0}) Fault) (text : AnswerText) →
     Tells checks run whole told → MakesAnswer answered text new.session.house told.session (answering checks) order →
     new.session.checks ≡ run.session.checks → new.counts ≡ with_order answered (min (line_count (said answered text)) last_count) run.counts →
-    (more : Told) × Tells checks new (whole ++ order ∷ []) more × (more.text ≡ told.text ++ said answered text)
+    (more : Progress) × Tells checks new (whole ++ order ∷ []) more × (more.text ≡ told.text ++ said answered text)
 told-more checks run new whole told order (Ok done) text tells made same counts = (
   with_answer told (answer_as (Ok done) text made.0),
   record {
@@ -108,7 +108,7 @@ told-more checks run new whole told order (Err fault) text tells made same count
 )
 
 -- the same, where its text was written
-pub told-order : (checks : Bool) (run new : Run) (whole : List OrderLines) (told : Told) (order : OrderLines) (answered : Result (Unit {0}) Fault) (text : AnswerText)
+pub told-order : (checks : Bool) (run new : Run) (whole : List OrderLines) (told : Progress) (order : OrderLines) (answered : Result (Unit {0}) Fault) (text : AnswerText)
     (result : Result (Unit {0}) Failed) (before after : Option (List ℕ)) (room left : ℕ) →
     Tells checks run whole told → MakesAnswer answered text new.session.house told.session (answering checks) order →
     new.session.checks ≡ run.session.checks → new.counts ≡ with_order answered (min (line_count (said answered text)) last_count) run.counts →
@@ -164,10 +164,10 @@ abbrev as_answer : Result GivenDoc Fault → Answer
 as_answer (Err fault) = Err (refused_by fault)
 as_answer (Ok given) = Err (record { line = 0; refusal = Memory })
 
-answer-load : (checks : Bool) (session : Session) (lines : LoadLines) (end_line : ℕ) (given : Result Given Refused) → given_within limits lines end_line ≡ given →
-    answering checks session (load_order lines (Some end_line)) ≡ (given >>= λ (g : Given). at_line lines.head.number (load_by checks session lines.head.number g))
-answer-load true session lines end_line given is = ap (λ r. r >>= λ (g : Given). at_line lines.head.number (checked session lines.head.number g)) is
-answer-load false session lines end_line given is = ap (λ r. r >>= λ (g : Given). at_line lines.head.number (loaded_within limits session lines.head.number g)) is
+answer-load : (checks : Bool) (session : Session) (lines : LoadLines) (end_line : ℕ) (given : Result LoadedDocument RefusedOrder) → given_within limits lines end_line ≡ given →
+    answering checks session (load_order lines (Some end_line)) ≡ (given >>= λ (g : LoadedDocument). at_line lines.head.number (load_by checks session lines.head.number g))
+answer-load true session lines end_line given is = ap (λ r. r >>= λ (g : LoadedDocument). at_line lines.head.number (checked session lines.head.number g)) is
+answer-load false session lines end_line given is = ap (λ r. r >>= λ (g : LoadedDocument). at_line lines.head.number (loaded_within limits session lines.head.number g)) is
 
 pub load-made : (checks : Bool) (r : Result (Unit {0}) Refusal) (text : AnswerText) (house : Presentations) (session : Session) (lines : LoadLines) (line end_line : ℕ) (given : GivenDoc) →
     line ≡ lines.head.number →
@@ -226,7 +226,7 @@ no_load-of at lines stands is = open-none lines (subst (λ o. IsOpen o lines) is
 -- ---- a line
 
 -- an order was whole with this line, and was answered
-pub running-order : (checks : Bool) (result : Result (Unit {0}) Failed) (run : Run) (cut : Cut) (count : ℕ) (whole : List OrderLines) (told : Told) (before after : Option (List ℕ)) (room left : ℕ) →
+pub running-order : (checks : Bool) (result : Result (Unit {0}) Failed) (run : Run) (cut : Cut) (count : ℕ) (whole : List OrderLines) (told : Progress) (before after : Option (List ℕ)) (room left : ℕ) →
     cut ≡ record { count = count; whole = whole; «open» = None } → run.load ≡ None →
     AnswersOrders checks result run whole told before after room left → Answers checks result run cut told before after room left
 running-order checks result run cut count whole told before after room left is no_load answers = record {
@@ -236,11 +236,11 @@ running-order checks result run cut count whole told before after room left is n
 }
 
 -- nothing is told
-pub Goes-nothing : (told : Told) (before : Option (List ℕ)) (room : ℕ) → WritesAll before before room room [] → Goes (Ok tt) told told before before room room
+pub Goes-nothing : (told : Progress) (before : Option (List ℕ)) (room : ℕ) → WritesAll before before room room [] → Goes (Ok tt) told told before before room room
 Goes-nothing told before room nothing = record { text = []; text_is = sym (append-nil told.text); writes = nothing }
 
 -- nothing is told, and a load stands open
-pub running-load : (checks : Bool) (run : Run) (load : Load) (cut : Cut) (count : ℕ) (whole : List OrderLines) (lines : LoadLines) (told : Told) (before : Option (List ℕ)) (room : ℕ) →
+pub running-load : (checks : Bool) (run : Run) (load : Load) (cut : Cut) (count : ℕ) (whole : List OrderLines) (lines : LoadLines) (told : Progress) (before : Option (List ℕ)) (room : ℕ) →
     cut ≡ record { count = count; whole = whole; «open» = Some lines } → run.load ≡ Some load → IsRead load lines → Tells checks run whole told →
     WritesAll before before room room [] → Answers checks (Ok tt) run cut told before before room room
 running-load checks run load cut count whole lines told before room is loaded read tells nothing = record {
@@ -250,7 +250,7 @@ running-load checks run load cut count whole lines told before room is loaded re
 }
 
 -- nothing is told, and no load stands open
-pub running-silent : (checks : Bool) (run : Run) (cut : Cut) (count : ℕ) (whole : List OrderLines) (told : Told) (before : Option (List ℕ)) (room : ℕ) →
+pub running-silent : (checks : Bool) (run : Run) (cut : Cut) (count : ℕ) (whole : List OrderLines) (told : Progress) (before : Option (List ℕ)) (room : ℕ) →
     cut ≡ record { count = count; whole = whole; «open» = None } → run.load ≡ None → Tells checks run whole told →
     WritesAll before before room room [] → Answers checks (Ok tt) run cut told before before room room
 running-silent checks run cut count whole told before room is no_load tells nothing = record {
@@ -260,7 +260,7 @@ running-silent checks run cut count whole told before room is no_load tells noth
 }
 
 -- what is told stays where the run differs in its load alone
-pub tells-on : (checks : Bool) (run new : Run) (whole : List OrderLines) (told : Told) → new.session ≡ run.session → new.counts ≡ run.counts →
+pub tells-on : (checks : Bool) (run new : Run) (whole : List OrderLines) (told : Progress) → new.session ≡ run.session → new.counts ≡ run.counts →
     Tells checks run whole told → Tells checks new whole told
 tells-on checks run new whole told session counts tells = record {
   checks_is = ap (λ s. s.checks) session ∙ tells.checks_is;

@@ -15,25 +15,25 @@ use Rattle.smil_grammar.specs.Results.{◌>>=◌}
 use Rattle.smil_grammar.specs.Scripts.{line_of}
 use Rattle.smil_grammar.specs.Outlines.{Outline, no_lines, line_within, ended, version_of, outline_text, saved_text}
 use Rattle.smil_grammar.specs.Formats.{formats}
-use Rattle.smil_top.specs.Cut.{Numbered, LoadLines, OrderLines, single, load, is_short}
+use Rattle.smil_top.specs.Cut.{NumberedLine, LoadLines, OrderLines, single, load, is_short}
 use Rattle.smil_top.specs.Session.{Session, presentation_of, with_state, without, may_load}
 
 -- an accepted order: its text, and the session after it
-pub record Accepted : Type 0 where
+pub record AcceptedOrder : Type 0 where
   pub text : List ℕ
   pub session : Session
 
 -- a refused order: the refusal, and the number of the line where the fault stands
-pub record Refused : Type 0 where
+pub record RefusedOrder : Type 0 where
   pub line : ℕ
   pub refusal : Refusal
 
 -- an order is accepted or refused
 abbrev pub Answer : Type 0
-Answer = Result Accepted Refused
+Answer = Result AcceptedOrder RefusedOrder
 
 -- a refusal stands at this line
-abbrev pub at_line : {A : Type 0} → ℕ → Result A Refusal → Result A Refused
+abbrev pub at_line : {A : Type 0} → ℕ → Result A Refusal → Result A RefusedOrder
 at_line line (Ok x) = Ok x
 at_line line (Err refusal) = Err (record { line = line; refusal = refusal })
 
@@ -49,7 +49,7 @@ found_presentation None = Err NoPresentation
 found_presentation (Some presentation) = Ok presentation
 
 -- an order to the presentation of this name
-abbrev pub ordered_within : Limits → Session → ℕ → List ℕ → Order → Result Accepted Refusal
+abbrev pub ordered_within : Limits → Session → ℕ → List ℕ → Order → Result AcceptedOrder Refusal
 ordered_within allowed session line name order = do
   before ← found_presentation (presentation_of name session)
   after ← outcome_within allowed formats before order
@@ -59,17 +59,17 @@ ordered_within allowed session line name order = do
   })
 
 -- the presentation of this name is closed
-abbrev pub close_answer : Session → ℕ → List ℕ → Result Accepted Refusal
+abbrev pub close_answer : Session → ℕ → List ℕ → Result AcceptedOrder Refusal
 close_answer session line name = do
   before ← found_presentation (presentation_of name session)
   Ok (record { text = closed_line line name; session = without name session })
 
 -- no text, and the same session
-abbrev pub silent : Session → Result Accepted Refusal
+abbrev pub silent : Session → Result AcceptedOrder Refusal
 silent session = Ok (record { text = []; session = session })
 
 -- by what the line says; one that opens a load is no single line, nor is one without an answer
-abbrev pub said_within : Limits → Session → ℕ → Read → Result Accepted Refusal
+abbrev pub said_within : Limits → Session → ℕ → Read → Result AcceptedOrder Refusal
 said_within allowed session line (To name order) = ordered_within allowed session line name order
 said_within allowed session line (Close name) = close_answer session line name
 said_within allowed session line (Load name) = Err NotACommand
@@ -78,7 +78,7 @@ said_within allowed session line Blank = silent session
 -- ---- loads
 
 -- what a load gives: the name, the document, and the version of its outline
-pub record Given : Type 0 where
+pub record LoadedDocument : Type 0 where
   pub name : List ℕ
   pub document : Document
   pub version : ℕ
@@ -89,14 +89,14 @@ name_of (Load name) = Ok name
 name_of _ = Err NotACommand
 
 -- node lines up to the first fault, which stands at its line
-abbrev pub outline_from : Limits → Outline → List Numbered → Result Outline Refused
+abbrev pub outline_from : Limits → Outline → List NumberedLine → Result Outline RefusedOrder
 outline_from allowed outline [] = Ok outline
 outline_from allowed outline (line ∷ lines) = do
   more ← at_line line.number (line_within allowed outline line.text)
   outline_from allowed more lines
 
 -- what the lines of a load give, or their first fault; an outline without a node is faulty at the line that ends it
-abbrev pub given_within : Limits → LoadLines → ℕ → Result Given Refused
+abbrev pub given_within : Limits → LoadLines → ℕ → Result LoadedDocument RefusedOrder
 given_within allowed lines end_line = do
   name ← at_line lines.head.number (line_of lines.head.text >>= name_of)
   outline ← outline_from allowed no_lines lines.nodes
@@ -104,7 +104,7 @@ given_within allowed lines end_line = do
   Ok (record { name = name; document = document; version = version_of outline })
 
 -- a load opens its document at moment 0
-abbrev pub loaded_within : Limits → Session → ℕ → Given → Result Accepted Refusal
+abbrev pub loaded_within : Limits → Session → ℕ → LoadedDocument → Result AcceptedOrder Refusal
 loaded_within allowed session line given = do
   free ← may_load given.name session
   loaded ← opened_within allowed given.document
@@ -114,11 +114,11 @@ loaded_within allowed session line given = do
   })
 
 -- the canonical outline, in the version in which it came
-abbrev pub outline_in : Given → List ℕ
+abbrev pub outline_in : LoadedDocument → List ℕ
 outline_in given = if given.version == 2 then saved_text given.document else outline_text given.document.nodes
 
 -- a load that is only read
-abbrev pub checked : Session → ℕ → Given → Result Accepted Refusal
+abbrev pub checked : Session → ℕ → LoadedDocument → Result AcceptedOrder Refusal
 checked session line given = Ok (record { text = outline_in given ++ checked_line line given.name; session = session })
 
 -- ---- all orders

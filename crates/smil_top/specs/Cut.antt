@@ -21,18 +21,18 @@ abbrev pub ends : List ℕ → Bool
 ends line = is_short line && ends_load line
 
 -- a line and its number, from 1
-pub record Numbered : Type 0 where
+pub record NumberedLine : Type 0 where
   pub number : ℕ
   pub text : List ℕ
 
 -- the line that opens a load, and the load's node lines
 pub record LoadLines : Type 0 where
-  pub head : Numbered
-  pub nodes : List Numbered
+  pub head : NumberedLine
+  pub nodes : List NumberedLine
 
 -- the lines of an order; a load has the number of the line that ends it, or the input ends before
 pub data OrderLines : Type 0 where
-  single : Numbered → OrderLines
+  single : NumberedLine → OrderLines
   load : LoadLines → Option ℕ → OrderLines
 
 -- the number of an order's first line
@@ -47,7 +47,7 @@ pub record Cut : Type 0 where
   pub «open» : Option LoadLines
 
 -- with a line outside loads
-abbrev pub cut_outside : List OrderLines → Numbered → Cut
+abbrev pub cut_outside : List OrderLines → NumberedLine → Cut
 cut_outside whole line =
     if opens line.text then record {
       count = line.number;
@@ -59,7 +59,7 @@ cut_outside whole line =
     else record { count = line.number; whole = whole ++ single line ∷ []; «open» = None })
 
 -- with a line inside a load
-abbrev pub cut_inside : List OrderLines → LoadLines → Numbered → Cut
+abbrev pub cut_inside : List OrderLines → LoadLines → NumberedLine → Cut
 cut_inside whole lines line =
     if ends line.text then record {
       count = line.number;
@@ -75,7 +75,7 @@ cut_inside whole lines line =
           (record lines { nodes = lines.nodes ++ line ∷ [] });
     })
 
-abbrev pub cut_by : Option LoadLines → List OrderLines → Numbered → Cut
+abbrev pub cut_by : Option LoadLines → List OrderLines → NumberedLine → Cut
 cut_by None whole line = cut_outside whole line
 cut_by (Some lines) whole line = cut_inside whole lines line
 

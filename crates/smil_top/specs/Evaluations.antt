@@ -16,7 +16,7 @@ use Rattle.smil_live.specs.Counts.{most_loading, least_loading, most_number, lea
 use Rattle.smil_top.specs.declared.status.Status.{Status}
 use Rattle.smil_top.specs.Cut.{LoadLines, OrderLines, single, load, orders}
 use Rattle.smil_top.specs.Session.{Session, presentation_of, may_load}
-use Rattle.smil_top.specs.Answers.{Refused, Given, at_line, read_of, found_presentation, given_within, answer_of}
+use Rattle.smil_top.specs.Answers.{RefusedOrder, LoadedDocument, at_line, read_of, found_presentation, given_within, answer_of}
 use Rattle.smil_top.specs.Words.{is_told}
 use Rattle.smil_top.specs.Serving.{Serves}
 use Rattle.smil_top.specs.Laws.{with_ease, answered_by, any_refused_as, session_after}
@@ -52,14 +52,14 @@ abbrev pub line_number : Bound → Session → List ℕ → Result ℕ Refusal
 line_number bound session text = read_of text >>= said_number bound session
 
 -- of the presentation that a load opens
-abbrev pub loaded_number : Bound → Session → Given → Result ℕ Refusal
+abbrev pub loaded_number : Bound → Session → LoadedDocument → Result ℕ Refusal
 loaded_number bound session given = do
   free ← may_load given.name session
   loaded ← opened given.document
   Ok (bound.loading loaded)
 
 -- of the lines of a load, and the line that ends it
-abbrev pub load_number : Bound → Session → LoadLines → ℕ → Result ℕ Refused
+abbrev pub load_number : Bound → Session → LoadLines → ℕ → Result ℕ RefusedOrder
 load_number bound session lines end_line = do
   given ← given_within limits lines end_line
   at_line lines.head.number (loaded_number bound session given)

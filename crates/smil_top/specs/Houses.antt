@@ -1,16 +1,16 @@
 -- A house that holds the presentations of a session.
 use Rattle.std.specs.Prelude.{◌≡◌, List, [], ◌∷◌, map, None}
 use Rattle.smil_model.specs.shown.Orders.{Presentation}
-use Rattle.smil_house.specs.declared.house.Held.{Held}
+use Rattle.smil_house.specs.declared.house.NamedPlayer.{NamedPlayer}
 use Rattle.smil_house.specs.House.{place_of}
-use Rattle.smil_top.specs.Session.{Named, Session}
+use Rattle.smil_top.specs.Session.{NamedPresentation, Session}
 
 -- what a house holds
 abbrev pub Presentations : Type 0
-Presentations = List (Held Presentation)
+Presentations = List (NamedPlayer Presentation)
 
 -- a presentation as a session has it
-abbrev pub shown : Held Presentation → Named
+abbrev pub shown : NamedPlayer Presentation → NamedPresentation
 shown held = record { name = held.name; presentation = held.player }
 
 -- no two have the same name

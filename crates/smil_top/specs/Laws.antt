@@ -11,38 +11,38 @@ use Rattle.smil_grammar.specs.declared.read.Read.{Read}
 use Rattle.smil_grammar.specs.declared.read.Read.TheVariants.{Load, Close}
 use Rattle.smil_grammar.specs.Scripts.{first_of, is_title, line_of}
 use Rattle.smil_laws.specs.Migration.{AreBelow, is_for_limit}
-use Rattle.smil_top.specs.Cut.{Numbered, OrderLines, single, load, first_line, whole_orders, orders}
+use Rattle.smil_top.specs.Cut.{NumberedLine, OrderLines, single, load, first_line, whole_orders, orders}
 use Rattle.smil_top.specs.Session.{Session, is_named, presentation_of}
-use Rattle.smil_top.specs.Answers.{Answer, Refused, at_line, answer_within, check_within}
-use Rattle.smil_top.specs.Transcript.{Answering, Told, untold, with_answer, is_memory, IsTranscriptBy, transcript_by}
+use Rattle.smil_top.specs.Answers.{Answer, RefusedOrder, at_line, answer_within, check_within}
+use Rattle.smil_top.specs.Transcript.{Answering, Progress, untold, with_answer, is_memory, IsTranscriptBy, transcript_by}
 
 -- ---- transcripts, answer by answer
 
 -- an order, and whether memory runs out at it
-pub record Tried : Type 0 where
+pub record OrderAttempt : Type 0 where
   pub order : OrderLines
   pub lacks : Bool
 
 -- the orders alone
-abbrev pub orders_of : List Tried → List OrderLines
-orders_of tried = map (λ (one : Tried). one.order) tried
+abbrev pub orders_of : List OrderAttempt → List OrderLines
+orders_of tried = map (λ (one : OrderAttempt). one.order) tried
 
 -- memory suffices
-abbrev pub with_ease : OrderLines → Tried
+abbrev pub with_ease : OrderLines → OrderAttempt
 with_ease order = record { order = order; lacks = false }
 
 -- what it is answered in a session
-abbrev pub answer_to : Answering → Session → Tried → Answer
+abbrev pub answer_to : Answering → Session → OrderAttempt → Answer
 answer_to answering session tried =
     if tried.lacks then at_line (first_line tried.order) (Err Memory) else answering session tried.order
 
 -- what orders are told in turn
-abbrev pub told_by : Answering → List Tried → Told
+abbrev pub told_by : Answering → List OrderAttempt → Progress
 told_by answering tried = fold (λ told one. with_answer told (answer_to answering told.session one)) untold tried
 
 -- what is heard of an answer: its text, or the refusal and its line
 abbrev pub Heard : Type 0
-Heard = Result (List ℕ) Refused
+Heard = Result (List ℕ) RefusedOrder
 
 -- an answer without the session that it leaves
 abbrev pub heard : Answer → Heard
@@ -55,12 +55,12 @@ session_after session (Ok accepted) = accepted.session
 session_after session (Err fault) = session
 
 -- an order and what it was answered
-pub record Answered : Type 0 where
+pub record AnsweredOrder : Type 0 where
   pub order : OrderLines
   pub answer : Heard
 
 -- orders that are answered in turn, from a session on
-abbrev pub answered_from : Answering → Session → List Tried → List Answered
+abbrev pub answered_from : Answering → Session → List OrderAttempt → List AnsweredOrder
 answered_from answering session [] = []
 answered_from answering session (one ∷ others) =
     let answer : Answer = answer_to answering session one in
@@ -68,7 +68,7 @@ answered_from answering session (one ∷ others) =
     ∷ answered_from answering (session_after session answer) others
 
 -- from the empty session on
-abbrev pub answered_by : Answering → List Tried → List Answered
+abbrev pub answered_by : Answering → List OrderAttempt → List AnsweredOrder
 answered_by answering tried = answered_from answering [] tried
 
 -- the lines of an answer
@@ -82,19 +82,19 @@ refuses_as kind (Ok text) = false
 refuses_as kind (Err fault) = kind fault.refusal
 
 -- whether one of the answers is
-abbrev pub any_refused_as : (Refusal → Bool) → List Answered → Bool
-any_refused_as kind answered = list_any (λ (one : Answered). refuses_as kind one.answer) answered
+abbrev pub any_refused_as : (Refusal → Bool) → List AnsweredOrder → Bool
+any_refused_as kind answered = list_any (λ (one : AnsweredOrder). refuses_as kind one.answer) answered
 
 -- every transcript is what its orders are told, memory running out at some of them
 abbrev pub TranscriptsAreTold : Type 0
 TranscriptsAreTold =
-    (answering : Answering) (orders : List OrderLines) (told : Told) → IsTranscriptBy answering orders told
-    → (tried : List Tried) × (orders_of tried ≡ orders) × (told_by answering tried ≡ told)
+    (answering : Answering) (orders : List OrderLines) (told : Progress) → IsTranscriptBy answering orders told
+    → (tried : List OrderAttempt) × (orders_of tried ≡ orders) × (told_by answering tried ≡ told)
 
 -- and memory may run out at any of them
 abbrev pub WhatIsToldIsTranscript : Type 0
 WhatIsToldIsTranscript =
-    (answering : Answering) (tried : List Tried) → IsTranscriptBy answering (orders_of tried) (told_by answering tried)
+    (answering : Answering) (tried : List OrderAttempt) → IsTranscriptBy answering (orders_of tried) (told_by answering tried)
 
 -- the one in which memory suffices is what they are told where it runs out at none
 abbrev pub ItRunsOutAtNone : Type 0
@@ -105,9 +105,9 @@ ItRunsOutAtNone =
 -- its text is that of its answers, one behind another
 abbrev pub TextIsOfAnswers : Type 0
 TextIsOfAnswers =
-    (answering : Answering) (tried : List Tried)
+    (answering : Answering) (tried : List OrderAttempt)
     → (told_by answering tried).text
-    ≡ flat_map (λ (one : Answered). answer_lines one.answer) (answered_by answering tried)
+    ≡ flat_map (λ (one : AnsweredOrder). answer_lines one.answer) (answered_by answering tried)
 
 -- ---- completeness
 
@@ -134,14 +134,14 @@ HasTranscript = (allowed : Limits) → HasEase (answer_within allowed) × HasEas
 -- and no other
 abbrev pub HasOneTranscript : Type 0
 HasOneTranscript =
-    (answering : Answering) (orders : List OrderLines) (told : Told) → IsTranscriptBy answering orders told
+    (answering : Answering) (orders : List OrderLines) (told : Progress) → IsTranscriptBy answering orders told
     → told.memory ≡ false
     → told ≡ transcript_by answering orders
 
 -- ---- line numbers aside
 
 -- a line that is given another number
-abbrev pub numbered_by : (ℕ → ℕ) → Numbered → Numbered
+abbrev pub numbered_by : (ℕ → ℕ) → NumberedLine → NumberedLine
 numbered_by given line = record { number = given line.number; text = line.text }
 
 -- an order whose lines are
@@ -161,7 +161,7 @@ end_lines (Some end_line) = codes "%%" ∷ []
 abbrev pub lines_of : OrderLines → List (List ℕ)
 lines_of (single line) = line.text ∷ []
 lines_of (load lines ended) =
-    lines.head.text ∷ map (λ (line : Numbered). line.text) lines.nodes ++ end_lines ended
+    lines.head.text ∷ map (λ (line : NumberedLine). line.text) lines.nodes ++ end_lines ended
 
 -- some of the orders of an input are the orders of their own lines, with other numbers
 abbrev pub OrdersAreCutAgain : Type 0
@@ -172,7 +172,7 @@ OrdersAreCutAgain =
     ≡ map (renumbered given) (filter kept (orders lines)))
 
 -- the same, with whether memory runs out at it
-abbrev pub renumbered_try : (ℕ → ℕ) → Tried → Tried
+abbrev pub renumbered_try : (ℕ → ℕ) → OrderAttempt → OrderAttempt
 renumbered_try given one = record { order = renumbered given one.order; lacks = one.lacks }
 
 -- the last line of an accepted answer, by its number and the words behind it
@@ -180,7 +180,7 @@ abbrev pub last_line : ℕ → List (List ℕ) → List ℕ
 last_line number words = text_line (codes "ok" ∷ decimal number ∷ words)
 
 -- a refusal, with the number of the line at fault
-abbrev pub refused_in : ℕ → Refusal → Refused
+abbrev pub refused_in : ℕ → Refusal → RefusedOrder
 refused_in number refusal = record { line = number; refusal = refusal }
 
 -- two answers are the same but for the line's number, and the number of the line at fault
@@ -194,19 +194,19 @@ pub data AreSameBut (given : ℕ → ℕ) (number : ℕ) : Heard → Heard → T
       AreSameBut given number (Err (refused_in place refusal)) (Err (refused_in (given place) refusal))
 
 -- answers that are, one by one
-abbrev pub AllSameBut : (ℕ → ℕ) → List Answered → List Answered → Type 0
+abbrev pub AllSameBut : (ℕ → ℕ) → List AnsweredOrder → List AnsweredOrder → Type 0
 AllSameBut given answered others =
-    AllZip (λ (one other : Answered). AreSameBut given (first_line one.order) one.answer other.answer) answered others
+    AllZip (λ (one other : AnsweredOrder). AreSameBut given (first_line one.order) one.answer other.answer) answered others
 
 -- orders with other line numbers have the same answers but for these, and leave the same session
-pub record AreAside (answering : Answering) (given : ℕ → ℕ) (tried : List Tried) : Type 0 where
+pub record AreAside (answering : Answering) (given : ℕ → ℕ) (tried : List OrderAttempt) : Type 0 where
   pub answers : AllSameBut given (answered_by answering tried)
       (answered_by answering (map (renumbered_try given) tried))
   pub session : (told_by answering (map (renumbered_try given) tried)).session ≡ (told_by answering tried).session
 
 -- for any numbers, within any limits
 abbrev pub NumbersAreAside : Type 0
-NumbersAreAside = (allowed : Limits) (given : ℕ → ℕ) (tried : List Tried) → AreAside (answer_within allowed) given tried
+NumbersAreAside = (allowed : Limits) (given : ℕ → ℕ) (tried : List OrderAttempt) → AreAside (answer_within allowed) given tried
 
 -- ---- isolation
 
@@ -276,16 +276,16 @@ AnswersAreOwn =
     → IsOwn allowed name session order
 
 -- the orders of a name
-abbrev pub own_tried : List ℕ → List Tried → List Tried
-own_tried name tried = filter (λ (one : Tried). is_of name one.order) tried
+abbrev pub own_tried : List ℕ → List OrderAttempt → List OrderAttempt
+own_tried name tried = filter (λ (one : OrderAttempt). is_of name one.order) tried
 
 -- the answers to them
-abbrev pub own_answered : List ℕ → List Answered → List Answered
-own_answered name answered = filter (λ (one : Answered). is_of name one.order) answered
+abbrev pub own_answered : List ℕ → List AnsweredOrder → List AnsweredOrder
+own_answered name answered = filter (λ (one : AnsweredOrder). is_of name one.order) answered
 
 -- so the answers to the orders of a name, and what is left of it, are those of a session that has these orders alone,
 -- where no answer is that too many are held; line numbers are aside, and memory may run out at any order
-pub record IsAlone (answering : Answering) (name : List ℕ) (tried : List Tried) : Type 0 where
+pub record IsAlone (answering : Answering) (name : List ℕ) (tried : List OrderAttempt) : Type 0 where
   pub answers : own_answered name (answered_by answering tried) ≡ answered_by answering (own_tried name tried)
   pub session : part_of name (told_by answering tried).session ≡ (told_by answering (own_tried name tried)).session
   pub aside : (given : ℕ → ℕ) →
@@ -295,7 +295,7 @@ pub record IsAlone (answering : Answering) (name : List ℕ) (tried : List Tried
 -- for each presentation's name, within any limits
 abbrev pub NamesAreIsolated : Type 0
 NamesAreIsolated =
-    (allowed : Limits) (name : List ℕ) (tried : List Tried) → is_title name ≡ true
+    (allowed : Limits) (name : List ℕ) (tried : List OrderAttempt) → is_title name ≡ true
     → any_refused_as is_too_many (answered_by (answer_within allowed) tried) ≡ false
     → IsAlone (answer_within allowed) name tried
 
@@ -339,8 +339,8 @@ abbrev pub InputsAreCut : Type 0
 InputsAreCut = (came more : List ℕ) → SharesFirstOrders came more
 
 -- the transcript of the first orders is the front of the transcript of more
-pub record HasFront (answering : Answering) (first : List OrderLines) (told : Told) : Type 0 where
-  pub front : Told
+pub record HasFront (answering : Answering) (first : List OrderLines) (told : Progress) : Type 0 where
+  pub front : Progress
   pub rest : List ℕ
   pub transcript : IsTranscriptBy answering first front
   pub text : told.text ≡ front.text ++ rest
@@ -348,14 +348,14 @@ pub record HasFront (answering : Answering) (first : List OrderLines) (told : To
 -- for all transcripts
 abbrev pub TranscriptsHaveFronts : Type 0
 TranscriptsHaveFronts =
-    (answering : Answering) (first later : List OrderLines) (told : Told)
+    (answering : Answering) (first later : List OrderLines) (told : Progress)
     → IsTranscriptBy answering (first ++ later) told
     → HasFront answering first told
 
 -- so the transcript of a part of an input from its front is a front of the whole one, which ends where an order ends,
 -- and the answer of at most one order more
-pub record IsFrontAndOne (answering : Answering) (came : List ℕ) (part whole : Told) : Type 0 where
-  pub front : Told
+pub record IsFrontAndOne (answering : Answering) (came : List ℕ) (part whole : Progress) : Type 0 where
+  pub front : Progress
   pub rest : List ℕ
   pub transcript : IsTranscriptBy answering (whole_orders (whole_lines came)) front
   pub text : whole.text ≡ front.text ++ rest
@@ -372,16 +372,16 @@ TranscriptsAreCut =
 -- and where memory ran out at some orders, a transcript of the part, with memory running out at the same ones
 abbrev pub AllTranscriptsAreCut : Type 0
 AllTranscriptsAreCut =
-    (answering : Answering) (came more : List ℕ) (whole : Told)
+    (answering : Answering) (came more : List ℕ) (whole : Progress)
     → IsTranscriptBy answering (orders (lines (came ++ more))) whole
-    → (part : Told) × IsTranscriptBy answering (orders (lines came)) part × IsFrontAndOne answering came part whole
+    → (part : Progress) × IsTranscriptBy answering (orders (lines came)) part × IsFrontAndOne answering came part whole
 
 -- ---- migration
 
 -- a transcript without a refusal for a limit is one within larger limits
 abbrev pub Migrates : (Limits → Answering) → Type 0
 Migrates within =
-    (small large : Limits) (tried : List Tried) → AreBelow small large
+    (small large : Limits) (tried : List OrderAttempt) → AreBelow small large
     → any_refused_as is_for_limit (answered_by (within small) tried) ≡ false
     → told_by (within large) tried ≡ told_by (within small) tried
 

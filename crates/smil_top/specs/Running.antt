@@ -23,17 +23,17 @@ use Rattle.smil_words.specs.declared.mode.Mode.TheVariants as mode
 use Rattle.smil_top.specs.declared.answer.Answer.{Answer as AnswerText}
 use Rattle.smil_top.specs.declared.counts.Counts.{Counts}
 use Rattle.smil_top.specs.declared.fault.Fault.{Fault}
-use Rattle.smil_top.specs.declared.given.Given.{Given as GivenDoc}
+use Rattle.smil_top.specs.declared.given.LoadedDoc.{LoadedDoc as GivenDoc}
 use Rattle.smil_top.specs.declared.load.Load.{Load as LoadSoFar}
-use Rattle.smil_top.specs.declared.given.Titled.{Titled}
+use Rattle.smil_top.specs.declared.given.NamedOutline.{NamedOutline}
 use Rattle.smil_top.specs.declared.run.Run.{Run}
 use Rattle.smil_top.specs.declared.status.Status.{Status}
 use Rattle.smil_top.specs.declared.status.Status.TheVariants as status
-use Rattle.smil_top.specs.Cut.{Numbered, LoadLines, OrderLines, Cut, unended, orders}
+use Rattle.smil_top.specs.Cut.{NumberedLine, LoadLines, OrderLines, Cut, unended, orders}
 use Rattle.smil_top.specs.Session.{Session}
 use Rattle.smil_top.specs.Houses.{Presentations, Holds}
-use Rattle.smil_top.specs.Answers.{Accepted, Refused, Given, at_line, name_of, outline_from, said_within, silent, loaded_within, checked, outline_in, answer_of, check_of}
-use Rattle.smil_top.specs.Transcript.{Answering, MayAnswer, Told, IsTranscriptBy, is_memory}
+use Rattle.smil_top.specs.Answers.{AcceptedOrder, RefusedOrder, LoadedDocument, at_line, name_of, outline_from, said_within, silent, loaded_within, checked, outline_in, answer_of, check_of}
+use Rattle.smil_top.specs.Transcript.{Answering, MayAnswer, Progress, IsTranscriptBy, is_memory}
 use Rattle.smil_top.specs.declared.generated.Summary.{Summary}
 use Rattle.smil_top.specs.Summary.{line_count, session_told, summary}
 use Rattle.smil_top.specs.Serving.{Runs, status_of, status_by}
@@ -50,7 +50,7 @@ abbrev pub no_text : AnswerText
 no_text = record { told = []; last = [] }
 
 -- a refusal and its line
-abbrev pub refused_by : Fault → Refused
+abbrev pub refused_by : Fault → RefusedOrder
 refused_by fault = record { line = fault.line; refusal = fault.refusal }
 
 -- a refusal stands at this line
@@ -69,7 +69,7 @@ said answered text = text_of (finished answered text)
 
 -- what was made of an order is what is wanted: the text, in a house that holds the session after it; or the refusal, where
 -- all is kept, unless memory ran out
-abbrev pub Makes : Result (Unit {0}) Refusal → AnswerText → Presentations → Session → Result Accepted Refusal → Type 0
+abbrev pub Makes : Result (Unit {0}) Refusal → AnswerText → Presentations → Session → Result AcceptedOrder Refusal → Type 0
 Makes (Ok done) text house session wanted =
     (after : Session) × Holds house after × (wanted ≡ Ok (record { text = text_of text; session = after }))
 Makes (Err refusal) text house session wanted = Holds house session × ((refusal ≡ Memory) ⊎ (wanted ≡ Err refusal))
@@ -89,21 +89,21 @@ answering true = check_of
 answering false = answer_of
 
 -- what a line is answered, by what it says
-abbrev pub single_by : Bool → Session → ℕ → Read → Result Accepted Refusal
+abbrev pub single_by : Bool → Session → ℕ → Read → Result AcceptedOrder Refusal
 single_by true session number read = silent session
 single_by false session number read = said_within limits session number read
 
 -- what a line is answered
-abbrev pub line_by : Bool → Session → ℕ → List ℕ → Result Accepted Refusal
+abbrev pub line_by : Bool → Session → ℕ → List ℕ → Result AcceptedOrder Refusal
 line_by checks session number line = line_of line >>= single_by checks session number
 
 -- what a load is answered
-abbrev pub load_by : Bool → Session → ℕ → Given → Result Accepted Refusal
+abbrev pub load_by : Bool → Session → ℕ → LoadedDocument → Result AcceptedOrder Refusal
 load_by true session number given = checked session number given
 load_by false session number given = loaded_within limits session number given
 
 -- a load that is only read was written, unless memory ran out
-abbrev pub Checks : Result (Unit {0}) Refusal → AnswerText → ℕ → Given → Type 0
+abbrev pub Checks : Result (Unit {0}) Refusal → AnswerText → ℕ → LoadedDocument → Type 0
 Checks (Ok done) text line given = text_of text ≡ outline_in given ++ checked_line line given.name
 Checks (Err refusal) text line given = refusal ≡ Memory
 
@@ -119,20 +119,20 @@ HoldsTitle Blank = Unit {0}
 -- ---- loads
 
 -- the name and the outline with one more line
-abbrev pub with_node : List ℕ → Outline → Numbered → Result (List ℕ × Outline) Refused
+abbrev pub with_node : List ℕ → Outline → NumberedLine → Result (List ℕ × Outline) RefusedOrder
 with_node name outline line = do
   more ← at_line line.number (line_within limits outline line.text)
   Ok (name, more)
 
 -- what the lines of a load say before its end
-abbrev pub reading_of : LoadLines → Result (List ℕ × Outline) Refused
+abbrev pub reading_of : LoadLines → Result (List ℕ × Outline) RefusedOrder
 reading_of lines = do
   name ← at_line lines.head.number (line_of lines.head.text >>= name_of)
   outline ← outline_from limits no_lines lines.nodes
   Ok (name, outline)
 
 -- what was read is this
-abbrev pub Reads : Result Titled Fault → Result (List ℕ × Outline) Refused → Type 0
+abbrev pub Reads : Result NamedOutline Fault → Result (List ℕ × Outline) RefusedOrder → Type 0
 Reads (Ok titled) wanted = wanted ≡ Ok (titled.name, titled.outline)
 Reads (Err fault) wanted = wanted ≡ Err (refused_by fault)
 
@@ -144,21 +144,21 @@ pub record IsRead (load : LoadSoFar) (lines : LoadLines) : Type 0 where
       ⊎ (load.reading ≡ Err (record { line = lines.head.number; refusal = Memory }))
 
 -- the name of a load line, before the first node
-abbrev pub ReadsTitle : Result Titled Refusal → List ℕ → Type 0
+abbrev pub ReadsTitle : Result NamedOutline Refusal → List ℕ → Type 0
 ReadsTitle (Ok titled) head = (line_of head >>= name_of ≡ Ok titled.name) × (titled.outline ≡ no_lines)
 ReadsTitle (Err refusal) head = (refusal ≡ Memory) ⊎ (line_of head >>= name_of ≡ Err refusal)
 
 -- what a load gives
-abbrev pub given_of : GivenDoc → Given
+abbrev pub given_of : GivenDoc → LoadedDocument
 given_of given = record { name = given.name; document = given.doc; version = given.version }
 
 -- what a load gives is this
-abbrev pub Gives : Result GivenDoc Fault → Result Given Refused → Type 0
+abbrev pub Gives : Result GivenDoc Fault → Result LoadedDocument RefusedOrder → Type 0
 Gives (Ok given) wanted = wanted ≡ Ok (given_of given)
 Gives (Err fault) wanted = wanted ≡ Err (refused_by fault)
 
 -- an outline that ends gives its document, or is faulty at the line that ends it
-abbrev pub given_at : List ℕ → Outline → ℕ → Result Given Refused
+abbrev pub given_at : List ℕ → Outline → ℕ → Result LoadedDocument RefusedOrder
 given_at name outline end_line = do
   document ← at_line end_line (ended outline)
   Ok (record { name = name; document = document; version = version_of outline })
@@ -193,7 +193,7 @@ with_order (Err fault) lines counts = record counts {
 }
 
 -- what is counted of these orders, told so
-pub record AreCounted (counts : Counts) (orders : List OrderLines) (told : Told) : Type 0 where
+pub record AreCounted (counts : Counts) (orders : List OrderLines) (told : Progress) : Type 0 where
   pub orders_are : counts.orders ≡ min (length orders) last_count
   pub refused_is : counts.refused ≡ min told.refused last_count
   pub lines_are : counts.lines ≡ min (line_count told.text) last_count
@@ -208,14 +208,14 @@ pub record AreExact (counts : Counts) : Type 0 where
 -- ---- a run
 
 -- these orders were answered, and this was told
-pub record Tells (checks : Bool) (run : Run) (orders : List OrderLines) (told : Told) : Type 0 where
+pub record Tells (checks : Bool) (run : Run) (orders : List OrderLines) (told : Progress) : Type 0 where
   pub checks_is : run.session.checks ≡ checks
   pub transcript : IsTranscriptBy (answering checks) orders told
   pub holds : Holds run.session.house told.session
   pub counted : AreCounted run.counts orders told
 
 -- a session whose whole orders were answered, and this was told
-pub record IsRunning (checks : Bool) (run : Run) (cut : Cut) (told : Told) : Type 0 where
+pub record IsRunning (checks : Bool) (run : Run) (cut : Cut) (told : Progress) : Type 0 where
   pub tells : Tells checks run cut.whole told
   pub load : IsOpen run.load cut.«open»
 
@@ -238,7 +238,7 @@ Writes (Ok done) before after room left text = WritesAll before after room left 
 Writes (Err e) before after room left text = WritesPart before after room text
 
 -- more was told, and it or a part of it was written
-pub record Goes (result : Result (Unit {0}) Failed) (told more : Told)
+pub record Goes (result : Result (Unit {0}) Failed) (told more : Progress)
     (before after : Option (List ℕ)) (room left : ℕ) : Type 0 where
   pub text : List ℕ
   pub text_is : more.text ≡ told.text ++ text
@@ -246,26 +246,26 @@ pub record Goes (result : Result (Unit {0}) Failed) (told more : Told)
 
 -- behind what was told more is, which answers the orders that are whole now
 pub record Answers (checks : Bool) (result : Result (Unit {0}) Failed) (run : Run) (cut : Cut)
-    (told : Told) (before after : Option (List ℕ)) (room left : ℕ) : Type 0 where
-  pub more : Told
+    (told : Progress) (before after : Option (List ℕ)) (room left : ℕ) : Type 0 where
+  pub more : Progress
   pub goes : Goes result told more before after room left
   pub running : IsRunning checks run cut more
 
 -- the same for one order more, or for the end of the input
 pub record AnswersOrders (checks : Bool) (result : Result (Unit {0}) Failed) (run : Run)
-    (orders : List OrderLines) (told : Told) (before after : Option (List ℕ)) (room left : ℕ) : Type
+    (orders : List OrderLines) (told : Progress) (before after : Option (List ℕ)) (room left : ℕ) : Type
     0 where
-  pub more : Told
+  pub more : Progress
   pub goes : Goes result told more before after room left
   pub tells : Tells checks run orders more
 
 -- how the call ends
-abbrev pub ended_by : Result (Unit {0}) Failed → Told → Status
+abbrev pub ended_by : Result (Unit {0}) Failed → Progress → Status
 ended_by (Ok done) told = status_of told
 ended_by (Err e) told = status.WriteFault
 
 -- the input has ended, all of it is answered, and the status says how; or the write failed
-pub record Ends (checks : Bool) (ended : Status) (run : Run) (cut : Cut) (told : Told)
+pub record Ends (checks : Bool) (ended : Status) (run : Run) (cut : Cut) (told : Progress)
     (before after : Option (List ℕ)) (room left : ℕ) : Type 0 where
   pub result : Result (Unit {0}) Failed
   pub answers : AnswersOrders checks result run (cut.whole ++ unended cut.«open») told before after room left
@@ -307,7 +307,7 @@ asked_by false = mode.Run
 
 -- the input was read to its end, and all of it was answered
 pub record IsAll (checks : Bool) (ended : Status) (run : Run) (came text : List ℕ) : Type 0 where
-  pub told : Told
+  pub told : Progress
   pub tells : Tells checks run (orders (lines came)) told
   pub text_is : text ≡ told.text
   pub ended_is : ended ≡ status_of told

@@ -6,26 +6,26 @@ use Rattle.smil_model.specs.declared.order.Refusal.TheVariants.{NameTaken, TooMa
 use Rattle.smil_model.specs.shown.Orders.{Presentation}
 
 -- a presentation and its name
-pub record Named : Type 0 where
+pub record NamedPresentation : Type 0 where
   pub name : List ℕ
   pub presentation : Presentation
 
 -- those that are held, in the order in which they were loaded
 abbrev pub Session : Type 0
-Session = List Named
+Session = List NamedPresentation
 
 -- whether it is the one of this name
-abbrev pub is_named : List ℕ → Named → Bool
+abbrev pub is_named : List ℕ → NamedPresentation → Bool
 is_named name held = bytes_eq held.name name
 
 -- the presentation of this name
 abbrev pub presentation_of : List ℕ → Session → Option Presentation
-presentation_of name session = option_map (λ (held : Named). held.presentation) (find (is_named name) session)
+presentation_of name session = option_map (λ (held : NamedPresentation). held.presentation) (find (is_named name) session)
 
 -- with another state of the presentation of this name
 abbrev pub with_state : List ℕ → Presentation → Session → Session
 with_state name after session =
-    map (λ (held : Named). if is_named name held then record
+    map (λ (held : NamedPresentation). if is_named name held then record
     { name = held.name; presentation = after } else held) session
 
 -- without the presentation of this name

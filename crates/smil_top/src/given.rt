@@ -8,7 +8,7 @@ use smil_outline::Builder;
 
 /// A presentation's name, and its outline so far.
 #[derive(Drop)]
-pub(crate) struct Titled {
+pub(crate) struct NamedOutline {
     pub name: Bytes,
     pub outline: Builder,
     ghost short: { length name ≤ NAME_BYTES },
@@ -16,7 +16,7 @@ pub(crate) struct Titled {
 
 /// What a load gives: the name, the document, and the version of the outline, 1 or 2.
 #[derive(Drop)]
-pub(crate) struct Given {
+pub(crate) struct LoadedDoc {
     pub name: Bytes,
     pub doc: Doc,
     pub version: u32,

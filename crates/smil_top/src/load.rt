@@ -8,7 +8,7 @@ ghost use Rattle.smil_top.specs.Answers.{given_within};
 ghost use Rattle.smil_top.specs.Running.{Gives, IsRead, IsLine, Reads, ReadsTitle, given_at, with_node};
 
 use super::fault::Fault;
-use super::given::{Given, Titled};
+use super::given::{LoadedDoc, NamedOutline};
 use smil_grammar::Read;
 use smil_model::Refusal;
 use smil_outline::Builder;
@@ -20,7 +20,7 @@ use std::alloc::Global;
 #[derive(Drop)]
 pub(crate) struct Load {
     pub line: u32,
-    pub reading: Result<Titled, Fault>,
+    pub reading: Result<NamedOutline, Fault>,
 }
 
 impl Load {
@@ -58,7 +58,7 @@ impl Load {
     }
 
     /// What the load gives, or the first fault, at its end.
-    pub fn finish(self, end_line: u32) -> Result<Given, Fault>
+    pub fn finish(self, end_line: u32) -> Result<LoadedDoc, Fault>
         ensures valid { IfOk result (λ given. IsValid given.doc) }
         ensures given { (lines : LoadLines) → IsRead self lines
             → Gives result (given_within limits lines end_line)
@@ -73,14 +73,14 @@ impl Load {
 }
 
 // The name that a load line gives, and an outline without a node.
-fn read_title(alloc: Global, head: &[u8]) -> Result<Titled, Refusal>
+fn read_title(alloc: Global, head: &[u8]) -> Result<NamedOutline, Refusal>
     requires { length head.now ≤ LINE_BYTES }
     ensures { ReadsTitle result head.now }
 {
     match read_line(alloc, head) {
         Ok(Read::Load { name }) => {
             let outline = Builder::new(alloc)?;
-            Ok(Titled { name, outline })
+            Ok(NamedOutline { name, outline })
         }
         Ok(_) => Err(Refusal::NotACommand),
         Err(refusal) => Err(refusal),
@@ -90,11 +90,11 @@ fn read_title(alloc: Global, head: &[u8]) -> Result<Titled, Refusal>
 // One more node line. Its fault stands at its number, or at the load's first line where memory ran
 // out.
 fn push_node(
-    mut so_far: Titled,
+    mut so_far: NamedOutline,
     first: u32,
     line: u32,
     text: Option<&[u8]>,
-) -> Result<Titled, Fault>
+) -> Result<NamedOutline, Fault>
     ensures { (node : List ℕ) → IsLine (option_map (λ t. t.now) text.entry) node
         → Reads result (with_node so_far.name so_far.outline
         (record { number = line; text = node }))
@@ -115,15 +115,15 @@ fn push_node(
 }
 
 // The document of an outline whose load begins and ends at these lines.
-fn end_outline(titled: Titled, first: u32, end_line: u32) -> Result<Given, Fault>
+fn end_outline(titled: NamedOutline, first: u32, end_line: u32) -> Result<LoadedDoc, Fault>
     ensures valid { IfOk result (λ given. IsValid given.doc) }
     ensures given { Gives result (given_at titled.name titled.outline end_line)
         ⊎ (result ≡ Err (record { line = first; refusal = Refusal.Memory })) }
 {
-    let Titled { name, outline } = titled;
+    let NamedOutline { name, outline } = titled;
     let version = outline.version();
     match outline.finish() {
-        Ok(doc) => Ok(Given { name, doc, version }),
+        Ok(doc) => Ok(LoadedDoc { name, doc, version }),
         Err(Refusal::Memory) => Err(Fault {
             line: first,
             refusal: Refusal::Memory,

@@ -13,7 +13,7 @@ ghost use Rattle.smil_top.specs.Houses.{Holds};
 ghost use Rattle.smil_top.specs.Running.{given_of, line_by, load_by, no_text, single_by, Checks, HoldsTitle, IsCounted, Makes};
 
 use super::answer::Answer;
-use super::given::Given;
+use super::given::LoadedDoc;
 use super::last_line::LastLine;
 use smil_grammar::Read;
 use smil_house::House;
@@ -147,7 +147,8 @@ impl Session {
         requires title { length name.now ≤ NAME_BYTES }
         requires empty { answer.old ≡ no_text }
         ensures answer { (session : Presentations) → Holds self.old.house session
-            → Makes result answer.new self.new.house session (close_answer session number name.now) }
+            → Makes result answer.new self.new.house session
+            (close_answer session number name.now) }
         ensures checks { self.new.checks ≡ self.old.checks }
     {
         self.house.close(name.slice())?;
@@ -160,7 +161,7 @@ impl Session {
     pub fn answer_load<L: Ledger>(
         &mut self,
         number: u32,
-        given: Given,
+        given: LoadedDoc,
         answer: &mut Answer,
         steps: &mut Steps<L>,
     ) -> Result<(), Refusal>
@@ -187,7 +188,7 @@ impl Session {
     fn open<L: Ledger>(
         &mut self,
         number: u32,
-        given: Given,
+        given: LoadedDoc,
         answer: &mut Answer,
         steps: &mut Steps<L>,
     ) -> Result<(), Refusal>
@@ -202,7 +203,7 @@ impl Session {
             → IsCounted result (λ (bound : Bound). loaded_number bound session (given_of given))
             (steps.new - steps.old) }
     {
-        let Given { name, doc, .. } = given;
+        let LoadedDoc { name, doc, .. } = given;
         self.house.may_load(name.slice())?;
         let player = Presentation::new(self.alloc, doc, &mut answer.told, steps)?;
         answer.last = LastLine::ok(number, name.slice(), 0);
@@ -212,7 +213,7 @@ impl Session {
 }
 
 // Writes the canonical outline of a load, in the version in which it came.
-fn check(number: u32, given: &Given, answer: &mut Answer) -> Result<(), Refusal>
+fn check(number: u32, given: &LoadedDoc, answer: &mut Answer) -> Result<(), Refusal>
     requires valid { IsValid given.now.doc }
     requires empty { answer.old ≡ no_text }
     ensures { Checks result answer.new number (given_of given.now) }

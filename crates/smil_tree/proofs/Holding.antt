@@ -335,8 +335,8 @@ rest-held slab other es fs p q all le same entries =
     rw entries (moved.0, moved.1 ∙ rest.1)
 
 -- one more let go
-pub let_go-more : (slab now after : Slab Node) (es : List (ℕ × ℕ)) (p q i : ℕ) (e : ℕ × ℕ) → IsHeld slab es → p ≤ i → i < q → slice_get es i ≡ Some e → Updates now after e.1 None → ((key : ℕ) → list_any (λ (f : ℕ × ℕ). f.1 == key) (cut p q es) ≡ true → get now key ≡ get slab key) → (key : ℕ) → list_any (λ (f : ℕ × ℕ). f.1 == key) (cut p q es) ≡ true → get after key ≡ get slab key
-let_go-more slab now after es p q i e all low high at up same key h =
+pub remove_range-more : (slab now after : Slab Node) (es : List (ℕ × ℕ)) (p q i : ℕ) (e : ℕ × ℕ) → IsHeld slab es → p ≤ i → i < q → slice_get es i ≡ Some e → Updates now after e.1 None → ((key : ℕ) → list_any (λ (f : ℕ × ℕ). f.1 == key) (cut p q es) ≡ true → get now key ≡ get slab key) → (key : ℕ) → list_any (λ (f : ℕ × ℕ). f.1 == key) (cut p q es) ≡ true → get after key ≡ get slab key
+remove_range-more slab now after es p q i e all low high at up same key h =
     up.others key (λ one. never (sym (cut_apart slab es p q i e low high all at) ∙ ap (λ x. list_any (λ (f : ℕ × ℕ). f.1 == x) (cut p q es)) (sym one) ∙ h)) ∙ same key h
   where
     never : false ≡ true → ⊥

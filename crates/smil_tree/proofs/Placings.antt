@@ -6,7 +6,7 @@ use Rattle.std.proofs.lemmas.Bool.{and_parts, lt-ltb, le-ltb, eqb-true}
 use Rattle.smil_model.specs.declared.limits.TheConstants.{DEPTH}
 use Rattle.smil_model.specs.declared.document.Node.{Node}
 use Rattle.smil_model.specs.declared.document.Kind.{Kind}
-use Rattle.smil_model.specs.document.Document.{node_at, lineage, is_class_kind, serials}
+use Rattle.smil_model.specs.document.Document.{node_at, lineage, is_class_kind}
 use Rattle.smil_model.specs.document.Valid.{IsValid, depth_of, kind_of, may_hold, may_stand, agree_with, same_test, is_well_placed}
 use Rattle.smil_model.specs.document.Edits.{children}
 use Rattle.smil_model.specs.shown.Orders.{is_place}

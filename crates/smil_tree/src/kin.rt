@@ -107,7 +107,7 @@ impl Kin {
         Ok(())
     }
 
-    /// Lets go of the nodes from a place on up to another, which are a node with this time parent
+    /// Drops the nodes from a place on up to another, which are a node with this time parent
     /// and its descendants. It takes no memory.
     pub fn shrink(&mut self, nodes: &Nodes, time_parent: Option<u32>, start: usize, end: usize)
         requires kin { IsKinOf self.old nodes.now }
@@ -198,7 +198,7 @@ fn put(lists: &mut Lists, owner: u32, index: usize, serial: u32)
     list.insert(index, serial).unwrap();
 }
 
-// Lets go of the nodes of a span, in the list of a serial, if there is one, and of their own lists.
+// Drops the nodes of a span, in the list of a serial, if there is one, and of their own lists.
 fn leave(lists: &mut Lists, owner: Option<u32>, span: &Span<'_>)
     requires distinct { IsDistinct span.now.nodes.now }
     requires in_order { span.now.start ≤ span.now.end }

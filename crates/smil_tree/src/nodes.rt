@@ -104,7 +104,7 @@ impl Nodes {
         requires within { end ≤ length self.old }
         ensures { self.new ≡ cut place end self.old }
     {
-        let_go(&self.order, &mut self.slab, place, end);
+        remove_range(&self.order, &mut self.slab, place, end);
         self.order.drain(place..end);
     }
 
@@ -166,8 +166,8 @@ fn put(order: &mut IndexMap<u32, usize>, slab: &mut Slab<Node>, place: usize, no
     order.shift_insert(place, serial, key).unwrap();
 }
 
-// Lets go of the nodes from a place on up to another.
-fn let_go(order: &IndexMap<u32, usize>, slab: &mut Slab<Node>, place: usize, end: usize)
+// Drops the nodes from a place on up to another.
+fn remove_range(order: &IndexMap<u32, usize>, slab: &mut Slab<Node>, place: usize, end: usize)
     requires was_held { IsHeld slab.old order.now.entries }
     requires within { end ≤ index_map_len order.now }
     ensures { (key : ℕ) → list_any (λ (e : ℕ × ℕ). e.1 == key) (cut place end order.now.entries)

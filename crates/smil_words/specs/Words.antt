@@ -1,5 +1,5 @@
 -- What the words that the program is called with ask for.
-use Rattle.std.specs.Prelude.{ℕ, Bool, List, [], ◌∷◌, length, Option, Some, None, Result, Ok, Err, nat_le, ◌&&◌, ◌==◌, codes, bytes_eq, if◌then◌else◌}
+use Rattle.std.specs.Prelude.{ℕ, List, [], ◌∷◌, length, Option, Some, None, nat_le, ◌&&◌, ◌==◌, codes, bytes_eq, if◌then◌else◌}
 use Rattle.smil_grammar.specs.Numbers.{number_of}
 use Rattle.smil_grammar.specs.Texts.{◌>>=◌, zero_digit}
 use Rattle.smil_words.specs.declared.mode.Mode.{Mode}

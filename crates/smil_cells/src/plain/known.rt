@@ -28,12 +28,12 @@ pub struct Row {
 /// The elements of a document in document order, each with its interval, whose numbers are from
 /// -10^12 to 10^12, and what comes of it; seen as the list of them.
 #[derive(Drop)]
-pub struct Known {
+pub struct CurrentRows {
     rows: Vec<Row>,
     places: HashMap<u32, usize>,
 }
 
-impl Model for Known {
+impl Model for CurrentRows {
     ghost use Rattle.std.specs.Prelude.{List, nat_eq};
     ghost use Rattle.std.specs.HashMap.{get};
     ghost use Rattle.smil_cells.specs.Rows.{AreNear, ArePlaces};
@@ -46,7 +46,7 @@ impl Model for Known {
     ghost invariant = { λ a. AreNear a.rows.items × ArePlaces (get nat_eq a.places) a.rows.items };
 }
 
-impl Intervals for Known {
+impl Intervals for CurrentRows {
     ghost use Rattle.smil_cells.specs.Plain.{interval_in};
 
     ghost given = { interval_in };
@@ -57,7 +57,7 @@ impl Intervals for Known {
     }
 }
 
-impl Containers for Known {
+impl Containers for CurrentRows {
     ghost knows_ends = { λ known h who. Unit {0} };
 
     fn implicit(
@@ -69,26 +69,26 @@ impl Containers for Known {
     }
 }
 
-impl Duplicate for Known {
+impl Duplicate for CurrentRows {
     fn copy(&self) -> Result<Self, AllocError> {
         let alloc = *self.rows.allocator();
         let rows = Vec::from_slice(alloc, &self.rows)?;
-        Ok(Known {
+        Ok(CurrentRows {
             places: places_of(alloc, &rows)?,
             rows,
         })
     }
 }
 
-impl Known {
+impl CurrentRows {
     /// The elements of a document without intervals, of which nothing comes; unless memory runs
     /// out.
-    pub fn of(alloc: Global, tree: &Tree) -> Result<Known, AllocError>
+    pub fn of(alloc: Global, tree: &Tree) -> Result<CurrentRows, AllocError>
         ensures { IfOk result (λ known. known ≡ map empty_row (elements tree.now.nodes)) }
     {
         let whos = elements(alloc, tree)?;
         let rows = empty_rows(alloc, &whos)?;
-        Ok(Known {
+        Ok(CurrentRows {
             places: places_of(alloc, &rows)?,
             rows,
         })

@@ -12,7 +12,7 @@ use smil_diary::Book;
 use smil_model::Kind;
 use smil_tree::Tree;
 
-/// The serial of the excl in which an element plays, whose end lets the queue go on.
+/// The serial of the excl in which an element plays, whose end moves the queue on.
 pub fn left_excl(parts: &Parts<'_>, who: u32) -> Option<u32>
     requires { IsSome (node_at parts.now.tree.now.nodes who) }
     ensures { (h : History) → ArePartsOf parts.now h

@@ -15,7 +15,7 @@ pub record Mark : Type 0 where
   pub moment : ℤ
 
 -- a finished interval; it was finished by an end, or by a cut, whose value is that of the clock at its moment
-pub record Finished : Type 0 where
+pub record FinishedInterval : Type 0 where
   pub begin : Mark
   pub finish : Mark
   pub was_cut : Bool
@@ -23,10 +23,10 @@ pub record Finished : Type 0 where
 -- the begin of the present play, and the finished intervals in order
 pub record Plays : Type 0 where
   pub present : Option Mark
-  pub finished : List Finished
+  pub finished : List FinishedInterval
 
 -- an end or a cut finishes the interval that began
-abbrev pub finish_with : Option Mark → Mark → Bool → List Finished → List Finished
+abbrev pub finish_with : Option Mark → Mark → Bool → List FinishedInterval → List FinishedInterval
 finish_with None finish was_cut done = done
 finish_with (Some begin) finish was_cut done =
     done ++ record { begin = begin; finish = finish; was_cut = was_cut } ∷ []
@@ -75,7 +75,7 @@ first_of [] = None
 first_of (x ∷ xs) = Some x
 
 -- the last interval that finished since birth
-abbrev pub last_finished : History → ℕ → Option Finished
+abbrev pub last_finished : History → ℕ → Option FinishedInterval
 last_finished h serial = last_or None (plays h serial).finished
 
 -- the greatest begin since birth that an excl let pass

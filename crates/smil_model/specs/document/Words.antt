@@ -1,5 +1,5 @@
 -- The bytes of ids, of names, of access keys and of texts that are kept.
-use Rattle.std.specs.Prelude.{ℕ, List, [], ◌∷◌, length, Bool, false, not, ◌&&◌, ◌||◌, ◌==◌, nat_le, nat_lt, codes, bytes_eq}
+use Rattle.std.specs.Prelude.{◌≡◌, ℕ, List, [], ◌∷◌, length, take, Bool, false, not, ◌&&◌, ◌||◌, ◌==◌, nat_le, nat_lt, codes, bytes_eq}
 use Rattle.std.specs.List.{list_all, list_any}
 use Rattle.std.specs.Str.{is_utf8}
 use Rattle.std.specs.Char.{is_ascii_digit}
@@ -91,3 +91,7 @@ is_kept b = not (nat_lt b 32) && not (b == 127) && not (b == quote)
 -- a value of `src`, `region`, `alt`, `title` or `to`
 abbrev pub is_kept_text : List ℕ → Bool
 is_kept_text text = is_utf8 text && list_all is_kept text
+
+-- where memory runs out, what was written before stays at the front of a text
+abbrev pub Begins : List ℕ → List ℕ → Type 0
+Begins front text = take (length front) text ≡ front

@@ -27,7 +27,7 @@ use Rattle.smil_model.specs.document.Document.{elements, time_children, has_id}
 use Rattle.smil_model.specs.document.Defaults.{restart_of, min_of, max_of, endsync_of}
 use Rattle.smil_model.specs.diary.Diary.{History, is_active, is_alive, is_paused, is_deferred, iteration}
 use Rattle.smil_model.specs.diary.Clocks.{run, outer, play_start, iteration_start, parent_start}
-use Rattle.smil_model.specs.diary.Plays.{Mark, Finished, plays, last_finished, first_of, passed}
+use Rattle.smil_model.specs.diary.Plays.{Mark, FinishedInterval, plays, last_finished, first_of, passed}
 use Rattle.smil_model.specs.interval.Durations.{simple_duration, container_duration}
 use Rattle.smil_model.specs.interval.Instances.{begin_times, end_times}
 use Rattle.smil_model.specs.interval.Intervals.{interval_of}
@@ -53,7 +53,7 @@ abbrev pub media_length : History → ℕ → Time
 media_length h serial =
     unwrap_or (fold (λ before (x : Entry). length_after h.log serial before x.step) None h.diary) Unresolved
 
-abbrev pub finish_time : Finished → Time
+abbrev pub finish_time : FinishedInterval → Time
 finish_time f = At f.finish.value
 
 abbrev pub is_named_child : Option Endsync → Node → Bool
@@ -138,7 +138,7 @@ facts_of h intervals now e = record {
   play = present_play h now e;
   parent_start = parent_start h e.serial;
   last =
-      option_map (λ (f : Finished). record { begin = f.begin.value; «end» = finish_time f })
+      option_map (λ (f : FinishedInterval). record { begin = f.begin.value; «end» = finish_time f })
       (last_finished h e.serial);
   passed = passed h e.serial;
   end_list = end_list_of e.attrs.«end»;

@@ -14,7 +14,7 @@ use Rattle.smil_model.specs.declared.view.Layer.{Layer}
 use Rattle.smil_model.specs.document.Document.{node_at}
 use Rattle.smil_model.specs.document.Words.{is_event_name, is_raised_name, is_key}
 use Rattle.smil_model.specs.document.Values.{is_clock}
-use Rattle.smil_model.specs.shown.Histories.{Told, intervals_of}
+use Rattle.smil_model.specs.shown.Histories.{ShownInterval, intervals_of}
 use Rattle.smil_model.specs.shown.Sandwich.{layers, stack_of, names_on}
 use Rattle.smil_model.specs.shown.Lines.{name_of, change_line, gone_line, interval_line, value_line, layer_line, outline_end, entry_line, now_line}
 use Rattle.smil_model.specs.shown.Orders.{Formats, Presentation, resolved_history, views_of, node_of, outcome, changes_of, changes_of_load, gone_elements}
@@ -39,7 +39,7 @@ abbrev pub history_text : Presentation → Option Node → List ℕ
 history_text p None = []
 history_text p (Some n) =
     flat_map
-    (λ (t : Told). interval_line (name_of n) t.begin t.finish t.how)
+    (λ (t : ShownInterval). interval_line (name_of n) t.begin t.finish t.how)
     (intervals_of (resolved_history p) (pos p.now) n)
 
 -- the value that a set sets, and how it is named

@@ -8,12 +8,12 @@ use Rattle.smil_model.specs.declared.view.Shown.TheVariants as shown
 use Rattle.smil_model.specs.declared.view.How.{How}
 use Rattle.smil_model.specs.declared.view.How.TheVariants as how
 use Rattle.smil_model.specs.diary.Diary.{History}
-use Rattle.smil_model.specs.diary.Plays.{Mark, Finished, Plays, play_after}
+use Rattle.smil_model.specs.diary.Plays.{Mark, FinishedInterval, Plays, play_after}
 use Rattle.smil_model.specs.interval.Current.{current_interval}
 use Rattle.smil_model.specs.shown.Views.{document_value, view_facts, shown_time, shown_or}
 
 -- an interval as it is shown: its times in document time, and how it ended
-pub record Told : Type 0 where
+pub record ShownInterval : Type 0 where
   pub begin : Shown
   pub finish : Shown
   pub how : How
@@ -26,7 +26,7 @@ all_plays h serial =
     (record { present = None; finished = [] })
     h.diary
 
-abbrev pub told_finished : History → ℕ → Finished → Told
+abbrev pub told_finished : History → ℕ → FinishedInterval → ShownInterval
 told_finished h serial f = record {
   begin = shown.At (document_value h serial f.begin);
   finish = shown.At (document_value h serial f.finish);
@@ -34,7 +34,7 @@ told_finished h serial f = record {
 }
 
 -- the present play ends as its view shows it
-abbrev pub told_present : History → ℤ → Node → Mark → Told
+abbrev pub told_present : History → ℤ → Node → Mark → ShownInterval
 told_present h now e begin = record {
   begin = shown.At (document_value h e.serial begin);
   finish =
@@ -45,7 +45,7 @@ told_present h now e begin = record {
 }
 
 -- the intervals of the element, in order
-abbrev pub intervals_of : History → ℤ → Node → List Told
+abbrev pub intervals_of : History → ℤ → Node → List ShownInterval
 intervals_of h now e =
     map (told_finished h e.serial) (all_plays h e.serial).finished
     ++ option_to_list (option_map (told_present h now e) (all_plays h e.serial).present)

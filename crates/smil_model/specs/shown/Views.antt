@@ -21,7 +21,7 @@ use Rattle.smil_model.specs.document.Document.{elements, is_element, lineage, ti
 use Rattle.smil_model.specs.document.Defaults.{effective_fill}
 use Rattle.smil_model.specs.diary.Diary.{History, last_place, since_birth, is_active, is_paused, is_deferred, deferral, iteration}
 use Rattle.smil_model.specs.diary.Clocks.{outer, to_document, outer_stands}
-use Rattle.smil_model.specs.diary.Plays.{Mark, Finished, plays, last_finished}
+use Rattle.smil_model.specs.diary.Plays.{Mark, FinishedInterval, plays, last_finished}
 use Rattle.smil_model.specs.interval.Current.{current_table, in_table}
 
 -- ---- the view by its facts
@@ -139,10 +139,10 @@ abbrev pub deferred_begin : History → ℕ → ℤ → Step → Option ℤ
 deferred_begin h serial moment (Deferred who begin) = Some (to_document h serial begin moment)
 deferred_begin h serial moment _ = None
 
-abbrev pub finished_values : History → ℕ → Finished → ℤ × ℤ
+abbrev pub finished_values : History → ℕ → FinishedInterval → ℤ × ℤ
 finished_values h serial f = (document_value h serial f.begin, document_value h serial f.finish)
 
-abbrev pub was_cut : Option Finished → Bool
+abbrev pub was_cut : Option FinishedInterval → Bool
 was_cut None = false
 was_cut (Some f) = f.was_cut
 

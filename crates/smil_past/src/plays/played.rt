@@ -15,7 +15,7 @@ pub struct PastInterval {
 
 /// What a diary says of the plays of an element, in milliseconds.
 #[derive(Clone, Copy, Debug, PartialEq, Eq)]
-pub struct Played {
+pub struct PlayFacts {
     /// The begin of the present play on the time parent's clock, and in document time; None where
     /// there is none.
     pub begun: Option<i64>,

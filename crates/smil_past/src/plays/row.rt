@@ -10,7 +10,7 @@ ghost use Rattle.smil_model.specs.reach.Reach.{subject_of};
 ghost use Rattle.smil_instances.specs.Contribution.{AreClocksAt};
 ghost use Rattle.smil_past.specs.Followed.{began_row, child_after, finished_interval, deferred_row, finished_row, own_after, told_by};
 
-use super::played::{PastInterval, Played};
+use super::played::{PastInterval, PlayFacts};
 use smil_model::{Entry, Happening, Log, LogEntry, Step, Time};
 use smil_stretch::Clocks;
 
@@ -24,7 +24,7 @@ pub struct OwnEntry<'a> {
 }
 
 /// What an entry makes of the row of the element that it is on. It takes no memory.
-pub fn own_row(own: &OwnEntry<'_>, row: Played) -> Played
+pub fn own_row(own: &OwnEntry<'_>, row: PlayFacts) -> PlayFacts
     requires moment { IsMoment own.now.entry.moment }
     requires near { HasNear own.now.entry.step }
     requires on { subject_of own.now.log.now own.now.entry.step ≡ Some own.now.who }
@@ -33,7 +33,7 @@ pub fn own_row(own: &OwnEntry<'_>, row: Played) -> Played
 {
     match own.entry.step {
         Step::Began { begin, .. } => began(own, begin, row),
-        Step::Repeated { start, .. } => Played { start, ..row },
+        Step::Repeated { start, .. } => PlayFacts { start, ..row },
         Step::Ended { end, .. } => finished(own, end, false, row),
         Step::Cut { .. } => {
             let finish = own.clocks.outer(own.who, own.entry.moment);
@@ -42,12 +42,12 @@ pub fn own_row(own: &OwnEntry<'_>, row: Played) -> Played
         Step::Paused { .. } => row,
         Step::Resumed { .. } => row,
         Step::Deferred { begin, .. } => put_off(own, begin, row),
-        Step::Passed { begin, .. } => Played {
+        Step::Passed { begin, .. } => PlayFacts {
             shown_deferred: None,
             passed: greater(row.passed, begin),
             ..row
         },
-        Step::Logged { place } => Played {
+        Step::Logged { place } => PlayFacts {
             length: told(own.log, place, own.who, row.length),
             ..row
         },
@@ -55,11 +55,11 @@ pub fn own_row(own: &OwnEntry<'_>, row: Played) -> Played
 }
 
 /// What a birth, or else an end, of the time parent leaves of a row. It takes no memory.
-pub fn child(birth: bool, row: Played) -> Played
+pub fn child(birth: bool, row: PlayFacts) -> PlayFacts
     ensures { result ≡ child_after birth (not birth) row }
 {
     if birth {
-        Played {
+        PlayFacts {
             first_finished: None,
             last_finished: None,
             shown_deferred: None,
@@ -67,7 +67,7 @@ pub fn child(birth: bool, row: Played) -> Played
             ..row
         }
     } else {
-        Played {
+        PlayFacts {
             shown_deferred: None,
             ..row
         }
@@ -75,7 +75,7 @@ pub fn child(birth: bool, row: Played) -> Played
 }
 
 // What a begin makes of a row.
-fn began(own: &OwnEntry<'_>, begin: i64, row: Played) -> Played
+fn began(own: &OwnEntry<'_>, begin: i64, row: PlayFacts) -> PlayFacts
     requires moment { IsMoment own.now.entry.moment }
     requires near { IsNear begin }
     ensures { (h : History) → AreClocksAt h own.now.clocks.now own.now.entry.moment
@@ -88,7 +88,7 @@ fn began(own: &OwnEntry<'_>, begin: i64, row: Played) -> Played
         ..
     } = *own;
     let start = start_of(clocks, who, begin, entry.moment);
-    Played {
+    PlayFacts {
         begun: Some(begin),
         shown_begun: Some(clocks.to_document(who, begin, entry.moment)),
         first: start,
@@ -109,7 +109,7 @@ fn start_of(clocks: &Clocks, who: u32, begin: i64, moment: i64) -> i64
 }
 
 // What a finish with a value makes of a row.
-fn finished(own: &OwnEntry<'_>, finish: i64, was_cut: bool, row: Played) -> Played
+fn finished(own: &OwnEntry<'_>, finish: i64, was_cut: bool, row: PlayFacts) -> PlayFacts
     requires moment { IsMoment own.now.entry.moment }
     requires near { IsNear finish }
     ensures { (h : History) → AreClocksAt h own.now.clocks.now own.now.entry.moment
@@ -123,7 +123,7 @@ fn finished(own: &OwnEntry<'_>, finish: i64, was_cut: bool, row: Played) -> Play
     } = *own;
     let shown_finish = clocks.to_document(who, finish, entry.moment);
     let interval = finished_interval(&row, finish, shown_finish, was_cut);
-    Played {
+    PlayFacts {
         begun: None,
         shown_begun: None,
         first_finished: row.first_finished.or(interval),
@@ -134,7 +134,7 @@ fn finished(own: &OwnEntry<'_>, finish: i64, was_cut: bool, row: Played) -> Play
 }
 
 // What a begin that is put off makes of a row.
-fn put_off(own: &OwnEntry<'_>, begin: i64, row: Played) -> Played
+fn put_off(own: &OwnEntry<'_>, begin: i64, row: PlayFacts) -> PlayFacts
     requires moment { IsMoment own.now.entry.moment }
     requires near { IsNear begin }
     ensures { (h : History) → AreClocksAt h own.now.clocks.now own.now.entry.moment
@@ -146,7 +146,7 @@ fn put_off(own: &OwnEntry<'_>, begin: i64, row: Played) -> Played
         clocks,
         ..
     } = *own;
-    Played {
+    PlayFacts {
         shown_deferred: Some(clocks.to_document(who, begin, entry.moment)),
         ..row
     }
@@ -154,7 +154,7 @@ fn put_off(own: &OwnEntry<'_>, begin: i64, row: Played) -> Played
 
 // The interval of the play of a row, which finishes; None where there is no play.
 fn finished_interval(
-    row: &Played,
+    row: &PlayFacts,
     finish: i64,
     shown_finish: i64,
     was_cut: bool,

@@ -2,7 +2,7 @@ use Rattle.std.proofs.Common.{◌≡◌, length, IsSome}
 use Rattle.smil_model.specs.document.Edits.{no_attrs}
 use Rattle.smil_model.specs.document.Values.{is_seq_parent}
 use Rattle.smil_grammar.specs.Nodes.{attrs_from}
-use Rattle.smil_attrs.specs.Left.{attributes_in, written_in}
+use Rattle.smil_attrs.specs.Remainder.{attributes_in, written_in}
 use Rattle.smil_attrs.proofs.nodes.shape_attrs.Given as goal
 
 abbrev pub invariant-loop-written : goal.invariant-loop-written

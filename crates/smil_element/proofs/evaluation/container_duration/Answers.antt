@@ -13,7 +13,7 @@ use Rattle.smil_model.specs.diary.Diary.{History, is_active}
 use Rattle.smil_model.specs.diary.Clocks.{iteration_start}
 use Rattle.smil_model.specs.interval.Current.{child_end, container_implicit}
 use Rattle.smil_model.specs.interval.Durations.{container_duration}
-use Rattle.smil_past.specs.declared.plays.played.Played.{Played}
+use Rattle.smil_past.specs.declared.plays.played.PlayFacts.{PlayFacts}
 use Rattle.smil_past.proofs.References.{stands}
 use Rattle.smil_past.specs.Past.{history_of}
 use Rattle.smil_element.proofs.ChildEnds.{active_container, idle_container}
@@ -36,7 +36,7 @@ returns g c = λ e here.
     let fits : FitsSigned w64 start = search rules in
     let serial : e.serial ≡ c.args.who = (stands (elements h.nodes) c.args.who e here).serial in
     let begun : to_z w64 (of_z w64 start) ≡ iteration_start h e.serial =
-    to_z-of_z w64 start fits ∙ ap (λ (p : Played). p.start) c.played_of-start.ensures ∙ ap (iteration_start h) (sym serial) in
+    to_z-of_z w64 start fits ∙ ap (λ (p : PlayFacts). p.start) c.played_of-start.ensures ∙ ap (iteration_start h) (sym serial) in
     let whole : container_duration e.kind (endsync_of e.attrs) (to_z w64 (of_z w64 start)) (map (child_end h given e) (time_children h.nodes c.args.who)) ≡ container_implicit h given e =
     (λ i. container_duration e.kind (endsync_of e.attrs) (begun i) (map (child_end h given e) (time_children h.nodes (sym serial i))))
     ∙ active_container h given e

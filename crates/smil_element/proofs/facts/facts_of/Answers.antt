@@ -8,7 +8,7 @@ use Rattle.smil_model.specs.diary.Clocks.{parent_start}
 use Rattle.smil_model.specs.interval.Durations.{Bounds}
 use Rattle.smil_model.specs.interval.Current.{end_list_of}
 use Rattle.smil_model.specs.document.Defaults.{min_of, max_of}
-use Rattle.smil_past.specs.declared.plays.played.Played.{Played}
+use Rattle.smil_past.specs.declared.plays.played.PlayFacts.{PlayFacts}
 use Rattle.smil_instances.proofs.Sensitive.{serial_is}
 use Rattle.smil_past.specs.Past.{history_of}
 use Rattle.smil_element.proofs.Moments.{reads}
@@ -32,8 +32,8 @@ returns c = λ e intervals at simple.
     (c.deferred.ensures h (reads past c.book.result.now who c.parent_of-parent.result c.book.ensures c.parent_of-parent.ensures.parent))
     (c.present_play.ensures e at (sym c.parent_of-parent.ensures.parent))
     start_is
-    (c.last_interval.ensures ∙ last_is h who c.played_of-played.result.last_finished (ap (λ (r : Played). r.last_finished) c.played_of-played.ensures))
-    (ap (λ (r : Played). r.passed) c.played_of-played.ensures)
+    (c.last_interval.ensures ∙ last_is h who c.played_of-played.result.last_finished (ap (λ (r : PlayFacts). r.last_finished) c.played_of-played.ensures))
+    (ap (λ (r : PlayFacts). r.passed) c.played_of-played.ensures)
     (c.end_list.ensures ∙ ap (λ (a : Attrs). end_list_of a.«end») attrs_are)
     (tree_restart past.document c.tree.result.now who e c.restart_of.result c.possible.ensures.valid.numbered.distinct c.tree.ensures at c.restart_of.ensures.restart)
     (low_is ∙ ap (λ (b : Bounds). b.min) c.of_attrs-bounds.ensures ∙ ap min_of attrs_are)

@@ -4,7 +4,7 @@ use mir.Syntax.{w64}
 use mir.Val.{to_z, of_z}
 use Rattle.smil_model.specs.diary.Diary.{is_active}
 use Rattle.smil_model.specs.diary.Clocks.{play_start, iteration_start}
-use Rattle.smil_past.specs.declared.plays.played.Played.{Played}
+use Rattle.smil_past.specs.declared.plays.played.PlayFacts.{PlayFacts}
 use Rattle.smil_instances.proofs.Sensitive.{serial_is}
 use Rattle.smil_past.specs.Past.{history_of}
 use Rattle.smil_element.proofs.Moments.{reads}
@@ -20,17 +20,17 @@ pub returns-in_err-begin : goal.returns-in_err-begin
 returns-in_err-begin c = λ e at under.
     c.from_residual.ensures
     ∙ play_unbegun (history_of c.args.present.now.past.now) c.args.present.now.who c.args.present.now.moment e (serial_is c.args.present.now.past.now.document.nodes c.args.present.now.who e at) c.args.played.now.begun
-    (ap (λ (r : Played). r.begun) c.requires.kept) c.in_err-begin.was
+    (ap (λ (r : PlayFacts). r.begun) c.requires.kept) c.in_err-begin.was
 
 pub returns : goal.returns
 returns c = λ e at under.
     let h = history_of c.args.present.now.past.now in
     let begin_is : to_z w64 (of_z w64 c.in_ok-begin.begin) ≡ c.in_ok-begin.begin = omega (arith, ints) in
-    let first_is : to_z w64 (of_z w64 c.args.played.now.first) ≡ play_start h c.args.present.now.who = omega (arith, ints, ap (λ (r : Played). r.first) c.requires.kept) in
-    let start_is : to_z w64 (of_z w64 c.args.played.now.start) ≡ iteration_start h c.args.present.now.who = omega (arith, ints, ap (λ (r : Played). r.start) c.requires.kept) in
+    let first_is : to_z w64 (of_z w64 c.args.played.now.first) ≡ play_start h c.args.present.now.who = omega (arith, ints, ap (λ (r : PlayFacts). r.first) c.requires.kept) in
+    let start_is : to_z w64 (of_z w64 c.args.played.now.start) ≡ iteration_start h c.args.present.now.who = omega (arith, ints, ap (λ (r : PlayFacts). r.start) c.requires.kept) in
     play_begun h c.args.present.now.who c.args.present.now.moment e (serial_is c.args.present.now.past.now.document.nodes c.args.present.now.who e at) c.active.result c.args.played.now.begun
     (to_z w64 (of_z w64 c.in_ok-begin.begin)) (to_z w64 (of_z w64 c.args.played.now.first)) (to_z w64 (of_z w64 c.args.played.now.start)) c.iteration.result c.shift.result
     (c.active.ensures ∙ ap (λ ds. is_active ds c.args.present.now.who) c.book.ensures) c.if-not-active.false
-    (ap (λ (r : Played). r.begun) c.requires.kept) (c.in_ok-begin.was ∙ ap Some (sym begin_is)) first_is start_is
+    (ap (λ (r : PlayFacts). r.begun) c.requires.kept) (c.in_ok-begin.was ∙ ap Some (sym begin_is)) first_is start_is
     (c.iteration.ensures h (reads c.args.present.now.past.now c.book-2.result.now c.args.present.now.who c.args.parent c.book-2.ensures (sym under)))
     c.shift.ensures

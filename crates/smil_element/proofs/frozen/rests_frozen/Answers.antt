@@ -4,7 +4,7 @@ use Rattle.smil_model.specs.document.Document.{time_parent}
 use Rattle.smil_model.specs.document.Defaults.{effective_fill}
 use Rattle.smil_model.specs.diary.Diary.{lives_under}
 use Rattle.smil_model.specs.shown.Views.{is_displaced, is_frozen_by, keeps, view_facts}
-use Rattle.smil_past.specs.declared.plays.played.Played.{Played}
+use Rattle.smil_past.specs.declared.plays.played.PlayFacts.{PlayFacts}
 use Rattle.smil_instances.proofs.Sensitive.{serial_is}
 use Rattle.smil_past.specs.Past.{history_of}
 use Rattle.smil_element.specs.Shown.{is_cut}
@@ -38,5 +38,5 @@ returns c = λ e at.
     ] in
     c.freezes.ensures ∙ ap (λ b. is_some last && ((c.if-is_some.kept && b) || (is_cut last && c.args.above))) shows_is
     ∙ frozen_by_row h c.args.who e last c.if-is_some.kept (lives_under (time_parent past.document.nodes c.args.who) past.diary || c.args.above) c.args.above
-    (serial_is past.document.nodes c.args.who e at) (ap (λ (r : Played). r.last_finished) c.played_of-last.ensures) kept_is
+    (serial_is past.document.nodes c.args.who e at) (ap (λ (r : PlayFacts). r.last_finished) c.played_of-last.ensures) kept_is
     ∙ ap (λ b. not b && is_frozen_by (view_facts h (pos 0) None (lives_under (time_parent past.document.nodes c.args.who) past.diary || c.args.above) c.args.above e)) (sym c.if-deferred.false ∙ told)

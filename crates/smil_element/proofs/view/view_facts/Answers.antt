@@ -3,13 +3,13 @@ use Rattle.std.proofs.lemmas.Int.{ints}
 use Rattle.std.specs.Prelude.{◌&&◌, ◌||◌}
 use Rattle.std.proofs.Common.{arith}
 use Rattle.std.specs.Option.{ForSome}
-use Rattle.smil_fill.specs.Numbers.{IsWithin}
+use Rattle.smil_model.specs.Times.{IsCarried}
 use mir.Syntax.{w64}
 use mir.Val.{to_z, of_z}
 use Rattle.smil_model.specs.document.Document.{time_parent}
 use Rattle.smil_model.specs.diary.Diary.{is_active, is_paused, lives_under}
 use Rattle.smil_model.specs.shown.Views.{is_displaced}
-use Rattle.smil_past.specs.declared.plays.played.Played.{Played}
+use Rattle.smil_past.specs.declared.plays.played.PlayFacts.{PlayFacts}
 use Rattle.smil_instances.proofs.Sensitive.{serial_is}
 use Rattle.smil_past.specs.Past.{history_of}
 use Rattle.smil_element.specs.Shown.{minds}
@@ -25,7 +25,7 @@ returns-clause-same c = λ e at.
     let who = c.args.present.now.who in
     let h = history_of past in
     let parent = c.parent_of-parent.ensures.parent in
-    let last = ap (λ (r : Played). r.last_finished) c.played_of-played.ensures in
+    let last = ap (λ (r : PlayFacts). r.last_finished) c.played_of-played.ensures in
     let shift_is : to_z w64 (of_z w64 c.document_shift.result) ≡ c.document_shift.result = omega (arith, ints) in
     let displaced_is : c.if-minds.result ≡ (minds c.fill_of-fill.result c.last_shown-last.result && is_displaced h who) =
     elim c.if-minds.branch [
@@ -41,8 +41,8 @@ returns-clause-same c = λ e at.
     c.last_shown-last.result c.fill_of-fill.result c.shows.result (to_z w64 (of_z w64 c.document_shift.result)) c.iteration.result c.finished.result
     (c.active.ensures ∙ ap (λ ds. is_active ds who) c.book.ensures)
     (c.paused.ensures ∙ ap (λ ds. is_paused ds who) c.book-2.ensures)
-    (ap (λ (r : Played). r.shown_deferred) c.played_of-played.ensures)
-    (ap (λ (r : Played). r.shown_begun) c.played_of-played.ensures)
+    (ap (λ (r : PlayFacts). r.shown_deferred) c.played_of-played.ensures)
+    (ap (λ (r : PlayFacts). r.shown_begun) c.played_of-played.ensures)
     (c.last_shown-last.ensures ∙ last_told h who c.played_of-played.result.last_finished last)
     (c.was_cut.ensures ∙ cut_told h who c.played_of-played.result.last_finished last)
     (c.fill_of-fill.ensures e at)
@@ -60,12 +60,12 @@ returns-clause-near c =
     let h = history_of past in
     let lawful = c.possible.ensures.lawful in
     let near = c.possible.ensures.near in
-    let last = c.last_shown-last.ensures ∙ last_told h who c.played_of-played.result.last_finished (ap (λ (r : Played). r.last_finished) c.played_of-played.ensures) in
+    let last = c.last_shown-last.ensures ∙ last_told h who c.played_of-played.result.last_finished (ap (λ (r : PlayFacts). r.last_finished) c.played_of-played.ensures) in
     let shift_is : to_z w64 (of_z w64 c.document_shift.result) ≡ c.document_shift.result = omega (arith, ints) in
     record {
-      deferred = subst (λ (o : Option ℤ). ForSome o IsWithin) (sym (ap (λ (r : Played). r.shown_deferred) c.played_of-played.ensures)) (deferred_within h who lawful near);
+      deferred = subst (λ (o : Option ℤ). ForSome o IsCarried) (sym (ap (λ (r : PlayFacts). r.shown_deferred) c.played_of-played.ensures)) (deferred_within h who lawful near);
       interval = interval_within c.args.interval c.requires.near;
-      begun = subst (λ (o : Option ℤ). ForSome o IsWithin) (sym (ap (λ (r : Played). r.shown_begun) c.played_of-played.ensures)) (begun_within h who lawful near);
-      last = subst (λ (o : Option (ℤ × ℤ)). ForSome o (λ (last : ℤ × ℤ). IsWithin last.0 × IsWithin last.1)) (sym last) (last_within h who lawful near);
-      shift = subst IsWithin (sym shift_is) c.document_shift.ensures.within;
+      begun = subst (λ (o : Option ℤ). ForSome o IsCarried) (sym (ap (λ (r : PlayFacts). r.shown_begun) c.played_of-played.ensures)) (begun_within h who lawful near);
+      last = subst (λ (o : Option (ℤ × ℤ)). ForSome o (λ (last : ℤ × ℤ). IsCarried last.0 × IsCarried last.1)) (sym last) (last_within h who lawful near);
+      shift = subst IsCarried (sym shift_is) c.document_shift.ensures.within;
     }

@@ -1,5 +1,7 @@
 use Rattle.std.proofs.Common.{◌∙◌, ◌-◌, ◌<◌, refl, arith, rules}
-use Rattle.smil_endsync.proofs.Climb.{decided_down, slots_stay}
+use Rattle.std.proofs.lemmas.List.{drop-set-lt}
+use Rattle.smil_laws.proofs.Tournaments.{decided_down}
+use Rattle.smil_endsync.specs.Ends.{both_ends, no_ends}
 use Rattle.smil_endsync.proofs.ends.decide_all.Goals as goal
 
 pub loop-decided-init : goal.loop-decided-init
@@ -16,9 +18,9 @@ loop-decided-preserved c =
     record {
       within = omega (arith, c.loop-decided.invariant.within);
       later =
-          decided_down c.loop-decided.places c.args.half (c.loop-decided.decided - 1) c.both.result above below (omega arith) (search rules)
+          decided_down no_ends both_ends c.loop-decided.places c.args.half (c.loop-decided.decided - 1) c.both.result above below (omega arith) (search rules)
           (λ i from. c.loop-decided.invariant.later i (omega (arith, from)));
-      kept = slots_stay c.loop-decided.places c.args.half (c.loop-decided.decided - 1) c.both.result below ∙ c.loop-decided.invariant.kept;
+      kept = drop-set-lt c.args.half c.loop-decided.places (c.loop-decided.decided - 1) c.both.result below ∙ c.loop-decided.invariant.kept;
     }
 
 pub returns-clause-decided : goal.returns-clause-decided

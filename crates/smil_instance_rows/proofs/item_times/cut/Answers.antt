@@ -10,7 +10,7 @@ loop-first-preserved g c =
     let choose = g.T.Instant.choose in
     let taken = c.in-Some.ensures.some in (
       sym (cut_first c.args.place c.in-Some.first c.pop_before.new.self taken.1) ∙ ap (from_place c.args.place) (sym taken.0) ∙ c.loop-first.invariant.0,
-      λ others same. c.let_go.ensures
+      λ others same. c.take_out_value.ensures
           ∙ replaces_rest le g.T.Instant.order choose c.args.kept.now c.in-Some.first c.pop_before.new.self c.args.sorted.now c.loop-first.sorted
           (subst (λ ks. Replaces le choose c.args.kept.now ks c.args.sorted.now c.loop-first.sorted) taken.0 c.loop-first.invariant.1) others same,
     )

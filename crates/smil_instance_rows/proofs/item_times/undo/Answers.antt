@@ -7,5 +7,5 @@ pub returns-in-Some : goal.returns-in-Some
 returns-in-Some g c =
     let le = g.T.Instant.at_most in
     let choose = g.T.Instant.choose in
-    subst (λ xs. IsUndone le choose c.args.kept.now c.pop_last.new.self c.args.sorted.now xs) (sym c.let_go.ensures)
+    subst (λ xs. IsUndone le choose c.args.kept.now c.pop_last.new.self c.args.sorted.now xs) (sym c.take_out_value.ensures)
     (undone_last le g.T.Instant.order choose c.args.kept.now c.pop_last.new.self c.in-Some.last c.args.sorted.now c.in-Some.ensures.some)

@@ -1,5 +1,5 @@
 use Rattle.std.proofs.Common.{◌∙◌, refl, sym, ap}
-use Rattle.smil_live.specs.ViewTable.{Shown}
+use Rattle.smil_shown.specs.ViewTable.{Shown}
 use Rattle.smil_live.proofs.Edited.{begins_long, cut_again, where_err}
 use Rattle.smil_live.proofs.Opened.{told_load}
 use Rattle.smil_live.proofs.Presented.{are_of_nodes}

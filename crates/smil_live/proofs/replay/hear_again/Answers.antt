@@ -9,7 +9,7 @@ use Rattle.smil_model.specs.happening.Resolution.{diary_of}
 use Rattle.smil_tree.proofs.Results.{on_err}
 use Rattle.smil_cells.specs.Standing.{moved_to, with_logged}
 use Rattle.smil_live.specs.Moves.{IsTooFull, heard_at}
-use Rattle.smil_live.proofs.Ended.{nothing_due}
+use Rattle.smil_shown.proofs.Ended.{nothing_due}
 use Rattle.smil_live.proofs.RebuiltCounts.{counted_twice}
 use Rattle.smil_live.proofs.Replays.{fits, full_heard, not_below, refused_as}
 use Rattle.smil_live.proofs.replay.hear_again.Goals as goal

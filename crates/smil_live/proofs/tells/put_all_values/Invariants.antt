@@ -2,8 +2,8 @@ use Rattle.std.proofs.Common.{◌≡◌, ℕ, ◌-◌, List, ◌++◌, length, t
 use Rattle.std.specs.Prelude.{flat_map}
 use Rattle.smil_model.specs.declared.view.Layer.{Layer as AnyLayer}
 use Rattle.smil_model.specs.shown.Answers.{values_on}
-use Rattle.smil_report.specs.Words.{Begins}
-use Rattle.smil_live.specs.Sets.{AreSetsOf}
+use Rattle.smil_model.specs.document.Words.{Begins}
+use Rattle.smil_shown.specs.Sets.{AreSetsOf}
 use Rattle.smil_live.proofs.tells.put_all_values.Given as goal
 
 abbrev pub invariant-loop-target : goal.invariant-loop-target

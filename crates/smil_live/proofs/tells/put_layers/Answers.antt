@@ -2,11 +2,11 @@ use Rattle.std.proofs.Common.{◌≡◌, sym, subst, ℕ, List, Some, None, arit
 use Rattle.std.specs.Prelude.{slice_get}
 use Rattle.std.proofs.lemmas.Option.{slice_get_within}
 use Rattle.smil_model.specs.shown.Sandwich.{stack_of}
-use Rattle.smil_outline.proofs.Walks.{begins_by}
+use Rattle.smil_model.proofs.Growing.{begins_by}
 use Rattle.smil_cells.proofs.Parting.{no_gap}
 use Rattle.smil_live.specs.Telling.{setter_text}
-use Rattle.smil_live.proofs.Gathered.{stack_few, stack_known}
-use Rattle.smil_live.proofs.Lined.{begins_more, lines_all, lines_next}
+use Rattle.smil_shown.proofs.Gathered.{stack_few, stack_known}
+use Rattle.smil_shown.proofs.Lined.{begins_more, lines_all, lines_next}
 use Rattle.smil_live.proofs.tells.put_layers.Goals as goal
 
 pub put_setter-requires : goal.put_setter-requires

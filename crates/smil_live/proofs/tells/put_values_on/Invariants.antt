@@ -3,8 +3,8 @@ use Rattle.std.specs.Prelude.{flat_map}
 use Rattle.smil_model.specs.declared.view.Layer.{Layer as AnyLayer}
 use Rattle.smil_model.specs.shown.Answers.{top_text}
 use Rattle.smil_model.specs.shown.Sandwich.{names_on, stack_of}
-use Rattle.smil_report.specs.Words.{Begins}
-use Rattle.smil_live.specs.Sets.{AreSetsOf}
+use Rattle.smil_model.specs.document.Words.{Begins}
+use Rattle.smil_shown.specs.Sets.{AreSetsOf}
 use Rattle.smil_live.proofs.tells.put_values_on.Given as goal
 
 abbrev pub invariant-loop-name : goal.invariant-loop-name

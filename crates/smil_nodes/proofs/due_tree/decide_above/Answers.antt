@@ -1,5 +1,8 @@
 use Rattle.std.proofs.Common.{◌∙◌, ◌/◌, ◌<◌, arith, rules}
-use Rattle.smil_nodes.proofs.Climb.{at_top, decided_more, slots_stay}
+use Rattle.std.specs.Prelude.{None}
+use Rattle.std.proofs.lemmas.List.{drop-set-lt}
+use Rattle.smil_laws.proofs.Tournaments.{at_top, decided_more}
+use Rattle.smil_nodes.specs.Slots.{earlier_of}
 use Rattle.smil_nodes.proofs.due_tree.decide_above.Goals as goal
 
 pub loop-decided-preserved : goal.loop-decided-preserved
@@ -9,9 +12,9 @@ loop-decided-preserved c =
     record {
       above = above;
       within = omega arith;
-      off = decided_more c.loop-decided.places c.args.half (c.loop-decided.decided / 2) c.earlier.result above below (omega arith) (search rules) c.loop-decided.invariant.off;
-      kept = slots_stay c.loop-decided.places c.args.half (c.loop-decided.decided / 2) c.earlier.result below ∙ c.loop-decided.invariant.kept;
+      off = decided_more None earlier_of c.loop-decided.places c.args.half (c.loop-decided.decided / 2) c.earlier.result above below (omega arith) (search rules) c.loop-decided.invariant.off;
+      kept = drop-set-lt c.args.half c.loop-decided.places (c.loop-decided.decided / 2) c.earlier.result below ∙ c.loop-decided.invariant.kept;
     }
 
 pub returns-clause-won : goal.returns-clause-won
-returns-clause-won c = at_top c.loop-decided.places c.args.half c.loop-decided.decided (omega arith) c.loop-decided.invariant.off
+returns-clause-won c = at_top None earlier_of c.loop-decided.places c.args.half c.loop-decided.decided (omega arith) c.loop-decided.invariant.off

@@ -1,5 +1,5 @@
 use Rattle.std.proofs.Common.{◌≡◌, ◌++◌, take, drop, reverse}
-use Rattle.smil_grammar.specs.Spellings.{Begins}
+use Rattle.smil_model.specs.document.Words.{Begins}
 use Rattle.smil_outline.specs.Written.{nodes_text}
 use Rattle.smil_outline.specs.Open.{upwards}
 use Rattle.smil_outline.proofs.Walks.{IsWalkedTo, text_behind}

@@ -2,14 +2,14 @@ use Rattle.std.proofs.Common.{◌≡◌, ◌+◌, ℕ, length, sym, ap, arith}
 use Rattle.std.proofs.lemmas.List.{length-append, length-take}
 use Rattle.smil_outside.specs.Lines.{HasNoLineFeed}
 use Rattle.smil_outside.specs.declared.scan.Stop.TheVariants.{Fault, InputEnd}
-use Rattle.smil_outside.proofs.ScanLemmas.{Scanning-read, Scanning-keeps, Scanning-let_go, Scanning-stops}
+use Rattle.smil_outside.proofs.ScanLemmas.{Scanning-read, Scanning-keeps, Scanning-drop_front, Scanning-stops}
 use Rattle.smil_outside.proofs.scan.seek_line_end.Goals as goal
 
 pub loop-at-preserved : goal.loop-at-preserved
 loop-at-preserved g c =
     let i = c.loop-at.invariant in
-    let new = c.let_go-is_long.new.window in
-    let gone = Scanning-let_go _ c.loop-at.window new _ _ _ c.let_go-is_long.result _ _ _ i.scanning c.in_default.ensures c.let_go-is_long.ensures in
+    let new = c.drop_front-is_long.new.window in
+    let gone = Scanning-drop_front _ c.loop-at.window new _ _ _ c.drop_front-is_long.result _ _ _ i.scanning c.in_default.ensures c.drop_front-is_long.ensures in
     let came = c.in-Ok.ensures.bytes in
     let counted : c.loop-at.taken + c.in-Ok.n ≡ c.loop-at.taken + length came.0 = ap (λ n. c.loop-at.taken + n) (sym came.1) in
     let read = Scanning-read _ new.bytes _ _ _ _ _ _ _ c.fill.new.self.bytes came.0 _ gone (omega arith) counted came.2 came.3 in
@@ -24,8 +24,8 @@ loop-at-preserved g c =
 pub returns-in-Err-clause-scans : goal.returns-in-Err-clause-scans
 returns-in-Err-clause-scans g c =
     let i = c.loop-at.invariant in
-    let new = c.let_go-is_long.new.window in
-    let gone = Scanning-let_go _ c.loop-at.window new _ _ _ c.let_go-is_long.result _ _ _ i.scanning c.in_default.ensures c.let_go-is_long.ensures in
+    let new = c.drop_front-is_long.new.window in
+    let gone = Scanning-drop_front _ c.loop-at.window new _ _ _ c.drop_front-is_long.result _ _ _ i.scanning c.in_default.ensures c.drop_front-is_long.ensures in
     let kept = Scanning-keeps _ _ _ _ _ _ _ _ _ gone c.in-Err.ensures.err.1 in
     let none : HasNoLineFeed new.bytes = gone.searched in
     rw c.in-Err.ensures.err.0 (Scanning-stops _ _ _ _ _ _ _ _ Fault kept (none, omega arith))
@@ -33,8 +33,8 @@ returns-in-Err-clause-scans g c =
 pub returns-in-Ok-eq0-clause-scans : goal.returns-in-Ok-eq0-clause-scans
 returns-in-Ok-eq0-clause-scans g c =
     let i = c.loop-at.invariant in
-    let new = c.let_go-is_long.new.window in
-    let gone = Scanning-let_go _ c.loop-at.window new _ _ _ c.let_go-is_long.result _ _ _ i.scanning c.in_default.ensures c.let_go-is_long.ensures in
+    let new = c.drop_front-is_long.new.window in
+    let gone = Scanning-drop_front _ c.loop-at.window new _ _ _ c.drop_front-is_long.result _ _ _ i.scanning c.in_default.ensures c.drop_front-is_long.ensures in
     let came = c.in-Ok-eq0.ensures.bytes in
     let nothing : length came.0 ≡ 0 = omega (arith, came.1) in
     let counted : c.loop-at.taken ≡ c.loop-at.taken + length came.0 = omega arith in

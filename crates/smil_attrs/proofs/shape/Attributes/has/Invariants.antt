@@ -1,14 +1,14 @@
 use Rattle.std.proofs.Common.{◌≡◌, length, IsSome}
 use Rattle.std.specs.Prelude.{bytes_eq}
 use Rattle.std.specs.List.{list_any}
-use Rattle.smil_grammar.specs.Nodes.{Written}
-use Rattle.smil_attrs.specs.Left.{attributes_in, written_in}
+use Rattle.smil_grammar.specs.Nodes.{WrittenAttr}
+use Rattle.smil_attrs.specs.Remainder.{attributes_in, written_in}
 use Rattle.smil_attrs.proofs.shape.Attributes.has.Given as goal
 
 abbrev pub invariant-loop-attribute : goal.invariant-loop-attribute
 invariant-loop-attribute l = record {
   shaped : IsSome (attributes_in l.left);
-  same : list_any (λ (other : Written). bytes_eq other.name l.name) (written_in l.left) ≡ list_any (λ (other : Written). bytes_eq other.name l.name) (written_in l.fn.self);
+  same : list_any (λ (other : WrittenAttr). bytes_eq other.name l.name) (written_in l.left) ≡ list_any (λ (other : WrittenAttr). bytes_eq other.name l.name) (written_in l.fn.self);
 }
 
 abbrev pub decreases-loop-attribute : goal.decreases-loop-attribute

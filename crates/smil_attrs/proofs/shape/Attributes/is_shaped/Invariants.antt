@@ -1,5 +1,5 @@
 use Rattle.std.proofs.Common.{◌≡◌, length, is_some}
-use Rattle.smil_attrs.specs.Left.{attributes_in}
+use Rattle.smil_attrs.specs.Remainder.{attributes_in}
 use Rattle.smil_attrs.proofs.shape.Attributes.is_shaped.Given as goal
 
 abbrev pub invariant-loop : goal.invariant-loop

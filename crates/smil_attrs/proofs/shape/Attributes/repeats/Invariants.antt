@@ -1,6 +1,6 @@
 use Rattle.std.proofs.Common.{◌≡◌, length, IsSome}
 use Rattle.smil_grammar.specs.Nodes.{repeats}
-use Rattle.smil_attrs.specs.Left.{attributes_in, written_in}
+use Rattle.smil_attrs.specs.Remainder.{attributes_in, written_in}
 use Rattle.smil_attrs.proofs.shape.Attributes.repeats.Given as goal
 
 abbrev pub invariant-loop-attribute : goal.invariant-loop-attribute

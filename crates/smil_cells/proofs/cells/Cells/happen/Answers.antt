@@ -9,7 +9,7 @@ use Rattle.smil_model.specs.happening.Groups.{at_moment, group, steps_of}
 use Rattle.smil_element.specs.Parts.{coming_meant, meant}
 use Rattle.smil_cells.specs.Standing.{IsFront, IsNext, IsRefusing, first_at, MayAppendAll, Standing, WhereTold, fresh_since}
 use Rattle.std.proofs.lemmas.Int.{to_z-of_z}
-use Rattle.smil_past.specs.Past.{Happened}
+use Rattle.smil_past.specs.Past.{MarkedHistory}
 use Rattle.smil_cells.specs.Standings.{IsKept, standing_of}
 use Rattle.smil_cells.proofs.Refusals.{refused_by}
 use Rattle.smil_cells.proofs.Grown.{parts, known_in, made_now, all_now, some_now, many_now, positive, may, fronted, reached_after, stepped, grows_by, came_to, least_fresh, fits, present_with, grown, refusing, of_element}
@@ -59,7 +59,7 @@ invariant_of-self-in-Err g c =
     let told = parts i.past i.moment (record { tree = c.tree.result; book = c.book-2.result; clocks = c.clocks.result; queues = c.queues.result; moment = to_z w64 (of_z w64 i.moment) }) whole c.self.invariant.present c.tree.ensures c.book-2.ensures c.clocks.ensures c.queues.ensures in
     let made : entries ≡ group (past_of.history_of i.past) z serial change = c.deref.ensures.value ∙ c.in_ok-group_of.ensures (past_of.history_of i.past) told ∙ ap (λ (l : List AnyEntry). l ++ group (past_of.history_of i.past) z serial change) c.clear.ensures.items in
     let e = c.in-Err.ensures.err in
-    subst (λ (x : Happened). IsKept (g.T.Table.is_current i.table) (g.T.Table.is_marked i.table) (g.T.Table.has_mark i.table) x i.moment (Some c.in-Err.fault) i.mark i.touched)
+    subst (λ (x : MarkedHistory). IsKept (g.T.Table.is_current i.table) (g.T.Table.is_marked i.table) (g.T.Table.has_mark i.table) x i.moment (Some c.in-Err.fault) i.mark i.touched)
     (sym (some_now i.past i.moment z serial change entries whole made c.append_all.new.past e.some e.new_is))
     (grown i.past (at_moment i.moment (take e.some steps)) (g.T.Table.is_current i.table) (g.T.Table.is_marked i.table) (g.T.Table.is_current i.table) (g.T.Table.is_marked i.table) (g.T.Table.has_mark i.table) (g.T.Table.has_mark i.table) i.moment i.fault (Some c.in-Err.fault) i.mark i.touched i.touched
     (λ h now k. k) refl (present_with i.past i.moment (take e.some steps) c.self.invariant.present) (λ never. cc) c.self.invariant)
@@ -101,7 +101,7 @@ invariant_of-self-in_err-touch g c =
     let steps = steps_of (past_of.history_of i.past) i.moment serial change in
     let told = parts i.past i.moment (record { tree = c.tree.result; book = c.book-2.result; clocks = c.clocks.result; queues = c.queues.result; moment = to_z w64 (of_z w64 i.moment) }) whole c.self.invariant.present c.tree.ensures c.book-2.ensures c.clocks.ensures c.queues.ensures in
     let made : entries ≡ group (past_of.history_of i.past) z serial change = c.deref.ensures.value ∙ c.in_ok-group_of.ensures (past_of.history_of i.past) told ∙ ap (λ (l : List AnyEntry). l ++ group (past_of.history_of i.past) z serial change) c.clear.ensures.items in
-    subst (λ (x : Happened). IsKept (g.T.Table.is_current i.table) (g.T.Table.is_marked i.table) (g.T.Table.has_mark i.table) x i.moment (Some book_fault.Memory) i.mark c.touch.new.touched)
+    subst (λ (x : MarkedHistory). IsKept (g.T.Table.is_current i.table) (g.T.Table.is_marked i.table) (g.T.Table.has_mark i.table) x i.moment (Some book_fault.Memory) i.mark c.touch.new.touched)
     (sym (all_now i.past i.moment z serial change entries whole made c.append_all.new.past c.in_default.ensures.ok))
     (grown i.past (at_moment i.moment steps) (g.T.Table.is_current i.table) (g.T.Table.is_marked i.table) (g.T.Table.is_current i.table) (g.T.Table.is_marked i.table) (g.T.Table.has_mark i.table) (g.T.Table.has_mark i.table) i.moment i.fault (Some book_fault.Memory) i.mark i.touched c.touch.new.touched
     (λ h now k. k) refl (present_with i.past i.moment steps c.self.invariant.present) (λ never. cc) c.self.invariant)
@@ -117,7 +117,7 @@ refresh-requires-clause-moment g c =
     let steps = steps_of (past_of.history_of i.past) i.moment serial change in
     let told = parts i.past i.moment (record { tree = c.tree.result; book = c.book-2.result; clocks = c.clocks.result; queues = c.queues.result; moment = to_z w64 (of_z w64 i.moment) }) whole c.self.invariant.present c.tree.ensures c.book-2.ensures c.clocks.ensures c.queues.ensures in
     let made : entries ≡ group (past_of.history_of i.past) z serial change = c.deref.ensures.value ∙ c.in_ok-group_of.ensures (past_of.history_of i.past) told ∙ ap (λ (l : List AnyEntry). l ++ group (past_of.history_of i.past) z serial change) c.clear.ensures.items in
-    subst (λ (x : Happened). past_of.IsPresent x z) (sym (all_now i.past i.moment z serial change entries whole made c.append_all.new.past c.in_default.ensures.ok))
+    subst (λ (x : MarkedHistory). past_of.IsPresent x z) (sym (all_now i.past i.moment z serial change entries whole made c.append_all.new.past c.in_default.ensures.ok))
     (subst (λ (v : ℤ). past_of.IsPresent (past_of.with_diary i.past (i.past.diary ++ at_moment i.moment steps)) v) (sym whole)
     (present_with i.past i.moment steps c.self.invariant.present))
 
@@ -132,7 +132,7 @@ invariant_of-self-in_err-refresh g c =
     let steps = steps_of (past_of.history_of i.past) i.moment serial change in
     let told = parts i.past i.moment (record { tree = c.tree.result; book = c.book-2.result; clocks = c.clocks.result; queues = c.queues.result; moment = to_z w64 (of_z w64 i.moment) }) whole c.self.invariant.present c.tree.ensures c.book-2.ensures c.clocks.ensures c.queues.ensures in
     let made : entries ≡ group (past_of.history_of i.past) z serial change = c.deref.ensures.value ∙ c.in_ok-group_of.ensures (past_of.history_of i.past) told ∙ ap (λ (l : List AnyEntry). l ++ group (past_of.history_of i.past) z serial change) c.clear.ensures.items in
-    subst (λ (x : Happened). IsKept (g.T.Table.is_current c.refresh.new.self) (g.T.Table.is_marked c.refresh.new.self) (g.T.Table.has_mark c.refresh.new.self) x i.moment (Some book_fault.Memory) i.mark c.refresh.new.changed)
+    subst (λ (x : MarkedHistory). IsKept (g.T.Table.is_current c.refresh.new.self) (g.T.Table.is_marked c.refresh.new.self) (g.T.Table.has_mark c.refresh.new.self) x i.moment (Some book_fault.Memory) i.mark c.refresh.new.changed)
     (sym (all_now i.past i.moment z serial change entries whole made c.append_all.new.past c.in_default.ensures.ok))
     (grown i.past (at_moment i.moment steps) (g.T.Table.is_current i.table) (g.T.Table.is_marked i.table) (g.T.Table.is_current c.refresh.new.self) (g.T.Table.is_marked c.refresh.new.self) (g.T.Table.has_mark i.table) (g.T.Table.has_mark c.refresh.new.self) i.moment i.fault (Some book_fault.Memory) i.mark i.touched c.refresh.new.changed
     c.refresh.ensures.marked c.refresh.ensures.has_mark (present_with i.past i.moment steps c.self.invariant.present) (λ never. cc) c.self.invariant)
@@ -154,13 +154,13 @@ invariant_of-self-2 g c =
     let made : entries ≡ group (past_of.history_of i.past) z serial change = c.deref.ensures.value ∙ c.in_ok-group_of.ensures (past_of.history_of i.past) told ∙ ap (λ (l : List AnyEntry). l ++ group (past_of.history_of i.past) z serial change) c.clear.ensures.items in
     let now = whole ∙ positive i.moment c.self.invariant.present.from in
     let ok = all_now i.past i.moment z serial change entries whole made c.append_all.new.past c.in_default.ensures.ok in
-    subst (λ (x : Happened). IsKept (g.T.Table.is_current c.refresh.new.self) (g.T.Table.is_marked c.refresh.new.self) (g.T.Table.has_mark c.refresh.new.self) x i.moment None i.mark c.refresh.new.changed) (sym ok)
+    subst (λ (x : MarkedHistory). IsKept (g.T.Table.is_current c.refresh.new.self) (g.T.Table.is_marked c.refresh.new.self) (g.T.Table.has_mark c.refresh.new.self) x i.moment None i.mark c.refresh.new.changed) (sym ok)
     (grown i.past (at_moment i.moment steps) (g.T.Table.is_current i.table) (g.T.Table.is_marked i.table) (g.T.Table.is_current c.refresh.new.self) (g.T.Table.is_marked c.refresh.new.self) (g.T.Table.has_mark i.table) (g.T.Table.has_mark c.refresh.new.self) i.moment i.fault None i.mark i.touched c.refresh.new.changed
     c.refresh.ensures.marked c.refresh.ensures.has_mark (present_with i.past i.moment steps c.self.invariant.present)
     (λ e. record {
       state = was.state;
       reached = reached_after i.past i.moment steps (coming_meant c.args.coming) was.state.document c.self.invariant.present was.reached first due refl;
-      current = subst (λ (x : Happened). g.T.Table.is_current c.refresh.new.self (past_of.history_of x) (pos (nat_abs i.moment))) ok (subst (λ (v : ℤ). g.T.Table.is_current c.refresh.new.self (past_of.history_of c.append_all.new.past) v) now c.in_ok-refresh.ensures.current);
+      current = subst (λ (x : MarkedHistory). g.T.Table.is_current c.refresh.new.self (past_of.history_of x) (pos (nat_abs i.moment))) ok (subst (λ (v : ℤ). g.T.Table.is_current c.refresh.new.self (past_of.history_of c.append_all.new.past) v) now c.in_ok-refresh.ensures.current);
     })
     c.self.invariant)
 

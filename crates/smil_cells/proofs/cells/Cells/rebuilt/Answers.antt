@@ -6,7 +6,7 @@ use Rattle.smil_model.specs.declared.diary.LogEntry.{LogEntry}
 use Rattle.smil_model.specs.document.Document.{Document}
 use Rattle.smil_model.specs.diary.Diary.{last_moment}
 use Rattle.smil_stretch.proofs.Diaries.{lawful_first}
-use Rattle.smil_past.specs.Past.{Happened, IsPossible, history_of}
+use Rattle.smil_past.specs.Past.{MarkedHistory, IsPossible, history_of}
 use Rattle.smil_cells.specs.Standing.{Standing, IsRebuilt, MayRebuild, cut_log}
 use Rattle.smil_cells.specs.Standings.{MayBegin, begun, standing_of}
 use Rattle.smil_cells.proofs.Begun.{moment_is, possible_part, may_part, rebuilt_is}
@@ -43,8 +43,8 @@ over-requires g c =
     ∙ (ap (λ (l : List LogEntry). record { document = doc; log = l; diary = take len c.entries.result.now; marked = None }) log_is
     ∙ ap (λ (d : List Entry). record { document = doc; log = part; diary = take len d; marked = None }) (c.entries.ensures ∙ c.book-2.ensures))) in
     let z = to_z w64 (of_z w64 c.last_moment-moment.result) in
-    let at = to_z-of_z w64 c.last_moment-moment.result (record { sfits = c.last_moment-moment.type_inv }) ∙ c.last_moment-moment.ensures ∙ (ap (λ (p : Happened). last_moment p.diary) past_is ∙ sym (moment_is s doc len may)) in
-    subst (λ (p : Happened). MayBegin p z) (sym past_is)
+    let at = to_z-of_z w64 c.last_moment-moment.result (record { sfits = c.last_moment-moment.type_inv }) ∙ c.last_moment-moment.ensures ∙ (ap (λ (p : MarkedHistory). last_moment p.diary) past_is ∙ sym (moment_is s doc len may)) in
+    subst (λ (p : MarkedHistory). MayBegin p z) (sym past_is)
     (subst (λ (z : ℤ). MayBegin (record { document = doc; log = part; diary = take len i.past.diary; marked = None }) z) (sym at)
     (may_part s doc len may i.past.log lawful c.reached_is_past.ensures c.self.invariant.log))
 
@@ -64,7 +64,7 @@ returns-clause-rebuilt g c =
     ∙ (ap (λ (l : List LogEntry). record { document = doc; log = l; diary = take len c.entries.result.now; marked = None }) log_is
     ∙ ap (λ (d : List Entry). record { document = doc; log = part; diary = take len d; marked = None }) (c.entries.ensures ∙ c.book-2.ensures))) in
     let z = to_z w64 (of_z w64 c.last_moment-moment.result) in
-    let at = to_z-of_z w64 c.last_moment-moment.result (record { sfits = c.last_moment-moment.type_inv }) ∙ c.last_moment-moment.ensures ∙ (ap (λ (p : Happened). last_moment p.diary) past_is ∙ sym (moment_is s doc len may)) in
+    let at = to_z-of_z w64 c.last_moment-moment.result (record { sfits = c.last_moment-moment.type_inv }) ∙ c.last_moment-moment.ensures ∙ (ap (λ (p : MarkedHistory). last_moment p.diary) past_is ∙ sym (moment_is s doc len may)) in
     subst (λ (x : Standing). IfOk c.over.result (IsRebuilt x doc len)) c.self.view_is
     (IfOk-weaker c.over.result (λ (cells : Standing). cells ≡ begun c.in_ok-past.past z) (IsRebuilt s doc len)
     (λ cells made. rebuilt_is s doc len may c.in_ok-past.past z cells past_is at made) c.over.ensures.begun)

@@ -6,7 +6,7 @@ use Rattle.smil_model.specs.shown.Orders.{course_of}
 use Rattle.smil_diary.specs.declared.fault.BookFault.{BookFault}
 use Rattle.smil_diary.specs.declared.fault.BookFault.TheVariants as book_fault
 use Rattle.smil_past.specs.Past as past_of
-use Rattle.smil_past.specs.Past.{Happened}
+use Rattle.smil_past.specs.Past.{MarkedHistory}
 use Rattle.smil_cells.specs.Standing.{Standing, IsFront, IsHeard, IsRefusing, NothingBefore, WhereTold, fresh_since, with_logged}
 use Rattle.smil_cells.specs.Standings.{IsKept, standing_of}
 use Rattle.smil_cells.proofs.Grown.{fits, positive}
@@ -35,7 +35,7 @@ returns-in-Err-clause-full g c =
     let whole = to_z-of_z w64 i.moment (fits i.moment c.self.invariant.present.from c.self.invariant.present.within) in
     let now = whole ∙ positive i.moment c.self.invariant.present.from in
     λ f. subst (λ (s : Standing). IsFront (course_of (with_logged s.presentation c.args.entry)) c.hear.new.self.diary) c.self.view_is
-    (subst (λ (x : Happened). IsFront (course_of (with_logged (standing_of i.past i.moment i.fault i.mark i.touched).presentation c.args.entry)) x.diary) (sym c.in-Err.ensures.err)
+    (subst (λ (x : MarkedHistory). IsFront (course_of (with_logged (standing_of i.past i.moment i.fault i.mark i.touched).presentation c.args.entry)) x.diary) (sym c.in-Err.ensures.err)
     (front_heard i.past i.moment c.args.entry i.fault i.mark i.touched was.state was.reached here c.reached_is_past.ensures c.log_may_be_longer.ensures c.reaches_further.ensures quiet (c.in-Err.ensures.full f)))
 
 pub invariant_of-self-in_err-touch : goal.invariant_of-self-in_err-touch
@@ -47,7 +47,7 @@ invariant_of-self-in_err-touch g c =
     let quiet = subst (λ (s : Standing). NothingBefore s (pos s.presentation.now +ℤ pos 1)) before c.requires.settled in
     let whole = to_z-of_z w64 i.moment (fits i.moment c.self.invariant.present.from c.self.invariant.present.within) in
     let now = whole ∙ positive i.moment c.self.invariant.present.from in
-    subst (λ (x : Happened). IsKept (g.T.Table.is_current i.table) (g.T.Table.is_marked i.table) (g.T.Table.has_mark i.table) x i.moment (Some book_fault.Memory) i.mark c.touch.new.touched) (sym c.in_default.ensures.ok)
+    subst (λ (x : MarkedHistory). IsKept (g.T.Table.is_current i.table) (g.T.Table.is_marked i.table) (g.T.Table.has_mark i.table) x i.moment (Some book_fault.Memory) i.mark c.touch.new.touched) (sym c.in_default.ensures.ok)
     (kept_heard i.past c.args.entry (g.T.Table.is_current i.table) (g.T.Table.is_marked i.table) (g.T.Table.is_current i.table) (g.T.Table.is_marked i.table) (g.T.Table.has_mark i.table) (g.T.Table.has_mark i.table) i.moment i.fault (Some book_fault.Memory) i.mark i.touched c.touch.new.touched
     (λ h now k. k) refl (present_heard i.past i.moment c.args.entry i.fault i.mark i.touched (positive i.moment c.self.invariant.present.from) c.self.invariant.present here) (is_log_heard i.past i.moment c.args.entry i.fault i.mark i.touched was.state was.reached here c.requires.may) (λ never. cc) c.self.invariant)
 
@@ -72,7 +72,7 @@ invariant_of-self-in_err-refresh g c =
     let quiet = subst (λ (s : Standing). NothingBefore s (pos s.presentation.now +ℤ pos 1)) before c.requires.settled in
     let whole = to_z-of_z w64 i.moment (fits i.moment c.self.invariant.present.from c.self.invariant.present.within) in
     let now = whole ∙ positive i.moment c.self.invariant.present.from in
-    subst (λ (x : Happened). IsKept (g.T.Table.is_current c.refresh.new.self) (g.T.Table.is_marked c.refresh.new.self) (g.T.Table.has_mark c.refresh.new.self) x i.moment (Some book_fault.Memory) i.mark c.refresh.new.changed) (sym c.in_default.ensures.ok)
+    subst (λ (x : MarkedHistory). IsKept (g.T.Table.is_current c.refresh.new.self) (g.T.Table.is_marked c.refresh.new.self) (g.T.Table.has_mark c.refresh.new.self) x i.moment (Some book_fault.Memory) i.mark c.refresh.new.changed) (sym c.in_default.ensures.ok)
     (kept_heard i.past c.args.entry (g.T.Table.is_current i.table) (g.T.Table.is_marked i.table) (g.T.Table.is_current c.refresh.new.self) (g.T.Table.is_marked c.refresh.new.self) (g.T.Table.has_mark i.table) (g.T.Table.has_mark c.refresh.new.self) i.moment i.fault (Some book_fault.Memory) i.mark i.touched c.refresh.new.changed
     c.refresh.ensures.marked c.refresh.ensures.has_mark (present_heard i.past i.moment c.args.entry i.fault i.mark i.touched (positive i.moment c.self.invariant.present.from) c.self.invariant.present here) (is_log_heard i.past i.moment c.args.entry i.fault i.mark i.touched was.state was.reached here c.requires.may) (λ never. cc) c.self.invariant)
 
@@ -95,11 +95,11 @@ invariant_of-self-2 g c =
     let quiet = subst (λ (s : Standing). NothingBefore s (pos s.presentation.now +ℤ pos 1)) before c.requires.settled in
     let whole = to_z-of_z w64 i.moment (fits i.moment c.self.invariant.present.from c.self.invariant.present.within) in
     let now = whole ∙ positive i.moment c.self.invariant.present.from in
-    subst (λ (x : Happened). IsKept (g.T.Table.is_current c.refresh.new.self) (g.T.Table.is_marked c.refresh.new.self) (g.T.Table.has_mark c.refresh.new.self) x i.moment None i.mark c.refresh.new.changed) (sym c.in_default.ensures.ok)
+    subst (λ (x : MarkedHistory). IsKept (g.T.Table.is_current c.refresh.new.self) (g.T.Table.is_marked c.refresh.new.self) (g.T.Table.has_mark c.refresh.new.self) x i.moment None i.mark c.refresh.new.changed) (sym c.in_default.ensures.ok)
     (kept_heard i.past c.args.entry (g.T.Table.is_current i.table) (g.T.Table.is_marked i.table) (g.T.Table.is_current c.refresh.new.self) (g.T.Table.is_marked c.refresh.new.self) (g.T.Table.has_mark i.table) (g.T.Table.has_mark c.refresh.new.self) i.moment i.fault None i.mark i.touched c.refresh.new.changed
     c.refresh.ensures.marked c.refresh.ensures.has_mark (present_heard i.past i.moment c.args.entry i.fault i.mark i.touched (positive i.moment c.self.invariant.present.from) c.self.invariant.present here) (is_log_heard i.past i.moment c.args.entry i.fault i.mark i.touched was.state was.reached here c.requires.may)
     (λ e. sound_heard i.past i.moment c.args.entry i.fault i.mark i.touched was.state was.reached here c.reached_is_past.ensures c.log_may_be_longer.ensures c.reaches_further.ensures quiet (g.T.Table.is_current c.refresh.new.self) c.refresh.new.changed c.requires.may
-    (subst (λ (x : Happened). g.T.Table.is_current c.refresh.new.self (past_of.history_of x) (pos (nat_abs i.moment))) c.in_default.ensures.ok (subst (λ (v : ℤ). g.T.Table.is_current c.refresh.new.self (past_of.history_of c.hear.new.self) v) now c.in_ok-refresh.ensures.current)))
+    (subst (λ (x : MarkedHistory). g.T.Table.is_current c.refresh.new.self (past_of.history_of x) (pos (nat_abs i.moment))) c.in_default.ensures.ok (subst (λ (v : ℤ). g.T.Table.is_current c.refresh.new.self (past_of.history_of c.hear.new.self) v) now c.in_ok-refresh.ensures.current)))
     c.self.invariant)
 
 pub returns-clause-heard : goal.returns-clause-heard

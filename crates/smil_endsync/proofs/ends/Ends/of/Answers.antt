@@ -4,7 +4,9 @@ use Rattle.std.specs.List.{position}
 use Rattle.smil_model.specs.declared.interval.ChildEnd.{ChildEnd}
 use Rattle.smil_endsync.specs.declared.ends.Summary.{Summary}
 use Rattle.smil_endsync.specs.Ends.{one_end, AreSummed}
-use Rattle.smil_endsync.proofs.Climb.{behind, behind_length, few_places, refilled, summed_first}
+use Rattle.std.proofs.lemmas.List.{take_at}
+use Rattle.smil_laws.proofs.Tournaments.{few_places}
+use Rattle.smil_endsync.proofs.Tournament.{behind, behind_length, summed_first}
 use Rattle.smil_endsync.proofs.ends.Ends.of.Goals as goal
 
 pub decide_all-requires-clause-half : goal.decide_all-requires-clause-half
@@ -28,6 +30,6 @@ invariant_of-result c =
     ∙ behind half (map one_end c.deref.result.now)
     ∙ ap (map one_end) c.deref.ensures.value in
     let named : position (λ (x : ChildEnd). x.named) cs ≡ c.named_place.result = sym (c.named_place.ensures ∙ ap (position (λ (x : ChildEnd). x.named)) c.deref-2.ensures.value) in
-    subst (λ (places : List Summary). AreSummed cs c.named_place.result places half) (sym (refilled new _ c.in_ok-places.places.len count))
+    subst (λ (places : List Summary). AreSummed cs c.named_place.result places half) (sym (take_at new _ c.in_ok-places.places.len count))
     (subst (λ (n : Option ℕ). AreSummed cs n new half) named
     (summed_first cs new half c.len.result many c.next_power_of_two-half.ensures.power c.next_power_of_two-half.ensures.lower_bound c.next_power_of_two-half.ensures.upper_bound (omega (arith, many, c.requires)) own whole c.decide_all.ensures.decided))

@@ -8,7 +8,7 @@ use Rattle.smil_live.specs.Counts.{least_onward, most_onward}
 use Rattle.smil_live.specs.Moves.{IsTooFull}
 use Rattle.smil_live.proofs.CountedOrders.{bounded_accepted, bounded_too_full}
 use Rattle.smil_live.proofs.Outcomes.{advanced_to, clock_from}
-use Rattle.smil_live.proofs.States.{within_horizon}
+use Rattle.smil_shown.proofs.Presenting.{within_horizon}
 use Rattle.smil_live.proofs.playing.Playing.advance.Goals as goal
 
 pub returns-clause-ok : goal.returns-clause-ok

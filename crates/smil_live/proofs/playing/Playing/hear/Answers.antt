@@ -6,7 +6,7 @@ use Rattle.smil_cells.specs.Standing.{WhereTold, with_logged}
 use Rattle.smil_live.specs.Counts.{least_onward, most_onward}
 use Rattle.smil_live.specs.Moves.{text_of}
 use Rattle.smil_live.proofs.Outcomes.{heard_as}
-use Rattle.smil_live.proofs.States.{within_horizon}
+use Rattle.smil_shown.proofs.Presenting.{within_horizon}
 use Rattle.smil_live.proofs.playing.Playing.hear.Goals as goal
 
 pub returns-clause-ok : goal.returns-clause-ok

@@ -2,7 +2,7 @@ use Rattle.std.proofs.Common.{◌≡◌, ◌∙◌, ap, subst, Bool}
 use Rattle.std.specs.Prelude.{IfOk}
 use Rattle.smil_model.specs.document.Document.{Document}
 use Rattle.smil_model.specs.shown.Orders.{Presentation}
-use Rattle.smil_live.specs.References.{keeps_references}
+use Rattle.smil_revision.specs.References.{keeps_references}
 use Rattle.smil_live.proofs.playing.Playing.keeps_references.Goals as goal
 
 pub returns : goal.returns

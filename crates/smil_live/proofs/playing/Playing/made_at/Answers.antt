@@ -16,7 +16,7 @@ pub cells_at-requires-clause-state : goal.cells_at-requires-clause-state
 cells_at-requires-clause-state g c = c.self.invariant.shown_is.state
 
 pub cells_at-requires-clause-replayed : goal.cells_at-requires-clause-replayed
-cells_at-requires-clause-replayed g c = own_replayed c.self.inside.watched.cells c.self.inside.watched.seen c.self.invariant
+cells_at-requires-clause-replayed g c = own_replayed c.self.inside.viewer.cells c.self.inside.viewer.seen c.self.invariant
 
 pub cells_at-requires-clause-from : goal.cells_at-requires-clause-from
 cells_at-requires-clause-from g c =
@@ -27,7 +27,7 @@ pub cells_at-requires-clause-back : goal.cells_at-requires-clause-back
 cells_at-requires-clause-back g c =
     let there : to_z w64 (of_z w64 c.args.to) ≡ c.args.to = to_z-of_z w64 c.args.to c.ranges.to in
     let back : c.args.to ≤ℤ pos c.args.self.now.now = before c.args.to (pos c.args.self.now.now) c.requires.back in
-    subst (λ (z : ℤ). z ≤ℤ pos c.self.inside.watched.cells.presentation.now) (sym there) (subst (λ (q : Presentation). c.args.to ≤ℤ pos q.now) (sym c.self.view_is) back)
+    subst (λ (z : ℤ). z ≤ℤ pos c.self.inside.viewer.cells.presentation.now) (sym there) (subst (λ (q : Presentation). c.args.to ≤ℤ pos q.now) (sym c.self.view_is) back)
 
 pub returns-clause-ok : goal.returns-clause-ok
 returns-clause-ok g c =

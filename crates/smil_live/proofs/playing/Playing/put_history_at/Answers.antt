@@ -17,14 +17,14 @@ pub put_intervals-requires-clause-element : goal.put_intervals-requires-clause-e
 put_intervals-requires-clause-element g c =
     let r = c.requires in
     let distinct = subst (λ (p : Presentation). IsDistinct p.document.nodes) c.self.view_is c.self.invariant.shown_is.state.document.numbered.distinct in
-    let at = named_element c.args.self.now c.self.inside.watched.cells.presentation.document r.0 r.1 c.args.serial distinct (ap (λ (p : Presentation). p.document) c.self.view_is) r.2 r.3 in
+    let at = named_element c.args.self.now c.self.inside.viewer.cells.presentation.document r.0 r.1 c.args.serial distinct (ap (λ (p : Presentation). p.document) c.self.view_is) r.2 r.3 in
     (r.1, at.element)
 
 pub returns-clause-told : goal.returns-clause-told
 returns-clause-told g c = λ w n q own.
     let distinct = subst (λ (p : Presentation). IsDistinct p.document.nodes) c.self.view_is c.self.invariant.shown_is.state.document.numbered.distinct in
-    let at = named_element c.args.self.now c.self.inside.watched.cells.presentation.document w n c.args.serial distinct (ap (λ (p : Presentation). p.document) c.self.view_is) q own in
+    let at = named_element c.args.self.now c.self.inside.viewer.cells.presentation.document w n c.args.serial distinct (ap (λ (p : Presentation). p.document) c.self.view_is) q own in
     let named = named_element c.args.self.now c.tree.result.now w n c.args.serial distinct (c.tree.ensures ∙ ap (λ (p : Presentation). p.document) c.self.view_is) q own in
     on_ok_weaker c.put_intervals.result
-    (history_answer c.self.inside.watched.cells c.args.self.now n c.in_ok-name.name c.args.out.now c.put_intervals.new.out c.self.view_is c.self.invariant.shown_is.settled (c.in_ok-name.ensures ∙ named.name))
+    (history_answer c.self.inside.viewer.cells c.args.self.now n c.in_ok-name.name c.args.out.now c.put_intervals.new.out c.self.view_is c.self.invariant.shown_is.settled (c.in_ok-name.ensures ∙ named.name))
     (c.put_intervals.ensures.told n at.element)

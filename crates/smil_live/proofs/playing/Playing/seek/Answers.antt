@@ -12,7 +12,7 @@ use Rattle.smil_live.specs.Moves.{IsTooFull, text_of}
 use Rattle.smil_live.proofs.CountedOrders.{bounded_too_full, seek_bounded}
 use Rattle.smil_live.proofs.Outcomes.{clock_from, not_above, moved_as_sought, not_sought, sought, within_sought}
 use Rattle.smil_live.proofs.Standings.{state_then}
-use Rattle.smil_live.proofs.States.{within_horizon}
+use Rattle.smil_shown.proofs.Presenting.{within_horizon}
 use Rattle.smil_live.proofs.playing.Playing.seek.Given.{Over}
 use Rattle.smil_live.proofs.playing.Playing.seek.Goals as goal
 

@@ -1,6 +1,6 @@
 use Rattle.std.proofs.Common.{sym, ◌∙◌, ap, subst}
 use Rattle.smil_cells.specs.Standing.{Standing}
-use Rattle.smil_live.specs.ShownViews.{IsPlaying}
+use Rattle.smil_shown.specs.ShownViews.{IsPlaying}
 use Rattle.smil_live.proofs.Edited.{begins_long, cut_again, plays, where_err}
 use Rattle.smil_live.proofs.TouchedViews.{where_not_err}
 use Rattle.smil_live.proofs.playing.Playing.take_over.Goals as goal

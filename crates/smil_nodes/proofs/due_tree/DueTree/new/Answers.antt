@@ -2,7 +2,7 @@ use Rattle.std.proofs.Common.{◌≡◌, ◌∙◌, ap, sym, subst, ◌+◌, Lis
 use Rattle.std.specs.Prelude.{Option}
 use Rattle.smil_model.specs.declared.happening.Key.{Key}
 use Rattle.smil_nodes.specs.Slots.{IsTournament}
-use Rattle.smil_nodes.proofs.Climb.{no_key, empty_tournament, empty_slots}
+use Rattle.smil_nodes.proofs.Best.{no_key, empty_tournament, empty_slots}
 use Rattle.smil_nodes.proofs.due_tree.DueTree.new.Goals as goal
 
 items_are : (c : goal.In_ok-from_elem) → c.in_ok-from_elem.field-0.items ≡ replicate (c.next_power_of_two-half.result + c.args.count) no_key

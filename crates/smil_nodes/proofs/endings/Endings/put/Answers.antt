@@ -1,10 +1,10 @@
-use Rattle.std.proofs.Common.{◌≡◌, ◌∙◌, ap, sym, subst, ◌<◌, List, length, set, arith}
-use Rattle.std.specs.Prelude.{Option, None, Some}
+use Rattle.std.proofs.Common.{◌≡◌, ◌∙◌, ap, sym, List, length, arith}
+use Rattle.std.specs.Prelude.{Option, None}
 use Rattle.smil_model.specs.declared.interval.ChildEnd.{ChildEnd}
 use Rattle.smil_nodes.specs.declared.endings.Home.{Home}
 use Rattle.smil_nodes.specs.Endings.{KeptEnds, home_at, put_ending, put_home}
 use Rattle.smil_nodes.proofs.Among.{set_count}
-use Rattle.smil_nodes.proofs.Housing.{among_set, housed_set, row_free}
+use Rattle.smil_nodes.proofs.Housing.{among_set, child_within, housed_set, looked_up}
 use Rattle.smil_nodes.proofs.endings.Endings.put.Goals as goal
 
 pub returns-in_default : goal.returns-in_default
@@ -18,32 +18,27 @@ returns-in_default c =
 pub index_mut-requires : goal.index_mut-requires
 index_mut-requires c =
     let i = c.self.inside in
-    let at : home_at i.homes.items c.args.place ≡ Some c.in-Some.home = ap (λ (hs : List (Option Home)). home_at hs c.args.place) (sym c.deref.ensures.value) ∙ sym c.in-Some.ensures in
-    let within = c.self.invariant c.args.place c.in-Some.home at in
-    omega (arith, within.0, i.ends.ok.0)
+    let is = looked_up i.homes.items c.deref.result.now i.ends.items c.args.place c.in-Some.home c.self.invariant c.deref.ensures.value c.in-Some.ensures in
+    omega (arith, is.container, i.ends.ok.0)
 
 pub set-requires : goal.set-requires
 set-requires c =
     let i = c.self.inside in
-    let at : home_at i.homes.items c.args.place ≡ Some c.in-Some.home = ap (λ (hs : List (Option Home)). home_at hs c.args.place) (sym c.deref.ensures.value) ∙ sym c.in-Some.ensures in
-    let within = c.self.invariant c.args.place c.in-Some.home at in
-    let row = row_free i.ends.items c.in-Some.home.container c.index_mut.result.now c.index_mut.ensures.value within.0 in
-    subst (λ (cs : List ChildEnd). c.in-Some.home.child < length cs) (sym row) within.1
+    let is = looked_up i.homes.items c.deref.result.now i.ends.items c.args.place c.in-Some.home c.self.invariant c.deref.ensures.value c.in-Some.ensures in
+    child_within i.homes.items i.ends.items c.args.place c.in-Some.home c.index_mut.result.now is c.index_mut.ensures.value
 
 pub invariant_of-self : goal.invariant_of-self
 invariant_of-self c =
     let i = c.self.inside in
-    let at : home_at i.homes.items c.args.place ≡ Some c.in-Some.home = ap (λ (hs : List (Option Home)). home_at hs c.args.place) (sym c.deref.ensures.value) ∙ sym c.in-Some.ensures in
-    let within = c.self.invariant c.args.place c.in-Some.home at in
+    let is = looked_up i.homes.items c.deref.result.now i.ends.items c.args.place c.in-Some.home c.self.invariant c.deref.ensures.value c.in-Some.ensures in
     let own = c.index_mut.result.now in
-    housed_set i.homes.items i.ends.items c.in-Some.home.container own c.set.new.self c.self.invariant c.index_mut.ensures.value within.0
+    housed_set i.homes.items i.ends.items c.in-Some.home.container own c.set.new.self c.self.invariant c.index_mut.ensures.value is.container
     (ap (λ (cs : List ChildEnd). length cs) c.set.ensures ∙ set_count own c.in-Some.home.child c.args.ending.first c.args.ending.latest)
 
 pub returns : goal.returns
 returns c =
     let i = c.self.inside in
-    let at : home_at i.homes.items c.args.place ≡ Some c.in-Some.home = ap (λ (hs : List (Option Home)). home_at hs c.args.place) (sym c.deref.ensures.value) ∙ sym c.in-Some.ensures in
-    let within = c.self.invariant c.args.place c.in-Some.home at in
-    let ends = among_set i.ends.items c.in-Some.home.container c.in-Some.home.child c.args.ending c.index_mut.result.now c.set.new.self c.index_mut.ensures.value within.0 c.set.ensures ∙ ap (put_home i.ends.items c.args.ending) (sym at) in
+    let is = looked_up i.homes.items c.deref.result.now i.ends.items c.args.place c.in-Some.home c.self.invariant c.deref.ensures.value c.in-Some.ensures in
+    let ends = among_set i.ends.items c.in-Some.home.container c.in-Some.home.child c.args.ending c.index_mut.result.now c.set.new.self c.index_mut.ensures.value is.container c.set.ensures ∙ ap (put_home i.ends.items c.args.ending) (sym is.at) in
     (λ j. record { homes = i.homes.items; ends = ends j })
     ∙ ap (λ (kept : KeptEnds). put_ending kept c.args.place c.args.ending) c.self.view_is

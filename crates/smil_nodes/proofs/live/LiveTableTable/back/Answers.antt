@@ -1,7 +1,7 @@
 use Rattle.std.proofs.Common.{◌≡◌, ◌∙◌, ap, sym, subst, List, Bool}
 use Rattle.smil_cells.specs.declared.plain.known.Row.{Row}
 use Rattle.smil_nodes.specs.Endings.{KeptEnds}
-use Rattle.smil_nodes.specs.Marked.{IsMarked, IsWhole}
+use Rattle.smil_nodes.specs.Marked.{IsMarked, IsUpToDate}
 use Rattle.smil_nodes.specs.Undo.{ends_back, rows_back}
 use Rattle.smil_nodes.proofs.Undone.{back_push, ends_next}
 use Rattle.smil_nodes.proofs.live.LiveTableTable.back.Goals as goal
@@ -29,4 +29,4 @@ returns-clause-current c = λ h now marked.
     let stands = subst (λ (b : Bool). IsMarked b old.undo old.schedule old.endings h now) c.requires marked in
     let rows_are : rows_back old.schedule old.undo ≡ rows = sym c.loop-noted.invariant.0 ∙ ap (rows_back rows) c.in_default.ensures.last in
     let ends_are : ends_back old.schedule old.endings old.undo ≡ kept = sym c.loop-noted.invariant.1 ∙ ap (ends_back rows kept) c.in_default.ensures.last in
-    subst (λ (x : List Row × KeptEnds). IsWhole x.0 x.1 h now) (λ i. (rows_are i, ends_are i)) stands
+    subst (λ (x : List Row × KeptEnds). IsUpToDate x.0 x.1 h now) (λ i. (rows_are i, ends_are i)) stands

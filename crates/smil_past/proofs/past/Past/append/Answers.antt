@@ -1,6 +1,6 @@
 use Rattle.std.proofs.Common.{sym, subst}
 use Rattle.smil_past.specs.declared.chronicle.Chronicle.{Chronicle}
-use Rattle.smil_past.specs.Past.{Happened, MayFollow}
+use Rattle.smil_past.specs.Past.{MarkedHistory, MayFollow}
 use Rattle.smil_past.specs.Chronicle.{BacksUp, Tells}
 use Rattle.smil_past.proofs.Seconds.{backs_push}
 use Rattle.smil_past.proofs.past.Past.append.Goals as goal
@@ -17,7 +17,7 @@ invariant_of-self c =
 
 pub push-requires-clause-follows : goal.push-requires-clause-follows
 push-requires-clause-follows c =
-    let follows = subst (λ (v : Happened). MayFollow v c.args.entry) (sym c.self.view_is) c.requires in
+    let follows = subst (λ (v : MarkedHistory). MayFollow v c.args.entry) (sym c.self.view_is) c.requires in
     record { lawful = follows.lawful; near = follows.near; named = follows.named }
 
 pub invariant_of-self-in_err-push : goal.invariant_of-self-in_err-push

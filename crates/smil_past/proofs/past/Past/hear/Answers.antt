@@ -1,6 +1,6 @@
 use Rattle.std.proofs.Common.{◌≡◌, ◌≤◌, ℕ, sym, ◌∙◌, ap, subst, length, Some, [], ◌∷◌, ◌++◌}
 use Rattle.smil_laws.specs.Cut.{NamesBelow}
-use Rattle.smil_past.specs.Past.{Happened}
+use Rattle.smil_past.specs.Past.{MarkedHistory}
 use Rattle.smil_past.specs.Chronicle.{BacksUp, Tells}
 use Rattle.smil_past.proofs.Grown.{cut_heard, heard, unheard}
 use Rattle.smil_past.proofs.Seconds.{backs_heard, backs_unheard}
@@ -33,10 +33,10 @@ invariant_of-self-in-Err c =
     let now = c.self-2.inside in
     let sound = c.self-2.invariant in
     let seen = c.self-2.view_is ∙ c.in-Err.ensures.err in
-    let full : now.log ≡ was.log ++ c.args.entry ∷ [] = ap (λ (v : Happened). v.log) seen ∙ c.in_ok-push.ensures.ok in
+    let full : now.log ≡ was.log ++ c.args.entry ∷ [] = ap (λ (v : MarkedHistory). v.log) seen ∙ c.in_ok-push.ensures.ok in
     let cut : c.cut_back.new.self ≡ was.log = cut_heard was.log now.log c.cut_back.new.self c.args.entry c.len-place.result full c.len-place.ensures c.cut_back.ensures in
-    let named : NamesBelow (length was.log) now.chronicle.book = subst (NamesBelow (length was.log)) (sym (ap (λ (v : Happened). v.diary) seen)) c.self.invariant.tells.possible.named in
-    let within : (mark : ℕ × ℕ) → now.mark ≡ Some mark → mark.0 ≤ length was.log = λ mark is. (c.self.invariant.backs_up.at mark (sym (ap (λ (v : Happened). v.marked) seen) ∙ is)).log_within in record {
+    let named : NamesBelow (length was.log) now.chronicle.book = subst (NamesBelow (length was.log)) (sym (ap (λ (v : MarkedHistory). v.diary) seen)) c.self.invariant.tells.possible.named in
+    let within : (mark : ℕ × ℕ) → now.mark ≡ Some mark → mark.0 ≤ length was.log = λ mark is. (c.self.invariant.backs_up.at mark (sym (ap (λ (v : MarkedHistory). v.marked) seen) ∙ is)).log_within in record {
       graph_is = sound.graph_is;
       syncs_are = sound.syncs_are;
       tells = unheard now.tree was.log now.log c.cut_back.new.self c.args.entry now.chronicle.book now.chronicle.readings full cut named sound.tells;

@@ -3,7 +3,7 @@ use Rattle.std.proofs.lemmas.List.{take_all}
 use Rattle.std.proofs.lemmas.Option.{slice_get-get_or}
 use Rattle.smil_model.specs.declared.diary.Entry.{Entry}
 use Rattle.smil_laws.proofs.Lists.{take-more_at}
-use Rattle.smil_past.specs.Past.{Happened, MayFollow, with_diary}
+use Rattle.smil_past.specs.Past.{MarkedHistory, MayFollow, with_diary}
 use Rattle.smil_past.proofs.Fronts.{follows_at, no_entry, possible_before}
 use Rattle.smil_past.proofs.past.Past.of.Goals as goal
 
@@ -15,7 +15,7 @@ push-requires c =
     let diary = c.args.entries.now in
     let i = c.loop-entry.entry-index in
     let y = get_or diary i no_entry in
-    subst (λ (v : Happened). MayFollow v y) (sym c.loop-entry.invariant)
+    subst (λ (v : MarkedHistory). MayFollow v y) (sym c.loop-entry.invariant)
     (follows_at c.args.tree c.args.log diary i y c.requires (slice_get-get_or diary i no_entry c.loop-entry-test.true))
 
 pub loop-entry-preserved : goal.loop-entry-preserved
@@ -24,7 +24,7 @@ loop-entry-preserved c =
     let i = c.loop-entry.entry-index in
     let y = get_or diary i no_entry in
     c.in_ok-push.ensures
-    ∙ ap (λ (v : Happened). with_diary v (v.diary ++ y ∷ [])) c.loop-entry.invariant
+    ∙ ap (λ (v : MarkedHistory). with_diary v (v.diary ++ y ∷ [])) c.loop-entry.invariant
     ∙ ap (λ (ds : List Entry). record { document = c.args.tree; log = c.args.log; diary = ds; marked = None })
     (sym (take-more_at diary i y (slice_get-get_or diary i no_entry c.loop-entry-test.true)))
 

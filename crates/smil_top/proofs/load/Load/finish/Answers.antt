@@ -1,12 +1,12 @@
 use Rattle.std.proofs.Common.{subst}
-use Rattle.smil_top.specs.declared.given.Titled.{Titled}
+use Rattle.smil_top.specs.declared.given.NamedOutline.{NamedOutline}
 use Rattle.smil_top.proofs.Loads.{IsGivenAt, Gives-ok, Gives-err}
 use Rattle.smil_top.proofs.load.Load.finish.Goals as goal
 
 pub returns-in-Ok-clause-given : goal.returns-in-Ok-clause-given
 returns-in-Ok-clause-given c lines read =
     let given : IsGivenAt c.args.self.line c.args.end_line c.end_outline.result c.in-Ok.titled =
-    subst (λ (x : Titled). IsGivenAt c.args.self.line c.args.end_line c.end_outline.result x) c.in-Ok.titled-is c.end_outline.ensures.given
+    subst (λ (x : NamedOutline). IsGivenAt c.args.self.line c.args.end_line c.end_outline.result x) c.in-Ok.titled-is c.end_outline.ensures.given
     in
     Gives-ok c.args.self lines c.args.end_line c.in-Ok.titled c.end_outline.result c.in-Ok.is read given
 

@@ -4,7 +4,7 @@ use Rattle.std.proofs.KnownBytes.{Appends-nil}
 use Rattle.smil_grammar.specs.Scripts.{is_blank}
 use Rattle.smil_script.specs.Loads.{ends_load}
 use Rattle.smil_top.specs.declared.run.Run.{Run}
-use Rattle.smil_top.specs.Cut.{Numbered, LoadLines, load, with_line}
+use Rattle.smil_top.specs.Cut.{NumberedLine, LoadLines, load, with_line}
 use Rattle.smil_top.specs.Running.{IsLine}
 use Rattle.smil_top.proofs.CutLines.{cut-ends, cut-long_node, cut-node}
 use Rattle.smil_top.proofs.Tells.{Shows, running-order, running-load, tells-on}
@@ -38,7 +38,7 @@ pub returns-in_default-clause-answers : goal.returns-in_default-clause-answers
 returns-in_default-clause-answers g c checks cut lines told line within read tells number shows =
     let run : Run = c.args.self.now in
     let count : ℕ = c.args.next.now.number in
-    let this : Numbered = record { number = count; text = line } in
+    let this : NumberedLine = record { number = count; text = line } in
     let more : LoadLines = record lines { nodes = lines.nodes ++ this ∷ [] } in
     let new : Run = record run { load = Some c.push.result } in
     let read_on : with_line cut line ≡ record { count = count; whole = cut.whole; «open» = Some more } = elim c.in_default.branch [

@@ -6,7 +6,7 @@ use Rattle.smil_grammar.specs.Scripts.{opens_load}
 use Rattle.smil_top.specs.declared.fault.Fault.{Fault}
 use Rattle.smil_top.specs.declared.run.Run.{Run}
 use Rattle.smil_top.specs.declared.session.Session.{Session}
-use Rattle.smil_top.specs.Cut.{OrderLines, Numbered, LoadLines, single, with_line}
+use Rattle.smil_top.specs.Cut.{OrderLines, NumberedLine, LoadLines, single, with_line}
 use Rattle.smil_top.specs.Evaluations.{number_of}
 use Rattle.smil_top.specs.Running.{IsRead, IsLine, MakesAnswer, answering}
 use Rattle.smil_top.proofs.CutLines.{cut-long, cut-opens}
@@ -74,7 +74,7 @@ returns-in-Some-clause-answers g c checks cut told line out tells number shows =
     let same : line ≡ c.in-Some.text.now = is.0 in
     let short : length line ≤ LINE_BYTES = subst (λ zs. length zs ≤ LINE_BYTES) (sym same) is.1 in
     let opened : opens_load line ≡ true = ap opens_load same ∙ sym c.opens_load.ensures ∙ c.if-opens_load.true in
-    let this : Numbered = record { number = count; text = line } in
+    let this : NumberedLine = record { number = count; text = line } in
     let lines : LoadLines = record { head = this; nodes = [] } in
     let read : IsRead c.open.result lines =
     subst (λ zs. IsRead c.open.result (record { head = record { number = count; text = zs }; nodes = [] })) (sym same) c.open.ensures

@@ -1,8 +1,0 @@
-use Rattle.std.proofs.Common.{◌≡◌, take, true}
-use Rattle.std.specs.List.{list_all}
-use Rattle.smil_model.specs.declared.document.Node.{Node}
-use Rattle.smil_live.specs.References.{keeps_id}
-use Rattle.smil_live.proofs.references.keeps_ids.Given as goal
-
-abbrev pub invariant-loop-node : goal.invariant-loop-node
-invariant-loop-node l = list_all (λ (n : Node). keeps_id l.old.nodes l.new.nodes n.attrs.id) (take l.node-index l.nodes) ≡ true

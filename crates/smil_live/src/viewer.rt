@@ -1,0 +1,225 @@
+//! Cells that go on, and what is told of them then.
+
+ghost use Rattle.std.specs.Prelude.{◌≡◌, ◌≤◌, ◌-◌, ◌++◌, [], ◌∷◌, true, None, Some, OnOk, IfErr, IfSome, IfNone, ◌≤ℤ◌, ◌+ℤ◌, pos};
+ghost use Rattle.smil_model.specs.declared.document.Node.{Node as AnyNode};
+ghost use Rattle.smil_model.specs.document.Document.{elements, node_at};
+ghost use Rattle.smil_model.specs.shown.Orders.{IsState};
+ghost use Rattle.smil_model.specs.document.Words.{Begins};
+ghost use Rattle.smil_cells.specs.Standing.{GoesOn, NothingBefore, Standing, IsSettled, WhereTold, fresh_since, reached_since};
+ghost use Rattle.smil_shown.specs.ShownViews.{IsShown, views_at};
+ghost use Rattle.smil_live.specs.Moves.{IsFirstDue, IsShownAt, IsTooFull, MayMove, changes_by, made, text_of};
+ghost use Rattle.smil_shown.specs.ViewTable.{has_view, view_now, with_view};
+ghost use Rattle.smil_shown.specs.Told.{lines_between};
+
+use super::moves::Move;
+use smil_cells::{Cells, Table};
+use smil_model::{Bytes, LogEntry, Refusal, Steps};
+use smil_shown::{Scene, ViewTable, put_view, view_in};
+use std::alloc::AllocError;
+use std::sync::ledger::Ledger;
+
+/// The cells of a presentation, with the views of all elements as they were last told.
+pub struct Viewer<T: Table> {
+    pub cells: Cells<T>,
+    pub seen: ViewTable,
+}
+
+impl<T: Table> Drop for Viewer<T> {
+    // One call for each holder: its fields are dropped here alone.
+    fn drop(self) {
+        let Viewer {
+            cells: _cells,
+            seen: _seen,
+        } = self;
+    }
+}
+
+impl<T: Table> Viewer<T> {
+    /// Goes on by a move, and tells what it changes.
+    pub fn go_on<L: Ledger>(
+        &mut self,
+        step: Move,
+        out: &mut Bytes,
+        steps: &mut Steps<L>,
+    ) -> Result<(), Refusal>
+        requires may { MayMove self.old.cells.presentation step }
+        requires shown { IsShown self.old.cells self.old.seen }
+        ensures ok { OnOk result (IsShownAt (made self.old.cells.presentation step) self.new.cells
+            self.new.seen) }
+        ensures told { OnOk result (out.new ≡ out.old
+            ++ text_of self.old.cells.presentation (changes_by self.old.cells.presentation step)) }
+        ensures refused { IfErr result (IsTooFull (made self.old.cells.presentation step)) }
+        ensures marked { self.new.cells.marked ≡ self.old.cells.marked }
+        ensures before { self.new.seen.before ≡ self.old.seen.before }
+        ensures begins { Begins out.old out.new }
+        ensures counted { steps.old ≤ steps.new }
+        ensures most { OnOk result (WhereTold T.counts
+            (steps.new - steps.old ≤ reached_since self.old.cells self.new.cells)) }
+        ensures least { OnOk result (WhereTold T.counts
+            (fresh_since self.old.cells self.new.cells ≤ steps.new - steps.old)) }
+    {
+        match step {
+            Move::Pass(to) => self.pass_through(to, out, steps),
+            Move::Settle(to) => self.settle_once(to, out, steps),
+            Move::Hear(entry) => self.hear_once(entry, out, steps),
+        }
+    }
+
+    // Goes on up to a moment, and tells the changes of each moment on the way.
+    fn pass_through<L: Ledger>(
+        &mut self,
+        to: i64,
+        out: &mut Bytes,
+        steps: &mut Steps<L>,
+    ) -> Result<(), Refusal>
+        requires may { MayMove self.old.cells.presentation (Move.Pass to) }
+        requires shown { IsShown self.old.cells self.old.seen }
+        ensures ok { OnOk result (IsShownAt (made self.old.cells.presentation (Move.Pass to))
+            self.new.cells self.new.seen) }
+        ensures told { OnOk result (out.new ≡ out.old ++ text_of self.old.cells.presentation
+            (changes_by self.old.cells.presentation (Move.Pass to))) }
+        ensures refused { IfErr result
+            (IsTooFull (made self.old.cells.presentation (Move.Pass to))) }
+        ensures marked { self.new.cells.marked ≡ self.old.cells.marked }
+        ensures before { self.new.seen.before ≡ self.old.seen.before }
+        ensures begins { Begins out.old out.new }
+        ensures counted { steps.old ≤ steps.new }
+        ensures most { OnOk result (WhereTold T.counts
+            (steps.new - steps.old ≤ reached_since self.old.cells self.new.cells)) }
+        ensures least { OnOk result (WhereTold T.counts
+            (fresh_since self.old.cells self.new.cells ≤ steps.new - steps.old)) }
+    {
+        while let Some(due) = due_by(&self.cells, to) {
+            self.settle_once(due, out, steps)?;
+        }
+        self.settle_once(to, out, steps)
+    }
+
+    // Goes on up to a moment, and tells what is different there.
+    fn settle_once<L: Ledger>(
+        &mut self,
+        to: i64,
+        out: &mut Bytes,
+        steps: &mut Steps<L>,
+    ) -> Result<(), Refusal>
+        requires may { MayMove self.old.cells.presentation (Move.Settle to) }
+        requires shown { IsShown self.old.cells self.old.seen }
+        ensures ok { OnOk result (IsShownAt (made self.old.cells.presentation (Move.Settle to))
+            self.new.cells self.new.seen) }
+        ensures told { OnOk result (out.new ≡ out.old ++ text_of self.old.cells.presentation
+            (changes_by self.old.cells.presentation (Move.Settle to))) }
+        ensures refused { IfErr result
+            (IsTooFull (made self.old.cells.presentation (Move.Settle to))) }
+        ensures marked { self.new.cells.marked ≡ self.old.cells.marked }
+        ensures before { self.new.seen.before ≡ self.old.seen.before }
+        ensures begins { Begins out.old out.new }
+        ensures counted { steps.old ≤ steps.new }
+        ensures goes_on { OnOk result (GoesOn self.old.cells self.new.cells) }
+        ensures most { OnOk result (WhereTold T.counts
+            (steps.new - steps.old ≤ reached_since self.old.cells self.new.cells)) }
+        ensures least { OnOk result (WhereTold T.counts
+            (fresh_since self.old.cells self.new.cells ≤ steps.new - steps.old)) }
+    {
+        self.cells.settle(to, steps)?;
+        put_touched(&self.cells, &mut self.seen, out)
+    }
+
+    // Takes in a log entry, and tells what is different behind it.
+    fn hear_once<L: Ledger>(
+        &mut self,
+        entry: LogEntry,
+        out: &mut Bytes,
+        steps: &mut Steps<L>,
+    ) -> Result<(), Refusal>
+        requires may { MayMove self.old.cells.presentation (Move.Hear entry) }
+        requires shown { IsShown self.old.cells self.old.seen }
+        ensures ok { OnOk result (IsShownAt (made self.old.cells.presentation (Move.Hear entry))
+            self.new.cells self.new.seen) }
+        ensures told { OnOk result (out.new ≡ out.old ++ text_of self.old.cells.presentation
+            (changes_by self.old.cells.presentation (Move.Hear entry))) }
+        ensures refused { IfErr result
+            (IsTooFull (made self.old.cells.presentation (Move.Hear entry))) }
+        ensures marked { self.new.cells.marked ≡ self.old.cells.marked }
+        ensures before { self.new.seen.before ≡ self.old.seen.before }
+        ensures begins { Begins out.old out.new }
+        ensures counted { steps.old ≤ steps.new }
+        ensures most { OnOk result (WhereTold T.counts
+            (steps.new - steps.old ≤ reached_since self.old.cells self.new.cells)) }
+        ensures least { OnOk result (WhereTold T.counts
+            (fresh_since self.old.cells self.new.cells ≤ steps.new - steps.old)) }
+    {
+        self.cells.hear(entry, steps)?;
+        put_touched(&self.cells, &mut self.seen, out)
+    }
+}
+
+// The moment of what comes first, where it is due by a moment.
+fn due_by<T: Table>(cells: &Cells<T>, to: i64) -> Option<i64>
+    requires { cells.now.fault ≡ None }
+    ensures within { IfSome result (λ due. due ≤ℤ to) }
+    ensures first { IfSome result (IsFirstDue cells.now) }
+    ensures none { IfNone result (NothingBefore cells.now (to +ℤ pos 1)) }
+{
+    let due = cells.next_due()?;
+    if due <= to { Some(due) } else { None }
+}
+
+// Puts the views of the touched elements in place, and appends the lines of those that differ from
+// the views of an earlier state, of which the last call may have changed these alone.
+fn put_touched<T: Table>(
+    cells: &Cells<T>,
+    seen: &mut ViewTable,
+    out: &mut Bytes,
+) -> Result<(), Refusal>
+    requires sound { cells.now.fault ≡ None }
+    requires state { IsState cells.now.presentation }
+    requires settled { IsSettled cells.now }
+    requires from { (old : Standing) × GoesOn old cells.now × (seen.old.views ≡ views_at old)
+        × (cells.now.presentation.document ≡ old.presentation.document) }
+    ensures views { OnOk result (seen.new.views ≡ views_at cells.now) }
+    ensures told { OnOk result (out.new ≡ out.old
+        ++ lines_between cells.now.presentation.document.nodes cells.now.presentation.now
+        seen.old.views (views_at cells.now)) }
+    ensures refused { IfErr result (λ refusal. refusal ≡ Refusal.Memory) }
+    ensures before { seen.new.before ≡ seen.old.before }
+    ensures begins { Begins out.old out.new }
+{
+    for serial in cells.touched().slice() {
+        put_one(cells, seen, *serial, out)?;
+    }
+    Ok(())
+}
+
+// Puts the view of an element in its place, and appends its line where it differs from that before.
+fn put_one<T: Table>(
+    cells: &Cells<T>,
+    seen: &mut ViewTable,
+    serial: u32,
+    out: &mut Bytes,
+) -> Result<(), AllocError>
+    requires sound { cells.now.fault ≡ None }
+    requires state { IsState cells.now.presentation }
+    requires settled { IsSettled cells.now }
+    requires element { (e : AnyNode)
+        × (node_at (elements cells.now.presentation.document.nodes) serial ≡ Some e) }
+    requires known { has_view seen.old.views serial ≡ true }
+    ensures view { (e : AnyNode) → node_at (elements cells.now.presentation.document.nodes) serial
+        ≡ Some e → OnOk result (seen.new ≡ with_view seen.old (view_now cells.now e)) }
+    ensures told { (e : AnyNode) → node_at (elements cells.now.presentation.document.nodes) serial
+        ≡ Some e → OnOk result (out.new ≡ out.old
+        ++ lines_between cells.now.presentation.document.nodes cells.now.presentation.now
+        seen.old.views (view_now cells.now e ∷ [])) }
+    ensures before { seen.new.before ≡ seen.old.before }
+    ensures begins { Begins out.old out.new }
+{
+    let view = view_in(cells, serial);
+    if seen.put(view)? {
+        let scene = Scene {
+            tree: cells.tree(),
+            moment: cells.moment(),
+        };
+        put_view(scene, &view, out)
+    } else {
+        Ok(())
+    }
+}

@@ -1,0 +1,5 @@
+pub mod AgreedMarks
+pub mod Copying
+pub mod Placing
+pub mod Reading
+pub mod TreeFaults

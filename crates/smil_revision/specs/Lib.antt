@@ -1,0 +1,4 @@
+pub mod Editing
+pub mod ItemCounts
+pub mod References
+pub mod Refusing

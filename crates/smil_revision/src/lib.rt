@@ -1,0 +1,10 @@
+//! Edits that orders ask for, and whether they leave the references of a document as they were.
+#![tactic(auto)]
+
+mod copies;
+mod references;
+mod values;
+
+pub use copies::{with_child, with_value, without_name, without_node};
+pub use references::{GraphedDocument, Revision, keeps_references};
+pub use values::{Child, LineText, Setting};

@@ -1,0 +1,209 @@
+//! Whether an edit leaves the references of a document as they were.
+
+ghost use Rattle.std.specs.Prelude.{◌≡◌, ◌++◌, List, length, map, Some, IfOk, OnOk};
+ghost use Rattle.std.specs.List.{list_all};
+ghost use Rattle.smil_model.specs.declared.document.Node.{Node as AnyNode};
+ghost use Rattle.smil_model.specs.declared.document.Item.{Item as AnyItem};
+ghost use Rattle.smil_model.specs.document.Defaults.{items_of, items_or};
+ghost use Rattle.smil_model.specs.document.Dependencies.{is_looped};
+ghost use Rattle.smil_model.specs.document.Document.{elements, node_at};
+ghost use Rattle.smil_revision.specs.ItemCounts.{counts_at};
+ghost use Rattle.smil_revision.specs.References.{are_same_marks, is_same_serial, keeps_id, keeps_loops, keeps_loops_of, keeps_references, loops};
+
+use smil_graph::Graph;
+use smil_instances::{element_named, element_of};
+use smil_model::{Bytes, Edge, Items, Node, Who};
+use smil_tree::Tree;
+use std::alloc::{AllocError, Global};
+
+/// A document in place, with its nodes in order and its graph.
+#[derive(Clone, Copy)]
+pub struct GraphedDocument<'a> {
+    pub tree: &'a Tree,
+    pub nodes: &'a [Node],
+    pub graph: &'a Graph,
+}
+
+/// A document before and after an edit of a node, with the serial of that node.
+#[derive(Clone, Copy)]
+pub struct Revision<'a> {
+    pub edited: u32,
+    pub old: GraphedDocument<'a>,
+    pub new: GraphedDocument<'a>,
+}
+
+/// The begin or the end list of an element in a graph, with the number of its items.
+#[derive(Clone, Copy)]
+struct Side<'a> {
+    graph: &'a Graph,
+    serial: u32,
+    edge: Edge,
+    count: usize,
+}
+
+/// Whether an edit of a node leaves the references as they were, unless memory runs out: each id of
+/// a node names the same element in both documents or none, and the items of each other element
+/// that both have are looped in both or in none.
+pub fn keeps_references(alloc: Global, revision: Revision<'_>) -> Result<bool, AllocError>
+    requires old_nodes { revision.old.nodes.now ≡ revision.old.tree.now.nodes }
+    requires new_nodes { revision.new.nodes.now ≡ revision.new.tree.now.nodes }
+    requires old_graph { revision.old.graph.now.nodes ≡ revision.old.tree.now.nodes }
+    requires new_graph { revision.new.graph.now.nodes ≡ revision.new.tree.now.nodes }
+    ensures { IfOk result (λ keeps. keeps ≡ keeps_references revision.entry.edited
+        revision.entry.old.tree.now.nodes revision.entry.new.tree.now.nodes) }
+{
+    let old = revision.old;
+    let new = revision.new;
+    if !keeps_ids(old.nodes, old.tree, new.tree)? || !keeps_ids(new.nodes, old.tree, new.tree)? {
+        return Ok(false);
+    }
+    keeps_loops(alloc, revision)
+}
+
+// Whether the id of each of these nodes names the same element in both documents, or none.
+fn keeps_ids(nodes: &[Node], old: &Tree, new: &Tree) -> Result<bool, AllocError>
+    ensures { IfOk result (λ keeps. keeps
+        ≡ list_all (λ (n : AnyNode). keeps_id old.now.nodes new.now.nodes n.attrs.id) nodes.now) }
+{
+    for node in nodes {
+        if !keeps_id(old, new, &node.attrs.id)? {
+            return Ok(false);
+        }
+    }
+    Ok(true)
+}
+
+// Whether an id names the same element in both documents, or none.
+fn keeps_id(old: &Tree, new: &Tree, id: &Option<Bytes>) -> Result<bool, AllocError>
+    ensures { IfOk result (λ keeps. keeps ≡ keeps_id old.now.nodes new.now.nodes id.now) }
+{
+    let Some(id) = id else {
+        return Ok(true);
+    };
+    let before = element_named(old, id)?;
+    let after = element_named(new, id)?;
+    Ok(is_same_serial(before, after))
+}
+
+// Whether two serials are the same, or both absent.
+fn is_same_serial(one: Option<u32>, other: Option<u32>) -> bool
+    ensures { result ≡ is_same_serial one other }
+{
+    match (one, other) {
+        (None, None) => true,
+        (Some(one), Some(other)) => one == other,
+        _ => false,
+    }
+}
+
+// Whether the items of each other element that both documents have are looped in both or in none.
+fn keeps_loops(alloc: Global, revision: Revision<'_>) -> Result<bool, AllocError>
+    requires old_nodes { revision.old.nodes.now ≡ revision.old.tree.now.nodes }
+    requires old_graph { revision.old.graph.now.nodes ≡ revision.old.tree.now.nodes }
+    requires new_graph { revision.new.graph.now.nodes ≡ revision.new.tree.now.nodes }
+    ensures { IfOk result (λ keeps. keeps ≡ keeps_loops revision.entry.edited
+        revision.entry.old.tree.now.nodes revision.entry.new.tree.now.nodes) }
+{
+    for node in revision.old.nodes {
+        if node.kind.is_element() && !keeps_loops_of(alloc, revision, node.serial)? {
+            return Ok(false);
+        }
+    }
+    Ok(true)
+}
+
+// Whether the items of an element, unless it is edited or the new document does not have it, are
+// looped in both documents or in none.
+fn keeps_loops_of(alloc: Global, revision: Revision<'_>, serial: u32) -> Result<bool, AllocError>
+    requires old_graph { revision.old.graph.now.nodes ≡ revision.old.tree.now.nodes }
+    requires new_graph { revision.new.graph.now.nodes ≡ revision.new.tree.now.nodes }
+    ensures { IfOk result (λ keeps. keeps ≡ keeps_loops_of revision.entry.edited
+        revision.entry.old.tree.now.nodes revision.entry.new.tree.now.nodes serial) }
+{
+    if serial == revision.edited || item_counts(revision.new.tree, serial).is_none() {
+        return Ok(true);
+    }
+    let before = loops(alloc, revision.old, serial)?;
+    let after = loops(alloc, revision.new, serial)?;
+    Ok(are_same_marks(before.as_slice(), after.as_slice()))
+}
+
+// Which items of an element are looped references; nothing for a serial of no element.
+fn loops(alloc: Global, document: GraphedDocument<'_>, serial: u32) -> Result<Vec<bool>, AllocError>
+    requires graph { document.graph.now.nodes ≡ document.tree.now.nodes }
+    ensures { IfOk result (λ marks. marks.items
+        ≡ loops document.entry.tree.now.nodes
+        (node_at (elements document.entry.tree.now.nodes) serial)) }
+{
+    let mut marks = Vec::new(alloc);
+    let Some((begins, ends)) = item_counts(document.tree, serial) else {
+        return Ok(marks);
+    };
+    let begin = Side {
+        graph: document.graph,
+        serial,
+        edge: Edge::Begin,
+        count: begins,
+    };
+    push_marks(begin, &mut marks)?;
+    let end = Side {
+        graph: document.graph,
+        serial,
+        edge: Edge::End,
+        count: ends,
+    };
+    push_marks(end, &mut marks)?;
+    Ok(marks)
+}
+
+// Appends which items of one side of an element are looped references.
+fn push_marks(side: Side<'_>, marks: &mut Vec<bool>) -> Result<(), AllocError>
+    requires counted { (e : AnyNode)
+        × (node_at (elements side.graph.now.nodes) side.serial ≡ Some e)
+        × (side.count ≡ length (items_of side.graph.now.nodes side.edge e)) }
+    ensures { (e : AnyNode) → node_at (elements side.entry.graph.now.nodes) side.entry.serial
+        ≡ Some e → OnOk result (marks.new.items ≡ marks.old.items
+        ++ map (is_looped side.entry.graph.now.nodes e.serial)
+        (items_of side.entry.graph.now.nodes side.entry.edge e)) }
+{
+    for item in 0..side.count {
+        marks.push(side.graph.looped(side.serial, side.edge, item))?;
+    }
+    Ok(())
+}
+
+// How many items the begin and the end list of an element have; None for a serial of no element.
+fn item_counts(tree: &Tree, serial: u32) -> Option<(usize, usize)>
+    ensures { result ≡ counts_at tree.now.nodes serial }
+{
+    tree.valid();
+    let serial = element_of(tree, &Who::Serial(serial))?;
+    let attrs = tree.attrs(serial);
+    Some((count_or(&attrs.begin, 1), count_or(&attrs.end, 0)))
+}
+
+// How many items a list has, or a number where it is absent.
+fn count_or(items: &Option<Items>, without: usize) -> usize
+    ensures { (others : List AnyItem) → length others ≡ without
+        → result ≡ length (items_or others items.now) }
+{
+    match items {
+        Some(items) => items.len(),
+        None => without,
+    }
+}
+
+// Whether two lists of marks are the same.
+fn are_same_marks(one: &[bool], other: &[bool]) -> bool
+    ensures { result ≡ are_same_marks one.now other.now }
+{
+    if one.len() != other.len() {
+        return false;
+    }
+    for (place, mark) in one.iter().enumerate() {
+        if other[place] != *mark {
+            return false;
+        }
+    }
+    true
+}

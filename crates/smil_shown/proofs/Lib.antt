@@ -1,0 +1,13 @@
+pub mod AllViews
+pub mod Apart
+pub mod ElementViews
+pub mod Ended
+pub mod Followed
+pub mod Gathered
+pub mod Lined
+pub mod LinesTold
+pub mod NamesPut
+pub mod Presenting
+pub mod Presently
+pub mod SameViews
+pub mod ViewPlaces

@@ -1,0 +1,145 @@
+-- Lines that are told one after another.
+use Rattle.std.proofs.Common.{◌≡◌, refl, sym, ◌∙◌, ap, ℕ, zero, suc, ◌+◌, ◌<◌, ◌≤◌, List, [], ◌∷◌, ◌++◌, Option, Some, None, Bool, true, false, length, drop, get_or, arith, append-nil}
+use Rattle.std.specs.Prelude.{cond, not, ◌==◌, ℤ, IsSome, is_some, filter, flat_map, nat_lt, slice_get, option_map}
+use Rattle.std.specs.Option.{option_map_or}
+use Rattle.std.specs.List.{position, position_or_len}
+use Rattle.std.proofs.Math.Seq.{drop-cons}
+use Rattle.std.proofs.lemmas.Bool.{eqb-true, ltb-true, ltb-false}
+use Rattle.std.proofs.lemmas.Option.{same_Some}
+use Rattle.std.proofs.lemmas.List.{append_assoc}
+use Rattle.std.proofs.lemmas.List.Folds.{find_at}
+use Rattle.std.proofs.Math.ListN.{drop_of_length-le}
+use Rattle.smil_model.specs.declared.document.Attrs.{Attrs}
+use Rattle.smil_model.specs.declared.document.Kind.{Kind}
+use Rattle.smil_model.specs.declared.document.Node.{Node}
+use Rattle.smil_model.specs.declared.order.Who.TheVariants.{Serial}
+use Rattle.smil_model.specs.declared.view.View.{View}
+use Rattle.smil_model.specs.document.Document.{elements, is_class_kind, node_at}
+use Rattle.smil_model.specs.document.Valid.{kind_of}
+use Rattle.smil_model.specs.shown.Answers.{change_text, name_in}
+use Rattle.smil_model.specs.shown.Lines.{gone_line, name_by, name_of}
+use Rattle.smil_model.specs.shown.Orders.{changed, view_before, view_eq}
+use Rattle.smil_laws.proofs.Aside.{find_true}
+use Rattle.smil_tree.proofs.Families.{drop_at}
+use Rattle.smil_shown.specs.Told.{gone_from, lines_between, lines_gone, lines_of}
+
+-- the name of a node that is there
+pub name_there : (nodes : List Node) (s : ℕ) (attrs : Attrs) → IsSome (node_at nodes s) → Some attrs ≡ option_map (λ (n : Node). n.attrs) (node_at nodes s) → name_in nodes s ≡ name_by s attrs.id
+name_there nodes s attrs there is = by_node (node_at nodes s) refl there is
+  where
+    by_node : (o : Option Node) → node_at nodes s ≡ o → IsSome o → Some attrs ≡ option_map (λ (n : Node). n.attrs) o → option_map_or name_of o (Serial s) ≡ name_by s attrs.id
+    by_node None e t q = cc
+    by_node (Some n) e t q =
+        ap (λ k. name_by k n.attrs.id) (eqb-true n.serial s (find_true (λ (m : Node). m.serial == s) nodes n e))
+        ∙ ap (λ (a : Attrs). name_by s a.id) (sym (same_Some attrs n.attrs q))
+
+-- what is told of the rest follows what was told
+one_told : (all before now one rest whole : List ℕ) → now ≡ before ++ one → before ++ whole ≡ all → whole ≡ one ++ rest → now ++ rest ≡ all
+one_told all before now one rest whole made so_far is =
+    ap (λ l. l ++ rest) made ∙ (append_assoc before one rest ∙ (ap (λ l. before ++ l) (sym is) ∙ so_far))
+
+-- ---- views
+
+pub next_view : (views : List View) (i : ℕ) (d : View) → i < length views → drop i views ≡ get_or views i d ∷ drop (i + 1) views
+next_view views i d l = drop-cons views i d l ∙ ap (λ n. get_or views i d ∷ drop n views) (one_on i)
+  where
+    one_on : (n : ℕ) → suc n ≡ n + 1
+    one_on n = omega arith
+
+line_next : (nodes : List Node) (m : ℕ) (v : View) (vs : List View) → lines_of nodes m (v ∷ vs) ≡ lines_of nodes m (v ∷ []) ++ lines_of nodes m vs
+line_next nodes m v vs = ap (λ l. l ++ lines_of nodes m vs) (sym (append-nil (change_text nodes (m, v))))
+
+between_next : (nodes : List Node) (m : ℕ) (before : List View) (v : View) (vs : List View) → lines_between nodes m before (v ∷ vs) ≡ lines_between nodes m before (v ∷ []) ++ lines_between nodes m before vs
+between_next nodes m before v vs = by_test (not (view_eq v (view_before before v)))
+  where
+    by_test : (t : Bool) → lines_of nodes m (cond t (v ∷ changed before vs) (changed before vs)) ≡ lines_of nodes m (cond t (v ∷ []) []) ++ lines_between nodes m before vs
+    by_test true = line_next nodes m v (changed before vs)
+    by_test false = refl
+
+pub difference_on : (nodes : List Node) (m : ℕ) (before views : List View) (i : ℕ) (d : View) (all old new : List ℕ) → i < length views
+    → old ++ lines_between nodes m before (drop i views) ≡ all
+    → new ≡ old ++ lines_between nodes m before (get_or views i d ∷ [])
+    → new ++ lines_between nodes m before (drop (i + 1) views) ≡ all
+difference_on nodes m before views i d all old new l so_far made =
+    one_told all old new (lines_between nodes m before (get_or views i d ∷ [])) (lines_between nodes m before (drop (i + 1) views)) (lines_between nodes m before (drop i views)) made so_far
+    (ap (lines_between nodes m before) (next_view views i d l) ∙ between_next nodes m before (get_or views i d) (drop (i + 1) views))
+
+-- ---- nodes that are gone
+
+gone_next : (after : List Node) (moment : ℤ) (n : Node) (ns : List Node) → lines_gone after moment (n ∷ ns) ≡ lines_gone after moment (n ∷ []) ++ lines_gone after moment ns
+gone_next after moment n ns = by_element (not (is_class_kind n.kind))
+  where
+    by_gone : (g : Bool) → flat_map (λ (m : Node). gone_line moment (name_of m)) (cond g (n ∷ gone_from after ns) (gone_from after ns))
+        ≡ flat_map (λ (m : Node). gone_line moment (name_of m)) (cond g (n ∷ []) []) ++ lines_gone after moment ns
+    by_gone true = ap (λ l. l ++ lines_gone after moment ns) (sym (append-nil (gone_line moment (name_of n))))
+    by_gone false = refl
+
+    by_element : (t : Bool) → flat_map (λ (m : Node). gone_line moment (name_of m)) (filter (λ (m : Node). not (is_some (node_at after m.serial))) (cond t (n ∷ elements ns) (elements ns)))
+        ≡ flat_map (λ (m : Node). gone_line moment (name_of m)) (filter (λ (m : Node). not (is_some (node_at after m.serial))) (cond t (n ∷ []) [])) ++ lines_gone after moment ns
+    by_element true = by_gone (not (is_some (node_at after n.serial)))
+    by_element false = refl
+
+is_there : (ns : List Node) (s : ℕ) → is_some (position (λ (n : Node). n.serial == s) ns) ≡ is_some (node_at ns s)
+is_there ns s =
+    by_test (position_or_len (λ (n : Node). n.serial == s) ns) (nat_lt (position_or_len (λ (n : Node). n.serial == s) ns) (length ns)) refl
+    ∙ ap is_some (sym (find_at (λ (n : Node). n.serial == s) ns))
+  where
+    beyond : (ms : List Node) (i : ℕ) → length ms ≤ i → slice_get ms i ≡ None
+    beyond [] i l = refl
+    beyond (m ∷ ms) zero l = absurd (omega (arith, l))
+    beyond (m ∷ ms) (suc i) l = beyond ms i (omega (arith, l))
+
+    inside : (ms : List Node) (i : ℕ) → i < length ms → is_some (slice_get ms i) ≡ true
+    inside [] i l = absurd (omega (arith, l))
+    inside (m ∷ ms) zero l = refl
+    inside (m ∷ ms) (suc i) l = inside ms i (omega (arith, l))
+
+    by_test : (k : ℕ) (t : Bool) → nat_lt k (length ns) ≡ t → is_some (cond {A = Option ℕ} t (Some k) None) ≡ is_some (slice_get ns k)
+    by_test k true e = sym (inside ns k (ltb-true k (length ns) e))
+    by_test k false e = sym (ap is_some (beyond ns k (ltb-false k (length ns) e)))
+
+-- what is told of one node of this kind, which is an element or not, and has a place in the other
+-- document or not
+pub gone_one : (before after : List Node) (moment : ℤ) (s : ℕ) (kind : Kind) (n : Node) → node_at before s ≡ Some n → Some kind ≡ kind_of (node_at before s)
+    → not (is_class_kind kind) ≡ true → is_some (position (λ (m : Node). m.serial == s) after) ≡ false → lines_gone after moment (n ∷ []) ≡ gone_line moment (name_in before s)
+gone_one before after moment s kind n at of_kind element none =
+    let kinds : kind ≡ n.kind = same_Some kind n.kind (of_kind ∙ ap kind_of at) in
+    let serial : n.serial ≡ s = eqb-true n.serial s (find_true (λ (m : Node). m.serial == s) before n at) in
+    let absent : is_some (node_at after n.serial) ≡ false = ap (λ k. is_some (node_at after k)) serial ∙ (sym (is_there after s) ∙ none) in
+    ap (λ (t : Bool). flat_map (λ (m : Node). gone_line moment (name_of m)) (filter (λ (m : Node). not (is_some (node_at after m.serial))) (cond t (n ∷ []) []))) (ap (λ (k : Kind). not (is_class_kind k)) (sym kinds) ∙ element)
+    ∙ (ap (λ (t : Bool). flat_map (λ (m : Node). gone_line moment (name_of m)) (cond (not t) (n ∷ []) [])) absent
+    ∙ (append-nil (gone_line moment (name_of n))
+    ∙ ap (λ o. gone_line moment (option_map_or name_of o (Serial s))) (sym at)))
+
+pub not_gone : (before after : List Node) (moment : ℤ) (s : ℕ) (kind : Kind) (n : Node) → node_at before s ≡ Some n → Some kind ≡ kind_of (node_at before s)
+    → not (is_class_kind kind) ≡ false → lines_gone after moment (n ∷ []) ≡ []
+not_gone before after moment s kind n at of_kind class =
+    let kinds : kind ≡ n.kind = same_Some kind n.kind (of_kind ∙ ap kind_of at) in
+    ap (λ (t : Bool). flat_map (λ (m : Node). gone_line moment (name_of m)) (filter (λ (m : Node). not (is_some (node_at after m.serial))) (cond t (n ∷ []) []))) (ap (λ (k : Kind). not (is_class_kind k)) (sym kinds) ∙ class)
+
+pub still_there : (before after : List Node) (moment : ℤ) (s : ℕ) (n : Node) → node_at before s ≡ Some n → is_some (position (λ (m : Node). m.serial == s) after) ≡ true → lines_gone after moment (n ∷ []) ≡ []
+still_there before after moment s n at there = by_element (not (is_class_kind n.kind))
+  where
+    here : is_some (node_at after n.serial) ≡ true
+    here =
+        ap (λ k. is_some (node_at after k)) (eqb-true n.serial s (find_true (λ (m : Node). m.serial == s) before n at))
+        ∙ (sym (is_there after s) ∙ there)
+
+    by_element : (t : Bool) → flat_map (λ (m : Node). gone_line moment (name_of m)) (filter (λ (m : Node). not (is_some (node_at after m.serial))) (cond t (n ∷ []) [])) ≡ []
+    by_element true = ap (λ (t : Bool). flat_map (λ (m : Node). gone_line moment (name_of m)) (cond (not t) (n ∷ []) [])) here
+    by_element false = refl
+
+pub gone_on : (after : List Node) (moment : ℤ) (nodes : List Node) (i : ℕ) (n : Node) (all old new : List ℕ) → slice_get nodes i ≡ Some n
+    → old ++ lines_gone after moment (drop i nodes) ≡ all
+    → new ≡ old ++ lines_gone after moment (n ∷ [])
+    → new ++ lines_gone after moment (drop (i + 1) nodes) ≡ all
+gone_on after moment nodes i n all old new at so_far made =
+    one_told all old new (lines_gone after moment (n ∷ [])) (lines_gone after moment (drop (i + 1) nodes)) (lines_gone after moment (drop i nodes)) made so_far
+    (ap (lines_gone after moment) (drop_at nodes i n at) ∙ gone_next after moment n (drop (i + 1) nodes))
+
+pub all_gone : (after : List Node) (moment other : ℤ) (nodes : List Node) (i : ℕ) (out now : List ℕ) → other ≡ moment → length nodes ≤ i
+    → now ++ lines_gone after other (drop i nodes) ≡ out ++ lines_gone after other nodes → now ≡ out ++ lines_gone after moment nodes
+all_gone after moment other nodes i out now same left told =
+    sym (append-nil now)
+    ∙ (ap (λ (ns : List Node). now ++ lines_gone after other ns) (sym (drop_of_length-le nodes left))
+    ∙ (told ∙ ap (λ (z : ℤ). out ++ lines_gone after z nodes) same))

@@ -1,0 +1,63 @@
+-- What a settled standing gives to those that read its views.
+use Rattle.std.proofs.Common.{◌≡◌, refl, sym, ap, subst, ℕ, zero, suc, ℤ, List, [], ◌∷◌, Option, Some, None, Bool, true, false, length, arith}
+use Rattle.std.specs.Prelude.{cond, ◌==◌, pos, map, ◌≤ℤ◌, IfSome}
+use Rattle.std.proofs.lemmas.Int.{ints}
+use Rattle.smil_model.specs.declared.diary.Entry.{Entry}
+use Rattle.smil_model.specs.declared.document.Node.{Node}
+use Rattle.smil_model.specs.declared.interval.Interval.{Interval}
+use Rattle.smil_model.specs.document.Document.{elements}
+use Rattle.smil_model.specs.diary.Clocks.{until}
+use Rattle.smil_model.specs.diary.Diary.{History}
+use Rattle.smil_model.specs.interval.Current.{current_interval, in_table, interval_given, table}
+use Rattle.smil_model.specs.declared.times.TheConstants.{HORIZON}
+use Rattle.smil_model.specs.shown.Orders.{IsState, Presentation, course_of}
+use Rattle.smil_model.proofs.Orders.{le_from}
+use Rattle.smil_laws.specs.Courses.{ReachedIsPast}
+use Rattle.smil_laws.specs.Near.{AllNear, IntervalsAreNear, IsIntervalNear}
+use Rattle.smil_past.specs.Past.{MarkedHistory, IsPresent}
+use Rattle.smil_past.specs.Past as past_of
+use Rattle.smil_cells.specs.Standing.{Standing, IsSettled, history_of}
+use Rattle.smil_shown.proofs.Ended.{IsEnded, has_ended}
+
+from_first : (n : ℕ) → pos 0 ≤ℤ pos n
+from_first n = omega (arith, ints)
+
+-- a state is not beyond the horizon
+pub within_horizon : (p : Presentation) → IsState p → pos p.now ≤ℤ HORIZON
+within_horizon p state = le_from (pos p.now) HORIZON state.now
+
+-- no entry is later than the present moment
+pub present_is : (s : Standing) (past : MarkedHistory) → ReachedIsPast → IsState s.presentation → IsSettled s → past_of.history_of past ≡ history_of s → IsPresent past (pos s.presentation.now)
+present_is s past law state settled same = record {
+  past_is =
+      subst (λ (l : List Entry). until (pos s.presentation.now) l ≡ l) (sym (ap (λ (h : History). h.diary) same))
+      (subst (λ (l : List Entry). until (pos s.presentation.now) l ≡ l) end.diary_is
+      (subst (λ (m : ℕ). until (pos m) (end.at).diary ≡ (end.at).diary) end.moment_is (law s.presentation.document s.presentation.log s.presentation.now end.at end.reached).entries));
+  from = from_first s.presentation.now;
+  within = within_horizon s.presentation state;
+}
+  where
+    end : IsEnded (course_of s.presentation) s.diary
+    end = has_ended (course_of s.presentation) s.diary settled
+
+-- the numbers of a current interval are near
+pub current_near : (h : History) (now : ℤ) (s : ℕ) → IntervalsAreNear → AllNear h.diary → IfSome (current_interval h now s) IsIntervalNear
+current_near h now s law near = in_round (length (elements h.nodes))
+  where
+    in_rows : (known : ℕ → Option Interval) (es : List Node) → IfSome (in_table (map (λ (e : Node). (e.serial, interval_given h known now e)) es) s) IsIntervalNear
+    in_rows known [] = tt
+    in_rows known (e ∷ es) = by_test (e.serial == s) (by_interval (interval_given h known now e) refl) (in_rows known es)
+      where
+        by_interval : (o : Option Interval) → interval_given h known now e ≡ o → IfSome o IsIntervalNear
+        by_interval None q = tt
+        by_interval (Some i) q = law h known now e i near q
+
+        by_test : (t : Bool) → IfSome (interval_given h known now e) IsIntervalNear
+            → IfSome (in_table (map (λ (e : Node). (e.serial, interval_given h known now e)) es) s) IsIntervalNear
+            → IfSome (cond t (interval_given h known now e) (in_table (map (λ (e : Node). (e.serial, interval_given h known now e)) es) s)) IsIntervalNear
+        by_test true own rest = own
+        by_test false own rest = rest
+
+    in_round : (k : ℕ) → IfSome (in_table (table h now k) s) IsIntervalNear
+    in_round zero = tt
+    in_round (suc k) = in_rows (in_table (table h now k)) (elements h.nodes)

@@ -1,0 +1,33 @@
+use Rattle.std.proofs.Common.{sym, ◌∙◌, ap, ◌++◌, append-nil, w64, rules}
+use Rattle.std.proofs.lemmas.Int.{to_z-of_z}
+use Rattle.std.specs.Prelude.{is_some, not}
+use Rattle.std.proofs.lemmas.Result.{on_ok_weaker}
+use Rattle.smil_model.specs.shown.Lines.{gone_line}
+use Rattle.smil_shown.proofs.LinesTold.{gone_one, not_gone, still_there}
+use Rattle.smil_shown.proofs.lines.put_where_gone.Goals as goal
+use Rattle.smil_shown.proofs.lines.put_where_gone.Goals.{else-is_element-via-then-is_element+else-is_none, else-is_element-via-else-is_element}
+
+pub returns-in_ok-name-clause-ok : goal.returns-in_ok-name-clause-ok
+returns-in_ok-name-clause-ok c = λ n at.
+    let before = c.args.scene.tree.now.nodes in
+    let after = c.args.after.now.nodes in
+    let out = c.args.out.now in
+    let told = gone_one before after c.args.scene.moment c.args.serial c.kind.result n at c.kind.ensures (sym c.is_element.ensures ∙ c.if-is_element.true)
+    (ap is_some (sym c.position.ensures) ∙ (c.is_none.ensures ∙ ap not c.if-is_none.true)) in
+    on_ok_weaker c.put_gone.result
+    (λ made. made
+    ∙ (ap (λ z. out ++ gone_line z c.in_ok-name.name) (to_z-of_z w64 c.args.scene.moment (search rules))
+    ∙ (ap (λ name. out ++ gone_line c.args.scene.moment name) c.in_ok-name.ensures ∙ ap (λ l. out ++ l) (sym told))))
+    c.put_gone.ensures.ok
+
+pub returns-else-is_element-clause-ok : goal.returns-else-is_element-clause-ok
+returns-else-is_element-clause-ok c = λ n at.
+    let before = c.args.scene.tree.now.nodes in
+    let after = c.args.after.now.nodes in
+    let out = c.args.out.now in
+    sym (append-nil out) ∙ ap (λ l. out ++ l) (sym (elim c.else-is_element.branch [
+      | else-is_element-via-then-is_element+else-is_none w ↦
+          still_there before after c.args.scene.moment c.args.serial n at (ap is_some (sym w.position.ensures) ∙ (w.is_none.ensures ∙ ap not w.if-is_none.false))
+      | else-is_element-via-else-is_element w ↦
+          not_gone before after c.args.scene.moment c.args.serial c.kind.result n at c.kind.ensures (sym c.is_element.ensures ∙ w.if-is_element.false)
+    ]))

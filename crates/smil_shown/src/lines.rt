@@ -1,0 +1,140 @@
+//! Lines of what changes.
+
+ghost use Rattle.std.specs.Prelude.{◌≡◌, [], ◌∷◌, ◌++◌, ℕ, pos, Some, IsSome, IfOk, OnOk, OnErr};
+ghost use Rattle.smil_model.specs.declared.document.Node.{Node as AnyNode};
+ghost use Rattle.smil_model.specs.document.Document.{node_at};
+ghost use Rattle.smil_model.specs.shown.Answers.{name_in};
+ghost use Rattle.smil_model.specs.shown.Lines.{change_line};
+ghost use Rattle.smil_model.specs.document.Words.{Begins};
+ghost use Rattle.smil_shown.specs.ViewTable.{AreOf};
+ghost use Rattle.smil_shown.specs.Told.{lines_between, lines_gone, lines_of};
+
+use super::same::is_same;
+use super::view_table::ViewTable;
+use smil_model::{Bytes, Duplicate, View, Who};
+use smil_report::{put_change, put_gone};
+use smil_tree::Tree;
+use std::alloc::AllocError;
+
+/// The document by which lines name nodes, and the moment that they tell, in milliseconds of
+/// document time.
+#[derive(Clone, Copy)]
+pub struct Scene<'a> {
+    pub tree: &'a Tree,
+    pub moment: i64,
+}
+
+/// A node by its id, or by its serial where it has none; unless memory runs out.
+pub fn name_of(tree: &Tree, serial: u32) -> Result<Who, AllocError>
+    requires { IsSome (node_at tree.now.nodes serial) }
+    ensures { IfOk result (λ name. name ≡ name_in tree.now.nodes serial) }
+{
+    match &tree.attrs(serial).id {
+        Some(id) => Ok(Who::Id(id.copy()?)),
+        None => Ok(Who::Serial(serial)),
+    }
+}
+
+/// Appends the line of a view. Where memory is refused, `out` is as before.
+pub fn put_view(scene: Scene<'_>, view: &View, out: &mut Bytes) -> Result<(), AllocError>
+    requires { IsSome (node_at scene.tree.now.nodes view.now.serial) }
+    ensures ok { OnOk result (out.new ≡ out.old ++ change_line scene.entry.moment
+        (name_in scene.entry.tree.now.nodes view.now.serial) view.now) }
+    ensures err { OnErr result (out.new ≡ out.old) }
+{
+    let name = name_of(scene.tree, view.serial)?;
+    put_change(out, scene.moment, &name, view)
+}
+
+/// Appends the lines of the views that differ from those before, in the order of the views. Where
+/// memory is refused, some of the lines stand in `out`.
+pub fn put_differences(
+    scene: Scene<'_>,
+    before: &ViewTable,
+    after: &ViewTable,
+    out: &mut Bytes,
+) -> Result<(), AllocError>
+    requires { AreOf scene.tree.now.nodes after.now.views }
+    ensures ok { (m : ℕ) → scene.entry.moment ≡ pos m
+        → OnOk result (out.new ≡ out.old ++ lines_between scene.entry.tree.now.nodes m
+        before.now.views after.now.views) }
+    ensures err { OnErr result (Begins out.old out.new) }
+{
+    for view in after.views() {
+        put_difference(scene, before, view, out)?;
+    }
+    Ok(())
+}
+
+// Appends the line of a view, where it differs from that before.
+fn put_difference(
+    scene: Scene<'_>,
+    before: &ViewTable,
+    view: &View,
+    out: &mut Bytes,
+) -> Result<(), AllocError>
+    requires { IsSome (node_at scene.tree.now.nodes view.now.serial) }
+    ensures ok { (m : ℕ) → scene.entry.moment ≡ pos m
+        → OnOk result (out.new ≡ out.old ++ lines_between scene.entry.tree.now.nodes m
+        before.now.views (view.now ∷ [])) }
+    ensures begins { OnOk result (Begins out.old out.new) }
+    ensures err { OnErr result (out.new ≡ out.old) }
+{
+    if is_same(view, &before.view(view.serial)) {
+        Ok(())
+    } else {
+        put_view(scene, view, out)
+    }
+}
+
+/// Appends the lines of all views, in their order. Where memory is refused, some of them stand in
+/// `out`.
+pub fn put_views(scene: Scene<'_>, seen: &ViewTable, out: &mut Bytes) -> Result<(), AllocError>
+    requires { AreOf scene.tree.now.nodes seen.now.views }
+    ensures ok { (m : ℕ) → scene.entry.moment ≡ pos m → OnOk result (out.new ≡ out.old
+        ++ lines_of scene.entry.tree.now.nodes m seen.now.views) }
+    ensures err { OnErr result (Begins out.old out.new) }
+{
+    for view in seen.views() {
+        put_view(scene, view, out)?;
+    }
+    Ok(())
+}
+
+/// Appends the lines of the elements of the document that another doesn't have, in document order.
+/// Where memory is refused, some of them stand in `out`.
+pub fn put_all_gone(scene: Scene<'_>, after: &Tree, out: &mut Bytes) -> Result<(), AllocError>
+    ensures ok { OnOk result (out.new ≡ out.old
+        ++ lines_gone after.now.nodes scene.entry.moment scene.entry.tree.now.nodes) }
+    ensures err { OnErr result (Begins out.old out.new) }
+{
+    scene.tree.valid();
+    let mut place = 0;
+    while let Some(serial) = scene.tree.serial_at(place) {
+        put_where_gone(scene, after, serial, out)?;
+        place += 1;
+    }
+    Ok(())
+}
+
+// Appends the line of a node, where it is an element that another document doesn't have.
+fn put_where_gone(
+    scene: Scene<'_>,
+    after: &Tree,
+    serial: u32,
+    out: &mut Bytes,
+) -> Result<(), AllocError>
+    requires { IsSome (node_at scene.tree.now.nodes serial) }
+    ensures ok { (n : AnyNode) → node_at scene.entry.tree.now.nodes serial ≡ Some n
+        → OnOk result (out.new ≡ out.old
+        ++ lines_gone after.now.nodes scene.entry.moment (n ∷ [])) }
+    ensures begins { OnOk result (Begins out.old out.new) }
+    ensures err { OnErr result (out.new ≡ out.old) }
+{
+    if scene.tree.kind(serial).is_element() && after.position(serial).is_none() {
+        let name = name_of(scene.tree, serial)?;
+        put_gone(out, scene.moment, &name)
+    } else {
+        Ok(())
+    }
+}

@@ -1,0 +1,207 @@
+//! What is shown of each element.
+
+ghost use Rattle.std.specs.Prelude.{◌≡◌, [], ◌∷◌, ◌++◌, map, None, Some, true, false, IsSome, IfOk, OnOk, OnErr};
+ghost use Rattle.smil_model.specs.declared.document.Node.{Node as AnyNode};
+ghost use Rattle.smil_model.specs.document.Document.{elements, node_at};
+ghost use Rattle.smil_model.specs.shown.Orders.{IsState};
+ghost use Rattle.smil_model.specs.shown.Views.{blank};
+ghost use Rattle.smil_cells.specs.Standing.{IsSettled};
+ghost use Rattle.smil_shown.specs.ShownViews.{views_at};
+ghost use Rattle.smil_shown.specs.ViewTable.{differs, has_view, view_in as view_among, view_now, with_view};
+
+use super::same::is_same;
+use smil_cells::{Cells, Table};
+use smil_element::{Present, view_of};
+use smil_laws::courses::reached_is_past;
+use smil_laws::near::intervals_are_near;
+use smil_model::{Shown, State, View};
+use std::alloc::{AllocError, Global};
+use std::collections::HashMap;
+use std::marker::Model;
+
+/// The views of elements in document order, of each element one. Where a view is changed the one
+/// before is noted until `forget`; seen as the views, with those that `back` gives.
+pub struct ViewTable {
+    rows: Vec<View>,
+    places: HashMap<u32, usize>,
+    noted: Vec<View>,
+}
+
+impl Drop for ViewTable {
+    // One call for each holder: its fields are dropped here alone.
+    fn drop(self) {
+        let ViewTable {
+            rows: _rows,
+            places: _places,
+            noted: _noted,
+        } = self;
+    }
+}
+
+impl Model for ViewTable {
+    ghost use Rattle.std.specs.Prelude.{nat_eq};
+    ghost use Rattle.std.specs.HashMap.{get};
+    ghost use Rattle.smil_shown.specs.ViewTable.{Shown as AnyShown, AreAt, put_back};
+
+    ghost Value = { AnyShown };
+
+    ghost view = { λ s.
+        record { views = s.rows.items; before = put_back s.rows.items s.noted.items } };
+
+    ghost invariant = { λ s. AreAt (get nat_eq s.places) s.rows.items };
+}
+
+impl ViewTable {
+    /// No views. It takes no memory.
+    pub fn none(alloc: Global) -> ViewTable
+        ensures { result ≡ record { views = []; before = [] } }
+    {
+        ViewTable {
+            rows: Vec::new(alloc),
+            places: HashMap::new(alloc),
+            noted: Vec::new(alloc),
+        }
+    }
+
+    /// The views of all elements, unless memory runs out. No refusal was answered, and all is
+    /// settled.
+    pub fn of<T: Table>(alloc: Global, cells: &Cells<T>) -> Result<ViewTable, AllocError>
+        requires sound { cells.now.fault ≡ None }
+        requires state { IsState cells.now.presentation }
+        requires settled { IsSettled cells.now }
+        ensures { IfOk result (λ seen. seen
+            ≡ record { views = views_at cells.now; before = views_at cells.now }) }
+    {
+        let mut seen = ViewTable::none(alloc);
+        let tree = cells.tree();
+        tree.valid();
+        let mut place = 0;
+        while let Some(serial) = tree.serial_at(place) {
+            seen.push_node(cells, serial)?;
+            place += 1;
+        }
+        seen.forget();
+        Ok(seen)
+    }
+
+    // Puts the view of a node behind all others, where it is an element.
+    fn push_node<T: Table>(&mut self, cells: &Cells<T>, serial: u32) -> Result<(), AllocError>
+        requires sound { cells.now.fault ≡ None }
+        requires state { IsState cells.now.presentation }
+        requires settled { IsSettled cells.now }
+        requires known { IsSome (node_at cells.now.presentation.document.nodes serial) }
+        requires one { has_view self.old.views serial ≡ false }
+        ensures { (n : AnyNode) → node_at cells.now.presentation.document.nodes serial ≡ Some n
+            → OnOk result (self.new.views ≡ self.old.views
+            ++ map (view_now cells.now) (elements (n ∷ []))) }
+    {
+        if cells.tree().kind(serial).is_element() {
+            self.push(view_in(cells, serial))
+        } else {
+            Ok(())
+        }
+    }
+
+    // Puts the view of one more element behind all others.
+    fn push(&mut self, view: View) -> Result<(), AllocError>
+        requires { has_view self.old.views view.serial ≡ false }
+        ensures { OnOk result (self.new.views ≡ self.old.views ++ view ∷ []) }
+    {
+        self.rows.push(view)?;
+        if let Err(fault) = self.places.insert(view.serial, self.rows.len() - 1) {
+            self.rows.pop();
+            return Err(fault.into());
+        }
+        Ok(())
+    }
+
+    /// The views, in document order. It takes no memory.
+    pub fn views(&self) -> &[View]
+        ensures { result.now ≡ self.now.views }
+    {
+        &self.rows
+    }
+
+    /// The view of an element; where it is not among them a blank one, idle and without times. It
+    /// takes no memory.
+    pub fn view(&self, serial: u32) -> View
+        ensures { result ≡ view_among self.now.views serial }
+    {
+        match self.places.get(&serial) {
+            Some(place) => self.rows[*place],
+            None => blank(serial),
+        }
+    }
+
+    /// Puts a view in the place of that of the same element, which is noted, and tells whether the
+    /// two differ. Where memory runs out all is as before.
+    pub fn put(&mut self, view: View) -> Result<bool, AllocError>
+        requires { has_view self.old.views view.serial ≡ true }
+        ensures differs { IfOk result (λ different. different ≡ differs self.old.views view) }
+        ensures ok { OnOk result (self.new ≡ with_view self.old view) }
+        ensures err { OnErr result (self.new ≡ self.old) }
+    {
+        let place = *self.places.get(&view.serial).unwrap();
+        if is_same(&view, &self.rows[place]) {
+            return Ok(false);
+        }
+        self.noted.push(self.rows[place])?;
+        self.rows[place] = view;
+        Ok(true)
+    }
+
+    /// Puts back the views that were noted. It takes no memory.
+    pub fn back(&mut self)
+        ensures { self.new ≡ record { views = self.old.before; before = self.old.before } }
+    {
+        while let Some(view) = self.noted.pop() {
+            if let Some(place) = self.places.get(&view.serial) {
+                self.rows[*place] = view;
+            }
+        }
+    }
+
+    /// Lets the noted views go. It takes no memory.
+    pub fn forget(&mut self)
+        ensures { self.new ≡ record { views = self.old.views; before = self.old.views } }
+    {
+        self.noted.clear();
+    }
+}
+
+/// The view of an element at the present moment. No refusal was answered, and all is settled. It
+/// takes no memory.
+pub fn view_in<T: Table>(cells: &Cells<T>, serial: u32) -> View
+    requires sound { cells.now.fault ≡ None }
+    requires state { IsState cells.now.presentation }
+    requires settled { IsSettled cells.now }
+    requires element { (e : AnyNode)
+        × (node_at (elements cells.now.presentation.document.nodes) serial ≡ Some e) }
+    ensures { (e : AnyNode) → node_at (elements cells.now.presentation.document.nodes) serial
+        ≡ Some e → result ≡ view_now cells.now e }
+{
+    intervals_are_near();
+    reached_is_past();
+    let past = cells.past();
+    past.possible();
+    let present = Present {
+        past,
+        who: serial,
+        moment: cells.moment(),
+    };
+    view_of(&present, cells.interval(serial))
+}
+
+// The view of an element of which nothing is known.
+fn blank(serial: u32) -> View
+    ensures { result ≡ blank serial }
+{
+    View {
+        serial,
+        state: State::Idle,
+        begin: Shown::Nothing,
+        end: Shown::Nothing,
+        iteration: 0,
+        finished: 0,
+    }
+}
