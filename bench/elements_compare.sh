@@ -13,7 +13,7 @@ cat > "$program/src/main.rt" <<'RT'
 
 use smil_due::comes_before;
 use smil_element::{
-    Change, Coming, Comings, Container, Containers, Evaluated, Intervals, Parts, Present, Room,
+    Change, Coming, Comings, Container, Containers, Evaluation, Intervals, Parts, Present, Room,
     comings_of, evaluation_of, facts_of, group_of, view_of, walked_duration,
 };
 use smil_model::{
@@ -376,7 +376,7 @@ fn tell_element<W: Write, L: Ledger>(
         who,
         moment: now,
     };
-    let made: Evaluated = evaluation_of(&present, &case.given, &mut case.room, steps)?;
+    let made: Evaluation = evaluation_of(&present, &case.given, &mut case.room, steps)?;
     let facts = facts_of(&present, made.simple);
     let comings = comings_of(&present, place, &made);
     let view = view_of(&present, made.interval);

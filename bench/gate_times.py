@@ -1,9 +1,11 @@
 #!/usr/bin/env python3
 """gate_times.py PID CRATES: watches the processes below PID until it ends, and prints a table of the processor time that
 the prover took for each crate's proof, its tests, the check that its edits begin with, and its edits, with how many these
-were and the longest; and the longest chain of the crates in the file CRATES.
+were and the longest; the longest edits by name; and the longest chain of the crates in the file CRATES.
 
-A process is looked at once a second, so what ran shorter is counted in part. Linux alone: it reads /proc."""
+Where a kit has no check of its own before a crate's edits, the first edit's check is counted as it, and the last one, of the
+crate without an edit, among the edits. A process is looked at once a second, so what ran shorter is counted in part.
+Linux alone: it reads /proc."""
 import os
 import sys
 import time
@@ -23,7 +25,7 @@ def stat(pid):
 
 
 def part_of(pid):
-    """(crate, part) of a prover's process, or None."""
+    """(crate, part, what it is) of a prover's process, or None."""
     try:
         with open('/proc/%s/cmdline' % pid) as file:
             words = file.read().split('\0')
@@ -35,8 +37,41 @@ def part_of(pid):
     crate = words[words.index('--crate-name') + 1]
     if 'rt-edit-' in folder:
         over = words[words.index('--incremental') + 1] if '--incremental' in words else ''
-        return crate, 'first check' if over.endswith('/seed') else 'edits'
-    return crate, 'tests' if '--test' in words else 'proof'
+        return crate, 'first check' if over.endswith('/seed') else 'edits', edit_in(folder, crate)
+    return crate, 'tests' if '--test' in words else 'proof', ''
+
+
+def read(path):
+    """The text of a file, empty where there is none."""
+    try:
+        with open(path, encoding='utf-8') as file:
+            return file.read()
+    except OSError:
+        return ''
+
+
+def edited(crate, edit):
+    """The texts of the files that an edit of a crate changes."""
+    texts, path, old = {}, '', ''
+    for line in read(os.path.join('crates', crate, 'must-fail', edit)).split('\n'):
+        if line.startswith('file: '):
+            path = line[6:].strip()
+            texts.setdefault(path, read(os.path.join('crates', crate, path)))
+        elif line.startswith('old: '):
+            old = line[5:]
+        elif line.startswith('new:'):
+            texts[path] = texts[path].replace(old, line[4:].removeprefix(' '))
+    return texts
+
+
+def edit_in(folder, crate):
+    """The name of the edit that a copy of a crate has; empty where it has none."""
+    edits = os.path.join('crates', crate, 'must-fail')
+    for edit in sorted(os.listdir(edits)) if os.path.isdir(edits) else []:
+        texts = edited(crate, edit)
+        if texts and all(read(os.path.join(folder, path)) == text for path, text in texts.items()):
+            return edit.removesuffix('.edit')
+    return ''
 
 
 def below(root, parents):
@@ -49,22 +84,31 @@ def below(root, parents):
 
 
 def watch(root):
-    """Processor seconds of each process of each (crate, part), and how long there were any by the clock."""
-    spent, seen = {}, {}
+    """Processor seconds of each process of each (crate, part), each with the edit that it tried; and how long there were
+    any of that part by the clock."""
+    spent, seen, tried = {}, {}, set()
     while stat(root):
         stats = {int(p): stat(p) for p in os.listdir('/proc') if p.isdigit()}
         parents = {p: s[0] for p, s in stats.items() if s}
         for pid in below(root, parents):
-            part = part_of(pid)
-            if part and stats.get(pid):
-                spent[(pid, stats[pid][2])] = part, stats[pid][1]
-                seen.setdefault(part, [time.time(), 0])[1] = time.time()
+            if not stats.get(pid):
+                continue
+            key = pid, stats[pid][2]
+            part = spent[key][0] if key in spent else part_of(pid)
+            if not part:
+                continue
+            if key not in spent and part[1] != 'proof' and part[1] != 'tests':
+                is_first = part[0] not in tried
+                tried.add(part[0])
+                part = (part[0], 'first check', part[2]) if is_first else part
+            spent[key] = part, stats[pid][1]
+            seen.setdefault(part[:2], [time.time(), 0])[1] = time.time()
         if is_over(root):
             break
         time.sleep(1)
     each = {}
     for part, seconds in spent.values():
-        each.setdefault(part, []).append(seconds)
+        each.setdefault(part[:2], []).append((seconds, part[2]))
     return each, {part: last - first for part, (first, last) in seen.items()}
 
 
@@ -92,7 +136,7 @@ def longest(crates, clock):
 
 def all_of(each, part):
     """Processor seconds of a part of all crates."""
-    return sum(sum(seconds) for (_, its_part), seconds in each.items() if its_part == part)
+    return sum(seconds for (_, its_part), runs in each.items() if its_part == part for seconds, _ in runs)
 
 
 def main():
@@ -107,10 +151,13 @@ def main():
             crates[name.split()[0]] = deps.split()
     print('| Crate | Proof | Tests | First check | Edits | Tried | Longest |\n|---|---|---|---|---|---|---|')
     for name in crates:
-        edits = each.get((name, 'edits'), [])
-        sums = ['%.0f' % sum(each.get((name, part), [])) for part in PARTS]
+        edits = [seconds for seconds, _ in each.get((name, 'edits'), [])]
+        sums = ['%.0f' % sum(seconds for seconds, _ in each.get((name, part), [])) for part in PARTS]
         print('| %s | %s | %d | %.0f |' % (name, ' | '.join(sums), len(edits), max(edits, default=0)))
     print('| all | %s | | |' % ' | '.join('%.0f' % all_of(each, part) for part in PARTS))
+    runs = [(seconds, name, edit) for (name, part), runs in each.items() if part == 'edits' for seconds, edit in runs]
+    print('\nlongest edits: ' + ', '.join('%s/%s %.0f' % (name, edit or 'none', seconds)
+                                         for seconds, name, edit in sorted(runs, reverse=True)[:20]))
     seconds, chain = longest(crates, clock)
     print('\nprocessor seconds; %.0f minutes by the clock; longest chain %.0f s by the clock: %s'
           % ((time.time() - start) / 60, seconds, ', '.join(chain)))
