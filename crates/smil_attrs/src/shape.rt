@@ -37,9 +37,9 @@ pub struct Attributes<'a> {
 
 impl<'a> Model for Attributes<'a> {
     ghost use Rattle.std.specs.Prelude.{◌<◌, ◌+◌, ◌^◌, length};
-    ghost use Rattle.smil_attrs.specs.Remainder.{Remainder};
+    ghost use Rattle.smil_grammar.specs.Positions.{Piece};
 
-    ghost Value = { Remainder };
+    ghost Value = { Piece };
 
     ghost view = { λ a. record { text = a.text.now; place = a.place } };
 

@@ -13,33 +13,29 @@ use Rattle.smil_model.specs.document.Words.{underscore, number_sign, is_key, is_
 use Rattle.smil_grammar.specs.declared.read.Read.{Read}
 use Rattle.smil_grammar.specs.declared.read.Read.TheVariants.{Blank, Load, Close, To}
 use Rattle.smil_grammar.specs.Texts.{◌>>=◌, is_white, cut_at, behind, quote}
+use Rattle.smil_grammar.specs.Positions.{Piece}
 use Rattle.smil_grammar.specs.Words.{word_len, name_len}
 use Rattle.smil_grammar.specs.Clock.{clock_within}
 use Rattle.smil_grammar.specs.Items.{count_of}
 use Rattle.smil_grammar.specs.Values.{id_of, short_number_of}
 use Rattle.smil_grammar.specs.Nodes.{is_space, is_no_space}
 
--- a word of a line and its place
-pub record Word : Type 0 where
-  pub text : List ℕ
-  pub place : ℕ
-
 -- the line from its next word on, and its place
-abbrev pub skipped : Word → Word
+abbrev pub skipped : Piece → Piece
 skipped line = record {
   text = drop (prefix_len is_space line.text) line.text;
   place = line.place + prefix_len is_space line.text;
 }
 
 -- the first word of a line, and what stands behind it
-abbrev pub first_of : Word → Word × Word
+abbrev pub first_of : Piece → Piece × Piece
 first_of line =
-    let from : Word = skipped line in
+    let from : Piece = skipped line in
     let n : ℕ = prefix_len is_no_space from.text in
     (record { text = take n from.text; place = from.place }, record { text = drop n from.text; place = from.place + n })
 
 -- nothing but spaces
-abbrev pub is_ended : Word → Bool
+abbrev pub is_ended : Piece → Bool
 is_ended line = list_all is_space line.text
 
 -- a presentation's name: a letter, then letters, digits, `_` and `-`, at most so many bytes, and neither `load`
@@ -72,10 +68,10 @@ event_of text =
 -- A reading gives an order, and a clock value that is its last word is looked at after all else.
 pub data Reading : Type 0 where
   given : Order → Reading
-  timed : Word → (ℤ → Order) → Reading
+  timed : Piece → (ℤ → Order) → Reading
 
 -- a clock value that has no reading is at fault at its first byte
-abbrev pub end_timed : Word → (ℤ → Order) → Option ℤ → Result Order Refusal
+abbrev pub end_timed : Piece → (ℤ → Order) → Option ℤ → Result Order Refusal
 end_timed word order (Some n) = Ok (order n)
 end_timed word order None = Err (BadValue (word.place + 1))
 
@@ -86,25 +82,25 @@ finish (Some (given order)) = Ok order
 finish (Some (timed word order)) = end_timed word order (option_map pos (clock_within word.text))
 
 -- only where the line ends here
-abbrev pub at_end : {A : Type 0} → Word → A → Option A
+abbrev pub at_end : {A : Type 0} → Piece → A → Option A
 at_end rest x = if is_ended rest then Some x else None
 
 -- one word, the clock value, to the end
-abbrev pub with_clock : (ℤ → Order) → Word → Option Reading
+abbrev pub with_clock : (ℤ → Order) → Piece → Option Reading
 with_clock order line =
-    let cut : Word × Word = first_of line in
+    let cut : Piece × Piece = first_of line in
     if length cut.0.text == 0 then None else at_end cut.1 (timed cut.0 order)
 
 -- a word that names an element, and what goes on behind it
-abbrev pub with_who : (Who → Word → Option Reading) → Word → Option Reading
+abbrev pub with_who : (Who → Piece → Option Reading) → Piece → Option Reading
 with_who goes_on line =
-    let cut : Word × Word = first_of line in
+    let cut : Piece × Piece = first_of line in
     who_of cut.0.text >>= λ who. goes_on who cut.1
 
 -- `event`: the event's name
-abbrev pub event_line : Who → Word → Option Reading
+abbrev pub event_line : Who → Piece → Option Reading
 event_line who line =
-    let cut : Word × Word = first_of line in
+    let cut : Piece × Piece = first_of line in
     event_of cut.0.text >>= λ name. at_end cut.1 (given (order.Event who name))
 
 -- an attribute's name: any word without a quote
@@ -115,32 +111,32 @@ attribute_of text =
     else None
 
 -- `unset`: the attribute's name
-abbrev pub unset_line : Who → Word → Option Reading
+abbrev pub unset_line : Who → Piece → Option Reading
 unset_line who line =
-    let cut : Word × Word = first_of line in
+    let cut : Piece × Piece = first_of line in
     attribute_of cut.0.text >>= λ name. at_end cut.1 (given (order.Unset who name (cut.0.place + 1)))
 
 -- a value between quotes, and nothing but spaces behind it
-abbrev pub quoted : Word → Option (List ℕ × Word)
+abbrev pub quoted : Piece → Option (List ℕ × Piece)
 quoted line =
-    let from : Word = skipped line in
+    let from : Piece = skipped line in
     behind quote from.text >>= λ inner. cut_at quote inner >>= λ cut.
     if nat_lt line.place from.place && list_all is_space cut.1
     then Some (cut.0, record { text = cut.0; place = from.place + 1 })
     else None
 
 -- `set`: the attribute's name and the value between quotes
-abbrev pub set_line : Who → Word → Option Reading
+abbrev pub set_line : Who → Piece → Option Reading
 set_line who line =
-    let cut : Word × Word = first_of line in
+    let cut : Piece × Piece = first_of line in
     attribute_of cut.0.text >>= λ name. quoted cut.1 >>= λ value.
     Some (given (order.Set who name value.0 (cut.0.place + 1) (value.1.place + 1)))
 
 -- `insert`: a place of 1 to 9 digits, and the node line to the end of the line
-abbrev pub insert_line : Who → Word → Option Reading
+abbrev pub insert_line : Who → Piece → Option Reading
 insert_line who line =
-    let cut : Word × Word = first_of line in
-    let node : Word = skipped cut.1 in
+    let cut : Piece × Piece = first_of line in
+    let node : Piece = skipped cut.1 in
     short_number_of cut.0.text >>= λ place.
     if length node.text == 0 then None
     else Some (given (order.Insert who place node.text (node.place + 1)))
@@ -150,19 +146,19 @@ abbrev pub key_in : List ℕ → Option ℕ
 key_in (b ∷ []) = if is_key b then Some b else None
 key_in _ = None
 
-abbrev pub key_line : Word → Option Reading
+abbrev pub key_line : Piece → Option Reading
 key_line line =
-    let cut : Word × Word = first_of line in
+    let cut : Piece × Piece = first_of line in
     key_in cut.0.text >>= λ key. at_end cut.1 (given (order.Key key))
 
 -- `stack`: the attribute's name
-abbrev pub stack_line : Who → Word → Option Reading
+abbrev pub stack_line : Who → Piece → Option Reading
 stack_line who line =
-    let cut : Word × Word = first_of line in
+    let cut : Piece × Piece = first_of line in
     attribute_of cut.0.text >>= λ name. at_end cut.1 (given (order.Stack who name))
 
 -- the order behind a presentation's name, by its first word
-abbrev pub order_line : List ℕ → Word → Option Reading
+abbrev pub order_line : List ℕ → Piece → Option Reading
 order_line verb line =
     if bytes_eq verb (codes "advance") then with_clock order.Advance line
     else (if bytes_eq verb (codes "seek") then with_clock order.Seek line
@@ -193,18 +189,18 @@ to name (Ok order) = Ok (To name order)
 to name (Err refusal) = Err refusal
 
 -- `load` or `close` and a name
-abbrev pub named : (List ℕ → Read) → Word → Option Read
+abbrev pub named : (List ℕ → Read) → Piece → Option Read
 named read line =
-    let cut : Word × Word = first_of line in
+    let cut : Piece × Piece = first_of line in
     if is_title cut.0.text then at_end cut.1 (read cut.0.text) else None
 
 -- a line by its first word
-abbrev pub command : Word × Word → Result Read Refusal
+abbrev pub command : Piece × Piece → Result Read Refusal
 command cut =
     if bytes_eq cut.0.text (codes "load") then or_refused (named Load cut.1)
     else (if bytes_eq cut.0.text (codes "close") then or_refused (named Close cut.1)
     else (if is_title cut.0.text
-    then (let verb : Word × Word = first_of cut.1 in to cut.0.text (finish (order_line verb.0.text verb.1)))
+    then (let verb : Piece × Piece = first_of cut.1 in to cut.0.text (finish (order_line verb.0.text verb.1)))
     else Err NotACommand))
 
 -- a line that has no answer: white space alone, or one whose first byte is `#`

@@ -4,7 +4,8 @@ use Rattle.smil_model.specs.declared.order.Refusal.{Refusal}
 use Rattle.smil_model.specs.declared.order.Refusal.TheVariants as refusal
 use Rattle.smil_model.specs.shown.Answers.{IsGiven}
 use Rattle.smil_model.specs.declared.order.Who.{Who}
-use Rattle.smil_grammar.specs.Scripts.{Word, first_of, who_of}
+use Rattle.smil_grammar.specs.Positions.{Piece}
+use Rattle.smil_grammar.specs.Scripts.{first_of, who_of}
 use Rattle.smil_grammar.specs.declared.read.Read.{Read}
 use Rattle.smil_grammar.specs.declared.read.Read.TheVariants.{To}
 
@@ -14,7 +15,7 @@ HoldsGiven (To name order) = IsGiven order
 HoldsGiven _ = Unit {0}
 
 -- the element that the first word of a line names, and what stands behind it
-abbrev pub GivesWho : Result (Who × Word) Refusal → Word → Type 0
+abbrev pub GivesWho : Result (Who × Piece) Refusal → Piece → Type 0
 GivesWho (Ok named) line = (who_of (first_of line).0.text ≡ Some named.0) × (named.1 ≡ (first_of line).1)
 GivesWho (Err refusal.Memory) line = Unit {0}
 GivesWho (Err given) line = (who_of (first_of line).0.text ≡ None) × (given ≡ refusal.NotACommand)

@@ -4,7 +4,8 @@ ghost use Rattle.std.specs.Prelude.{◌≡◌, IsTrue, IfOk, Ok};
 ghost use Rattle.std.specs.List.{list_all};
 ghost use Rattle.smil_model.specs.shown.Answers.{IsText};
 ghost use Rattle.smil_grammar.specs.Texts.{is_white as is_white_byte};
-ghost use Rattle.smil_grammar.specs.Scripts.{Word as WordText, line_of, is_blank as is_blank_line, to as to_name, finish, order_line, command as command_line, first_of, named, or_refused, opens_load as opens_load_line};
+ghost use Rattle.smil_grammar.specs.Positions.{Piece};
+ghost use Rattle.smil_grammar.specs.Scripts.{line_of, is_blank as is_blank_line, to as to_name, finish, order_line, command as command_line, first_of, named, or_refused, opens_load as opens_load_line};
 ghost use Rattle.smil_grammar.specs.declared.read.Read.TheVariants.{Blank, Load, Close};
 ghost use Rattle.smil_grammar.specs.Gives.{GivesReading};
 ghost use Rattle.smil_script.specs.Gives.{HoldsGiven, with_name};
@@ -49,7 +50,7 @@ fn title(alloc: Global, line: &Word<'_>) -> Result<Bytes, Refusal>
 // The order to a presentation, behind its name.
 fn to(alloc: Global, name: &[u8], line: &Word<'_>) -> Result<Read, Refusal>
     ensures reading { GivesReading result
-        (let verb : WordText × WordText = first_of line.now in to_name name.now
+        (let verb : Piece × Piece = first_of line.now in to_name name.now
         (finish (order_line verb.0.text verb.1))) }
     ensures given { IfOk result HoldsGiven }
 {

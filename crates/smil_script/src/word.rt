@@ -16,9 +16,9 @@ pub struct Word<'a> {
 impl<'a> Model for Word<'a> {
     ghost use Rattle.std.specs.Prelude.{◌<◌, ◌+◌, length};
     ghost use Rattle.smil_model.specs.declared.limits.TheConstants.{TEXT_BYTES};
-    ghost use Rattle.smil_grammar.specs.Scripts.{Word as WordText};
+    ghost use Rattle.smil_grammar.specs.Positions.{Piece};
 
-    ghost Value = { WordText };
+    ghost Value = { Piece };
 
     ghost view = { λ word. record { text = word.text.now; place = word.place } };
 

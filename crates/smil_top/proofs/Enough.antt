@@ -27,7 +27,8 @@ use Rattle.smil_grammar.specs.declared.read.Read.TheVariants.{Blank, Load, Close
 use Rattle.smil_grammar.specs.declared.fault.NodeFault.{NodeFault}
 use Rattle.smil_grammar.specs.declared.fault.NodeFault.TheVariants as fault
 use Rattle.smil_grammar.specs.Results.{◌>>=◌}
-use Rattle.smil_grammar.specs.Scripts.{Word, Reading, given, timed, end_timed, finish, or_refused, to, named, is_title, order_line, command, first_of, line_of}
+use Rattle.smil_grammar.specs.Positions.{Piece}
+use Rattle.smil_grammar.specs.Scripts.{Reading, given, timed, end_timed, finish, or_refused, to, named, is_title, order_line, command, first_of, line_of}
 use Rattle.smil_grammar.specs.Formats.{formats, written_at}
 use Rattle.smil_grammar.specs.Nodes.{Shape, is_space, shape_of, kind_of_shape}
 use Rattle.smil_grammar.specs.Outlines.{Outline, no_lines, unless, is_misplaced, is_bad_serial, has_id, in_line, attrs_in, last_of, node_within, opens_saved, shape_in, with_header, header_of, shape_within, read_within, line_within, ended, with_node}
@@ -134,7 +135,7 @@ line_sure allowed outline line =
 
 -- ---- what a line says
 
-end_sure : (word : Word) (order : ℤ → Order) (o : Option ℤ) → Fine (end_timed word order o)
+end_sure : (word : Piece) (order : ℤ → Order) (o : Option ℤ) → Fine (end_timed word order o)
 end_sure word order (Some n) = made is_memory _
 end_sure word order None = no _ refl
 
@@ -151,9 +152,9 @@ or_sure : (o : Option Read) → Fine (or_refused o)
 or_sure None = no refusal.NotACommand refl
 or_sure (Some read) = made is_memory read
 
-command_sure : (cut : Word × Word) → Fine (command cut)
+command_sure : (cut : Piece × Piece) → Fine (command cut)
 command_sure cut =
-    let verb : Word × Word = first_of cut.1 in
+    let verb : Piece × Piece = first_of cut.1 in
     either is_memory (bytes_eq cut.0.text (codes "load")) _ _ (or_sure (named Load cut.1))
     (either is_memory (bytes_eq cut.0.text (codes "close")) _ _ (or_sure (named Close cut.1))
     (either is_memory (is_title cut.0.text) _ _ (to_sure cut.0.text (finish (order_line verb.0.text verb.1)) (finish_sure (order_line verb.0.text verb.1))) (no refusal.NotACommand refl)))

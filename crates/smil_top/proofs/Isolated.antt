@@ -7,7 +7,8 @@ use Rattle.smil_model.specs.declared.order.Refusal.{Refusal}
 use Rattle.smil_model.specs.declared.order.Refusal.TheVariants.{NotACommand}
 use Rattle.smil_grammar.specs.declared.read.Read.{Read}
 use Rattle.smil_grammar.specs.declared.read.Read.TheVariants.{Blank, Load, Close, To}
-use Rattle.smil_grammar.specs.Scripts.{Word, first_of, is_ended, is_title, is_blank, to, named, or_refused, order_line, finish, command, line_of}
+use Rattle.smil_grammar.specs.Positions.{Piece}
+use Rattle.smil_grammar.specs.Scripts.{first_of, is_ended, is_title, is_blank, to, named, or_refused, order_line, finish, command, line_of}
 use Rattle.smil_live.proofs.AgreedReferences.{bytes_same}
 use Rattle.smil_top.specs.Cut.{OrderLines, single, load}
 use Rattle.smil_top.specs.Laws.{first_word, closes, loads, is_of}
@@ -24,16 +25,16 @@ made true true x read e = cc
 made true false x read e = absurd cc
 made false b x read e = absurd cc
 
-named_made : (kind : List ℕ → Read) (rest : Word) (read : Read) → or_refused (named kind rest) ≡ Ok read → kind (first_of rest).0.text ≡ read
+named_made : (kind : List ℕ → Read) (rest : Piece) (read : Read) → or_refused (named kind rest) ≡ Ok read → kind (first_of rest).0.text ≡ read
 named_made kind rest read e = made (is_title (first_of rest).0.text) (is_ended (first_of rest).1) (kind (first_of rest).0.text) read e
 
 said_to : (word : List ℕ) (r : Result Order Refusal) (read : Read) → to word r ≡ Ok read → Said word read
 said_to word (Ok order) read e = let is : To word order ≡ read = cc in subst (Said word) is refl
 said_to word (Err refusal) read e = absurd cc
 
-said_by : (cut : Word × Word) (a b c : Bool) (read : Read) → bytes_eq cut.0.text (codes "close") ≡ b
+said_by : (cut : Piece × Piece) (a b c : Bool) (read : Read) → bytes_eq cut.0.text (codes "close") ≡ b
     → (if a then or_refused (named Load cut.1) else (if b then or_refused (named Close cut.1)
-    else (if c then (let verb : Word × Word = first_of cut.1 in to cut.0.text (finish (order_line verb.0.text verb.1))) else Err NotACommand))) ≡ Ok read
+    else (if c then (let verb : Piece × Piece = first_of cut.1 in to cut.0.text (finish (order_line verb.0.text verb.1))) else Err NotACommand))) ≡ Ok read
     → Said cut.0.text read
 said_by cut true b c read t e = subst (Said cut.0.text) (named_made Load cut.1 read e) tt
 said_by cut false true c read t e = subst (Said cut.0.text) (named_made Close cut.1 read e) (bytes_same cut.0.text (codes "close") t)
@@ -43,7 +44,7 @@ said_by cut false false false read t e = absurd cc
 said_line : (text : List ℕ) (b : Bool) (read : Read) → (if b then Ok Blank else command (first_of (record { text = text; place = 0 }))) ≡ Ok read → Said (first_word text) read
 said_line text true read e = let is : Blank ≡ read = cc in subst (Said (first_word text)) is tt
 said_line text false read e =
-    let cut : Word × Word = first_of (record { text = text; place = 0 }) in
+    let cut : Piece × Piece = first_of (record { text = text; place = 0 }) in
     said_by cut (bytes_eq cut.0.text (codes "load")) (bytes_eq cut.0.text (codes "close")) (is_title cut.0.text) read refl e
 
 pub said : (text : List ℕ) (read : Read) → line_of text ≡ Ok read → Said (first_word text) read

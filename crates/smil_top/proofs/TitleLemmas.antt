@@ -11,7 +11,8 @@ use Rattle.smil_model.specs.document.Words.{is_of_attribute}
 use Rattle.smil_grammar.specs.declared.read.Read.{Read}
 use Rattle.smil_grammar.specs.declared.read.Read.TheVariants.{Blank, Load, Close}
 use Rattle.smil_grammar.specs.Words.{word_len}
-use Rattle.smil_grammar.specs.Scripts.{Word, first_of, is_ended, at_end, named, or_refused, to, finish, order_line, command, is_blank, is_title, line_of}
+use Rattle.smil_grammar.specs.Positions.{Piece}
+use Rattle.smil_grammar.specs.Scripts.{first_of, is_ended, at_end, named, or_refused, to, finish, order_line, command, is_blank, is_title, line_of}
 use Rattle.smil_top.specs.Running.{HoldsTitle}
 
 abbrev pub OkTitle : Result Read Refusal → Type 0
@@ -41,7 +42,7 @@ title-short (b ∷ bytes) h =
     let lt = ltb-true (length bytes) NAME_BYTES (all-of-four (not (b == 95)) (word_len is_of_attribute (b ∷ bytes) == length (b ∷ bytes)) (nat_lt (length bytes) NAME_BYTES) (not (list_any (bytes_eq (b ∷ bytes)) (codes "load" ∷ codes "close" ∷ []))) h) in
     omega (arith, lt)
 
-named-short : (read : List ℕ → Read) (line : Word) → ((name : List ℕ) → length name ≤ NAME_BYTES → HoldsTitle (read name)) → SomeTitle (named read line)
+named-short : (read : List ℕ → Read) (line : Piece) → ((name : List ℕ) → length name ≤ NAME_BYTES → HoldsTitle (read name)) → SomeTitle (named read line)
 named-short read line holds =
     by-if SomeTitle (is_title (first_of line).0.text) (at_end (first_of line).1 (read (first_of line).0.text)) None
     (λ is. by-if SomeTitle (is_ended (first_of line).1) (Some (read (first_of line).0.text)) None (λ ended. holds (first_of line).0.text (title-short (first_of line).0.text is)) tt)
@@ -55,7 +56,7 @@ to-short : (name : List ℕ) (order : Result Order Refusal) → length name ≤ 
 to-short name (Ok order) h = h
 to-short name (Err refusal) h = tt
 
-command-short : (cut : Word × Word) → OkTitle (command cut)
+command-short : (cut : Piece × Piece) → OkTitle (command cut)
 command-short cut =
     by-if OkTitle (bytes_eq cut.0.text (codes "load")) (or_refused (named Load cut.1)) _ (λ is. or_refused-short (named Load cut.1) (named-short Load cut.1 (λ name h. h)))
     (by-if OkTitle (bytes_eq cut.0.text (codes "close")) (or_refused (named Close cut.1)) _ (λ is. or_refused-short (named Close cut.1) (named-short Close cut.1 (λ name h. h)))
