@@ -56,7 +56,7 @@ mixes nodes (Some parent) kind =
     (λ (n : Node). (n.parent == parent.0) && not (same_test (is_class_kind n.kind) (is_class_kind kind)))
     nodes
 
--- a node that has this id already
+-- whether a node has this id already, where no id is the empty one
 abbrev pub has_id : List Node → Option (List ℕ) → Bool
 has_id nodes None = false
 has_id nodes (Some id) = list_any (λ (n : Node). bytes_eq (unwrap_or n.attrs.id []) id) nodes
