@@ -44,7 +44,8 @@ use Rattle.smil_grammar.specs.Allowed.{IsAttr, IsAttrs}
 use Rattle.smil_lexis.proofs.Fronts.{tested, passes_all, passes_weaker}
 use Rattle.smil_lexis.proofs.Trims.{is_inked, untrimmed}
 use Rattle.smil_lexis.proofs.Words.{IsWord, all_of_id}
-use Rattle.smil_time_list.proofs.Printable.{IsEventName, IsWho, Printable, IsWithin}
+use Rattle.smil_model.specs.Times.{IsNear}
+use Rattle.smil_time_list.proofs.Printable.{IsEventName, IsWho, Printable, near}
 use Rattle.smil_time_list.proofs.Spelled.{item_read, clock_read}
 use Rattle.smil_time_list.proofs.Listed.{list_read}
 use Rattle.smil_attrs.proofs.Clocks.{trimmed, no_keyword, dur_read, time_read, repeat_read}
@@ -87,9 +88,9 @@ event_name text h =
 
 -- lists
 
-within : (offset : ℤ) → is_offset offset ≡ true → IsWithin offset
-within (pos n) h = let parts = and_parts true (leb n 1_000_000_000_000) h in leb-true _ _ parts.1
-within (negsuc n) h = let parts = and_parts (leb n 999_999_999_999) true h in omega (arith, leb-true _ _ parts.0)
+within : (offset : ℤ) → is_offset offset ≡ true → IsNear offset
+within (pos n) h = let parts = and_parts true (leb n 1_000_000_000_000) h in near (pos n) (leb-true _ _ parts.1)
+within (negsuc n) h = let parts = and_parts (leb n 999_999_999_999) true h in near (negsuc n) (omega (arith, leb-true _ _ parts.0))
 
 subject : (who : Option (List ℕ)) → absent_or is_id who ≡ true → IsWho who
 subject None h = tt

@@ -1,5 +1,5 @@
 -- What some text is read as fits the kinds of a node and its parent.
-use Rattle.std.proofs.Common.{◌≡◌, ℕ, ◌+◌, ◌<◌, Bool, true, false, not, cond, eqb, ltb, leb, ◌&&◌, ◌||◌, List, [], ◌∷◌, length, Option, Some, None, option_map, is_some, Result, refl, subst, arith}
+use Rattle.std.proofs.Common.{◌≡◌, ℕ, suc, ◌+◌, ◌<◌, ◌≤◌, Bool, true, false, not, cond, eqb, ltb, leb, ◌&&◌, ◌||◌, List, [], ◌∷◌, length, Option, Some, None, option_map, is_some, Result, refl, subst, arith}
 use Rattle.std.specs.Prelude.{ℤ, pos, negsuc, codes, bytes_eq, IfOk, IfSome, IsTrue}
 use Rattle.std.specs.List.{AllByRecursion, prefix_len, list_all}
 use Rattle.std.proofs.lemmas.Bool.{and_parts, not-true, not_from_true, le-leb, lt-ltb, ltb-false, eqb-true, cond_both}
@@ -36,7 +36,8 @@ use Rattle.smil_grammar.specs.Values.{above_zero, id_of, attribute_name_of, rest
 use Rattle.smil_grammar.specs.Allowed.{name_of, IsAttr, IsAttrs}
 use Rattle.smil_lexis.proofs.Fronts.{tests_pass}
 use Rattle.smil_lexis.proofs.Words.{IsWord}
-use Rattle.smil_time_list.proofs.Printable.{IsEventName, IsWho, Printable, item_printable, clock_small, IsWithin}
+use Rattle.smil_model.specs.Times.{IsNear}
+use Rattle.smil_time_list.proofs.Printable.{IsEventName, IsWho, Printable, item_printable, clock_small, size}
 use Rattle.smil_attrs.proofs.Readings.{IsSmall, IsLength, value, any_value, listed}
 use Rattle.smil_attrs.proofs.Cases.{dur_reads, time_reads, repeat_reads, count_reads, higher_reads, lower_reads, endsync_reads}
 use Rattle.smil_attrs.proofs.Counts.{IsCount}
@@ -85,9 +86,12 @@ attribute_name_ranged text = cond_both (is_attribute_name text) (Some text) None
 
 -- lists
 
-offset_ranged : (offset : ℤ) → IsWithin offset → is_offset offset ≡ true
-offset_ranged (pos n) h = le-leb _ _ h
-offset_ranged (negsuc n) h = let low : leb n 999_999_999_999 ≡ true = le-leb _ _ (omega arith) in rw low refl
+offset_ranged : (offset : ℤ) → IsNear offset → is_offset offset ≡ true
+offset_ranged (pos n) h = le-leb _ _ (size (pos n) h)
+offset_ranged (negsuc n) h =
+    let near : suc n ≤ 1_000_000_000_000 = size (negsuc n) h in
+    let low : leb n 999_999_999_999 ≡ true = le-leb _ _ (omega arith) in
+    rw low refl
 
 who_ranged : (who : Option (List ℕ)) → IsWho who → absent_or is_id who ≡ true
 who_ranged None h = refl

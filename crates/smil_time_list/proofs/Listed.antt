@@ -9,6 +9,7 @@ use Rattle.std.proofs.lemmas.List.{take_all}
 use Rattle.std.proofs.lemmas.List.Elements.{All-from_recursion, recursion_from_All, All-get_or, All-weaker}
 use Rattle.std.proofs.lemmas.List.Splits.{slice_split_none, slice_split_at, length-slice_split}
 use Rattle.std.proofs.lemmas.List.Sums.{suffix_len_is}
+use Rattle.smil_model.specs.Times.{IsNear}
 use Rattle.smil_model.specs.declared.document.Item.{Item}
 use Rattle.smil_model.specs.declared.document.Item.TheVariants.{Offset, Sync, Event, Repeat, Key, Indefinite}
 use Rattle.smil_model.specs.declared.document.Edge.TheVariants.{Begin, End}
@@ -27,7 +28,7 @@ use Rattle.smil_grammar.specs.Spellings.{escaped, of_who, tail_text, item_text, 
 use Rattle.smil_lexis.proofs.Fronts.{Passes, passes_weaker, passes_on}
 use Rattle.smil_lexis.proofs.Decimals.{decimal_passes}
 use Rattle.smil_lexis.proofs.Words.{IsWord, all_of_id}
-use Rattle.smil_time_list.proofs.Printable.{IsWithin, IsWho, Printable, reading_gives, item_printable, can_write}
+use Rattle.smil_time_list.proofs.Printable.{IsWho, Printable, size, reading_gives, item_printable, can_write}
 use Rattle.smil_time_list.proofs.Spelled.{all_of_name, escaped_passes, item_read}
 
 -- a byte of a printed item: one of an access key, or a backslash; so neither white space nor `;`
@@ -53,10 +54,10 @@ number_ink n le = passes_weaker is_ascii_digit is_ink digit_ink (decimal n) (dec
 pub clock_ink : (n : ℕ) → n ≤ 1_000_000_000_000 → Passes is_ink (clock_text n)
 clock_ink n le = passes_on is_ink (decimal n) (codes "ms") (number_ink n le) (refl, (refl, tt))
 
-tail_ink : (offset : ℤ) → IsWithin offset → Passes is_ink (tail_text offset)
+tail_ink : (offset : ℤ) → IsNear offset → Passes is_ink (tail_text offset)
 tail_ink (pos zero) h = tt
-tail_ink (pos (suc n)) h = (refl, clock_ink (suc n) h)
-tail_ink (negsuc n) h = (refl, clock_ink (suc n) h)
+tail_ink (pos (suc n)) h = (refl, clock_ink (suc n) (size (pos (suc n)) h))
+tail_ink (negsuc n) h = (refl, clock_ink (suc n) (size (negsuc n) h))
 
 id_inked : (id text : List ℕ) → IsWord is_of_id id → Passes is_ink text → Passes is_ink (escaped id ++ text)
 id_inked id text h k = passes_on is_ink (escaped id) text (escaped_passes is_ink id_ink refl id (all_of_id id h)) k
@@ -66,8 +67,8 @@ who_inked None text h k = k
 who_inked (Some id) text h k = rw (append_assoc (escaped id) (46 ∷ []) text) (id_inked id (46 ∷ text) h (refl, k))
 
 pub item_ink : (item : Item) → Printable item → Passes is_ink (item_text item)
-item_ink (Offset (pos n)) h = clock_ink n h
-item_ink (Offset (negsuc n)) h = (refl, clock_ink (suc n) h)
+item_ink (Offset (pos n)) h = clock_ink n (size (pos n) h)
+item_ink (Offset (negsuc n)) h = (refl, clock_ink (suc n) (size (negsuc n) h))
 item_ink (Sync who Begin offset) h = id_inked who _ h.0 (refl, (refl, (refl, (refl, (refl, (refl, tail_ink offset h.1))))))
 item_ink (Sync who End offset) h = id_inked who _ h.0 (refl, (refl, (refl, (refl, tail_ink offset h.1))))
 item_ink (Event who name offset) h = who_inked who _ h.0 (passes_on is_ink name _ (passes_weaker is_of_name is_ink name_ink name (all_of_name name h.1.word)) (tail_ink offset h.2))

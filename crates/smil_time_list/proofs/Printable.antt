@@ -1,6 +1,6 @@
 -- What a text can be read as: the items that a list can have.
 use Rattle.std.proofs.Common.{◌≡◌, ℕ, zero, suc, ◌+◌, ◌-◌, ◌*◌, ◌<◌, ◌≤◌, true, false, not, eqb, ltb, ◌||◌, List, [], ◌∷◌, length, take, drop, Option, Some, None, option_map, Result, Ok, Err, subst, arith, length-take}
-use Rattle.std.specs.Prelude.{ℤ, pos, neg_ℤ, nat_abs, codes, bytes_eq, IfOk, IfSome}
+use Rattle.std.specs.Prelude.{ℤ, pos, negsuc, neg_ℤ, nat_abs, codes, bytes_eq, IfOk, IfSome}
 use Rattle.std.specs.Char.{is_ascii_digit}
 use Rattle.std.specs.Option.{ok_or}
 use Rattle.std.proofs.lemmas.Bool.{cond_both, ltb-false, ltb-true, and_parts}
@@ -24,12 +24,12 @@ use Rattle.smil_model.specs.document.Words.{is_key}
 use Rattle.smil_lexis.proofs.Digits.{nine_below}
 use Rattle.smil_lexis.proofs.Words.{IsWord, name_word, id_word}
 
--- an offset is a clock value with a sign
-abbrev pub IsWithin : ℤ → Type 0
-IsWithin offset = nat_abs offset ≤ nat_abs HORIZON
-
-near : (offset : ℤ) → IsWithin offset → IsNear offset
+-- an offset is a clock value with a sign: the horizon bounds its size
+pub near : (offset : ℤ) → nat_abs offset ≤ nat_abs HORIZON → IsNear offset
 near offset h = record { low = omega (arith, ints); high = omega (arith, ints) }
+
+pub size : (offset : ℤ) → IsNear offset → nat_abs offset ≤ nat_abs HORIZON
+size offset h = omega (arith, ints, h.low, h.high)
 
 -- an event's name is none of the words that items have
 pub record IsEventName (name : List ℕ) : Type 0 where
@@ -44,11 +44,11 @@ IsWho None = Unit {0}
 IsWho (Some who) = IsWord is_of_id who
 
 abbrev pub Printable : Item → Type 0
-Printable (Offset offset) = IsWithin offset
-Printable (Sync who edge offset) = (IsWord is_of_id who) × (IsWithin offset)
-Printable (Event who name offset) = (IsWho who) × (IsEventName name) × (IsWithin offset)
-Printable (Repeat who n offset) = (IsWho who) × (0 < n) × (n < 1_000_000_000) × (IsWithin offset)
-Printable (Key key offset) = (is_key key ≡ true) × (IsWithin offset)
+Printable (Offset offset) = IsNear offset
+Printable (Sync who edge offset) = (IsWord is_of_id who) × (IsNear offset)
+Printable (Event who name offset) = (IsWho who) × (IsEventName name) × (IsNear offset)
+Printable (Repeat who n offset) = (IsWho who) × (0 < n) × (n < 1_000_000_000) × (IsNear offset)
+Printable (Key key offset) = (is_key key ≡ true) × (IsNear offset)
 Printable Indefinite = Unit {0}
 
 -- numbers
@@ -60,28 +60,28 @@ small (Some n) = cond_both (ltb 1_000_000_000_000 n) None (Some n) (λ o. IfSome
 pub clock_small : (text : List ℕ) → IfSome (clock_within text) (λ n. n ≤ 1_000_000_000_000)
 clock_small text = small (clock_of text)
 
-signed : (sign : ℕ) (o : Option ℕ) → IfSome o (λ n. n ≤ 1_000_000_000_000) → IfSome (option_map (with_sign sign) o) IsWithin
+signed : (sign : ℕ) (o : Option ℕ) → IfSome o (λ n. n ≤ 1_000_000_000_000) → IfSome (option_map (with_sign sign) o) IsNear
 signed sign None h = tt
-signed sign (Some n) h = cond_both (eqb sign 45) (neg_ℤ (pos n)) (pos n) IsWithin (λ e. negative n h) (λ e. h)
+signed sign (Some n) h = cond_both (eqb sign 45) (neg_ℤ (pos n)) (pos n) IsNear (λ e. negative n h) (λ e. near (pos n) h)
   where
-    negative : (n : ℕ) → n ≤ 1_000_000_000_000 → IsWithin (neg_ℤ (pos n))
-    negative zero h = h
-    negative (suc n) h = h
+    negative : (n : ℕ) → n ≤ 1_000_000_000_000 → IsNear (neg_ℤ (pos n))
+    negative zero h = near (pos zero) h
+    negative (suc n) h = near (negsuc n) h
 
-signed_small : (text : List ℕ) → IfSome (signed_of text) IsWithin
+signed_small : (text : List ℕ) → IfSome (signed_of text) IsNear
 signed_small [] = tt
-signed_small (b ∷ bytes) = cond_both (is_sign b) (option_map (with_sign b) (clock_within (trim_front bytes))) None (λ o. IfSome o IsWithin) (λ e. signed b (clock_within (trim_front bytes)) (clock_small (trim_front bytes))) (λ e. tt)
+signed_small (b ∷ bytes) = cond_both (is_sign b) (option_map (with_sign b) (clock_within (trim_front bytes))) None (λ o. IfSome o IsNear) (λ e. signed b (clock_within (trim_front bytes)) (clock_small (trim_front bytes))) (λ e. tt)
 
-unsigned : (o : Option ℕ) → IfSome o (λ n. n ≤ 1_000_000_000_000) → IfSome (option_map pos o) IsWithin
+unsigned : (o : Option ℕ) → IfSome o (λ n. n ≤ 1_000_000_000_000) → IfSome (option_map pos o) IsNear
 unsigned None h = tt
-unsigned (Some n) h = h
+unsigned (Some n) h = near (pos n) h
 
-offset_small : (text : List ℕ) → IfSome (offset_of text) IsWithin
+offset_small : (text : List ℕ) → IfSome (offset_of text) IsNear
 offset_small [] = tt
-offset_small (b ∷ bytes) = cond_both (is_sign b) (signed_of (b ∷ bytes)) (option_map pos (clock_within (b ∷ bytes))) (λ o. IfSome o IsWithin) (λ e. signed_small (b ∷ bytes)) (λ e. unsigned (clock_within (b ∷ bytes)) (clock_small (b ∷ bytes)))
+offset_small (b ∷ bytes) = cond_both (is_sign b) (signed_of (b ∷ bytes)) (option_map pos (clock_within (b ∷ bytes))) (λ o. IfSome o IsNear) (λ e. signed_small (b ∷ bytes)) (λ e. unsigned (clock_within (b ∷ bytes)) (clock_small (b ∷ bytes)))
 
-tail_small : (text : List ℕ) → IfSome (tail_of text) IsWithin
-tail_small [] = omega arith
+tail_small : (text : List ℕ) → IfSome (tail_of text) IsNear
+tail_small [] = near (pos 0) (omega arith)
 tail_small (b ∷ bytes) = signed_small (trim_front (b ∷ bytes))
 
 -- counts
@@ -128,10 +128,10 @@ Reads o = IfSome o Printable
 abbrev Gives : Result Item ItemFault → Type 0
 Gives r = IfOk r Printable
 
-with_tail_reads : (item : ℤ → Item) → ((offset : ℤ) → IsWithin offset → Printable (item offset)) → (tail : List ℕ) → Reads (with_tail item tail)
+with_tail_reads : (item : ℤ → Item) → ((offset : ℤ) → IsNear offset → Printable (item offset)) → (tail : List ℕ) → Reads (with_tail item tail)
 with_tail_reads item each tail = reads (tail_of tail) (tail_small tail)
   where
-    reads : (o : Option ℤ) → IfSome o IsWithin → Reads (option_map item o)
+    reads : (o : Option ℤ) → IfSome o IsNear → Reads (option_map item o)
     reads None h = tt
     reads (Some offset) h = each offset h
 
@@ -193,7 +193,7 @@ named_gives text =
     cond_both (bytes_eq text (codes "indefinite")) (Ok Indefinite) _ Gives (λ e. tt) (λ e.
     cond_both (eqb (id_len true text) 0) (Err Bad) _ Gives (λ e. tt) (λ some. subject_gives text (behind point (drop (id_len true text) text)) some))))
 
-offset_gives : (o : Option ℤ) → IfSome o IsWithin → Gives (ok_or (option_map Offset o) Bad)
+offset_gives : (o : Option ℤ) → IfSome o IsNear → Gives (ok_or (option_map Offset o) Bad)
 offset_gives None h = tt
 offset_gives (Some offset) h = h
 
@@ -205,9 +205,9 @@ pub item_printable : (item : Item) → IsItem item → Printable item
 item_printable item h = subst Gives h.1 (reading_gives h.0)
 
 pub can_write : (item : Item) → Printable item → CanWrite item
-can_write (Offset offset) h = near offset h
-can_write (Sync who edge offset) h = near offset h.1
-can_write (Event who name offset) h = near offset h.2
-can_write (Repeat who n offset) h = near offset h.3
-can_write (Key key offset) h = near offset h.1
+can_write (Offset offset) h = h
+can_write (Sync who edge offset) h = h.1
+can_write (Event who name offset) h = h.2
+can_write (Repeat who n offset) h = h.3
+can_write (Key key offset) h = h.1
 can_write Indefinite h = tt

@@ -9,6 +9,7 @@ use Rattle.std.proofs.lemmas.Bool.{le-ltb, ne_eqb, and_parts, and_left, and_righ
 use Rattle.std.proofs.lemmas.Bool.Decides.{nat_tests}
 use Rattle.std.proofs.lemmas.List.{append-nil, take_at, drop_at}
 use Rattle.std.proofs.lemmas.Fmt.{first_decimal, length-decimal-le, decimal_nonempty}
+use Rattle.smil_model.specs.Times.{IsNear}
 use Rattle.smil_model.specs.declared.document.Item.{Item}
 use Rattle.smil_model.specs.declared.document.Item.TheVariants.{Offset, Sync, Event, Repeat, Key, Indefinite}
 use Rattle.smil_model.specs.declared.document.Edge.{Edge}
@@ -23,7 +24,7 @@ use Rattle.smil_lexis.proofs.Fronts.{Passes, passes_weaker, cut_front}
 use Rattle.smil_lexis.proofs.Decimals.{decimal_passes, number_of_decimal}
 use Rattle.smil_lexis.proofs.Words.{IsWord, initial_no_dash, name_len_of, id_len_of, read_again, all_of_id}
 use Rattle.smil_clock_value.proofs.Again.{written}
-use Rattle.smil_time_list.proofs.Printable.{IsEventName, Printable, IsWithin}
+use Rattle.smil_time_list.proofs.Printable.{IsEventName, Printable, size}
 
 -- clock values with a sign
 
@@ -49,18 +50,20 @@ plus_read n le = rw (clock_untrimmed n le, clock_read n le) refl
 minus_read : (n : ℕ) → n ≤ 1_000_000_000_000 → signed_of (45 ∷ clock_text n) ≡ Some (neg_ℤ (pos n))
 minus_read n le = rw (clock_untrimmed n le, clock_read n le) refl
 
-tail_read : (offset : ℤ) → IsWithin offset → tail_of (tail_text offset) ≡ Some offset
+tail_read : (offset : ℤ) → IsNear offset → tail_of (tail_text offset) ≡ Some offset
 tail_read (pos zero) h = refl
-tail_read (pos (suc n)) h = plus_read (suc n) h
-tail_read (negsuc n) h = minus_read (suc n) h
+tail_read (pos (suc n)) h = plus_read (suc n) (size (pos (suc n)) h)
+tail_read (negsuc n) h = minus_read (suc n) (size (negsuc n) h)
 
 plain_item : (digits tail : List ℕ) (n : ℕ) → 0 < length digits → Passes is_ascii_digit digits → clock_within (digits ++ tail) ≡ Some n → item_of (digits ++ tail) ≡ Ok (Offset (pos n))
 plain_item [] tail n some h e = absurd (omega arith)
 plain_item (b ∷ digits) tail n some h e = rw (h.0, digit_no_sign b h.0, e) refl
 
-offset_read : (offset : ℤ) → IsWithin offset → item_of (offset_text offset) ≡ Ok (Offset offset)
-offset_read (pos n) h = plain_item (decimal n) (codes "ms") n (decimal_nonempty n (omega arith)) (decimal_passes n (omega arith)) (clock_read n h)
-offset_read (negsuc n) h = rw (minus_read (suc n) h) refl
+offset_read : (offset : ℤ) → IsNear offset → item_of (offset_text offset) ≡ Ok (Offset offset)
+offset_read (pos n) h =
+    let le : n ≤ 1_000_000_000_000 = size (pos n) h in
+    plain_item (decimal n) (codes "ms") n (decimal_nonempty n (omega arith)) (decimal_passes n (omega arith)) (clock_read n le)
+offset_read (negsuc n) h = rw (minus_read (suc n) (size (negsuc n) h)) refl
 
 -- what stands behind a word
 
@@ -184,10 +187,10 @@ or_bad {o} {item} e = ap (λ (o : Option Item). ok_or o Bad) e
 what_at : (who : Option (List ℕ)) (name tail : List ℕ) → IsWord is_of_name name → prefix_len is_of_name tail ≡ 0 → what_of who (name ++ tail) ≡ word_of who name tail
 what_at who name tail h stop = rw (name_len_of name tail h stop, take_at name tail (length name) refl, drop_at name tail (length name) refl) refl
 
-event_at : (who : Option (List ℕ)) (name : List ℕ) (offset : ℤ) → IsEventName name → IsWithin offset → what_of who (name ++ tail_text offset) ≡ Some (Event who name offset)
+event_at : (who : Option (List ℕ)) (name : List ℕ) (offset : ℤ) → IsEventName name → IsNear offset → what_of who (name ++ tail_text offset) ≡ Some (Event who name offset)
 event_at who name offset h small = what_at who name (tail_text offset) h.word (no_name offset) ∙ rw (some_word is_of_name name h.word, h.not_begin, h.not_end, h.not_repeat, h.not_indefinite, tail_read offset small) refl
 
-sync_at : (who : List ℕ) (edge : Edge) (offset : ℤ) → IsWithin offset → what_of (Some who) (edge_text edge ++ tail_text offset) ≡ Some (Sync who edge offset)
+sync_at : (who : List ℕ) (edge : Edge) (offset : ℤ) → IsNear offset → what_of (Some who) (edge_text edge ++ tail_text offset) ≡ Some (Sync who edge offset)
 sync_at who Begin offset small = what_at (Some who) (codes "begin") (tail_text offset) (refl, (refl, (refl, (refl, (refl, tt)))), omega arith) (no_name offset) ∙ rw (tail_read offset small) refl
 sync_at who End offset small = what_at (Some who) (codes "end") (tail_text offset) (refl, (refl, (refl, tt)), omega arith) (no_name offset) ∙ rw (tail_read offset small) refl
 
@@ -205,7 +208,7 @@ count_read n some few = rw (counted (decimal n) (first_decimal n some (omega ari
 digit_no_close : (b : ℕ) → is_ascii_digit b ≡ true → not (eqb b 41) ≡ true
 digit_no_close b h = grind (arith, nat_tests)
 
-repeat_at : (who : Option (List ℕ)) (n : ℕ) (offset : ℤ) → 0 < n → n < 1_000_000_000 → IsWithin offset → repeat_of who (40 ∷ (decimal n ++ 41 ∷ tail_text offset)) ≡ Some (Repeat who n offset)
+repeat_at : (who : Option (List ℕ)) (n : ℕ) (offset : ℤ) → 0 < n → n < 1_000_000_000 → IsNear offset → repeat_of who (40 ∷ (decimal n ++ 41 ∷ tail_text offset)) ≡ Some (Repeat who n offset)
 repeat_at who n offset some few small =
     let cut : cut_at 41 (decimal n ++ 41 ∷ tail_text offset) ≡ Some (decimal n, tail_text offset) = cut_front 41 (decimal n) (tail_text offset) (passes_weaker is_ascii_digit (λ b. not (eqb b 41)) digit_no_close (decimal n) (decimal_passes n (omega arith))) in
     rw (cut, count_read n some few, tail_read offset small) refl
@@ -240,7 +243,7 @@ name_item : (name rest : List ℕ) → IsWord is_of_name name → item_of (name 
 name_item [] rest h = absurd h
 name_item (b ∷ bytes) rest h = named_item b (bytes ++ rest) h.0
 
-event_read : (name : List ℕ) (offset : ℤ) → IsEventName name → IsWithin offset → item_of (name ++ tail_text offset) ≡ Ok (Event None name offset)
+event_read : (name : List ℕ) (offset : ℤ) → IsEventName name → IsNear offset → item_of (name ++ tail_text offset) ≡ Ok (Event None name offset)
 event_read name offset h small =
     let plain : is_left_out (name ++ tail_text offset) ≡ false = left_in name (tail_text offset) (passes_weaker is_of_name is_shut name_shut name (all_of_name name h.word)) (tail_ends offset) in
     let keyless : is_keyed (name ++ tail_text offset) ≡ false = no_key_in name (tail_text offset) (passes_weaker is_of_name is_shut name_shut name (all_of_name name h.word)) (tail_ends offset) in
