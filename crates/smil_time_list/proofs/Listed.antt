@@ -1,14 +1,12 @@
 -- A written list is read as the same items, and each list that is read can be written.
-use Rattle.std.proofs.Common.{◌≡◌, ℕ, zero, suc, ◌+◌, ◌-◌, ◌≤◌, Bool, true, false, eqb, ltb, ◌||◌, List, [], ◌∷◌, ◌++◌, length, get_or, map, Option, Some, None, Result, Ok, Err, refl, ap, subst, ◌∙◌, arith, decimal, append_assoc}
+use Rattle.std.proofs.Common.{◌≡◌, ℕ, zero, suc, ◌+◌, ◌≤◌, Bool, true, false, eqb, ltb, ◌||◌, List, [], ◌∷◌, ◌++◌, length, map, Option, Some, None, Result, Ok, Err, refl, ap, subst, ◌∙◌, arith, decimal, append_assoc}
 use Rattle.std.specs.Prelude.{ℤ, pos, negsuc, codes, IfOk, All}
 use Rattle.std.specs.Char.{is_ascii_digit}
-use Rattle.std.specs.List.{AllByRecursion, prefix_len, suffix_len}
+use Rattle.std.specs.List.{AllByRecursion, prefix_len}
 use Rattle.std.proofs.lemmas.Bool.{cond_both, le-ltb, ltb-false, false≢true}
 use Rattle.std.proofs.lemmas.Bool.Decides.{nat_tests}
-use Rattle.std.proofs.lemmas.List.{take_all}
-use Rattle.std.proofs.lemmas.List.Elements.{All-from_recursion, recursion_from_All, All-get_or, All-weaker}
+use Rattle.std.proofs.lemmas.List.Elements.{All-from_recursion, recursion_from_All, All-weaker}
 use Rattle.std.proofs.lemmas.List.Splits.{slice_split_none, slice_split_at, length-slice_split}
-use Rattle.std.proofs.lemmas.List.Sums.{suffix_len_is}
 use Rattle.smil_model.specs.Times.{IsNear}
 use Rattle.smil_model.specs.declared.document.Item.{Item}
 use Rattle.smil_model.specs.declared.document.Item.TheVariants.{Offset, Sync, Event, Repeat, Key, Indefinite}
@@ -17,7 +15,7 @@ use Rattle.smil_grammar.specs.declared.fault.ItemFault.{ItemFault}
 use Rattle.smil_grammar.specs.declared.fault.ItemFault.TheVariants as fault
 use Rattle.smil_grammar.specs.declared.fault.ListFault.{ListFault}
 use Rattle.smil_grammar.specs.declared.fault.ListFault.TheVariants.{TooManyItems}
-use Rattle.smil_grammar.specs.Texts.{is_white, trim_front, trim}
+use Rattle.smil_grammar.specs.Texts.{is_white, trim}
 use Rattle.smil_grammar.specs.Words.{is_of_name, is_of_id}
 use Rattle.smil_model.specs.document.Words.{is_key}
 use Rattle.smil_grammar.specs.Results.{◌>>=◌}
@@ -27,6 +25,7 @@ use Rattle.smil_grammar.specs.Lists.{item_at, piece_at, items_from, pieces_of, f
 use Rattle.smil_grammar.specs.Spellings.{escaped, of_who, tail_text, item_text, list_text, CanWrite}
 use Rattle.smil_lexis.proofs.Fronts.{Passes, passes_weaker, passes_on}
 use Rattle.smil_lexis.proofs.Decimals.{decimal_passes}
+use Rattle.smil_lexis.proofs.Trims.{is_inked, untrimmed}
 use Rattle.smil_lexis.proofs.Words.{IsWord, all_of_id}
 use Rattle.smil_time_list.proofs.Printable.{IsWho, Printable, size, reading_gives, item_printable, can_write}
 use Rattle.smil_time_list.proofs.Spelled.{all_of_name, escaped_passes, item_read}
@@ -83,21 +82,11 @@ item_ink Indefinite h = (refl, (refl, (refl, (refl, (refl, (refl, (refl, (refl, 
 ink_no_white : (b : ℕ) → is_ink b ≡ true → is_white b ≡ false
 ink_no_white b h = grind (arith, nat_tests)
 
+ink_inked : (b : ℕ) → is_ink b ≡ true → is_inked b ≡ true
+ink_inked b h = rw (ink_no_white b h) refl
+
 ink_no_semicolon : (b : ℕ) → is_ink b ≡ true → eqb b 59 ≡ false
 ink_no_semicolon b h = grind (arith, nat_tests)
-
-no_front : (text : List ℕ) → Passes is_ink text → prefix_len is_white text ≡ 0
-no_front [] h = refl
-no_front (b ∷ text) h = rw (ink_no_white b h.0) refl
-
-no_back : (text : List ℕ) → Passes is_ink text → suffix_len is_white text ≡ 0
-no_back text h = suffix_len_is is_white text (length text) 0 (omega arith) (λ k le lt. absurd (omega arith)) (λ some. ink_no_white (get_or text (length text - 1) 0) (All-get_or (λ b. is_ink b ≡ true) text (length text - 1) 0 (omega arith) (All-from_recursion (λ b. is_ink b ≡ true) text h))) ∙ omega arith
-
-untrimmed : (text : List ℕ) → Passes is_ink text → trim text ≡ text
-untrimmed text h =
-    let front : trim_front text ≡ text = rw (no_front text h) refl in
-    let len : length text - 0 ≡ length text = omega arith in
-    rw (front, no_back text h, len) (take_all (length text) text (omega arith))
 
 -- the pieces of a written list are its items' spellings
 
@@ -113,7 +102,7 @@ pieces_again item (next ∷ items) h = slice_split_at (λ b. eqb b 59) (item_tex
 
 items_again : (first : Option ℕ) (place : ℕ) (items : List Item) → Printables items → items_from first place (map item_text items) ≡ Ok items
 items_again first place [] h = refl
-items_again first place (item ∷ items) h = rw (untrimmed (item_text item) (item_ink item h.0), item_read item h.0, items_again first (place + length (item_text item) + 1) items h.1) refl
+items_again first place (item ∷ items) h = rw (untrimmed (item_text item) (passes_weaker is_ink is_inked ink_inked (item_text item) (item_ink item h.0)), item_read item h.0, items_again first (place + length (item_text item) + 1) items h.1) refl
 
 length_map : (items : List Item) → length (map item_text items) ≡ length items
 length_map [] = refl
