@@ -2,7 +2,7 @@
 use Rattle.std.proofs.Common.{◌≡◌, ℕ, ◌+◌, Bool, true, false, not, eqb, ltb, ◌&&◌, List, [], ◌∷◌, length, take, Some, None, refl, subst, arith}
 use Rattle.std.specs.Prelude.{IfSome}
 use Rattle.std.specs.List.{prefix_len, list_all}
-use Rattle.std.proofs.lemmas.Bool.{cond_both, and_parts, eqb-true}
+use Rattle.std.proofs.lemmas.Bool.{cond_both, and_parts, eqb-true, ltb-false}
 use Rattle.std.proofs.lemmas.Bool.Decides.{nat_tests}
 use Rattle.std.proofs.lemmas.List.{take_all}
 use Rattle.smil_grammar.specs.Texts.{trim}
@@ -11,34 +11,37 @@ use Rattle.smil_grammar.specs.Words.{is_initial, is_of_id, short_len, id_len}
 use Rattle.smil_model.specs.document.Words.{is_word, is_of_attribute, is_attribute_name}
 use Rattle.smil_grammar.specs.Values.{id_of, kept_of, attribute_name_of}
 use Rattle.smil_lexis.proofs.Fronts.{Passes, tested, passes_weaker}
-use Rattle.smil_lexis.proofs.Words.{passes_taken, initial_of_id}
+use Rattle.smil_lexis.proofs.Words.{IsWord, all_of_id, passes_taken}
 use Rattle.smil_lexis.proofs.Trims.{is_inked, untrimmed}
 
 pub id_inked : (b : ℕ) → is_of_id b ≡ true → is_inked b ≡ true
 id_inked b h = grind (arith, nat_tests)
 
-pub all_passes : (p : ℕ → Bool) (text : List ℕ) → prefix_len p text ≡ length text → Passes p text
+all_passes : (p : ℕ → Bool) (text : List ℕ) → prefix_len p text ≡ length text → Passes p text
 all_passes p text e = let all : take (prefix_len p text) text ≡ text = take_all (prefix_len p text) text (omega arith) in subst (Passes p) all (passes_taken p text)
 
 -- all of a text is an id
-whole_id : (text : List ℕ) → id_len false text ≡ length text → Passes is_of_id text
-whole_id [] e = tt
-whole_id (b ∷ bytes) e =
-    cond_both (is_initial b) (1 + prefix_len is_of_id bytes) 0 (λ n. short_len ID_BYTES n n ≡ length (b ∷ bytes) → Passes is_of_id (b ∷ bytes))
-    (λ i k. cond_both (ltb 64 (1 + prefix_len is_of_id bytes)) 0 (1 + prefix_len is_of_id bytes) (λ n. n ≡ length (b ∷ bytes) → Passes is_of_id (b ∷ bytes))
-    (λ t m. absurd (omega arith)) (λ t m. (initial_of_id b i, all_passes is_of_id bytes (omega arith))) k)
-    (λ i k. absurd (none b bytes k)) e
+pub whole_id : (text : List ℕ) → (not (eqb (length text) 0) && eqb (id_len false text) (length text)) ≡ true → IsWord is_of_id text
+whole_id text e = let parts = and_parts (not (eqb (length text) 0)) (eqb (id_len false text) (length text)) e in by text parts.0 (eqb-true _ _ parts.1)
   where
     none : (b : ℕ) (bytes : List ℕ) → short_len ID_BYTES 0 0 ≡ length (b ∷ bytes) → ⊥
     none b bytes k = omega arith
 
+    by : (text : List ℕ) → not (eqb (length text) 0) ≡ true → id_len false text ≡ length text → IsWord is_of_id text
+    by [] some e = absurd cc
+    by (b ∷ bytes) some e =
+        cond_both (is_initial b) (1 + prefix_len is_of_id bytes) 0 (λ n. short_len ID_BYTES n n ≡ length (b ∷ bytes) → IsWord is_of_id (b ∷ bytes))
+        (λ i k. cond_both (ltb 64 (1 + prefix_len is_of_id bytes)) 0 (1 + prefix_len is_of_id bytes) (λ n. n ≡ length (b ∷ bytes) → IsWord is_of_id (b ∷ bytes))
+        (λ t m. absurd (omega arith)) (λ t m. (i, all_passes is_of_id bytes (omega arith), omega (arith, ltb-false _ _ t))) k)
+        (λ i k. absurd (none b bytes k)) e
+
 pub id_passes : (text : List ℕ) → IfSome (id_of text) (Passes is_of_id)
 id_passes text = cond_both (not (eqb (length text) 0) && eqb (id_len false text) (length text)) (Some text) None (λ o. IfSome o (Passes is_of_id))
-    (λ e. whole_id text (eqb-true _ _ (and_parts _ _ e).1)) (λ e. tt)
+    (λ e. all_of_id text (whole_id text e)) (λ e. tt)
 
 pub id_whole : (text : List ℕ) → IfSome (id_of text) (λ id. (id_of id ≡ Some id) × (trim id ≡ id))
 id_whole text = cond_both (not (eqb (length text) 0) && eqb (id_len false text) (length text)) (Some text) None (λ o. IfSome o (λ id. (id_of id ≡ Some id) × (trim id ≡ id)))
-    (λ e. (rw e refl, untrimmed text (passes_weaker is_of_id is_inked id_inked text (whole_id text (eqb-true _ _ (and_parts _ _ e).1))))) (λ e. tt)
+    (λ e. (rw e refl, untrimmed text (passes_weaker is_of_id is_inked id_inked text (all_of_id text (whole_id text e))))) (λ e. tt)
 
 initial_of_attribute : (b : ℕ) → is_initial b ≡ true → is_of_attribute b ≡ true
 initial_of_attribute b h = grind (arith, nat_tests)

@@ -60,7 +60,7 @@ unescaped_escaped : (id : List ℕ) → Passes is_of_id id → unescaped (escape
 unescaped_escaped [] h = refl
 unescaped_escaped (c ∷ id) h = unescaped_step c id (is_dash c) refl h.0 (unescaped_escaped id h.1)
 
-pub initial_of_id : (b : ℕ) → is_initial b ≡ true → is_of_id b ≡ true
+initial_of_id : (b : ℕ) → is_initial b ≡ true → is_of_id b ≡ true
 initial_of_id b h = rw h refl
 
 pub all_of_id : (id : List ℕ) → IsWord is_of_id id → Passes is_of_id id

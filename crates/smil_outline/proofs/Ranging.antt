@@ -1,8 +1,8 @@
 -- What some text is read as fits the kinds of a node and its parent.
-use Rattle.std.proofs.Common.{◌≡◌, ℕ, suc, ◌+◌, ◌<◌, ◌≤◌, Bool, true, false, not, cond, eqb, ltb, leb, ◌&&◌, ◌||◌, List, [], ◌∷◌, length, Option, Some, None, option_map, is_some, Result, refl, subst, arith}
+use Rattle.std.proofs.Common.{◌≡◌, ℕ, suc, ◌<◌, ◌≤◌, Bool, true, false, not, cond, eqb, ltb, leb, ◌&&◌, ◌||◌, List, [], ◌∷◌, length, Option, Some, None, option_map, is_some, Result, refl, subst, arith}
 use Rattle.std.specs.Prelude.{ℤ, pos, negsuc, codes, bytes_eq, IfOk, IfSome, IsTrue}
-use Rattle.std.specs.List.{AllByRecursion, prefix_len, list_all}
-use Rattle.std.proofs.lemmas.Bool.{and_parts, not-true, not_from_true, le-leb, lt-ltb, ltb-false, eqb-true, cond_both}
+use Rattle.std.specs.List.{AllByRecursion, list_all}
+use Rattle.std.proofs.lemmas.Bool.{not_from_true, le-leb, lt-ltb, cond_both}
 use Rattle.std.proofs.lemmas.Bool.Decides.{nat_tests}
 use Rattle.std.proofs.lemmas.List.Elements.{recursion_from_All}
 use Rattle.smil_model.specs.declared.document.Kind.{Kind}
@@ -23,12 +23,11 @@ use Rattle.smil_model.specs.declared.document.Act.{Act}
 use Rattle.smil_model.specs.declared.times.Time.{Time}
 use Rattle.smil_model.specs.declared.times.Time.TheVariants as time
 use Rattle.smil_model.specs.document.Document.{is_class_kind, is_set_kind}
-use Rattle.smil_model.specs.document.Words.{is_initial, is_of_name, is_of_id, is_word, is_id, is_event_name, is_attribute_name, is_kept_text}
+use Rattle.smil_model.specs.document.Words.{is_of_name, is_of_id, is_word, is_id, is_event_name, is_attribute_name, is_kept_text}
 use Rattle.smil_model.specs.document.Values.{absent_or, is_clock, is_offset, is_item, is_list, is_plain_begin, is_begin, is_dur, is_bound, is_positive_bound, is_count, is_endsync, is_higher, is_lower, has_endsync, has_class_attrs, has_set_attrs, has_media_attrs, has_element_attrs, are_element_values, is_seq_parent, fit_kind}
 use Rattle.smil_grammar.specs.declared.fault.AttrFault.{AttrFault}
 use Rattle.smil_grammar.specs.Texts.{trim}
-use Rattle.smil_model.specs.declared.limits.TheConstants.{ID_BYTES}
-use Rattle.smil_grammar.specs.Words.{short_len, id_len}
+use Rattle.smil_grammar.specs.Words.{id_len}
 use Rattle.smil_grammar.specs.Clock.{clock_within}
 use Rattle.smil_grammar.specs.Items.{IsItem}
 use Rattle.smil_grammar.specs.Lists.{is_plain, list_of, IsList}
@@ -42,7 +41,7 @@ use Rattle.smil_attrs.proofs.Readings.{IsSmall, IsLength, value, any_value, list
 use Rattle.smil_attrs.proofs.Cases.{dur_reads, time_reads, repeat_reads, count_reads, higher_reads, lower_reads, endsync_reads}
 use Rattle.smil_attrs.proofs.Counts.{IsCount}
 use Rattle.smil_attrs.proofs.Kept.{lists}
-use Rattle.smil_attrs.proofs.Words.{all_passes}
+use Rattle.smil_attrs.proofs.Words.{whole_id}
 use Rattle.smil_outline.proofs.Fitting.{IsInRange}
 
 -- words
@@ -54,23 +53,12 @@ word_ranged p (b ∷ bytes) h = let short : leb (length (b ∷ bytes)) 64 ≡ tr
 event_ranged : (text : List ℕ) → IsEventName text → is_event_name text ≡ true
 event_ranged text h = rw (word_ranged is_of_name text h.word, h.not_begin, h.not_end, h.not_repeat, h.not_indefinite) refl
 
-whole_ranged : (text : List ℕ) → eqb (length text) 0 ≡ false → id_len false text ≡ length text → is_id text ≡ true
-whole_ranged [] some e = absurd cc
-whole_ranged (b ∷ bytes) some e =
-    cond_both (is_initial b) (1 + prefix_len is_of_id bytes) 0 (λ n. short_len ID_BYTES n n ≡ length (b ∷ bytes) → is_id (b ∷ bytes) ≡ true)
-    (λ i k. cond_both (ltb 64 (1 + prefix_len is_of_id bytes)) 0 (1 + prefix_len is_of_id bytes) (λ n. n ≡ length (b ∷ bytes) → is_id (b ∷ bytes) ≡ true)
-    (λ t m. absurd (omega arith)) (λ t m. word_ranged is_of_id (b ∷ bytes) (i, all_passes is_of_id bytes (omega arith), omega (arith, ltb-false _ _ t))) k)
-    (λ i k. absurd (none b bytes k)) e
-  where
-    none : (b : ℕ) (bytes : List ℕ) → short_len ID_BYTES 0 0 ≡ length (b ∷ bytes) → ⊥
-    none b bytes k = omega arith
-
 abbrev IsId : List ℕ → Type 0
 IsId text = is_id text ≡ true
 
 id_ranged : (text : List ℕ) → IfSome (id_of text) IsId
 id_ranged text = cond_both (not (eqb (length text) 0) && eqb (id_len false text) (length text)) (Some text) None (λ o. IfSome o IsId)
-    (λ e. let parts = and_parts (not (eqb (length text) 0)) (eqb (id_len false text) (length text)) e in whole_ranged text (not-true _ parts.0) (eqb-true _ _ parts.1)) (λ e. tt)
+    (λ e. word_ranged is_of_id text (whole_id text e)) (λ e. tt)
 
 abbrev IsKept : List ℕ → Type 0
 IsKept text = is_kept_text text ≡ true
