@@ -1,4 +1,4 @@
--- The columns of a node line's faults are those of its bytes, and at most three more.
+-- The faults of values and node lines stand in their texts: a column is that of a byte of the line, or at most two more.
 use Rattle.std.proofs.Common.{◌≡◌, ℕ, ◌+◌, ◌-◌, ◌<◌, ◌≤◌, ◌&&◌, Bool, true, false, eqb, ltb, List, [], ◌∷◌, length, take, drop, Option, Some, None, Result, Ok, Err, refl, arith, length-drop, length-take}
 use Rattle.std.specs.Prelude.{IfSome, IfErr, unwrap_or, option_and_then}
 use Rattle.std.specs.Char.{is_ascii_digit}
@@ -34,15 +34,15 @@ use Rattle.smil_grammar.specs.Nodes.{is_space, is_of_kind, is_named, WrittenAttr
 use Rattle.smil_outline.specs.Steps.{StandsWithin, AllWithin, IsInLine, IsNear}
 
 -- how long a text is that was cut into these pieces, and one more
-abbrev pub joined_len : List (List ℕ) → ℕ
+abbrev joined_len : List (List ℕ) → ℕ
 joined_len [] = 0
 joined_len (piece ∷ pieces) = length piece + 1 + joined_len pieces
 
-pub onto_len : (x : ℕ) (pieces : List (List ℕ)) → 0 < joined_len pieces → joined_len (onto_first x pieces) ≡ 1 + joined_len pieces
+onto_len : (x : ℕ) (pieces : List (List ℕ)) → 0 < joined_len pieces → joined_len (onto_first x pieces) ≡ 1 + joined_len pieces
 onto_len x [] some = absurd (omega arith)
 onto_len x (piece ∷ pieces) some = omega arith
 
-pub split_len : (k : ℕ) (text : List ℕ) → joined_len (slice_split (λ b. eqb b k) text) ≡ length text + 1
+split_len : (k : ℕ) (text : List ℕ) → joined_len (slice_split (λ b. eqb b k) text) ≡ length text + 1
 split_len k [] = refl
 split_len k (b ∷ text) =
     let rest : joined_len (slice_split (λ b. eqb b k) text) ≡ length text + 1 = split_len k text in
@@ -52,7 +52,7 @@ split_len k (b ∷ text) =
 
 -- ---- lists
 
-abbrev pub ListPlace : ℕ → ListFault → Type 0
+abbrev ListPlace : ℕ → ListFault → Type 0
 ListPlace m (list_fault.Bad place) = place ≤ m
 ListPlace m (list_fault.Unsupported place) = place ≤ m
 ListPlace m _ = Unit {0}
@@ -61,17 +61,17 @@ pub after : {A B E : Type 0} (P : E → Type 0) (r : Result A E) (f : A → Resu
 after P (Ok x) f h k = k x
 after P (Err e) f h k = h
 
-pub first_near : (m place : ℕ) (first : Option ℕ) → place ≤ m → IfSome first (λ p. p ≤ m) → unwrap_or first place ≤ m
+first_near : (m place : ℕ) (first : Option ℕ) → place ≤ m → IfSome first (λ p. p ≤ m) → unwrap_or first place ≤ m
 first_near m place None le h = le
 first_near m place (Some p) le h = h
 
-pub item_near : (m : ℕ) (first : Option ℕ) (place : ℕ) (r : Result Item ItemFault) → place ≤ m → IfSome first (λ p. p ≤ m) → IfErr (item_at first place r) (ListPlace m)
+item_near : (m : ℕ) (first : Option ℕ) (place : ℕ) (r : Result Item ItemFault) → place ≤ m → IfSome first (λ p. p ≤ m) → IfErr (item_at first place r) (ListPlace m)
 item_near m first place (Ok x) le h = tt
 item_near m first place (Err item_fault.Bad) le h = first_near m place first le h
 item_near m first place (Err item_fault.Unsupported) le h = le
 item_near m first place (Err item_fault.Memory) le h = tt
 
-items_near : (m : ℕ) (first : Option ℕ) (place : ℕ) (pieces : List (List ℕ)) → place + joined_len pieces ≤ m → IfSome first (λ p. p ≤ m) → IfErr (items_from first place pieces) (ListPlace m)
+items_near : (m : ℕ) (first : Option ℕ) (place : ℕ) (pieces : List (List ℕ)) → place + joined_len pieces ≤ m + 1 → IfSome first (λ p. p ≤ m) → IfErr (items_from first place pieces) (ListPlace m)
 items_near m first place [] le h = tt
 items_near m first place (piece ∷ pieces) le h =
     let white : prefix_len is_white piece ≤ length piece = prefix_len-le-length is_white piece in
@@ -79,19 +79,18 @@ items_near m first place (piece ∷ pieces) le h =
     (item_near m first (place + prefix_len is_white piece) (item_of (trim piece)) (omega arith) h)
     (λ item. after (ListPlace m) (items_from first (place + length piece + 1) pieces) (λ items. Ok (item ∷ items)) (items_near m first (place + length piece + 1) pieces (omega arith) h) (λ items. tt))
 
-few_near : (first : Option ℕ) (text : List ℕ) → IfSome first (λ p. p ≤ length text + 1) → IfErr (few_items first text) (ListPlace (length text + 1))
+few_near : (first : Option ℕ) (text : List ℕ) → IfSome first (λ p. p ≤ length text) → IfErr (few_items first text) (ListPlace (length text))
 few_near first text h =
     let len : joined_len (pieces_of text) ≡ length text + 1 = split_len 59 text in
-    cond_both (ltb 32 (length (pieces_of text))) (Err list_fault.TooManyItems) (items_from first 0 (pieces_of text)) (λ r. IfErr r (ListPlace (length text + 1)))
-    (λ e. tt) (λ e. items_near (length text + 1) first 0 (pieces_of text) (omega arith) h)
+    cond_both (ltb 32 (length (pieces_of text))) (Err list_fault.TooManyItems) (items_from first 0 (pieces_of text)) (λ r. IfErr r (ListPlace (length text)))
+    (λ e. tt) (λ e. items_near (length text) first 0 (pieces_of text) (omega arith) h)
 
-list_near : (in_seq : Bool) (text : List ℕ) → IfErr (list_of in_seq text) (ListPlace (length text + 1))
+list_near : (in_seq : Bool) (text : List ℕ) → IfErr (list_of in_seq text) (ListPlace (length text))
 list_near false text = few_near None text tt
 list_near true text =
     let white : prefix_len is_white text ≤ length text = prefix_len-le-length is_white text in
-    let near : prefix_len is_white text ≤ length text + 1 = omega arith in
-    after (ListPlace (length text + 1)) (few_items (Some (prefix_len is_white text)) text) (plain_at (prefix_len is_white text)) (few_near (Some (prefix_len is_white text)) text near)
-    (λ items. cond_both (is_plain items) (Ok items) (Err (list_fault.Bad (prefix_len is_white text))) (λ r. IfErr r (ListPlace (length text + 1))) (λ e. tt) (λ e. near))
+    after (ListPlace (length text)) (few_items (Some (prefix_len is_white text)) text) (plain_at (prefix_len is_white text)) (few_near (Some (prefix_len is_white text)) text white)
+    (λ items. cond_both (is_plain items) (Ok items) (Err (list_fault.Bad (prefix_len is_white text))) (λ r. IfErr r (ListPlace (length text))) (λ e. tt) (λ e. white))
 
 -- ---- values
 
@@ -100,18 +99,18 @@ AttrPlace m (attr_fault.UnsupportedValue place) = place ≤ m
 AttrPlace m (attr_fault.BadValue place) = place ≤ m
 AttrPlace m _ = Unit {0}
 
-pub of_list_near : (m : ℕ) (made : List Item → Attr) (r : Result (List Item) ListFault) → IfErr r (ListPlace m) → IfErr (of_list made r) (AttrPlace m)
+of_list_near : (m : ℕ) (made : List Item → Attr) (r : Result (List Item) ListFault) → IfErr r (ListPlace m) → IfErr (of_list made r) (AttrPlace m)
 of_list_near m made (Ok items) h = tt
 of_list_near m made (Err (list_fault.Bad place)) h = h
 of_list_near m made (Err (list_fault.Unsupported place)) h = h
 of_list_near m made (Err list_fault.TooManyItems) h = tt
 of_list_near m made (Err list_fault.Memory) h = tt
 
-pub of_value_near : {A : Type 0} (m : ℕ) (made : A → Attr) (value : Option A) → IfErr (of_value made value) (AttrPlace m)
+of_value_near : {A : Type 0} (m : ℕ) (made : A → Attr) (value : Option A) → IfErr (of_value made value) (AttrPlace m)
 of_value_near m made None = omega arith
 of_value_near m made (Some x) = tt
 
-plain_near : (in_seq : Bool) (n : AttrName) (text : List ℕ) → IfErr (plain_value_of in_seq n text) (AttrPlace (length text + 1))
+plain_near : (in_seq : Bool) (n : AttrName) (text : List ℕ) → IfErr (plain_value_of in_seq n text) (AttrPlace (length text))
 plain_near in_seq name.Id text = of_value_near _ attr.Id (id_of text)
 plain_near in_seq name.Begin text = of_list_near _ attr.Begin (list_of in_seq text) (list_near in_seq text)
 plain_near in_seq name.Dur text = of_value_near _ attr.Dur (dur_of (trim text))
@@ -136,18 +135,21 @@ plain_near in_seq name.TargetElement text = of_value_near _ attr.TargetElement (
 plain_near in_seq name.AttributeName text = of_value_near _ attr.AttributeName (attribute_name_of (trim text))
 plain_near in_seq name.To text = of_value_near _ attr.To (kept_of text)
 
-value_near : (in_seq : Bool) (n : AttrName) (text : List ℕ) → IfErr (value_of in_seq n text) (AttrPlace (length text + 1))
-value_near in_seq n text = cond_both (is_other_value n (trim text)) (Err (attr_fault.UnsupportedValue 0)) (plain_value_of in_seq n text) (λ r. IfErr r (AttrPlace (length text + 1))) (λ e. omega arith) (λ e. plain_near in_seq n text)
+value_near : (in_seq : Bool) (n : AttrName) (text : List ℕ) → IfErr (value_of in_seq n text) (AttrPlace (length text))
+value_near in_seq n text = cond_both (is_other_value n (trim text)) (Err (attr_fault.UnsupportedValue 0)) (plain_value_of in_seq n text) (λ r. IfErr r (AttrPlace (length text))) (λ e. omega arith) (λ e. plain_near in_seq n text)
 
-pub unnamed_near : (m : ℕ) (word : List ℕ) → AttrPlace m (unnamed word)
+unnamed_near : (m : ℕ) (word : List ℕ) → AttrPlace m (unnamed word)
 unnamed_near m word = cond_both (is_other_name word) attr_fault.UnsupportedName attr_fault.UnknownAttribute (AttrPlace m) (λ e. tt) (λ e. tt)
 
-pub name_near : (m : ℕ) (k : Kind) (word : List ℕ) (called : Option AttrName) → IfErr (name_or k word called) (AttrPlace m)
-name_near m k word None = unnamed_near m word
-name_near m k word (Some n) = cond_both (has k n) (Ok n) (Err attr_fault.UnknownAttribute) (λ r. IfErr r (AttrPlace m)) (λ e. tt) (λ e. tt)
+called_near : (m : ℕ) (k : Kind) (word : List ℕ) (called : Option AttrName) → IfErr (name_or k word called) (AttrPlace m)
+called_near m k word None = unnamed_near m word
+called_near m k word (Some n) = cond_both (has k n) (Ok n) (Err attr_fault.UnknownAttribute) (λ r. IfErr r (AttrPlace m)) (λ e. tt) (λ e. tt)
 
-attribute_near : (in_seq : Bool) (k : Kind) (word value : List ℕ) → IfErr (attribute_of in_seq k word value) (AttrPlace (length value + 1))
-attribute_near in_seq k word value = after (AttrPlace (length value + 1)) (attr_name_of k word) (λ n. value_of in_seq n value) (name_near (length value + 1) k word (name_called word)) (λ n. value_near in_seq n value)
+pub name_near : (m : ℕ) (k : Kind) (word : List ℕ) → IfErr (attr_name_of k word) (AttrPlace m)
+name_near m k word = called_near m k word (name_called word)
+
+pub attribute_near : (in_seq : Bool) (k : Kind) (word value : List ℕ) → IfErr (attribute_of in_seq k word value) (AttrPlace (length value))
+attribute_near in_seq k word value = after (AttrPlace (length value)) (attr_name_of k word) (λ n. value_of in_seq n value) (name_near (length value) k word) (λ n. value_near in_seq n value)
 
 -- ---- attributes of a line
 
@@ -158,22 +160,22 @@ FaultWithin n (fault.BadValue column) = column ≤ n
 FaultWithin n (fault.TooManyItems column) = column ≤ n
 FaultWithin n _ = Unit {0}
 
-column_near : (n place : ℕ) → place + 1 ≤ n → column_at place ≤ n
+column_near : (n place : ℕ) → place ≤ n → column_at place ≤ n + 1
 column_near n place le = omega arith
 
-at_near : (n : ℕ) (w : WrittenAttr) (r : Result Attr AttrFault) → StandsWithin n w → IfErr r (AttrPlace (length w.value + 1)) → IfErr (at_column w r) (FaultWithin (n + 2))
+at_near : (n : ℕ) (w : WrittenAttr) (r : Result Attr AttrFault) → StandsWithin n w → IfErr r (AttrPlace (length w.value)) → IfErr (at_column w r) (FaultWithin (n + 1))
 at_near n w (Ok x) s h = tt
-at_near n w (Err attr_fault.UnknownAttribute) s h = column_near (n + 2) w.name_place (omega arith)
-at_near n w (Err attr_fault.UnsupportedName) s h = column_near (n + 2) w.name_place (omega arith)
-at_near n w (Err (attr_fault.UnsupportedValue place)) s h = column_near (n + 2) (w.value_place + place) (omega arith)
-at_near n w (Err (attr_fault.BadValue place)) s h = column_near (n + 2) (w.value_place + place) (omega arith)
-at_near n w (Err attr_fault.TooManyItems) s h = column_near (n + 2) w.value_place (omega arith)
+at_near n w (Err attr_fault.UnknownAttribute) s h = column_near n w.name_place s.name
+at_near n w (Err attr_fault.UnsupportedName) s h = column_near n w.name_place s.name
+at_near n w (Err (attr_fault.UnsupportedValue place)) s h = column_near n (w.value_place + place) (omega (arith, s.value))
+at_near n w (Err (attr_fault.BadValue place)) s h = column_near n (w.value_place + place) (omega (arith, s.value))
+at_near n w (Err attr_fault.TooManyItems) s h = column_near n w.value_place (omega (arith, s.value))
 at_near n w (Err attr_fault.Memory) s h = tt
 
-attrs_near : (n : ℕ) (in_seq : Bool) (k : Kind) (attrs : Attrs) (ws : List WrittenAttr) → AllWithin n ws → IfErr (attrs_from in_seq k attrs ws) (FaultWithin (n + 2))
+pub attrs_near : (n : ℕ) (in_seq : Bool) (k : Kind) (attrs : Attrs) (ws : List WrittenAttr) → AllWithin n ws → IfErr (attrs_from in_seq k attrs ws) (FaultWithin (n + 1))
 attrs_near n in_seq k attrs [] h = tt
 attrs_near n in_seq k attrs (w ∷ ws) h =
-    after (FaultWithin (n + 2)) (attr_of in_seq k w) (λ given. attrs_from in_seq k (with_attr attrs given) ws)
+    after (FaultWithin (n + 1)) (attr_of in_seq k w) (λ given. attrs_from in_seq k (with_attr attrs given) ws)
     (at_near n w (attribute_of in_seq k w.name w.value) h.0 (attribute_near in_seq k w.name w.value))
     (λ given. attrs_near n in_seq k (with_attr attrs given) ws h.1)
 
@@ -196,7 +198,7 @@ attributes_near n place (lead ∷ value ∷ pieces) le =
     (written_near n place lead value (omega arith))
     (attributes_near n (place + length lead + length value + 2) pieces (omega arith))
 
-abbrev ShapeWithin : ℕ → Shape → Type 0
+abbrev pub ShapeWithin : ℕ → Shape → Type 0
 ShapeWithin n shape = AllWithin n shape.attributes
 
 shaped_near : (n : ℕ) (word : List ℕ) (attributes : Option (List WrittenAttr)) → IfSome attributes (AllWithin n) → IfSome (shaped word attributes) (ShapeWithin n)
@@ -208,10 +210,13 @@ pieces_near n place word text le =
     let len : joined_len (slice_split (λ b. eqb b 34) text) ≡ length text + 1 = split_len 34 text in
     shaped_near n word (attributes_at place (slice_split (λ b. eqb b 34) text)) (attributes_near n place (slice_split (λ b. eqb b 34) text) (omega arith))
 
-pub plain_in_line : (line : List ℕ) → length line ≤ LINE_BYTES → IfSome (shape_of line) IsInLine
-plain_in_line line le =
+pub shape_near : (n : ℕ) (line : List ℕ) → length line + 1 ≤ n → IfSome (shape_of line) (ShapeWithin n)
+shape_near n line le =
     let kind : prefix_len is_of_kind line ≤ length line = prefix_len-le-length is_of_kind line in
-    pieces_near (LINE_BYTES + 1) (prefix_len is_of_kind line) (take (prefix_len is_of_kind line) line) (drop (prefix_len is_of_kind line) line) (omega (arith, length-drop (prefix_len is_of_kind line) line))
+    pieces_near n (prefix_len is_of_kind line) (take (prefix_len is_of_kind line) line) (drop (prefix_len is_of_kind line) line) (omega (arith, length-drop (prefix_len is_of_kind line) line))
+
+pub plain_in_line : (line : List ℕ) → length line ≤ LINE_BYTES → IfSome (shape_of line) IsInLine
+plain_in_line line le = shape_near (LINE_BYTES + 1) line (omega arith)
 
 behind_len : (wanted : ℕ) (text : List ℕ) → IfSome (behind wanted text) (λ rest. length rest + 1 ≡ length text)
 behind_len wanted [] = tt
@@ -249,7 +254,7 @@ saved_in_line line le =
     fits None h = tt
     fits (Some text) h = omega (arith, h, le, length-drop (prefix_len is_of_kind line) line, length-take (prefix_len is_of_kind line) line)
 
-pub kind_or_near : (n : ℕ) (word : List ℕ) (called : Option Kind) → 1 ≤ n → IfErr (kind_or word called) (FaultWithin n)
+kind_or_near : (n : ℕ) (word : List ℕ) (called : Option Kind) → 1 ≤ n → IfErr (kind_or word called) (FaultWithin n)
 kind_or_near n word (Some k) le = tt
 kind_or_near n word None le = cond_both (is_other_kind word) (Err (fault.Unsupported 1)) (Err fault.BadOutline) (λ r. IfErr r (FaultWithin n)) (λ e. le) (λ e. tt)
 
@@ -257,21 +262,21 @@ pub kind_shape_near : (n : ℕ) (shape : Option Shape) → 1 ≤ n → IfErr (ki
 kind_shape_near n None le = tt
 kind_shape_near n (Some shape) le = cond_both (repeats shape.attributes) (Err fault.BadOutline) (kind_or shape.kind (kind_called shape.kind)) (λ r. IfErr r (FaultWithin n)) (λ e. tt) (λ e. kind_or_near n shape.kind (kind_called shape.kind) le)
 
-near_of : (given : NodeFault) → FaultWithin (LINE_BYTES + 3) given → IsNear given
+near_of : (given : NodeFault) → FaultWithin (LINE_BYTES + 2) given → IsNear given
 near_of fault.BadOutline h = tt
-near_of (fault.Unsupported column) h = h
+near_of (fault.Unsupported column) h = omega arith
 near_of fault.BadPlace h = tt
-near_of (fault.UnknownAttribute column) h = h
-near_of (fault.BadValue column) h = h
-near_of (fault.TooManyItems column) h = h
+near_of (fault.UnknownAttribute column) h = omega arith
+near_of (fault.BadValue column) h = omega arith
+near_of (fault.TooManyItems column) h = omega arith
 near_of fault.Memory h = tt
 
-all_near : {A : Type 0} (r : Result A NodeFault) → IfErr r (FaultWithin (LINE_BYTES + 3)) → IfErr r IsNear
+all_near : {A : Type 0} (r : Result A NodeFault) → IfErr r (FaultWithin (LINE_BYTES + 2)) → IfErr r IsNear
 all_near (Ok x) h = tt
 all_near (Err given) h = near_of given h
 
 pub kind_is_near : (shape : Shape) → IfErr (kind_of_shape (Some shape)) IsNear
-kind_is_near shape = all_near (kind_of_shape (Some shape)) (kind_shape_near (LINE_BYTES + 3) (Some shape) (omega arith))
+kind_is_near shape = all_near (kind_of_shape (Some shape)) (kind_shape_near (LINE_BYTES + 2) (Some shape) (omega arith))
 
 pub attrs_are_near : (in_seq : Bool) (k : Kind) (shape : Shape) → IsInLine shape → IfErr (attrs_from in_seq k no_attrs shape.attributes) IsNear
 attrs_are_near in_seq k shape h = all_near (attrs_from in_seq k no_attrs shape.attributes) (attrs_near (LINE_BYTES + 1) in_seq k no_attrs shape.attributes h)

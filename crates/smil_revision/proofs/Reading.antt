@@ -20,9 +20,9 @@ use Rattle.smil_grammar.specs.Gives.{GivesAttr, GivesNode, GivesReading}
 use Rattle.smil_grammar.specs.Nodes.{Shape, at_column, attribute_of, attrs_from, attrs_of, kind_of, node_of, shape_of}
 use Rattle.smil_grammar.specs.Outlines.{in_line, refused}
 use Rattle.smil_grammar.specs.Results.{◌>>=◌}
-use Rattle.smil_outline.proofs.Columns.{AttrPlace, FaultWithin}
+use Rattle.smil_outline.proofs.Columns.{AttrPlace, name_near, attribute_near, FaultWithin}
 use Rattle.smil_revision.specs.Refusing.{of_value, IsPlaced, IsInText}
-use Rattle.smil_revision.proofs.Placing.{attribute_in, name_in, kind_in, node_in}
+use Rattle.smil_revision.proofs.Placing.{kind_in, node_in}
 
 -- ---- attributes
 
@@ -43,10 +43,10 @@ placed_in m (attr_fault.UnsupportedValue place) reading le given h = placed m (a
 placed_in m (attr_fault.BadValue place) reading le given h = placed m (attr_fault.BadValue place) le (rw given at h)
 
 pub value_placed : (in_seq : Bool) (k : Kind) (name value : List ℕ) (e : AttrFault) → IsText value → GivesAttr {A = Attr} (Err e) (attribute_of in_seq k name value) → IsPlaced e
-value_placed in_seq k name value e le given = placed_in (length value) e (attribute_of in_seq k name value) le given (attribute_in in_seq k name value)
+value_placed in_seq k name value e le given = placed_in (length value) e (attribute_of in_seq k name value) le given (attribute_near in_seq k name value)
 
 pub name_placed : (k : Kind) (name : List ℕ) (e : AttrFault) → Err e ≡ attr_name_of k name → IsPlaced e
-name_placed k name e given = placed 0 e (omega arith) (rw (sym given) at (name_in 0 k name))
+name_placed k name e given = placed 0 e (omega arith) (rw (sym given) at (name_near 0 k name))
 
 -- a fault at its column is the refusal
 at_refused : {A : Type 0} (name value : List ℕ) (name_column column : ℕ) (e : AttrFault) → IsColumn name_column → IsColumn column → IsPlaced e → in_line {A = A} 0 (at_column (written_at name value name_column column) (Err e)) ≡ Err (of_value name_column column e)
