@@ -4,11 +4,13 @@
 ghost use Rattle.std.specs.Prelude.{◌≡◌, ℕ, ◌≤◌, ◌*◌, ◌/◌, ◌+◌, ◌<◌, ◌++◌, pos, nat_abs, Some, IfSome, option_map, List, length, OnOk, OnErr};
 ghost use Rattle.smil_model.specs.declared.times.TheConstants.{HORIZON};
 ghost use Rattle.smil_model.specs.Times.{IsMoment};
+ghost use Rattle.smil_grammar.specs.declared.TheConstants.{BILLION};
 ghost use Rattle.smil_grammar.specs.Clock.{clock_of, clock_answer, clock_within as clock_within_limit, clock_text, full as full_value, partial as partial_value, unit_of, time_count as time_count_value, is_of_number as is_of_number_byte};
 ghost use Rattle.std.specs.List.{prefix_len};
 ghost use Rattle.smil_lexis.specs.Capped.{capped};
 
 use itoa::Buffer;
+use smil_grammar::BILLION;
 pub use smil_grammar::ClockFault;
 use smil_lexis::numbers::{CAP, decimal, seconds, sixty, whole};
 use smil_lexis::texts::cut;
@@ -22,10 +24,10 @@ fn milliseconds(unit: u64, number: u64, billionths: u64) -> u64
     requires unit { unit ≤ 3_600_000 }
     requires number { number ≤ CAP }
     requires billionths { billionths ≤ 30_000_000_000 }
-    ensures value { result ≡ number * unit + billionths * unit / 1_000_000_000 }
+    ensures value { result ≡ number * unit + billionths * unit / BILLION }
     ensures bound { result ≤ 3_600_001_000_000_000_000 }
 {
-    number * unit + billionths * unit / 1_000_000_000
+    number * unit + billionths * unit / BILLION
 }
 
 // A full clock value: hours, minutes and seconds.

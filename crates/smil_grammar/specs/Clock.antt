@@ -3,6 +3,7 @@ use Rattle.std.specs.Prelude.{ℕ, ◌+◌, ◌*◌, ◌/◌, ℤ, pos, nat_abs,
 use Rattle.std.specs.List.{prefix_len}
 use Rattle.std.specs.Char.{is_ascii_digit}
 use Rattle.smil_model.specs.declared.times.TheConstants.{HORIZON}
+use Rattle.smil_grammar.specs.declared.TheConstants.{BILLION}
 use Rattle.smil_grammar.specs.Texts.{◌>>=◌, cut_at, point, colon}
 use Rattle.smil_grammar.specs.Numbers.{number_of, sixty_of, with_fraction}
 use Rattle.smil_grammar.specs.declared.fault.ClockFault.{ClockFault}
@@ -14,7 +15,7 @@ tenth = 100_000_000
 
 -- a number with its billionths, of a unit of so many milliseconds, rounded down to whole milliseconds
 abbrev pub milliseconds : ℕ → ℕ × ℕ → ℕ
-milliseconds unit n = n.0 * unit + n.1 * unit / 1_000_000_000
+milliseconds unit n = n.0 * unit + n.1 * unit / BILLION
 
 -- a full clock value: hours of one digit or more, minutes, and seconds with an optional fraction
 abbrev pub full : List ℕ → List ℕ → List ℕ → Option ℕ

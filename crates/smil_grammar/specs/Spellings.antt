@@ -29,7 +29,7 @@ use Rattle.smil_model.specs.declared.document.AttrName.TheVariants as name
 use Rattle.smil_model.specs.Times.{IsNear}
 use Rattle.smil_model.specs.declared.times.Time.{Time}
 use Rattle.smil_model.specs.declared.times.Time.TheVariants as time
-use Rattle.smil_grammar.specs.Texts.{space, quote, plus, minus, point, semicolon, backslash}
+use Rattle.smil_grammar.specs.Texts.{space, quote, plus, minus, point, semicolon, backslash, zero_digit}
 use Rattle.smil_grammar.specs.Words.{is_dash}
 use Rattle.smil_grammar.specs.Clock.{clock_text}
 use Rattle.smil_grammar.specs.Attributes.{kind_text, name_text, names}
@@ -88,9 +88,9 @@ time_text time.Unresolved = []
 abbrev pub decimals : ℕ → List ℕ
 decimals n =
     if n == 0 then []
-    else (if n % 100 == 0 then point ∷ (48 + n / 100) ∷ []
-    else (if n % 10 == 0 then point ∷ (48 + n / 100) ∷ (48 + n / 10 % 10) ∷ []
-    else point ∷ (48 + n / 100) ∷ (48 + n / 10 % 10) ∷ (48 + n % 10) ∷ []))
+    else (if n % 100 == 0 then point ∷ (zero_digit + n / 100) ∷ []
+    else (if n % 10 == 0 then point ∷ (zero_digit + n / 100) ∷ (zero_digit + n / 10 % 10) ∷ []
+    else point ∷ (zero_digit + n / 100) ∷ (zero_digit + n / 10 % 10) ∷ (zero_digit + n % 10) ∷ []))
 
 abbrev pub count_text : Count → List ℕ
 count_text (count.Thousandths n) = decimal (n / 1000) ++ decimals (n % 1000)

@@ -80,10 +80,10 @@ uncapped : (x : Option ℕ) → IfSome x (λ m. m < 1_000_000_000) → option_ma
 uncapped None h = refl
 uncapped (Some m) h = ap (λ k. Some k) (omega arith)
 
-pub short_some : (digits : List ℕ) (n : ℕ) → length digits ≤ DIGITS → Some n ≡ option_map capped (number_of digits) → (Some n ≡ number_of digits) × (n < 1_000_000_000)
+pub short_some : (digits : List ℕ) (n : ℕ) → length digits ≤ DIGITS → Some n ≡ option_map capped (number_of digits) → (Some n ≡ number_of digits) × (n < 10 ^ DIGITS)
 short_some digits n le e =
     let same : Some n ≡ number_of digits = e ∙ uncapped (number_of digits) (nine_below digits le) in
-    (same, subst (λ (x : Option ℕ). IfSome x (λ m. m < 1_000_000_000)) (sym same) (nine_below digits le))
+    (same, subst (λ (x : Option ℕ). IfSome x (λ m. m < 10 ^ DIGITS)) (sym same) (nine_below digits le))
 
 pub short_none : (digits : List ℕ) → length digits ≤ DIGITS → None ≡ option_map capped (number_of digits) → None ≡ number_of digits
 short_none digits le e = e ∙ uncapped (number_of digits) (nine_below digits le)

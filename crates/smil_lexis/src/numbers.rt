@@ -1,6 +1,7 @@
 //! Decimal numbers, of any number of digits.
 
-ghost use Rattle.std.specs.Prelude.{◌≡◌, ℕ, length, ◌<◌, ◌≤◌, ◌*◌, IfSome, option_map, min};
+ghost use Rattle.std.specs.Prelude.{◌≡◌, ℕ, length, ◌<◌, ◌≤◌, ◌*◌, ◌^◌, IfSome, option_map, min};
+ghost use Rattle.smil_grammar.specs.declared.TheConstants.{BILLION};
 ghost use Rattle.smil_grammar.specs.Numbers.{number_of, sixty_of, weight, fraction_of, with_fraction};
 ghost use Rattle.smil_grammar.specs.Values.{short_number_of};
 ghost use Rattle.smil_model.specs.declared.limits.TheConstants.{DIGITS};
@@ -35,7 +36,7 @@ pub fn whole(digits: &[u8]) -> Option<u64>
 pub fn short(digits: &[u8]) -> Option<u32>
     requires { length digits.now ≤ DIGITS }
     ensures number { result ≡ number_of digits.now }
-    ensures bound { IfSome result (λ n. n < 1_000_000_000) }
+    ensures bound { IfSome result (λ n. n < 10 ^ DIGITS) }
 {
     let number = whole(digits)?;
     Some(number as u32)
@@ -44,7 +45,7 @@ pub fn short(digits: &[u8]) -> Option<u32>
 /// The number that 1 to 9 digits write; none for all other texts.
 pub fn short_number(digits: &[u8]) -> Option<u32>
     ensures number { result ≡ short_number_of digits.now }
-    ensures bound { IfSome result (λ n. n < 1_000_000_000) }
+    ensures bound { IfSome result (λ n. n < 10 ^ DIGITS) }
 {
     if digits.len() > DIGITS {
         return None;
@@ -68,7 +69,7 @@ pub fn sixty(digits: &[u8]) -> Option<u64>
 
 // What digits behind a point weigh, the first one so much for each one of it.
 fn weigh(digits: &[u8], first: u64) -> u64
-    requires { first ≤ 1_000_000_000 }
+    requires { first ≤ BILLION }
     ensures sum { result ≡ weight first digits.now }
     ensures bound { result ≤ 300 * first }
 {
@@ -83,7 +84,7 @@ fn weigh(digits: &[u8], first: u64) -> u64
 
 /// What digits behind a point weigh, where there is a digit and nothing else.
 pub fn fraction(digits: &[u8], first: u64) -> Option<u64>
-    requires { first ≤ 1_000_000_000 }
+    requires { first ≤ BILLION }
     ensures sum { result ≡ fraction_of first digits.now }
     ensures bound { IfSome result (λ sum. sum ≤ 300 * first) }
 {
@@ -93,7 +94,7 @@ pub fn fraction(digits: &[u8], first: u64) -> Option<u64>
 
 /// A number with an optional fraction; the number is `CAP` where it is above.
 pub fn decimal(text: &[u8], first: u64) -> Option<(u64, u64)>
-    requires { first ≤ 1_000_000_000 }
+    requires { first ≤ BILLION }
     ensures parts { result ≡ option_map (λ d. (capped d.0, d.1))
         (with_fraction number_of first text.now) }
     ensures bound { IfSome result (λ d. (d.0 ≤ CAP) × (d.1 ≤ 300 * first)) }
@@ -106,7 +107,7 @@ pub fn decimal(text: &[u8], first: u64) -> Option<(u64, u64)>
 
 /// Seconds below 60 of two digits, with an optional fraction.
 pub fn seconds(text: &[u8], first: u64) -> Option<(u64, u64)>
-    requires { first ≤ 1_000_000_000 }
+    requires { first ≤ BILLION }
     ensures parts { result ≡ with_fraction sixty_of first text.now }
     ensures bound { IfSome result (λ d. (d.0 < 60) × (d.1 ≤ 300 * first)) }
 {

@@ -10,6 +10,9 @@ use crate::source::Source;
 use std::alloc::{AllocError, Global};
 use std::marker::Model;
 
+/// How many bytes a source gives at a read at most, where nothing asks for another number.
+pub const CHUNK_BYTES: usize = 4096;
+
 /// Gives the bytes that it was made with, at most `chunk` of them at a read.
 #[derive(Drop)]
 pub struct MemSource {

@@ -14,12 +14,9 @@ use super::status::Status;
 use itoa::Buffer;
 use smil_gen::session_bytes;
 use smil_model::{Bytes, Steps};
-use smil_outside::MemSource;
+use smil_outside::{CHUNK_BYTES, MemSource};
 use std::alloc::{AllocError, Global};
 use std::sync::ledger::Ledger;
-
-// How many bytes of a session that is made are read at a time.
-const CHUNK: usize = 4096;
 
 /// The lines that tell of a session, and how it ended.
 #[derive(Drop)]
@@ -40,7 +37,7 @@ pub(crate) fn summary_of<L: Ledger>(
     ensures counted { steps.old ≤ steps.new }
 {
     let bytes = session_bytes(alloc, number)?;
-    let mut source = MemSource::new(alloc, bytes.slice(), CHUNK, &[])?;
+    let mut source = MemSource::new(alloc, bytes.slice(), CHUNK_BYTES, &[])?;
     let mut opening = Opening::new(alloc, false)?;
     let reader = opening.reader;
     let status = opening
