@@ -6,6 +6,23 @@ ghost use Rattle.smil_grammar.specs.Attributes.{kind_text, kind_called, is_other
 use smil_lexis::texts::is;
 use smil_model::Kind;
 
+// All kinds.
+const KINDS: [Kind; 13] = [
+    Kind::Par,
+    Kind::Seq,
+    Kind::Excl,
+    Kind::PriorityClass,
+    Kind::Img,
+    Kind::Text,
+    Kind::Brush,
+    Kind::Audio,
+    Kind::Video,
+    Kind::Animation,
+    Kind::TextStream,
+    Kind::Ref,
+    Kind::Set,
+];
+
 /// The name of a kind.
 pub fn text(kind: Kind) -> &'static [u8]
     ensures { result.now ≡ kind_text kind }
@@ -31,35 +48,7 @@ pub fn text(kind: Kind) -> &'static [u8]
 pub fn called(word: &[u8]) -> Option<Kind>
     ensures { result ≡ kind_called word.now }
 {
-    if is(word, b"par") {
-        Some(Kind::Par)
-    } else if is(word, b"seq") {
-        Some(Kind::Seq)
-    } else if is(word, b"excl") {
-        Some(Kind::Excl)
-    } else if is(word, b"priorityClass") {
-        Some(Kind::PriorityClass)
-    } else if is(word, b"img") {
-        Some(Kind::Img)
-    } else if is(word, b"text") {
-        Some(Kind::Text)
-    } else if is(word, b"brush") {
-        Some(Kind::Brush)
-    } else if is(word, b"audio") {
-        Some(Kind::Audio)
-    } else if is(word, b"video") {
-        Some(Kind::Video)
-    } else if is(word, b"animation") {
-        Some(Kind::Animation)
-    } else if is(word, b"textstream") {
-        Some(Kind::TextStream)
-    } else if is(word, b"ref") {
-        Some(Kind::Ref)
-    } else if is(word, b"set") {
-        Some(Kind::Set)
-    } else {
-        None
-    }
+    KINDS.iter().copied().find(|kind| is(word, text(*kind)))
 }
 
 /// Whether a word calls an element of SMIL that is left out.

@@ -9,39 +9,13 @@ ghost use Rattle.smil_model.specs.document.Words.{Begins};
 ghost use Rattle.smil_grammar.specs.Allowed.{IsAttrs};
 
 use super::kinds;
+use super::names::NAMES;
 use super::spellings::put_attr;
 use itoa::Buffer;
 use smil_lexis::texts::past;
-use smil_model::{AttrName, Attrs, Bytes, Kind, Node};
+use smil_model::{Attrs, Bytes, Kind, Node};
 use smil_time_list::offsets::count;
 use std::alloc::AllocError;
-
-// All attributes, in the order in which they are printed.
-const NAMES: [AttrName; 23] = [
-    AttrName::Id,
-    AttrName::Begin,
-    AttrName::Dur,
-    AttrName::End,
-    AttrName::Min,
-    AttrName::Max,
-    AttrName::RepeatCount,
-    AttrName::RepeatDur,
-    AttrName::Restart,
-    AttrName::Fill,
-    AttrName::RestartDefault,
-    AttrName::FillDefault,
-    AttrName::Endsync,
-    AttrName::Peers,
-    AttrName::Higher,
-    AttrName::Lower,
-    AttrName::Src,
-    AttrName::Region,
-    AttrName::Alt,
-    AttrName::Title,
-    AttrName::TargetElement,
-    AttrName::AttributeName,
-    AttrName::To,
-];
 
 // Appends two spaces for each level.
 #[tactic(auto, using(smil_model::proofs::Growing::begins_on))]

@@ -7,6 +7,33 @@ use smil_grammar::AttrFault;
 use smil_lexis::texts::is;
 use smil_model::{AttrName, Kind};
 
+/// All attributes, in the order in which they are printed.
+pub const NAMES: [AttrName; 23] = [
+    AttrName::Id,
+    AttrName::Begin,
+    AttrName::Dur,
+    AttrName::End,
+    AttrName::Min,
+    AttrName::Max,
+    AttrName::RepeatCount,
+    AttrName::RepeatDur,
+    AttrName::Restart,
+    AttrName::Fill,
+    AttrName::RestartDefault,
+    AttrName::FillDefault,
+    AttrName::Endsync,
+    AttrName::Peers,
+    AttrName::Higher,
+    AttrName::Lower,
+    AttrName::Src,
+    AttrName::Region,
+    AttrName::Alt,
+    AttrName::Title,
+    AttrName::TargetElement,
+    AttrName::AttributeName,
+    AttrName::To,
+];
+
 /// The name of an attribute.
 pub fn text(name: AttrName) -> &'static [u8]
     ensures { result.now ≡ name_text name }
@@ -39,58 +66,10 @@ pub fn text(name: AttrName) -> &'static [u8]
 }
 
 // The attribute that a word calls.
-fn called(name: &[u8]) -> Option<AttrName>
-    ensures { result ≡ name_called name.now }
+fn called(word: &[u8]) -> Option<AttrName>
+    ensures { result ≡ name_called word.now }
 {
-    if is(name, b"id") {
-        Some(AttrName::Id)
-    } else if is(name, b"begin") {
-        Some(AttrName::Begin)
-    } else if is(name, b"dur") {
-        Some(AttrName::Dur)
-    } else if is(name, b"end") {
-        Some(AttrName::End)
-    } else if is(name, b"min") {
-        Some(AttrName::Min)
-    } else if is(name, b"max") {
-        Some(AttrName::Max)
-    } else if is(name, b"repeatCount") {
-        Some(AttrName::RepeatCount)
-    } else if is(name, b"repeatDur") {
-        Some(AttrName::RepeatDur)
-    } else if is(name, b"restart") {
-        Some(AttrName::Restart)
-    } else if is(name, b"fill") {
-        Some(AttrName::Fill)
-    } else if is(name, b"restartDefault") {
-        Some(AttrName::RestartDefault)
-    } else if is(name, b"fillDefault") {
-        Some(AttrName::FillDefault)
-    } else if is(name, b"endsync") {
-        Some(AttrName::Endsync)
-    } else if is(name, b"peers") {
-        Some(AttrName::Peers)
-    } else if is(name, b"higher") {
-        Some(AttrName::Higher)
-    } else if is(name, b"lower") {
-        Some(AttrName::Lower)
-    } else if is(name, b"src") {
-        Some(AttrName::Src)
-    } else if is(name, b"region") {
-        Some(AttrName::Region)
-    } else if is(name, b"alt") {
-        Some(AttrName::Alt)
-    } else if is(name, b"title") {
-        Some(AttrName::Title)
-    } else if is(name, b"targetElement") {
-        Some(AttrName::TargetElement)
-    } else if is(name, b"attributeName") {
-        Some(AttrName::AttributeName)
-    } else if is(name, b"to") {
-        Some(AttrName::To)
-    } else {
-        None
-    }
+    NAMES.iter().copied().find(|name| is(word, text(*name)))
 }
 
 // Whether a node of this kind can have the attribute.
