@@ -1,13 +1,15 @@
 -- The branch that is open where the next node stands.
-use Rattle.std.proofs.Common.{◌≡◌, ℕ, ◌+◌, ◌-◌, ◌<◌, ◌≤◌, true, false, eqb, List, [], ◌∷◌, ◌++◌, length, take, map, reverse, get_or, Option, Some, refl, sym, ap, subst, ◌∙◌, arith, length-take, length-append}
+use Rattle.std.proofs.Common.{◌≡◌, ℕ, zero, suc, ◌+◌, ◌-◌, ◌<◌, ◌≤◌, Bool, true, false, eqb, List, [], ◌∷◌, ◌++◌, length, take, drop, map, reverse, get_or, Some, refl, sym, ap, subst, ◌∙◌, arith, length-take, length-append}
 use Rattle.std.specs.Prelude.{slice_get}
-use Rattle.std.proofs.lemmas.List.{take_more, reverse-append, length-reverse}
+use Rattle.std.specs.List.{prefix_len, suffix_len}
+use Rattle.std.proofs.lemmas.List.{take_all, take_more, take-append-le, reverse-append, reverse-reverse, length-reverse}
+use Rattle.std.proofs.lemmas.List.Sums.{prefix_len-le-length}
 use Rattle.std.proofs.lemmas.Option.{get_or_from_slice_get, slice_get-get_or}
 use Rattle.smil_model.specs.declared.document.Kind.{Kind}
 use Rattle.smil_model.specs.declared.document.Kind.TheVariants.{Par}
 use Rattle.smil_model.specs.document.Valid.{open_from}
 use Rattle.smil_grammar.specs.Outlines.{last_of}
-use Rattle.smil_outline.specs.Open.{upwards, is_node}
+use Rattle.smil_outline.specs.Open.{upwards, is_other}
 
 pub map_on : {A B : Type 0} (f : A → B) (xs ys : List A) → map f (xs ++ ys) ≡ map f xs ++ map f ys
 map_on f [] ys = refl
@@ -57,22 +59,48 @@ level branch depth some le =
       up = subst (λ (i : ℕ). upwards (take i branch) ≡ found.0.0 ∷ upwards (take (depth - 1) branch)) back (more branch (depth - 1) found.0 (omega arith) (subst (λ (i : ℕ). last_of (take i branch) ≡ Some found.0) (sym back) found.1));
     }
 
--- another node than the parent is closed
-pub closed : (branch : List (ℕ × Kind)) (depth parent : ℕ) → 0 < depth → depth ≤ length branch → is_node (last_of (take depth branch)) parent ≡ false
-    → open_from parent (upwards (take (depth - 1) branch)) ≡ open_from parent (upwards (take depth branch))
-closed branch depth parent some le other =
-    let here = level branch depth some le in
-    let n : ℕ × Kind = here.node in
-    let differ : eqb n.0 parent ≡ false = subst (λ (o : Option (ℕ × Kind)). is_node o parent ≡ false) here.last other in
-    let passed : open_from parent (n.0 ∷ upwards (take (depth - 1) branch)) ≡ open_from parent (upwards (take (depth - 1) branch)) = rw differ refl in
-    sym (ap (open_from parent) here.up ∙ passed)
+map_reverse : {A B : Type 0} (f : A → B) (xs : List A) → reverse (map f xs) ≡ map f (reverse xs)
+map_reverse f [] = refl
+map_reverse f (x ∷ xs) =
+    reverse-append (f x ∷ []) (map f xs)
+    ∙ ap (λ (ys : List _). ys ++ f x ∷ []) (map_reverse f xs)
+    ∙ sym (map_on f (reverse xs) (x ∷ []))
+    ∙ ap (map f) (sym (reverse-append (x ∷ []) xs))
+
+-- what is left where as many are taken from the end of a list as stand at the front of its reverse
+front_reversed : {A : Type 0} (up : List A) (k : ℕ) → k ≤ length up → take (length up - k) (reverse up) ≡ reverse (drop k up)
+front_reversed up zero le = let len : length up - 0 ≡ length up = omega arith in rw len (take_all (length up) (reverse up) (omega (arith, length-reverse up)))
+front_reversed [] (suc k) le = absurd (omega arith)
+front_reversed (x ∷ up) (suc k) le =
+    let len : length (x ∷ up) - suc k ≡ length up - k = omega arith in
+    ap (λ (n : ℕ). take n (reverse (x ∷ up))) len
+    ∙ ap (take (length up - k)) (reverse-append (x ∷ []) up)
+    ∙ take-append-le (length up - k) (reverse up) (x ∷ []) (omega (arith, length-reverse up))
+    ∙ front_reversed up k (omega arith)
+
+-- up to the parent all nodes are closed
+closed : (parent : ℕ) (up : List (ℕ × Kind)) → map (λ (n : ℕ × Kind). n.0) (drop (prefix_len (is_other parent) up) up) ≡ open_from parent (map (λ (n : ℕ × Kind). n.0) up)
+closed parent [] = refl
+closed parent (n ∷ up) = by (eqb n.0 parent) refl (closed parent up)
+  where
+    by : (t : Bool) → eqb n.0 parent ≡ t → map (λ (m : ℕ × Kind). m.0) (drop (prefix_len (is_other parent) up) up) ≡ open_from parent (map (λ (m : ℕ × Kind). m.0) up)
+        → map (λ (m : ℕ × Kind). m.0) (drop (prefix_len (is_other parent) (n ∷ up)) (n ∷ up)) ≡ open_from parent (map (λ (m : ℕ × Kind). m.0) (n ∷ up))
+    by true e further = rw e refl
+    by false e further = let more : 1 + prefix_len (is_other parent) up ≡ suc (prefix_len (is_other parent) up) = omega arith in rw (e, more) further
 
 -- the parent is open, with what stands above it
-pub opened : (branch : List (ℕ × Kind)) (depth parent : ℕ) → 0 < depth → depth ≤ length branch → is_node (last_of (take depth branch)) parent ≡ true
-    → upwards (take depth branch) ≡ open_from parent (upwards (take depth branch))
-opened branch depth parent some le this =
-    let here = level branch depth some le in
-    let n : ℕ × Kind = here.node in
-    let same : eqb n.0 parent ≡ true = subst (λ (o : Option (ℕ × Kind)). is_node o parent ≡ true) here.last this in
-    let kept : open_from parent (n.0 ∷ upwards (take (depth - 1) branch)) ≡ n.0 ∷ upwards (take (depth - 1) branch) = rw same refl in
-    here.up ∙ sym (ap (open_from parent) here.up ∙ kept)
+pub left_open : (branch : List (ℕ × Kind)) (parent n : ℕ) → n ≡ suffix_len (is_other parent) branch → upwards (take (length branch - n) branch) ≡ open_from parent (upwards branch)
+left_open branch parent n is =
+    let up : List (ℕ × Kind) = reverse branch in
+    let k : ℕ = prefix_len (is_other parent) up in
+    let left : take (length branch - n) branch ≡ reverse (drop k up) =
+    ap (λ (m : ℕ). take (length branch - m) branch) is
+    ∙ ap (λ (m : ℕ). take (m - k) branch) (sym (length-reverse branch))
+    ∙ ap (take (length up - k)) (sym (reverse-reverse branch))
+    ∙ front_reversed up k (prefix_len-le-length (is_other parent) up)
+    in
+    map_reverse (λ (m : ℕ × Kind). m.0) (take (length branch - n) branch)
+    ∙ ap (λ (xs : List (ℕ × Kind)). map (λ (m : ℕ × Kind). m.0) (reverse xs)) left
+    ∙ ap (map (λ (m : ℕ × Kind). m.0)) (reverse-reverse (drop k up))
+    ∙ closed parent up
+    ∙ ap (open_from parent) (sym (map_reverse (λ (m : ℕ × Kind). m.0) branch))

@@ -37,8 +37,8 @@ impl Branch {
         }
     }
 
-    // From the root down.
-    fn levels(&self) -> &[(u32, Kind)]
+    /// The nodes from the root down.
+    pub fn levels(&self) -> &[(u32, Kind)]
         ensures { result.now ≡ self.now }
     {
         &self.levels[..self.len]

@@ -1,12 +1,13 @@
 //! Outlines, as they are written.
 
 ghost use Rattle.std.specs.Prelude.{◌≡◌, ◌≤◌, ◌<◌, ◌++◌, ◌∷◌, [], false, length, take, IfOk, OnOk, OnErr};
+ghost use Rattle.std.specs.List.{suffix_len};
 ghost use Rattle.smil_model.specs.declared.limits.TheConstants.{DEPTH};
 ghost use Rattle.smil_grammar.specs.Allowed.{IsAttrs};
 ghost use Rattle.smil_model.specs.document.Words.{Begins, line_feed};
 ghost use Rattle.smil_grammar.specs.Outlines.{outline_text, saved_text};
 ghost use Rattle.smil_model.specs.document.Valid.{IsValid, open_from};
-ghost use Rattle.smil_outline.specs.Open.{upwards, is_node as is_node_with};
+ghost use Rattle.smil_outline.specs.Open.{upwards, is_other};
 ghost use Rattle.smil_outline.specs.Written.{line_text, nodes_text};
 
 use super::branch::Branch;
@@ -14,24 +15,28 @@ use smil_attrs::{write_header, write_node, write_node_2};
 use smil_model::{Bytes, Doc, Kind, Node};
 use std::alloc::AllocError;
 
-// Whether this is the node with this serial.
-fn is_node(node: Option<(u32, Kind)>, serial: u32) -> bool
-    ensures { result ≡ is_node_with node serial }
+// How many nodes at the end of a branch stand below the node with this serial: all, where none
+// has it.
+fn closed(levels: &[(u32, Kind)], serial: u32) -> usize
+    ensures len { result ≡ suffix_len (is_other serial) levels.now }
+    ensures within { result ≤ length levels.now }
 {
-    matches!(node, Some((own, _)) if own == serial)
+    levels
+        .iter()
+        .rev()
+        .take_while(|level| level.0 != serial)
+        .count()
 }
 
-// The depth of a node below this parent, which is on the branch, or of the root: behind the
-// parent's depth the branch is closed.
+// The depth of a node below this parent, which is on the branch, or of the root: the nodes below
+// the parent are closed.
+#[tactic(auto, using(crate::proofs::Depths::left_open))]
 fn depth_below(branch: &Branch, parent: u32) -> usize
     ensures within { result ≤ length branch.now }
     ensures kept { upwards (take result branch.now) ≡ open_from parent (upwards branch.now) }
 {
-    let mut depth = branch.len();
-    while depth > 0 && !is_node(branch.above(depth), parent) {
-        depth -= 1;
-    }
-    depth
+    let levels = branch.levels();
+    levels.len() - closed(levels, parent)
 }
 
 // Appends the line of a node at this depth, with its serial or without.
