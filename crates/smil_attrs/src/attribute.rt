@@ -59,6 +59,7 @@ fn is_seq(parent: Option<Kind>) -> bool
 /// An attribute of a kind below a parent, None being for the root, from its name and its value. The
 /// name's faults come before the value's, and a value that is left out (`UnsupportedValue`) before
 /// one that has no reading (`BadValue`). Places are counted in bytes from the value's first byte.
+/// `Memory` may come where the value is a text or a list.
 pub fn read_attr(
     alloc: Global,
     kind: Kind,

@@ -74,7 +74,7 @@ pub fn write_node(depth: u32, kind: Kind, attrs: &Attrs, out: &mut Bytes) -> Res
     }
 }
 
-// A number behind a text.
+// Appends a text and a number behind it.
 #[tactic(auto, using(smil_model::proofs::Growing::begins_on))]
 fn put_number(text: &[u8], number: u32, out: &mut Bytes) -> Result<(), AllocError>
     ensures ok { OnOk result (out.new ≡ out.old ++ text.now ++ decimal number) }
@@ -101,7 +101,8 @@ fn put_node_2(depth: u32, node: &Node, out: &mut Bytes) -> Result<(), AllocError
 
 /// Appends the canonical line of a node with its serial: that of `write_node` with a space, `#` and
 /// the serial behind the kind. The attributes have to be the kind's, with values that their
-/// grammars have, and the serial is from 1 to 999,999,999. After a refusal `out` is as before.
+/// grammars have. Only a line whose serial is from 1 to 999,999,999 is read again. After a refusal
+/// `out` is as before.
 pub fn write_node_2(depth: u32, node: &Node, out: &mut Bytes) -> Result<(), AllocError>
     requires can_write { IsAttrs false node.now.kind node.now.attrs }
     ensures ok { OnOk result (out.new ≡ out.old
@@ -118,8 +119,8 @@ pub fn write_node_2(depth: u32, node: &Node, out: &mut Bytes) -> Result<(), Allo
     }
 }
 
-/// Appends the header of an outline with serials, `outline 2 next` and the next serial, from 1 to
-/// 999,999,999. No line end is appended. After a refusal `out` is as before.
+/// Appends the header of an outline with serials: `outline 2 next` and the next serial. Only one
+/// from 1 to 999,999,999 is read again. No line end is appended. After a refusal `out` is as before.
 pub fn write_header(next: u32, out: &mut Bytes) -> Result<(), AllocError>
     ensures ok { OnOk result (out.new ≡ out.old ++ header_text next) }
     ensures err { OnErr result (out.new ≡ out.old) }

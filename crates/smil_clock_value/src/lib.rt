@@ -17,6 +17,7 @@ use smil_lexis::texts::cut;
 use smil_model::Bytes;
 use std::alloc::AllocError;
 
+// A tenth, in billionths.
 const TENTH: u64 = 100_000_000;
 
 // Whole milliseconds of a number with its billionths.
@@ -49,7 +50,7 @@ fn partial(minutes: &[u8], rest: &[u8]) -> Option<u64>
     Some((minutes * 60_000 + milliseconds(1000, seconds, billionths)).min(CAP))
 }
 
-// How many milliseconds a metric has.
+// How many milliseconds a metric has; seconds where it is left out.
 fn unit(metric: &[u8]) -> Option<u64>
     ensures { result ≡ unit_of metric.now }
 {
@@ -96,7 +97,8 @@ fn value(text: &[u8]) -> Option<u64>
     }
 }
 
-/// The milliseconds of a clock value.
+/// The milliseconds of a clock value. `TooLong` where they are above the horizon, and `Bad` for a
+/// text outside the grammar.
 pub fn read_clock(bytes: &[u8]) -> Result<i64, ClockFault>
     ensures { result ≡ clock_answer (clock_of bytes.now) }
 {
@@ -107,8 +109,8 @@ pub fn read_clock(bytes: &[u8]) -> Result<i64, ClockFault>
     }
 }
 
-/// The milliseconds of a clock value that isn't above the horizon, as other values have it: none
-/// for all other texts.
+/// The milliseconds of a clock value that isn't above the horizon, as it stands in other values and
+/// in orders; none for all other texts.
 #[tactic(auto, using(crate::proofs::Within::clock_ok, crate::proofs::Within::clock_err))]
 pub fn clock_within(bytes: &[u8]) -> Option<i64>
     ensures value { result ≡ option_map pos (clock_within_limit bytes.now) }
@@ -133,7 +135,7 @@ pub fn write_clock(value: i64, out: &mut Bytes) -> Result<(), AllocError>
     Ok(())
 }
 
-/// What was written is read again.
+/// The printed spelling of each number of milliseconds up to the horizon is read as that number.
 pub fn clock_again()
     ensures { (n : ℕ) → n ≤ nat_abs HORIZON → clock_of (clock_text n) ≡ Some n }
 {}

@@ -79,7 +79,8 @@ names =
 abbrev pub name_called : List ℕ → Option AttrName
 name_called text = find (λ n. bytes_eq text (name_text n)) names
 
--- every node has an id, a priorityClass its three, a set its three, and all others the rest; a set has no media
+-- each kind has an id; a priorityClass has its three besides and no others; of the other kinds only a set has its three,
+-- a set has no src, region or alt, only a par or an excl has endsync, and all have the rest
 abbrev pub has : Kind → AttrName → Bool
 has k name.Id = true
 has k name.Endsync = has_endsync k

@@ -1,5 +1,5 @@
--- How an order's values and node lines are read. A place is counted from 0, and its column in the order's line is the
--- place in the text and the column at which the text begins.
+-- How an order's values and node lines are read. A place is counted from 0, and its column in the order's line is the sum
+-- of the place in the text and the column at which the text begins.
 use Rattle.std.specs.Prelude.{ℕ, ◌-◌, List, [], Option, Some, Result, Ok}
 use Rattle.smil_model.specs.declared.document.Kind.{Kind}
 use Rattle.smil_model.specs.declared.document.Attr.{Attr}

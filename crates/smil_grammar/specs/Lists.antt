@@ -40,7 +40,7 @@ items_from first place (piece ∷ pieces) = do
 abbrev pub pieces_of : List ℕ → List (List ℕ)
 pieces_of text = slice_split (λ b. b == semicolon) text
 
--- at most so many items: their count comes before the items
+-- at most so many items: that there are more is answered before any fault of an item
 abbrev pub few_items : Option ℕ → List ℕ → Result (List Item) ListFault
 few_items first text =
     if nat_lt ITEMS (length (pieces_of text)) then Err TooManyItems

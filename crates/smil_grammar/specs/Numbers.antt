@@ -21,8 +21,8 @@ below_60 n = if nat_lt n 60 then Some n else None
 abbrev pub sixty_of : List ℕ → Option ℕ
 sixty_of text = if length text == 2 then number_of text >>= below_60 else None
 
--- what digits behind a point weigh, where the first one weighs so much for each one of it, and each later
--- one a tenth of the one before it, without a remainder
+-- what digits behind a point weigh: a one at the first place weighs so much, and at each later place a tenth of what it
+-- weighs at the place before, rounded down
 abbrev pub weight : ℕ → List ℕ → ℕ
 weight first [] = 0
 weight first (b ∷ bytes) = (b - zero_digit) * first + weight (first / 10) bytes

@@ -195,10 +195,11 @@ abbrev pub attribute_text : AttrName → Option (List ℕ) → List ℕ
 attribute_text n None = []
 attribute_text n (Some value) = space ∷ (name_text n ++ codes "=\"" ++ value ++ quote ∷ [])
 
--- two spaces per depth, the kind, and the attributes that are there, in their order
+-- the attributes that are there, in their order
 abbrev pub attributes_text : Attrs → List ℕ
 attributes_text attrs = flat_map (λ n. attribute_text n (value_text attrs n)) names
 
+-- a node line: two spaces for each level, the kind, and the attributes
 abbrev pub node_text : ℕ → Kind → Attrs → List ℕ
 node_text depth kind attrs = replicate (2 * depth) space ++ kind_text kind ++ attributes_text attrs
 

@@ -92,7 +92,7 @@ impl From<AllocError> for AttrFault {
 /// Why a node line has no reading. Columns are counted from 1.
 #[derive(Clone, Copy, Debug, PartialEq, Eq)]
 pub enum NodeFault {
-    /// It isn't of a node line's shape.
+    /// It isn't of a node line's shape, has a name twice or calls an unknown kind.
     BadOutline,
     /// The kind, an attribute or a value is left out.
     Unsupported { column: u32 },

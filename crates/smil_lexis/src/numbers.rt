@@ -13,7 +13,7 @@ use smil_model::{DIGITS, HORIZON};
 /// The least number above the horizon, which stands for itself and all greater ones.
 pub const CAP: u64 = HORIZON as u64 + 1;
 
-/// The number that one digit or more write, `CAP` where it is above.
+/// The number that one digit or more write, `CAP` where it is above; none for all other texts.
 pub fn whole(digits: &[u8]) -> Option<u64>
     ensures number { result ≡ option_map capped (number_of digits.now) }
     ensures bound { IfSome result (λ n. n ≤ CAP) }
@@ -53,7 +53,7 @@ pub fn short_number(digits: &[u8]) -> Option<u32>
     short(digits)
 }
 
-/// The number of two digits, where it is below 60.
+/// The number of two digits, where it is below 60; none for all other texts.
 pub fn sixty(digits: &[u8]) -> Option<u64>
     ensures number { result ≡ sixty_of digits.now }
     ensures bound { IfSome result (λ n. n < 60) }
@@ -67,7 +67,8 @@ pub fn sixty(digits: &[u8]) -> Option<u64>
     }
 }
 
-// What digits behind a point weigh, the first one so much for each one of it.
+// What digits behind a point weigh: a one at the first place weighs so much, and at each later
+// place a tenth of what it weighs at the place before.
 fn weigh(digits: &[u8], first: u64) -> u64
     requires { first ≤ BILLION }
     ensures sum { result ≡ weight first digits.now }
@@ -82,7 +83,8 @@ fn weigh(digits: &[u8], first: u64) -> u64
     sum
 }
 
-/// What digits behind a point weigh, where there is a digit and nothing else.
+/// What one digit or more behind a point weigh, where a one at the first place weighs so much; none
+/// for all other texts.
 pub fn fraction(digits: &[u8], first: u64) -> Option<u64>
     requires { first ≤ BILLION }
     ensures sum { result ≡ fraction_of first digits.now }
@@ -92,7 +94,8 @@ pub fn fraction(digits: &[u8], first: u64) -> Option<u64>
     Some(weigh(digits, first))
 }
 
-/// A number with an optional fraction; the number is `CAP` where it is above.
+/// A number, `CAP` where it is above, and what its fraction weighs, 0 where it has none; none for
+/// all other texts.
 pub fn decimal(text: &[u8], first: u64) -> Option<(u64, u64)>
     requires { first ≤ BILLION }
     ensures parts { result ≡ option_map (λ d. (capped d.0, d.1))
@@ -105,7 +108,8 @@ pub fn decimal(text: &[u8], first: u64) -> Option<(u64, u64)>
     }
 }
 
-/// Seconds below 60 of two digits, with an optional fraction.
+/// Seconds below 60 of two digits, and what their fraction weighs, 0 where they have none; none for
+/// all other texts.
 pub fn seconds(text: &[u8], first: u64) -> Option<(u64, u64)>
     requires { first ≤ BILLION }
     ensures parts { result ≡ with_fraction sixty_of first text.now }

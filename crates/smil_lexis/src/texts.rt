@@ -35,7 +35,7 @@ pub fn is_key(byte: u8) -> bool
     (33..=126).contains(&byte) && byte != b'"' && byte != b';' && byte != b'\\'
 }
 
-/// A list of the bytes of a text but its backslashes.
+/// The bytes of a text without its backslashes.
 pub fn unescaped(alloc: Global, text: &[u8]) -> Result<Bytes, AllocError>
     ensures { IfOk result (λ bytes. bytes ≡ unescaped_bytes text.now) }
 {
@@ -55,7 +55,7 @@ pub fn is(text: &[u8], word: &[u8]) -> bool
     text == word
 }
 
-/// A text without the white space at its begin.
+/// A text without the white space at its start.
 pub fn trim_front(text: &[u8]) -> &[u8]
     ensures { result.now ≡ front_trimmed text.now }
 {

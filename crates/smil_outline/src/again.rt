@@ -25,7 +25,7 @@ pub fn attrs_fit()
 {}
 
 /// The canonical outline of a valid document, cut at its line feeds, is its node lines and an empty
-/// rest. No line has a control character, so no carriage return either.
+/// rest. No line has a byte below the space, so no carriage return either.
 pub fn outline_lines()
     ensures cut { (document : Document) → IsValid document
         → slice_split (λ b. b == line_feed) (outline_text document.nodes)
@@ -36,7 +36,7 @@ pub fn outline_lines()
 {}
 
 /// The canonical outline of a valid document none of whose lines has more than 16,384 bytes is read
-/// as the same document, with serials from 1 in document order.
+/// as the same document with the positions in document order, from 1, as serials.
 pub fn outline_again()
     ensures { (document : Document) → IsValid document
         → All (λ (line : List ℕ). length line ≤ LINE_BYTES) (lines_from [] document.nodes)

@@ -313,8 +313,8 @@ impl Builder {
     /// line.
     ///
     /// The header `outline 2 next M` makes it an outline of version 2, whose node lines give their
-    /// serials, each below `M`, which is the next serial. Without it the serials are the places in
-    /// document order, from 1. A node line has two spaces for each level, the kind, in version 2
+    /// serials, each below `M`, which is the next serial. Without it the serials are the positions
+    /// in document order, from 1. A node line has two spaces for each level, the kind, in version 2
     /// the serial as ` #7`, and attributes.
     ///
     /// Refused, in this order: `LongLine` above 16,384 bytes; `BadOutline` for a first line whose
@@ -323,8 +323,8 @@ impl Builder {
     /// an unknown kind; `Unsupported` for a kind that is left out; `BadSerial` in version 2 for a
     /// serial that isn't below the header's number, or that a node has already; `DepthJump` more
     /// than one level below the line before; `TooDeep` at depth 32; `BadPlace` for a second root,
-    /// or where the parent can't have such a child; an attribute's fault, with its column in the
-    /// line from 1; `DuplicateId`; `TooManyElements` behind 8,000 nodes; `TooManyReferences` above
+    /// or where the parent can't have such a child, or not beside those that it has; an attribute's
+    /// fault, with its column in the line from 1; `DuplicateId`; `TooManyElements` behind 8,000 nodes; `TooManyReferences` above
     /// 32,000. `Memory` may come at any node line. After a refusal the builder is as before.
     pub fn push(&mut self, line: &[u8]) -> Result<(), Refusal>
         ensures ok { OnOk result (with_line self.old line.now ≡ Ok self.new) }

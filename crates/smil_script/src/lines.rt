@@ -83,7 +83,8 @@ fn command(alloc: Global, line: &Word<'_>) -> Result<Read, Refusal>
 /// byte is `#`, are `Blank` and take no memory. Every other line without a reading is refused as
 /// `NotACommand`, and one that has a reading but for its clock value as `BadValue` with the clock
 /// value's column, counted in bytes from 1. `Memory` may come where a name or an order is read. An
-/// order that is read is one that a presentation may be given.
+/// order that is read is one that a presentation may be given. A line has fewer than 2,147,483,648
+/// bytes.
 pub fn read_line(alloc: Global, line: &[u8]) -> Result<Read, Refusal>
     requires { IsText line.now }
     ensures reading { GivesReading result (line_of line.now) }
@@ -109,7 +110,8 @@ pub fn opens_load(line: &[u8]) -> bool
     is(word, b"load")
 }
 
-/// Whether a line ends a load: its one word is `%%`. It takes no memory.
+/// Whether a line of fewer than 2,147,483,648 bytes ends a load: its one word is `%%`. It takes no
+/// memory.
 pub fn ends_load(line: &[u8]) -> bool
     requires { IsText line.now }
     ensures { result ≡ ends_load_line line.now }

@@ -174,13 +174,13 @@ fn put_item(item: &Item, out: &mut Bytes) -> Result<(), AllocError>
     }
 }
 
-// The item at a place, and the `;` before it.
-fn put_next(place: usize, item: &Item, out: &mut Bytes) -> Result<(), AllocError>
+// Appends the item with this index in its list, and the `;` before it.
+fn put_next(index: usize, item: &Item, out: &mut Bytes) -> Result<(), AllocError>
     requires { CanWrite item.now }
-    ensures ok { OnOk result (out.new ≡ out.old ++ next_text place item.now) }
+    ensures ok { OnOk result (out.new ≡ out.old ++ next_text index item.now) }
     ensures err { OnErr result (Begins out.old out.new) }
 {
-    if place > 0 {
+    if index > 0 {
         out.append(b";")?;
     }
     put_item(item, out)
@@ -193,8 +193,8 @@ fn put_list(items: &Items, out: &mut Bytes) -> Result<(), AllocError>
     ensures ok { OnOk result (out.new ≡ out.old ++ list_text items.now) }
     ensures err { OnErr result (Begins out.old out.new) }
 {
-    for (place, item) in items.slice().iter().enumerate() {
-        put_next(place, item, out)?;
+    for (index, item) in items.slice().iter().enumerate() {
+        put_next(index, item, out)?;
     }
     Ok(())
 }
