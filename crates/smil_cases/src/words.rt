@@ -2,6 +2,7 @@
 
 use super::fault::Fault;
 use smil_model::{Interval, Time};
+use std::str::FromStr;
 
 /// Words that are separated by one character, taken one after another from the front.
 #[derive(Drop)]
@@ -112,14 +113,17 @@ impl<'a> Words<'a> {
     }
 }
 
-/// A number.
-pub fn number(word: &str) -> Result<i64, Fault> {
-    word.parse::<i64>().ok().ok_or(Fault::Refused)
+/// A number of the type that is wanted.
+pub fn number<T: FromStr>(word: &str) -> Result<T, Fault>
+where
+    T::Err: Drop,
+{
+    word.parse::<T>().ok().ok_or(Fault::Refused)
 }
 
 /// A number from 0 on.
 pub fn natural(word: &str) -> Result<u32, Fault> {
-    word.parse::<u32>().ok().ok_or(Fault::Refused)
+    number(word)
 }
 
 /// A number, `indefinite` or `unresolved`.

@@ -1,6 +1,6 @@
 //! Calls of smil_due.
 
-use smil_cases::{Fault, Words, put_flag, put_number, put_word};
+use smil_cases::{Fault, Words, number, put_flag, put_number, put_word};
 use smil_due::{DueQueue, comes_before, least_scan};
 use smil_model::{Bytes, Duplicate, Key};
 use std::alloc::{AllocError, Global};
@@ -10,16 +10,11 @@ fn key(word: &str) -> Result<Key, Fault> {
     let mut parts = Words::of_word(word);
     Ok(Key {
         value: parts.number()?,
-        class: class(parts.word()?)?,
+        class: number(parts.word()?)?,
         position: parts.natural()?,
         serial: parts.natural()?,
         repeat: parts.flag()?,
     })
-}
-
-// The class of a key.
-fn class(word: &str) -> Result<u8, Fault> {
-    word.parse::<u8>().ok().ok_or(Fault::Refused)
 }
 
 // The serial of a key and whether it is a repeat, or `-` for none.

@@ -139,9 +139,6 @@ fn count(word: &str) -> Result<Option<Count>, Fault> {
     match word {
         "-" => Ok(None),
         "indefinite" => Ok(Some(Count::Indefinite)),
-        _ => match word.parse::<u64>().ok() {
-            Some(total) => Ok(Some(Count::Thousandths(total))),
-            None => Err(Fault::Refused),
-        },
+        _ => Ok(Some(Count::Thousandths(number(word)?))),
     }
 }
