@@ -86,15 +86,9 @@ impl<'a> Attributes<'a> {
     pub fn next(&mut self) -> Option<WrittenAttr<'a>>
         ensures { Passes self.old result self.new }
     {
-        let Some((lead, behind)) = cut(self.text, b'"') else {
-            return None;
-        };
-        let Some((value, rest)) = cut(behind, b'"') else {
-            return None;
-        };
-        let Some(written) = attribute(lead, value, self.place) else {
-            return None;
-        };
+        let (lead, behind) = cut(self.text, b'"')?;
+        let (value, rest) = cut(behind, b'"')?;
+        let written = attribute(lead, value, self.place)?;
         self.place += lead.len() + value.len() + 2;
         self.text = rest;
         Some(written)
