@@ -4,14 +4,14 @@
 ghost use Rattle.std.specs.Prelude.{◌≡◌, ℕ, ◌≤◌, ◌*◌, ◌/◌, ◌+◌, ◌<◌, ◌++◌, pos, nat_abs, Some, IfSome, option_map, List, length, OnOk, OnErr};
 ghost use Rattle.smil_model.specs.declared.times.TheConstants.{HORIZON};
 ghost use Rattle.smil_model.specs.Times.{IsMoment};
-ghost use Rattle.smil_grammar.specs.declared.TheConstants.{BILLION};
+ghost use Rattle.smil_grammar.specs.declared.units.TheConstants.{HOUR, BILLION};
 ghost use Rattle.smil_grammar.specs.Clock.{clock_of, clock_answer, clock_within as clock_within_limit, clock_text, full as full_value, partial as partial_value, unit_of, time_count as time_count_value, is_of_number as is_of_number_byte};
 ghost use Rattle.std.specs.List.{prefix_len};
 ghost use Rattle.smil_lexis.specs.Capped.{capped};
 
 use itoa::Buffer;
-use smil_grammar::BILLION;
 pub use smil_grammar::ClockFault;
+use smil_grammar::{BILLION, HOUR, MINUTE, SECOND};
 use smil_lexis::numbers::{CAP, decimal, seconds, sixty, whole};
 use smil_lexis::texts::cut;
 use smil_model::Bytes;
@@ -22,7 +22,7 @@ const TENTH: u64 = 100_000_000;
 
 // Whole milliseconds of a number with its billionths.
 fn milliseconds(unit: u64, number: u64, billionths: u64) -> u64
-    requires unit { unit ≤ 3_600_000 }
+    requires unit { unit ≤ HOUR }
     requires number { number ≤ CAP }
     requires billionths { billionths ≤ 30_000_000_000 }
     ensures value { result ≡ number * unit + billionths * unit / BILLION }
@@ -38,7 +38,7 @@ fn full(hours: &[u8], minutes: &[u8], rest: &[u8]) -> Option<u64>
     let hours = whole(hours)?;
     let minutes = sixty(minutes)?;
     let (seconds, billionths) = seconds(rest, TENTH)?;
-    Some((hours * 3_600_000 + minutes * 60_000 + milliseconds(1000, seconds, billionths)).min(CAP))
+    Some((hours * HOUR + minutes * MINUTE + milliseconds(SECOND, seconds, billionths)).min(CAP))
 }
 
 // A partial clock value: minutes and seconds.
@@ -47,7 +47,7 @@ fn partial(minutes: &[u8], rest: &[u8]) -> Option<u64>
 {
     let minutes = sixty(minutes)?;
     let (seconds, billionths) = seconds(rest, TENTH)?;
-    Some((minutes * 60_000 + milliseconds(1000, seconds, billionths)).min(CAP))
+    Some((minutes * MINUTE + milliseconds(SECOND, seconds, billionths)).min(CAP))
 }
 
 // How many milliseconds a metric has; seconds where it is left out.
@@ -55,10 +55,10 @@ fn unit(metric: &[u8]) -> Option<u64>
     ensures { result ≡ unit_of metric.now }
 {
     match metric {
-        [] => Some(1000),
-        [b'h'] => Some(3_600_000),
-        [b'm', b'i', b'n'] => Some(60_000),
-        [b's'] => Some(1000),
+        [] => Some(SECOND),
+        [b'h'] => Some(HOUR),
+        [b'm', b'i', b'n'] => Some(MINUTE),
+        [b's'] => Some(SECOND),
         [b'm', b's'] => Some(1),
         _ => None,
     }

@@ -3,7 +3,7 @@ use Rattle.std.specs.Prelude.{ℕ, ◌+◌, ◌*◌, ◌/◌, ℤ, pos, nat_abs,
 use Rattle.std.specs.List.{prefix_len}
 use Rattle.std.specs.Char.{is_ascii_digit}
 use Rattle.smil_model.specs.declared.times.TheConstants.{HORIZON}
-use Rattle.smil_grammar.specs.declared.TheConstants.{BILLION}
+use Rattle.smil_grammar.specs.declared.units.TheConstants.{SECOND, MINUTE, HOUR, BILLION}
 use Rattle.smil_grammar.specs.Texts.{◌>>=◌, cut_at, point, colon}
 use Rattle.smil_grammar.specs.Numbers.{number_of, sixty_of, with_fraction}
 use Rattle.smil_grammar.specs.declared.fault.ClockFault.{ClockFault}
@@ -23,22 +23,22 @@ full hours minutes seconds = do
   h ← number_of hours
   m ← sixty_of minutes
   s ← with_fraction sixty_of tenth seconds
-  Some (h * 3_600_000 + m * 60_000 + milliseconds 1000 s)
+  Some (h * HOUR + m * MINUTE + milliseconds SECOND s)
 
 -- a partial clock value: minutes, and seconds with an optional fraction
 abbrev pub partial : List ℕ → List ℕ → Option ℕ
 partial minutes seconds = do
   m ← sixty_of minutes
   s ← with_fraction sixty_of tenth seconds
-  Some (m * 60_000 + milliseconds 1000 s)
+  Some (m * MINUTE + milliseconds SECOND s)
 
 -- how many milliseconds a metric has; seconds where it is left out
 abbrev pub unit_of : List ℕ → Option ℕ
 unit_of metric =
-    if bytes_eq metric (codes "") then Some 1000
-    else (if bytes_eq metric (codes "h") then Some 3_600_000
-    else (if bytes_eq metric (codes "min") then Some 60_000
-    else (if bytes_eq metric (codes "s") then Some 1000
+    if bytes_eq metric (codes "") then Some SECOND
+    else (if bytes_eq metric (codes "h") then Some HOUR
+    else (if bytes_eq metric (codes "min") then Some MINUTE
+    else (if bytes_eq metric (codes "s") then Some SECOND
     else (if bytes_eq metric (codes "ms") then Some 1 else None))))
 
 -- a byte of a number with a fraction

@@ -1,7 +1,7 @@
 //! Decimal numbers, of any number of digits.
 
 ghost use Rattle.std.specs.Prelude.{◌≡◌, ℕ, length, ◌<◌, ◌≤◌, ◌*◌, ◌^◌, IfSome, option_map, min};
-ghost use Rattle.smil_grammar.specs.declared.TheConstants.{BILLION};
+ghost use Rattle.smil_grammar.specs.declared.units.TheConstants.{BILLION};
 ghost use Rattle.smil_grammar.specs.Numbers.{number_of, sixty_of, weight, fraction_of, with_fraction};
 ghost use Rattle.smil_grammar.specs.Values.{short_number_of};
 ghost use Rattle.smil_model.specs.declared.limits.TheConstants.{DIGITS};
