@@ -1,4 +1,4 @@
--- A node line that is written has no control character.
+-- A node line that is written has no byte below the space.
 use Rattle.std.proofs.Common.{◌≡◌, ℕ, zero, suc, ◌*◌, ◌≤◌, Bool, true, false, not, eqb, ltb, List, [], ◌∷◌, ◌++◌, replicate, flat_map, Option, Some, None, option_map, refl, ap, ◌∙◌, arith, append_assoc}
 use Rattle.std.specs.Prelude.{codes, IfSome, All}
 use Rattle.std.specs.List.{AllByRecursion, list_all, slice_split}
@@ -24,7 +24,7 @@ use Rattle.smil_lexis.proofs.Fronts.{Passes, tested, passes_weaker, passes_on}
 use Rattle.smil_attrs.proofs.ValueBytes.{attr_kept}
 use Rattle.smil_outline.proofs.Fitting.{IsInRange, AreInRange, is_attr, in_range}
 
--- a byte that is no control character
+-- a byte that is not below the space
 abbrev pub is_shown : ℕ → Bool
 is_shown b = not (ltb b 32)
 

@@ -1,4 +1,4 @@
--- A valid document's canonical outline is read as the same nodes, each with its place as its serial.
+-- A valid document's canonical outline is read as the same nodes, each with its position as its serial.
 use Rattle.std.proofs.Common.{◌≡◌, ℕ, zero, suc, ◌+◌, ◌<◌, ◌≤◌, Bool, true, false, not, cond, eqb, ltb, ◌&&◌, ◌||◌, List, [], ◌∷◌, ◌++◌, ◌-◌, length, take, map, reverse, Option, Some, None, option_map, Result, Ok, refl, sym, ap, subst, ◌∙◌, arith, length-append, append_assoc, add-one}
 use Rattle.std.specs.Prelude.{decimal, unwrap_or, bytes_eq, All, slice_get}
 use Rattle.std.specs.List.{list_any, list_all, AllByRecursion}
@@ -379,7 +379,7 @@ made_is number nodes read serial n above same under =
     ap (λ (s : ℕ). record { serial = s; kind = n.kind; parent = unwrap_or (option_map (λ (m : ℕ × Kind). m.0) (last_of above)) 0; attrs = n.attrs }) same
     ∙ ap (λ (p : ℕ). record { serial = number n.serial; kind = n.kind; parent = p; attrs = n.attrs }) under.serial
 
--- its place is its number
+-- its position is its number
 place_is : (nodes before : List Node) (n : Node) (rest : List Node) → nodes ≡ reverse before ++ n ∷ rest → list_any (has_serial n.serial) (reverse before) ≡ false
     → length (map (new (number_of nodes)) (reverse before)) + 1 ≡ number_of nodes n.serial
 place_is nodes before n rest all first =

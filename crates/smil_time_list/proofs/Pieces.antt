@@ -10,7 +10,7 @@ use Rattle.smil_lexis.proofs.Pieces.{cut_pieces}
 abbrev Says : List ℕ → Option (List ℕ × List ℕ) → Type 0
 Says text found = MatchOption found (pieces_of text ≡ text ∷ []) (λ cut. (pieces_of text ≡ cut.0 ∷ pieces_of cut.1) × (length cut.0 + 1 + length cut.1 ≡ length text))
 
--- what a call says of the pieces that finds the first cut
+-- what a call that finds the first cut says of the pieces
 pub split_says : {T : Type 0} (view : T → List ℕ × List ℕ) (text : List ℕ) (r : Option T) → option_map view r ≡ cut_at 59 text
     → MatchOption r (pieces_of text ≡ text ∷ []) (λ cut. pieces_of text ≡ (view cut).0 ∷ pieces_of (view cut).1) × IfSome r (λ cut. length (view cut).0 + 1 + length (view cut).1 ≡ length text)
 split_says view text None e = let s : Says text None = subst (Says text) (sym e) (cut_pieces 59 text) in (s, tt)
