@@ -1,5 +1,5 @@
 -- Outlines: node lines, two spaces deeper for each level, give a document, or the first fault.
-use Rattle.std.specs.Prelude.{ℕ, ◌+◌, ◌-◌, ◌/◌, ◌%◌, Bool, false, not, ◌&&◌, ◌||◌, List, [], ◌∷◌, ◌++◌, length, take, drop, Option, Some, None, option_map, unwrap_or, is_some, Result, Ok, Err, nat_lt, nat_le, ◌==◌, if◌then◌else◌, bytes_eq, codes, flat_map, slice_get}
+use Rattle.std.specs.Prelude.{ℕ, ◌+◌, ◌-◌, ◌/◌, ◌%◌, Bool, true, false, not, ◌&&◌, ◌||◌, List, [], ◌∷◌, ◌++◌, length, take, drop, Option, Some, None, option_map, unwrap_or, is_some, Result, Ok, Err, nat_lt, nat_le, ◌==◌, if◌then◌else◌, bytes_eq, codes, flat_map, slice_get}
 use Rattle.std.specs.List.{prefix_len, list_any, starts_with}
 use Rattle.std.specs.Bool.{nat_eq}
 use Rattle.smil_model.specs.declared.limits.TheConstants.{DEPTH, LINE_BYTES}
@@ -19,7 +19,6 @@ use Rattle.smil_model.specs.document.Edits.{no_attrs}
 use Rattle.smil_model.specs.document.Values.{is_seq_parent}
 use Rattle.smil_model.specs.document.Valid.{may_stand, references, references_among, same_test}
 use Rattle.smil_model.specs.document.Words.{line_feed}
-use Rattle.smil_model.specs.shown.Orders.{unless}
 use Rattle.smil_grammar.specs.Spellings.{node_text, saved_node_text, header_text}
 
 -- the nodes so far, the serials and kinds of the last node and those above it, from the root down, and the next serial
@@ -47,6 +46,11 @@ refused spaces fault.Memory = refusal.Memory
 abbrev pub in_line : {A : Type 0} → ℕ → Result A NodeFault → Result A Refusal
 in_line spaces (Ok x) = Ok x
 in_line spaces (Err e) = Err (refused spaces e)
+
+-- goes on unless this holds
+abbrev pub unless : Bool → Refusal → Result (Unit {0}) Refusal
+unless true e = Err e
+unless false e = Ok tt
 
 -- an excl doesn't mix classes with other children
 abbrev pub mixes : List Node → Option (ℕ × Kind) → Kind → Bool
@@ -92,12 +96,12 @@ is_misplaced outline above kind =
 abbrev pub node_within : Limits → Outline → ℕ → List (ℕ × Kind) → Kind → ℕ → Shape
     → Result Node Refusal
 node_within allowed outline spaces above kind serial shape = do
-  placed ← unless (is_misplaced outline above kind) refusal.BadPlace tt
+  placed ← unless (is_misplaced outline above kind) refusal.BadPlace
   attrs ← in_line spaces (attrs_in (last_of above) kind shape)
-  single ← unless (has_id outline.nodes attrs.id) refusal.DuplicateId tt
-  few ← unless (nat_le allowed.nodes (length outline.nodes)) refusal.TooManyElements tt
+  single ← unless (has_id outline.nodes attrs.id) refusal.DuplicateId
+  few ← unless (nat_le allowed.nodes (length outline.nodes)) refusal.TooManyElements
   light ← unless (nat_lt allowed.references (references outline.nodes + references_among attrs))
-      refusal.TooManyReferences tt
+      refusal.TooManyReferences
   Ok (record {
     serial = serial;
     kind = kind;
@@ -131,11 +135,11 @@ with_node outline depth node = record outline {
 abbrev pub shape_within : Limits → Outline → ℕ → Option (ℕ × Shape) → Result Outline Refusal
 shape_within allowed outline spaces None = Err refusal.BadOutline
 shape_within allowed outline spaces (Some (serial, shape)) = do
-  even ← unless (spaces % 2 == 1) refusal.BadOutline tt
+  even ← unless (spaces % 2 == 1) refusal.BadOutline
   kind ← in_line spaces (kind_of_shape (Some shape))
-  fresh ← unless (is_bad_serial outline outline.next serial) refusal.BadSerial tt
-  near ← unless (nat_lt (length outline.branch) (spaces / 2)) refusal.DepthJump tt
-  flat ← unless (nat_le DEPTH (spaces / 2)) refusal.TooDeep tt
+  fresh ← unless (is_bad_serial outline outline.next serial) refusal.BadSerial
+  near ← unless (nat_lt (length outline.branch) (spaces / 2)) refusal.DepthJump
+  flat ← unless (nat_le DEPTH (spaces / 2)) refusal.TooDeep
   node ← node_within allowed outline spaces (take (spaces / 2) outline.branch) kind serial shape
   Ok (with_node outline (spaces / 2) node)
 
@@ -149,7 +153,7 @@ read_within allowed outline line =
 -- one more line
 abbrev pub line_within : Limits → Outline → List ℕ → Result Outline Refusal
 line_within allowed outline line = do
-  short ← unless (nat_lt LINE_BYTES (length line)) refusal.LongLine tt
+  short ← unless (nat_lt LINE_BYTES (length line)) refusal.LongLine
   read_within allowed outline line
 
 -- line by line, up to the first refusal

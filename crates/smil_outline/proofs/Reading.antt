@@ -17,8 +17,7 @@ use Rattle.smil_grammar.specs.Results.{◌>>=◌}
 use Rattle.smil_grammar.specs.Attributes.{kind_text, names}
 use Rattle.smil_grammar.specs.Spellings.{value_text, attribute_text, node_text, saved_node_text}
 use Rattle.smil_grammar.specs.Nodes.{Shape, is_space, is_no_space, kind_of_shape}
-use Rattle.smil_model.specs.shown.Orders.{unless}
-use Rattle.smil_grammar.specs.Outlines.{Outline, in_line, mixes, has_id, attrs_in, last_of, is_bad_serial, opens_saved, shape_in, node_within, shape_within, with_node, with_line}
+use Rattle.smil_grammar.specs.Outlines.{Outline, unless, in_line, mixes, has_id, attrs_in, last_of, is_bad_serial, opens_saved, shape_in, node_within, shape_within, with_node, with_line}
 use Rattle.smil_attrs.proofs.Noded.{IsShape}
 use Rattle.smil_attrs.proofs.Printed.{behind_kind, saved_parts}
 use Rattle.smil_outline.proofs.Parts.{as_node}
@@ -127,11 +126,11 @@ node_is outline spaces serial above k attrs shape room read =
 -- the steps of a line
 abbrev steps : Outline → ℕ → ℕ → Shape → ℕ → Result Outline Refusal
 steps outline spaces serial shape depth = do
-  even ← unless (eqb (spaces % 2) 1) refusal.BadOutline tt
+  even ← unless (eqb (spaces % 2) 1) refusal.BadOutline
   kind ← in_line spaces (kind_of_shape (Some shape))
-  fresh ← unless (is_bad_serial outline outline.next serial) refusal.BadSerial tt
-  near ← unless (ltb (length outline.branch) depth) refusal.DepthJump tt
-  flat ← unless (leb DEPTH depth) refusal.TooDeep tt
+  fresh ← unless (is_bad_serial outline outline.next serial) refusal.BadSerial
+  near ← unless (ltb (length outline.branch) depth) refusal.DepthJump
+  flat ← unless (leb DEPTH depth) refusal.TooDeep
   node ← node_within limits outline spaces (take depth outline.branch) kind serial shape
   Ok (with_node outline depth node)
 

@@ -31,8 +31,7 @@ use Rattle.smil_time_list.proofs.Printable.{IsCounted, count_small}
 use Rattle.smil_laws.proofs.Lineages.{swap_eqb}
 use Rattle.smil_outline.specs.Branches.{is_known, IsRead}
 use Rattle.smil_outline.proofs.Alike.{other_serial, known_on, known_self}
-use Rattle.smil_model.specs.shown.Orders.{unless}
-use Rattle.smil_grammar.specs.Outlines.{Outline, in_line, mixes, has_id as has_id_among, attrs_in, last_of, no_lines, shape_in, is_bad_serial, is_misplaced, opens_saved, header_of, with_header, node_within, shape_within, read_within, with_line, with_lines, ended, outline_of}
+use Rattle.smil_grammar.specs.Outlines.{Outline, unless, in_line, mixes, has_id as has_id_among, attrs_in, last_of, no_lines, shape_in, is_bad_serial, is_misplaced, opens_saved, header_of, with_header, node_within, shape_within, read_within, with_line, with_lines, ended, outline_of}
 use Rattle.smil_grammar.specs.Outlines.{with_node as outline_with}
 use Rattle.smil_attrs.proofs.Noded.{attrs_had_from}
 use Rattle.smil_outline.specs.Open.{upwards}
@@ -44,7 +43,7 @@ use Rattle.smil_outline.proofs.RoundTrip.{found}
 
 -- ---- a line that is read
 
-goes : {A : Type 0} (t : Bool) (e : Refusal) (r : Result A Refusal) (x : A) → (unless t e tt >>= λ _. r) ≡ Ok x → (t ≡ false) × (r ≡ Ok x)
+goes : {A : Type 0} (t : Bool) (e : Refusal) (r : Result A Refusal) (x : A) → (unless t e >>= λ _. r) ≡ Ok x → (t ≡ false) × (r ≡ Ok x)
 goes true e r x h = absurd cc
 goes false e r x h = (refl, h)
 

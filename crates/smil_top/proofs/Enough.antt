@@ -19,7 +19,7 @@ use Rattle.smil_model.specs.document.Document.{Document, node_at}
 use Rattle.smil_model.specs.document.Edits.{no_attrs, attr_set, node_inserted}
 use Rattle.smil_model.specs.document.Limits.{Limits}
 use Rattle.smil_model.specs.document.Valid.{is_id_taken, kind_of, references, references_among}
-use Rattle.smil_model.specs.shown.Orders.{Presentation, and_then, unless, id_in, kept_where, unless_too_full, course_of, at_moment_with, with_logged, node_of as node_of_who, found as node_found, on_node, set_checked, attr_set_by, attr_unset_by, may_insert, insert_checked, node_inserted_by, node_removed_from, resolved_with, opened_within, outcome_within}
+use Rattle.smil_model.specs.shown.Orders.{Presentation, and_then, unless as model_unless, id_in, kept_where, unless_too_full, course_of, at_moment_with, with_logged, node_of as node_of_who, found as node_found, on_node, set_checked, attr_set_by, attr_unset_by, may_insert, insert_checked, node_inserted_by, node_removed_from, resolved_with, opened_within, outcome_within}
 use Rattle.smil_model.specs.happening.Resolution.{diary_within}
 use Rattle.smil_model.specs.document.Values.{is_seq_parent}
 use Rattle.smil_grammar.specs.declared.read.Read.{Read}
@@ -31,7 +31,7 @@ use Rattle.smil_grammar.specs.Positions.{Piece}
 use Rattle.smil_grammar.specs.Scripts.{Reading, given, timed, end_timed, finish, or_refused, to, named, is_title, order_line, command, first_of, line_of}
 use Rattle.smil_grammar.specs.Formats.{formats, written_at}
 use Rattle.smil_grammar.specs.Nodes.{Shape, is_space, shape_of, kind_of_shape}
-use Rattle.smil_grammar.specs.Outlines.{Outline, no_lines, is_misplaced, is_bad_serial, has_id, in_line, attrs_in, last_of, node_within, opens_saved, shape_in, with_header, header_of, shape_within, read_within, line_within, ended, with_node}
+use Rattle.smil_grammar.specs.Outlines.{Outline, no_lines, unless, is_misplaced, is_bad_serial, has_id, in_line, attrs_in, last_of, node_within, opens_saved, shape_in, with_header, header_of, shape_within, read_within, line_within, ended, with_node}
 use Rattle.smil_top.specs.Cut.{NumberedLine, LoadLines, OrderLines, single, load}
 use Rattle.smil_top.specs.Session.{Session, presentation_of, may_load}
 use Rattle.smil_top.specs.Answers.{RefusedOrder, Answer, LoadedDocument, at_line, read_of, found_presentation, said_within, name_of, outline_from, given_within, loaded_within, silent, answer_within, check_within}
@@ -57,13 +57,13 @@ in_line_sure spaces (Err (fault.BadValue column)) h = no _ refl
 in_line_sure spaces (Err (fault.TooManyItems column)) h = no _ refl
 in_line_sure spaces (Err fault.Memory) h = let never : true ≡ false = h.never in absurd cc
 
-check_sure : {A : Type 0} (b : Bool) (refusal : Refusal) (x : A) → is_memory refusal ≡ false → Fine (unless b refusal x)
-check_sure true refusal x h = no refusal h
-check_sure false refusal x h = made is_memory x
+unless_sure : (b : Bool) (refusal : Refusal) → is_memory refusal ≡ false → Fine (unless b refusal)
+unless_sure true refusal h = no refusal h
+unless_sure false refusal h = made is_memory tt
 
 -- a check, and what goes on behind it
-behind : {B : Type 0} (b : Bool) (refusal : Refusal) (f : Unit {0} → Result B Refusal) → is_memory refusal ≡ false → ((x : Unit {0}) → Fine (f x)) → Fine (unless b refusal tt >>= f)
-behind b refusal f h k = onward is_memory (unless b refusal tt) f (check_sure b refusal tt h) k
+behind : {B : Type 0} (b : Bool) (refusal : Refusal) (f : Unit {0} → Result B Refusal) → is_memory refusal ≡ false → ((x : Unit {0}) → Fine (f x)) → Fine (unless b refusal >>= f)
+behind b refusal f h k = onward is_memory (unless b refusal) f (unless_sure b refusal h) k
 
 -- the steps of a node from its counts, its id and its attributes on
 abbrev node_made : ℕ → List (ℕ × Kind) → Kind → Attrs → Node
@@ -71,12 +71,12 @@ node_made serial above kind attrs = record { serial = serial; kind = kind; paren
 
 abbrev counted : Outline → Limits → Attrs → Node → Result Node Refusal
 counted outline allowed attrs node = do
-  few ← unless (nat_le allowed.nodes (length outline.nodes)) refusal.TooManyElements tt
-  light ← unless (nat_lt allowed.references (references outline.nodes + references_among attrs)) refusal.TooManyReferences tt
+  few ← unless (nat_le allowed.nodes (length outline.nodes)) refusal.TooManyElements
+  light ← unless (nat_lt allowed.references (references outline.nodes + references_among attrs)) refusal.TooManyReferences
   Ok node
 
 abbrev with_id : Outline → List (ℕ × Kind) → Kind → ℕ → Limits → Attrs → Result Node Refusal
-with_id outline above kind serial allowed attrs = unless (has_id outline.nodes attrs.id) refusal.DuplicateId tt >>= λ _. counted outline allowed attrs (node_made serial above kind attrs)
+with_id outline above kind serial allowed attrs = unless (has_id outline.nodes attrs.id) refusal.DuplicateId >>= λ _. counted outline allowed attrs (node_made serial above kind attrs)
 
 abbrev with_attrs : Outline → ℕ → List (ℕ × Kind) → Kind → ℕ → Shape → Limits → Result Node Refusal
 with_attrs outline spaces above kind serial shape allowed = in_line spaces (attrs_in (last_of above) kind shape) >>= with_id outline above kind serial allowed
@@ -85,7 +85,7 @@ counted_sure : (outline : Outline) (allowed : Limits) (attrs : Attrs) (node : No
 counted_sure outline allowed attrs node =
     let many : Bool = nat_le allowed.nodes (length outline.nodes) in
     let heavy : Bool = nat_lt allowed.references (references outline.nodes + references_among attrs) in
-    behind many refusal.TooManyElements (λ _. unless heavy refusal.TooManyReferences tt >>= λ _. Ok node) refl
+    behind many refusal.TooManyElements (λ _. unless heavy refusal.TooManyReferences >>= λ _. Ok node) refl
     (λ _. behind heavy refusal.TooManyReferences (λ _. Ok node) refl (λ _. made is_memory node))
 
 node_within_sure : (allowed : Limits) (outline : Outline) (spaces : ℕ) (above : List (ℕ × Kind)) (kind : Kind) (serial : ℕ) (shape : Shape) → Fine (node_within allowed outline spaces above kind serial shape)
@@ -99,19 +99,19 @@ node_within_sure allowed outline spaces above kind serial shape =
 -- the steps of a line from its place on, and the check of its serial before them
 abbrev placed : Limits → Outline → ℕ → ℕ → Shape → Kind → Result Outline Refusal
 placed allowed outline spaces serial shape kind = do
-  near ← unless (nat_lt (length outline.branch) (spaces / 2)) refusal.DepthJump tt
-  flat ← unless (nat_le DEPTH (spaces / 2)) refusal.TooDeep tt
+  near ← unless (nat_lt (length outline.branch) (spaces / 2)) refusal.DepthJump
+  flat ← unless (nat_le DEPTH (spaces / 2)) refusal.TooDeep
   node ← node_within allowed outline spaces (take (spaces / 2) outline.branch) kind serial shape
   Ok (with_node outline (spaces / 2) node)
 
 abbrev fresh : Limits → Outline → ℕ → ℕ → Shape → Kind → Result Outline Refusal
-fresh allowed outline spaces serial shape kind = unless (is_bad_serial outline outline.next serial) refusal.BadSerial tt >>= λ _. placed allowed outline spaces serial shape kind
+fresh allowed outline spaces serial shape kind = unless (is_bad_serial outline outline.next serial) refusal.BadSerial >>= λ _. placed allowed outline spaces serial shape kind
 
 placed_sure : (allowed : Limits) (outline : Outline) (spaces serial : ℕ) (shape : Shape) (kind : Kind) → Fine (placed allowed outline spaces serial shape kind)
 placed_sure allowed outline spaces serial shape kind =
     let node : Result Node Refusal = node_within allowed outline spaces (take (spaces / 2) outline.branch) kind serial shape in
     let last : Node → Result Outline Refusal = λ n. Ok (with_node outline (spaces / 2) n) in
-    behind (nat_lt (length outline.branch) (spaces / 2)) refusal.DepthJump (λ _. unless (nat_le DEPTH (spaces / 2)) refusal.TooDeep tt >>= λ _. node >>= last) refl
+    behind (nat_lt (length outline.branch) (spaces / 2)) refusal.DepthJump (λ _. unless (nat_le DEPTH (spaces / 2)) refusal.TooDeep >>= λ _. node >>= last) refl
     (λ _. behind (nat_le DEPTH (spaces / 2)) refusal.TooDeep (λ _. node >>= last) refl
     (λ _. onward is_memory node last (node_within_sure allowed outline spaces (take (spaces / 2) outline.branch) kind serial shape) (λ n. made is_memory (with_node outline (spaces / 2) n))))
 
@@ -171,9 +171,13 @@ model_onward : {A B : Type 0} (r : Result A Refusal) (f : A → Result B Refusal
 model_onward (Ok x) f h k = k x
 model_onward (Err e) f h k = record { never = h.never }
 
+check_sure : {A : Type 0} (b : Bool) (refusal : Refusal) (x : A) → is_memory refusal ≡ false → Fine (model_unless b refusal x)
+check_sure true refusal x h = no refusal h
+check_sure false refusal x h = made is_memory x
+
 -- a check, and what goes on behind it
-checked : {A B : Type 0} (b : Bool) (refusal : Refusal) (x : A) (f : A → Result B Refusal) → is_memory refusal ≡ false → ((x : A) → Fine (f x)) → Fine (and_then (unless b refusal x) f)
-checked b refusal x f h k = model_onward (unless b refusal x) f (check_sure b refusal x h) k
+checked : {A B : Type 0} (b : Bool) (refusal : Refusal) (x : A) (f : A → Result B Refusal) → is_memory refusal ≡ false → ((x : A) → Fine (f x)) → Fine (and_then (model_unless b refusal x) f)
+checked b refusal x f h k = model_onward (model_unless b refusal x) f (check_sure b refusal x h) k
 
 kept_sure : (p : Presentation) (o : Option (List Entry)) → Fine (kept_where p o)
 kept_sure p None = no refusal.DiaryFull refl
@@ -201,15 +205,15 @@ resolved_sure allowed p document = room_sure allowed (record { document = docume
 set_sure : (allowed : Limits) (document : Document) (n : Node) (given : Attr) → Fine (set_checked allowed document n given)
 set_sure allowed document n chosen =
     checked (is_id_taken document.nodes n.serial (id_in chosen)) refusal.DuplicateId (attr_set document n.serial chosen)
-    (λ (after : Document). unless (nat_lt allowed.references (references after.nodes)) refusal.TooManyReferences after) refl
+    (λ (after : Document). model_unless (nat_lt allowed.references (references after.nodes)) refusal.TooManyReferences after) refl
     (λ after. check_sure (nat_lt allowed.references (references after.nodes)) refusal.TooManyReferences after refl)
 
 insert_sure : (allowed : Limits) (document : Document) (parent place : ℕ) (kind : Kind) (attrs : Attrs) → Fine (insert_checked allowed document parent place kind attrs)
 insert_sure allowed document parent place kind attrs =
-    let light : Document → Result Document Refusal = λ d. unless (nat_lt allowed.references (references d.nodes)) refusal.TooManyReferences d in
+    let light : Document → Result Document Refusal = λ d. model_unless (nat_lt allowed.references (references d.nodes)) refusal.TooManyReferences d in
     let many : Document → Bool = λ after. nat_lt allowed.nodes (length after.nodes) || nat_le SERIALS document.next in
     checked (is_id_taken document.nodes document.next attrs.id) refusal.DuplicateId (node_inserted document parent place kind attrs)
-    (λ (after : Document). and_then (unless (many after) refusal.TooManyElements after) light) refl
+    (λ (after : Document). and_then (model_unless (many after) refusal.TooManyElements after) light) refl
     (λ after. checked (many after) refusal.TooManyElements after light refl (λ d. check_sure (nat_lt allowed.references (references d.nodes)) refusal.TooManyReferences d refl))
 
 may_sure : (document : Document) (n : Node) (place : ℕ) (kind : Kind) → Fine (may_insert document n place kind)
