@@ -1,4 +1,5 @@
 pub mod Times
+pub mod Rising
 pub mod document
 pub mod diary
 pub mod interval

@@ -1,10 +1,13 @@
--- Lists in rising order: where a value stands, what is put in and what is taken out.
-use Rattle.std.proofs.Common.{◌≡◌, refl, sym, ◌∙◌, ap, ℕ, suc, zero, ◌≤◌, ◌+◌, List, [], ◌∷◌, ◌++◌, length, Some, Bool, true, false, arith, ◌<◌, inl, inr}
+-- Lists in rising order: where a value stands, what is put in and what is taken out, and what insertion has sorted.
+use Rattle.std.proofs.Common.{◌≡◌, refl, sym, ◌∙◌, ap, subst, ℕ, suc, zero, ◌≤◌, ◌+◌, List, [], ◌∷◌, ◌++◌, length, Some, ℤ, Bool, true, false, arith, ◌<◌, inl, inr}
 use Rattle.std.proofs.lemmas.Bool.{not-true, not-false}
-use Rattle.std.specs.Prelude.{cond, get_or, ◌<◌, flat_map, find, slice_get, not, ◌⊎◌}
+use Rattle.std.specs.Prelude.{cond, get_or, ◌<◌, flat_map, find, slice_get, not, ◌⊎◌, int_le}
 use Rattle.std.specs.List.{insert, remove}
 use Rattle.std.specs.List.Sorted.{IsPartitionedBy, IsPartitionPoint}
-use Rattle.smil_instance_rows.specs.Rising.{IsOrder, IsRising, IsPlaceFrom, put_in, taken_out, poured}
+use Rattle.smil_model.specs.declared.times.Time.{Time}
+use Rattle.smil_model.specs.Times.{time_le, insert_in_order, rising, insert_time, rising_times}
+use Rattle.smil_model.proofs.Orders.{numbers_order, times_order}
+use Rattle.smil_model.specs.Rising.{IsOrder, IsRising, IsPlaceFrom, put_in, taken_out, poured}
 
 pub default_free : {A : Type 0} (xs : List A) (j : ℕ) (d e : A) → j < length xs → get_or xs j d ≡ get_or xs j e
 default_free [] j d e inside = absurd (omega (arith, inside))
@@ -27,6 +30,12 @@ find_at p (x ∷ xs) zero fail pass = ap (λ t. cond t (Some x) (find p xs)) (sy
 find_at p (x ∷ xs) (suc place) fail pass =
     find_at p xs place (λ k d below. fail (suc k) d (omega (arith, below))) (λ k d from inside. pass (suc k) d (omega (arith, from)) (omega (arith, inside)))
     ∙ ap (λ t. cond t (Some x) (find p xs)) (sym (fail 0 x (omega arith)))
+
+pub rest_rises : {A : Type 0} (le : A → A → Bool) (y : A) (ys : List A) → IsRising le (y ∷ ys) → IsRising le ys
+rest_rises le y ys up = λ i j d q inside. up (suc i) (suc j) d (omega (arith, q)) (omega (arith, inside))
+
+pub none_rise : {A : Type 0} (le : A → A → Bool) → IsRising le []
+none_rise le = λ i j d q inside. absurd (omega (arith, inside))
 
 module _ {A : Type 0} (le : A → A → Bool) (order : IsOrder le) where
   pub reflexive : (a : A) → le a a ≡ true
@@ -96,23 +105,20 @@ module _ {A : Type 0} (le : A → A → Bool) (order : IsOrder le) where
       step false t p q r rest = ap (λ zs. y ∷ zs) rest
 
   pub none_from_place : (xs : List A) (v : A) (p : ℕ) → IsRising le xs → IsPlaceFrom le xs v p → ((d : A) → p < length xs → le (get_or xs p d) v ≡ false) → xs ≡ taken_out le v xs
-  none_from_place xs v p rising at more = none_here xs v each
+  none_from_place xs v p up at more = none_here xs v each
     where
       by_side : (k : ℕ) (d : A) → k < length xs → (k < p) ⊎ (p ≤ k) → (le v (get_or xs k d) ≡ false) ⊎ (le (get_or xs k d) v ≡ false)
       by_side k d inside (inl q) = inl (at.1 k d q)
       by_side k d inside (inr q) = inr (later (le (get_or xs k d) v) refl)
         where
           later : (t : Bool) → le (get_or xs k d) v ≡ t → le (get_or xs k d) v ≡ false
-          later true r = clash (le (get_or xs p d) v) (order.transitive (get_or xs p d) (get_or xs k d) v (rising p k d q inside) r) (more d (omega (arith, q, inside)))
+          later true r = clash (le (get_or xs p d) v) (order.transitive (get_or xs p d) (get_or xs k d) v (up p k d q inside) r) (more d (omega (arith, q, inside)))
           later false r = r
 
       each : (k : ℕ) (d : A) → k < length xs → (le v (get_or xs k d) ≡ false) ⊎ (le (get_or xs k d) v ≡ false)
       each k d inside = by_side k d inside (grind arith)
 
   -- ---- the order is kept
-
-  rest_rises : (y : A) (ys : List A) → IsRising le (y ∷ ys) → IsRising le ys
-  rest_rises y ys up = λ i j d q inside. up (suc i) (suc j) d (omega (arith, q)) (omega (arith, inside))
 
   -- a bound of all values
   abbrev IsBelow : A → List A → Type 0
@@ -144,7 +150,7 @@ module _ {A : Type 0} (le : A → A → Bool) (order : IsOrder le) where
 
   pub rises_put : (v : A) (xs : List A) → IsRising le xs → IsRising le (put_in le v xs)
   rises_put v [] up = rises_cons v [] (λ k d inside. absurd (omega (arith, inside))) up
-  rises_put v (y ∷ ys) up = step (le v y) refl (rises_put v ys (rest_rises y ys up))
+  rises_put v (y ∷ ys) up = step (le v y) refl (rises_put v ys (rest_rises le y ys up))
     where
       step : (t : Bool) → le v y ≡ t → IsRising le (put_in le v ys) → IsRising le (cond t (v ∷ y ∷ ys) (y ∷ put_in le v ys))
       step true q rest =
@@ -164,10 +170,10 @@ module _ {A : Type 0} (le : A → A → Bool) (order : IsOrder le) where
 
   pub rises_taken : (v : A) (xs : List A) → IsRising le xs → IsRising le (taken_out le v xs)
   rises_taken v [] up = up
-  rises_taken v (y ∷ ys) up = step (le v y) (le y v) (rises_taken v ys (rest_rises y ys up))
+  rises_taken v (y ∷ ys) up = step (le v y) (le y v) (rises_taken v ys (rest_rises le y ys up))
     where
       step : (s t : Bool) → IsRising le (taken_out le v ys) → IsRising le (cond s (cond t ys (y ∷ taken_out le v ys)) (y ∷ taken_out le v ys))
-      step true true rest = rest_rises y ys up
+      step true true rest = rest_rises le y ys up
       step true false rest = rises_cons y (taken_out le v ys) (below_taken y v ys (head_least y ys up)) rest
       step false t rest = rises_cons y (taken_out le v ys) (below_taken y v ys (head_least y ys up)) rest
 
@@ -220,6 +226,10 @@ module _ {A : Type 0} (le : A → A → Bool) (order : IsOrder le) where
 
   -- ---- many values
 
+  pub rises_poured : (xs into : List A) → IsRising le into → IsRising le (poured le xs into)
+  rises_poured [] into up = up
+  rises_poured (x ∷ xs) into up = rises_put x (poured le xs into) (rises_poured xs into up)
+
   pub poured-append : (xs ys into : List A) → poured le (xs ++ ys) into ≡ poured le xs (poured le ys into)
   poured-append [] ys into = refl
   poured-append (x ∷ xs) ys into = ap (put_in le x) (poured-append xs ys into)
@@ -243,3 +253,33 @@ module _ {A : Type 0} (le : A → A → Bool) (order : IsOrder le) where
       ∙ ap (poured le (g x)) (poured-swap (f x) (flat_map g xs) (poured le (flat_map f xs) []))
       ∙ sym (poured-append (g x) (flat_map g xs) (poured le (f x) (poured le (flat_map f xs) [])))
       ∙ ap (poured le (g x ++ flat_map g xs)) (sym (poured-append (f x) (flat_map f xs) []))
+
+-- ---- numbers in rising order
+
+put_number : (x : ℤ) (xs : List ℤ) → put_in int_le x xs ≡ insert_in_order x xs
+put_number x [] = refl
+put_number x (y ∷ ys) = ap (λ rest. cond (int_le x y) (x ∷ y ∷ ys) (y ∷ rest)) (put_number x ys)
+
+pub poured_numbers : (xs : List ℤ) → poured int_le xs [] ≡ rising xs
+poured_numbers [] = refl
+poured_numbers (x ∷ xs) = put_number x (poured int_le xs []) ∙ ap (insert_in_order x) (poured_numbers xs)
+
+pub rising_rises : (xs : List ℤ) → IsRising int_le (rising xs)
+rising_rises xs =
+    subst (λ (ys : List ℤ). IsRising int_le ys) (poured_numbers xs)
+    (rises_poured int_le numbers_order xs [] (none_rise int_le))
+
+-- ---- times in rising order
+
+put_time : (t : Time) (ts : List Time) → put_in time_le t ts ≡ insert_time t ts
+put_time t [] = refl
+put_time t (u ∷ us) = ap (λ rest. cond (time_le t u) (t ∷ u ∷ us) (u ∷ rest)) (put_time t us)
+
+pub poured_times : (ts : List Time) → poured time_le ts [] ≡ rising_times ts
+poured_times [] = refl
+poured_times (t ∷ ts) = put_time t (poured time_le ts []) ∙ ap (insert_time t) (poured_times ts)
+
+pub rising_times_rise : (ts : List Time) → IsRising time_le (rising_times ts)
+rising_times_rise ts =
+    subst (λ (us : List Time). IsRising time_le us) (poured_times ts)
+    (rises_poured time_le times_order ts [] (none_rise time_le))
