@@ -12,6 +12,7 @@ pub mod limits;
 pub mod listed;
 pub mod order;
 pub mod player;
+pub mod references;
 pub mod steps;
 pub mod times;
 pub mod view;
@@ -33,6 +34,7 @@ pub use limits::{
 pub use listed::{Bytes, GrowingList, Serials, WordList};
 pub use order::{Order, Refusal, Who};
 pub use player::Player;
+pub use references::{references_in, references_in_items, references_in_list};
 pub use steps::Steps;
 pub use times::{CARRIED, HORIZON, Time, greatest, later, least};
 pub use view::{How, Layer, Shown, State, View, ViewFacts};
