@@ -1,3 +1,4 @@
 pub mod Orders
 pub mod Growing
 pub mod Rising
+pub mod FirstPlaces

@@ -1,5 +1,6 @@
 pub mod Times
 pub mod Rising
+pub mod FirstPlaces
 pub mod document
 pub mod diary
 pub mod interval

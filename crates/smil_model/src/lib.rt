@@ -11,6 +11,7 @@ pub mod interval;
 pub mod limits;
 pub mod listed;
 pub mod order;
+pub mod places;
 pub mod player;
 pub mod references;
 pub mod steps;
@@ -33,6 +34,7 @@ pub use limits::{
 };
 pub use listed::{Bytes, GrowingList, Serials, WordList};
 pub use order::{Order, Refusal, Who};
+pub use places::{HasSerial, first_places};
 pub use player::Player;
 pub use references::{references_in, references_in_items, references_in_list};
 pub use steps::Steps;

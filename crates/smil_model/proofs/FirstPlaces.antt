@@ -1,14 +1,13 @@
--- The first place of a serial, as clocks are appended.
+-- The first place of what passes a test, as a list grows.
 use Rattle.std.proofs.Common.{◌≡◌, refl, sym, ◌∙◌, ap, ℕ, suc, ◌+◌, ◌<◌, ◌≤◌, List, [], ◌∷◌, ◌++◌, Option, Some, None, Bool, true, false, length, get_or, take, arith}
 use Rattle.std.specs.Prelude.{cond, not, ◌==◌, nat_lt, option_map}
 use Rattle.std.specs.List.{position, position_or_len}
 use Rattle.std.specs.Option.{option_or}
 use Rattle.std.proofs.lemmas.Bool.{ltb-true, ltb-false, lt-ltb, le-ltb}
 use Rattle.std.proofs.lemmas.List.{take_more, length-take-le}
-use Rattle.smil_stretch.specs.declared.clock.NodeClock.{NodeClock}
 
 module _ {A : Type 0} (p : A → Bool) where
-  position_cons : (x : A) (xs : List A) → position p (x ∷ xs) ≡ cond (p x) (Some 0) (option_map suc (position p xs))
+  pub position_cons : (x : A) (xs : List A) → position p (x ∷ xs) ≡ cond (p x) (Some 0) (option_map suc (position p xs))
   position_cons x xs = by (p x)
     where
       inner : (k n : ℕ) (t : Bool) → nat_lt k n ≡ t → cond (nat_lt (1 + k) (suc n)) (Some (1 + k)) None ≡ option_map suc (cond t (Some k) None)
@@ -38,8 +37,11 @@ module _ {A : Type 0} (p : A → Bool) where
       step false None false = refl
       step false (Some k) u = refl
 
-pub position_next : (clocks : List NodeClock) (s k : ℕ) (d : NodeClock) → k < length clocks → position (λ (n : NodeClock). n.serial == s) (take (k + 1) clocks) ≡ option_or (position (λ (n : NodeClock). n.serial == s) (take k clocks)) (cond ((get_or clocks k d).serial == s) (Some k) None)
-position_next clocks s k d less =
-    ap (position (λ (n : NodeClock). n.serial == s)) (take_more clocks k d less)
-    ∙ position_push (λ (n : NodeClock). n.serial == s) (take k clocks) (get_or clocks k d)
-    ∙ ap (λ l. option_or (position (λ (n : NodeClock). n.serial == s) (take k clocks)) (cond ((get_or clocks k d).serial == s) (Some l) None)) (length-take-le k clocks (omega (arith, less)))
+-- the first places in one more of a list's elements
+pub places_next : {A : Type 0} (serial : A → ℕ) (rows : List A) (s k : ℕ) (d : A) (before after : Option ℕ) → k < length rows → after ≡ option_or before (cond (serial (get_or rows k d) == s) (Some k) None) → before ≡ position (λ (x : A). serial x == s) (take k rows) → after ≡ position (λ (x : A). serial x == s) (take (k + 1) rows)
+places_next {A} serial rows s k d before after less noted are =
+    noted
+    ∙ ap (λ o. option_or o (cond (serial (get_or rows k d) == s) (Some k) None)) are
+    ∙ sym (ap (position (λ (x : A). serial x == s)) (take_more rows k d less)
+    ∙ position_push (λ (x : A). serial x == s) (take k rows) (get_or rows k d)
+    ∙ ap (λ l. option_or (position (λ (x : A). serial x == s) (take k rows)) (cond (serial (get_or rows k d) == s) (Some l) None)) (length-take-le k rows (omega (arith, less))))
