@@ -2,3 +2,4 @@ pub mod Orders
 pub mod Growing
 pub mod Rising
 pub mod FirstPlaces
+pub mod Tournaments

@@ -16,6 +16,7 @@ pub mod player;
 pub mod references;
 pub mod steps;
 pub mod times;
+pub mod tournament;
 pub mod view;
 
 pub use attributes::{with_attr, without_attr};
@@ -39,4 +40,5 @@ pub use player::Player;
 pub use references::{references_in, references_in_items, references_in_list};
 pub use steps::Steps;
 pub use times::{CARRIED, HORIZON, Time, greatest, later, least};
+pub use tournament::{Contender, Tournament};
 pub use view::{How, Layer, Shown, State, View, ViewFacts};

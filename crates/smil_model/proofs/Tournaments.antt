@@ -1,11 +1,11 @@
 -- Tournaments: which places stay decided where one changes, how many there are, and what the first one comes to.
-use Rattle.std.proofs.Common.{◌≡◌, ◌≢◌, ◌∙◌, ap, sym, subst, refl, ℕ, max, ◌^◌, zero, suc, ◌+◌, ◌*◌, ◌/◌, ◌<◌, ◌≤◌, List, [], ◌∷◌, ◌++◌, length, drop, get_or-set_other, get_or-set_same, set, arith, ◌⊎◌, inl, inr}
+use Rattle.std.proofs.Common.{◌≡◌, ◌≢◌, ◌∙◌, ap, sym, subst, refl, ℕ, max, ◌^◌, zero, suc, ◌+◌, ◌*◌, ◌/◌, ◌<◌, ◌≤◌, List, [], ◌∷◌, ◌++◌, length, drop, get_or-set_other, get_or-set_same, set, arith, length-append, ◌⊎◌, inl, inr}
 use Rattle.std.proofs.Math.ListN.{drop_of_length-le}
 use Rattle.std.proofs.Math.Nat.{mul-le-mul_left, one-le-pow, pow-le-pow_right, pow-suc}
 use Rattle.std.proofs.Math.Seq.{drop-cons}
 use Rattle.std.proofs.lemmas.Bool.{cases_eq, cases_lt}
-use Rattle.std.proofs.lemmas.List.{get_or_past}
-use Rattle.smil_laws.specs.Tournaments.{at_place, place_up, IsDecided, IsOff}
+use Rattle.std.proofs.lemmas.List.{drop_at, get_or_past}
+use Rattle.smil_model.specs.Tournaments.{at_place, place_up, IsDecided, IsOff, IsSum, IsTournament}
 
 -- ---- the way up
 
@@ -94,13 +94,35 @@ pub few_places : (half count : ℕ) → (k : ℕ) × (half ≡ 2 ^ k) → half /
 few_places half count (k, half_is) tight few =
     subst (λ (n : ℕ). n ≤ 2 ^ 32) (sym half_is) (power_up k (max 1 count) (subst (λ (n : ℕ). n / 2 < max 1 count) half_is tight) (omega arith))
 
--- ---- what the first place comes to
+-- ---- at first, and after a change
 
--- what comes of a list of items is what comes of its parts, one behind the other
-pub record IsSum {A : Type 0} (none : A) (both : A → A → A) (sum : List A → A) : Type 0 where
-  pub of_none : sum [] ≡ none
-  pub of_one : (x : A) → sum (x ∷ []) ≡ x
-  pub of_both : (xs ys : List A) → sum (xs ++ ys) ≡ both (sum xs) (sum ys)
+-- behind so many places stand the items that were put there
+pub laid : {A : Type 0} (half : ℕ) (front items all : List A) → length front ≡ half → all ≡ front ++ items → (length all ≡ half + length items) × (drop half all ≡ items)
+laid half front items all long are =
+    (ap length are ∙ length-append front items ∙ ap (λ n. n + length items) long, ap (drop half) are ∙ drop_at front items half long)
+
+module _ {A : Type 0} (none : A) (both : A → A → A) where
+  pub first_made : (places : List A) (half count : ℕ) → (k : ℕ) × (half ≡ 2 ^ k) → count ≤ half → half / 2 < max 1 count → count ≤ 2 ^ 32 → length places ≡ half + count → ((i : ℕ) → 0 < i → i < half → IsDecided none both places i) → IsTournament none both places half
+  first_made places half count power lower upper few whole decided = record {
+    height = power.0;
+    half_is = power.1;
+    few = few_places half count power upper few;
+    from = omega (arith, whole);
+    enough = omega (arith, whole, lower);
+    decided = decided;
+  }
+
+  pub next_made : (old new : List A) (half : ℕ) → IsTournament none both old half → length new ≡ length old → ((i : ℕ) → 0 < i → i < half → IsDecided none both new i) → IsTournament none both new half
+  next_made old new half was count decided = record {
+    height = was.height;
+    half_is = was.half_is;
+    few = was.few;
+    from = omega (arith, count, was.from);
+    enough = omega (arith, count, was.enough);
+    decided = decided;
+  }
+
+-- ---- what the first place comes to
 
 module _ {A : Type 0} (none : A) (both : A → A → A) (sum : List A → A) (is : IsSum none both sum) where
   -- so many items from a place on, those of empty places past the last one too
