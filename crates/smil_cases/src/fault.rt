@@ -1,19 +1,20 @@
-//! Why a case has no answer.
+//! Why a line of a program for tests has no answer.
 
 use smil_model::Refusal;
 use std::alloc::AllocError;
 
-/// Why a case has no answer.
+/// Why a line of a program for tests, as a case, has no answer.
 #[derive(Clone, Copy, Debug, PartialEq, Eq)]
 pub enum Fault {
-    /// A word has no reading, or the call may not be made with its value.
+    /// The line or a word has no reading where it stands, or the call may not be made with its
+    /// value.
     Refused,
     /// Memory ran out.
     Memory,
 }
 
 impl Fault {
-    /// The word that answers the case.
+    /// The word that answers the line.
     pub fn word(self) -> &'static str {
         match self {
             Fault::Refused => "refused",

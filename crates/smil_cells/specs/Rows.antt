@@ -1,8 +1,9 @@
 -- Rows of elements.
-use Rattle.std.specs.Prelude.{◌≡◌, ◌≢◌, ◌⊎◌, ℕ, List, ◌==◌, Option, Some, None, IfSome}
-use Rattle.std.specs.List.{AllByRecursion, position}
+use Rattle.std.specs.Prelude.{◌≡◌, ◌≢◌, ◌⊎◌, ℕ, List, Option, Some, None, IfSome}
+use Rattle.std.specs.List.{AllByRecursion}
 use Rattle.smil_model.specs.declared.happening.Key.{Key}
 use Rattle.smil_model.specs.declared.document.Node.{Node}
+use Rattle.smil_model.specs.FirstPlaces.{AreFirstPlaces}
 use Rattle.smil_laws.specs.Near.{IsIntervalNear}
 use Rattle.smil_element.specs.declared.happening.change.Coming.{Coming}
 use Rattle.smil_cells.specs.declared.plain.known.Row.{Row}
@@ -20,7 +21,7 @@ AreNear rows = AllByRecursion (λ (r : Row). IfSome r.interval IsIntervalNear) r
 
 -- a table from serials to places
 abbrev pub ArePlaces : (ℕ → Option ℕ) → List Row → Type 0
-ArePlaces found rows = (s : ℕ) → found s ≡ position (λ (r : Row). r.serial == s) rows
+ArePlaces found rows = AreFirstPlaces (λ (r : Row). r.serial) found rows
 
 -- of the two that come of an element the first where it has this key, else the second
 abbrev pub IsChosen : Key → Option Coming → Option Coming → Option Coming → Type 0

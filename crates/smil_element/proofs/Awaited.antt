@@ -14,12 +14,11 @@ use Rattle.smil_model.specs.diary.Diary.{History, is_active}
 use Rattle.smil_model.specs.diary.Clocks.{between, outer_stands}
 use Rattle.smil_model.specs.interval.Instances.{begin_times, end_times, interval_edge, item_times, no_interval, number_of, settled_begins, settled_ends}
 use Rattle.smil_laws.proofs.Lists.{take-more_at}
-use Rattle.smil_instance_rows.specs.Rising.{IsOrder, IsRising, poured}
+use Rattle.smil_model.specs.Rising.{IsOrder, IsRising, poured}
 use Rattle.smil_instance_rows.specs.Values.{begins_of, ends_of}
-use Rattle.smil_instance_rows.proofs.Rising.{poured-append, poured-swap, rises_put}
+use Rattle.smil_model.proofs.Rising.{poured-append, poured-swap, rises_poured, rising_rises, rising_times_rise}
 use Rattle.smil_instances.specs.SettledTimes.{row_of}
 use Rattle.smil_instances.proofs.Begins.{are_merged}
-use Rattle.smil_interval.proofs.Sorting.{rising_rises, rising_times_rise}
 use Rattle.smil_instances.specs.declared.syncbase.Syncbase.{Syncbase}
 use Rattle.smil_past.specs.Syncs.{expected_by, is_empty, syncs_of}
 use Rattle.smil_past.proofs.Law.{syncs_tell}
@@ -108,12 +107,8 @@ ends_rise h intervals now e = rising_times_rise (flat_map (item_times h interval
 -- ---- pouring, item by item
 
 module _ {A : Type 0} (le : A → A → Bool) (order : IsOrder le) (choose : Time → Option A) where
-  rises_poured : (xs into : List A) → IsRising le into → IsRising le (poured le xs into)
-  rises_poured [] into up = up
-  rises_poured (x ∷ xs) into up = rises_put le order x (poured le xs into) (rises_poured xs into up)
-
   pub rises_with : (times : List Time) (into out : List A) → IsRising le into → out ≡ with_times le choose times into → IsRising le out
-  rises_with times into out up is = subst (λ (xs : List A). IsRising le xs) (sym is) (rises_poured (filter_map choose times) into up)
+  rises_with times into out up is = subst (λ (xs : List A). IsRising le xs) (sym is) (rises_poured le order (filter_map choose times) into up)
 
   with_more : (ts us : List Time) (into : List A) → with_times le choose (ts ++ us) into ≡ with_times le choose us (with_times le choose ts into)
   with_more ts us into =

@@ -1,7 +1,7 @@
 -- Times put in their places among rising values.
 use Rattle.std.specs.Prelude.{List, filter_map, Bool, Option}
 use Rattle.smil_model.specs.declared.times.Time.{Time}
-use Rattle.smil_instance_rows.specs.Rising.{poured}
+use Rattle.smil_model.specs.Rising.{poured}
 
 -- the values that times give, put in their places
 abbrev pub with_times : {A : Type 0} → (A → A → Bool) → (Time → Option A) → List Time → List A → List A

@@ -6,7 +6,7 @@ ghost use Rattle.smil_model.specs.document.Document.{elements, node_at};
 ghost use Rattle.smil_model.specs.diary.Diary.{is_active};
 ghost use Rattle.smil_model.specs.diary.Lawful.{has_element};
 ghost use Rattle.smil_model.specs.interval.Instances.{begin_times, end_times, expected_times, interval_edge};
-ghost use Rattle.smil_instance_rows.specs.Rising.{IsRising, put_in};
+ghost use Rattle.smil_model.specs.Rising.{IsRising, put_in};
 ghost use Rattle.smil_past.specs.Syncs.{expected_by, is_empty, syncs_of};
 ghost use Rattle.smil_model.specs.Times.{IsNear};
 ghost use Rattle.smil_element.specs.Pouring.{with_times};

@@ -1,5 +1,4 @@
 pub mod Children
 pub mod Orders
 pub mod Summaries
-pub mod Tournament
 pub mod Naming

@@ -9,12 +9,13 @@ use Rattle.smil_model.specs.declared.times.Time.{Time}
 use Rattle.smil_model.specs.declared.times.Time.TheVariants.{Unresolved}
 use Rattle.smil_model.specs.declared.interval.ChildEnd.{ChildEnd}
 use Rattle.smil_model.specs.interval.Durations.{named_end}
-use Rattle.smil_endsync.specs.Ends.{one_end, set_ends}
+use Rattle.smil_endsync.specs.declared.ends.Summary.{Summary}
+use Rattle.smil_endsync.specs.Ends.{one_end, set_ends, AreSummed}
 
 abbrev is_named : ChildEnd → Bool
 is_named c = c.named
 
-pub set_length : (cs : List ChildEnd) (k : ℕ) (first latest : Option Time) → length (set_ends cs k first latest) ≡ length cs
+set_length : (cs : List ChildEnd) (k : ℕ) (first latest : Option Time) → length (set_ends cs k first latest) ≡ length cs
 set_length [] k first latest = refl
 set_length (c ∷ cs) zero first latest = refl
 set_length (c ∷ cs) (suc k) first latest = ap suc (set_length cs k first latest)
@@ -25,7 +26,7 @@ same_first (c ∷ cs) zero first latest = refl
 same_first (c ∷ cs) (suc k) first latest = ap (λ n. cond (not c.named) (1 + n) 0) (same_first cs k first latest)
 
 -- which child is named stays
-pub named_stays : (cs : List ChildEnd) (k : ℕ) (first latest : Option Time) → position (λ (c : ChildEnd). c.named) cs ≡ position (λ (c : ChildEnd). c.named) (set_ends cs k first latest)
+named_stays : (cs : List ChildEnd) (k : ℕ) (first latest : Option Time) → position (λ (c : ChildEnd). c.named) cs ≡ position (λ (c : ChildEnd). c.named) (set_ends cs k first latest)
 named_stays cs k first latest =
     sym (λ i. cond (nat_lt (same_first cs k first latest i) (set_length cs k first latest i)) (Some (same_first cs k first latest i)) None)
 
@@ -39,10 +40,22 @@ pub set_kept : (cs : List ChildEnd) (k : ℕ) (first latest : Option Time) (own 
 set_kept cs k first latest own is lt =
     ap (λ (x : ChildEnd). set cs k (record { named = x.named; first = first; latest = latest })) is ∙ set_is cs k first latest own lt
 
-pub sums_set : (cs : List ChildEnd) (k : ℕ) (end' : ChildEnd) → set (map one_end cs) k (one_end end') ≡ map one_end (set cs k end')
+sums_set : (cs : List ChildEnd) (k : ℕ) (end' : ChildEnd) → set (map one_end cs) k (one_end end') ≡ map one_end (set cs k end')
 sums_set [] k end' = refl
 sums_set (c ∷ cs) zero end' = refl
 sums_set (c ∷ cs) (suc k) end' = ap (λ rest. one_end c ∷ rest) (sums_set cs k end')
+
+-- after the ends of a child are put
+pub summed_next : (children : List ChildEnd) (named : Option ℕ) (old : List Summary) (child : ℕ) (first latest : Option Time) (own : ChildEnd) → AreSummed children named old → own ≡ get_or children child own → child < length children → AreSummed (set children child (record { named = own.named; first = first; latest = latest })) named (set old child (one_end (record { named = own.named; first = first; latest = latest })))
+summed_next children named old child first latest own was is within = record {
+  own =
+      ap (λ xs. set xs child (one_end (record { named = own.named; first = first; latest = latest }))) was.own
+      ∙ sums_set children child (record { named = own.named; first = first; latest = latest });
+  named_is =
+      was.named_is
+      ∙ named_stays children child first latest
+      ∙ ap (position (λ (c : ChildEnd). c.named)) (sym (set_kept children child first latest own is within));
+}
 
 -- ---- the named child is found at its place
 

@@ -9,6 +9,7 @@ use Rattle.smil_model.specs.Times.{least_time, greatest_time}
 use Rattle.smil_model.specs.interval.Durations.{first_end}
 use Rattle.smil_endsync.specs.declared.ends.Summary.{Summary}
 use Rattle.smil_endsync.specs.Known.{greatest_known}
+use Rattle.smil_model.specs.Tournaments.{IsSum}
 use Rattle.smil_endsync.specs.Ends.{no_ends, one_end, both_ends}
 use Rattle.smil_endsync.proofs.Orders.{least_grouped, known_grouped, known_behind, least_before, least_behind, least_from, known_from, greatest_from}
 
@@ -20,10 +21,10 @@ both_grouped a b c =
       all = known_grouped a.all b.all c.all i;
     }
 
-pub none_before : (a : Summary) → both_ends no_ends a ≡ a
+none_before : (a : Summary) → both_ends no_ends a ≡ a
 none_before a = λ i. record { first = least_before a.first i; latest = a.latest; all = a.all }
 
-pub none_behind : (a : Summary) → both_ends a no_ends ≡ a
+none_behind : (a : Summary) → both_ends a no_ends ≡ a
 none_behind a =
     λ i. record { first = least_behind a.first i; latest = known_behind a.latest i; all = known_behind a.all i }
 
@@ -32,9 +33,12 @@ abbrev pub sum_of : List Summary → Summary
 sum_of [] = no_ends
 sum_of (s ∷ ss) = both_ends s (sum_of ss)
 
-pub sum_of_both : (xs ys : List Summary) → sum_of (xs ++ ys) ≡ both_ends (sum_of xs) (sum_of ys)
+sum_of_both : (xs ys : List Summary) → sum_of (xs ++ ys) ≡ both_ends (sum_of xs) (sum_of ys)
 sum_of_both [] ys = sym (none_before (sum_of ys))
 sum_of_both (x ∷ xs) ys = ap (both_ends x) (sum_of_both xs ys) ∙ sym (both_grouped x (sum_of xs) (sum_of ys))
+
+pub sums : IsSum no_ends both_ends sum_of
+sums = record { of_none = refl; of_one = none_behind; of_both = sum_of_both }
 
 -- ---- its parts are the ends by the rules
 

@@ -1,11 +1,10 @@
--- What the ends of children side by side come to, and a tournament of them.
-use Rattle.std.specs.Prelude.{◌≡◌, ℕ, zero, suc, ◌+◌, ◌<◌, ◌≤◌, ◌^◌, List, [], ◌∷◌, length, drop, map, Option, Some, None, unwrap_or}
+-- What the ends of children side by side come to.
+use Rattle.std.specs.Prelude.{◌≡◌, ℕ, zero, suc, List, [], ◌∷◌, map, Option, Some, None, unwrap_or}
 use Rattle.std.specs.List.{position}
 use Rattle.smil_model.specs.declared.times.Time.{Time}
 use Rattle.smil_model.specs.declared.times.Time.TheVariants.{Unresolved}
 use Rattle.smil_model.specs.declared.interval.ChildEnd.{ChildEnd}
 use Rattle.smil_model.specs.Times.{least_time}
-use Rattle.smil_laws.specs.Tournaments.{IsDecided}
 use Rattle.smil_endsync.specs.declared.ends.Summary.{Summary}
 use Rattle.smil_endsync.specs.Known.{greatest_known}
 
@@ -35,14 +34,7 @@ set_ends [] child first latest = []
 set_ends (c ∷ cs) zero first latest = record { named = c.named; first = first; latest = latest } ∷ cs
 set_ends (c ∷ cs) (suc child) first latest = c ∷ set_ends cs child first latest
 
--- behind the places from 1 to below `half`, a power of 2, are those of the children, and each of the former has what is below it
-pub record AreSummed (children : List ChildEnd) (named : Option ℕ) (places : List Summary)
-    (half : ℕ) : Type 0 where
-  pub height : ℕ
-  pub half_is : half ≡ 2 ^ height
-  pub few : half ≤ 2 ^ 32
-  pub from : half ≤ length places
-  pub enough : length places ≤ half + half
-  pub own : drop half places ≡ map one_end children
-  pub decided : (i : ℕ) → 0 < i → i < half → IsDecided no_ends both_ends places i
+-- what each child comes to, and which one is named
+pub record AreSummed (children : List ChildEnd) (named : Option ℕ) (summaries : List Summary) : Type 0 where
+  pub own : summaries ≡ map one_end children
   pub named_is : named ≡ position (λ (c : ChildEnd). c.named) children

@@ -1,15 +1,16 @@
 //! The ends of the time children of one container, kept under a change of one child.
 
-ghost use Rattle.std.specs.Prelude.{◌≡◌, ℕ, ◌+◌, ◌*◌, ◌/◌, ◌<◌, ◌≤◌, ◌^◌, ◌++◌, Some, IfOk, length, drop, find, map, replicate, slice_get};
+ghost use Rattle.std.specs.Prelude.{◌≡◌, ◌<◌, ◌≤◌, ◌^◌, Some, IfOk, length, find, map, slice_get};
 ghost use Rattle.std.specs.List.{position};
 ghost use Rattle.smil_model.specs.declared.interval.ChildEnd.{ChildEnd as AnyEnd};
 ghost use Rattle.smil_model.specs.interval.Durations;
 ghost use Rattle.smil_model.specs.interval.Durations.{container_duration};
-ghost use Rattle.smil_laws.specs.Tournaments.{at_place, IsDecided, IsOff};
-ghost use Rattle.smil_endsync.specs.Ends.{both_ends, no_ends, one_end, set_ends};
+ghost use Rattle.smil_endsync.specs.Ends.{one_end, set_ends};
 
 use super::{greatest_known, seq_end, since};
-use smil_model::{ChildEnd, Duplicate, Endsync, Kind, Time, greatest, least};
+use smil_model::{
+    ChildEnd, Contender, Duplicate, Endsync, Kind, Time, Tournament, greatest, least,
+};
 use std::alloc::{AllocError, Global};
 use std::marker::Model;
 
@@ -24,17 +25,41 @@ pub struct Summary {
     pub all: Option<Time>,
 }
 
+impl Contender for Summary {
+    ghost use Rattle.smil_endsync.specs.Ends.{both_ends, no_ends};
+
+    ghost none = { no_ends };
+
+    ghost both = { both_ends };
+
+    // What no children come to.
+    fn none() -> Summary {
+        Summary {
+            first: Time::Unresolved,
+            latest: None,
+            all: None,
+        }
+    }
+
+    // What two groups of children come to, one behind the other.
+    fn with(self, behind: Summary) -> Summary {
+        Summary {
+            first: least(self.first, behind.first),
+            latest: greatest_known(self.latest, behind.latest),
+            all: greatest_known(self.all, behind.all),
+        }
+    }
+}
+
 /// The ends of the time children of a container, in document order, under a tournament of what
 /// neighbours come to; seen as the list of the ends.
-#[derive(Debug, Drop)]
+#[derive(Drop)]
 pub struct Ends {
     children: Vec<ChildEnd>,
     /// Which child the container's `endsync` names.
     named: Option<usize>,
-    /// What neighbours come to, that of all children at place 1, and behind it that of each child.
-    places: Vec<Summary>,
-    /// The place of the first child, a power of 2.
-    half: usize,
+    /// What each child comes to.
+    summaries: Tournament<Summary>,
 }
 
 impl Model for Ends {
@@ -46,15 +71,14 @@ impl Model for Ends {
 
     ghost view = { λ a. a.children.items };
 
-    ghost invariant = { λ a. AreSummed a.children.items a.named a.places.items a.half };
+    ghost invariant = { λ a. AreSummed a.children.items a.named a.summaries };
 }
 
 impl Duplicate for Ends {
     fn copy(&self) -> Result<Self, AllocError> {
         Ok(Ends {
-            half: self.half,
             named: self.named,
-            places: self.places.clone()?,
+            summaries: self.summaries.copy()?,
             children: self.children.clone()?,
         })
     }
@@ -67,13 +91,10 @@ impl Ends {
         requires { length children.items ≤ 2 ^ 32 }
         ensures { IfOk result (λ ends. ends ≡ children.items) }
     {
-        let half = children.len().next_power_of_two();
-        let mut places = summaries(alloc, half, &children)?;
-        decide_all(&mut places, half);
+        let summaries = summaries(alloc, &children)?;
         Ok(Ends {
             named: named_place(&children),
-            places,
-            half,
+            summaries: Tournament::of(alloc, summaries.as_slice())?,
             children,
         })
     }
@@ -97,10 +118,8 @@ impl Ends {
             first,
             latest,
         };
-        let place = self.half + child;
         self.children[child] = end;
-        self.places[place] = one(end);
-        decide_above(&mut self.places, self.half, place);
+        self.summaries.set(child, one(end));
     }
 
     /// The implicit duration of an active container with these time children, in milliseconds, as
@@ -144,24 +163,21 @@ impl Ends {
     fn last_end(&self, start: i64) -> Time
         ensures { result ≡ Durations.last_end start self.now }
     {
-        let _half = self.half;
-        at(&self.places, 1).latest.unwrap_or(Time::At(start))
+        self.summaries.top().latest.unwrap_or(Time::At(start))
     }
 
     // The least of the first ends, none counting as unresolved.
     fn first_end(&self) -> Time
         ensures { result ≡ Durations.first_end self.now }
     {
-        let _half = self.half;
-        at(&self.places, 1).first
+        self.summaries.top().first
     }
 
     // The greatest of the latest ends, none counting as unresolved.
     fn all_end(&self) -> Time
         ensures { result ≡ Durations.all_end self.now }
     {
-        let _half = self.half;
-        at(&self.places, 1).all.unwrap_or(Time::Unresolved)
+        self.summaries.top().all.unwrap_or(Time::Unresolved)
     }
 
     // The first end of the named child, none counting as unresolved. Where no child is named, the
@@ -194,82 +210,13 @@ fn one(end: ChildEnd) -> Summary
     }
 }
 
-// What two groups of children come to, one behind the other.
-fn both(first: Summary, second: Summary) -> Summary
-    ensures { result ≡ both_ends first second }
+// What each child comes to.
+fn summaries(alloc: Global, children: &[ChildEnd]) -> Result<Vec<Summary>, AllocError>
+    ensures { IfOk result (λ summaries. summaries.items ≡ map one_end children.now) }
 {
-    Summary {
-        first: least(first.first, second.first),
-        latest: greatest_known(first.latest, second.latest),
-        all: greatest_known(first.all, second.all),
-    }
-}
-
-// What no children come to.
-fn none() -> Summary
-    ensures { result ≡ no_ends }
-{
-    Summary {
-        first: Time::Unresolved,
-        latest: None,
-        all: None,
-    }
-}
-
-// So many places without children, and behind them what each child comes to.
-fn summaries(alloc: Global, half: usize, children: &[ChildEnd]) -> Result<Vec<Summary>, AllocError>
-    ensures { IfOk result (λ places. places.items
-        ≡ replicate half no_ends ++ map one_end children.now) }
-{
-    let mut places = Vec::from_elem(alloc, none(), half)?;
+    let mut summaries = Vec::with_capacity(alloc, children.len())?;
     for child in children {
-        places.push(one(*child))?;
+        summaries.push(one(*child))?;
     }
-    Ok(places)
-}
-
-// Decides all places below the first child, from the last one up.
-fn decide_all(places: &mut [Summary], half: usize)
-    requires half { half ≤ 2 ^ 32 }
-    requires from { half ≤ length places.old }
-    ensures decided { (i : ℕ) → 0 < i → i < half → IsDecided no_ends both_ends places.new i }
-    ensures kept { drop half places.new ≡ drop half places.old }
-{
-    let mut decided = half;
-    while 1 < decided {
-        decided -= 1;
-        let first = at(places, 2 * decided);
-        let second = at(places, 2 * decided + 1);
-        places[decided] = both(first, second);
-    }
-}
-
-// Decides anew what is above a place, upwards.
-fn decide_above(places: &mut [Summary], half: usize, place: usize)
-    requires within { place < half + half }
-    requires above { 0 < place }
-    requires half { half ≤ 2 ^ 32 }
-    requires from { half ≤ length places.old }
-    requires off { (i : ℕ) → 0 < i → i < half → IsOff i (place / 2)
-        → IsDecided no_ends both_ends places.old i }
-    ensures decided { (i : ℕ) → 0 < i → i < half → IsDecided no_ends both_ends places.new i }
-    ensures kept { drop half places.new ≡ drop half places.old }
-{
-    let mut decided = place;
-    while 1 < decided {
-        decided /= 2;
-        let first = at(places, 2 * decided);
-        let second = at(places, 2 * decided + 1);
-        places[decided] = both(first, second);
-    }
-}
-
-// What a place comes to; a place past the last one has no children.
-fn at(places: &[Summary], place: usize) -> Summary
-    ensures { result ≡ at_place no_ends places.now place }
-{
-    match places.get(place) {
-        Some(summary) => *summary,
-        None => none(),
-    }
+    Ok(summaries)
 }

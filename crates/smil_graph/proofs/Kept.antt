@@ -2,7 +2,7 @@
 use Rattle.std.proofs.Common.{◌≡◌, refl, sym, ◌∙◌, ap, ℕ, suc, zero, ◌<◌, ◌≤◌, ◌+◌, List, [], ◌∷◌, length, Bool, true, false, Option, Some, None, Result, Ok, Err, arith, inl, inr}
 use Rattle.std.specs.Prelude.{cond, map, ◌==◌, ◌||◌, ◌&&◌, ◌⊎◌, filter, slice_get, option_map}
 use Rattle.std.specs.Result.{IfOk}
-use Rattle.std.specs.List.{range_with_len}
+use Rattle.std.specs.List.{position, range_with_len}
 use Rattle.std.proofs.Math.ListN.{get_or-eq_default}
 use Rattle.std.proofs.lemmas.Bool.{or_cases, and_parts, eqb-true}
 use Rattle.smil_model.specs.declared.document.Node.{Node}
@@ -13,6 +13,8 @@ use Rattle.smil_model.specs.document.Defaults.{items_or}
 use Rattle.smil_model.specs.document.Dependencies.{feeds, feeds_node, has_implicit_duration}
 use Rattle.smil_model.specs.document.Valid.{IsDistinct}
 use Rattle.smil_model.specs.reach.Reach.{reads, reads_node, is_option}
+use Rattle.smil_model.specs.FirstPlaces.{AreFirstPlaces}
+use Rattle.smil_model.proofs.FirstPlaces.{position_cons}
 use Rattle.smil_graph.specs.Links.{lists, row, links, that_have, IsRising, AreRows, AreLevels, StayBelow}
 use Rattle.smil_graph.specs.Places.{at_place, up, is_element_at, named_by, target_place, source_of, leads_to_place, follows, hears, element_follows, element_hears, feeds_from, reads_from, feeds_place, reads_place, IsTable, IsIndex, AreTimeChildren}
 use Rattle.smil_graph.specs.Tables.{AreElementLevels, AreHeads, AreReaders, with_serial, serials_of_places}
@@ -238,6 +240,18 @@ placed ns = record { node = λ s. first s ns; below = λ s p q. low s p ns q }
         step true o later e = let same : 0 ≡ p = cc in omega (arith, same)
         step false None later e = cc
         step false (Some k) later e = let same : suc k ≡ p = cc in omega (arith, same, later k refl)
+
+first_in : (s : ℕ) (ns : List Node) → position (λ (n : Node). n.serial == s) ns ≡ place_in s ns
+first_in s [] = refl
+first_in s (n ∷ ns) =
+    position_cons (λ (m : Node). m.serial == s) n ns ∙ ap (λ o. cond (n.serial == s) (Some 0) (option_map suc o)) (first_in s ns)
+
+-- a table of the first places is an index
+pub first_indexed : (ns : List Node) (index : ℕ → Option ℕ) → AreFirstPlaces (λ (n : Node). n.serial) index ns → IsIndex ns (node_at ns) index
+first_indexed ns index are = record {
+  node = λ s. (placed ns).node s ∙ ap (at_place ns) (sym (are s ∙ first_in s ns));
+  below = λ s p q. (placed ns).below s p (sym (are s ∙ first_in s ns) ∙ q);
+}
 
 pub fed_stay : (feeders fed : List (List ℕ)) → length fed ≡ length feeders → ((i : ℕ) → i < length feeders → row fed i ≡ that_have feeders i) → StayBelow (length fed) fed
 fed_stay feeders fed long turned = filtered_stay (length feeders) (λ j i. links feeders j i) fed long turned

@@ -15,5 +15,4 @@ pub mod Marked
 pub mod Kept
 pub mod Within
 pub mod Ranked
-pub mod Positions
 pub mod Keyed

@@ -1,7 +1,7 @@
 -- What a graph keeps of its document, by places.
 use Rattle.std.specs.Prelude.{◌≡◌, ℕ, ◌<◌, ◌≤◌, List, [], ◌∷◌, length, filter, Bool, true, false, ◌==◌, ◌&&◌, ◌||◌, if◌then◌else◌, Option, Some, None, nat_eq, slice_get, slice_index_or}
 use Rattle.std.specs.HashMap.{get}
-use Rattle.std.specs.List.{list_any, position, range_with_len}
+use Rattle.std.specs.List.{list_any, range_with_len}
 use Rattle.smil_model.specs.declared.document.Node.{Node}
 use Rattle.smil_model.specs.declared.document.Item.{Item}
 use Rattle.smil_model.specs.declared.document.Item.TheVariants.{Key}
@@ -11,6 +11,7 @@ use Rattle.smil_model.specs.document.Document.{Document, is_element, elements, s
 use Rattle.smil_model.specs.document.Dependencies.{feeds, leads_to, all_items}
 use Rattle.smil_model.specs.document.Closure.{closure, has}
 use Rattle.smil_model.specs.reach.Reach.{reads, is_near, is_key_item}
+use Rattle.smil_model.specs.FirstPlaces.{AreFirstPlaces}
 use Rattle.smil_graph.specs.declared.tables.Tables.{Tables}
 use Rattle.smil_graph.specs.Links.{row, lists, links, AreRows}
 use Rattle.smil_graph.specs.Places.{reads_place, is_element_at, IsIndex, IsTable, AreTimeChildren}
@@ -124,7 +125,7 @@ pub record AreWithPlace (test : ℕ → Bool) (place : ℕ) (old new : List (Lis
 
 -- the place of each serial in an order
 abbrev pub AreRanks : List ℕ → (ℕ → Option ℕ) → Type 0
-AreRanks order ranks = (s : ℕ) → ranks s ≡ position (λ t. t == s) order
+AreRanks order ranks = AreFirstPlaces (λ (s : ℕ). s) ranks order
 
 -- ---- tables
 

@@ -11,7 +11,6 @@ mod near;
 mod ordered;
 mod outline;
 mod places;
-mod ranks;
 mod row;
 mod search;
 mod stack;

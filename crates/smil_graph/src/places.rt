@@ -6,7 +6,7 @@ ghost use Rattle.smil_model.specs.document.Document.{node_at, element_named, is_
 ghost use Rattle.smil_graph.specs.Places.{IsIndex};
 
 use super::outline::is_element;
-use smil_model::{Doc, Node};
+use smil_model::{Doc, Node, first_places};
 use std::alloc::{AllocError, Global};
 use std::collections::HashMap;
 
@@ -15,14 +15,7 @@ pub fn serial_places(alloc: Global, doc: &Doc) -> Result<HashMap<u32, usize>, Al
     ensures { IfOk result (λ places. IsIndex doc.now.nodes (node_at doc.now.nodes)
         (get nat_eq places)) }
 {
-    let mut places = HashMap::new(alloc);
-    for behind in 0..doc.len() {
-        let place = doc.len() - 1 - behind;
-        if let Some(node) = doc.get(place) {
-            places.insert(node.serial, place)?;
-        }
-    }
-    Ok(places)
+    first_places(alloc, doc.nodes())
 }
 
 /// The place of the first element with each id.

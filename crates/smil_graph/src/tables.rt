@@ -16,10 +16,9 @@ use super::looped::{Loops, looped_marks};
 use super::ordered::ordered;
 use super::outline::{TimeTree, parents, time_children, time_parents};
 use super::places::{id_places, serial_places};
-use super::ranks::ranks_of;
 use super::turned::turned;
 use super::waiting::waiting;
-use smil_model::{Doc, Edge, GrowingList, Serials};
+use smil_model::{Doc, Edge, GrowingList, Serials, first_places};
 use std::alloc::{AllocError, Global};
 use std::collections::HashMap;
 
@@ -84,7 +83,7 @@ pub fn tables_of(alloc: Global, doc: &Doc) -> Result<Tables, AllocError>
         ends: looped_marks(alloc, doc, &loops, Edge::End)?,
         readers: readers(alloc, doc, heads.as_slice())?,
         waiting: waiting(alloc, doc)?,
-        ranks: ranks_of(alloc, order.slice())?,
+        ranks: first_places(alloc, order.slice())?,
         order,
         places,
         time_parents,
@@ -102,7 +101,7 @@ pub fn tables_like(alloc: Global, doc: &Doc, other: &Tables) -> Result<Tables, A
 {
     let mut tables = tables_of(alloc, doc)?;
     let order = Serials::of(alloc, other.order.slice())?;
-    tables.ranks = ranks_of(alloc, order.slice())?;
+    tables.ranks = first_places(alloc, order.slice())?;
     tables.order = order;
     Ok(tables)
 }

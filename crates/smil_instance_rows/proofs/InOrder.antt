@@ -5,10 +5,10 @@ use Rattle.std.specs.Prelude.{cond, get_or, drop, nat_le}
 use Rattle.smil_model.specs.declared.times.Time.{Time}
 use Rattle.smil_instance_rows.specs.declared.item_times.InstanceTime.{InstanceTime}
 use Rattle.smil_instance_rows.specs.Rows.{from_place}
-use Rattle.smil_instance_rows.specs.Rising.{IsOrder, poured}
+use Rattle.smil_model.specs.Rising.{IsOrder, poured}
 use Rattle.smil_instance_rows.specs.Values.{values_of, with_value, without_value}
 use Rattle.smil_instance_rows.specs.Places.{IsInOrder, last_part, Replaces, IsUndone}
-use Rattle.smil_instance_rows.proofs.Rising.{taken_put, default_free}
+use Rattle.smil_model.proofs.Rising.{taken_put, default_free}
 use Rattle.smil_instance_rows.proofs.Merge.{first_value}
 
 from_all : (place : ℕ) (ks : List InstanceTime) → ((j : ℕ) (d : InstanceTime) → j < length ks → place ≤ (get_or ks j d).place) → from_place place ks ≡ ks

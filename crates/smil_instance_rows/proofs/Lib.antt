@@ -1,6 +1,5 @@
 pub mod InOrder
 pub mod Merge
-pub mod Rising
 pub mod Serials
 pub mod Sides
 pub mod Tables

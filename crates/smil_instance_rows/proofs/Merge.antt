@@ -5,10 +5,10 @@ use Rattle.std.specs.List.{cons_option}
 use Rattle.std.proofs.lemmas.List.Elements.{filter_map-append}
 use Rattle.smil_model.specs.declared.times.Time.{Time}
 use Rattle.smil_instance_rows.specs.declared.item_times.InstanceTime.{InstanceTime}
-use Rattle.smil_instance_rows.specs.Rising.{IsOrder, poured}
+use Rattle.smil_model.specs.Rising.{IsOrder, poured}
 use Rattle.smil_instance_rows.specs.Values.{values_of, merged, with_value}
 use Rattle.smil_instance_rows.specs.Places.{Replaces}
-use Rattle.smil_instance_rows.proofs.Rising.{poured-append, poured-put, poured-swap}
+use Rattle.smil_model.proofs.Rising.{poured-append, poured-put, poured-swap}
 
 pub set_same : {X : Type 0} (xs : List X) (i : ℕ) (x : X) → i < length xs → x ≡ get_or xs i x → set xs i x ≡ xs
 set_same [] i x inside same = absurd (omega (arith, inside))

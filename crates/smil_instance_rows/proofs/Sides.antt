@@ -5,10 +5,10 @@ use Rattle.std.specs.List.{cons_option}
 use Rattle.std.specs.Option.{option_map, option_map_or, unwrap_or}
 use Rattle.smil_model.specs.declared.times.Time.{Time}
 use Rattle.smil_model.specs.declared.times.Time.TheVariants.{At, Indefinite, Unresolved}
-use Rattle.smil_model.specs.Times.{numbers, rising, rising_times, insert_in_order, insert_time, time_le}
+use Rattle.smil_model.specs.Times.{numbers, rising, rising_times, time_le}
 use Rattle.smil_model.specs.interval.Instances.{number_of}
+use Rattle.smil_model.proofs.Rising.{poured_numbers, poured_times}
 use Rattle.smil_instance_rows.specs.declared.item_times.InstanceTime.{InstanceTime}
-use Rattle.smil_instance_rows.specs.Rising.{put_in, poured}
 use Rattle.smil_instance_rows.specs.Values.{times_of, begins_of, ends_of, values_of, merged}
 
 pub flat_map_same : {X A : Type 0} (f g : X → List A) → ((x : X) → f x ≡ g x) → (xs : List X) → flat_map f xs ≡ flat_map g xs
@@ -16,14 +16,6 @@ flat_map_same f g same [] = refl
 flat_map_same f g same (x ∷ xs) = ap (λ ys. ys ++ flat_map f xs) (same x) ∙ ap (λ ys. g x ++ ys) (flat_map_same f g same xs)
 
 -- ---- numbers
-
-put_number : (x : ℤ) (xs : List ℤ) → put_in int_le x xs ≡ insert_in_order x xs
-put_number x [] = refl
-put_number x (y ∷ ys) = ap (λ rest. cond (int_le x y) (x ∷ y ∷ ys) (y ∷ rest)) (put_number x ys)
-
-pub poured_numbers : (xs : List ℤ) → poured int_le xs [] ≡ rising xs
-poured_numbers [] = refl
-poured_numbers (x ∷ xs) = put_number x (poured int_le xs []) ∙ ap (insert_in_order x) (poured_numbers xs)
 
 pub numbers_append : (ss ts : List Time) → numbers (ss ++ ts) ≡ numbers ss ++ numbers ts
 numbers_append [] ts = refl
@@ -50,14 +42,6 @@ begins_same items =
     ∙ ap rising (sym (numbers_of_each times_of items ∙ flat_map_same (λ ks. numbers (times_of ks)) (values_of number_of) numbers_of_kept items))
 
 -- ---- times
-
-put_time : (t : Time) (ts : List Time) → put_in time_le t ts ≡ insert_time t ts
-put_time t [] = refl
-put_time t (u ∷ us) = ap (λ rest. cond (time_le t u) (t ∷ u ∷ us) (u ∷ rest)) (put_time t us)
-
-pub poured_times : (ts : List Time) → poured time_le ts [] ≡ rising_times ts
-poured_times [] = refl
-poured_times (t ∷ ts) = put_time t (poured time_le ts []) ∙ ap (insert_time t) (poured_times ts)
 
 pub times_of_kept : (ks : List InstanceTime) → values_of Some ks ≡ times_of ks
 times_of_kept [] = refl

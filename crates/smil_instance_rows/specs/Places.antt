@@ -2,7 +2,7 @@
 use Rattle.std.specs.Prelude.{◌≡◌, ℕ, ◌≤◌, ◌<◌, List, [], ◌∷◌, ◌++◌, length, get_or, All, Bool, Option}
 use Rattle.smil_model.specs.declared.times.Time.{Time}
 use Rattle.smil_instance_rows.specs.declared.item_times.InstanceTime.{InstanceTime}
-use Rattle.smil_instance_rows.specs.Rising.{poured}
+use Rattle.smil_model.specs.Rising.{poured}
 use Rattle.smil_instance_rows.specs.Values.{values_of, with_value}
 
 -- no place is after a later one

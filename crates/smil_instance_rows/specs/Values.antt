@@ -3,7 +3,7 @@ use Rattle.std.specs.Prelude.{ℤ, List, [], map, filter_map, flat_map, Bool, Op
 use Rattle.smil_model.specs.declared.times.Time.{Time}
 use Rattle.smil_model.specs.Times.{numbers, rising, rising_times}
 use Rattle.smil_instance_rows.specs.declared.item_times.InstanceTime.{InstanceTime}
-use Rattle.smil_instance_rows.specs.Rising.{put_in, taken_out, poured}
+use Rattle.smil_model.specs.Rising.{put_in, taken_out, poured}
 
 abbrev pub times_of : List InstanceTime → List Time
 times_of kept = map (λ (k : InstanceTime). k.time) kept

@@ -4,8 +4,8 @@ ghost use Rattle.std.specs.Prelude.{◌≡◌, Bool, not, int_le, Option, Some};
 ghost use Rattle.smil_model.specs.declared.times.Time.{Time as GivenTime};
 ghost use Rattle.smil_model.specs.Times.{time_le};
 ghost use Rattle.smil_model.specs.interval.Instances.{number_of};
-ghost use Rattle.smil_instance_rows.specs.Rising.{IsOrder};
-ghost use Rattle.smil_instance_rows.specs.Orders.{numbers_order, times_order};
+ghost use Rattle.smil_model.specs.Rising.{IsOrder};
+ghost use Rattle.smil_model.proofs.Orders.{numbers_order, times_order};
 
 use smil_model::Time;
 

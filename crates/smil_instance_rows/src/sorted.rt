@@ -1,7 +1,7 @@
 //! Values in rising order.
 
 ghost use Rattle.std.specs.Prelude.{◌≡◌, List, [], OnOk, OnErr, not, find, slice_get};
-ghost use Rattle.smil_instance_rows.specs.Rising.{IsRising, IsPlaceFrom, put_in, taken_out};
+ghost use Rattle.smil_model.specs.Rising.{IsRising, IsPlaceFrom, put_in, taken_out};
 
 use super::instant::Instant;
 use smil_model::Duplicate;
@@ -24,7 +24,7 @@ pub struct SortedList<T: Instant> {
 
 impl<T: Instant> Model for SortedList<T> {
     ghost use Rattle.std.specs.Prelude.{List};
-    ghost use Rattle.smil_instance_rows.specs.Rising.{IsRising};
+    ghost use Rattle.smil_model.specs.Rising.{IsRising};
 
     ghost Value = { List T };
 

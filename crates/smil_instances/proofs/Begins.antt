@@ -17,12 +17,12 @@ use Rattle.smil_model.specs.diary.Diary.{History}
 use Rattle.smil_model.specs.interval.Instances.{expected_times, sync_times, offset_times, named_times, item_times, begin_times, end_times}
 use Rattle.smil_instances.specs.SettledTimes.{instances_of, edge_instances, offset_instances, named_instances, row_of, occurs_key}
 use Rattle.smil_instance_rows.specs.Values.{times_of, begins_of, ends_of}
-use Rattle.smil_instance_rows.specs.Rising.{poured}
+use Rattle.smil_model.specs.Rising.{poured}
 use Rattle.smil_instances.specs.ExpectedTimes.{expected_before, expected_named, expected_of, AreMerged}
 use Rattle.smil_instances.proofs.Times.{heard-times, happened-times, event-times, repeat-times}
-use Rattle.smil_instance_rows.specs.Orders.{numbers_order, times_order}
-use Rattle.smil_instance_rows.proofs.Rising.{parts_apart}
-use Rattle.smil_instance_rows.proofs.Sides.{flat_map_same, numbers_append, numbers_of_each, poured_numbers, poured_times}
+use Rattle.smil_model.proofs.Orders.{numbers_order, times_order}
+use Rattle.smil_model.proofs.Rising.{parts_apart, poured_numbers, poured_times}
+use Rattle.smil_instance_rows.proofs.Sides.{flat_map_same, numbers_append, numbers_of_each}
 
 each_mapped : {X Y A : Type 0} (f : Y → List A) (k : X → Y) (xs : List X) → flat_map (λ x. f (k x)) xs ≡ flat_map f (map k xs)
 each_mapped f k [] = refl

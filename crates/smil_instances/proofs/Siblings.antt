@@ -1,15 +1,17 @@
 -- The time child before another is the last one before it in document order.
-use Rattle.std.proofs.Common.{◌≡◌, refl, sym, ◌∙◌, ap, ℕ, zero, suc, ◌+◌, take, drop, length, ◌≤◌, arith, List, [], ◌∷◌, ◌++◌, Option, Some, None, Bool, true, false, cond}
-use Rattle.std.specs.Prelude.{◌==◌, ◌&&◌, ◌||◌, filter, nat_lt, slice_get, option_and_then}
-use Rattle.std.specs.List.{AllByRecursion, list_any}
-use Rattle.std.proofs.lemmas.Bool.{or_parts, eq-eqb, eqb-true, lt-ltb}
+use Rattle.std.proofs.Common.{◌≡◌, refl, sym, ◌∙◌, ap, ℕ, zero, suc, ◌+◌, take, drop, arith, List, [], ◌∷◌, ◌++◌, Option, Some, None, Bool, true, false, cond}
+use Rattle.std.specs.Prelude.{◌==◌, ◌&&◌, ◌||◌, filter, slice_get, option_and_then, option_map}
+use Rattle.std.specs.List.{AllByRecursion, list_any, position}
+use Rattle.std.proofs.Math.Dec.{eqb-suc-suc, eqb-suc-zero, eqb-zero-suc}
+use Rattle.std.proofs.lemmas.Bool.{or_parts, eq-eqb, eqb-true}
 use Rattle.std.proofs.lemmas.List.{take-append-drop, append-nil}
 use Rattle.std.proofs.lemmas.List.Elements.{filter-append}
-use Rattle.std.proofs.lemmas.Option.{slice_get-map, slice_get_within}
+use Rattle.std.proofs.lemmas.Option.{slice_get-map}
 use Rattle.smil_model.specs.declared.document.Node.{Node}
 use Rattle.smil_model.specs.document.Document.{elements, is_element, is_time_child, just_before, has_serial, previous_child, time_children, time_parent, serials, serial_of}
 use Rattle.smil_model.specs.document.Valid.{IsDistinct}
 use Rattle.smil_model.specs.reach.Reach.{is_option}
+use Rattle.smil_model.proofs.FirstPlaces.{position_cons}
 use Rattle.smil_laws.proofs.Lists.{take-more_at, each_at}
 use Rattle.smil_tree.proofs.Families.{drop_at}
 use Rattle.smil_tree.proofs.Holding.{same_test}
@@ -141,56 +143,36 @@ module _ (nodes : List Node) where
 
 -- ---- places
 
-module _ (nodes : List Node) (distinct : IsDistinct nodes) (i : ℕ) (n : Node) (at : slice_get (elements nodes) i ≡ Some n) where
-  pub place_told : (old new : ℕ → Option ℕ) → ((row who : ℕ) → is_option row (old who) ≡ (nat_lt row i && is_option who (slice_get (serials (elements nodes)) row))) → new n.serial ≡ Some i → ((who : ℕ) → n.serial == who ≡ false → new who ≡ old who) → (row who : ℕ) → is_option row (new who) ≡ (nat_lt row (i + 1) && is_option who (slice_get (serials (elements nodes)) row))
-  place_told old new all here others row who =
-      by_who (n.serial == who) refl ∙ ap (λ o. nat_lt row (i + 1) && is_option who o) (sym (slice_get-map (λ (m : Node). m.serial) (elements nodes) row))
-    where
-      nothing : (t : Bool) → (t && false) ≡ false
-      nothing true = refl
-      nothing false = refl
-
-      own : (t : Bool) → row == i ≡ t → n.serial ≡ who → (o : Option Node) → slice_get (elements nodes) row ≡ o → t ≡ (nat_lt row (i + 1) && is_option who (serial_of o))
-      own true e same o q =
-          let r : row ≡ i = eqb-true row i e in
-          let it : o ≡ Some n = sym q ∙ ap (slice_get (elements nodes)) r ∙ at in
-          sym (ap (λ t. t && is_option who (serial_of o)) (lt-ltb row (i + 1) (omega (arith, r))) ∙ ap (λ x. is_option who (serial_of x)) it ∙ eq-eqb who n.serial (sym same))
-      own false e same None q = sym (nothing (nat_lt row (i + 1)))
-      own false e same (Some m) q = by_same (who == m.serial) refl
-        where
-          by_same : (t : Bool) → who == m.serial ≡ t → false ≡ (nat_lt row (i + 1) && (who == m.serial))
-          by_same true f =
-              let j : row ≡ i = one_place (elements nodes) i row n m (distinct_elements nodes distinct) at q (same_test m.serial n.serial ∙ ap (λ s. s == m.serial) same ∙ f) in
-              let never : false ≡ true = sym e ∙ eq-eqb row i j in cc
-          by_same false f = sym (ap (λ t. nat_lt row (i + 1) && t) f ∙ nothing (nat_lt row (i + 1)))
-
-      later : (t : Bool) → row == i ≡ t → n.serial == who ≡ false → (o : Option Node) → slice_get (elements nodes) row ≡ o → (nat_lt row i && is_option who (serial_of o)) ≡ (nat_lt row (i + 1) && is_option who (serial_of o))
-      later true e apart o q =
-          let r : row ≡ i = eqb-true row i e in
-          let it : o ≡ Some n = sym q ∙ ap (slice_get (elements nodes)) r ∙ at in
-          let no : is_option who (serial_of o) ≡ false = ap (λ x. is_option who (serial_of x)) it ∙ same_test who n.serial ∙ apart in
-          ap (λ t. nat_lt row i && t) no ∙ nothing (nat_lt row i) ∙ sym (ap (λ t. nat_lt row (i + 1) && t) no ∙ nothing (nat_lt row (i + 1)))
-      later false e apart o q = ap (λ t. t && is_option who (serial_of o)) (same_less e)
-        where
-          same_less : row == i ≡ false → nat_lt row i ≡ nat_lt row (i + 1)
-          same_less f = grind (arith, f)
-
-      by_who : (t : Bool) → n.serial == who ≡ t → is_option row (new who) ≡ (nat_lt row (i + 1) && is_option who (serial_of (slice_get (elements nodes) row)))
-      by_who true e =
-          let same : n.serial ≡ who = eqb-true n.serial who e in
-          ap (is_option row) (ap new (sym same) ∙ here) ∙ own (row == i) refl same (slice_get (elements nodes) row) refl
-      by_who false e =
-          ap (is_option row) (others who e) ∙ all row who
-          ∙ ap (λ o. nat_lt row i && is_option who o) (slice_get-map (λ (m : Node). m.serial) (elements nodes) row)
-          ∙ later (row == i) refl e (slice_get (elements nodes) row) refl
-
-pub all_below : (whos : List ℕ) (i row who : ℕ) → length whos ≤ i → (nat_lt row i && is_option who (slice_get whos row)) ≡ is_option who (slice_get whos row)
-all_below whos i row who most = by_serial (slice_get whos row) refl
+-- the first place of a serial is its only one
+pub first_told : (ns : List Node) → IsDistinct ns → (row who : ℕ) → is_option row (position (λ s. s == who) (serials ns)) ≡ is_option who (slice_get (serials ns) row)
+first_told [] distinct zero who = refl
+first_told [] distinct (suc row) who = refl
+first_told (n ∷ ns) distinct zero who =
+    ap (is_option 0) (position_cons (λ s. s == who) n.serial (serials ns))
+    ∙ by_test (n.serial == who) (position (λ s. s == who) (serials ns)) (same_test who n.serial)
   where
-    nothing : (t : Bool) → (t && false) ≡ false
-    nothing true = refl
-    nothing false = refl
+    by_test : (t : Bool) (o : Option ℕ) → who == n.serial ≡ t → is_option 0 (cond t (Some 0) (option_map suc o)) ≡ who == n.serial
+    by_test true o is = sym is
+    by_test false None is = sym is
+    by_test false (Some k) is = eqb-zero-suc k ∙ sym is
+first_told (n ∷ ns) distinct (suc row) who =
+    ap (is_option (suc row)) (position_cons (λ s. s == who) n.serial (serials ns))
+    ∙ by_test (n.serial == who) refl (position (λ s. s == who) (serials ns)) (first_told ns distinct.1 row who)
+  where
+    absent : n.serial == who ≡ true → (o : Option Node) → slice_get ns row ≡ o → is_option who (serial_of o) ≡ false
+    absent here None at = refl
+    absent here (Some m) at = by_same (who == m.serial) refl
+      where
+        by_same : (t : Bool) → who == m.serial ≡ t → who == m.serial ≡ false
+        by_same true is =
+            let one : n.serial ≡ m.serial = eqb-true n.serial who here ∙ eqb-true who m.serial is in
+            let never : suc row ≡ 0 = one_place (n ∷ ns) 0 (suc row) n m distinct refl at (eq-eqb m.serial n.serial (sym one)) in
+            absurd (omega (arith, never))
+        by_same false is = is
 
-    by_serial : (o : Option ℕ) → slice_get whos row ≡ o → (nat_lt row i && is_option who o) ≡ is_option who o
-    by_serial None q = nothing (nat_lt row i)
-    by_serial (Some s) q = let below = slice_get_within whos row s q in ap (λ t. t && is_option who (Some s)) (lt-ltb row i (omega (arith, below, most)))
+    by_test : (t : Bool) → n.serial == who ≡ t → (o : Option ℕ) → is_option row o ≡ is_option who (slice_get (serials ns) row) → is_option (suc row) (cond t (Some 0) (option_map suc o)) ≡ is_option who (slice_get (serials ns) row)
+    by_test true here o rest =
+        eqb-suc-zero row
+        ∙ sym (ap (is_option who) (slice_get-map (λ (m : Node). m.serial) ns row) ∙ absent here (slice_get ns row) refl)
+    by_test false other None rest = rest
+    by_test false other (Some k) rest = eqb-suc-suc row k ∙ rest

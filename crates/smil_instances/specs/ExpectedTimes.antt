@@ -15,7 +15,7 @@ use Rattle.smil_model.specs.diary.Diary.{History}
 use Rattle.smil_model.specs.interval.Instances.{expected_times, begin_times, end_times}
 use Rattle.smil_instances.specs.SettledTimes.{row_of}
 use Rattle.smil_instance_rows.specs.Values.{begins_of, ends_of}
-use Rattle.smil_instance_rows.specs.Rising.{poured}
+use Rattle.smil_model.specs.Rising.{poured}
 
 abbrev pub expected_before : History → (ℕ → Option Interval) → ℤ → ℕ → ℤ → Option Node → List Time
 expected_before h intervals now e offset None = []

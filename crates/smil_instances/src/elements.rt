@@ -7,6 +7,7 @@ ghost use Rattle.smil_model.specs.document.Document.{elements, previous_child, t
 ghost use Rattle.smil_model.specs.reach.Reach.{is_option};
 ghost use Rattle.smil_instances.specs.Spread.{IsIndex};
 
+use smil_model::first_places;
 use smil_tree::Tree;
 use std::alloc::{AllocError, Global};
 use std::collections::HashMap;
@@ -37,11 +38,7 @@ pub fn places_of(
     ensures { IfOk result (λ places. IsIndex whos.now (get nat_eq places)) }
 {
     tree.valid();
-    let mut places = HashMap::new(alloc);
-    for (place, who) in whos.iter().enumerate() {
-        places.insert(*who, place)?;
-    }
-    Ok(places)
+    first_places(alloc, whos)
 }
 
 /// For each element the time child before it in its time parent, if there is one.

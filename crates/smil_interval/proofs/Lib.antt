@@ -3,4 +3,3 @@ pub mod Orders
 pub mod Parts
 pub mod Searches
 pub mod Limits
-pub mod Sorting

@@ -2,15 +2,13 @@
 use Rattle.std.proofs.Common.{◌≡◌, refl, sym, ◌∙◌, ap, ℕ, suc, zero, ◌≤◌, ◌<◌, List, [], ◌∷◌, length, drop, get_or, Bool, true, false, arith}
 use Rattle.std.specs.Prelude.{cond, not, filter}
 use Rattle.std.specs.List.Sorted.{IsPartitionedBy, IsPartitionPoint}
-use Rattle.smil_interval.specs.Rising.{IsOrderedBy}
+use Rattle.smil_model.specs.Rising.{IsRising}
+use Rattle.smil_model.proofs.Rising.{rest_rises}
 
-pub rest_ordered : {A : Type 0} (le : A → A → Bool) (x : A) (xs : List A) → IsOrderedBy le (x ∷ xs) → IsOrderedBy le xs
-rest_ordered le x xs up = λ i j d q inside. up (suc i) (suc j) d (omega (arith, q)) (omega (arith, inside))
-
-pub drop_ordered : {A : Type 0} (le : A → A → Bool) (k : ℕ) (xs : List A) → IsOrderedBy le xs → IsOrderedBy le (drop k xs)
+pub drop_ordered : {A : Type 0} (le : A → A → Bool) (k : ℕ) (xs : List A) → IsRising le xs → IsRising le (drop k xs)
 drop_ordered le zero xs up = up
 drop_ordered le (suc k) [] up = up
-drop_ordered le (suc k) (x ∷ xs) up = drop_ordered le k xs (rest_ordered le x xs up)
+drop_ordered le (suc k) (x ∷ xs) up = drop_ordered le k xs (rest_rises le x xs up)
 
 pub filter_all : {A : Type 0} (p : A → Bool) (xs : List A) → ((k : ℕ) (d : A) → k < length xs → p (get_or xs k d) ≡ true) → filter p xs ≡ xs
 filter_all p [] all = refl
@@ -42,7 +40,7 @@ drop_is_filter p q other (x ∷ xs) (suc k) point =
     ∙ ap (λ t. cond t (x ∷ filter p xs) (filter p xs)) (sym fails)
 
 -- what a binary search asks: a test that passes what is before each that it passes
-pub parted : {A : Type 0} (le : A → A → Bool) (q : A → Bool) → ((x y : A) → le x y ≡ true → q y ≡ true → q x ≡ true) → (xs : List A) → IsOrderedBy le xs → IsPartitionedBy q xs
+pub parted : {A : Type 0} (le : A → A → Bool) (q : A → Bool) → ((x y : A) → le x y ≡ true → q y ≡ true → q x ≡ true) → (xs : List A) → IsRising le xs → IsPartitionedBy q xs
 parted le q down xs up = λ i j d before inside passes. down (get_or xs i d) (get_or xs j d) (up i j d before inside) passes
 
 pub twice_not : (b : Bool) → b ≡ not (not b)

@@ -9,7 +9,8 @@ use Rattle.smil_model.specs.declared.interval.Interval.{Interval}
 use Rattle.smil_model.specs.Times.{time_le}
 use Rattle.smil_model.specs.interval.Intervals.{counts_from, counts_after}
 use Rattle.smil_model.proofs.Orders.{le_both}
-use Rattle.smil_interval.specs.Rising.{IsOrderedBy, IsRising, IsRisingTimes}
+use Rattle.smil_model.specs.Rising.{IsRising as IsRisingBy}
+use Rattle.smil_interval.specs.Rising.{IsRising, IsRisingTimes}
 use Rattle.smil_interval.proofs.Ordered.{drop_ordered, drop_is_filter, filter_all, parted, not_before}
 use Rattle.smil_interval.proofs.Orders.{from_up, counts_up}
 
@@ -18,8 +19,8 @@ use Rattle.smil_interval.proofs.Orders.{from_up, counts_up}
 pub part_is_filter : {A : Type 0} (p q : A → Bool) → ((x : A) → p x ≡ not (q x)) → (xs : List A) (k : ℕ) → IsPartitionPoint (λ y. q y ≡ true) (λ y. q y ≡ false) xs k → take (length xs - k) (drop k xs) ≡ filter p xs
 part_is_filter p q other xs k point = between_to_end xs k (length xs) (omega arith) ∙ drop_is_filter p q other xs k point
 
-pub part_ordered : {A : Type 0} (le : A → A → Bool) (k : ℕ) (xs : List A) → IsOrderedBy le xs → IsOrderedBy le (take (length xs - k) (drop k xs))
-part_ordered {A} le k xs up = subst (λ (ys : List A). IsOrderedBy le ys) (sym (between_to_end xs k (length xs) (omega arith))) (drop_ordered le k xs up)
+pub part_ordered : {A : Type 0} (le : A → A → Bool) (k : ℕ) (xs : List A) → IsRisingBy le xs → IsRisingBy le (take (length xs - k) (drop k xs))
+part_ordered {A} le k xs up = subst (λ (ys : List A). IsRisingBy le ys) (sym (between_to_end xs k (length xs) (omega arith))) (drop_ordered le k xs up)
 
 -- ---- the tests
 

@@ -9,13 +9,14 @@ use Rattle.smil_model.specs.Times.{time_le}
 use Rattle.smil_model.specs.interval.Intervals.{first_from, next_from, first_after, is_from, is_accepted, after_end, judged, unless_over, Attempt, goes_on, is_over}
 use Rattle.smil_interval.specs.Rising.{IsRising}
 use Rattle.smil_interval.specs.Next.{interval_to}
-use Rattle.smil_interval.proofs.Ordered.{rest_ordered, filter_all}
+use Rattle.smil_model.proofs.Rising.{rest_rises}
+use Rattle.smil_interval.proofs.Ordered.{filter_all}
 use Rattle.smil_interval.proofs.Orders.{from_up}
 
 -- from a time on, the search is that from its outset over the begins from that time on
 pub search_from : (facts : Facts) (end_of : ℤ → Option Time) (from : Time) (xs : List ℤ) → IsRising xs → first_from facts end_of (Some from) xs ≡ first_from facts end_of None (filter (is_from (Some from)) xs)
 search_from facts end_of from [] up = refl
-search_from facts end_of from (b ∷ bs) up = step (time_le from (At b)) refl (search_from facts end_of from bs (rest_ordered int_le b bs up))
+search_from facts end_of from (b ∷ bs) up = step (time_le from (At b)) refl (search_from facts end_of from bs (rest_rises int_le b bs up))
   where
     step : (t : Bool) → time_le from (At b) ≡ t → first_from facts end_of (Some from) bs ≡ first_from facts end_of None (filter (is_from (Some from)) bs) → unless_over (cond t (judged facts b (end_of b)) (goes_on (Some from))) (λ later. first_from facts end_of later bs) ≡ first_from facts end_of None (cond t (b ∷ filter (is_from (Some from)) bs) (filter (is_from (Some from)) bs))
     step true q rest =
@@ -50,7 +51,7 @@ rejected facts end_of rest later next b e up at ends bad part =
     ap (first_from facts end_of None) at
     ∙ ap (λ o. found facts end_of later (judged facts b o)) ends
     ∙ ap (λ t. found facts end_of later (judged_at facts b e t)) bad
-    ∙ search_from facts end_of (after_end b e) later (rest_ordered int_le b later rises)
+    ∙ search_from facts end_of (after_end b e) later (rest_rises int_le b later rises)
     ∙ ap (first_from facts end_of None) (sym part)
 
 -- ---- an interval in place of its end

@@ -54,4 +54,3 @@ pub mod TouchedStay
 pub mod ViewsAbove
 pub mod ViewsStay
 pub mod ViewsLeft
-pub mod Tournaments

@@ -13,4 +13,3 @@ pub mod Touched
 pub mod Seen
 pub mod Near
 pub mod Firsts
-pub mod Tournaments

@@ -7,6 +7,7 @@ use Rattle.std.proofs.lemmas.Int.{ints}
 use Rattle.smil_model.specs.declared.times.Time.{Time}
 use Rattle.smil_model.specs.declared.times.Time.TheVariants.{At, Indefinite, Unresolved}
 use Rattle.smil_model.specs.Times.{time_le}
+use Rattle.smil_model.specs.Rising.{IsOrder}
 
 -- ---- numbers
 
@@ -36,6 +37,9 @@ le_exact (negsuc a) (negsuc b) q r = ap negsuc (le_antisymm (leb-true a b r) (le
 
 pub not_le_is_lt : (v b : ℤ) → int_lt v b ≡ not (int_le b v)
 not_le_is_lt v b = grind (arith, ints)
+
+pub numbers_order : IsOrder int_le
+numbers_order = record { total = le_total; transitive = le_both; exact = le_exact }
 
 -- ---- times
 
@@ -80,3 +84,6 @@ time_exact Indefinite Unresolved q r = cc
 time_exact Unresolved (At y) q r = cc
 time_exact Unresolved Indefinite q r = cc
 time_exact Unresolved Unresolved q r = refl
+
+pub times_order : IsOrder time_le
+times_order = record { total = time_total; transitive = time_both; exact = time_exact }

@@ -5,6 +5,7 @@ ghost use Rattle.std.specs.Prelude.{◌≡◌, ℕ, ◌<◌, List, [], ◌∷◌
 use super::duplicate::{Duplicate, copy_of};
 use super::limits::ITEMS;
 use super::listed::{Bytes, GrowingList};
+use super::places::HasSerial;
 use super::times::Time;
 use std::alloc::{AllocError, Global};
 use std::marker::Model;
@@ -408,6 +409,14 @@ pub struct Node {
     pub kind: Kind,
     pub parent: u32,
     pub attrs: Attrs,
+}
+
+impl HasSerial for Node {
+    ghost serial = { λ node. node.serial };
+
+    fn serial(&self) -> u32 {
+        self.serial
+    }
 }
 
 impl Duplicate for Node {

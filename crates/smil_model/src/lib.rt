@@ -11,9 +11,12 @@ pub mod interval;
 pub mod limits;
 pub mod listed;
 pub mod order;
+pub mod places;
 pub mod player;
+pub mod references;
 pub mod steps;
 pub mod times;
+pub mod tournament;
 pub mod view;
 
 pub use attributes::{with_attr, without_attr};
@@ -32,7 +35,10 @@ pub use limits::{
 };
 pub use listed::{Bytes, GrowingList, Serials, WordList};
 pub use order::{Order, Refusal, Who};
+pub use places::{HasSerial, first_places};
 pub use player::Player;
+pub use references::{references_in, references_in_items, references_in_list};
 pub use steps::Steps;
 pub use times::{CARRIED, HORIZON, Time, greatest, later, least};
+pub use tournament::{Contender, Tournament};
 pub use view::{How, Layer, Shown, State, View, ViewFacts};

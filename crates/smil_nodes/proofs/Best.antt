@@ -1,19 +1,18 @@
 -- The winner of a tournament is the least of the keys in its slots; one without keys has no winner.
-use Rattle.std.proofs.Common.{◌≡◌, ◌∙◌, ap, sym, refl, ℕ, max, ◌-◌, ◌+◌, ◌/◌, ◌^◌, ◌<◌, ◌≤◌, Bool, true, false, List, [], ◌∷◌, ◌++◌, length, drop, replicate, arith, ◌⊎◌, inl, inr}
+use Rattle.std.proofs.Common.{◌≡◌, ◌∙◌, ap, sym, refl, ℕ, zero, suc, Bool, true, false, List, [], ◌∷◌, ◌++◌, replicate, map}
 use Rattle.std.specs.Prelude.{Option, None, Some, fold, if◌then◌else◌}
 use Rattle.std.proofs.Common.{Ordering, Less, Equal, Greater}
 use Rattle.std.specs.Ordering.{is_lt, ordering_reverse}
-use Rattle.std.proofs.lemmas.Bool.{cases_lt}
-use Rattle.std.proofs.lemmas.List.{drop-replicate, get_or-replicate, get_or_past, length-replicate}
+use Rattle.std.proofs.lemmas.List.{map-append}
 use Rattle.std.proofs.lemmas.List.Elements.{filter_map-append}
 use Rattle.std.proofs.lemmas.List.Sums.{fold-append}
 use Rattle.smil_model.specs.declared.happening.Key.{Key}
 use Rattle.smil_model.specs.happening.Keys.{comes_before, earlier_key, least_key}
-use Rattle.smil_laws.specs.Tournaments.{at_place, IsDecided}
-use Rattle.smil_laws.proofs.Tournaments.{few_places, top_sums, IsSum}
+use Rattle.smil_model.specs.Tournaments.{IsSum}
 use Rattle.smil_due.specs.Order.{happening_cmp, happening_cmp_total}
 use Rattle.smil_due.proofs.Before.{before_is_less, transitive, less_from}
-use Rattle.smil_nodes.specs.Slots.{keys_in, earlier_of, IsTournament}
+use Rattle.smil_nodes.specs.declared.due_tree.Slot.{Slot}
+use Rattle.smil_nodes.specs.Slots.{keys_in, keys_of, earlier_of, earlier_slot, no_slot}
 
 -- a key that comes before a second one, which a third doesn't come before either, comes before the third
 not_after : (a b c : Key) → comes_before c a ≡ true → comes_before b a ≡ false → comes_before c b ≡ true
@@ -93,48 +92,26 @@ least_of_both xs ys =
 
 -- ---- the winner
 
--- the first place has the least key of all slots
-pub top_is_least : (places : List (Option Key)) (half : ℕ) → IsTournament places half → at_place None places 1 ≡ least_key (keys_in (drop half places))
-top_is_least places half t = top_sums None earlier_of least_in sums places half t.height t.half_is t.enough t.winners
-  where
-    of_one : (key : Option Key) → least_in (key ∷ []) ≡ key
-    of_one None = refl
-    of_one (Some k) = refl
+-- the slot with the least key of all
+abbrev pub least_slot : List Slot → Slot
+least_slot slots = record { key = least_in (keys_of slots) }
 
-    sums : IsSum None earlier_of least_in
-    sums = record { of_none = refl; of_one = of_one; of_both = least_of_both }
+pub least_sums : IsSum no_slot earlier_slot least_slot
+least_sums = record { of_none = refl; of_one = of_one; of_both = of_both }
+  where
+    own : (key : Option Key) → least_in (key ∷ []) ≡ key
+    own None = refl
+    own (Some k) = refl
+
+    of_one : (slot : Slot) → least_slot (slot ∷ []) ≡ slot
+    of_one slot = λ i. record { key = own slot.key i }
+
+    of_both : (xs ys : List Slot) → least_slot (xs ++ ys) ≡ earlier_slot (least_slot xs) (least_slot ys)
+    of_both xs ys =
+        λ i. record { key = (ap least_in (map-append (λ (s : Slot). s.key) xs ys) ∙ least_of_both (keys_of xs) (keys_of ys)) i }
 
 -- ---- without keys
 
-abbrev pub no_key : Option Key
-no_key = None
-
--- in an empty tournament nobody wins
-empty_at : (n i : ℕ) → at_place None (replicate n no_key) i ≡ None
-empty_at n i = by_case (cases_lt i n)
-  where
-    by_case : (i < n) ⊎ (n ≤ i) → at_place None (replicate n no_key) i ≡ None
-    by_case (inl below) = get_or-replicate n i no_key no_key below
-    by_case (inr beyond) =
-        let past : length (replicate n no_key) ≤ i = omega (arith, length-replicate n no_key) in
-        get_or_past (replicate n no_key) i no_key past
-
-pub empty_won : (n i : ℕ) → IsDecided None earlier_of (replicate n no_key) i
-empty_won n i = empty_at n i ∙ (λ j. earlier_of (sym (empty_at n (i + i)) j) (sym (empty_at n (i + i + 1)) j))
-
-pub empty_tournament : (half slots : ℕ) → (k : ℕ) × (half ≡ 2 ^ k) → slots ≤ half → half / 2 < max 1 slots → slots ≤ 2 ^ 32 → IsTournament (replicate (half + slots) no_key) half
-empty_tournament half slots (k, half_is) enough tight few =
-    let count : length (replicate (half + slots) no_key) ≡ half + slots = length-replicate (half + slots) no_key in
-    record {
-      height = k;
-      half_is = half_is;
-      few = few_places half slots (k, half_is) tight few;
-      from = omega arith;
-      enough = omega arith;
-      winners = λ i _ _. empty_won (half + slots) i;
-    }
-
-pub empty_slots : (half slots : ℕ) → drop half (replicate (half + slots) no_key) ≡ replicate slots no_key
-empty_slots half slots =
-    let rest : half + slots - half ≡ slots = omega arith in
-    drop-replicate half (half + slots) no_key ∙ ap (λ (n : ℕ). replicate n no_key) rest
+pub empty_slots : (count : ℕ) → keys_of (replicate count no_slot) ≡ replicate count None
+empty_slots zero = refl
+empty_slots (suc count) = ap (λ keys. None ∷ keys) (empty_slots count)

@@ -25,7 +25,7 @@ use Rattle.smil_stretch.proofs.Idle.{node_found}
 use Rattle.smil_past.proofs.Listing.{known_node}
 use Rattle.smil_element.proofs.Cutting.{part_none}
 use Rattle.smil_nodes.specs.Noted.{AreNoted, is_noted_at, is_noted_by, is_noted_through, is_self_or_reader}
-use Rattle.smil_graph.proofs.Positions.{position_step}
+use Rattle.smil_model.proofs.FirstPlaces.{position_cons}
 use Rattle.smil_graph.proofs.Rows.{assoc, right}
 use Rattle.smil_tree.proofs.Placings.{both_ways}
 use Rattle.smil_tree.proofs.Families.{node_of_place}
@@ -42,7 +42,7 @@ below order s r at = let found = position-Some (λ t. t == s) order r 0 at in fo
 -- what is in an order has a rank in it
 has_rank : (xs : List ℕ) (s : ℕ) → is_some (position (λ t. t == s) xs) ≡ has xs s
 has_rank [] s = refl
-has_rank (x ∷ xs) s = ap is_some (position_step (λ t. t == s) x xs) ∙ step (x == s) (position (λ t. t == s) xs) (has_rank xs s)
+has_rank (x ∷ xs) s = ap is_some (position_cons (λ t. t == s) x xs) ∙ step (x == s) (position (λ t. t == s) xs) (has_rank xs s)
   where
     step : (b : Bool) (o : Option ℕ) → is_some o ≡ has xs s → is_some (cond b (Some 0) (option_map suc o)) ≡ (b || has xs s)
     step true o q = refl

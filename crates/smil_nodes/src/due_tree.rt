@@ -1,42 +1,61 @@
 //! A tournament of keys.
 
-ghost use Rattle.std.specs.Prelude.{◌≡◌, ℕ, ◌+◌, ◌/◌, ◌<◌, ◌≤◌, ◌^◌, None, IfOk, length, drop, replicate, slice_set};
+ghost use Rattle.std.specs.Prelude.{◌≡◌, ◌<◌, ◌≤◌, ◌^◌, None, IfOk, length, replicate, slice_set};
 ghost use Rattle.smil_model.specs.happening.Keys.{least_key};
-ghost use Rattle.smil_laws.specs.Tournaments.{at_place, IsDecided, IsOff};
 ghost use Rattle.smil_nodes.specs.Slots.{earlier_of, keys_in};
 
 use smil_due::comes_before;
-use smil_model::{Duplicate, Key};
+use smil_model::{Contender, Duplicate, Key, Tournament};
 use std::alloc::{AllocError, Global};
 use std::marker::Model;
 
+/// A slot with a key or none.
+#[derive(Clone, Copy, Debug)]
+pub struct Slot {
+    pub key: Option<Key>,
+}
+
+impl Contender for Slot {
+    ghost use Rattle.smil_nodes.specs.Slots.{earlier_slot, no_slot};
+
+    ghost none = { no_slot };
+
+    ghost both = { earlier_slot };
+
+    // A slot without a key.
+    fn none() -> Slot {
+        Slot { key: None }
+    }
+
+    // The slot with the earlier key of two.
+    fn with(self, behind: Slot) -> Slot {
+        Slot {
+            key: earlier(self.key, behind.key),
+        }
+    }
+}
+
 /// A fixed number of slots, each with a key or none, under a tournament that the least key wins;
-/// seen as the list of the slots.
-#[derive(Debug, Drop)]
+/// seen as the list of what the slots have.
+#[derive(Drop)]
 pub struct DueTree {
-    /// The winners, that of all keys at place 1, and behind them the slots.
-    places: Vec<Option<Key>>,
-    /// The place of the first slot, a power of 2.
-    half: usize,
+    slots: Tournament<Slot>,
 }
 
 impl Model for DueTree {
-    ghost use Rattle.std.specs.Prelude.{List, Option, drop};
+    ghost use Rattle.std.specs.Prelude.{List, Option};
     ghost use Rattle.smil_model.specs.declared.happening.Key.{Key as AnyKey};
-    ghost use Rattle.smil_nodes.specs.Slots.{IsTournament};
+    ghost use Rattle.smil_nodes.specs.Slots.{keys_of};
 
     ghost Value = { List (Option AnyKey) };
 
-    ghost view = { λ a. drop a.half a.places.items };
-
-    ghost invariant = { λ a. IsTournament a.places.items a.half };
+    ghost view = { λ a. keys_of a.slots };
 }
 
 impl Duplicate for DueTree {
     fn copy(&self) -> Result<Self, AllocError> {
         Ok(DueTree {
-            half: self.half,
-            places: self.places.clone()?,
+            slots: self.slots.copy()?,
         })
     }
 }
@@ -47,10 +66,9 @@ impl DueTree {
         requires { count ≤ 2 ^ 32 }
         ensures { IfOk result (λ tree. tree ≡ replicate count None) }
     {
-        let half = count.next_power_of_two();
+        let slots = Vec::from_elem(alloc, Slot::none(), count)?;
         Ok(DueTree {
-            places: Vec::from_elem(alloc, None, half + count)?,
-            half,
+            slots: Tournament::of(alloc, slots.as_slice())?,
         })
     }
 
@@ -59,9 +77,7 @@ impl DueTree {
         requires { slot < length self.old }
         ensures { self.new ≡ slice_set self.old slot key }
     {
-        let place = self.half + slot;
-        self.places[place] = key;
-        decide_above(&mut self.places, self.half, place);
+        self.slots.set(slot, Slot { key });
     }
 
     /// The least key, which happens first; of equal ones the first. None exactly where no slot has
@@ -69,38 +85,7 @@ impl DueTree {
     pub fn least(&self) -> Option<Key>
         ensures { result ≡ least_key (keys_in self.now) }
     {
-        let _half = self.half;
-        at(&self.places, 1)
-    }
-}
-
-// Decides anew what is above a place, upwards.
-fn decide_above(places: &mut [Option<Key>], half: usize, place: usize)
-    requires within { place < half + half }
-    requires above { 0 < place }
-    requires half { half ≤ 2 ^ 32 }
-    requires from { half ≤ length places.old }
-    requires off { (i : ℕ) → 0 < i → i < half → IsOff i (place / 2)
-        → IsDecided None earlier_of places.old i }
-    ensures won { (i : ℕ) → 0 < i → i < half → IsDecided None earlier_of places.new i }
-    ensures kept { drop half places.new ≡ drop half places.old }
-{
-    let mut decided = place;
-    while 1 < decided {
-        decided /= 2;
-        let first = at(places, 2 * decided);
-        let second = at(places, 2 * decided + 1);
-        places[decided] = earlier(first, second);
-    }
-}
-
-// The key at a place, if it has one; a place past the last one has none.
-fn at(places: &[Option<Key>], place: usize) -> Option<Key>
-    ensures { result ≡ at_place None places.now place }
-{
-    match places.get(place) {
-        Some(key) => *key,
-        None => None,
+        self.slots.top().key
     }
 }
 

@@ -1,16 +1,8 @@
 -- The first elements of a list, and one more.
-use Rattle.std.proofs.Common.{◌≡◌, ℕ, ◌+◌, ◌<◌, List, [], ◌∷◌, ◌++◌, length, take, filter, get_or, sym, ap, ◌∙◌}
-use Rattle.std.specs.List.{count_by}
+use Rattle.std.proofs.Common.{◌≡◌, ℕ, ◌+◌, ◌<◌, List, [], ◌∷◌, ◌++◌, length, take, get_or, sym, ap, ◌∙◌}
 use Rattle.smil_model.specs.declared.document.Node.{Node}
-use Rattle.smil_model.specs.declared.document.Item.{Item}
-use Rattle.smil_model.specs.document.Valid.{is_reference}
 use Rattle.smil_model.specs.document.Document.{Document, with_node}
 use Rattle.std.proofs.lemmas.List.{take_more}
-use Rattle.std.proofs.lemmas.List.Sums.{length-filter}
-
--- items that refer to something
-pub counted : (items : List Item) → count_by is_reference items ≡ length (filter is_reference items)
-counted items = sym (length-filter is_reference items)
 
 -- a document of the first nodes, and of one more
 pub copied_more : (all nodes : List Node) (i : ℕ) (item copy : Node) (doc new : Document) → all ≡ nodes → i < length all → copy ≡ item → item ≡ get_or all i item → doc.nodes ≡ take i nodes → new ≡ with_node doc copy → new.nodes ≡ take (i + 1) nodes

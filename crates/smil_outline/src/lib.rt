@@ -6,7 +6,6 @@ mod branch;
 mod builder;
 mod ids;
 mod nodes;
-mod references;
 mod refusals;
 mod serials;
 mod writer;

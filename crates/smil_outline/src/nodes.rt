@@ -7,10 +7,9 @@ ghost use Rattle.smil_model.specs.document.Valid.{references as all_references, 
 ghost use Rattle.smil_grammar.specs.Outlines.{has_id as has_id_among};
 
 use super::ids::Ids;
-use super::references::{in_list, references};
 use super::serials::SerialSet;
 use smil_model::listed::GrowingList;
-use smil_model::{Attrs, Bytes, Node, REFERENCES};
+use smil_model::{Attrs, Bytes, Node, REFERENCES, references_in, references_in_list};
 use std::alloc::{AllocError, Global};
 use std::marker::Model;
 
@@ -81,8 +80,8 @@ impl Nodes {
             (all_references self.now + references_among attrs.now)) }
     {
         let left = REFERENCES - self.references;
-        let begin = in_list(&attrs.begin);
-        begin <= left && in_list(&attrs.end) <= left - begin
+        let begin = references_in_list(&attrs.begin);
+        begin <= left && references_in_list(&attrs.end) <= left - begin
     }
 
     /// Whether a node has this id.
@@ -108,7 +107,7 @@ impl Nodes {
         ensures ok { OnOk result (self.new ≡ self.old ++ node ∷ []) }
         ensures err { OnErr result (self.new ≡ self.old) }
     {
-        let more = references(&node.attrs);
+        let more = references_in(&node.attrs);
         let id = Vec::from_slice(self.alloc, id_of(&node))?;
         let serial = node.serial;
         let was_there = self.serials.has(serial);

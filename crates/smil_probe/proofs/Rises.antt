@@ -6,7 +6,8 @@ use Rattle.std.proofs.lemmas.Bool.{MatchBool-at_true}
 use Rattle.smil_model.specs.declared.times.Time.{Time}
 use Rattle.smil_model.specs.Times.{time_le}
 use Rattle.smil_model.proofs.Orders.{le_self, le_both, time_self, time_both}
-use Rattle.smil_interval.specs.Rising.{IsOrderedBy, IsRising, IsRisingTimes}
+use Rattle.smil_model.specs.Rising.{IsRising as IsRisingBy}
+use Rattle.smil_interval.specs.Rising.{IsRising, IsRisingTimes}
 
 -- each element is at most the next
 Climbs : {A : Type 0} → (A → A → Bool) → List A → Type 0
@@ -29,7 +30,7 @@ unfolding Climbs
 climbs le xs b holds all = λ k d inside. sym (MatchBool-at_true _ _ holds all k d inside)
 
 ordered : {A : Type 0} (le : A → A → Bool) → ((x : A) → le x x ≡ true) → ((x y z : A) → le x y ≡ true → le y z ≡ true → le x z ≡ true)
-    → (xs : List A) → Climbs le xs → IsOrderedBy le xs
+    → (xs : List A) → Climbs le xs → IsRisingBy le xs
 ordered le same trans xs up = λ i j d q inside.
     let there : i + (j - i) ≡ j = omega (arith, q) in
     subst (λ k. le (get_or xs i d) (get_or xs k d) ≡ true) there (further le same trans xs up i (j - i) d (omega (arith, q, inside)))

@@ -1,9 +1,9 @@
 //! The list of sessions, line by line.
 
-use super::fault::Fault;
 use super::serving::serve_session;
 use super::session::Session;
 use itoa::Buffer;
+use smil_cases::Fault;
 use smil_model::Bytes;
 use std::alloc::{AllocError, Global};
 

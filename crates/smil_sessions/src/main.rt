@@ -31,7 +31,6 @@
 //! none for what the line asks.
 #![tactic(auto)]
 
-mod fault;
 mod listing;
 mod numbers;
 mod pieces;

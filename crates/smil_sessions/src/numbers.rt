@@ -1,6 +1,6 @@
 //! Numbers, read.
 
-use super::fault::Fault;
+use smil_cases::Fault;
 use smil_model::GrowingList;
 use std::alloc::Global;
 use std::str::FromStr;

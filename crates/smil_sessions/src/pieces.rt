@@ -2,8 +2,8 @@
 
 ghost use Rattle.std.specs.Prelude.{◌<◌};
 
-use super::fault::Fault;
 use super::numbers::{number, numbers};
+use smil_cases::Fault;
 use smil_model::{Bytes, GrowingList};
 use smil_outside::CHUNK_BYTES;
 use std::alloc::Global;

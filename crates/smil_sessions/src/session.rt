@@ -1,8 +1,8 @@
 //! A session as it is asked for.
 
-use super::fault::Fault;
 use super::pieces::Pieces;
 use super::turns::Turns;
+use smil_cases::Fault;
 use smil_model::{Bytes, WordList};
 use std::alloc::Global;
 

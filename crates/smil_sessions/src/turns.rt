@@ -1,7 +1,7 @@
 //! Input that is read line by line.
 
-use super::fault::Fault;
 use super::numbers::number;
+use smil_cases::Fault;
 use smil_model::{Bytes, GrowingList};
 use std::alloc::Global;
 

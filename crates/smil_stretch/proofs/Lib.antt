@@ -7,5 +7,4 @@ pub mod Turned
 pub mod Left
 pub mod Refreshed
 pub mod Turning
-pub mod Tabled
 pub mod Idle

@@ -1,10 +1,11 @@
 -- What is kept of clocks, and how they turn where a pause begins or ends.
 use Rattle.std.specs.Prelude.{◌≡◌, ℕ, ◌<◌, ◌≤◌, ℤ, pos, List, [], ◌∷◌, ◌++◌, length, take, drop, Bool, true, false, ◌||◌, ◌==◌, Option, Some, None, option_and_then, slice_get}
-use Rattle.std.specs.List.{All, find, position}
+use Rattle.std.specs.List.{All, find}
 use Rattle.smil_model.specs.declared.diary.Entry.{Entry}
 use Rattle.smil_model.specs.declared.document.Node.{Node}
 use Rattle.smil_model.specs.diary.Diary.{History, is_paused}
 use Rattle.smil_model.specs.diary.Lawful.{has_element}
+use Rattle.smil_model.specs.FirstPlaces.{AreFirstPlaces}
 use Rattle.smil_diary.specs.Places.{is_from}
 use Rattle.smil_stretch.specs.declared.clock.Clock.{Clock}
 use Rattle.smil_stretch.specs.declared.clock.Clock.TheVariants.{Runs, Stands}
@@ -78,4 +79,4 @@ idle_clock nodes n = record { serial = n.serial; parent = parent_place nodes n.s
 
 -- a table from serials to places
 abbrev pub ArePlacesOf : (ℕ → Option ℕ) → List NodeClock → Type 0
-ArePlacesOf found clocks = (serial : ℕ) → found serial ≡ position (λ (n : NodeClock). n.serial == serial) clocks
+ArePlacesOf found clocks = AreFirstPlaces (λ (n : NodeClock). n.serial) found clocks

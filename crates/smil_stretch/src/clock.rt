@@ -5,6 +5,8 @@ ghost use Rattle.smil_stretch.specs.Clocks.{clock_by, shown, is_standing};
 ghost use Rattle.smil_model.specs.Times.{IsMoment, IsNear};
 ghost use Rattle.smil_stretch.specs.NodeClocks.{Fits, shown_by, stands_by};
 
+use smil_model::HasSerial;
+
 /// A clock, in milliseconds.
 #[derive(Clone, Copy, Debug)]
 pub enum Clock {
@@ -25,6 +27,14 @@ pub struct NodeClock {
     pub paused: bool,
     /// Its clock, which stands while it or an element above it is paused.
     pub clock: Clock,
+}
+
+impl HasSerial for NodeClock {
+    ghost serial = { λ node. node.serial };
+
+    fn serial(&self) -> u32 {
+        self.serial
+    }
 }
 
 impl Clock {

@@ -1,8 +1,6 @@
 //! The clocks of a document.
 
-ghost use Rattle.std.specs.Prelude.{◌≡◌, ◌≤ℤ◌, ℕ, ◌==◌, true, if◌then◌else◌, Some, None, IsSome, IfOk, IfSome, OnOk, nat_eq, map};
-ghost use Rattle.std.specs.Option.{option_or};
-ghost use Rattle.std.specs.HashMap.{get};
+ghost use Rattle.std.specs.Prelude.{◌≡◌, ◌≤ℤ◌, true, Some, None, IsSome, IfOk, IfSome, map};
 ghost use Rattle.smil_model.specs.document.Document.{node_at};
 ghost use Rattle.smil_model.specs.document.Valid.{IsNumberedTree};
 ghost use Rattle.smil_model.specs.diary.Diary.{History, is_paused as paused_in, with_entry, last_moment};
@@ -13,12 +11,12 @@ ghost use Rattle.smil_model.specs.declared.diary.Step.{Step as AnyStep};
 ghost use Rattle.smil_model.specs.declared.diary.Step.TheVariants as step;
 ghost use Rattle.smil_stretch.specs.Clocks.{AreClocksOf, IsHistoryOf, IsLawfulFor, MayEndPause, MayFollow, ends_pause, parent_place};
 ghost use Rattle.smil_model.specs.Times.{IsCarried, IsMoment, IsNear};
-ghost use Rattle.smil_stretch.specs.NodeClocks.{AllFit, ArePlacesOf, Fits, MayTurn, Turns, clock_at, idle_clock, parent_at};
+ghost use Rattle.smil_stretch.specs.NodeClocks.{AllFit, Fits, MayTurn, Turns, clock_at, idle_clock, parent_at};
 
 use super::clock::{Clock, NodeClock, shown_by, stands_by};
 use super::refresh::refresh;
 use smil_diary::Book;
-use smil_model::{Duplicate, Entry, Step};
+use smil_model::{Duplicate, Entry, Step, first_places};
 use smil_tree::Tree;
 use std::alloc::{AllocError, Global};
 use std::collections::HashMap;
@@ -193,7 +191,7 @@ impl Clocks {
         ensures { IfOk result (λ made. made ≡ clocks.items) }
     {
         Ok(Clocks {
-            places: places_of(alloc, &clocks)?,
+            places: first_places(alloc, &clocks)?,
             clocks,
         })
     }
@@ -265,28 +263,4 @@ pub fn parent_place(tree: &Tree, serial: u32) -> Option<usize>
     ensures { result ≡ parent_place tree.now.nodes serial }
 {
     tree.position(tree.time_parent(serial)?)
-}
-
-// A table from serials to places, in which the first place of a serial counts.
-fn places_of(alloc: Global, clocks: &[NodeClock]) -> Result<HashMap<u32, usize>, AllocError>
-    ensures { IfOk result (λ places. ArePlacesOf (get nat_eq places) clocks.now) }
-{
-    let mut places = HashMap::new(alloc);
-    for (place, node) in clocks.iter().enumerate() {
-        note_place(&mut places, node.serial, place)?;
-    }
-    Ok(places)
-}
-
-// Notes the place of a serial, where it has none yet.
-fn note_place(places: &mut HashMap<u32, usize>, serial: u32, place: usize) -> Result<(), AllocError>
-    ensures { OnOk result ((s : ℕ)
-        → get nat_eq places.new s ≡ option_or (get nat_eq places.old s)
-        (if serial == s then Some place else None)) }
-{
-    if places.contains_key(&serial) {
-        return Ok(());
-    }
-    places.insert(serial, place)?;
-    Ok(())
 }

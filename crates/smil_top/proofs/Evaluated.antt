@@ -15,7 +15,7 @@ use Rattle.smil_model.specs.shown.Orders.{Presentation, course_of, kept_where, o
 use Rattle.smil_grammar.specs.declared.read.Read.{Read}
 use Rattle.smil_grammar.specs.Results.{◌>>=◌}
 use Rattle.smil_grammar.specs.Scripts.{line_of}
-use Rattle.smil_instance_rows.proofs.Rising.{clash}
+use Rattle.smil_model.proofs.Rising.{clash}
 use Rattle.smil_house.specs.House.{load_refusal, IsAnsweredBy, IsRefused}
 use Rattle.smil_live.specs.Counts.{least_loading, most_loading}
 use Rattle.smil_top.specs.declared.answer.Answer.{Answer as AnswerText}

@@ -1,5 +1,5 @@
 -- A tree made of a document, node by node.
-use Rattle.std.proofs.Common.{◌≡◌, refl, sym, ◌∙◌, ap, ℕ, zero, suc, ◌+◌, ◌≤◌, List, [], ◌∷◌, ◌++◌, Option, Some, None, Bool, true, false, cond, length, take, insert, filter, arith, add-one, append_assoc}
+use Rattle.std.proofs.Common.{◌≡◌, refl, sym, ◌∙◌, ap, ℕ, zero, suc, ◌+◌, ◌≤◌, List, [], ◌∷◌, ◌++◌, Option, Some, None, Bool, true, false, cond, take, insert, arith, add-one, append_assoc}
 use Rattle.std.specs.Prelude.{◌==◌, ◌&&◌, not, count_by, slice_get}
 use Rattle.std.specs.List.{list_any}
 use Rattle.std.specs.Str.{bytes_eq}
@@ -25,22 +25,6 @@ insert-more_at ns i n at = insert-suc_at ns i n at ∙ sym (ap (λ k. take k ns)
 
 pub taken_more : (ns old new : List Node) (i : ℕ) (copy n : Node) → slice_get ns i ≡ Some n → new ≡ insert old i copy → old ≡ take i ns → copy ≡ n → new ≡ take (i + 1) ns
 taken_more ns old new i copy n at put was same = put ∙ ap (λ ms. insert ms i copy) was ∙ ap (insert (take i ns) i) same ∙ insert-more_at ns i n at
-
-filter-pushed : {A : Type 0} (t : A → Bool) (ys : List A) (x : A) → length (filter t (ys ++ x ∷ [])) ≡ length (filter t ys) + cond (t x) 1 0
-filter-pushed t [] x = step (t x)
-  where
-    step : (b : Bool) → length (cond b (x ∷ []) []) ≡ 0 + cond b 1 0
-    step true = refl
-    step false = refl
-filter-pushed t (y ∷ ys) x = step (t y) (filter-pushed t ys x)
-  where
-    step : (b : Bool) → length (filter t (ys ++ x ∷ [])) ≡ length (filter t ys) + cond (t x) 1 0 → length (cond b (y ∷ filter t (ys ++ x ∷ [])) (filter t (ys ++ x ∷ []))) ≡ length (cond b (y ∷ filter t ys) (filter t ys)) + cond (t x) 1 0
-    step true h = omega (arith, h)
-    step false h = h
-
--- how many pass among one more
-pub filter-more_at : {A : Type 0} (t : A → Bool) (xs : List A) (i : ℕ) (x : A) → slice_get xs i ≡ Some x → length (filter t (take (i + 1) xs)) ≡ length (filter t (take i xs)) + cond (t x) 1 0
-filter-more_at t xs i x at = ap (λ ys. length (filter t ys)) (take-more_at xs i x at) ∙ filter-pushed t (take i xs) x
 
 -- no earlier node has the serial of the node at a place
 pub fresh_at : (ns : List Node) (i : ℕ) (n : Node) → IsDistinct ns → slice_get ns i ≡ Some n → node_at (take i ns) n.serial ≡ None

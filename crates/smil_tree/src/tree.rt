@@ -21,8 +21,7 @@ use self::family::element_from;
 use super::ids::{Ids, note_node};
 use super::kin::Kin;
 use super::nodes::Nodes;
-use super::references::references_in;
-use smil_model::{Attrs, Doc, Duplicate, Kind, REFERENCES, Who};
+use smil_model::{Attrs, Doc, Duplicate, Kind, REFERENCES, Who, references_in};
 use std::alloc::{AllocError, Global};
 use std::marker::Model;
 

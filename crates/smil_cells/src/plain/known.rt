@@ -1,17 +1,15 @@
 //! What is known of each element.
 
-ghost use Rattle.std.specs.Prelude.{◌≡◌, ◌==◌, ℕ, map, if◌then◌else◌, nat_eq, slice_set, slice_get, Some, None, IfOk, IfSome, OnOk};
-ghost use Rattle.std.specs.HashMap.{get};
+ghost use Rattle.std.specs.Prelude.{◌≡◌, ◌==◌, map, slice_set, slice_get, Some, IfOk, IfSome};
 ghost use Rattle.std.specs.List.{position};
-ghost use Rattle.std.specs.Option.{option_or};
 ghost use Rattle.smil_model.specs.document.Document.{elements};
 ghost use Rattle.smil_laws.specs.Near.{IsIntervalNear};
 ghost use Rattle.smil_cells.specs.declared.plain.known.Row.{Row as AnyRow};
-ghost use Rattle.smil_cells.specs.Rows.{ArePlaces, IsChosen, empty_row, row_without};
+ghost use Rattle.smil_cells.specs.Rows.{IsChosen, empty_row, row_without};
 
 use smil_element::{Coming, Comings, Container, Containers, Intervals, walked_duration};
 use smil_instances::elements::elements;
-use smil_model::{ChildEnd, Duplicate, Interval, Key, Time};
+use smil_model::{ChildEnd, Duplicate, HasSerial, Interval, Key, Time, first_places};
 use smil_tree::Tree;
 use std::alloc::{AllocError, Global};
 use std::collections::HashMap;
@@ -23,6 +21,14 @@ pub struct Row {
     pub serial: u32,
     pub interval: Option<Interval>,
     pub comings: Comings,
+}
+
+impl HasSerial for Row {
+    ghost serial = { λ row. row.serial };
+
+    fn serial(&self) -> u32 {
+        self.serial
+    }
 }
 
 /// The elements of a document in document order, each with its interval, whose numbers are from
@@ -74,7 +80,7 @@ impl Duplicate for CurrentRows {
         let alloc = *self.rows.allocator();
         let rows = Vec::from_slice(alloc, &self.rows)?;
         Ok(CurrentRows {
-            places: places_of(alloc, &rows)?,
+            places: first_places(alloc, &rows)?,
             rows,
         })
     }
@@ -89,7 +95,7 @@ impl CurrentRows {
         let whos = elements(alloc, tree)?;
         let rows = empty_rows(alloc, &whos)?;
         Ok(CurrentRows {
-            places: places_of(alloc, &rows)?,
+            places: first_places(alloc, &rows)?,
             rows,
         })
     }
@@ -154,27 +160,4 @@ fn empty_rows(alloc: Global, whos: &[u32]) -> Result<Vec<Row>, AllocError>
         })?;
     }
     Ok(rows)
-}
-
-// A table from serials to places, in which the first place of a serial counts.
-fn places_of(alloc: Global, rows: &[Row]) -> Result<HashMap<u32, usize>, AllocError>
-    ensures { IfOk result (λ places. ArePlaces (get nat_eq places) rows.now) }
-{
-    let mut places = HashMap::new(alloc);
-    for (place, row) in rows.iter().enumerate() {
-        note_place(&mut places, row.serial, place)?;
-    }
-    Ok(places)
-}
-
-// Notes the place of a serial, where it has none yet.
-fn note_place(places: &mut HashMap<u32, usize>, serial: u32, place: usize) -> Result<(), AllocError>
-    ensures { OnOk result ((s : ℕ) → get nat_eq places.new s
-        ≡ option_or (get nat_eq places.old s) (if serial == s then Some place else None)) }
-{
-    if places.contains_key(&serial) {
-        return Ok(());
-    }
-    places.insert(serial, place)?;
-    Ok(())
 }

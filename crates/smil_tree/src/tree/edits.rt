@@ -14,8 +14,8 @@ use super::Tree;
 use crate::fault::TreeFault;
 use crate::ids::{Ids, forget_node};
 use crate::nodes::Nodes;
-use crate::references::{references_in, references_with, references_without};
-use smil_model::{Attr, AttrName, Bytes, REFERENCES};
+use crate::references::{references_with, references_without};
+use smil_model::{Attr, AttrName, Bytes, REFERENCES, references_in};
 use std::alloc::AllocError;
 
 impl Tree {

@@ -20,8 +20,7 @@ use crate::fault::TreeFault;
 use crate::ids::{Ids, forget_node, note_node};
 use crate::kin::Kin;
 use crate::nodes::Nodes;
-use crate::references::references_in;
-use smil_model::{Attrs, Kind, NODES, Node, REFERENCES, SERIALS};
+use smil_model::{Attrs, Kind, NODES, Node, REFERENCES, SERIALS, references_in};
 use std::alloc::AllocError;
 
 impl Tree {

@@ -15,7 +15,7 @@ use super::spans::end_of;
 use crate::fault::TreeFault;
 use crate::ids::{Ids, forget_node};
 use crate::nodes::Nodes;
-use crate::references::references_in;
+use smil_model::references_in;
 
 impl Tree {
     /// Removes a node with its descendants; their ids may be given again, their serials are not.

@@ -9,7 +9,7 @@ use Rattle.smil_model.specs.diary.Diary.{History}
 use Rattle.smil_model.specs.interval.Current.{facts_of}
 use Rattle.smil_model.specs.interval.Instances.{begin_times, end_times}
 use Rattle.smil_model.specs.interval.Intervals.{interval_of}
-use Rattle.smil_instance_rows.specs.Rising.{IsRising}
+use Rattle.smil_model.specs.Rising.{IsRising}
 use Rattle.smil_past.specs.Past.{history_of}
 use Rattle.smil_element.proofs.Awaited.{begins_rise, ends_rise}
 use Rattle.smil_element.proofs.Latest.{present_fits}

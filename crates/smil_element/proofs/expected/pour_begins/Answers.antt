@@ -6,7 +6,7 @@ use Rattle.smil_model.specs.declared.document.Edge.TheVariants.{Begin}
 use Rattle.smil_model.specs.document.Document.{elements}
 use Rattle.smil_model.specs.diary.Diary.{History}
 use Rattle.smil_model.specs.interval.Instances.{no_interval, number_of, settled_begins}
-use Rattle.smil_instance_rows.specs.Rising.{IsRising}
+use Rattle.smil_model.specs.Rising.{IsRising}
 use Rattle.smil_past.specs.Syncs.{expected_by, syncs_of}
 use Rattle.smil_past.proofs.References.{stands}
 use Rattle.smil_past.specs.Past.{history_of}

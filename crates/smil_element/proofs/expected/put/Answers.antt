@@ -1,8 +1,8 @@
 use Rattle.std.proofs.Common.{◌∙◌, sym, subst, List, rules, tests}
 use Rattle.std.specs.Prelude.{not}
 use Rattle.std.proofs.lemmas.List.Sorted.{IsPartitionPoint-from_clause}
-use Rattle.smil_instance_rows.specs.Rising.{IsPlaceFrom, IsRising}
-use Rattle.smil_instance_rows.proofs.Rising.{insert_here, parted_from, place_found}
+use Rattle.smil_model.specs.Rising.{IsPlaceFrom, IsRising}
+use Rattle.smil_model.proofs.Rising.{insert_here, parted_from, place_found}
 use Rattle.smil_element.proofs.expected.put.Goals as goal
 
 pub returns : goal.returns

@@ -24,5 +24,5 @@ returns c = record {
   read = c.in_ok-readers.ensures;
   waiting = c.in_ok-waiting.ensures;
   ordered = c.in_ok-order.ensures;
-  ranked = rw c.slice.ensures at c.in_ok-ranks_of.ensures;
+  ranked = rw c.slice.ensures at c.in_ok-first_places.ensures;
 }

@@ -1,22 +1,23 @@
-use Rattle.std.proofs.Common.{◌≡◌, sym, subst, ap, ◌∙◌, ◌+◌, ℕ, nat_eq, List, arith}
-use Rattle.std.specs.Prelude.{nat_lt, ◌&&◌, slice_get}
+use Rattle.std.proofs.Common.{◌≡◌, sym, subst, ap, ◌∙◌, ℕ, nat_eq, List}
+use Rattle.std.specs.Prelude.{◌==◌, slice_get}
 use Rattle.std.specs.HashMap.{get}
+use Rattle.std.specs.List.{position}
+use Rattle.std.proofs.lemmas.Result.{IfOk-weaker}
 use Rattle.smil_model.specs.document.Document.{elements}
 use Rattle.smil_model.specs.reach.Reach.{is_option}
-use Rattle.smil_instances.proofs.Begun.{at_place}
-use Rattle.smil_instances.proofs.Siblings.{place_told, all_below}
+use Rattle.smil_model.specs.FirstPlaces.{AreFirstPlaces}
+use Rattle.smil_instances.specs.Spread.{IsIndex}
+use Rattle.smil_instances.proofs.Siblings.{distinct_elements, first_told}
 use Rattle.smil_instances.proofs.elements.places_of.Goals as goal
 
-pub loop-place-preserved : goal.loop-place-preserved
-loop-place-preserved c =
-    let nodes = c.args.tree.now.nodes in
-    let here = at_place (elements nodes) c.args.whos.now c.loop-place.place c.requires c.loop-place-test.true in
-    let told =
-    place_told nodes c.valid.ensures.numbered.distinct c.loop-place.place here.node here.at (get nat_eq c.loop-place.places) (get nat_eq c.insert.new.self)
-    (subst (λ (whos : List ℕ). (row who : ℕ) → is_option row (get nat_eq c.loop-place.places who) ≡ (nat_lt row c.loop-place.place && is_option who (slice_get whos row))) c.requires c.loop-place.invariant)
-    (ap (get nat_eq c.insert.new.self) (sym here.serial) ∙ c.in_ok-insert.ensures.updates.1)
-    (λ who apart. c.in_ok-insert.ensures.updates.2 who (ap (λ s. nat_eq s who) here.serial ∙ apart)) in
-    subst (λ (whos : List ℕ). (row who : ℕ) → is_option row (get nat_eq c.insert.new.self who) ≡ (nat_lt row (c.loop-place.place + 1) && is_option who (slice_get whos row))) (sym c.requires) told
-
 pub returns : goal.returns
-returns c = λ row who. c.loop-place.invariant row who ∙ all_below c.args.whos.now c.loop-place.place row who (omega arith)
+returns c =
+    let nodes = c.args.tree.now.nodes in
+    IfOk-weaker c.first_places.result
+    (λ places. AreFirstPlaces (λ (s : ℕ). s) (get nat_eq places) c.args.whos.now)
+    (λ places. IsIndex c.args.whos.now (get nat_eq places))
+    (λ places are. λ row who.
+    ap (is_option row) (are who)
+    ∙ subst (λ (whos : List ℕ). is_option row (position (λ s. s == who) whos) ≡ is_option who (slice_get whos row)) (sym c.requires)
+    (first_told (elements nodes) (distinct_elements nodes c.valid.ensures.numbered.distinct) row who))
+    c.first_places.ensures

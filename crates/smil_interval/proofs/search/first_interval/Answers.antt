@@ -5,14 +5,15 @@ use mir.Val.{SFits}
 use Rattle.smil_model.specs.interval.Intervals.{is_from, after_end, is_accepted, interval_end}
 use Rattle.smil_interval.specs.Rising.{IsRising}
 use Rattle.smil_interval.specs.Next.{interval_to}
-use Rattle.smil_interval.proofs.Ordered.{rest_ordered, shorter}
+use Rattle.smil_model.proofs.Rising.{rest_rises}
+use Rattle.smil_interval.proofs.Ordered.{shorter}
 use Rattle.smil_interval.proofs.Searches.{rejected_interval}
 use Rattle.smil_interval.proofs.search.first_interval.Goals as goal
 
 pub from_end-rest-requires : goal.from_end-rest-requires
 from_end-rest-requires c =
     let rises : IsRising (c.in-Some.begin.now ∷ c.in-Some.later.now) = subst (λ (zs : List ℤ). IsRising zs) c.in-Some.ensures.cases.0 c.search.invariant.rising in
-    rest_ordered int_le c.in-Some.begin.now c.in-Some.later.now rises
+    rest_rises int_le c.in-Some.begin.now c.in-Some.later.now rises
 
 pub search-smaller : goal.search-smaller
 search-smaller c =

@@ -1,6 +1,6 @@
 use Rattle.std.proofs.Common.{◌∙◌, ap, subst, List}
-use Rattle.smil_instance_rows.specs.Rising.{IsPlaceFrom, put_in}
-use Rattle.smil_instance_rows.proofs.Rising.{insert_here}
+use Rattle.smil_model.specs.Rising.{IsPlaceFrom, put_in}
+use Rattle.smil_model.proofs.Rising.{insert_here}
 use Rattle.smil_instance_rows.proofs.sorted.SortedList.put.Goals as goal
 
 pub returns-clause-ok : goal.returns-clause-ok

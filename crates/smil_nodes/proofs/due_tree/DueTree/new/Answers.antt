@@ -1,17 +1,18 @@
-use Rattle.std.proofs.Common.{◌≡◌, ◌∙◌, ap, sym, subst, ◌+◌, List, drop, replicate, arith, rules}
-use Rattle.std.specs.Prelude.{Option}
-use Rattle.smil_model.specs.declared.happening.Key.{Key}
-use Rattle.smil_nodes.specs.Slots.{IsTournament}
-use Rattle.smil_nodes.proofs.Best.{no_key, empty_tournament, empty_slots}
+use Rattle.std.proofs.Common.{◌≡◌, ◌∙◌, ap, List, length, replicate, arith, rules}
+use Rattle.std.proofs.lemmas.List.{length-replicate}
+use Rattle.smil_nodes.specs.declared.due_tree.Slot.{Slot}
+use Rattle.smil_nodes.specs.Slots.{keys_of}
+use Rattle.smil_nodes.proofs.Best.{empty_slots}
 use Rattle.smil_nodes.proofs.due_tree.DueTree.new.Goals as goal
 
-items_are : (c : goal.In_ok-from_elem) → c.in_ok-from_elem.field-0.items ≡ replicate (c.next_power_of_two-half.result + c.args.count) no_key
-items_are c = c.in_ok-from_elem.ensures.items_if_clones_equal (λ y h. search rules)
-
-pub invariant_of-result : goal.invariant_of-result
-invariant_of-result c =
-    subst (λ (places : List (Option Key)). IsTournament places c.next_power_of_two-half.result) (sym (items_are c))
-    (empty_tournament c.next_power_of_two-half.result c.args.count c.next_power_of_two-half.ensures.power c.next_power_of_two-half.ensures.lower_bound c.next_power_of_two-half.ensures.upper_bound (omega arith))
+pub of-requires : goal.of-requires
+of-requires c =
+    let are : c.in_ok-slots.slots.items ≡ replicate c.args.count c.none.result = c.in_ok-slots.ensures.items_if_clones_equal (λ y h. search rules) in
+    let long : length c.as_slice.result.now ≡ c.args.count =
+    ap (λ (slots : List Slot). length slots) (c.as_slice.ensures.value ∙ are) ∙ length-replicate c.args.count c.none.result in
+    omega (arith, long, c.requires)
 
 pub returns : goal.returns
-returns c = ap (drop c.next_power_of_two-half.result) (items_are c) ∙ empty_slots c.next_power_of_two-half.result c.args.count
+returns c =
+    let are : c.in_ok-slots.slots.items ≡ replicate c.args.count c.none.result = c.in_ok-slots.ensures.items_if_clones_equal (λ y h. search rules) in
+    ap keys_of (c.in_ok-of.ensures ∙ c.as_slice.ensures.value ∙ are ∙ ap (replicate c.args.count) c.none.ensures) ∙ empty_slots c.args.count

@@ -12,7 +12,7 @@ invariant_of-result c =
     let es = elements c.args.tree.now.nodes in
     let rows_are : c.in_ok-rows.rows.items ≡ map empty_row es = c.in_ok-rows.ensures ∙ ap (map row_without) (c.deref.ensures.value ∙ c.in_ok-whos.ensures) ∙ empty_by_serials es in (
       subst AreNear (sym rows_are) (empty_near es),
-      λ s. c.in_ok-places_of.ensures s ∙ ap (position (λ (r : Row). r.serial == s)) c.deref-2.ensures.value,
+      λ s. c.in_ok-first_places.ensures s ∙ ap (position (λ (r : Row). r.serial == s)) c.deref-2.ensures.value,
     )
 
 pub returns : goal.returns

@@ -1,0 +1,13 @@
+use Rattle.std.proofs.Common.{◌≡◌, ℕ, ◌<◌, ◌≤◌, drop}
+use Rattle.smil_model.specs.Tournaments.{IsDecided}
+use Rattle.smil_model.proofs.tournament.decide_all.Given as goal
+
+abbrev pub invariant-loop-decided : goal.invariant-loop-decided
+invariant-loop-decided g l = record {
+  within : l.decided ≤ l.half;
+  later : (i : ℕ) → l.decided ≤ i → 0 < i → i < l.half → IsDecided g.T.Contender.none g.T.Contender.both l.places i;
+  kept : drop l.half l.places ≡ drop l.half l.initial.places;
+}
+
+abbrev pub decreases-loop-decided : goal.decreases-loop-decided
+decreases-loop-decided g l = l.decided

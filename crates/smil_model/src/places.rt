@@ -1,0 +1,53 @@
+//! Where serials stand in a list.
+
+ghost use Rattle.std.specs.Prelude.{◌≡◌, ◌==◌, ℕ, nat_eq, Some, None, IfOk, OnOk, if◌then◌else◌};
+ghost use Rattle.std.specs.HashMap.{get};
+ghost use Rattle.std.specs.Option.{option_or};
+ghost use Rattle.smil_model.specs.FirstPlaces.{AreFirstPlaces};
+
+use std::alloc::{AllocError, Global};
+use std::collections::HashMap;
+
+/// What is kept of a node, with its serial.
+pub trait HasSerial {
+    ghost serial: { Self → ℕ };
+
+    /// The serial of the node. It takes no memory.
+    fn serial(&self) -> u32
+        ensures { result ≡ serial self.now };
+}
+
+/// A serial stands for its node.
+impl HasSerial for u32 {
+    ghost serial = { λ number. number };
+
+    fn serial(&self) -> u32 {
+        *self
+    }
+}
+
+/// The place of each serial in a list, from 0; of a serial that stands there twice the first one.
+pub fn first_places<T: HasSerial>(
+    alloc: Global,
+    rows: &[T],
+) -> Result<HashMap<u32, usize>, AllocError>
+    ensures { IfOk result (λ places. AreFirstPlaces T.serial (get nat_eq places) rows.now) }
+{
+    let mut places = HashMap::new(alloc);
+    for (place, row) in rows.iter().enumerate() {
+        note_place(&mut places, row.serial(), place)?;
+    }
+    Ok(places)
+}
+
+// Notes the place of a serial, where it has none yet.
+fn note_place(places: &mut HashMap<u32, usize>, serial: u32, place: usize) -> Result<(), AllocError>
+    ensures { OnOk result ((s : ℕ) → get nat_eq places.new s
+        ≡ option_or (get nat_eq places.old s) (if serial == s then Some place else None)) }
+{
+    if places.contains_key(&serial) {
+        return Ok(());
+    }
+    places.insert(serial, place)?;
+    Ok(())
+}
