@@ -18,14 +18,6 @@ filter_all p (x ∷ xs) all =
     ap (λ t. cond t (x ∷ filter p xs) (filter p xs)) (all 0 x (omega arith))
     ∙ ap (λ ys. x ∷ ys) (filter_all p xs (λ k d inside. all (suc k) d (omega (arith, inside))))
 
-filter_shorter : {A : Type 0} (p : A → Bool) (xs : List A) → length (filter p xs) ≤ length xs
-filter_shorter p [] = omega arith
-filter_shorter p (x ∷ xs) = step (p x) (filter_shorter p xs)
-  where
-    step : (t : Bool) → length (filter p xs) ≤ length xs → length (cond t (x ∷ filter p xs) (filter p xs)) ≤ length (x ∷ xs)
-    step true rest = omega (arith, rest)
-    step false rest = omega (arith, rest)
-
 point_of_rest : {A : Type 0} (P Q : A → Type 0) (x : A) (xs : List A) (k : ℕ) → IsPartitionPoint P Q (x ∷ xs) (suc k) → IsPartitionPoint P Q xs k
 point_of_rest P Q x xs k point =
     (λ j d low high. point.0 (suc j) d (omega arith) (omega (arith, high)), λ j d low high. point.1 (suc j) d (omega (arith, low)) (omega (arith, high)))
@@ -54,4 +46,4 @@ not_before true q up fails = sym (ap not (up refl)) ∙ fails
 not_before false q up fails = refl
 
 pub shorter : {A : Type 0} (p : A → Bool) (xs ys : List A) → ys ≡ filter p xs → length ys ≤ length xs
-shorter p xs ys part = let kept : length (filter p xs) ≤ length xs = filter_shorter p xs in omega (arith, ap length part, kept)
+shorter p xs ys part = omega (arith, ap length part, length-filter p xs, count_by-le-length p xs)

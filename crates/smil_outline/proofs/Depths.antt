@@ -1,7 +1,7 @@
 -- The branch that is open where the next node stands.
 use Rattle.std.proofs.Common.{◌≡◌, ℕ, ◌+◌, ◌-◌, ◌<◌, ◌≤◌, true, false, eqb, List, [], ◌∷◌, ◌++◌, length, take, map, reverse, get_or, Option, Some, refl, sym, ap, subst, ◌∙◌, arith, length-take, length-append}
 use Rattle.std.specs.Prelude.{slice_get}
-use Rattle.std.proofs.lemmas.List.{take_more, reverse-append, length-reverse}
+use Rattle.std.proofs.lemmas.List.{take_more, reverse-append, length-reverse, map-append, length-map}
 use Rattle.std.proofs.lemmas.Option.{get_or_from_slice_get, slice_get-get_or}
 use Rattle.smil_model.specs.declared.document.Kind.{Kind}
 use Rattle.smil_model.specs.declared.document.Kind.TheVariants.{Par}
@@ -9,19 +9,11 @@ use Rattle.smil_model.specs.document.Valid.{open_from}
 use Rattle.smil_grammar.specs.Outlines.{last_of}
 use Rattle.smil_outline.specs.Open.{upwards, is_node}
 
-pub map_on : {A B : Type 0} (f : A → B) (xs ys : List A) → map f (xs ++ ys) ≡ map f xs ++ map f ys
-map_on f [] ys = refl
-map_on f (x ∷ xs) ys = ap (λ (zs : List _). f x ∷ zs) (map_on f xs ys)
-
 pub upwards_on : (branch : List (ℕ × Kind)) (n : ℕ × Kind) → upwards (branch ++ n ∷ []) ≡ n.0 ∷ upwards branch
-upwards_on branch n = ap reverse (map_on (λ (m : ℕ × Kind). m.0) branch (n ∷ [])) ∙ reverse-append (map (λ (m : ℕ × Kind). m.0) branch) (n.0 ∷ [])
-
-pub length_map : {A B : Type 0} (f : A → B) (xs : List A) → length (map f xs) ≡ length xs
-length_map f [] = refl
-length_map f (x ∷ xs) = omega (arith, length_map f xs)
+upwards_on branch n = ap reverse (map-append (λ (m : ℕ × Kind). m.0) branch (n ∷ [])) ∙ reverse-append (map (λ (m : ℕ × Kind). m.0) branch) (n.0 ∷ [])
 
 pub length_upwards : (branch : List (ℕ × Kind)) → length (upwards branch) ≡ length branch
-length_upwards branch = length-reverse (map (λ (m : ℕ × Kind). m.0) branch) ∙ length_map (λ (m : ℕ × Kind). m.0) branch
+length_upwards branch = length-reverse (map (λ (m : ℕ × Kind). m.0) branch) ∙ length-map branch (λ (m : ℕ × Kind). m.0)
 
 pub get_or_behind : {A : Type 0} (xs ys : List A) (d : A) → get_or (xs ++ ys) (length xs) d ≡ get_or ys 0 d
 get_or_behind [] ys d = refl

@@ -4,17 +4,14 @@ use Rattle.std.specs.List.{list_any}
 use Rattle.smil_model.specs.declared.limits.TheConstants.{NODES, REFERENCES}
 use Rattle.smil_model.specs.declared.document.Kind.{Kind}
 use Rattle.smil_model.specs.declared.document.Node.{Node}
+use Rattle.smil_model.specs.document.Closure.{has}
 use Rattle.smil_model.specs.document.Valid.{references, same_test}
 use Rattle.smil_model.specs.document.Document.{is_class_kind}
 use Rattle.smil_grammar.specs.Outlines.{Outline, no_lines, last_of, mixes, with_lines}
 
 -- an id among others
-abbrev pub has : List (List ℕ) → List ℕ → Bool
-has ids id = list_any (λ (other : List ℕ). bytes_eq other id) ids
-
--- a serial among others
-abbrev pub is_among : List ℕ → ℕ → Bool
-is_among serials serial = list_any (λ s. s == serial) serials
+abbrev pub has_id : List (List ℕ) → List ℕ → Bool
+has_id ids id = list_any (λ (other : List ℕ). bytes_eq other id) ids
 
 -- a node that has this id, where no id is the empty one
 abbrev pub is_taken : List Node → List ℕ → Bool
@@ -24,8 +21,8 @@ is_taken nodes id = list_any (λ (n : Node). bytes_eq (unwrap_or n.attrs.id []) 
 pub record IsNoted (nodes : List Node) (ids : List (List ℕ)) (serials : List ℕ) (count : ℕ) : Type 0 where
   pub counted : count ≡ references nodes
   pub few : count ≤ REFERENCES
-  pub named : (id : List ℕ) → has ids id ≡ is_taken nodes id
-  pub numbered : (serial : ℕ) → is_among serials serial ≡ list_any (λ (n : Node). n.serial == serial) nodes
+  pub named : (id : List ℕ) → has_id ids id ≡ is_taken nodes id
+  pub numbered : (serial : ℕ) → has serials serial ≡ list_any (λ (n : Node). n.serial == serial) nodes
 
 -- a kind that is a class beside one that is none, or the other way round
 abbrev pub differs : Option (ℕ × Kind) → Kind → Bool
