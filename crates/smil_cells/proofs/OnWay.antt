@@ -320,7 +320,9 @@ nothing_reached s true a = none a (reached_since s s)
 
 pub same_self : (x : Option Interval) → is_fresh x x ≡ false
 same_self None = refl
-same_self (Some i) = ap not (rw (le_self i.begin) (rw (time_self i.«end») refl))
+same_self (Some i) =
+    let same : is_same_interval (Some i) (Some i) ≡ true = rw (le_self i.begin) (rw (time_self i.«end») refl) in
+    ap not same
 
 pub nothing_fresh : (s : Standing) (flag : Bool) (a : ℕ) → WhereTold flag (fresh_since s s ≤ a - a)
 nothing_fresh s false a = tt
