@@ -6,27 +6,19 @@ use Rattle.smil_model.specs.declared.interval.Interval.{Interval}
 use Rattle.smil_model.specs.declared.document.Node.{Node}
 use Rattle.smil_model.specs.declared.document.Kind.TheVariants as kind
 use Rattle.smil_model.specs.document.Document.{elements, node_at, has_serial}
-use Rattle.smil_model.specs.document.Dependencies.{has_implicit_duration}
 use Rattle.smil_model.specs.diary.Diary.{History}
-use Rattle.smil_model.specs.interval.Current.{simple_of}
-use Rattle.smil_laws.proofs.Locality.{AgreeFor, same_interval, same_implicit, same_stated}
+use Rattle.smil_laws.proofs.Locality.{AgreeFor, same_interval, same_simple}
 use Rattle.smil_graph.specs.Graph.{follows_unlooped, IsOrder}
 use Rattle.smil_element.specs.Element.{coming_by}
 use Rattle.smil_cells.specs.declared.plain.known.Row.{Row}
 use Rattle.smil_cells.specs.Round.{IsRowOf}
 
 module _ (h : History) (J K : ℕ → Option Interval) (now : ℤ) (e : Node) where
-  -- its simple duration stays
-  pub same_simple : AgreeFor h J K e → simple_of h J e ≡ simple_of h K e
-  same_simple agree =
-      same_stated h J K now e (has_implicit_duration e) (λ t. same_implicit h J K now e e.kind (λ c q. agree.children c t q))
-
-  -- and so does its row
   pub row_stays : (place : ℕ) (row : Row) → AgreeFor h J K e → IsRowOf h J now place e row → IsRowOf h K now place e row
   row_stays place row agree is = record {
     serial = is.serial;
     interval = is.interval ∙ same_interval h J K now e agree;
-    comings = is.comings ∙ ap (λ simple. coming_by h row.interval simple now place e) (same_simple agree);
+    comings = is.comings ∙ ap (λ simple. coming_by h row.interval simple now place e) (same_simple h J K now e agree);
   }
 
   -- an element that stands in the order where another stands or before it does not follow from that one without a loop

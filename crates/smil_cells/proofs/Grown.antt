@@ -281,20 +281,29 @@ module _ (past : MarkedHistory) (m : ℤ) (steps : List Step) (next : Coming) (v
       seam : past.diary ++ at_moment m steps ≡ (past.diary ++ at_moment m (take k steps)) ++ (split_at m k steps).0
       seam = ap (λ (l : List Entry). past.diary ++ l) (split_at m k steps).1 ∙ sym (append_assoc past.diary (at_moment m (take k steps)) (split_at m k steps).0)
 
+-- ---- a history whose entries from a place on are new
+
+-- the elements that they show are listed
+abbrev pub AreShown : ℕ → List ℕ → MarkedHistory → Type 0
+AreShown start mid x = (e : Node) → node_at (elements x.document.nodes) e.serial ≡ Some e → any_shows x.document.nodes x.log (drop start x.diary) e.serial ≡ true → has mid e.serial ≡ true
+
+-- what was listed still is
+abbrev pub StayListed : List ℕ → List ℕ → MarkedHistory → Type 0
+StayListed touched mid x = (e : Node) → node_at (elements x.document.nodes) e.serial ≡ Some e → has touched e.serial ≡ true → has mid e.serial ≡ true
+
+-- the intervals of those that are not listed are as they were before
+abbrev pub StayBefore : ℤ → ℕ → List ℕ → MarkedHistory → Type 0
+StayBefore z start others x = (s : ℕ) → has others s ≡ false → current_interval (past_of.history_of x) z s ≡ current_interval (past_of.front x start) z s
+
+-- at most so many elements have a fresh interval
+abbrev pub AreFresh : ℤ → ℕ → Bool → ℕ → MarkedHistory → Type 0
+AreFresh z start flag n x = WhereTold flag (fresh x.document.nodes (current_interval (past_of.front x start) z) (current_interval (past_of.history_of x) z) ≤ n)
+
 -- ---- the group has been taken in
 
 module _ (past : MarkedHistory) (m z : ℤ) (steps : List Step) (fault : Option BookFault) (mark : Option ℤ) (touched mid others : List ℕ) (start : ℕ) (here : z ≡ pos (nat_abs m)) (begins : start ≡ length past.diary) where
   abbrev after : MarkedHistory
   after = with_diary past (past.diary ++ at_moment m steps)
-
-  abbrev Shown : MarkedHistory → Type 0
-  Shown x = (e : Node) → node_at (elements x.document.nodes) e.serial ≡ Some e → any_shows x.document.nodes x.log (drop start x.diary) e.serial ≡ true → has mid e.serial ≡ true
-
-  abbrev Changed : MarkedHistory → Type 0
-  Changed x = (s : ℕ) → has others s ≡ false → current_interval (past_of.history_of x) z s ≡ current_interval (past_of.front x start) z s
-
-  abbrev Stays : MarkedHistory → Type 0
-  Stays x = (e : Node) → node_at (elements x.document.nodes) e.serial ≡ Some e → has touched e.serial ≡ true → has mid e.serial ≡ true
 
   abbrev Came : MarkedHistory → Type 0
   Came x = IsNext (standing_of past m fault mark touched) (standing_of x m None mark others)
@@ -306,7 +315,7 @@ module _ (past : MarkedHistory) (m z : ℤ) (steps : List Step) (fault : Option 
   rest_is = rw begins (drop-append_seam past.diary (at_moment m steps))
 
   module _ (leaves : LeavesViews) (numbered : IsNumberedTree past.document) (lens : (l : ℕ × ℕ) → past.marked ≡ Some l → (l.0 ≤ length past.log) × (l.1 ≤ length past.diary)) (step : next_step (course_on past.document.nodes past.log (nat_abs m)) (record { moment = nat_abs m; heard = length past.log; diary = past.diary }) ≡ Some (record { moment = nat_abs m; heard = length past.log; diary = past.diary ++ at_moment m steps })) (grows : length past.diary < length (past.diary ++ at_moment m steps)) (two : (s : ℕ) → has mid s ≡ true → has others s ≡ true) where
-    came : length after.diary ≤ DIARY_ENTRIES → Stays after → Shown after → Changed after → Came after
+    came : length after.diary ≤ DIARY_ENTRIES → StayListed touched mid after → AreShown start mid after → StayBefore z start others after → Came after
     came few one shown changed = record {
       presentation_is = refl;
       step = step;
@@ -324,14 +333,11 @@ module _ (past : MarkedHistory) (m z : ℤ) (steps : List Step) (fault : Option 
           (changed e.serial free ∙ ap (λ (l : List Entry). current_interval (record { nodes = past.document.nodes; log = past.log; diary = l }) z e.serial) front_is));
     }
 
-    pub came_to : (new : MarkedHistory) → new ≡ after → length new.diary ≤ DIARY_ENTRIES → Stays new → Shown new → Changed new → Came new
-    came_to new is = subst (λ (x : MarkedHistory). length x.diary ≤ DIARY_ENTRIES → Stays x → Shown x → Changed x → Came x) (sym is) came
+    pub came_to : (new : MarkedHistory) → new ≡ after → length new.diary ≤ DIARY_ENTRIES → StayListed touched mid new → AreShown start mid new → StayBefore z start others new → Came new
+    came_to new is = subst (λ (x : MarkedHistory). length x.diary ≤ DIARY_ENTRIES → StayListed touched mid x → AreShown start mid x → StayBefore z start others x → Came x) (sym is) came
 
-  abbrev Fewer : Bool → ℕ → MarkedHistory → Type 0
-  Fewer flag n x = WhereTold flag (fresh x.document.nodes (current_interval (past_of.front x start) z) (current_interval (past_of.history_of x) z) ≤ n)
-
-  pub least_fresh : (flag : Bool) (n : ℕ) (new : MarkedHistory) → new ≡ after → Fewer flag n new → WhereTold flag (fresh_since (standing_of past m fault mark touched) (standing_of new m None mark others) ≤ n)
+  pub least_fresh : (flag : Bool) (n : ℕ) (new : MarkedHistory) → new ≡ after → AreFresh z start flag n new → WhereTold flag (fresh_since (standing_of past m fault mark touched) (standing_of new m None mark others) ≤ n)
   least_fresh flag n new is =
-      subst (λ (x : MarkedHistory). Fewer flag n x → WhereTold flag (fresh_since (standing_of past m fault mark touched) (standing_of x m None mark others) ≤ n)) (sym is)
+      subst (λ (x : MarkedHistory). AreFresh z start flag n x → WhereTold flag (fresh_since (standing_of past m fault mark touched) (standing_of x m None mark others) ≤ n)) (sym is)
       (λ q. subst (λ (x : ℤ). WhereTold flag (fresh past.document.nodes (current_interval (record { nodes = past.document.nodes; log = past.log; diary = past.diary }) x) (current_interval (record { nodes = past.document.nodes; log = past.log; diary = past.diary ++ at_moment m steps }) x) ≤ n)) here
       (subst (λ (l : List Entry). WhereTold flag (fresh past.document.nodes (current_interval (record { nodes = past.document.nodes; log = past.log; diary = l }) z) (current_interval (record { nodes = past.document.nodes; log = past.log; diary = past.diary ++ at_moment m steps }) z) ≤ n)) front_is q))

@@ -11,7 +11,7 @@ use Rattle.smil_model.specs.declared.diary.Entry.{Entry}
 use Rattle.smil_model.specs.declared.diary.LogEntry.{LogEntry}
 use Rattle.smil_model.specs.declared.document.Node.{Node}
 use Rattle.smil_model.specs.declared.interval.Interval.{Interval}
-use Rattle.smil_model.specs.document.Document.{elements, node_at}
+use Rattle.smil_model.specs.document.Document.{elements}
 use Rattle.smil_model.specs.document.Closure.{has}
 use Rattle.smil_model.specs.diary.Diary.{History}
 use Rattle.smil_model.specs.diary.Clocks.{until}
@@ -36,6 +36,7 @@ use Rattle.smil_cells.specs.Standings.{IsKept, IsSound, WhereMarked, marked_by, 
 use Rattle.smil_cells.proofs.Heard.{reached_heard}
 use Rattle.smil_cells.proofs.Heeded.{log_with, logged_one}
 use Rattle.smil_cells.proofs.OnWay.{untouched, is_fresh}
+use Rattle.smil_cells.proofs.Grown.{AreShown, StayListed, StayBefore, AreFresh}
 use Rattle.smil_model.proofs.Orders.{le_self, le_from}
 use Rattle.smil_element.specs.Comings.{coming_stays}
 
@@ -206,20 +207,11 @@ module _ (past : MarkedHistory) (m : ℤ) (entry : LogEntry) (fault : Option Boo
           ∙ ap (λ (table : List (ℕ × Option Interval)). in_table table s) (same_heard law longer_law).table)
 
       module _ (mid others : List ℕ) where
-        abbrev Shown : MarkedHistory → Type 0
-        Shown x = (e : Node) → node_at (elements x.document.nodes) e.serial ≡ Some e → any_shows x.document.nodes x.log (drop start x.diary) e.serial ≡ true → has mid e.serial ≡ true
-
-        abbrev Changed : MarkedHistory → Type 0
-        Changed x = (s : ℕ) → has others s ≡ false → current_interval (past_of.history_of x) z s ≡ current_interval (past_of.front x start) z s
-
-        abbrev Stays : MarkedHistory → Type 0
-        Stays x = (e : Node) → node_at (elements x.document.nodes) e.serial ≡ Some e → has touched e.serial ≡ true → has mid e.serial ≡ true
-
         abbrev Came : MarkedHistory → Type 0
         Came x = IsHeard was entry (standing_of x m None mark others)
 
         module _ (leaves : LeavesViews) (lens : (l : ℕ × ℕ) → past.marked ≡ Some l → (l.0 ≤ length past.log) × (l.1 ≤ length past.diary)) (two : (s : ℕ) → has mid s ≡ true → has others s ≡ true) where
-          came : Stays later → Shown later → Changed later → Came later
+          came : StayListed touched mid later → AreShown start mid later → StayBefore z start others later → Came later
           came one shown changed = record {
             presentation_is = refl;
             diary_is = refl;
@@ -235,8 +227,8 @@ module _ (past : MarkedHistory) (m : ℤ) (entry : LogEntry) (fault : Option Boo
                 ∙ (same_heard law longer_law).view e;
           }
 
-          pub came_heard : (new : MarkedHistory) → new ≡ later → Stays new → Shown new → Changed new → Came new
-          came_heard new is = subst (λ (x : MarkedHistory). Stays x → Shown x → Changed x → Came x) (sym is) came
+          pub came_heard : (new : MarkedHistory) → new ≡ later → StayListed touched mid new → AreShown start mid new → StayBefore z start others new → Came new
+          came_heard new is = subst (λ (x : MarkedHistory). StayListed touched mid x → AreShown start mid x → StayBefore z start others x → Came x) (sym is) came
 
       -- what differs from what it was before differs from what it was by the longer log
       fresh_same : (a b c : ℕ → Option Interval) → ((s : ℕ) → a s ≡ b s) → (es : List Node) → length (filter (λ (e : Node). is_fresh (a e.serial) (c e.serial)) es) ≡ length (filter (λ (e : Node). is_fresh (b e.serial) (c e.serial)) es)
@@ -250,12 +242,9 @@ module _ (past : MarkedHistory) (m : ℤ) (entry : LogEntry) (fault : Option Boo
           by_test true q = ap suc q
           by_test false q = q
 
-      abbrev Fewer : Bool → ℕ → MarkedHistory → Type 0
-      Fewer flag n x = WhereTold flag (fresh x.document.nodes (current_interval (past_of.front x start) z) (current_interval (past_of.history_of x) z) ≤ n)
-
-      pub least_heard : (flag : Bool) (n : ℕ) (others : List ℕ) (new : MarkedHistory) → new ≡ later → Fewer flag n new → WhereTold flag (fresh_since was (standing_of new m None mark others) ≤ n)
+      pub least_heard : (flag : Bool) (n : ℕ) (others : List ℕ) (new : MarkedHistory) → new ≡ later → AreFresh z start flag n new → WhereTold flag (fresh_since was (standing_of new m None mark others) ≤ n)
       least_heard flag n others new is =
-          subst (λ (x : MarkedHistory). Fewer flag n x → WhereTold flag (fresh_since was (standing_of x m None mark others) ≤ n)) (sym is)
+          subst (λ (x : MarkedHistory). AreFresh z start flag n x → WhereTold flag (fresh_since was (standing_of x m None mark others) ≤ n)) (sym is)
           (λ q. subst (λ (v : ℤ). WhereTold flag (fresh past.document.nodes (current_interval h (pos now)) (current_interval (past_of.history_of later) v) ≤ n)) at_now
           (subst (λ (k : ℕ). WhereTold flag (k ≤ n)) (fresh_same (current_interval (past_of.front later start) z) (current_interval h (pos now)) (current_interval (past_of.history_of later) z) same_before (elements past.document.nodes)) q))
 

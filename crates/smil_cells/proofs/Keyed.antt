@@ -17,8 +17,8 @@ use Rattle.smil_element.specs.Comings.{HaveComings}
 use Rattle.smil_cells.specs.declared.plain.known.Row.{Row}
 use Rattle.smil_cells.specs.Round.{due_in, with_key, with_keys}
 
-abbrev key_in : model.Coming → Key
-key_in c = c.key
+abbrev pub key_of : model.Coming → Key
+key_of c = c.key
 
 abbrev keys_of : Option Coming → List Key
 keys_of None = []
@@ -47,20 +47,20 @@ with_all ks (r ∷ rs) =
 
 -- ---- by what comes
 
-keys_of_both : (a b : Option Coming) → keys_of a ++ keys_of b ≡ map key_in (both a b)
+keys_of_both : (a b : Option Coming) → keys_of a ++ keys_of b ≡ map key_of (both a b)
 keys_of_both None None = refl
 keys_of_both None (Some d) = refl
 keys_of_both (Some c) None = refl
 keys_of_both (Some c) (Some d) = refl
 
-keys_come : (h : History) (now : ℤ) (place : ℕ) (es : List Node) (rows : List Row) → HaveComings h now place es (map (λ (r : Row). r.comings) rows) → keys_in rows ≡ map key_in (coming_from h (current_interval h now) now place es)
+keys_come : (h : History) (now : ℤ) (place : ℕ) (es : List Node) (rows : List Row) → HaveComings h now place es (map (λ (r : Row). r.comings) rows) → keys_in rows ≡ map key_of (coming_from h (current_interval h now) now place es)
 keys_come h now place [] [] is = refl
 keys_come h now place [] (r ∷ rs) is = elim is [ ]
 keys_come h now place (e ∷ es) [] is = elim is [ ]
 keys_come h now place (e ∷ es) (r ∷ rs) is =
-    ap (λ ks. ks ++ keys_in rs) (keys_of_both r.comings.moved r.comings.repeat ∙ ap (map key_in) is.0)
-    ∙ ap (λ ks. map key_in (coming_of h (current_interval h now) now place e) ++ ks) (keys_come h now (suc place) es rs is.1)
-    ∙ sym (map-append key_in (coming_of h (current_interval h now) now place e) (coming_from h (current_interval h now) now (suc place) es))
+    ap (λ ks. ks ++ keys_in rs) (keys_of_both r.comings.moved r.comings.repeat ∙ ap (map key_of) is.0)
+    ∙ ap (λ ks. map key_of (coming_of h (current_interval h now) now place e) ++ ks) (keys_come h now (suc place) es rs is.1)
+    ∙ sym (map-append key_of (coming_of h (current_interval h now) now place e) (coming_from h (current_interval h now) now (suc place) es))
 
 -- the queue of the rows has the keys of all that comes, and no other
 pub due_come : (h : History) (now : ℤ) (es : List Node) (rows : List Row) → HaveComings h now 0 es (map (λ (r : Row). r.comings) rows) → due_in rows ≡ set.from_list (map (λ (c : model.Coming). c.key) (coming_from h (current_interval h now) now 0 es))

@@ -10,7 +10,6 @@ use Rattle.smil_model.specs.declared.document.Node.{Node}
 use Rattle.smil_model.specs.declared.diary.LogEntry.{LogEntry}
 use Rattle.smil_model.specs.declared.limits.TheConstants.{DIARY_ENTRIES}
 use Rattle.smil_model.specs.declared.times.Time.{Time}
-use Rattle.smil_model.specs.declared.times.Time.TheVariants.{At, Indefinite, Unresolved}
 use Rattle.smil_model.specs.Times.{time_le, time_eq}
 use Rattle.smil_model.specs.reach.Reach.{reach}
 use Rattle.smil_model.specs.interval.Current.{in_table}
@@ -18,7 +17,7 @@ use Rattle.smil_model.specs.document.Document.{Document, elements, node_at}
 use Rattle.smil_model.specs.document.Closure.{has}
 use Rattle.smil_model.specs.reach.Bounds.{reaches}
 use Rattle.smil_model.specs.diary.Diary.{History}
-use Rattle.smil_model.specs.shown.Orders.{Presentation}
+use Rattle.smil_model.specs.shown.Orders.{Presentation, as_of}
 use Rattle.smil_model.specs.shown.Orders.{course_of}
 use Rattle.smil_model.specs.document.Document.{serials}
 use Rattle.smil_model.specs.document.Valid.{IsNumberedTree}
@@ -29,9 +28,9 @@ use Rattle.smil_diary.specs.declared.fault.BookFault.{BookFault}
 use Rattle.smil_past.specs.Past.{MarkedHistory}
 use Rattle.smil_cells.specs.Standings.{IsKept, WhereMarked, marked_by, standing_of}
 use Rattle.smil_laws.specs.Same.{IsSame}
-use Rattle.smil_cells.specs.Standing.{Standing, is_same_interval, fresh, IsOnWay, IsPassed, IsNext, IsFront, GoesOn, StayTouched, WhereTold, moved_to, history_of, reached_since, fresh_since, interval_at}
+use Rattle.smil_cells.specs.Standing.{Standing, is_same_interval, fresh, IsOnWay, IsPassed, IsNext, IsFront, GoesOn, StayTouched, WhereTold, history_of, reached_since, fresh_since, interval_at}
 use Rattle.std.proofs.lemmas.Bool.{and_parts}
-use Rattle.smil_model.proofs.Orders.{le_exact, time_exact}
+use Rattle.smil_model.proofs.Orders.{le_exact, le_self, time_exact, time_self}
 
 -- what was there at first
 pub begun : (s : Standing) (until : ℤ) → s.fault ≡ None → pos s.presentation.now ≤ℤ until → IsOnWay s s until
@@ -55,7 +54,7 @@ untouched true b n t = absurd (not_true b n (t refl))
 untouched false b n t = refl
 
 -- the diary of two steps
-joined : (x y z m n : List Entry) → y ≡ x ++ m → z ≡ y ++ n → z ≡ x ++ (m ++ n)
+pub joined : (x y z m n : List Entry) → y ≡ x ++ m → z ≡ y ++ n → z ≡ x ++ (m ++ n)
 joined x y z m n e f = f ∙ ap (λ (k : List Entry). k ++ n) e ∙ append_assoc x m n
 
 -- ---- intervals that differ
@@ -111,6 +110,51 @@ module _ (a b b' c : ℕ → Option Interval) (same : (s : ℕ) → b' s ≡ b s
           numbers false false true f l = omega (arith, l)
           numbers false false false f l = omega (arith, l)
 
+-- ---- one standing after another
+
+-- how many intervals were evaluated by two calls, at most and at least
+pub most_adds_up : (counts : Bool) (a b c x y z : ℕ) → a ≤ b → b ≤ c → z ≡ x + y → WhereTold counts (b - a ≤ x) → WhereTold counts (c - b ≤ y) → WhereTold counts (c - a ≤ z)
+most_adds_up false a b c x y z from later whole p q = tt
+most_adds_up true a b c x y z from later whole p q = numbers p q
+  where
+    numbers : b - a ≤ x → c - b ≤ y → c - a ≤ z
+    numbers p q = omega (arith, from, later, whole, p, q)
+
+pub least_adds_up : (counts : Bool) (a b c x y z : ℕ) → a ≤ b → b ≤ c → z ≤ x + y → WhereTold counts (x ≤ b - a) → WhereTold counts (y ≤ c - b) → WhereTold counts (z ≤ c - a)
+least_adds_up false a b c x y z from later few p q = tt
+least_adds_up true a b c x y z from later few p q = numbers p q
+  where
+    numbers : x ≤ b - a → y ≤ c - b → z ≤ c - a
+    numbers p q = omega (arith, from, later, few, p, q)
+
+pub drops : (x y z : List Entry) → z ≡ x ++ y → drop (length x) z ≡ y
+drops x y z e = ap (drop (length x)) e ∙ drop-append_seam x y
+
+-- the reaches of two parts add up
+reached_parts : (nodes : List Node) (log : List LogEntry) (m n : List Entry) (a b c : ℕ) → a ≡ reaches nodes log (m ++ n) → b ≡ reaches nodes log m → c ≡ reaches nodes log n → a ≡ b + c
+reached_parts nodes log m n a b c whole first second =
+    numbers (reaches nodes log (m ++ n)) (reaches nodes log m) (reaches nodes log n) whole first second (sum_by-append (λ (x : Entry). length (reach nodes log x)) m n)
+  where
+    numbers : (x y z : ℕ) → a ≡ x → b ≡ y → c ≡ z → x ≡ y + z → a ≡ b + c
+    numbers x y z e f g h = omega (arith, e, f, g, h)
+
+module _ (old mid new : Standing) (document : mid.presentation.document ≡ old.presentation.document) where
+  -- the first entries reach as many elements by the new log
+  pub reached_through : (m n : List Entry) → mid.diary ≡ old.diary ++ m → new.diary ≡ mid.diary ++ n → reached_since old mid ≡ reaches old.presentation.document.nodes new.presentation.log m → reached_since old new ≡ reached_since old mid + reached_since mid new
+  reached_through m n first second by_mid =
+      let nodes = old.presentation.document.nodes in
+      let log = new.presentation.log in
+      reached_parts nodes log m n (reached_since old new) (reached_since old mid) (reached_since mid new)
+      (ap (reaches nodes log) (drops old.diary (m ++ n) new.diary (joined old.diary mid.diary new.diary m n first second)))
+      by_mid
+      (ap (λ (d : Document). reaches d.nodes log (drop (length mid.diary) new.diary)) document ∙ ap (reaches nodes log) (drops mid.diary n new.diary second))
+
+  -- what is fresh in the end was so on the way
+  pub fresh_through : fresh_since old new ≤ fresh_since old mid + fresh_since mid new
+  fresh_through =
+      subst (λ (d : Document). fresh_since old new ≤ fresh_since old mid + fresh d.nodes (interval_at mid) (interval_at new)) (sym document)
+      (triangle (interval_at old) (interval_at mid) (interval_at mid) (interval_at new) (λ x. refl) (elements old.presentation.document.nodes))
+
 module _ (old s t u : Standing) (until : ℤ) (way : IsOnWay old s until) (passed : IsPassed s t) (within : pos t.presentation.now ≤ℤ until) (next : IsNext t u) where
   same_document : u.presentation.document ≡ old.presentation.document
   same_document = ap (λ (p : Presentation). p.document) next.presentation_is ∙ ap (λ (p : Presentation). p.document) passed.presentation_is ∙ ap (λ (p : Presentation). p.document) way.presentation_is
@@ -136,7 +180,7 @@ module _ (old s t u : Standing) (until : ℤ) (way : IsOnWay old s until) (passe
   touched_before : (e : Node) → node_at (elements old.presentation.document.nodes) e.serial ≡ Some e → has s.touched e.serial ≡ true → has u.touched e.serial ≡ true
   touched_before e here q = touched_then e here (rw passed.touched_is q)
 
-  built : (p q : Presentation) → p.document ≡ q.document → p.log ≡ q.log → p ≡ moved_to q p.now
+  built : (p q : Presentation) → p.document ≡ q.document → p.log ≡ q.log → p ≡ as_of q p.now
   built p q d l = subst (λ (x : List LogEntry). p ≡ record { document = q.document; log = x; now = p.now }) l (subst (λ (x : Document). p ≡ record { document = x; log = p.log; now = p.now }) d refl)
 
   pub onward : IsOnWay old u until
@@ -160,17 +204,14 @@ module _ (old s t u : Standing) (until : ℤ) (way : IsOnWay old s until) (passe
       numbers : (most x y z : ℕ) → y ≡ x → y < z → z ≤ most → most - z < most - x
       numbers most x y z e g f = omega (arith, e, g, f)
 
-  drops : (x z m : List Entry) → z ≡ x ++ m → drop (length x) z ≡ m
-  drops x z m e = rw e (drop-append_seam x m)
-
   -- the reaches add up
   adds_up : reached_since old u ≡ reached_since old s + reached_since t u
   adds_up =
       let m = way.diary.0 in
       let n = next.diary.0 in
-      let ds = drops old.diary s.diary m way.diary.1 in
-      let du = drops old.diary u.diary (m ++ n) (joined old.diary s.diary u.diary m n way.diary.1 (next.diary.1 ∙ ap (λ (k : List Entry). k ++ n) passed.diary_is)) in
-      let dt = drops t.diary u.diary n next.diary.1 in
+      let ds = drops old.diary m s.diary way.diary.1 in
+      let du = drops old.diary (m ++ n) u.diary (joined old.diary s.diary u.diary m n way.diary.1 (next.diary.1 ∙ ap (λ (k : List Entry). k ++ n) passed.diary_is)) in
+      let dt = drops t.diary n u.diary next.diary.1 in
       let N = old.presentation.document.nodes in
       let L = old.presentation.log in
       let ls : s.presentation.log ≡ L = ap (λ (p : Presentation). p.log) way.presentation_is in
@@ -178,17 +219,10 @@ module _ (old s t u : Standing) (until : ℤ) (way : IsOnWay old s until) (passe
       let whole : reached_since old u ≡ reaches N L (m ++ n) = ap (λ (l : List LogEntry). reaches N l (drop (length old.diary) u.diary)) same_log ∙ ap (λ (k : List Entry). reaches N L k) du in
       let first : reached_since old s ≡ reaches N L m = ap (λ (l : List LogEntry). reaches N l (drop (length old.diary) s.diary)) ls ∙ ap (λ (k : List Entry). reaches N L k) ds in
       let second : reached_since t u ≡ reaches N L n = ap (λ (x : List Node). reaches x u.presentation.log (drop (length t.diary) u.diary)) nt ∙ ap (λ (l : List LogEntry). reaches N l (drop (length t.diary) u.diary)) same_log ∙ ap (λ (k : List Entry). reaches N L k) dt in
-      three (reached_since old u) (reached_since old s) (reached_since t u) (reaches N L (m ++ n)) (reaches N L m) (reaches N L n) whole first second (sum_by-append (λ (entry : Entry). length (reach N L entry)) m n)
-    where
-      three : (a b c x y z : ℕ) → a ≡ x → b ≡ y → c ≡ z → x ≡ y + z → a ≡ b + c
-      three a b c x y z e f g h = omega (arith, e, f, g, h)
+      reached_parts N L m n (reached_since old u) (reached_since old s) (reached_since t u) whole first second
 
   pub reached_on : (a b c : ℕ) (flag : Bool) → a ≤ b → b ≤ c → WhereTold flag (b - a ≤ reached_since old s) → WhereTold flag (c - b ≤ reached_since t u) → WhereTold flag (c - a ≤ reached_since old u)
-  reached_on a b c false p q x y = tt
-  reached_on a b c true p q x y = numbers (reached_since old s) (reached_since t u) (reached_since old u) adds_up x y
-    where
-      numbers : (r r' w : ℕ) → w ≡ r + r' → b - a ≤ r → c - b ≤ r' → c - a ≤ w
-      numbers r r' w e x y = omega (arith, p, q, e, x, y)
+  reached_on a b c flag p q x y = most_adds_up flag a b c (reached_since old s) (reached_since t u) (reached_since old u) p q adds_up x y
 
   -- what differs in the end differed on the way
   fewer_fresh : fresh_since old u ≤ fresh_since old s + fresh_since t u
@@ -197,15 +231,11 @@ module _ (old s t u : Standing) (until : ℤ) (way : IsOnWay old s until) (passe
       (triangle (interval_at old) (interval_at s) (interval_at t) (interval_at u) (λ x. ap (λ (table : List (ℕ × Option Interval)). in_table table x) passed.same.table) (elements old.presentation.document.nodes))
 
   pub fresh_on : (a b c : ℕ) (flag : Bool) → a ≤ b → b ≤ c → WhereTold flag (fresh_since old s ≤ b - a) → WhereTold flag (fresh_since t u ≤ c - b) → WhereTold flag (fresh_since old u ≤ c - a)
-  fresh_on a b c false p q x y = tt
-  fresh_on a b c true p q x y = numbers (fresh_since old s) (fresh_since t u) (fresh_since old u) fewer_fresh x y
-    where
-      numbers : (r r' w : ℕ) → w ≤ r + r' → r ≤ b - a → r' ≤ c - b → w ≤ c - a
-      numbers r r' w e x y = omega (arith, p, q, e, x, y)
+  fresh_on a b c flag p q x y = least_adds_up flag a b c (fresh_since old s) (fresh_since t u) (fresh_since old u) p q fewer_fresh x y
 
 -- a full diary at the moment is a full one of a later course
 pub front_later : ReachesFurther → (p q : Presentation) (last : ℕ) (diary : List Entry) → IsNumberedTree p.document → p.document ≡ q.document → p.log ≡ q.log → p.now ≤ last
-    → IsFront (course_of p) diary → IsFront (course_of (moved_to q last)) diary
+    → IsFront (course_of p) diary → IsFront (course_of (as_of q last)) diary
 front_later further p q last diary numbered d l from front =
     subst (λ (x : Document). IsFront (record { nodes = x.nodes; log = q.log; last = last }) diary) d
     (subst (λ (x : List LogEntry). IsFront (record { nodes = p.document.nodes; log = x; last = last }) diary) l
@@ -238,7 +268,7 @@ touched_anew is_current is_marked has_mark past moment fault mark touched others
 
 -- the standing at rest, later and with its elements in order
 pub record IsRest (s t : Standing) : Type 0 where
-  pub presentation_is : t.presentation ≡ moved_to s.presentation t.presentation.now
+  pub presentation_is : t.presentation ≡ as_of s.presentation t.presentation.now
   pub diary_is : t.diary ≡ s.diary
   pub sound : t.fault ≡ None
   pub marked : t.marked ≡ s.marked
@@ -288,20 +318,11 @@ nothing_reached s true a = none a (reached_since s s)
     none : (a r : ℕ) → a - a ≤ r
     none a r = omega arith
 
-same_self : (x : Option Interval) → is_fresh x x ≡ false
+pub same_self : (x : Option Interval) → is_fresh x x ≡ false
 same_self None = refl
-same_self (Some i) = ap not (same_whole i)
-  where
-    no_less : (x : ℤ) → int_le x x ≡ true
-    no_less x = grind (arith, ints)
-
-    time_no_less : (x : Time) → time_le x x ≡ true
-    time_no_less (At x) = no_less x
-    time_no_less Indefinite = refl
-    time_no_less Unresolved = refl
-
-    same_whole : (i : Interval) → is_same_interval (Some i) (Some i) ≡ true
-    same_whole i = rw (no_less i.begin) (rw (time_no_less i.«end») refl)
+same_self (Some i) =
+    let same : is_same_interval (Some i) (Some i) ≡ true = rw (le_self i.begin) (rw (time_self i.«end») refl) in
+    ap not same
 
 pub nothing_fresh : (s : Standing) (flag : Bool) (a : ℕ) → WhereTold flag (fresh_since s s ≤ a - a)
 nothing_fresh s false a = tt
@@ -324,7 +345,7 @@ pub sooner : (v x : ℤ) → (v +ℤ pos 1) ≤ℤ x → v ≤ℤ x
 sooner v x l = grind (arith, ints)
 
 pub rested : (w s t : Standing) (others : List ℕ) (n : ℕ) (nodes : List Node) → w ≡ s
-    → t ≡ record { presentation = moved_to w.presentation n; diary = w.diary; fault = None; marked = w.marked; touched = others }
+    → t ≡ record { presentation = as_of w.presentation n; diary = w.diary; fault = None; marked = w.marked; touched = others }
     → nodes ≡ w.presentation.document.nodes
     → others ≡ filter (has others) (serials (elements nodes))
     → ((e : Node) → node_at (elements nodes) e.serial ≡ Some e → has others e.serial ≡ has w.touched e.serial)

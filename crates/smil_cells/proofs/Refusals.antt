@@ -26,10 +26,6 @@ refused_by (Ok x) P Q f e = tt
 refused_by (Err x) P Q f e = f x e
 
 -- what follows where there is a result
-pub where_ok : {A E : Type 0} (r : Result A E) (P Q : Type 0) → (P → Q) → OnOk r P → OnOk r Q
-where_ok (Ok x) P Q f p = f p
-where_ok (Err e) P Q f p = tt
-
 pub where_three : {A : Type 0} (r : Result A BookFault) (P Q R S : Type 0) → (P → Q → R → S) → OnOk r P → OnOk r Q → OnOk r R → OnOk r S
 where_three (Ok x) P Q R S f p q s = f p q s
 where_three (Err e) P Q R S f p q s = tt

@@ -15,6 +15,7 @@ use Rattle.smil_model.specs.document.Closure.{has}
 use Rattle.smil_model.specs.document.Valid.{kind_of}
 use Rattle.smil_model.specs.reach.Reach.{shares_parent, subject_of}
 use Rattle.smil_laws.specs.Seen.{any_shows, shows_from, shows_in, starts}
+use Rattle.smil_laws.proofs.Ranks.{serials_append}
 use Rattle.smil_model.specs.document.Edits.{child_place, place_in}
 use Rattle.smil_past.proofs.Listing.{known_place}
 use Rattle.smil_element.proofs.Above.{IsUp}
@@ -266,10 +267,6 @@ get_there : (ns : List Node) (i : ℕ) → i < length ns → is_some (serial_of 
 get_there [] i l = absurd (omega (arith, l))
 get_there (n ∷ ns) zero l = refl
 get_there (n ∷ ns) (suc i) l = get_there ns i (omega (arith, l))
-
-serials_append : (xs : List Node) (n : Node) → serials (xs ++ n ∷ []) ≡ serials xs ++ n.serial ∷ []
-serials_append [] n = refl
-serials_append (x ∷ xs) n = ap (λ l. x.serial ∷ l) (serials_append xs n)
 
 module _ (nodes : List Node) (who start past : ℕ) (first : start ≡ place_in nodes who) (last : past ≡ child_place nodes who None) where
   pub in_order : start ≤ past

@@ -1,15 +1,16 @@
 -- Where a step shows besides its element.
-use Rattle.std.specs.Prelude.{◌≡◌, ℕ, List, filter, Bool, false, ◌||◌, if◌then◌else◌, Option, Some, None, slice_get}
+use Rattle.std.specs.Prelude.{◌≡◌, ℕ, List, filter, Bool, false, if◌then◌else◌, Option, Some, None, slice_get}
 use Rattle.smil_model.specs.declared.diary.Step.{Step}
 use Rattle.smil_model.specs.declared.document.Node.{Node}
-use Rattle.smil_model.specs.document.Document.{elements, is_seq_kind, is_excl_kind, serials, time_parent}
+use Rattle.smil_model.specs.document.Document.{elements, serials, time_parent}
 use Rattle.smil_model.specs.document.Closure.{has}
 use Rattle.smil_laws.specs.Seen.{starts}
+use Rattle.smil_graph.specs.Tables.{takes_turns}
 
 -- a seq or an excl, of whose children one plays at a time
 abbrev pub sequenced : Option Node → Option Node
 sequenced None = None
-sequenced (Some p) = if is_seq_kind p.kind || is_excl_kind p.kind then Some p else None
+sequenced (Some p) = if takes_turns (Some p) then Some p else None
 
 -- the time parent in which a begin or a resume may displace frozen children
 abbrev pub displaced_in : List Node → Step → ℕ → Option Node

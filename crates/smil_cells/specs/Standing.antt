@@ -15,7 +15,7 @@ use Rattle.smil_model.specs.interval.Current.{current_interval}
 use Rattle.smil_model.specs.happening.Keys.{Coming, coming, first_coming}
 use Rattle.smil_model.specs.happening.Resolution.{Course, Progress, Reaches, next_step, diary_of}
 use Rattle.smil_model.specs.reach.Bounds.{reaches}
-use Rattle.smil_model.specs.shown.Orders.{Presentation, course_of}
+use Rattle.smil_model.specs.shown.Orders.{Presentation, as_of, course_of}
 use Rattle.smil_laws.specs.Agreement.{course_on}
 use Rattle.smil_laws.specs.Cut.{logged}
 use Rattle.smil_diary.specs.declared.fault.BookFault.{BookFault}
@@ -41,9 +41,6 @@ interval_at s serial = current_interval (history_of s) (pos s.presentation.now) 
 -- the diary is settled: it is that of the document and the log, resolved from scratch up to the moment
 abbrev pub IsSettled : Standing → Type 0
 IsSettled s = diary_of (course_of s.presentation) ≡ Some s.diary
-
-abbrev pub moved_to : Presentation → ℕ → Presentation
-moved_to p moment = record { document = p.document; log = p.log; now = moment }
 
 abbrev pub with_logged : Presentation → LogEntry → Presentation
 with_logged p entry = record { document = p.document; log = p.log ++ entry ∷ []; now = p.now }
@@ -156,7 +153,7 @@ NothingBefore s moment = (c : Coming) → first_at s ≡ Some c → moment ≤�
 
 -- settling has come from one standing to another, up to a moment at the most
 pub record IsOnWay (old s : Standing) (until : ℤ) : Type 0 where
-  pub presentation_is : s.presentation ≡ moved_to old.presentation s.presentation.now
+  pub presentation_is : s.presentation ≡ as_of old.presentation s.presentation.now
   pub from : old.presentation.now ≤ s.presentation.now
   pub within : pos s.presentation.now ≤ℤ until
   pub diary : (more : List Entry) × (s.diary ≡ old.diary ++ more)
@@ -167,7 +164,7 @@ pub record IsOnWay (old s : Standing) (until : ℤ) : Type 0 where
 
 -- time has passed and nothing else
 pub record IsPassed (old new : Standing) : Type 0 where
-  pub presentation_is : new.presentation ≡ moved_to old.presentation new.presentation.now
+  pub presentation_is : new.presentation ≡ as_of old.presentation new.presentation.now
   pub from : old.presentation.now ≤ new.presentation.now
   pub diary_is : new.diary ≡ old.diary
   pub sound : new.fault ≡ None

@@ -9,14 +9,14 @@ ghost use Rattle.smil_model.specs.document.Document.{elements};
 ghost use Rattle.smil_model.specs.diary.Logs.{may_happen};
 ghost use Rattle.smil_model.specs.happening.Keys.{Coming as AnyComing, coming, first_coming};
 ghost use Rattle.smil_model.specs.happening.Resolution.{diary_of};
-ghost use Rattle.smil_model.specs.shown.Orders.{Presentation, course_of};
+ghost use Rattle.smil_model.specs.shown.Orders.{Presentation, course_of, as_of};
 ghost use Rattle.smil_diary.specs.declared.fault.BookFault.{BookFault as AnyFault};
 ghost use Rattle.smil_diary.specs.declared.fault.BookFault.TheVariants as book_fault;
 ghost use Rattle.smil_stretch.specs.Clocks.{AreClocksOf};
 ghost use Rattle.smil_past.specs.Past as past_of;
 ghost use Rattle.smil_model.specs.declared.limits.TheConstants as limits;
 ghost use Rattle.smil_element.specs.Parts.{coming_meant};
-ghost use Rattle.smil_cells.specs.Standing.{GoesOn, IsFront, IsHeard, IsNext, IsPassed, IsRebuilt, IsRefusing, IsSettled, NothingBefore, first_at, IsPart, MayAppendAll, MayRebuild, Standing, StayTouched, WhereTold, any_interval, fresh_since, history_of, interval_at, moved_to, reached_since, with_logged};
+ghost use Rattle.smil_cells.specs.Standing.{GoesOn, IsFront, IsHeard, IsNext, IsPassed, IsRebuilt, IsRefusing, IsSettled, NothingBefore, first_at, IsPart, MayAppendAll, MayRebuild, Standing, StayTouched, WhereTold, any_interval, fresh_since, history_of, interval_at, reached_since, with_logged};
 ghost use Rattle.smil_cells.specs.Standings.{MayBegin, at_mark, begun};
 ghost use Rattle.smil_laws.specs.Same.{IsSame};
 
@@ -116,16 +116,16 @@ impl<T: Table> Cells<T> {
         ensures again { (fault : AnyFault) → self.old.fault ≡ Some fault → (result ≡ Err fault)
             × (self.new ≡ self.old) }
         ensures state { OnOk result (self.new.presentation
-            ≡ moved_to self.old.presentation (nat_abs until)) }
+            ≡ as_of self.old.presentation (nat_abs until)) }
         ensures settled { OnOk result (IsSettled self.new) }
         ensures goes_on { OnOk result (GoesOn self.old self.new) }
         ensures refused { IfErr result (IsRefusing self.old self.new) }
         ensures full { IfErr result (λ fault. fault ≡ book_fault.DiaryFull
             → (self.old.fault ≡ Some fault)
-            ⊎ (diary_of (course_of (moved_to self.old.presentation (nat_abs until))) ≡ None)) }
+            ⊎ (diary_of (course_of (as_of self.old.presentation (nat_abs until))) ≡ None)) }
         ensures front { IfErr result (λ fault. fault ≡ book_fault.DiaryFull
             → (self.old.fault ≡ Some fault)
-            ⊎ IsFront (course_of (moved_to self.old.presentation (nat_abs until))) self.new.diary) }
+            ⊎ IsFront (course_of (as_of self.old.presentation (nat_abs until))) self.new.diary) }
         ensures counted { steps.old ≤ steps.new }
         ensures most { OnOk result (WhereTold T.counts
             (steps.new - steps.old ≤ reached_since self.old self.new)) }
@@ -377,13 +377,13 @@ impl<T: Table> Cells<T> {
         requires from { pos self.old.presentation.now ≤ℤ until }
         requires within { until ≤ℤ the_horizon }
         ensures state { OnOk result (self.new.presentation
-            ≡ moved_to self.old.presentation (nat_abs until)) }
+            ≡ as_of self.old.presentation (nat_abs until)) }
         ensures settled { OnOk result (IsSettled self.new) }
         ensures goes_on { OnOk result (GoesOn self.old self.new) }
         ensures more { OnOk result (StayTouched self.old self.new) }
         ensures refused { IfErr result (IsRefusing self.old self.new) }
         ensures full { IfErr result (λ fault. fault ≡ book_fault.DiaryFull
-            → IsFront (course_of (moved_to self.old.presentation (nat_abs until))) self.new.diary) }
+            → IsFront (course_of (as_of self.old.presentation (nat_abs until))) self.new.diary) }
         ensures counted { steps.old ≤ steps.new }
         ensures most { OnOk result (WhereTold T.counts
             (steps.new - steps.old ≤ reached_since self.old self.new)) }
@@ -428,7 +428,7 @@ impl<T: Table> Cells<T> {
         requires within { moment ≤ℤ the_horizon }
         requires quiet { NothingBefore self.old moment }
         ensures moved { self.new ≡ record self.old
-            { presentation = moved_to self.old.presentation (nat_abs moment) } }
+            { presentation = as_of self.old.presentation (nat_abs moment) } }
         ensures same { IsSame (history_of self.old) (pos self.old.presentation.now)
             (history_of self.new) (pos self.new.presentation.now) }
         ensures ended { NothingBefore self.old (moment +ℤ pos 1) → IsSettled self.new }

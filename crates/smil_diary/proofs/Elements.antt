@@ -1,5 +1,5 @@
 -- What the index keeps of an element, entry by entry.
-use Rattle.std.proofs.Common.{◌≡◌, ℕ, Bool, true, false, ◌&&◌, ◌||◌, ◌==◌, List, [], ◌∷◌, ◌++◌, length, refl, ap, sym, ◌∙◌}
+use Rattle.std.proofs.Common.{◌≡◌, ℕ, Bool, true, false, ◌&&◌, ◌==◌, List, [], ◌∷◌, ◌++◌, length, refl, ap, sym, ◌∙◌}
 use Rattle.std.specs.Prelude.{if◌then◌else◌, slice_get, Option, Some, None}
 use Rattle.std.specs.List.{position}
 use Rattle.smil_model.specs.declared.diary.Entry.{Entry}
@@ -8,8 +8,9 @@ use Rattle.smil_model.specs.declared.diary.Step.TheVariants.{Began, Repeated, En
 use Rattle.smil_model.specs.declared.diary.StepKind.{StepKind}
 use Rattle.smil_model.specs.declared.diary.StepKind.TheVariants as kind
 use Rattle.smil_model.specs.diary.Diary.{is_step, is_active, last_step, with_past}
+use Rattle.smil_model.specs.shown.Views.{is_finish}
 use Rattle.smil_diary.specs.declared.element.ElementPlaces.{ElementPlaces}
-use Rattle.smil_diary.specs.Places.{is_later, later_of, is_end}
+use Rattle.smil_diary.specs.Places.{is_later, later_of}
 use Rattle.smil_diary.specs.ElementPlaces.{element_of, nothing, steps, finishing, finishes, grown, shrunk, but_last, noted, forgotten, noted_at, forgotten_at, subject, active_by, places_of, last_of, places_from}
 use Rattle.smil_diary.proofs.PlaceLists.{first-places, places-push, but_last-push, past-push, past-length, last-places}
 use Rattle.smil_diary.proofs.LastPlaces.{active-last}
@@ -100,14 +101,14 @@ either f one none when_so else_so true = when_so
 either f one none when_so else_so false = else_so
 
 grow-by : (s : ℕ) (step : Step) (a : Bool) (p : ℕ) (e : ElementPlaces) → a ≡ active_by e →
-    grow s step (is_end s step && a) p e ≡ noted_by (subject step) p s e
+    grow s step (is_finish s step && a) p e ≡ noted_by (subject step) p s e
 unfolding grow noted_by
 grow-by s (Began who begin) a p e is =
     either (λ c. record e { began = grown c p e.began }) (noted kind.Began p e) e refl refl (who == s)
 grow-by s (Repeated who start) a p e is =
     either (λ c. record e { repeated = grown c p e.repeated }) (noted kind.Repeated p e) e refl refl (who == s)
 grow-by s (Ended who end') a p e is =
-    either (λ c. record e { ended = grown c p e.ended; finished = grown ((c || false) && a) p e.finished })
+    either (λ c. record e { ended = grown c p e.ended; finished = grown (c && a) p e.finished })
     (noted kind.Ended p e) e (ap (λ b. record e { ended = e.ended ++ p ∷ []; finished = grown b p e.finished }) is) refl
     (who == s)
 grow-by s (Cut who) a p e is =

@@ -12,7 +12,7 @@ use Rattle.smil_model.specs.declared.diary.Step.{Step}
 use Rattle.smil_model.specs.declared.diary.Step.TheVariants.{Began, Repeated, Ended, Cut, Paused, Resumed, Deferred, Passed, Logged}
 use Rattle.smil_model.specs.diary.Diary.{History, gives_birth, last_place, later_place, active_after, is_active, with_past}
 use Rattle.smil_model.specs.diary.Plays.{plays}
-use Rattle.smil_diary.specs.Places.{is_end}
+use Rattle.smil_model.specs.shown.Views.{is_finish}
 use Rattle.smil_diary.specs.Readings.{IsOf, births_end}
 use Rattle.smil_diary.specs.ElementPlaces.{element_of, finishing, finishes, grown, places_from}
 use Rattle.smil_diary.proofs.PlaceLists.{past-length, places-rise, length-places, count-places}
@@ -150,21 +150,16 @@ began-counts : (c : Bool) (t : Tally) →
 began-counts true t = omega arith
 began-counts false t = omega arith
 
-ended-counts : (c : Bool) (t : Tally) →
-    (if c then play_ends t else t).finished ≡ t.finished + cond ((c || false) && t.playing) 1 0
-ended-counts true t = refl
-ended-counts false t = omega arith
-
-cut-counts : (c : Bool) (t : Tally) → (if c then play_ends t else t).finished ≡ t.finished + cond (c && t.playing) 1 0
-cut-counts true t = refl
-cut-counts false t = omega arith
+finish-counts : (c : Bool) (t : Tally) → (if c then play_ends t else t).finished ≡ t.finished + cond (c && t.playing) 1 0
+finish-counts true t = refl
+finish-counts false t = omega arith
 
 counts-on : (who : ℕ) (t : Tally) (step : Step) →
-    (tally_on who t step).finished ≡ t.finished + cond (is_end who step && t.playing) 1 0
+    (tally_on who t step).finished ≡ t.finished + cond (is_finish who step && t.playing) 1 0
 counts-on who t (Began on begin) = began-counts (on == who) t
 counts-on who t (Repeated on start) = omega arith
-counts-on who t (Ended on end') = ended-counts (on == who) t
-counts-on who t (Cut on) = cut-counts (on == who) t
+counts-on who t (Ended on end') = finish-counts (on == who) t
+counts-on who t (Cut on) = finish-counts (on == who) t
 counts-on who t (Paused on) = omega arith
 counts-on who t (Resumed on) = omega arith
 counts-on who t (Deferred on begin) = omega arith
@@ -199,8 +194,8 @@ tally-more parent who past t x false apart so_far is =
           ∙ sym (active-push past x who);
       finished_is =
           counts-on who t x.step
-          ∙ ap (λ n. n + cond (is_end who x.step && t.playing) 1 0) so_far.finished_is
-          ∙ ap (λ a. finished_from (births_end parent past) past who + cond (is_end who x.step && a) 1 0) so_far.playing_is
+          ∙ ap (λ n. n + cond (is_finish who x.step && t.playing) 1 0) so_far.finished_is
+          ∙ ap (λ a. finished_from (births_end parent past) past who + cond (is_finish who x.step && a) 1 0) so_far.playing_is
           ∙ sym (finished_from-push (births_end parent past) past x who (births-within parent past))
           ∙ ap (λ k. finished_from k (past ++ x ∷ []) who)
           (sym (births-push parent past x ∙ ap (λ b. if b then suc (length past) else births_end parent past) is));

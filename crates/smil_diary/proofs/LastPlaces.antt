@@ -6,7 +6,8 @@ use Rattle.smil_model.specs.declared.diary.Step.{Step}
 use Rattle.smil_model.specs.declared.diary.Step.TheVariants.{Began, Repeated, Ended, Cut, Paused, Resumed, Deferred, Passed, Logged}
 use Rattle.smil_model.specs.declared.diary.StepKind.TheVariants as kind
 use Rattle.smil_model.specs.diary.Diary.{last_place, later_place, gives_birth, active_after, paused_after, deferral_after, is_step, is_active, last_step}
-use Rattle.smil_diary.specs.Places.{is_later, later_of, is_from, is_end, is_decision}
+use Rattle.smil_model.specs.shown.Views.{is_finish}
+use Rattle.smil_diary.specs.Places.{is_later, later_of, is_from, is_decision}
 
 -- the fold's value where it began with `before`
 abbrev pub held : Bool → Option ℕ → Option ℕ → Bool
@@ -99,13 +100,32 @@ birth-last s diary =
     last_place-either (λ (x : Entry). is_step kind.Began s x.step) (λ (x : Entry). is_step kind.Repeated s x.step)
     (λ (x : Entry). gives_birth s x.step) (λ x. gives_birth-either s x.step) diary
 
+-- the last end or cut is the later one of the last end and the last cut
+is_finish-either : (s : ℕ) (step : Step) → is_finish s step ≡ (is_step kind.Ended s step || is_step kind.Cut s step)
+is_finish-either s (Began who begin) = refl
+is_finish-either s (Repeated who start) = refl
+is_finish-either s (Ended who end') = grind arith
+is_finish-either s (Cut who) = refl
+is_finish-either s (Paused who) = refl
+is_finish-either s (Resumed who) = refl
+is_finish-either s (Deferred who begin) = refl
+is_finish-either s (Passed who begin) = refl
+is_finish-either s (Logged place) = refl
+
+pub finish-last : (s : ℕ) (diary : List Entry)
+    → last_place (λ (x : Entry). is_finish s x.step) diary
+    ≡ later_of (last_step diary kind.Ended s) (last_step diary kind.Cut s)
+finish-last s diary =
+    last_place-either (λ (x : Entry). is_step kind.Ended s x.step) (λ (x : Entry). is_step kind.Cut s x.step)
+    (λ (x : Entry). is_finish s x.step) (λ x. is_finish-either s x.step) diary
+
 -- ---- activity and pauses
 
 active-sets : (s : ℕ) (b : Bool) (step : Step) →
-    active_after s b step ≡ set_or_clear (is_end s step) (is_step kind.Began s step) b
+    active_after s b step ≡ set_or_clear (is_finish s step) (is_step kind.Began s step) b
 active-sets s b (Began who begin) = refl
 active-sets s b (Repeated who start) = refl
-active-sets s b (Ended who end') = grind arith
+active-sets s b (Ended who end') = refl
 active-sets s b (Cut who) = refl
 active-sets s b (Paused who) = refl
 active-sets s b (Resumed who) = refl
@@ -134,11 +154,9 @@ pub active-last : (s : ℕ) (diary : List Entry) →
     is_later (last_step diary kind.Began s) (later_of (last_step diary kind.Ended s) (last_step diary kind.Cut s))
 active-last s diary =
     fold-held (λ b (x : Entry). active_after s b x.step) (λ (x : Entry). is_step kind.Began s x.step)
-    (λ (x : Entry). is_end s x.step) (λ b x. active-sets s b x.step) false diary
-    ∙ held-false (last_step diary kind.Began s) (last_place (λ (x : Entry). is_end s x.step) diary)
-    ∙ ap (λ o. is_later (last_step diary kind.Began s) o)
-    (last_place-either (λ (x : Entry). is_step kind.Ended s x.step) (λ (x : Entry). is_step kind.Cut s x.step)
-    (λ (x : Entry). is_end s x.step) (λ x. refl) diary)
+    (λ (x : Entry). is_finish s x.step) (λ b x. active-sets s b x.step) false diary
+    ∙ held-false (last_step diary kind.Began s) (last_place (λ (x : Entry). is_finish s x.step) diary)
+    ∙ ap (λ o. is_later (last_step diary kind.Began s) o) (finish-last s diary)
 
 pub paused-last : (s : ℕ) (diary : List Entry) →
     fold (λ before (x : Entry). paused_after s before x.step) false diary ≡
@@ -220,10 +238,9 @@ pub decision-last : (s : ℕ) (diary : List Entry) →
     (later_of (last_step diary kind.Ended s) (last_step diary kind.Cut s))
 decision-last s diary =
     last_place-either (λ (x : Entry). is_step kind.Began s x.step || is_step kind.Passed s x.step)
-    (λ (x : Entry). is_end s x.step) (λ (x : Entry). is_decision s x.step) (λ x. refl) diary
-    ∙ ap (λ o. later_of o (last_place (λ (x : Entry). is_end s x.step) diary))
+    (λ (x : Entry). is_finish s x.step) (λ (x : Entry). is_decision s x.step) (λ x. refl) diary
+    ∙ ap (λ o. later_of o (last_place (λ (x : Entry). is_finish s x.step) diary))
     (last_place-either (λ (x : Entry). is_step kind.Began s x.step) (λ (x : Entry). is_step kind.Passed s x.step)
     (λ (x : Entry). is_step kind.Began s x.step || is_step kind.Passed s x.step) (λ x. refl) diary)
     ∙ ap (λ o. later_of (later_of (last_step diary kind.Began s) (last_step diary kind.Passed s)) o)
-    (last_place-either (λ (x : Entry). is_step kind.Ended s x.step) (λ (x : Entry). is_step kind.Cut s x.step)
-    (λ (x : Entry). is_end s x.step) (λ x. refl) diary)
+    (finish-last s diary)

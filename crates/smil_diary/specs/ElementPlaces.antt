@@ -9,8 +9,9 @@ use Rattle.smil_model.specs.declared.diary.Step.TheVariants.{Began, Repeated, En
 use Rattle.smil_model.specs.declared.diary.StepKind.{StepKind}
 use Rattle.smil_model.specs.declared.diary.StepKind.TheVariants as kind
 use Rattle.smil_model.specs.diary.Diary.{is_active, is_step, with_past}
+use Rattle.smil_model.specs.shown.Views.{is_finish}
 use Rattle.smil_diary.specs.declared.element.ElementPlaces.{ElementPlaces}
-use Rattle.smil_diary.specs.Places.{is_later, later_of, is_from, is_end}
+use Rattle.smil_diary.specs.Places.{is_later, later_of, is_from}
 
 -- the element that a step is on, and the step's kind
 abbrev pub subject : Step → Option (ℕ × StepKind)
@@ -154,7 +155,7 @@ steps diary k serial = places_from 0 (λ (x : Entry). is_step k serial x.step) d
 
 -- whether an entry ends or cuts the element while it is active
 abbrev pub finishes : ℕ → List Entry × Entry → Bool
-finishes serial w = is_end serial (w.1).step && is_active w.0 serial
+finishes serial w = is_finish serial (w.1).step && is_active w.0 serial
 
 -- the places where an interval of the element finished
 abbrev pub finishing : List Entry → ℕ → List ℕ

@@ -3,6 +3,7 @@ use Rattle.std.specs.Prelude.{ℕ, Bool, true, false, ◌||◌, max, nat_lt, nat
 use Rattle.smil_model.specs.declared.diary.Step.{Step}
 use Rattle.smil_model.specs.declared.diary.StepKind.TheVariants as kind
 use Rattle.smil_model.specs.diary.Diary.{is_step}
+use Rattle.smil_model.specs.shown.Views.{is_finish}
 
 -- there is a first place, and no second one at it or after it
 abbrev pub is_later : Option ℕ → Option ℕ → Bool
@@ -21,10 +22,6 @@ abbrev pub is_from : ℕ → Option ℕ → Bool
 is_from from None = false
 is_from from (Some a) = nat_le from a
 
--- an end or a cut of the element
-abbrev pub is_end : ℕ → Step → Bool
-is_end who step = is_step kind.Ended who step || is_step kind.Cut who step
-
 -- a step by which the element is no longer deferred
 abbrev pub is_decision : ℕ → Step → Bool
-is_decision who step = (is_step kind.Began who step || is_step kind.Passed who step) || is_end who step
+is_decision who step = (is_step kind.Began who step || is_step kind.Passed who step) || is_finish who step

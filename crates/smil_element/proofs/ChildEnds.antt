@@ -1,8 +1,7 @@
 -- The ends of time children, and implicit durations.
 use Rattle.std.proofs.Common.{◌≡◌, refl, sym, ◌∙◌, ap, ℕ, ℤ, suc, List, [], ◌∷◌, length, ◌-◌, Bool, true, false, arith}
-use Rattle.std.specs.Prelude.{Option, None, Some, if◌then◌else◌, not, ◌||◌, map, option_map, slice_get, Result, Ok, Err}
+use Rattle.std.specs.Prelude.{Option, None, Some, if◌then◌else◌, not, ◌||◌, map, option_map, slice_get}
 use Rattle.std.specs.Option.{option_or}
-use Rattle.std.specs.Result.{OnOk}
 use Rattle.std.specs.List.{last_or}
 use Rattle.smil_model.specs.declared.times.Time.{Time}
 use Rattle.smil_model.specs.declared.times.Time.TheVariants.{At, Unresolved}
@@ -23,7 +22,7 @@ use Rattle.smil_past.specs.declared.plays.played.PastInterval.{PastInterval}
 use Rattle.smil_past.specs.declared.plays.played.PlayFacts.{PlayFacts}
 use Rattle.smil_past.specs.Played.{past_interval, played}
 use Rattle.smil_element.specs.declared.endings.Ending.{Ending}
-use Rattle.smil_element.specs.Element.{last_alone}
+use Rattle.smil_instance_rows.specs.Places.{last_alone}
 use Rattle.smil_element.specs.Endings.{ending_by}
 
 abbrev pub finish_in : Option PastInterval → Option Time
@@ -102,7 +101,3 @@ alone_at (y ∷ []) x at =
 alone_at (y ∷ z ∷ zs) x at =
     let place : length (y ∷ z ∷ zs) - 1 ≡ suc (length (z ∷ zs) - 1) = omega arith in
     alone_at (z ∷ zs) x (ap (slice_get (y ∷ z ∷ zs)) (sym place) ∙ at)
-
-pub then_on_ok : {T E P Q : Type 0} (r : Result T E) → (P → Q) → OnOk r P → OnOk r Q
-then_on_ok (Ok x) f p = f p
-then_on_ok (Err x) f p = tt

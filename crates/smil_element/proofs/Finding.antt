@@ -10,7 +10,7 @@ use Rattle.smil_model.specs.diary.Diary.{History}
 use Rattle.smil_model.specs.happening.Queue.{is_playing, playing_child}
 use Rattle.smil_element.specs.Parts.{excl_in, left_excl, rival, is_playing_by}
 use Rattle.smil_model.specs.reach.Reach.{is_option}
-use Rattle.smil_tree.proofs.Holding.{same_test}
+use Rattle.smil_laws.proofs.Lineages.{is_option-serial_of}
 
 playing_serial : (diary : List Entry) (ns : List Node) → find (is_playing_by diary) (serials ns) ≡ serial_of (find (is_playing diary) ns)
 playing_serial diary [] = refl
@@ -28,10 +28,6 @@ playing_is h nodes diary excl same past =
     ∙ ap (λ (ds : List Entry). serial_of (find (is_playing ds) (time_children h.nodes excl))) (sym past)
 
 -- ---- the excl of an element
-
-it_is : (who : ℕ) (o : Option Node) → is_option who (serial_of o) ≡ has_serial who o
-it_is who None = refl
-it_is who (Some n) = same_test who n.serial
 
 pub no_left : (h : History) (who : ℕ) (o : Option Node) → None ≡ serial_of (excl_in o) → None ≡ serial_of (left_excl h who o)
 no_left h who None q = refl
@@ -52,7 +48,7 @@ left_is h who excl (Some p) t q is = step (is_excl_kind p.kind) q
     step : (b : Bool) → Some excl ≡ serial_of (cond b (Some p) None) → cond t (Some excl) None ≡ serial_of (cond (b && has_serial who (playing_child h p.serial)) (Some p) None)
     step true r =
         let same : excl ≡ p.serial = same_Some excl p.serial r in
-        either t same ∙ ap (λ b. serial_of (cond b (Some p) None)) (sym is ∙ it_is who (playing_child h excl) ∙ ap (λ e. has_serial who (playing_child h e)) same)
+        either t same ∙ ap (λ b. serial_of (cond b (Some p) None)) (sym is ∙ is_option-serial_of who (playing_child h excl) ∙ ap (λ e. has_serial who (playing_child h e)) same)
     step false r = cc
 
 pub no_rival : (h : History) (o : Option Node) → None ≡ serial_of (excl_in o) → None ≡ serial_of (rival h o)

@@ -24,7 +24,7 @@ use Rattle.smil_laws.proofs.Lineages.{swap_eqb}
 use Rattle.smil_laws.proofs.Members.{Differ, differ_all, differ_kept}
 use Rattle.smil_element.proofs.Above.{IsUp, parent_node}
 use Rattle.smil_instances.proofs.Targets.{known_node}
-use Rattle.smil_element.specs.Displaced.{began_from, births, finished_by, following, may_set_off}
+use Rattle.smil_element.specs.Displaced.{began_from, finished_by, following, may_set_off}
 use Rattle.smil_element.proofs.Siblings.{sibling_is, IsKnown, any_all, any_none, any_place, is_child, known_all}
 
 -- ---- by its place
@@ -223,7 +223,7 @@ module _ (h : History) (who parent : ℕ) (above : IsUp h.nodes who parent) (kin
   siblings = list_any (may_set_off h.diary who (finished_by h.diary who)) (serials (time_children h.nodes parent))
 
   abbrev nexts : Bool
-  nexts = option_map_or (began_from h.diary (births h.diary parent)) (following who (serials (time_children h.nodes parent))) false
+  nexts = option_map_or (began_from h.diary (birth_under (Some above.node) h.diary)) (following who (serials (time_children h.nodes parent))) false
 
   abbrev set_off : Bool
   set_off = list_any (λ (x : Entry). sets_off_sibling h.nodes who x.step) (since_finish h.diary who)
@@ -238,8 +238,8 @@ module _ (h : History) (who parent : ℕ) (above : IsUp h.nodes who parent) (kin
 
   nexts_are : IsDistinct h.nodes → has_element h.nodes who ≡ true → is_seq_kind above.node.kind ≡ true → nexts ≡ next_set_off
   nexts_are distinct there seq =
-      ap (λ k. option_map_or (began_from h.diary (births h.diary k)) (following who (serials (time_children h.nodes k))) false) (sym above.serial)
-      ∙ next_began_is h who above.node distinct there above.under seq (births h.diary above.node.serial) lawful
+      ap (λ k. option_map_or (began_from h.diary (birth_under (Some above.node) h.diary)) (following who (serials (time_children h.nodes k))) false) (sym above.serial)
+      ∙ next_began_is h who above.node distinct there above.under seq (birth_under (Some above.node) h.diary) lawful
       ∙ ap (λ o. list_any (λ (x : Entry). begins_next h.nodes who x.step) (drop (birth_under o h.diary) h.diary)) (sym above.under)
 
   abbrev by_kind : Kind → Bool

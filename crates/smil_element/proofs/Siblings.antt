@@ -12,9 +12,9 @@ use Rattle.smil_model.specs.declared.document.Node.{Node}
 use Rattle.smil_model.specs.document.Document.{elements, has_serial, is_element, is_time_child, serials, time_children, time_parent}
 use Rattle.smil_model.specs.diary.Diary.{History, is_paused, is_step, last_place, last_step, later_place, up_to, with_past}
 use Rattle.smil_model.specs.diary.Lawful.{AllLawful, IsLawful, has_element, is_lawful_step, may_begin}
-use Rattle.smil_model.specs.shown.Views.{is_finish, is_sibling, sets_off_sibling}
+use Rattle.smil_model.specs.shown.Views.{is_sibling, sets_off_sibling}
 use Rattle.smil_diary.specs.Places.{is_from, later_of}
-use Rattle.smil_diary.proofs.LastPlaces.{last_place-either}
+use Rattle.smil_diary.proofs.LastPlaces.{finish-last}
 use Rattle.smil_laws.proofs.Aside.{each_drop}
 use Rattle.smil_laws.proofs.Lineages.{swap_eqb}
 use Rattle.smil_past.proofs.Rows.{found_any}
@@ -22,25 +22,9 @@ use Rattle.smil_element.specs.Displaced.{finished_by, may_set_off}
 
 -- ---- the last end
 
-either_end : (s : ℕ) (step : Step) → is_finish s step ≡ (is_step kind.Ended s step || is_step kind.Cut s step)
-either_end s (Began who begin) = refl
-either_end s (Repeated who start) = refl
-either_end s (Ended who end') = by (who == s)
-  where
-    by : (t : Bool) → t ≡ (t || false)
-    by true = refl
-    by false = refl
-either_end s (Cut who) = refl
-either_end s (Paused who) = refl
-either_end s (Resumed who) = refl
-either_end s (Deferred who begin) = refl
-either_end s (Passed who begin) = refl
-either_end s (Logged place) = refl
-
 pub finish_last : (diary : List Entry) (s : ℕ) → finished_by diary s ≡ option_map_or suc (later_of (last_step diary kind.Ended s) (last_step diary kind.Cut s)) (length diary)
 finish_last diary s =
-    ap (λ o. option_map_or suc o (length diary))
-    (last_place-either (λ (x : Entry). is_step kind.Ended s x.step) (λ (x : Entry). is_step kind.Cut s x.step) (λ (x : Entry). is_finish s x.step) (λ x. either_end s x.step) diary)
+    ap (λ o. option_map_or suc o (length diary)) (finish-last s diary)
 
 -- ---- entries and their last places
 

@@ -13,17 +13,12 @@ use Rattle.smil_model.specs.diary.Lawful.{has_element}
 use Rattle.smil_laws.proofs.Aside.{find_true}
 use Rattle.smil_graph.proofs.Answered.{element_at, only_element}
 use Rattle.smil_element.proofs.Above.{parent_node}
-use Rattle.smil_instances.proofs.Targets.{element_in, known_node, attrs_of}
+use Rattle.smil_instances.proofs.Targets.{element_in, known_node, attrs_of, restart_told}
 use Rattle.smil_instances.proofs.Sensitive.{serial_is}
 use Rattle.smil_past.specs.declared.plays.played.PlayFacts.{PlayFacts}
 use Rattle.smil_past.specs.Played.{played, played_at}
 
--- the restart and the fill that the tree tells are the element's
-pub restart_told : (ns : List Node) (s : ℕ) (e : Node) (r : Restart) → IsDistinct ns → node_at (elements ns) s ≡ Some e → Some r ≡ option_map (restart_of ns) (node_at ns s) → r ≡ restart_of ns e
-restart_told ns s e r d at is =
-    let same : Some r ≡ Some (restart_of ns e) = is ∙ ap (option_map (restart_of ns)) (element_in ns s e d at) in
-    cc
-
+-- the fill that the tree tells is the element's
 pub fill_told : (ns : List Node) (s : ℕ) (e : Node) (r : Fill) → IsDistinct ns → node_at (elements ns) s ≡ Some e → Some r ≡ option_map (fill_of ns) (node_at ns s) → r ≡ fill_of ns e
 fill_told ns s e r d at is =
     let same : Some r ≡ Some (fill_of ns e) = is ∙ ap (option_map (fill_of ns)) (element_in ns s e d at) in

@@ -63,9 +63,3 @@ and_coming (Some c) cs = coming_meant c ∷ cs
 
 abbrev pub both : Option Coming → Option Coming → List model.Coming
 both first second = and_coming first (and_coming second [])
-
--- the last of a list, alone
-abbrev pub last_alone : {A : Type 0} → List A → List A
-last_alone [] = []
-last_alone (x ∷ []) = x ∷ []
-last_alone (x ∷ y ∷ ys) = last_alone (y ∷ ys)

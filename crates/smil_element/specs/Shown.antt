@@ -1,6 +1,5 @@
 -- What the view of an element follows from.
-use Rattle.std.specs.Prelude.{ℕ, ℤ, filter, Bool, false, ◌||◌, Option, Some, None, is_some}
-use Rattle.smil_model.specs.declared.document.Attrs.{Attrs}
+use Rattle.std.specs.Prelude.{ℕ, ℤ, filter, Bool, false, Option, Some, None, is_some}
 use Rattle.smil_model.specs.declared.document.Fill.{Fill}
 use Rattle.smil_model.specs.declared.document.Fill.TheVariants.{Freeze}
 use Rattle.smil_model.specs.document.Document.{is_element, lineage}
@@ -12,10 +11,6 @@ use Rattle.smil_past.specs.declared.plays.played.PastInterval.{PastInterval}
 abbrev pub frozen_at : History → Option ℕ → Bool
 frozen_at h None = false
 frozen_at h (Some serial) = is_frozen_in h (filter is_element (lineage h.nodes serial))
-
--- whether attributes limit the duration
-abbrev pub is_limited : Attrs → Bool
-is_limited attrs = is_some attrs.dur || is_some attrs.«end» || is_some attrs.repeat_count || is_some attrs.repeat_dur
 
 -- a finished interval in document time, and whether it was cut
 abbrev pub shown_last : PastInterval → ℤ × ℤ

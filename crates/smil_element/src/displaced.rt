@@ -1,13 +1,15 @@
 //! What displaces a frozen element in a seq or an excl.
 
-ghost use Rattle.std.specs.Prelude.{◌≡◌, ◌<◌, ◌==◌, ℕ, true, false, ◌+◌, length, position, slice_get, IfSome};
+ghost use Rattle.std.specs.Prelude.{◌≡◌, ◌<◌, ◌==◌, ℕ, true, false, ◌+◌, length, position, slice_get, IfSome, Option, Some};
 ghost use Rattle.std.specs.List.{list_any};
 ghost use Rattle.std.specs.Option.{option_map_or};
-ghost use Rattle.smil_model.specs.document.Document.{serials, time_children};
+ghost use Rattle.smil_model.specs.declared.document.Node.{Node};
+ghost use Rattle.smil_model.specs.document.Document.{serial_of, serials, time_children};
+ghost use Rattle.smil_model.specs.diary.Diary.{birth_under};
 ghost use Rattle.smil_model.specs.diary.Lawful.{has_element};
 ghost use Rattle.smil_model.specs.shown.Views.{is_displaced};
 ghost use Rattle.smil_past.specs.Past.{history_of};
-ghost use Rattle.smil_element.specs.Displaced.{began_from, births, finished_by, following, is_set_off, may_set_off};
+ghost use Rattle.smil_element.specs.Displaced.{began_from, finished_by, following, is_set_off, may_set_off};
 
 use super::facts::parent_of;
 use smil_diary::{is_from, later_of};
@@ -67,7 +69,8 @@ fn sets_off(past: &Past, who: u32, from: usize) -> bool
 
 // Whether the next child of a seq began since the birth of one of its children.
 fn next_began(past: &Past, parent: u32, who: u32) -> bool
-    ensures { result ≡ option_map_or (began_from past.now.diary (births past.now.diary parent))
+    ensures { (node : Option Node) → serial_of node ≡ Some parent
+        → result ≡ option_map_or (began_from past.now.diary (birth_under node past.now.diary))
         (following who (serials (time_children past.now.document.nodes parent))) false }
 {
     match next_child(past, parent, who) {

@@ -2,13 +2,13 @@
 
 ghost use Rattle.std.specs.Prelude.{◌≡◌, ◌||◌, ◌&&◌, not, pos, true, false, Option, Some, None, IfSome, is_some};
 ghost use Rattle.smil_model.specs.declared.document.Node.{Node as AnyNode};
-ghost use Rattle.smil_model.specs.document.Defaults.{effective_fill, fill_by};
+ghost use Rattle.smil_model.specs.document.Defaults.{effective_fill, fill_by, fill_when_auto};
 ghost use Rattle.smil_model.specs.document.Document.{elements, node_at, serial_of, time_parent};
 ghost use Rattle.smil_model.specs.diary.Diary.{is_deferred, lives_under};
 ghost use Rattle.smil_model.specs.diary.Lawful.{has_element};
 ghost use Rattle.smil_model.specs.shown.Views.{is_displaced, is_frozen_by, keeps, view_facts};
 ghost use Rattle.smil_past.specs.Past.{history_of};
-ghost use Rattle.smil_element.specs.Shown.{frozen_at, is_cut, is_limited};
+ghost use Rattle.smil_element.specs.Shown.{frozen_at, is_cut};
 
 use super::displaced::is_displaced;
 use super::facts::{attrs_of, is_alive, parent_of, played_of};
@@ -97,23 +97,22 @@ fn fill_by(attrs: &Attrs, fill: Fill) -> Fill
     ensures { result ≡ fill_by attrs.now fill }
 {
     match fill {
-        Fill::Auto => {
-            if is_limited(attrs) {
-                Fill::Remove
-            } else {
-                Fill::Freeze
-            }
-        }
+        Fill::Auto => fill_when_auto(attrs),
         stated => stated,
     }
 }
 
-// Whether attributes limit the duration.
-fn is_limited(attrs: &Attrs) -> bool
-    ensures { result ≡ is_limited attrs.now }
+// `auto` freezes where nothing limits the duration.
+fn fill_when_auto(attrs: &Attrs) -> Fill
+    ensures { result ≡ fill_when_auto attrs.now }
 {
-    attrs.dur.is_some()
+    if attrs.dur.is_some()
         || attrs.end.is_some()
         || attrs.repeat_count.is_some()
         || attrs.repeat_dur.is_some()
+    {
+        Fill::Remove
+    } else {
+        Fill::Freeze
+    }
 }

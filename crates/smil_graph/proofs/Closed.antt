@@ -5,9 +5,10 @@ use Rattle.std.proofs.lemmas.Bool.{cases_lt, cases_eq, eqb-true, eq-eqb}
 use Rattle.std.proofs.lemmas.List.{length-set, length-take-le, length-drop, get_or-take, get_or-drop, get_or-set_same, get_or-set_other, get_or_past}
 use Rattle.smil_graph.specs.declared.components.Mark.{Mark}
 use Rattle.smil_graph.specs.declared.components.Mark.TheVariants.{New, Open, Done}
-use Rattle.smil_graph.specs.Links.{lists, row, links, LeadsTo, AreBelow}
+use Rattle.smil_model.specs.document.Closure.{has}
+use Rattle.smil_graph.specs.Links.{row, links, LeadsTo, AreBelow}
 use Rattle.smil_graph.specs.Components.{Grouping, IsGrouping, IsFrom, IsMet, StayKnown, mark_at, is_unfinished, marked_all, closed_from, off_path, left}
-use Rattle.smil_graph.proofs.Lists.{lists_get, index_of}
+use Rattle.smil_graph.proofs.Lists.{has_get, index_of}
 use Rattle.smil_graph.proofs.Stacks.{in_tail, is_head, head_or_tail, top_listed, below_top, under_top, up_to_top, from_rest, rest_falls, no_top}
 use Rattle.smil_graph.proofs.Grouped.{met_within, done_few, done_fewer}
 use Rattle.smil_model.specs.reach.Reach.{is_option}
@@ -18,26 +19,26 @@ pub marked_count : (m : Mark) (places : List ℕ) (marks : List Mark) → length
 marked_count m [] marks = refl
 marked_count m (x ∷ xs) marks = marked_count m xs (set marks x m) ∙ length-set marks x m
 
-marked_not : (m : Mark) (places : List ℕ) (marks : List Mark) (a : ℕ) → lists places a ≡ false → mark_at (marked_all m places marks) a ≡ mark_at marks a
+marked_not : (m : Mark) (places : List ℕ) (marks : List Mark) (a : ℕ) → has places a ≡ false → mark_at (marked_all m places marks) a ≡ mark_at marks a
 marked_not m [] marks a q = refl
-marked_not m (x ∷ xs) marks a q = marked_not m xs (set marks x m) a (tail (lists xs a) refl) ∙ get_or-set_other marks x a m New other
+marked_not m (x ∷ xs) marks a q = marked_not m xs (set marks x m) a (tail (has xs a) refl) ∙ get_or-set_other marks x a m New other
   where
     other : a ≡ x → ⊥
     other e = let never : true ≡ false = sym (is_head x xs a e) ∙ q in cc
 
-    tail : (t : Bool) → lists xs a ≡ t → lists xs a ≡ false
+    tail : (t : Bool) → has xs a ≡ t → has xs a ≡ false
     tail true r = let never : true ≡ false = sym (in_tail x xs a r) ∙ q in absurd (cc)
     tail false r = r
 
-marked_in : (m : Mark) (places : List ℕ) (marks : List Mark) (a : ℕ) → AreBelow (length marks) places → lists places a ≡ true → mark_at (marked_all m places marks) a ≡ m
+marked_in : (m : Mark) (places : List ℕ) (marks : List Mark) (a : ℕ) → AreBelow (length marks) places → has places a ≡ true → mark_at (marked_all m places marks) a ≡ m
 marked_in m [] marks a low q = cc
-marked_in m (x ∷ xs) marks a low q = step (lists xs a) refl (marked_in m xs (set marks x m) a (λ i r. omega (arith, low i (in_tail x xs i r), length-set marks x m)))
+marked_in m (x ∷ xs) marks a low q = step (has xs a) refl (marked_in m xs (set marks x m) a (λ i r. omega (arith, low i (in_tail x xs i r), length-set marks x m)))
   where
-    by_case : lists xs a ≡ false → (a ≡ x) ⊎ (lists xs a ≡ true) → mark_at (marked_all m xs (set marks x m)) a ≡ m
+    by_case : has xs a ≡ false → (a ≡ x) ⊎ (has xs a ≡ true) → mark_at (marked_all m xs (set marks x m)) a ≡ m
     by_case r (inl e) = marked_not m xs (set marks x m) a r ∙ ap (mark_at (set marks x m)) e ∙ get_or-set_same marks x m New (low x (is_head x xs x refl))
     by_case r (inr e) = let never : true ≡ false = sym e ∙ r in absurd (cc)
 
-    step : (t : Bool) → lists xs a ≡ t → (lists xs a ≡ true → mark_at (marked_all m xs (set marks x m)) a ≡ m) → mark_at (marked_all m xs (set marks x m)) a ≡ m
+    step : (t : Bool) → has xs a ≡ t → (has xs a ≡ true → mark_at (marked_all m xs (set marks x m)) a ≡ m) → mark_at (marked_all m xs (set marks x m)) a ≡ m
     step true r later = later r
     step false r later = by_case r (head_or_tail x xs a q)
 
@@ -51,11 +52,11 @@ first_fewer k [] marks q l low e = absurd (omega (arith, l))
 first_fewer k (x ∷ xs) marks q l low e = omega (arith, all_fewer k xs (set marks x (Done k)), done_fewer marks x q k (low x (is_head x xs x refl)) e)
 
 -- what is listed past some places was listed
-pub from_drop : (xs : List ℕ) (n a : ℕ) → lists (drop n xs) a ≡ true → lists xs a ≡ true
+pub from_drop : (xs : List ℕ) (n a : ℕ) → has (drop n xs) a ≡ true → has xs a ≡ true
 from_drop xs n a q = by_index (index_of (drop n xs) a q)
   where
-    by_index : (k : ℕ) × (k < length (drop n xs)) × (get_or (drop n xs) k 0 ≡ a) → lists xs a ≡ true
-    by_index found = rw (sym found.2 ∙ get_or-drop n xs found.0 0) (lists_get xs (n + found.0) (omega (arith, found.1, length-drop n xs)))
+    by_index : (k : ℕ) × (k < length (drop n xs)) × (get_or (drop n xs) k 0 ≡ a) → has xs a ≡ true
+    by_index found = rw (sym found.2 ∙ get_or-drop n xs found.0 0) (has_get xs (n + found.0) (omega (arith, found.1, length-drop n xs)))
 
 module _ (rows : List (List ℕ)) (g : Grouping) (s : IsGrouping rows g) where
   -- the open places are places
@@ -74,33 +75,33 @@ module _ (rows : List (List ℕ)) (g : Grouping) (s : IsGrouping rows g) where
     top_below = s.path.0 p (top_listed g.path p top)
 
     -- a place off what is left of the path has had all its links followed
-    still_finished : (q : ℕ) → q < length g.members → lists (drop 1 g.path) q ≡ false → length (row rows (get_or g.members q 0)) ≤ get_or g.next (get_or g.members q 0) 0
+    still_finished : (q : ℕ) → q < length g.members → has (drop 1 g.path) q ≡ false → length (row rows (get_or g.members q 0)) ≤ get_or g.next (get_or g.members q 0) 0
     still_finished q l off = by_case (cases_eq q p)
       where
-        by_top : (t : Bool) → lists g.path q ≡ t → (q ≡ p → ⊥) → lists g.path q ≡ false
+        by_top : (t : Bool) → has g.path q ≡ t → (q ≡ p → ⊥) → has g.path q ≡ false
         by_top true r o = by_rest (below_top g.path p q top r)
           where
-            by_rest : (q ≡ p) ⊎ (lists (drop 1 g.path) q ≡ true) → lists g.path q ≡ false
+            by_rest : (q ≡ p) ⊎ (has (drop 1 g.path) q ≡ true) → has g.path q ≡ false
             by_rest (inl e) = absurd (o e)
             by_rest (inr e) = let never : true ≡ false = sym e ∙ off in absurd (cc)
         by_top false r o = r
 
         by_case : (q ≡ p) ⊎ (q ≡ p → ⊥) → length (row rows (get_or g.members q 0)) ≤ get_or g.next (get_or g.members q 0) 0
         by_case (inl e) = rw e all
-        by_case (inr o) = s.finished q l (by_top (lists g.path q) refl o)
+        by_case (inr o) = s.finished q l (by_top (has g.path q) refl o)
 
-    start_low : (x : ℕ) → lists g.starts x ≡ true → x ≤ p
+    start_low : (x : ℕ) → has g.starts x ≡ true → x ≤ p
     start_low x r = up_to_top g.path p x top s.path.1 (s.on_path x r)
 
-    start_or : (x : ℕ) → lists g.starts x ≡ true → (x ≡ p → ⊥) → lists (drop 1 g.path) x ≡ true
+    start_or : (x : ℕ) → has g.starts x ≡ true → (x ≡ p → ⊥) → has (drop 1 g.path) x ≡ true
     start_or x r o = by_case (below_top g.path p x top (s.on_path x r))
       where
-        by_case : (x ≡ p) ⊎ (lists (drop 1 g.path) x ≡ true) → lists (drop 1 g.path) x ≡ true
+        by_case : (x ≡ p) ⊎ (has (drop 1 g.path) x ≡ true) → has (drop 1 g.path) x ≡ true
         by_case (inl e) = absurd (o e)
         by_case (inr e) = e
 
     -- ---- the place starts no group
-    left_alone : (lists g.starts p ≡ true → ⊥) → IsGrouping rows (off_path g)
+    left_alone : (has g.starts p ≡ true → ⊥) → IsGrouping rows (off_path g)
     left_alone other = record {
       marks_count = s.marks_count;
       next_count = s.next_count;
@@ -115,7 +116,7 @@ module _ (rows : List (List ℕ)) (g : Grouping) (s : IsGrouping rows g) where
       few = s.few;
       path = (λ x r. s.path.0 x (from_rest g.path x r), rest_falls g.path s.path.1);
       falling = s.falling;
-      on_path = λ x r. start_or x r (λ e. other (subst (λ y. lists g.starts y ≡ true) e r));
+      on_path = λ x r. start_or x r (λ e. other (subst (λ y. has g.starts y ≡ true) e r));
       first = s.first;
     }
 
@@ -135,22 +136,22 @@ module _ (rows : List (List ℕ)) (g : Grouping) (s : IsGrouping rows g) where
 
       -- a place is of the group, or of one below it, or not open
       closed_or : (a : ℕ) → AreClosed a
-      closed_or a = by_bool (lists (drop p g.members) a) refl
+      closed_or a = by_bool (has (drop p g.members) a) refl
         where
-          by_index : lists (drop p g.members) a ≡ true → (k : ℕ) × (k < length (drop p g.members)) × (get_or (drop p g.members) k 0 ≡ a) → AreClosed a
+          by_index : has (drop p g.members) a ≡ true → (k : ℕ) × (k < length (drop p g.members)) × (get_or (drop p g.members) k 0 ≡ a) → AreClosed a
           by_index q found =
               let at : get_or g.members (p + found.0) 0 ≡ a = sym (get_or-drop p g.members found.0 0) ∙ found.2 in
               inl (p + found.0, omega arith, ap (mark_at g.marks) (sym at) ∙ s.placed (p + found.0) (omega (arith, found.1, length-drop p g.members)), marked_in (Done number) (drop p g.members) g.marks a below_drop q)
 
-          under : lists (drop p g.members) a ≡ false → (q : ℕ) → mark_at g.marks a ≡ Open q → (q < p) ⊎ (p ≤ q) → q < p
+          under : has (drop p g.members) a ≡ false → (q : ℕ) → mark_at g.marks a ≡ Open q → (q < p) ⊎ (p ≤ q) → q < p
           under r q e (inl l) = l
           under r q e (inr l) =
               let at = s.stands a q e in
               let back : get_or (drop p g.members) (q - p) 0 ≡ a = get_or-drop p g.members (q - p) 0 ∙ ap (λ k. get_or g.members k 0) (omega (arith, l)) ∙ at.1 in
-              let listed : lists (drop p g.members) a ≡ true = ap (lists (drop p g.members)) (sym back) ∙ lists_get (drop p g.members) (q - p) (omega (arith, l, at.0, length-drop p g.members)) in
+              let listed : has (drop p g.members) a ≡ true = ap (has (drop p g.members)) (sym back) ∙ has_get (drop p g.members) (q - p) (omega (arith, l, at.0, length-drop p g.members)) in
               let never : true ≡ false = sym listed ∙ r in absurd (cc)
 
-          by_bool : (t : Bool) → lists (drop p g.members) a ≡ t → AreClosed a
+          by_bool : (t : Bool) → has (drop p g.members) a ≡ t → AreClosed a
           by_bool true q = by_index q (index_of (drop p g.members) a q)
           by_bool false q = inr (marked_not (Done number) (drop p g.members) g.marks a q, λ k e. under q k e (cases_lt k p))
 
@@ -188,10 +189,10 @@ module _ (rows : List (List ℕ)) (g : Grouping) (s : IsGrouping rows g) where
           let was = was_open a q e (closed_or a) in
           (omega (arith, was.1, short), get_or-take p g.members q 0 was.1 ∙ (s.stands a q was.0).1)
 
-      start_below : (x q : ℕ) → q < p → x ≤ q → lists g.starts x ≡ true → lists (drop 1 g.starts) x ≡ true
+      start_below : (x q : ℕ) → q < p → x ≤ q → has g.starts x ≡ true → has (drop 1 g.starts) x ≡ true
       start_below x q l m r = by_case (below_top g.starts p x start r)
         where
-          by_case : (x ≡ p) ⊎ (lists (drop 1 g.starts) x ≡ true) → lists (drop 1 g.starts) x ≡ true
+          by_case : (x ≡ p) ⊎ (has (drop 1 g.starts) x ≡ true) → has (drop 1 g.starts) x ≡ true
           by_case (inl e) = absurd (omega (arith, e, l, m))
           by_case (inr e) = e
 
@@ -209,7 +210,7 @@ module _ (rows : List (List ℕ)) (g : Grouping) (s : IsGrouping rows g) where
           let was = was_open a q e (closed_or a) in
           still_met q (get_or (row rows a) k 0) was.1 (s.met a q k was.0 l m) (closed_or (get_or (row rows a) k 0))
 
-      finished : (q : ℕ) → q < length (take p g.members) → lists (drop 1 g.path) q ≡ false → length (row rows (get_or (take p g.members) q 0)) ≤ get_or g.next (get_or (take p g.members) q 0) 0
+      finished : (q : ℕ) → q < length (take p g.members) → has (drop 1 g.path) q ≡ false → length (row rows (get_or (take p g.members) q 0)) ≤ get_or g.next (get_or (take p g.members) q 0) 0
       finished q l off =
           let low : q < p = omega (arith, l, short) in
           rw (get_or-take p g.members q 0 low) (still_finished q (omega (arith, low, top_below)) off)
@@ -225,14 +226,14 @@ module _ (rows : List (List ℕ)) (g : Grouping) (s : IsGrouping rows g) where
       inside a b q m same l e (Done k) f is =
           (k, stays_done b k f (closed_or b), omega (arith, same, s.numbered b k f), λ eq. absurd (omega (arith, eq, same, s.numbered b k f)))
 
-      off_rest : (q : ℕ) → p ≤ q → (t : Bool) → lists (drop 1 g.path) q ≡ t → lists (drop 1 g.path) q ≡ false
+      off_rest : (q : ℕ) → p ≤ q → (t : Bool) → has (drop 1 g.path) q ≡ t → has (drop 1 g.path) q ≡ false
       off_rest q l true r = absurd (omega (arith, l, under_top g.path p q top s.path.1 r))
       off_rest q l false r = r
 
       all_followed : (a q : ℕ) → p ≤ q → mark_at g.marks a ≡ Open q → length (row rows a) ≤ get_or g.next a 0
       all_followed a q l e =
           let at = s.stands a q e in
-          subst (λ x. length (row rows x) ≤ get_or g.next x 0) at.1 (still_finished q at.0 (off_rest q l (lists (drop 1 g.path) q) refl))
+          subst (λ x. length (row rows x) ≤ get_or g.next x 0) at.1 (still_finished q at.0 (off_rest q l (has (drop 1 g.path) q) refl))
 
       by_link : (a b q m : ℕ) → m ≡ number → p ≤ q → mark_at g.marks a ≡ Open q → (k : ℕ) × (k < length (row rows a)) × (get_or (row rows a) k 0 ≡ b) → Follows a b m
       by_link a b q m same l e found =
@@ -251,10 +252,10 @@ module _ (rows : List (List ℕ)) (g : Grouping) (s : IsGrouping rows g) where
       numbered a m e (inl c) = let same : Done m ≡ Done number = sym e ∙ c.3 in let one : m ≡ number = cc in omega (arith, one)
       numbered a m e (inr c) = omega (arith, s.numbered a m (sym c.0 ∙ e))
 
-      start_above : (x : ℕ) → lists (drop 1 g.starts) x ≡ true → x < p
+      start_above : (x : ℕ) → has (drop 1 g.starts) x ≡ true → x < p
       start_above x r = under_top g.starts p x start s.falling r
 
-      first : 0 < p → (0 ≡ p) ⊎ (lists (drop 1 g.starts) 0 ≡ true) → lists (drop 1 g.starts) 0 ≡ true
+      first : 0 < p → (0 ≡ p) ⊎ (has (drop 1 g.starts) 0 ≡ true) → has (drop 1 g.starts) 0 ≡ true
       first l (inl e) = absurd (omega (arith, l, e))
       first l (inr e) = e
 
@@ -284,7 +285,7 @@ module _ (rows : List (List ℕ)) (g : Grouping) (s : IsGrouping rows g) where
 
     -- ---- either way
 
-    begins : (o : Option ℕ) → slice_get g.starts 0 ≡ o → (is_option p o ≡ true → slice_get g.starts 0 ≡ Some p) × (is_option p o ≡ false → lists g.starts p ≡ true → ⊥)
+    begins : (o : Option ℕ) → slice_get g.starts 0 ≡ o → (is_option p o ≡ true → slice_get g.starts 0 ≡ Some p) × (is_option p o ≡ false → has g.starts p ≡ true → ⊥)
     begins None e = (λ q. cc, λ q r. no_top g.starts p e r)
     begins (Some x) e = (
       λ q. e ∙ ap Some (sym (eqb-true p x q)),

@@ -1,6 +1,6 @@
 -- What the definitions say of nodes, by their places.
 use Rattle.std.proofs.Common.{◌≡◌, refl, sym, ◌∙◌, ap, ℕ, suc, zero, ◌<◌, ◌+◌, List, [], ◌∷◌, ◌++◌, length, Bool, true, false, Option, Some, None, arith, inl, inr}
-use Rattle.std.specs.Prelude.{pos, cond, ◌==◌, ◌||◌, ◌&&◌, ◌⊎◌, filter, slice_get, option_map}
+use Rattle.std.specs.Prelude.{pos, cond, ◌==◌, ◌||◌, ◌&&◌, ◌⊎◌, filter, slice_get}
 use Rattle.std.specs.List.{AllByRecursion, list_any, range_with_len}
 use Rattle.std.proofs.lemmas.Bool.{or_from, eqb-true, eq-eqb, ne_eqb, cases_eq}
 use Rattle.std.proofs.lemmas.List.Folds.{list_any-append}
@@ -12,13 +12,14 @@ use Rattle.smil_model.specs.document.Defaults.{items_or, begin_list, end_list}
 use Rattle.smil_model.specs.document.Dependencies.{has_implicit_duration, is_sync_with, all_items, feeds_node}
 use Rattle.smil_model.specs.reach.Reach.{is_event_of, is_option}
 use Rattle.smil_model.specs.document.Valid.{IsDistinct}
-use Rattle.smil_laws.proofs.Lineages.{swap_eqb}
+use Rattle.smil_laws.proofs.Lineages.{same_eqb, swap_eqb, is_option-serial_of}
 use Rattle.smil_laws.proofs.Members.{differ_each}
 use Rattle.smil_laws.proofs.Lists.{each_at}
-use Rattle.smil_graph.specs.Links.{lists, row}
+use Rattle.smil_model.specs.document.Closure.{has}
+use Rattle.smil_graph.specs.Links.{row}
 use Rattle.smil_graph.specs.Places.{at_place, up, has_element, is_element_at, before, named_by, target_place, source_of, leads_to_place, follows, hears, previous_of, IsTable, IsIndex, AreTimeChildren}
 use Rattle.smil_graph.proofs.Nodes.{there_below, IsTableTo, table_step}
-use Rattle.smil_graph.proofs.Ranges.{lists_filter}
+use Rattle.smil_graph.proofs.Ranges.{has_in_range}
 
 -- ---- serials and places
 
@@ -52,13 +53,6 @@ module _ (nodes : List Node) (distinct : IsDistinct nodes) where
           let same : m ≡ e = cc in
           eq-eqb m.serial e.serial (ap (λ (x : Node). x.serial) same) ∙ sym (eq-eqb j k s)
       by_case (inr o) = ne_eqb m.serial e.serial (λ s. o (same_place nodes j k e m distinct a b s)) ∙ sym (ne_eqb j k o)
-
-  swap : (a b : ℕ) → (a == b) ≡ (b == a)
-  swap a b = by_eq (cases_eq a b)
-    where
-      by_eq : (a ≡ b) ⊎ (a ≡ b → ⊥) → (a == b) ≡ (b == a)
-      by_eq (inl e) = eq-eqb a b e ∙ sym (eq-eqb b a (sym e))
-      by_eq (inr o) = ne_eqb a b o ∙ sym (ne_eqb b a (λ e. o (sym e)))
 
   -- whether a place has the serial of the node at j
   pub has_at : (j : ℕ) (e : Node) (o : Option ℕ) → slice_get nodes j ≡ Some e → has_serial e.serial (at_place nodes o) ≡ is_option j o
@@ -98,11 +92,11 @@ module _ (nodes : List Node) (distinct : IsDistinct nodes) where
         ap (λ t. is_element x && t) (ap (has_serial e.serial) (table.node i x a) ∙ has_at j e (up tps i) b)
         ∙ ap (λ o. has_element o && is_option j (up tps i)) (sym a)
 
-    pub children_are : (i j : ℕ) (x e : Node) → slice_get nodes i ≡ Some x → slice_get nodes j ≡ Some e → list_any (λ (c : Node). (c.serial == x.serial) && is_time_child nodes e.serial c) nodes ≡ lists (row children j) i
+    pub children_are : (i j : ℕ) (x e : Node) → slice_get nodes i ≡ Some x → slice_get nodes j ≡ Some e → list_any (λ (c : Node). (c.serial == x.serial) && is_time_child nodes e.serial c) nodes ≡ has (row children j) i
     children_are i j x e a b =
         any_one (is_time_child nodes e.serial) nodes i x distinct a
         ∙ child_is i j x e a b
-        ∙ sym (ap (λ r. lists r i) (under j) ∙ lists_filter (λ p. is_element_at nodes p && is_option j (up tps p)) (length nodes) 0 i (omega arith) (omega (arith, there_below nodes i x a)))
+        ∙ sym (ap (λ r. has r i) (under j) ∙ has_in_range (λ p. is_element_at nodes p && is_option j (up tps p)) (length nodes) 0 i (omega arith) (omega (arith, there_below nodes i x a)))
 
     -- ---- the child before
 
@@ -202,13 +196,9 @@ module _ (nodes : List Node) (distinct : IsDistinct nodes) where
     sync_is i x a (Key key o) = refl
     sync_is i x a Indefinite = refl
 
-    option_is : (i : ℕ) (x : Node) (o : Option Node) → is_option x.serial (option_map (λ (n : Node). n.serial) o) ≡ has_serial x.serial o
-    option_is i x None = refl
-    option_is i x (Some m) = swap x.serial m.serial
-
     target_is : (i j : ℕ) (x e : Node) → slice_get nodes i ≡ Some x → slice_get nodes j ≡ Some e → (who : Option (List ℕ)) → is_option x.serial (target nodes e.serial who) ≡ is_option i (target_place named j who)
-    target_is i j x e a b None = serial_is j i e x b a ∙ swap j i
-    target_is i j x e a b (Some id) = option_is i x (element_named nodes id) ∙ ap (has_serial x.serial) (ids.node id) ∙ has_at i x (named id) a
+    target_is i j x e a b None = serial_is j i e x b a ∙ same_eqb j i
+    target_is i j x e a b (Some id) = is_option-serial_of x.serial (element_named nodes id) ∙ ap (has_serial x.serial) (ids.node id) ∙ has_at i x (named id) a
 
     event_is : (i j : ℕ) (x e : Node) → slice_get nodes i ≡ Some x → slice_get nodes j ≡ Some e → (item : Item) → is_event_of nodes e.serial x.serial item ≡ is_option i (source_of named j item)
     event_is i j x e a b (Offset o) = refl
@@ -225,10 +215,10 @@ module _ (nodes : List Node) (distinct : IsDistinct nodes) where
       pub follows_is : (i j : ℕ) (x e : Node) → slice_get nodes i ≡ Some x → slice_get nodes j ≡ Some e → feeds_node nodes x.serial e ≡ follows (row children j) (up previous j) named e i
       follows_is i j x e a b =
           ap (λ t. ((has_implicit_duration e && t) || has_serial x.serial (previous_in_seq nodes e.serial)) || list_any (is_sync_with nodes x.serial) (all_items nodes e)) (children_are tps children table under i j x e a b)
-          ∙ ap (λ t. ((has_implicit_duration e && lists (row children j) i) || t) || list_any (is_sync_with nodes x.serial) (all_items nodes e)) (ap (has_serial x.serial) (befores.node j e b) ∙ has_at i x (up previous j) a)
-          ∙ ap (λ t. ((has_implicit_duration e && lists (row children j) i) || is_option i (up previous j)) || t)
+          ∙ ap (λ t. ((has_implicit_duration e && has (row children j) i) || t) || list_any (is_sync_with nodes x.serial) (all_items nodes e)) (ap (has_serial x.serial) (befores.node j e b) ∙ has_at i x (up previous j) a)
+          ∙ ap (λ t. ((has_implicit_duration e && has (row children j) i) || is_option i (up previous j)) || t)
           (any_same (is_sync_with nodes x.serial) (λ item. is_option i (named_by named item)) (sync_is i x a) (all_items nodes e) ∙ all_any nodes (λ item. is_option i (named_by named item)) refl refl e)
-          ∙ assoc ((has_implicit_duration e && lists (row children j) i) || is_option i (up previous j)) (leads_to_place (named_by named) (items_or [] e.attrs.begin) i) (leads_to_place (named_by named) (items_or [] e.attrs.«end») i)
+          ∙ assoc ((has_implicit_duration e && has (row children j) i) || is_option i (up previous j)) (leads_to_place (named_by named) (items_or [] e.attrs.begin) i) (leads_to_place (named_by named) (items_or [] e.attrs.«end») i)
         where
           assoc : (a b c : Bool) → (a || (b || c)) ≡ ((a || b) || c)
           assoc true b c = refl

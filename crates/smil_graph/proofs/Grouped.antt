@@ -6,7 +6,8 @@ use Rattle.std.proofs.lemmas.List.Sums.{sum_by-set}
 use Rattle.std.proofs.lemmas.List.{length-set, length_push, get_or-set_same, get_or-set_other, get_or_past, set_past}
 use Rattle.smil_graph.specs.declared.components.Mark.{Mark}
 use Rattle.smil_graph.specs.declared.components.Mark.TheVariants.{New, Open, Done}
-use Rattle.smil_graph.specs.Links.{lists, row, links, LeadsTo}
+use Rattle.smil_model.specs.document.Closure.{has}
+use Rattle.smil_graph.specs.Links.{row, links, LeadsTo}
 use Rattle.smil_graph.specs.Components.{Grouping, IsGrouping, IsFrom, IsMet, StayKnown, mark_at, is_unfinished, opened, merged, followed, without_above, links_left}
 use Rattle.smil_graph.proofs.Lists.{front_push, end_push}
 use Rattle.smil_graph.proofs.Stacks.{is_head, in_tail, head_or_tail, up_to_top, without_in, without_low, without_keeps, without_falls}
@@ -24,7 +25,7 @@ two_ways rows a b c f g = λ test at kept. g test (f test at kept) kept
 
 -- ---- groups
 
-pub met_within : (starts starts' : List ℕ) (p : ℕ) (m : Mark) → ((s : ℕ) → lists starts' s ≡ true → s ≤ p → lists starts s ≡ true) → IsMet starts p m → IsMet starts' p m
+pub met_within : (starts starts' : List ℕ) (p : ℕ) (m : Mark) → ((s : ℕ) → has starts' s ≡ true → s ≤ p → has starts s ≡ true) → IsMet starts p m → IsMet starts' p m
 met_within starts starts' p New within n = n
 met_within starts starts' p (Open q) within n = λ s r l. n s (within s r l) l
 met_within starts starts' p (Done k) within n = tt
@@ -108,7 +109,7 @@ module _ (rows : List (List ℕ)) (g : Grouping) (s : IsGrouping rows g) where
     met_still : (p b : ℕ) → p < n → IsMet g.starts p (mark_at g.marks b) → IsMet (n ∷ g.starts) p (mark_at (opened g place).marks b)
     met_still p b l was = by_mark (mark_of b)
       where
-        by_start : (x : ℕ) → x ≤ p → (x ≡ n) ⊎ (lists g.starts x ≡ true) → lists g.starts x ≡ true
+        by_start : (x : ℕ) → x ≤ p → (x ≡ n) ⊎ (has g.starts x ≡ true) → has g.starts x ≡ true
         by_start x m (inl e) = absurd (omega (arith, m, e, l))
         by_start x m (inr r) = r
 
@@ -123,11 +124,11 @@ module _ (rows : List (List ℕ)) (g : Grouping) (s : IsGrouping rows g) where
     met a p k (inl e) l m = absurd (omega (arith, l, ap (λ x. get_or g.next x 0) e.0, s.fresh place new))
     met a p k (inr e) l m = met_still p (get_or (row rows a) k 0) (s.stands a p e.1).0 (s.met a p k e.1 l m)
 
-    finished : (p : ℕ) → (p < n) ⊎ (p ≡ n) → lists (n ∷ g.path) p ≡ false → length (row rows (get_or (g.members ++ place ∷ []) p 0)) ≤ get_or g.next (get_or (g.members ++ place ∷ []) p 0) 0
+    finished : (p : ℕ) → (p < n) ⊎ (p ≡ n) → has (n ∷ g.path) p ≡ false → length (row rows (get_or (g.members ++ place ∷ []) p 0)) ≤ get_or g.next (get_or (g.members ++ place ∷ []) p 0) 0
     finished p (inr e) off = let never : true ≡ false = sym (is_head n g.path p e) ∙ off in absurd (cc)
-    finished p (inl l) off = rw (front_push g.members place p l) (s.finished p l (by_bool (lists g.path p) refl))
+    finished p (inl l) off = rw (front_push g.members place p l) (s.finished p l (by_bool (has g.path p) refl))
       where
-        by_bool : (t : Bool) → lists g.path p ≡ t → lists g.path p ≡ false
+        by_bool : (t : Bool) → has g.path p ≡ t → has g.path p ≡ false
         by_bool true r = let never : true ≡ false = sym (in_tail n g.path p r) ∙ off in absurd (cc)
         by_bool false r = r
 
@@ -154,15 +155,15 @@ module _ (rows : List (List ℕ)) (g : Grouping) (s : IsGrouping rows g) where
         let before = s.done a b m (was_done a m q) r in
         (before.0, still_marked (Done before.0) b (λ e. cc) before.1, before.2, before.3)
 
-    listed_below : (x : ℕ) → (x ≡ n) ⊎ (lists g.path x ≡ true) → x < length (g.members ++ place ∷ [])
+    listed_below : (x : ℕ) → (x ≡ n) ⊎ (has g.path x ≡ true) → x < length (g.members ++ place ∷ [])
     listed_below x (inl e) = omega (arith, e, length_push g.members place)
     listed_below x (inr r) = omega (arith, s.path.0 x r, length_push g.members place)
 
-    on_path : (x : ℕ) → (x ≡ n) ⊎ (lists g.starts x ≡ true) → lists (n ∷ g.path) x ≡ true
+    on_path : (x : ℕ) → (x ≡ n) ⊎ (has g.starts x ≡ true) → has (n ∷ g.path) x ≡ true
     on_path x (inl e) = is_head n g.path x e
     on_path x (inr r) = in_tail n g.path x (s.on_path x r)
 
-    first : (0 < n) ⊎ (n ≤ 0) → lists (n ∷ g.starts) 0 ≡ true
+    first : (0 < n) ⊎ (n ≤ 0) → has (n ∷ g.starts) 0 ≡ true
     first (inl l) = in_tail n g.starts 0 (s.first l)
     first (inr l) = is_head n g.starts 0 (omega (arith, l))
 
@@ -191,7 +192,7 @@ module _ (rows : List (List ℕ)) (g : Grouping) (s : IsGrouping rows g) where
   -- ---- the last place of the path, whose links are followed
   module _ (p place : ℕ) (top : slice_get g.path 0 ≡ Some p) (here : mark_at g.marks place ≡ Open p) where
     -- it is in the last group
-    pub last_start : (x : ℕ) → lists g.starts x ≡ true → x ≤ p
+    pub last_start : (x : ℕ) → has g.starts x ≡ true → x ≤ p
     last_start x r = up_to_top g.path p x top s.path.1 (s.on_path x r)
 
     -- so each open place leads to it
@@ -200,7 +201,7 @@ module _ (rows : List (List ℕ)) (g : Grouping) (s : IsGrouping rows g) where
 
     -- ---- groups become one, along a link from that place
     module _ (j q : ℕ) (there : mark_at g.marks j ≡ Open q) (link : links rows place j ≡ true) where
-      within : (x : ℕ) → lists (without_above q g.starts) x ≡ true → lists g.starts x ≡ true
+      within : (x : ℕ) → has (without_above q g.starts) x ≡ true → has g.starts x ≡ true
       within x r = without_in q g.starts x r
 
       leads_back : (a b k m : ℕ) → mark_at g.marks a ≡ Open k → mark_at g.marks b ≡ Open m → IsFrom (without_above q g.starts) k m → (q < k) ⊎ (k ≤ q) → LeadsTo rows a b

@@ -13,14 +13,15 @@ use Rattle.smil_model.specs.document.Defaults.{items_or}
 use Rattle.smil_model.specs.document.Dependencies.{feeds, feeds_node, has_implicit_duration}
 use Rattle.smil_model.specs.document.Valid.{IsDistinct}
 use Rattle.smil_model.specs.reach.Reach.{reads, reads_node, is_option}
+use Rattle.smil_model.specs.document.Closure.{has}
 use Rattle.smil_model.specs.FirstPlaces.{AreFirstPlaces}
 use Rattle.smil_model.proofs.FirstPlaces.{position_cons}
-use Rattle.smil_graph.specs.Links.{lists, row, links, that_have, IsRising, AreRows, AreLevels, StayBelow}
+use Rattle.smil_graph.specs.Links.{row, links, that_have, IsRising, AreRows, AreLevels, StayBelow}
 use Rattle.smil_graph.specs.Places.{at_place, up, is_element_at, named_by, target_place, source_of, leads_to_place, follows, hears, element_follows, element_hears, feeds_from, reads_from, feeds_place, reads_place, IsTable, IsIndex, AreTimeChildren}
 use Rattle.smil_graph.specs.Tables.{AreElementLevels, AreHeads, AreReaders, with_serial, serials_of_places}
 use Rattle.smil_graph.proofs.Lists.{from_place}
 use Rattle.smil_graph.proofs.Nodes.{there, there_below}
-use Rattle.smil_graph.proofs.Ranges.{filter_rising, filter_below, filter_same, filter_none, lists_filter}
+use Rattle.smil_graph.proofs.Ranges.{filter_rising, filter_below, filter_same, filter_none, has_in_range}
 use Rattle.smil_graph.proofs.Follow.{follows_is, hears_is}
 use Rattle.smil_graph.proofs.Fed.{feeds_is, reads_is, looped_is}
 
@@ -44,7 +45,7 @@ turned_is n test rows heads are turned i l =
 pub filtered_stay : (n : ℕ) (test : ℕ → ℕ → Bool) (rows : List (List ℕ)) → length rows ≡ n → ((i : ℕ) → i < n → row rows i ≡ filter (λ j. test j i) (range_with_len 0 n)) → StayBelow (length rows) rows
 filtered_stay n test rows long each i j q =
     let here : i < n = omega (arith, from_place rows i j q, long) in
-    omega (arith, long, (filter_below (λ k. test k i) n j (sym (ap (λ r. lists r j) (each i here)) ∙ q)).0)
+    omega (arith, long, (filter_below (λ k. test k i) n j (sym (ap (λ r. has r j) (each i here)) ∙ q)).0)
 
 -- ---- time children
 
@@ -136,15 +137,15 @@ module _ (nodes : List Node) (distinct : IsDistinct nodes) (named : List ℕ →
     follows_low : (i j : ℕ) (e : Node) → j < length nodes → follows (row children j) (up previous j) named e i ≡ true → i < length nodes
     follows_low i j e l q = by_end (or_cases _ _ q)
       where
-        by_child : (has_implicit_duration e && lists (row children j) i) ≡ true ⊎ (is_option i (up previous j) ≡ true) → i < length nodes
-        by_child (inl t) = (filter_below (λ p. is_element_at nodes p && is_option j (up tps p)) (length nodes) i (sym (ap (λ r. lists r i) (under j)) ∙ (and_parts (has_implicit_duration e) (lists (row children j) i) t).1)).0
+        by_child : (has_implicit_duration e && has (row children j) i) ≡ true ⊎ (is_option i (up previous j) ≡ true) → i < length nodes
+        by_child (inl t) = (filter_below (λ p. is_element_at nodes p && is_option j (up tps p)) (length nodes) i (sym (ap (λ r. has r i) (under j)) ∙ (and_parts (has_implicit_duration e) (has (row children j) i) t).1)).0
         by_child (inr t) = omega (arith, l, befores.before j i (place_is i (up previous j) t))
 
-        by_begin : (((has_implicit_duration e && lists (row children j) i) || is_option i (up previous j)) ≡ true) ⊎ (leads_to_place (named_by named) (items_or [] e.attrs.begin) i ≡ true) → i < length nodes
+        by_begin : (((has_implicit_duration e && has (row children j) i) || is_option i (up previous j)) ≡ true) ⊎ (leads_to_place (named_by named) (items_or [] e.attrs.begin) i ≡ true) → i < length nodes
         by_begin (inl t) = by_child (or_cases _ _ t)
         by_begin (inr t) = low_in (named_by named) i (named_low i) (items_or [] e.attrs.begin) t
 
-        by_end : ((((has_implicit_duration e && lists (row children j) i) || is_option i (up previous j)) || leads_to_place (named_by named) (items_or [] e.attrs.begin) i) ≡ true) ⊎ (leads_to_place (named_by named) (items_or [] e.attrs.«end») i ≡ true) → i < length nodes
+        by_end : ((((has_implicit_duration e && has (row children j) i) || is_option i (up previous j)) || leads_to_place (named_by named) (items_or [] e.attrs.begin) i) ≡ true) ⊎ (leads_to_place (named_by named) (items_or [] e.attrs.«end») i ≡ true) → i < length nodes
         by_end (inl t) = by_begin (or_cases _ _ t)
         by_end (inr t) = low_in (named_by named) i (named_low i) (items_or [] e.attrs.«end») t
 
@@ -271,8 +272,8 @@ levels_are nodes distinct feeders fed levels are long turned ranked = record {
 
     linked : (i j : ℕ) (x e : Node) → slice_get nodes i ≡ Some x → slice_get nodes j ≡ Some e → links fed i j ≡ feeds nodes x.serial e.serial
     linked i j x e a b =
-        ap (λ r. lists r j) (each i (there_below nodes i x a))
-        ∙ lists_filter (λ k. feeds_place nodes k i) (length nodes) 0 j (omega arith) (omega (arith, there_below nodes j e b))
+        ap (λ r. has r j) (each i (there_below nodes i x a))
+        ∙ has_in_range (λ k. feeds_place nodes k i) (length nodes) 0 j (omega arith) (omega (arith, there_below nodes j e b))
         ∙ ap (λ z. feeds_from nodes z (slice_get nodes i)) b
         ∙ ap (feeds_from nodes (Some e)) a
         ∙ sym (feeds_is nodes distinct x.serial j e b)
@@ -280,7 +281,7 @@ levels_are nodes distinct feeders fed levels are long turned ranked = record {
     from : (i j : ℕ) → links fed i j ≡ true → (i < length nodes) × (j < length nodes)
     from i j q =
         let here : i < length nodes = omega (arith, from_place fed i j q, short) in
-        (here, (filter_below (λ k. feeds_place nodes k i) (length nodes) j (sym (ap (λ r. lists r j) (each i here)) ∙ q)).0)
+        (here, (filter_below (λ k. feeds_place nodes k i) (length nodes) j (sym (ap (λ r. has r j) (each i here)) ∙ q)).0)
 
 -- ---- serials of places
 

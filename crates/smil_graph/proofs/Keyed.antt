@@ -15,14 +15,15 @@ use Rattle.smil_model.specs.document.Dependencies.{all_items}
 use Rattle.smil_model.specs.document.Closure.{has}
 use Rattle.smil_model.specs.document.Valid.{IsDistinct}
 use Rattle.smil_model.specs.reach.Reach.{is_key_item, waiters, is_option}
-use Rattle.smil_graph.specs.Links.{lists, row, links}
+use Rattle.smil_graph.specs.Links.{row, links}
 use Rattle.smil_graph.specs.Places.{has_element}
 use Rattle.smil_graph.specs.Tables.{has_key_item, key_of, waits, AreWaiting, AreWithPlace, AreElements, AreOf}
 use Rattle.smil_graph.proofs.Follow.{all_any}
 use Rattle.smil_graph.proofs.Fed.{any_alike, element_one, has_serials}
-use Rattle.smil_graph.proofs.Lists.{lists_push}
+use Rattle.smil_graph.proofs.Lists.{has_push}
 use Rattle.smil_graph.proofs.Nodes.{there_below}
 use Rattle.smil_graph.proofs.Rows.{right}
+use Rattle.smil_laws.proofs.Lineages.{same_eqb}
 use Rattle.smil_laws.proofs.Lists.{take-suc_at}
 
 pub none_right : (t : Bool) → (t && false) ≡ false
@@ -44,13 +45,13 @@ with_one place at rows low = record {
   where
     by_row : (i j : ℕ) → (i ≡ at) ⊎ (i ≡ at → ⊥) → links (set rows at (row rows at ++ place ∷ [])) i j ≡ (links rows i j || ((i == at) && (j == place)))
     by_row i j (inl e) =
-        ap (λ k. lists (get_or (set rows at (row rows at ++ place ∷ [])) k []) j) e
-        ∙ ap (λ r. lists r j) (get_or-set_same rows at (row rows at ++ place ∷ []) [] low)
-        ∙ lists_push (row rows at) place j
-        ∙ ap (λ k. lists (row rows k) j || (j == place)) (sym e)
+        ap (λ k. has (get_or (set rows at (row rows at ++ place ∷ [])) k []) j) e
+        ∙ ap (λ r. has r j) (get_or-set_same rows at (row rows at ++ place ∷ []) [] low)
+        ∙ has_push (row rows at) place j
+        ∙ ap (λ k. has (row rows k) j || (j == place)) (sym e)
         ∙ sym (ap (λ t. links rows i j || (t && (j == place))) (eq-eqb i at e))
     by_row i j (inr other) =
-        ap (λ r. lists r j) (get_or-set_other rows at i (row rows at ++ place ∷ []) [] other)
+        ap (λ r. has r j) (get_or-set_other rows at i (row rows at ++ place ∷ []) [] other)
         ∙ right (links rows i j)
         ∙ sym (ap (λ t. links rows i j || (t && (j == place))) (ne_eqb i at other))
 
@@ -72,19 +73,12 @@ with_both f g h place old mid new both first then = record {
     share false true false false = refl
     share false false c d = refl
 
-swap : (a b : ℕ) → (a == b) ≡ (b == a)
-swap a b = by_eq (cases_eq a b)
-  where
-    by_eq : (a ≡ b) ⊎ (a ≡ b → ⊥) → (a == b) ≡ (b == a)
-    by_eq (inl e) = eq-eqb a b e ∙ sym (eq-eqb b a (sym e))
-    by_eq (inr o) = ne_eqb a b o ∙ sym (ne_eqb b a (λ e. o (sym e)))
-
 key_is : (key : ℕ) (item : Item) → is_key_item key item ≡ is_option key (key_of item)
 key_is key (Offset o) = refl
 key_is key (Sync who edge o) = refl
 key_is key (Event who name o) = refl
 key_is key (Repeat who n o) = refl
-key_is key (Key own o) = swap own key
+key_is key (Key own o) = same_eqb own key
 key_is key Indefinite = refl
 
 -- one item more
@@ -112,7 +106,7 @@ pub none_waits : (nodes : List Node) (rows : List (List ℕ)) → length rows �
 none_waits nodes rows long empty = record {
   count = long;
   early = λ key p l. absurd (omega (arith, l));
-  late = λ key p l. ap (λ r. lists r p) (empty key);
+  late = λ key p l. ap (λ r. has r p) (empty key);
 }
 
 pub more_waits : (nodes : List Node) (k : ℕ) (f : ℕ → Bool) (rows new : List (List ℕ)) → IsWaitingTo nodes k rows → AreWithPlace f k rows new → ((key : ℕ) → f key ≡ waits nodes key (slice_get nodes k)) → IsWaitingTo nodes (k + 1) new

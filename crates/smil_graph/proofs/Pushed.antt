@@ -3,11 +3,12 @@ use Rattle.std.proofs.Common.{◌≡◌, refl, sym, ◌∙◌, ap, ℕ, suc, zer
 use Rattle.std.specs.Prelude.{cond, ◌==◌, ◌||◌, ◌⊎◌, filter, slice_get}
 use Rattle.std.specs.List.{range_with_len}
 use Rattle.std.proofs.Math.ListN.{set, length-set}
-use Rattle.std.proofs.lemmas.Bool.{or_left, or_right, eqb-true, eq-eqb, ne_eqb, cases_eq}
+use Rattle.std.proofs.lemmas.Bool.{or_left, or_right, eq-eqb, ne_eqb, cases_eq}
 use Rattle.std.proofs.lemmas.List.{get_or-set_same, get_or-set_other, take_more}
 use Rattle.std.proofs.lemmas.List.Elements.{filter-append}
-use Rattle.smil_graph.specs.Links.{lists, row, links, is_last, IsPushedInEach}
-use Rattle.smil_graph.proofs.Lists.{lists_push}
+use Rattle.smil_model.specs.document.Closure.{has}
+use Rattle.smil_graph.specs.Links.{row, links, is_last, IsPushedInEach}
+use Rattle.smil_graph.proofs.Lists.{has_push}
 use Rattle.smil_graph.proofs.Ranges.{filter_fresh}
 
 -- ---- the last place
@@ -30,15 +31,15 @@ last_pushed [] p = eq-eqb p p refl
 last_pushed (x ∷ []) p = eq-eqb p p refl
 last_pushed (x ∷ y ∷ ys) p = last_pushed (y ∷ ys) p
 
-pub last_lists : (xs : List ℕ) (p : ℕ) → is_last xs p ≡ true → lists xs p ≡ true
-last_lists [] p q = cc
-last_lists (x ∷ []) p q = or_left _ _ (eq-eqb p x (sym (eqb-true x p q)))
-last_lists (x ∷ y ∷ ys) p q = or_right _ _ (last_lists (y ∷ ys) p q)
+pub has_last : (xs : List ℕ) (p : ℕ) → is_last xs p ≡ true → has xs p ≡ true
+has_last [] p q = cc
+has_last (x ∷ []) p q = or_left _ _ q
+has_last (x ∷ y ∷ ys) p q = or_right _ _ (has_last (y ∷ ys) p q)
 
 -- ---- one row more
 
-lists_take : (xs : List ℕ) (k i : ℕ) → k < length xs → lists (take (k + 1) xs) i ≡ (lists (take k xs) i || (i == get_or xs k 0))
-lists_take xs k i l = ap (λ ys. lists ys i) (take_more xs k 0 l) ∙ lists_push (take k xs) (get_or xs k 0) i
+has_take : (xs : List ℕ) (k i : ℕ) → k < length xs → has (take (k + 1) xs) i ≡ (has (take k xs) i || (i == get_or xs k 0))
+has_take xs k i l = ap (λ ys. has ys i) (take_more xs k 0 l) ∙ has_push (take k xs) (get_or xs k 0) i
 
 module _ (old new : List (List ℕ)) (listed : List ℕ) (k place : ℕ) (l : k < length listed) (so : IsPushedInEach old new (take k listed) place) where
   abbrev pub at : ℕ
@@ -47,19 +48,19 @@ module _ (old new : List (List ℕ)) (listed : List ℕ) (k place : ℕ) (l : k 
   pub stays : is_last (row new at) place ≡ true → IsPushedInEach old new (take (k + 1) listed) place
   stays ends = record {
     count = so.count;
-    rows = λ i low fresh. rw (lists_take listed k i l) (by_place i low fresh (cases_eq i (get_or listed k 0)));
+    rows = λ i low fresh. rw (has_take listed k i l) (by_place i low fresh (cases_eq i (get_or listed k 0)));
   }
     where
-      by_place : (i : ℕ) → i < length old → lists (row old i) place ≡ false → (i ≡ get_or listed k 0) ⊎ (i ≡ get_or listed k 0 → ⊥) → row new i ≡ cond (lists (take k listed) i || (i == get_or listed k 0)) (row old i ++ place ∷ []) (row old i)
-      by_place i low fresh (inl e) = by_test (lists (take k listed) i) refl
+      by_place : (i : ℕ) → i < length old → has (row old i) place ≡ false → (i ≡ get_or listed k 0) ⊎ (i ≡ get_or listed k 0 → ⊥) → row new i ≡ cond (has (take k listed) i || (i == get_or listed k 0)) (row old i ++ place ∷ []) (row old i)
+      by_place i low fresh (inl e) = by_test (has (take k listed) i) refl
         where
-          by_test : (t : Bool) → lists (take k listed) i ≡ t → row new i ≡ cond (t || (i == get_or listed k 0)) (row old i ++ place ∷ []) (row old i)
+          by_test : (t : Bool) → has (take k listed) i ≡ t → row new i ≡ cond (t || (i == get_or listed k 0)) (row old i ++ place ∷ []) (row old i)
           by_test true q = so.rows i low fresh ∙ ap (λ t. cond t (row old i ++ place ∷ []) (row old i)) q
           by_test false q =
               let same : row new i ≡ row old i = so.rows i low fresh ∙ ap (λ t. cond t (row old i ++ place ∷ []) (row old i)) q in
-              let there : lists (row old i) place ≡ true = last_lists (row old i) place (sym (ap (λ r. is_last r place) same) ∙ ap (λ j. is_last (row new j) place) e ∙ ends) in
+              let there : has (row old i) place ≡ true = has_last (row old i) place (sym (ap (λ r. is_last r place) same) ∙ ap (λ j. is_last (row new j) place) e ∙ ends) in
               let never : false ≡ true = sym fresh ∙ there in cc
-      by_place i low fresh (inr other) = so.rows i low fresh ∙ ap (λ t. cond t (row old i ++ place ∷ []) (row old i)) (right (lists (take k listed) i) ∙ ap (λ t. lists (take k listed) i || t) (sym (ne_eqb i (get_or listed k 0) other)))
+      by_place i low fresh (inr other) = so.rows i low fresh ∙ ap (λ t. cond t (row old i ++ place ∷ []) (row old i)) (right (has (take k listed) i) ∙ ap (λ t. has (take k listed) i || t) (sym (ne_eqb i (get_or listed k 0) other)))
         where
           right : (t : Bool) → t ≡ (t || false)
           right true = refl
@@ -68,16 +69,16 @@ module _ (old new : List (List ℕ)) (listed : List ℕ) (k place : ℕ) (l : k 
   pub pushed : at < length old → is_last (row new at) place ≡ false → IsPushedInEach old (set new at (row new at ++ place ∷ [])) (take (k + 1) listed) place
   pushed low_at ends = record {
     count = length-set new (get_or listed k 0) (row new (get_or listed k 0) ++ place ∷ []) ∙ so.count;
-    rows = λ i low fresh. rw (lists_take listed k i l) (by_place i low fresh (cases_eq i (get_or listed k 0)));
+    rows = λ i low fresh. rw (has_take listed k i l) (by_place i low fresh (cases_eq i (get_or listed k 0)));
   }
     where
-      by_place : (i : ℕ) → i < length old → lists (row old i) place ≡ false → (i ≡ get_or listed k 0) ⊎ (i ≡ get_or listed k 0 → ⊥) → row (set new (get_or listed k 0) (row new (get_or listed k 0) ++ place ∷ [])) i ≡ cond (lists (take k listed) i || (i == get_or listed k 0)) (row old i ++ place ∷ []) (row old i)
-      by_place i low fresh (inl e) = by_test (lists (take k listed) i) refl
+      by_place : (i : ℕ) → i < length old → has (row old i) place ≡ false → (i ≡ get_or listed k 0) ⊎ (i ≡ get_or listed k 0 → ⊥) → row (set new (get_or listed k 0) (row new (get_or listed k 0) ++ place ∷ [])) i ≡ cond (has (take k listed) i || (i == get_or listed k 0)) (row old i ++ place ∷ []) (row old i)
+      by_place i low fresh (inl e) = by_test (has (take k listed) i) refl
         where
-          by_test : (t : Bool) → lists (take k listed) i ≡ t → row (set new (get_or listed k 0) (row new (get_or listed k 0) ++ place ∷ [])) i ≡ cond (t || (i == get_or listed k 0)) (row old i ++ place ∷ []) (row old i)
+          by_test : (t : Bool) → has (take k listed) i ≡ t → row (set new (get_or listed k 0) (row new (get_or listed k 0) ++ place ∷ [])) i ≡ cond (t || (i == get_or listed k 0)) (row old i ++ place ∷ []) (row old i)
           by_test true q =
-              let has : row new i ≡ row old i ++ place ∷ [] = so.rows i low fresh ∙ ap (λ t. cond t (row old i ++ place ∷ []) (row old i)) q in
-              let never : false ≡ true = sym ends ∙ sym (ap (λ j. is_last (row new j) place) e) ∙ ap (λ r. is_last r place) has ∙ last_pushed (row old i) place in cc
+              let more : row new i ≡ row old i ++ place ∷ [] = so.rows i low fresh ∙ ap (λ t. cond t (row old i ++ place ∷ []) (row old i)) q in
+              let never : false ≡ true = sym ends ∙ sym (ap (λ j. is_last (row new j) place) e) ∙ ap (λ r. is_last r place) more ∙ last_pushed (row old i) place in cc
           by_test false q =
               let same : row new i ≡ row old i = so.rows i low fresh ∙ ap (λ t. cond t (row old i ++ place ∷ []) (row old i)) q in
               ap (row (set new (get_or listed k 0) (row new (get_or listed k 0) ++ place ∷ []))) e
@@ -88,7 +89,7 @@ module _ (old new : List (List ℕ)) (listed : List ℕ) (k place : ℕ) (l : k 
       by_place i low fresh (inr other) =
           get_or-set_other new (get_or listed k 0) i (row new (get_or listed k 0) ++ place ∷ []) [] other
           ∙ so.rows i low fresh
-          ∙ ap (λ t. cond t (row old i ++ place ∷ []) (row old i)) (right (lists (take k listed) i) ∙ ap (λ t. lists (take k listed) i || t) (sym (ne_eqb i (get_or listed k 0) other)))
+          ∙ ap (λ t. cond t (row old i ++ place ∷ []) (row old i)) (right (has (take k listed) i) ∙ ap (λ t. has (take k listed) i || t) (sym (ne_eqb i (get_or listed k 0) other)))
         where
           right : (t : Bool) → t ≡ (t || false)
           right true = refl
@@ -111,14 +112,14 @@ pub turned_more : (rows heads new : List (List ℕ)) (place : ℕ) → place < l
     → IsPushedInEach heads new (row rows place) place
     → (i : ℕ) → i < length rows → row new i ≡ filter (λ k. links rows k i) (range_with_len 0 (place + 1))
 turned_more rows heads new place here long so pushed i low =
-    pushed.rows i (omega (arith, low, long)) (ap (λ r. lists r place) (so i low) ∙ filter_fresh (λ k. links rows k i) place place 0 (omega arith))
+    pushed.rows i (omega (arith, low, long)) (ap (λ r. has r place) (so i low) ∙ filter_fresh (λ k. links rows k i) place place 0 (omega arith))
     ∙ by_test (links rows place i) refl
     ∙ sym (ap (filter (λ k. links rows k i)) (range_more 0 place) ∙ filter-append (λ k. links rows k i) (range_with_len 0 place) ((0 + place) ∷ []))
   where
     zero_more : (0 + place) ≡ place
     zero_more = grind arith
 
-    by_test : (t : Bool) → links rows place i ≡ t → cond (lists (row rows place) i) (row heads i ++ place ∷ []) (row heads i) ≡ filter (λ k. links rows k i) (range_with_len 0 place) ++ filter (λ k. links rows k i) ((0 + place) ∷ [])
+    by_test : (t : Bool) → links rows place i ≡ t → cond (has (row rows place) i) (row heads i ++ place ∷ []) (row heads i) ≡ filter (λ k. links rows k i) (range_with_len 0 place) ++ filter (λ k. links rows k i) ((0 + place) ∷ [])
     by_test true q =
         ap (λ t. cond t (row heads i ++ place ∷ []) (row heads i)) q
         ∙ ap (λ r. r ++ place ∷ []) (so i low)

@@ -8,48 +8,49 @@ use Rattle.std.specs.Ordering.{nat_cmp}
 use Rattle.std.proofs.lemmas.List.Sorted.{IsNonDecreasingBy-from_sort, searched}
 use Rattle.std.proofs.lemmas.Bool.{or_left, or_right, or_cases, or_from, eqb-true, eq-eqb, ne_eqb, cases_eq}
 use Rattle.std.proofs.lemmas.Map.Keys.{IsDistinct-tail, apart_from_distinct}
-use Rattle.smil_graph.specs.Links.{lists, IsRising}
+use Rattle.smil_model.specs.document.Closure.{has}
+use Rattle.smil_graph.specs.Links.{IsRising}
 use Rattle.smil_graph.specs.Places.{before}
-use Rattle.smil_graph.proofs.Lists.{index_of, lists_get}
+use Rattle.smil_graph.proofs.Lists.{index_of, has_get}
 
-pub filter_fresh : (p : ℕ → Bool) (n x a : ℕ) → a + n ≤ x → lists (filter p (range_with_len a n)) x ≡ false
+pub filter_fresh : (p : ℕ → Bool) (n x a : ℕ) → a + n ≤ x → has (filter p (range_with_len a n)) x ≡ false
 filter_fresh p zero x a l = refl
 filter_fresh p (suc n) x a l = step (p a) (filter_fresh p n x (a + 1) (omega (arith, l)))
   where
-    step : (t : Bool) → lists (filter p (range_with_len (a + 1) n)) x ≡ false → lists (cond t (a ∷ filter p (range_with_len (a + 1) n)) (filter p (range_with_len (a + 1) n))) x ≡ false
-    step true q = let apart : x == a ≡ false = ne_eqb x a (λ e. absurd (omega (arith, e, l))) in rw apart q
+    step : (t : Bool) → has (filter p (range_with_len (a + 1) n)) x ≡ false → has (cond t (a ∷ filter p (range_with_len (a + 1) n)) (filter p (range_with_len (a + 1) n))) x ≡ false
+    step true q = let apart : a == x ≡ false = ne_eqb a x (λ e. absurd (omega (arith, e, l))) in rw apart q
     step false q = q
 
-pub lists_filter : (f : ℕ → Bool) (n a i : ℕ) → a ≤ i → i < a + n → lists (filter f (range_with_len a n)) i ≡ f i
-lists_filter f zero a i l h = absurd (omega (arith, l, h))
-lists_filter f (suc n) a i l h = by_case (cases_eq i a) (lists_filter f n (a + 1) i)
+pub has_in_range : (f : ℕ → Bool) (n a i : ℕ) → a ≤ i → i < a + n → has (filter f (range_with_len a n)) i ≡ f i
+has_in_range f zero a i l h = absurd (omega (arith, l, h))
+has_in_range f (suc n) a i l h = by_case (cases_eq i a) (has_in_range f n (a + 1) i)
   where
-    past : (n a : ℕ) → i < a → lists (filter f (range_with_len a n)) i ≡ false
+    past : (n a : ℕ) → i < a → has (filter f (range_with_len a n)) i ≡ false
     past zero a less = refl
     past (suc n) a less = step (f a) (past n (a + 1) (omega (arith, less)))
       where
-        step : (t : Bool) → lists (filter f (range_with_len (a + 1) n)) i ≡ false → lists (cond t (a ∷ filter f (range_with_len (a + 1) n)) (filter f (range_with_len (a + 1) n))) i ≡ false
-        step true q = or_from _ _ (ne_eqb i a (λ e. absurd (omega (arith, e, less)))) q
+        step : (t : Bool) → has (filter f (range_with_len (a + 1) n)) i ≡ false → has (cond t (a ∷ filter f (range_with_len (a + 1) n)) (filter f (range_with_len (a + 1) n))) i ≡ false
+        step true q = or_from _ _ (ne_eqb a i (λ e. absurd (omega (arith, e, less)))) q
         step false q = q
 
-    here : (t : Bool) → i ≡ a → f a ≡ t → lists (cond t (a ∷ filter f (range_with_len (a + 1) n)) (filter f (range_with_len (a + 1) n))) i ≡ t
-    here true e q = or_left _ _ (eq-eqb i a e)
+    here : (t : Bool) → i ≡ a → f a ≡ t → has (cond t (a ∷ filter f (range_with_len (a + 1) n)) (filter f (range_with_len (a + 1) n))) i ≡ t
+    here true e q = or_left _ _ (eq-eqb a i (sym e))
     here false e q = past n (a + 1) (omega (arith, e))
 
-    other : (t : Bool) → (i ≡ a → ⊥) → lists (filter f (range_with_len (a + 1) n)) i ≡ f i → lists (cond t (a ∷ filter f (range_with_len (a + 1) n)) (filter f (range_with_len (a + 1) n))) i ≡ f i
-    other true o q = ap (λ t. t || lists (filter f (range_with_len (a + 1) n)) i) (ne_eqb i a o) ∙ q
+    other : (t : Bool) → (i ≡ a → ⊥) → has (filter f (range_with_len (a + 1) n)) i ≡ f i → has (cond t (a ∷ filter f (range_with_len (a + 1) n)) (filter f (range_with_len (a + 1) n))) i ≡ f i
+    other true o q = ap (λ t. t || has (filter f (range_with_len (a + 1) n)) i) (ne_eqb a i (λ e. o (sym e))) ∙ q
     other false o q = q
 
-    by_case : (i ≡ a) ⊎ (i ≡ a → ⊥) → (a + 1 ≤ i → i < (a + 1) + n → lists (filter f (range_with_len (a + 1) n)) i ≡ f i) → lists (cond (f a) (a ∷ filter f (range_with_len (a + 1) n)) (filter f (range_with_len (a + 1) n))) i ≡ f i
+    by_case : (i ≡ a) ⊎ (i ≡ a → ⊥) → (a + 1 ≤ i → i < (a + 1) + n → has (filter f (range_with_len (a + 1) n)) i ≡ f i) → has (cond (f a) (a ∷ filter f (range_with_len (a + 1) n)) (filter f (range_with_len (a + 1) n))) i ≡ f i
     by_case (inl e) later = here (f a) e refl ∙ ap f (sym e)
     by_case (inr o) later = other (f a) o (later (grind (arith, o, l)) (omega (arith, h)))
 
 -- what is listed lies in the range and passes
-pub filter_below : (f : ℕ → Bool) (n i : ℕ) → lists (filter f (range_with_len 0 n)) i ≡ true → (i < n) × (f i ≡ true)
+pub filter_below : (f : ℕ → Bool) (n i : ℕ) → has (filter f (range_with_len 0 n)) i ≡ true → (i < n) × (f i ≡ true)
 filter_below f n i q = by_case (grind arith)
   where
     by_case : (i < n) ⊎ (n ≤ i) → (i < n) × (f i ≡ true)
-    by_case (inl l) = (l, sym (lists_filter f n 0 i (omega arith) (omega (arith, l))) ∙ q)
+    by_case (inl l) = (l, sym (has_in_range f n 0 i (omega arith) (omega (arith, l))) ∙ q)
     by_case (inr l) = let never : false ≡ true = sym (filter_fresh f n i 0 (omega (arith, l))) ∙ q in absurd (cc)
 
 pub filter_same : (f g : ℕ → Bool) (n a : ℕ) → ((k : ℕ) → a ≤ k → k < a + n → f k ≡ g k) → filter f (range_with_len a n) ≡ filter g (range_with_len a n)
@@ -86,7 +87,7 @@ pub sorted_rising : (xs : List ℕ) → IsSorted nat_cmp xs → IsDistinct nat_e
 sorted_rising xs up d = rising xs (λ i j l h. IsNonDecreasingBy-from_sort (λ x. x) xs up i j 0 l h) d
 
 -- a rising list is what passes its test in the range
-pub rising_is : (f : ℕ → Bool) (n a : ℕ) (xs : List ℕ) → IsRising xs → ((i : ℕ) → lists xs i ≡ true → (a ≤ i) × (i < a + n)) → ((i : ℕ) → a ≤ i → i < a + n → lists xs i ≡ f i) → xs ≡ filter f (range_with_len a n)
+pub rising_is : (f : ℕ → Bool) (n a : ℕ) (xs : List ℕ) → IsRising xs → ((i : ℕ) → has xs i ≡ true → (a ≤ i) × (i < a + n)) → ((i : ℕ) → a ≤ i → i < a + n → has xs i ≡ f i) → xs ≡ filter f (range_with_len a n)
 rising_is f zero a [] up in_range same = refl
 rising_is f zero a (x ∷ xs) up in_range same = let bounds = in_range x (or_left _ _ (eq-eqb x x refl)) in absurd (omega (arith, bounds.0, bounds.1))
 rising_is f (suc n) a xs up in_range same = by_test (f a) refl (λ ys. rising_is f n (a + 1) ys)
@@ -94,21 +95,21 @@ rising_is f (suc n) a xs up in_range same = by_test (f a) refl (λ ys. rising_is
     later : (i : ℕ) → (i ≡ a → ⊥) → a ≤ i → a + 1 ≤ i
     later i o l = grind (arith, o, l)
 
-    by_test : (t : Bool) → f a ≡ t → ((ys : List ℕ) → IsRising ys → ((i : ℕ) → lists ys i ≡ true → (a + 1 ≤ i) × (i < (a + 1) + n)) → ((i : ℕ) → a + 1 ≤ i → i < (a + 1) + n → lists ys i ≡ f i) → ys ≡ filter f (range_with_len (a + 1) n)) → xs ≡ cond (f a) (a ∷ filter f (range_with_len (a + 1) n)) (filter f (range_with_len (a + 1) n))
+    by_test : (t : Bool) → f a ≡ t → ((ys : List ℕ) → IsRising ys → ((i : ℕ) → has ys i ≡ true → (a + 1 ≤ i) × (i < (a + 1) + n)) → ((i : ℕ) → a + 1 ≤ i → i < (a + 1) + n → has ys i ≡ f i) → ys ≡ filter f (range_with_len (a + 1) n)) → xs ≡ cond (f a) (a ∷ filter f (range_with_len (a + 1) n)) (filter f (range_with_len (a + 1) n))
     by_test false e without =
         without xs up
-        (λ i q. (later i (λ s. let never : true ≡ false = sym (ap (lists xs) (sym s) ∙ q) ∙ same a (omega arith) (omega arith) ∙ e in absurd (cc)) (in_range i q).0, omega (arith, (in_range i q).1)))
+        (λ i q. (later i (λ s. let never : true ≡ false = sym (ap (has xs) (sym s) ∙ q) ∙ same a (omega arith) (omega arith) ∙ e in absurd (cc)) (in_range i q).0, omega (arith, (in_range i q).1)))
         (λ i l h. same i (omega (arith, l)) (omega (arith, h)))
         ∙ sym (ap (λ t. cond t (a ∷ filter f (range_with_len (a + 1) n)) (filter f (range_with_len (a + 1) n))) e)
     by_test true e without = by_list xs up in_range same (same a (omega arith) (omega arith) ∙ e) ∙ sym (ap (λ t. cond t (a ∷ filter f (range_with_len (a + 1) n)) (filter f (range_with_len (a + 1) n))) e)
       where
-        by_list : (ys : List ℕ) → IsRising ys → ((i : ℕ) → lists ys i ≡ true → (a ≤ i) × (i < a + suc n)) → ((i : ℕ) → a ≤ i → i < a + suc n → lists ys i ≡ f i) → lists ys a ≡ true → ys ≡ a ∷ filter f (range_with_len (a + 1) n)
+        by_list : (ys : List ℕ) → IsRising ys → ((i : ℕ) → has ys i ≡ true → (a ≤ i) × (i < a + suc n)) → ((i : ℕ) → a ≤ i → i < a + suc n → has ys i ≡ f i) → has ys a ≡ true → ys ≡ a ∷ filter f (range_with_len (a + 1) n)
         by_list [] up' low is here = cc
         by_list (x ∷ ys) up' low is here = by_head (cases_eq a x)
           where
             by_head : (a ≡ x) ⊎ (a ≡ x → ⊥) → x ∷ ys ≡ a ∷ filter f (range_with_len (a + 1) n)
             by_head (inr o) =
-                let more : lists ys a ≡ true = sym (ap (λ t. t || lists ys a) (ne_eqb a x o)) ∙ here in
+                let more : has ys a ≡ true = sym (ap (λ t. t || has ys a) (ne_eqb x a (λ e. o (sym e)))) ∙ here in
                 let bound : a ≤ x = (low x (or_left _ _ (eq-eqb x x refl))).0 in
                 let less : x < a = up'.0 a more in
                 absurd (omega (arith, less, bound))
@@ -117,7 +118,7 @@ rising_is f (suc n) a xs up in_range same = by_test (f a) refl (λ ys. rising_is
                 ∙ ap (λ zs. a ∷ zs)
                 (without ys up'.1
                 (λ i q. (above i (up'.0 i q), omega (arith, (low i (or_right _ _ q)).1)))
-                (λ i l h. sym (ap (λ t. t || lists ys i) (ne_eqb i x (λ r. absurd (omega (arith, r, s, l))))) ∙ is i (omega (arith, l)) (omega (arith, h))))
+                (λ i l h. sym (ap (λ t. t || has ys i) (ne_eqb x i (λ r. absurd (omega (arith, r, s, l))))) ∙ is i (omega (arith, l)) (omega (arith, h))))
               where
                 above : (i : ℕ) → x < i → a + 1 ≤ i
                 above i l = omega (arith, l, s)
@@ -126,16 +127,16 @@ pub filter_rising : (f : ℕ → Bool) (n a : ℕ) → IsRising (filter f (range
 filter_rising f zero a = tt
 filter_rising f (suc n) a = step (f a) (filter_rising f n (a + 1))
   where
-    above : (n b y : ℕ) → lists (filter f (range_with_len b n)) y ≡ true → b ≤ y
+    above : (n b y : ℕ) → has (filter f (range_with_len b n)) y ≡ true → b ≤ y
     above zero b y q = cc
     above (suc n) b y q = by_test (f b) q (above n (b + 1) y)
       where
-        by_test : (t : Bool) → lists (cond t (b ∷ filter f (range_with_len (b + 1) n)) (filter f (range_with_len (b + 1) n))) y ≡ true → (lists (filter f (range_with_len (b + 1) n)) y ≡ true → b + 1 ≤ y) → b ≤ y
+        by_test : (t : Bool) → has (cond t (b ∷ filter f (range_with_len (b + 1) n)) (filter f (range_with_len (b + 1) n))) y ≡ true → (has (filter f (range_with_len (b + 1) n)) y ≡ true → b + 1 ≤ y) → b ≤ y
         by_test false r later = omega (arith, later r)
-        by_test true r later = by_case (or_cases (y == b) (lists (filter f (range_with_len (b + 1) n)) y) r)
+        by_test true r later = by_case (or_cases (b == y) (has (filter f (range_with_len (b + 1) n)) y) r)
           where
-            by_case : (y == b ≡ true) ⊎ (lists (filter f (range_with_len (b + 1) n)) y ≡ true) → b ≤ y
-            by_case (inl e) = let same : y ≡ b = eqb-true y b e in omega (arith, same)
+            by_case : (b == y ≡ true) ⊎ (has (filter f (range_with_len (b + 1) n)) y ≡ true) → b ≤ y
+            by_case (inl e) = let same : b ≡ y = eqb-true b y e in omega (arith, same)
             by_case (inr e) = omega (arith, later e)
 
     step : (t : Bool) → IsRising (filter f (range_with_len (a + 1) n)) → IsRising (cond t (a ∷ filter f (range_with_len (a + 1) n)) (filter f (range_with_len (a + 1) n)))
@@ -147,7 +148,7 @@ filter_rising f (suc n) a = step (f a) (filter_rising f n (a + 1))
 rising_up : (xs : List ℕ) → IsRising xs → (i j : ℕ) → i ≤ j → j < length xs → get_or xs i 0 ≤ get_or xs j 0
 rising_up [] up i j l h = absurd (omega (arith, h))
 rising_up (x ∷ xs) up zero zero l h = omega arith
-rising_up (x ∷ xs) up zero (suc j) l h = let low : x < get_or xs j 0 = up.0 (get_or xs j 0) (lists_get xs j (omega (arith, h))) in omega (arith, low)
+rising_up (x ∷ xs) up zero (suc j) l h = let low : x < get_or xs j 0 = up.0 (get_or xs j 0) (has_get xs j (omega (arith, h))) in omega (arith, low)
 rising_up (x ∷ xs) up (suc i) zero l h = absurd (omega (arith, l))
 rising_up (x ∷ xs) up (suc i) (suc j) l h = rising_up xs up.1 i j (omega (arith, l)) (omega (arith, h))
 
@@ -159,7 +160,7 @@ before_at : (p : ℕ) (last : Option ℕ) (xs : List ℕ) → IsRising xs → (k
 before_at p last [] up k l e = absurd (omega (arith, l))
 before_at p last (x ∷ xs) up zero l e = ap (λ t. cond t last (before p (Some x) xs)) (eq-eqb x p e)
 before_at p last (x ∷ xs) up (suc k) l e =
-    ap (λ t. cond t last (before p (Some x) xs)) (ne_eqb x p (λ s. absurd (omega (arith, up.0 p (ap (lists xs) (sym e) ∙ lists_get xs k (omega (arith, l))), s))))
+    ap (λ t. cond t last (before p (Some x) xs)) (ne_eqb x p (λ s. absurd (omega (arith, up.0 p (ap (has xs) (sym e) ∙ has_get xs k (omega (arith, l))), s))))
     ∙ before_at p (Some x) xs up.1 k (omega (arith, l)) e
     ∙ by_place k
   where

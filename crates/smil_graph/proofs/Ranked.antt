@@ -21,7 +21,8 @@ use Rattle.smil_model.specs.reach.Reach.{is_option}
 use Rattle.smil_graph.specs.declared.ordered.Rank.{Rank}
 use Rattle.smil_graph.specs.Graph.{follows_unlooped, GoesForward, IsOrder}
 use Rattle.smil_graph.specs.Tables.{AreElementLevels, with_serial, serials_of_places}
-use Rattle.smil_graph.specs.Links.{lists, row}
+use Rattle.smil_model.specs.document.Closure.{has}
+use Rattle.smil_graph.specs.Links.{row}
 use Rattle.smil_graph.specs.Places.{up, has_element, is_element_at, before, previous_of, IsTable, AreTimeChildren}
 use Rattle.smil_graph.specs.Ranks.{rank_of, rank_cmp, height_under, AreHeights}
 use Rattle.smil_graph.proofs.Answered.{element_at, only_element}
@@ -139,16 +140,16 @@ lower_place : (a b : Rank) → a.height ≡ b.height → a.place < b.place → i
 lower_place a b e l = ap (λ o. is_lt (ordering_then o (nat_cmp a.place b.place))) (equal a.height b.height e) ∙ ap is_lt (less a.place b.place l)
 
 -- the one before a place in a row is listed in it
-before_lists : (p : ℕ) (last : Option ℕ) (is : List ℕ) (q : ℕ) → before p last is ≡ Some q → (last ≡ Some q) ⊎ (lists is q ≡ true)
-before_lists p last [] q e = cc
-before_lists p last (i ∷ is) q e = step (i == p) e (before_lists p (Some i) is q)
+has_before : (p : ℕ) (last : Option ℕ) (is : List ℕ) (q : ℕ) → before p last is ≡ Some q → (last ≡ Some q) ⊎ (has is q ≡ true)
+has_before p last [] q e = cc
+has_before p last (i ∷ is) q e = step (i == p) e (has_before p (Some i) is q)
   where
-    step : (t : Bool) → cond t last (before p (Some i) is) ≡ Some q → (before p (Some i) is ≡ Some q → (Some i ≡ Some q) ⊎ (lists is q ≡ true)) → (last ≡ Some q) ⊎ (lists (i ∷ is) q ≡ true)
+    step : (t : Bool) → cond t last (before p (Some i) is) ≡ Some q → (before p (Some i) is ≡ Some q → (Some i ≡ Some q) ⊎ (has is q ≡ true)) → (last ≡ Some q) ⊎ (has (i ∷ is) q ≡ true)
     step true r later = inl r
     step false r later = inr (by_case (later r))
       where
-        by_case : (Some i ≡ Some q) ⊎ (lists is q ≡ true) → lists (i ∷ is) q ≡ true
-        by_case (inl s) = let same : i ≡ q = cc in or_left _ _ (eq-eqb q i (sym same))
+        by_case : (Some i ≡ Some q) ⊎ (has is q ≡ true) → has (i ∷ is) q ≡ true
+        by_case (inl s) = let same : i ≡ q = cc in or_left _ _ (eq-eqb i q same)
         by_case (inr s) = or_right _ _ s
 
 -- ---- serials
@@ -228,15 +229,15 @@ module _ (nodes : List Node) (distinct : IsDistinct nodes) (tps : List (Option �
         siblings None u r = cc
         siblings (Some p) u r = by_seq (has_kind is_seq_kind (slice_get nodes p)) r
           where
-            listed : (None ≡ Some i) ⊎ (lists (row children p) i ≡ true) → get_or heights i 0 ≡ get_or heights j 0
+            listed : (None ≡ Some i) ⊎ (has (row children p) i ≡ true) → get_or heights i 0 ≡ get_or heights j 0
             listed (inl never) = cc
             listed (inr t) =
-                let low = filter_below (λ k. is_element_at nodes k && is_option p (up tps k)) (length nodes) i (sym (ap (λ r. lists r i) (as_children p)) ∙ t) in
+                let low = filter_below (λ k. is_element_at nodes k && is_option p (up tps k)) (length nodes) i (sym (ap (λ r. has r i) (as_children p)) ∙ t) in
                 let parent : up tps i ≡ Some p = place_is p (up tps i) (and_parts (is_element_at nodes i) (is_option p (up tps i)) low.1).1 in
                 omega (arith, high.each i p i_low parent, high.each j p j_low u)
 
             by_seq : (t : Bool) → cond t (before j None (row children p)) None ≡ Some i → get_or heights i 0 ≡ get_or heights j 0
-            by_seq true s = listed (before_lists j None (row children p) i s)
+            by_seq true s = listed (has_before j None (row children p) i s)
             by_seq false s = cc
 
     by_sync : (list_any (is_sync_with nodes x.serial) (all_items nodes e) && not (leads_to nodes e.serial x.serial)) ≡ true → is_lt (rank_cmp (rank i) (rank j)) ≡ true

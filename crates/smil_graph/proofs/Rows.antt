@@ -6,7 +6,8 @@ use Rattle.smil_model.specs.declared.document.Node.{Node}
 use Rattle.smil_model.specs.declared.document.Item.{Item}
 use Rattle.smil_model.specs.document.Document.{is_element}
 use Rattle.smil_model.specs.reach.Reach.{is_option}
-use Rattle.smil_graph.specs.Links.{lists, row, links, AreRows}
+use Rattle.smil_model.specs.document.Closure.{has}
+use Rattle.smil_graph.specs.Links.{row, links, AreRows}
 use Rattle.smil_graph.specs.Places.{leads_to_place, follows, hears, element_follows, element_hears}
 use Rattle.smil_laws.proofs.Lists.{take-suc_at}
 
@@ -25,7 +26,7 @@ row_length : (xs : List (List ℕ)) (y : List ℕ) → length (xs ++ y ∷ []) �
 row_length [] y = refl
 row_length (x ∷ xs) y = let rest : length (xs ++ y ∷ []) ≡ length xs + 1 = row_length xs y in omega (arith, rest)
 
-pub rows_step : (test : ℕ → ℕ → Bool) (k : ℕ) (rows : List (List ℕ)) (new : List ℕ) → AreRows k test rows → ((j : ℕ) → lists new j ≡ test k j) → AreRows (k + 1) test (rows ++ new ∷ [])
+pub rows_step : (test : ℕ → ℕ → Bool) (k : ℕ) (rows : List (List ℕ)) (new : List ℕ) → AreRows k test rows → ((j : ℕ) → has new j ≡ test k j) → AreRows (k + 1) test (rows ++ new ∷ [])
 rows_step test k rows new so here = record {
   long = row_length rows new ∙ ap (λ m. m + 1) so.long;
   each = λ i j l. by_place i j (split i l);
@@ -35,8 +36,8 @@ rows_step test k rows new so here = record {
     split i l = grind arith
 
     by_place : (i j : ℕ) → (i < k) ⊎ (i ≡ k) → links (rows ++ new ∷ []) i j ≡ test i j
-    by_place i j (inl l) = ap (λ r. lists r j) (front_row rows new i (omega (arith, l, so.long))) ∙ so.each i j l
-    by_place i j (inr e) = ap (λ m. lists (row (rows ++ new ∷ []) m) j) (e ∙ sym so.long) ∙ ap (λ r. lists r j) (end_row rows new) ∙ here j ∙ ap (λ m. test m j) (sym e)
+    by_place i j (inl l) = ap (λ r. has r j) (front_row rows new i (omega (arith, l, so.long))) ∙ so.each i j l
+    by_place i j (inr e) = ap (λ m. has (row (rows ++ new ∷ []) m) j) (e ∙ sym so.long) ∙ ap (λ r. has r j) (end_row rows new) ∙ here j ∙ ap (λ m. test m j) (sym e)
 
 -- ---- one item more
 
@@ -62,27 +63,27 @@ leads_more of items k item p i old mid new here is so pushed =
 
 -- ---- rows of a node
 
-pub feeder_row : (o : Option Node) (n : Node) (children : List ℕ) (previous : Option ℕ) (named : List ℕ → Option ℕ) (i : ℕ) (new empty : List ℕ) → empty ≡ [] → Some n ≡ o → lists new i ≡ (lists empty i || (is_element n && follows children previous named n i)) → lists new i ≡ element_follows children previous named o i
+pub feeder_row : (o : Option Node) (n : Node) (children : List ℕ) (previous : Option ℕ) (named : List ℕ → Option ℕ) (i : ℕ) (new empty : List ℕ) → empty ≡ [] → Some n ≡ o → has new i ≡ (has empty i || (is_element n && follows children previous named n i)) → has new i ≡ element_follows children previous named o i
 feeder_row o n children previous named i new empty none at pushed =
     pushed
-    ∙ ap (λ r. lists r i || (is_element n && follows children previous named n i)) none
+    ∙ ap (λ r. has r i || (is_element n && follows children previous named n i)) none
     ∙ ap (λ z. element_follows children previous named z i) at
 
-pub no_feeder_row : (o : Option Node) (children : List ℕ) (previous : Option ℕ) (named : List ℕ → Option ℕ) (i : ℕ) (new : List ℕ) → new ≡ [] → None ≡ o → lists new i ≡ element_follows children previous named o i
-no_feeder_row o children previous named i new none at = ap (λ r. lists r i) none ∙ ap (λ z. element_follows children previous named z i) at
+pub no_feeder_row : (o : Option Node) (children : List ℕ) (previous : Option ℕ) (named : List ℕ → Option ℕ) (i : ℕ) (new : List ℕ) → new ≡ [] → None ≡ o → has new i ≡ element_follows children previous named o i
+no_feeder_row o children previous named i new none at = ap (λ r. has r i) none ∙ ap (λ z. element_follows children previous named z i) at
 
-pub source_row : (o : Option Node) (n : Node) (read : List ℕ) (named : List ℕ → Option ℕ) (place i : ℕ) (new mid : List ℕ) → lists mid i ≡ lists read i → Some n ≡ o → lists new i ≡ (lists mid i || (is_element n && hears named place n i)) → lists new i ≡ (lists read i || element_hears named place o i)
+pub source_row : (o : Option Node) (n : Node) (read : List ℕ) (named : List ℕ → Option ℕ) (place i : ℕ) (new mid : List ℕ) → has mid i ≡ has read i → Some n ≡ o → has new i ≡ (has mid i || (is_element n && hears named place n i)) → has new i ≡ (has read i || element_hears named place o i)
 source_row o n read named place i new mid same at pushed =
-    pushed ∙ ap (λ t. t || (is_element n && hears named place n i)) same ∙ ap (λ z. lists read i || element_hears named place z i) at
+    pushed ∙ ap (λ t. t || (is_element n && hears named place n i)) same ∙ ap (λ z. has read i || element_hears named place z i) at
 
-pub no_source_row : (o : Option Node) (read : List ℕ) (named : List ℕ → Option ℕ) (place i : ℕ) (mid : List ℕ) → lists mid i ≡ lists read i → None ≡ o → lists mid i ≡ (lists read i || element_hears named place o i)
-no_source_row o read named place i mid same at = same ∙ right (lists read i) ∙ ap (λ z. lists read i || element_hears named place z i) at
+pub no_source_row : (o : Option Node) (read : List ℕ) (named : List ℕ → Option ℕ) (place i : ℕ) (mid : List ℕ) → has mid i ≡ has read i → None ≡ o → has mid i ≡ (has read i || element_hears named place o i)
+no_source_row o read named place i mid same at = same ∙ right (has read i) ∙ ap (λ z. has read i || element_hears named place z i) at
 
-pub parent_row : (t : Bool) (p p' : Option ℕ) (i : ℕ) (new empty : List ℕ) → empty ≡ [] → t ≡ true → p ≡ p' → lists new i ≡ (lists empty i || is_option i p) → lists new i ≡ (t && is_option i p')
-parent_row t p p' i new empty none is same pushed = pushed ∙ ap (λ r. lists r i || is_option i p) none ∙ ap (is_option i) same ∙ ap (λ u. u && is_option i p') (sym is)
+pub parent_row : (t : Bool) (p p' : Option ℕ) (i : ℕ) (new empty : List ℕ) → empty ≡ [] → t ≡ true → p ≡ p' → has new i ≡ (has empty i || is_option i p) → has new i ≡ (t && is_option i p')
+parent_row t p p' i new empty none is same pushed = pushed ∙ ap (λ r. has r i || is_option i p) none ∙ ap (is_option i) same ∙ ap (λ u. u && is_option i p') (sym is)
 
-pub no_parent_row : (t : Bool) (p' : Option ℕ) (i : ℕ) (empty : List ℕ) → empty ≡ [] → t ≡ false → lists empty i ≡ (t && is_option i p')
-no_parent_row t p' i empty none isnt = ap (λ r. lists r i) none ∙ ap (λ u. u && is_option i p') (sym isnt)
+pub no_parent_row : (t : Bool) (p' : Option ℕ) (i : ℕ) (empty : List ℕ) → empty ≡ [] → t ≡ false → has empty i ≡ (t && is_option i p')
+no_parent_row t p' i empty none isnt = ap (λ r. has r i) none ∙ ap (λ u. u && is_option i p') (sym isnt)
 
 -- ---- marks
 

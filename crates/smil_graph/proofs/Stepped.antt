@@ -6,9 +6,10 @@ use Rattle.std.proofs.lemmas.List.Sums.{count_by-le-length}
 use Rattle.std.proofs.lemmas.List.{get_or-set_same, get_or-replicate, length-replicate, get_or_past, nil_from_length, get_or-map, length-map}
 use Rattle.smil_graph.specs.declared.components.Mark.{Mark}
 use Rattle.smil_graph.specs.declared.components.Mark.TheVariants.{New, Open, Done}
-use Rattle.smil_graph.specs.Links.{lists, row, links, LeadsTo, StayBelow, AreLevels}
+use Rattle.smil_model.specs.document.Closure.{has}
+use Rattle.smil_graph.specs.Links.{row, links, LeadsTo, StayBelow, AreLevels}
 use Rattle.smil_graph.specs.Components.{Grouping, IsGrouping, mark_at, opened, merged, met, followed, left, links_left, untouched, level_of, is_new, is_unfinished, IsStep}
-use Rattle.smil_graph.proofs.Lists.{lists_get}
+use Rattle.smil_graph.proofs.Lists.{has_get}
 use Rattle.smil_graph.proofs.Stacks.{top_listed, shorter_rest, no_top}
 use Rattle.smil_graph.proofs.Grouped.{two_ways, one_way, opened_kept, opened_known, still_marked, all_lead, merged_kept, merged_met, followed_kept, less_left}
 use Rattle.smil_graph.proofs.Closed.{left_kept, left_known, left_next, left_path, members_below}
@@ -24,7 +25,7 @@ module _ (rows : List (List ℕ)) (below : StayBelow (length rows) rows) (g : Gr
   here = s.placed p top_stands
 
   pub place_below : place < length rows
-  place_below = omega (arith, members_below rows g s place (lists_get g.members p top_stands), s.marks_count)
+  place_below = omega (arith, members_below rows g s place (has_get g.members p top_stands), s.marks_count)
 
   -- ---- a link is followed
   module _ (more : get_or g.next place 0 < length (row rows place)) where
@@ -32,7 +33,7 @@ module _ (rows : List (List ℕ)) (below : StayBelow (length rows) rows) (g : Gr
     target = get_or (row rows place) (get_or g.next place 0) 0
 
     link : links rows place target ≡ true
-    link = lists_get (row rows place) (get_or g.next place 0) more
+    link = has_get (row rows place) (get_or g.next place 0) more
 
     target_below : target < length rows
     target_below = below place target link
@@ -168,7 +169,7 @@ module _ (rows : List (List ℕ)) (g : Grouping) (s : IsGrouping rows g) (closed
 
   link_below : (a b : ℕ) → links rows a b ≡ true → (a < length rows) ⊎ (length rows ≤ a) → a < length rows
   link_below a b r (inl l) = l
-  link_below a b r (inr l) = let never : false ≡ true = ap (λ xs. lists xs b) (sym (get_or_past rows a [] l)) ∙ r in absurd (cc)
+  link_below a b r (inr l) = let never : false ≡ true = ap (λ xs. has xs b) (sym (get_or_past rows a [] l)) ∙ r in absurd (cc)
 
   Rises : ℕ → ℕ → Type 0
   Rises a b = (level a ≤ level b) × (level a ≡ level b → LeadsTo rows b a)

@@ -1,7 +1,8 @@
 -- Descendants, the elements near an element, and its reach, by places.
 use Rattle.std.proofs.Common.{◌≡◌, refl, sym, ◌∙◌, ap, ℕ, suc, zero, ◌<◌, List, [], ◌∷◌, length, Bool, true, false, Option, Some, None, arith, inl, inr}
-use Rattle.std.specs.Prelude.{cond, ◌==◌, ◌||◌, ◌&&◌, ◌⊎◌, filter, reverse, slice_get}
+use Rattle.std.specs.Prelude.{cond, nat_eq, ◌==◌, ◌||◌, ◌&&◌, ◌⊎◌, filter, reverse, slice_get}
 use Rattle.std.specs.List.{list_any}
+use Rattle.indexmap.specs.IndexSet.{insert_key}
 use Rattle.std.proofs.lemmas.Bool.{or_left, or_right, or_cases, and_parts, and_from, eqb-true, eq-eqb}
 use Rattle.smil_model.specs.declared.document.Node.{Node}
 use Rattle.smil_model.specs.document.Document.{Document, is_element, elements, node_at, upwards, ancestors, time_parent, is_within, has_serial, serials}
@@ -14,12 +15,12 @@ use Rattle.smil_laws.proofs.Closures.{is_closed, has_set, has_filter}
 use Rattle.smil_laws.proofs.Rounds.{find-serial}
 use Rattle.smil_laws.proofs.Ranks.{filter_has}
 use Rattle.smil_laws.proofs.Lists.{each_at}
-use Rattle.smil_graph.specs.Links.{lists, links, with_place, IsKept, IsReached, IsRising}
+use Rattle.smil_graph.specs.Links.{links, IsKept, IsReached, IsRising}
 use Rattle.smil_graph.specs.Places.{at_place, up, has_element, is_element_at, reads_place, reads_from, IsTable, IsIndex, AreTimeChildren}
 use Rattle.smil_graph.specs.Tables.{AreHeads, AreElements, AreNear, AreOf, reach_of, takes_turns, top_of, serials_of_places}
-use Rattle.smil_graph.proofs.Lists.{lists_one}
+use Rattle.smil_graph.proofs.Lists.{has_one}
 use Rattle.smil_graph.proofs.Nodes.{there, there_below, none_each, upwards_none, parent_place, chain_of, above, by_parent}
-use Rattle.smil_graph.proofs.Ranges.{filter_below, lists_filter, rising_is}
+use Rattle.smil_graph.proofs.Ranges.{filter_below, has_in_range, rising_is}
 use Rattle.smil_graph.proofs.Follow.{same_place, has_at}
 use Rattle.smil_graph.proofs.Fed.{reads_is, place_of, all_has, all_there, in_closure}
 use Rattle.smil_graph.proofs.Kept.{place_is, place_in, placed, serials_filter}
@@ -104,14 +105,14 @@ module _ (document : Document) (tree : IsNumberedTree document) (index : ℕ →
 
     is_child : (i j : ℕ) → links children i j ≡ true → (is_element_at nodes j ≡ true) × (up tps j ≡ Some i)
     is_child i j q =
-        let low = filter_below (λ p. is_element_at nodes p && is_option i (up tps p)) (length nodes) j (sym (ap (λ r. lists r j) (under i)) ∙ q) in
+        let low = filter_below (λ p. is_element_at nodes p && is_option i (up tps p)) (length nodes) j (sym (ap (λ r. has r j) (under i)) ∙ q) in
         let parts = and_parts (is_element_at nodes j) (is_option i (up tps j)) low.1 in
         (parts.0, place_is i (up tps j) parts.1)
 
     is_linked : (i j : ℕ) (y : Node) → slice_get nodes j ≡ Some y → is_element y ≡ true → up tps j ≡ Some i → links children i j ≡ true
     is_linked i j y at is e =
-        ap (λ r. lists r j) (under i)
-        ∙ lists_filter (λ p. is_element_at nodes p && is_option i (up tps p)) (length nodes) 0 j (omega arith) (omega (arith, there_below nodes j y at))
+        ap (λ r. has r j) (under i)
+        ∙ has_in_range (λ p. is_element_at nodes p && is_option i (up tps p)) (length nodes) 0 j (omega arith) (omega (arith, there_below nodes j y at))
         ∙ and_from _ _ (ap has_element at ∙ is) (ap (is_option i) e ∙ eq-eqb i i refl)
 
     abbrev within_at : Option Node → Bool
@@ -152,22 +153,22 @@ module _ (document : Document) (tree : IsNumberedTree document) (index : ℕ →
     own_within : is_within nodes x.serial x.serial ≡ true
     own_within = within_time px x here ∙ or_left _ _ (eq-eqb x.serial x.serial refl)
 
-    within_own : (i : ℕ) → lists (px ∷ []) i ≡ true → within_at (slice_get nodes i) ≡ true
-    within_own i q = by_case (or_cases (i == px) false q)
+    within_own : (i : ℕ) → has (px ∷ []) i ≡ true → within_at (slice_get nodes i) ≡ true
+    within_own i q = by_case (or_cases (px == i) false q)
       where
-        by_case : (i == px ≡ true) ⊎ (false ≡ true) → within_at (slice_get nodes i) ≡ true
-        by_case (inl e) = ap (λ k. within_at (slice_get nodes k)) (eqb-true i px e) ∙ ap within_at here ∙ and_from _ _ is_x own_within
+        by_case : (px == i ≡ true) ⊎ (false ≡ true) → within_at (slice_get nodes i) ≡ true
+        by_case (inl e) = ap (λ k. within_at (slice_get nodes k)) (sym (eqb-true px i e)) ∙ ap within_at here ∙ and_from _ _ is_x own_within
         by_case (inr e) = cc
 
     -- what is reached from x along the rows are the elements within it
-    found_within : (places : List ℕ) → IsReached children (px ∷ []) places → (j : ℕ) (y : Node) → slice_get nodes j ≡ Some y → lists places j ≡ (is_element y && is_within nodes x.serial y.serial)
+    found_within : (places : List ℕ) → IsReached children (px ∷ []) places → (j : ℕ) (y : Node) → slice_get nodes j ≡ Some y → has places j ≡ (is_element y && is_within nodes x.serial y.serial)
     found_within places reached j y at =
-        both_ways (lists places j) (is_element y && is_within nodes x.serial y.serial)
+        both_ways (has places j) (is_element y && is_within nodes x.serial y.serial)
         (λ q. sym (ap within_at at) ∙ reached.least (λ k. within_at (slice_get nodes k)) within_own within_kept j q)
         (λ q. let parts = and_parts (is_element y) (is_within nodes x.serial y.serial) q in
-        spread (lists places) (reached.begun px (or_left _ _ (eq-eqb px px refl))) reached.kept (suc j) j (omega arith) y at parts.0 parts.1)
+        spread (has places) (reached.begun px (or_left _ _ (eq-eqb px px refl))) reached.kept (suc j) j (omega arith) y at parts.0 parts.1)
 
-    found_elements : (places : List ℕ) → IsReached children (px ∷ []) places → (j : ℕ) → lists places j ≡ true → is_element_at nodes j ≡ true
+    found_elements : (places : List ℕ) → IsReached children (px ∷ []) places → (j : ℕ) → has places j ≡ true → is_element_at nodes j ≡ true
     found_elements places reached j q = by_node (slice_get nodes j) refl (reached.least (λ k. within_at (slice_get nodes k)) within_own within_kept j q)
       where
         by_node : (o : Option Node) → slice_get nodes j ≡ o → within_at (slice_get nodes j) ≡ true → is_element_at nodes j ≡ true
@@ -195,13 +196,13 @@ module _ (document : Document) (tree : IsNumberedTree document) (index : ℕ →
             ∙ or_right _ _ (ap (λ o. within_of z.serial (at_place nodes o)) u ∙ ap (within_of z.serial) at ∙ own_within tps children table under q z at is_z)
 
     module _ (new : List ℕ) where
-      by_parent_place : (o : Option ℕ) → up tps place ≡ o → (found : List ℕ) → IsReached children (top_of document.nodes o place ∷ []) found → ((i : ℕ) → lists new i ≡ (lists found i || is_option i o)) → AreNear document.nodes place new
+      by_parent_place : (o : Option ℕ) → up tps place ≡ o → (found : List ℕ) → IsReached children (top_of document.nodes o place ∷ []) found → ((i : ℕ) → has new i ≡ (has found i || is_option i o)) → AreNear document.nodes place new
       by_parent_place None u found reached so = record {
-        elements = λ j q. found_elements tps children table under place x here is_x found reached j (right (lists found j) ∙ sym (so j) ∙ q);
+        elements = λ j q. found_elements tps children table under place x here is_x found reached j (right (has found j) ∙ sym (so j) ∙ q);
         near = λ j y e a b is.
             let one : Some y ≡ Some x = sym a ∙ here in
             let same : y ≡ x = cc in
-            so j ∙ sym (right (lists found j)) ∙ found_within tps children table under place x here is_x found reached j e b
+            so j ∙ sym (right (has found j)) ∙ found_within tps children table under place x here is_x found reached j e b
             ∙ ap (λ t. t && is_within nodes x.serial e.serial) is
             ∙ right (is_within nodes x.serial e.serial)
             ∙ sym (ap (λ o. near_by o x.serial e.serial) (table.node place x here ∙ ap (at_place nodes) u))
@@ -216,7 +217,7 @@ module _ (document : Document) (tree : IsNumberedTree document) (index : ℕ →
             where
               by_turns : (z : Node) → slice_get nodes q ≡ Some z → time_parent nodes x.serial ≡ Some z → is_element z ≡ true → (t : Bool) → takes_turns (Some z) ≡ t → AreNear document.nodes place new
               by_turns z at parent is_z t turns = record {
-                elements = λ j r. by_listed j (or_cases (lists found j) (j == q) (sym (so j) ∙ r)) t top;
+                elements = λ j r. by_listed j (or_cases (has found j) (j == q) (sym (so j) ∙ r)) t top;
                 near = λ j y e a b is.
                     let one : Some y ≡ Some x = sym a ∙ here in
                     let same : y ≡ x = cc in
@@ -230,7 +231,7 @@ module _ (document : Document) (tree : IsNumberedTree document) (index : ℕ →
                   top : IsReached children ((cond t q place) ∷ []) found
                   top = let is : top_of nodes (Some q) place ≡ cond t q place = ap (λ o. cond (takes_turns o) q place) at ∙ ap (λ b. cond b q place) turns in rw is at reached
 
-                  by_listed : (j : ℕ) → (lists found j ≡ true) ⊎ (j == q ≡ true) → (t : Bool) → IsReached children ((cond t q place) ∷ []) found → is_element_at nodes j ≡ true
+                  by_listed : (j : ℕ) → (has found j ≡ true) ⊎ (j == q ≡ true) → (t : Bool) → IsReached children ((cond t q place) ∷ []) found → is_element_at nodes j ≡ true
                   by_listed j (inl r) true reached = found_elements tps children table under q z at is_z found reached j r
                   by_listed j (inl r) false reached = found_elements tps children table under place x here is_x found reached j r
                   by_listed j (inr r) t reached = ap (is_element_at nodes) (eqb-true j q r) ∙ ap has_element at ∙ is_z
@@ -252,7 +253,7 @@ module _ (document : Document) (tree : IsNumberedTree document) (index : ℕ →
                   with_outer false true false f = let never : false ≡ true = f refl in absurd (cc)
                   with_outer false false false f = refl
 
-                  by_found : (j : ℕ) (e : Node) → slice_get nodes j ≡ Some e → is_element e ≡ true → (t : Bool) → IsReached children ((cond t q place) ∷ []) found → (lists found j || (j == q)) ≡ ((has_serial e.serial (Some z) || is_within nodes x.serial e.serial) || (t && shares_parent nodes (Some z) e.serial))
+                  by_found : (j : ℕ) (e : Node) → slice_get nodes j ≡ Some e → is_element e ≡ true → (t : Bool) → IsReached children ((cond t q place) ∷ []) found → (has found j || (j == q)) ≡ ((has_serial e.serial (Some z) || is_within nodes x.serial e.serial) || (t && shares_parent nodes (Some z) e.serial))
                   by_found j e b is true reached =
                       ap (λ w. w || (j == q)) (found_within tps children table under q z at is_z found reached j e b ∙ ap (λ v. v && is_within nodes z.serial e.serial) is)
                       ∙ with_outer (is_within nodes z.serial e.serial) (is_within nodes x.serial e.serial) (j == q) (outer q z u at is_z j e b is)
@@ -262,7 +263,7 @@ module _ (document : Document) (tree : IsNumberedTree document) (index : ℕ →
                       ∙ with_own (is_within nodes x.serial e.serial) (j == q)
                       ∙ ap (λ p. (p || is_within nodes x.serial e.serial) || false) (sym (is_parent j e b))
 
-  near_is : (tps : List (Option ℕ)) (children : List (List ℕ)) → IsTable document.nodes (λ n. time_parent document.nodes n.serial) tps → AreTimeChildren document.nodes tps children → (place : ℕ) → is_element_at document.nodes place ≡ true → (found new : List ℕ) → IsReached children (top_of document.nodes (up tps place) place ∷ []) found → ((i : ℕ) → lists new i ≡ (lists found i || is_option i (up tps place))) → AreNear document.nodes place new
+  near_is : (tps : List (Option ℕ)) (children : List (List ℕ)) → IsTable document.nodes (λ n. time_parent document.nodes n.serial) tps → AreTimeChildren document.nodes tps children → (place : ℕ) → is_element_at document.nodes place ≡ true → (found new : List ℕ) → IsReached children (top_of document.nodes (up tps place) place ∷ []) found → ((i : ℕ) → has new i ≡ (has found i || is_option i (up tps place))) → AreNear document.nodes place new
   near_is tps children table under place is found new reached so = by_node (slice_get nodes place) refl is
     where
       by_node : (o : Option Node) → slice_get nodes place ≡ o → is_element_at nodes place ≡ true → AreNear document.nodes place new
@@ -285,21 +286,21 @@ module _ (document : Document) (tree : IsNumberedTree document) (index : ℕ →
     -- a link leads to an element that reads
     link_parts : (k l : ℕ) (m : Node) → slice_get nodes k ≡ Some m → links heads k l ≡ true → (n : Node) × (slice_get nodes l ≡ Some n) × (is_element n ≡ true) × (reads_node nodes m.serial n ≡ true)
     link_parts k l m at q =
-        let low = filter_below (λ j. reads_place nodes j k) (length nodes) l (sym (ap (λ r. lists r l) (are.each k (there_below nodes k m at))) ∙ q) in
+        let low = filter_below (λ j. reads_place nodes j k) (length nodes) l (sym (ap (λ r. has r l) (are.each k (there_below nodes k m at))) ∙ q) in
         let n = there nodes l low.0 in
         let both = and_parts (is_element n.0) (reads_node nodes m.serial n.0) (sym (ap (λ z. reads_from nodes z (slice_get nodes k)) n.1 ∙ ap (reads_from nodes (Some n.0)) at) ∙ low.1) in
         (n.0, n.1, both.0, both.1)
 
     link_from : (k l : ℕ) (m n : Node) → slice_get nodes k ≡ Some m → slice_get nodes l ≡ Some n → reads nodes m.serial n.serial ≡ true → links heads k l ≡ true
     link_from k l m n at b q =
-        ap (λ r. lists r l) (are.each k (there_below nodes k m at))
-        ∙ lists_filter (λ j. reads_place nodes j k) (length nodes) 0 l (omega arith) (omega (arith, there_below nodes l n b))
+        ap (λ r. has r l) (are.each k (there_below nodes k m at))
+        ∙ has_in_range (λ j. reads_place nodes j k) (length nodes) 0 l (omega arith) (omega (arith, there_below nodes l n b))
         ∙ ap (λ z. reads_from nodes z (slice_get nodes k)) b
         ∙ ap (reads_from nodes (Some n)) at
         ∙ sym (reads_is nodes distinct m.serial l n b)
         ∙ q
 
-    begun : (k : ℕ) → lists starts k ≡ true → reached_at (slice_get nodes k) ≡ true
+    begun : (k : ℕ) → has starts k ≡ true → reached_at (slice_get nodes k) ≡ true
     begun k q = by_node (slice_get nodes k) refl (inside k q)
       where
         by_node : (o : Option Node) → slice_get nodes k ≡ o → is_element_at nodes k ≡ true → reached_at (slice_get nodes k) ≡ true
@@ -321,17 +322,17 @@ module _ (document : Document) (tree : IsNumberedTree document) (index : ℕ →
             ap reached_at n.1
             ∙ and_from _ _ n.2 (is_closed (reads nodes) every set m.serial (n.0).serial inside.1 (reads_is nodes distinct m.serial l n.0 n.1 ∙ and_from _ _ n.2 n.3) (all_has nodes distinct l n.0 n.1 n.2))
 
-    found_is : (k : ℕ) → lists found k ≡ true → reached_at (slice_get nodes k) ≡ true
+    found_is : (k : ℕ) → has found k ≡ true → reached_at (slice_get nodes k) ≡ true
     found_is k q = reached.least (λ j. reached_at (slice_get nodes j)) begun kept k q
 
     abbrev found_at : Option ℕ → Bool
     found_at None = false
-    found_at (Some p) = lists found p
+    found_at (Some p) = has found p
 
     start_found : (s : ℕ) → has set s ≡ true → found_at (index s) ≡ true
     start_found s q =
         let e = all_there nodes distinct s (begins.known s q) in
-        let start : lists starts e.0 ≡ true = begins.listed e.0 e.1 e.2 e.3 ∙ ap (has set) e.4 ∙ q in
+        let start : has starts e.0 ≡ true = begins.listed e.0 e.1 e.2 e.3 ∙ ap (has set) e.4 ∙ q in
         ap (λ u. found_at (index u)) (sym e.4) ∙ ap found_at (place_of nodes distinct index all e.0 e.1 e.2) ∙ reached.begun e.0 start
 
     next_found : (y z : ℕ) → found_at (index y) ≡ true → reads nodes y z ≡ true → has every z ≡ true → found_at (index z) ≡ true
@@ -345,13 +346,13 @@ module _ (document : Document) (tree : IsNumberedTree document) (index : ℕ →
             let link : links heads k e.0 ≡ true = link_from k e.0 m.0 e.1 m.1 e.2 (ap (λ u. reads nodes u (e.1).serial) serial ∙ ap (reads nodes y) e.4 ∙ r) in
             ap (λ u. found_at (index u)) (sym e.4) ∙ ap found_at (place_of nodes distinct index all e.0 e.1 e.2) ∙ reached.kept k e.0 (sym (ap found_at q) ∙ t) link
 
-    same_at : (k : ℕ) (m : Node) → slice_get nodes k ≡ Some m → lists found k ≡ (is_element m && is_reached m.serial)
+    same_at : (k : ℕ) (m : Node) → slice_get nodes k ≡ Some m → has found k ≡ (is_element m && is_reached m.serial)
     same_at k m at =
-        both_ways (lists found k) (is_element m && is_reached m.serial)
+        both_ways (has found k) (is_element m && is_reached m.serial)
         (λ q. sym (ap reached_at at) ∙ found_is k q)
         (λ q. sym (ap found_at (place_of nodes distinct index all k m at)) ∙ in_closure (reads nodes) every set (λ s. found_at (index s)) start_found next_found m.serial (and_parts (is_element m) (is_reached m.serial) q).1)
 
-    in_range : (k : ℕ) → lists found k ≡ true → k < length nodes
+    in_range : (k : ℕ) → has found k ≡ true → k < length nodes
     in_range k q = by_node (slice_get nodes k) refl (found_is k q)
       where
         by_node : (o : Option Node) → slice_get nodes k ≡ o → reached_at (slice_get nodes k) ≡ true → k < length nodes
@@ -359,10 +360,10 @@ module _ (document : Document) (tree : IsNumberedTree document) (index : ℕ →
         by_node (Some m) e r = there_below nodes k m e
 
     -- the places that were found, in document order, are those of the reach
-    pub reach_is : (sorted : List ℕ) → IsRising sorted → ((i : ℕ) → lists sorted i ≡ lists found i) → serials_of_places document.nodes sorted ≡ reach_of document.nodes set
+    pub reach_is : (sorted : List ℕ) → IsRising sorted → ((i : ℕ) → has sorted i ≡ has found i) → serials_of_places document.nodes sorted ≡ reach_of document.nodes set
     reach_is sorted up_to same =
-        ap (serials_of_places nodes) (rising_is (lists found) (length nodes) 0 sorted up_to (λ i q. (omega arith, omega (arith, in_range i (sym (same i) ∙ q)))) (λ i l h. same i))
-        ∙ serials_filter nodes (lists found) is_reached same_at
+        ap (serials_of_places nodes) (rising_is (has found) (length nodes) 0 sorted up_to (λ i q. (omega arith, omega (arith, in_range i (sym (same i) ∙ q)))) (λ i l h. same i))
+        ∙ serials_filter nodes (has found) is_reached same_at
         ∙ own_members (λ y. has (rounds (reads nodes) every (length every) set) y || list_any (λ z. reads nodes z y) (rounds (reads nodes) every (length every) set)) every
 
 element_low : (nodes : List Node) (place : ℕ) → is_element_at nodes place ≡ true → place < length nodes
@@ -372,7 +373,7 @@ element_low nodes place is = by_node (slice_get nodes place) refl is
     by_node None e q = let never : false ≡ true = sym (ap has_element e) ∙ q in absurd (cc)
     by_node (Some x) e q = there_below nodes place x e
 
-pub starts_low : (nodes : List Node) (starts : List ℕ) → AreElements nodes starts → (i : ℕ) → lists starts i ≡ true → i < length nodes
+pub starts_low : (nodes : List Node) (starts : List ℕ) → AreElements nodes starts → (i : ℕ) → has starts i ≡ true → i < length nodes
 starts_low nodes starts inside i q = element_low nodes i (inside i q)
 
 -- the elements near one are those of the set that its reach begins with
@@ -405,8 +406,8 @@ module _ (document : Document) (tree : IsNumberedTree document) (tps : List (Opt
   from_top : IsReached children (top_of document.nodes (up tps place) place ∷ []) found
   from_top = rw tops at reached
 
-  pub near_some : (parent : ℕ) → up tps place ≡ Some parent → AreNear document.nodes place (with_place found parent)
-  near_some parent u = near_is document tree (λ s. place_in s document.nodes) (placed document.nodes) tps children table under place is found (with_place found parent) from_top (λ i. lists_one found parent i ∙ ap (λ o. lists found i || is_option i o) (sym u))
+  pub near_some : (parent : ℕ) → up tps place ≡ Some parent → AreNear document.nodes place (insert_key nat_eq found parent)
+  near_some parent u = near_is document tree (λ s. place_in s document.nodes) (placed document.nodes) tps children table under place is found (insert_key nat_eq found parent) from_top (λ i. has_one found parent i ∙ ap (λ o. has found i || is_option i o) (sym u))
 
   pub near_none : up tps place ≡ None → AreNear document.nodes place found
-  near_none u = near_is document tree (λ s. place_in s document.nodes) (placed document.nodes) tps children table under place is found found from_top (λ i. right (lists found i) ∙ ap (λ o. lists found i || is_option i o) (sym u))
+  near_none u = near_is document tree (λ s. place_in s document.nodes) (placed document.nodes) tps children table under place is found found from_top (λ i. right (has found i) ∙ ap (λ o. has found i || is_option i o) (sym u))

@@ -2,7 +2,8 @@
 use Rattle.std.specs.Prelude.{◌≡◌, ℕ, ◌+◌, ◌-◌, ◌*◌, ◌<◌, ◌≤◌, List, [], ◌∷◌, ◌++◌, length, take, drop, Bool, true, false, ⊤, if◌then◌else◌, nat_lt, count_by, slice_get, slice_set, slice_index, slice_index_or, replicate}
 use Rattle.smil_graph.specs.declared.components.Mark.{Mark}
 use Rattle.smil_graph.specs.declared.components.Mark.TheVariants.{New, Open, Done}
-use Rattle.smil_graph.specs.Links.{lists, row, links, LeadsTo}
+use Rattle.smil_model.specs.document.Closure.{has}
+use Rattle.smil_graph.specs.Links.{row, links, LeadsTo}
 use Rattle.smil_model.specs.reach.Reach.{is_option}
 
 -- how far a search has come
@@ -104,7 +105,7 @@ level_of closed _ = 0
 
 -- the second position is in the group of the first, or in a later one
 abbrev pub IsFrom : List ℕ → ℕ → ℕ → Type 0
-IsFrom starts p q = (s : ℕ) → lists starts s ≡ true → s ≤ p → s ≤ q
+IsFrom starts p q = (s : ℕ) → has starts s ≡ true → s ≤ p → s ≤ q
 
 -- a place that a followed link of an open one leads to is done, or in the group of that one, or in a later one
 abbrev pub IsMet : List ℕ → ℕ → Mark → Type 0
@@ -114,7 +115,7 @@ IsMet starts p (Done number) = ⊤
 
 abbrev pub IsFalling : List ℕ → Type 0
 IsFalling [] = ⊤
-IsFalling (x ∷ xs) = ((y : ℕ) → lists xs y ≡ true → y < x) × IsFalling xs
+IsFalling (x ∷ xs) = ((y : ℕ) → has xs y ≡ true → y < x) × IsFalling xs
 
 pub record IsGrouping (rows : List (List ℕ)) (g : Grouping) : Type 0 where
   pub marks_count : length g.marks ≡ length rows
@@ -126,7 +127,7 @@ pub record IsGrouping (rows : List (List ℕ)) (g : Grouping) : Type 0 where
       → LeadsTo rows a b
   pub met : (a p k : ℕ) → mark_at g.marks a ≡ Open p → k < slice_index g.next a → k < length (row rows a)
       → IsMet g.starts p (mark_at g.marks (slice_index (row rows a) k))
-  pub finished : (p : ℕ) → p < length g.members → lists g.path p ≡ false
+  pub finished : (p : ℕ) → p < length g.members → has g.path p ≡ false
       → length (row rows (slice_index g.members p)) ≤ slice_index g.next (slice_index g.members p)
   pub fresh : (a : ℕ) → mark_at g.marks a ≡ New → slice_index g.next a ≡ 0
   -- each link of a place that is done leads to one that was done before it or with it
@@ -138,8 +139,8 @@ pub record IsGrouping (rows : List (List ℕ)) (g : Grouping) : Type 0 where
   pub path : IsFalling (length g.members ∷ g.path)
   pub falling : IsFalling g.starts
   -- the place that starts an open group is on the path
-  pub on_path : (s : ℕ) → lists g.starts s ≡ true → lists g.path s ≡ true
-  pub first : 0 < length g.members → lists g.starts 0 ≡ true
+  pub on_path : (s : ℕ) → has g.starts s ≡ true → has g.path s ≡ true
+  pub first : 0 < length g.members → has g.starts 0 ≡ true
 
 -- no place becomes new again
 abbrev pub StayKnown : List Mark → List Mark → Type 0

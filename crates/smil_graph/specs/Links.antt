@@ -1,28 +1,17 @@
 -- Places that are linked: for each place a row of those to which it is linked.
 use Rattle.std.specs.Prelude.{◌≡◌, ℕ, ◌<◌, ◌≤◌, List, [], ◌∷◌, ◌++◌, length, filter, Bool, true, false, ◌==◌, if◌then◌else◌, slice_index_or}
-use Rattle.std.specs.List.{list_any, range_with_len}
+use Rattle.std.specs.List.{range_with_len}
+use Rattle.smil_model.specs.document.Closure.{has}
 
 -- ---- sets of places
 
--- whether the place is listed
-abbrev pub lists : List ℕ → ℕ → Bool
-lists places i = list_any (λ j. i == j) places
-
--- places in the order in which they came, each once
-abbrev pub with_place : List ℕ → ℕ → List ℕ
-with_place places i = if lists places i then places else places ++ i ∷ []
-
-abbrev pub with_places : List ℕ → List ℕ → List ℕ
-with_places places [] = places
-with_places places (i ∷ is) = with_places (with_place places i) is
-
 abbrev pub AreBelow : ℕ → List ℕ → Type 0
-AreBelow bound places = (i : ℕ) → lists places i ≡ true → i < bound
+AreBelow bound places = (i : ℕ) → has places i ≡ true → i < bound
 
 -- each place is below those after it
 abbrev pub IsRising : List ℕ → Type 0
 IsRising [] = Unit {0}
-IsRising (x ∷ xs) = ((y : ℕ) → lists xs y ≡ true → x < y) × IsRising xs
+IsRising (x ∷ xs) = ((y : ℕ) → has xs y ≡ true → x < y) × IsRising xs
 
 -- ---- links
 
@@ -32,7 +21,7 @@ row rows i = slice_index_or rows i []
 
 -- whether the place i is linked to j
 abbrev pub links : List (List ℕ) → ℕ → ℕ → Bool
-links rows i j = lists (row rows i) j
+links rows i j = has (row rows i) j
 
 -- so many rows, with these links
 pub record AreRows (count : ℕ) (test : ℕ → ℕ → Bool) (rows : List (List ℕ)) : Type 0 where
@@ -53,10 +42,10 @@ IsKept rows test = (i j : ℕ) → test i ≡ true → links rows i j ≡ true �
 
 -- the places are the starts and, with each place, those to which it is linked, and no others
 pub record IsReached (rows : List (List ℕ)) (starts places : List ℕ) : Type 0 where
-  pub begun : (i : ℕ) → lists starts i ≡ true → lists places i ≡ true
-  pub kept : IsKept rows (lists places)
-  pub least : (test : ℕ → Bool) → ((i : ℕ) → lists starts i ≡ true → test i ≡ true) → IsKept rows test
-      → (i : ℕ) → lists places i ≡ true → test i ≡ true
+  pub begun : (i : ℕ) → has starts i ≡ true → has places i ≡ true
+  pub kept : IsKept rows (has places)
+  pub least : (test : ℕ → Bool) → ((i : ℕ) → has starts i ≡ true → test i ≡ true) → IsKept rows test
+      → (i : ℕ) → has places i ≡ true → test i ≡ true
 
 -- j is i, or links lead from i to j
 abbrev pub LeadsTo : List (List ℕ) → ℕ → ℕ → Type 0
@@ -78,5 +67,5 @@ is_last (_ ∷ is) place = is_last is place
 -- each row that is listed has the place at its end, and the others are as before
 pub record IsPushedInEach (old new : List (List ℕ)) (listed : List ℕ) (place : ℕ) : Type 0 where
   pub count : length new ≡ length old
-  pub rows : (i : ℕ) → i < length old → lists (row old i) place ≡ false
-      → row new i ≡ (if lists listed i then row old i ++ place ∷ [] else row old i)
+  pub rows : (i : ℕ) → i < length old → has (row old i) place ≡ false
+      → row new i ≡ (if has listed i then row old i ++ place ∷ [] else row old i)

@@ -9,7 +9,8 @@ use Rattle.smil_model.specs.document.Document.{is_element, has_kind, is_seq_kind
 use Rattle.smil_model.specs.document.Defaults.{items_or, stated_list}
 use Rattle.smil_model.specs.document.Dependencies.{has_implicit_duration, feeds_node}
 use Rattle.smil_model.specs.reach.Reach.{reads_node, is_option}
-use Rattle.smil_graph.specs.Links.{lists, row}
+use Rattle.smil_model.specs.document.Closure.{has}
+use Rattle.smil_graph.specs.Links.{row}
 
 -- the node at a place that may be absent
 abbrev pub at_place : List Node → Option ℕ → Option Node
@@ -101,7 +102,7 @@ leads_to_place of items i = list_any (λ (item : Item). is_option i (of item)) i
 -- child before it in a seq, and of those that its items name
 abbrev pub follows : List ℕ → Option ℕ → (List ℕ → Option ℕ) → Node → ℕ → Bool
 follows children previous named e i =
-    (has_implicit_duration e && lists children i) || is_option i previous
+    (has_implicit_duration e && has children i) || is_option i previous
     || leads_to_place (named_by named) (items_or [] e.attrs.begin) i
     || leads_to_place (named_by named) (items_or [] e.attrs.«end») i
 

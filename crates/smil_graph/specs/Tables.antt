@@ -13,7 +13,7 @@ use Rattle.smil_model.specs.document.Closure.{closure, has}
 use Rattle.smil_model.specs.reach.Reach.{reads, is_near, is_key_item}
 use Rattle.smil_model.specs.FirstPlaces.{AreFirstPlaces}
 use Rattle.smil_graph.specs.declared.tables.Tables.{Tables}
-use Rattle.smil_graph.specs.Links.{row, lists, links, AreRows}
+use Rattle.smil_graph.specs.Links.{row, links, AreRows}
 use Rattle.smil_graph.specs.Places.{reads_place, is_element_at, IsIndex, IsTable, AreTimeChildren}
 use Rattle.smil_graph.specs.Graph.{is_looped_item, readers_of, IsOrder}
 use Rattle.smil_graph.specs.declared.waiting.TheConstants.{KEYS}
@@ -73,21 +73,21 @@ top_of nodes (Some parent) place = if takes_turns (slice_get nodes parent) then 
 
 -- the places of the elements near the one at a place: of those at which its reach begins
 pub record AreNear (nodes : List Node) (place : ℕ) (places : List ℕ) : Type 0 where
-  pub elements : (j : ℕ) → lists places j ≡ true → is_element_at nodes j ≡ true
+  pub elements : (j : ℕ) → has places j ≡ true → is_element_at nodes j ≡ true
   pub near : (j : ℕ) (x e : Node) → slice_get nodes place ≡ Some x → slice_get nodes j ≡ Some e
-      → is_element e ≡ true → lists places j ≡ is_near nodes x.serial e.serial
+      → is_element e ≡ true → has places j ≡ is_near nodes x.serial e.serial
 
 -- the elements whose serials are in a set, and those that read them, and so on
 abbrev pub reach_of : List Node → List ℕ → List ℕ
 reach_of nodes set = closure (reads nodes) (serials (elements nodes)) set
 
 abbrev pub AreElements : List Node → List ℕ → Type 0
-AreElements nodes places = (j : ℕ) → lists places j ≡ true → is_element_at nodes j ≡ true
+AreElements nodes places = (j : ℕ) → has places j ≡ true → is_element_at nodes j ≡ true
 
 -- the places of the elements whose serials are in a set, which has serials of elements alone
 pub record AreOf (nodes : List Node) (set places : List ℕ) : Type 0 where
   pub known : (s : ℕ) → has set s ≡ true → has (serials (elements nodes)) s ≡ true
-  pub listed : (j : ℕ) (e : Node) → slice_get nodes j ≡ Some e → is_element e ≡ true → lists places j ≡ has set e.serial
+  pub listed : (j : ℕ) (e : Node) → slice_get nodes j ≡ Some e → is_element e ≡ true → has places j ≡ has set e.serial
 
 -- the place that is given, if there is an element
 abbrev pub element_place : List Node → Option ℕ → Option ℕ

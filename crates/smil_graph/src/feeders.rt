@@ -6,7 +6,8 @@ ghost use Rattle.smil_model.specs.document.Defaults as defaults;
 ghost use Rattle.smil_model.specs.document.Dependencies.{has_implicit_duration};
 ghost use Rattle.smil_model.specs.document.Document as model;
 ghost use Rattle.smil_graph.specs.Links as links;
-ghost use Rattle.smil_graph.specs.Links.{lists, row, AreRows};
+ghost use Rattle.smil_model.specs.document.Closure.{has};
+ghost use Rattle.smil_graph.specs.Links.{row, AreRows};
 ghost use Rattle.smil_graph.specs.Places as places;
 ghost use Rattle.smil_graph.specs.Places.{up, leads_to_place, element_follows, feeds_place, reads_place, IsIndex, IsTable, AreTimeChildren};
 ghost use Rattle.smil_model.specs.document.Valid.{IsNumberedTree, IsDistinct};
@@ -111,7 +112,7 @@ fn push_feeders(
     place: usize,
 ) -> Result<(), AllocError>
     ensures { OnOk result ((i : ℕ)
-        → lists row.new i ≡ (lists row.old i
+        → has row.new i ≡ (has row.old i
         || (model.is_element node.now && places.follows (links.row index.now.children.now place)
         (up index.now.previous.now place)
         (λ id. get_by (λ k. bytes_eq id k.now) index.now.ids.now) node.now i))) }
@@ -132,8 +133,8 @@ fn push_children(
     time_children: &[usize],
 ) -> Result<(), AllocError>
     ensures { OnOk result ((i : ℕ)
-        → lists row.new i ≡ (lists row.old i
-        || (defaults.takes_implicit attrs.now attrs.now.dur && lists time_children.now i))) }
+        → has row.new i ≡ (has row.old i
+        || (defaults.takes_implicit attrs.now attrs.now.dur && has time_children.now i))) }
 {
     if takes_implicit(attrs) {
         push_all(row, time_children)
@@ -150,7 +151,7 @@ fn push_heard_by(
     place: usize,
 ) -> Result<(), AllocError>
     ensures { OnOk result ((i : ℕ)
-        → lists row.new i ≡ (lists row.old i
+        → has row.new i ≡ (has row.old i
         || (model.is_element node.now && places.hears
         (λ id. get_by (λ k. bytes_eq id k.now) ids.now) place node.now i))) }
 {
@@ -168,7 +169,7 @@ fn push_named(
     ids: &HashMap<&[u8], usize>,
 ) -> Result<(), AllocError>
     ensures { OnOk result ((i : ℕ)
-        → lists row.new i ≡ (lists row.old i
+        → has row.new i ≡ (has row.old i
         || leads_to_place (places.named_by (λ id. get_by (λ k. bytes_eq id k.now) ids.now))
         (defaults.items_or [] items.now) i)) }
 {
@@ -200,7 +201,7 @@ fn push_heard(
     place: usize,
 ) -> Result<(), AllocError>
     ensures { OnOk result ((i : ℕ)
-        → lists row.new i ≡ (lists row.old i
+        → has row.new i ≡ (has row.old i
         || leads_to_place (places.source_of (λ id. get_by (λ k. bytes_eq id k.now) ids.now) place)
         (defaults.items_or [] items.now) i)) }
 {

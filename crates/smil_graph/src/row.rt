@@ -2,7 +2,8 @@
 
 ghost use Rattle.std.specs.Prelude.{◌≡◌, ℕ, ◌<◌, [], ◌∷◌, ◌++◌, length, OnOk, IfOk, ◌||◌, slice_index, slice_set};
 ghost use Rattle.smil_model.specs.reach.Reach.{is_option};
-ghost use Rattle.smil_graph.specs.Links.{row, lists};
+ghost use Rattle.smil_model.specs.document.Closure.{has};
+ghost use Rattle.smil_graph.specs.Links.{row};
 
 use smil_model::GrowingList;
 use std::alloc::{AllocError, Global};
@@ -54,7 +55,7 @@ pub fn number_at(numbers: &[usize], place: usize) -> usize
 
 /// Appends all of these places.
 pub fn push_all(row: &mut GrowingList<usize>, places: &[usize]) -> Result<(), AllocError>
-    ensures { OnOk result ((i : ℕ) → lists row.new i ≡ (lists row.old i || lists places.now i)) }
+    ensures { OnOk result ((i : ℕ) → has row.new i ≡ (has row.old i || has places.now i)) }
 {
     row.append(places)?;
     Ok(())
@@ -62,7 +63,7 @@ pub fn push_all(row: &mut GrowingList<usize>, places: &[usize]) -> Result<(), Al
 
 /// Appends a place, if there is one.
 pub fn push_one(row: &mut GrowingList<usize>, place: Option<usize>) -> Result<(), AllocError>
-    ensures { OnOk result ((i : ℕ) → lists row.new i ≡ (lists row.old i || is_option i place)) }
+    ensures { OnOk result ((i : ℕ) → has row.new i ≡ (has row.old i || is_option i place)) }
 {
     match place {
         Some(place) => row.push(place),

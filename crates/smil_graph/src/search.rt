@@ -1,7 +1,8 @@
 //! What is reached along links.
 
-ghost use Rattle.std.specs.Prelude.{◌≡◌, length, OnOk, IfOk};
-ghost use Rattle.smil_graph.specs.Links.{StayBelow, AreBelow, IsReached, with_places};
+ghost use Rattle.std.specs.Prelude.{◌≡◌, length, nat_eq, OnOk, IfOk};
+ghost use Rattle.indexmap.specs.IndexSet.{insert_all};
+ghost use Rattle.smil_graph.specs.Links.{StayBelow, AreBelow, IsReached};
 
 use indexmap::IndexSet;
 use smil_model::GrowingList;
@@ -32,7 +33,7 @@ pub fn search(
 
 // Puts in each of these places.
 fn insert_all(found: &mut IndexSet<usize>, places: &[usize]) -> Result<(), AllocError>
-    ensures { OnOk result (found.new.keys ≡ with_places found.old.keys places.now) }
+    ensures { OnOk result (found.new.keys ≡ insert_all nat_eq found.old.keys places.now) }
 {
     for place in places {
         found.insert(*place)?;

@@ -7,7 +7,7 @@ use Rattle.smil_instance_rows.specs.declared.item_times.InstanceTime.{InstanceTi
 use Rattle.smil_instance_rows.specs.Rows.{from_place}
 use Rattle.smil_model.specs.Rising.{IsOrder, poured}
 use Rattle.smil_instance_rows.specs.Values.{values_of, with_value, without_value}
-use Rattle.smil_instance_rows.specs.Places.{IsInOrder, last_part, Replaces, IsUndone}
+use Rattle.smil_instance_rows.specs.Places.{IsInOrder, last_alone, Replaces, IsUndone}
 use Rattle.smil_model.proofs.Rising.{taken_put, default_free}
 use Rattle.smil_instance_rows.proofs.Merge.{first_value}
 
@@ -36,16 +36,16 @@ cut_first place first ks early =
 
 -- ---- the last alone
 
-pub last_of_more : (first : InstanceTime) (ks : List InstanceTime) → 0 < length ks → last_part (first ∷ ks) ≡ last_part ks
+pub last_of_more : (first : InstanceTime) (ks : List InstanceTime) → 0 < length ks → last_alone (first ∷ ks) ≡ last_alone ks
 last_of_more first [] some = absurd (omega (arith, some))
 last_of_more first (k ∷ ks) some = refl
 
-pub last_of_few : (ks : List InstanceTime) → length ks ≤ 1 → ks ≡ last_part ks
+pub last_of_few : (ks : List InstanceTime) → length ks ≤ 1 → ks ≡ last_alone ks
 last_of_few [] few = refl
 last_of_few (k ∷ []) few = refl
 last_of_few (k ∷ l ∷ ls) few = absurd (omega (arith, few))
 
-pub last_of_pushed : (ks : List InstanceTime) (last : InstanceTime) → last_part (ks ++ last ∷ []) ≡ last ∷ []
+pub last_of_pushed : (ks : List InstanceTime) (last : InstanceTime) → last_alone (ks ++ last ∷ []) ≡ last ∷ []
 last_of_pushed [] last = refl
 last_of_pushed (k ∷ []) last = refl
 last_of_pushed (k ∷ l ∷ ls) last = last_of_pushed (l ∷ ls) last

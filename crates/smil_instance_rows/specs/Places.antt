@@ -21,11 +21,11 @@ TakesFirst place old new first = (old ≡ first ∷ new) × (first.place < place
 abbrev pub TakesMore : List InstanceTime → List InstanceTime → InstanceTime → Type 0
 TakesMore old new first = (old ≡ first ∷ new) × (0 < length new)
 
--- the last alone
-abbrev pub last_part : List InstanceTime → List InstanceTime
-last_part [] = []
-last_part (k ∷ []) = k ∷ []
-last_part (k ∷ l ∷ ls) = last_part (l ∷ ls)
+-- the last of a list, alone
+abbrev pub last_alone : {A : Type 0} → List A → List A
+last_alone [] = []
+last_alone (x ∷ []) = x ∷ []
+last_alone (x ∷ y ∷ ys) = last_alone (y ∷ ys)
 
 -- where the values were those of the one list put into some others, they are those of the other list put into these
 abbrev pub Replaces : {A : Type 0} → (A → A → Bool) → (Time → Option A) → List InstanceTime → List InstanceTime → List A → List A → Type 0

@@ -3,7 +3,7 @@
 ghost use Rattle.std.specs.Prelude.{◌≡◌, List, [], ◌∷◌, ◌++◌, OnOk, OnErr, IfSome, IfNone, ◌≤◌, ◌<◌, length};
 ghost use Rattle.smil_instance_rows.specs.Rows.{from_place};
 ghost use Rattle.smil_instance_rows.specs.Values.{with_value, without_value};
-ghost use Rattle.smil_instance_rows.specs.Places.{IsNotAfter, TakesFirst, TakesMore, last_part, Replaces, IsUndone};
+ghost use Rattle.smil_instance_rows.specs.Places.{IsNotAfter, TakesFirst, TakesMore, last_alone, Replaces, IsUndone};
 
 use super::instant::Instant;
 use super::sorted::SortedList;
@@ -143,7 +143,7 @@ pub fn cut<T: Instant>(kept: &mut ItemTimes, sorted: &mut SortedList<T>, place: 
 
 /// Takes out all but the last, with their values. It takes no memory.
 pub fn keep_last<T: Instant>(kept: &mut ItemTimes, sorted: &mut SortedList<T>)
-    ensures kept { kept.new ≡ last_part kept.old }
+    ensures kept { kept.new ≡ last_alone kept.old }
     ensures sorted { Replaces T.at_most T.choose kept.old kept.new sorted.old sorted.new }
 {
     while let Some(first) = kept.pop_more() {

@@ -7,7 +7,7 @@ ghost use Rattle.smil_instance_rows.specs.Rows.{from_place};
 ghost use Rattle.smil_instance_rows.specs.Values.{begins_of, ends_of};
 ghost use Rattle.smil_model.specs.interval.Intervals.{has_any};
 ghost use Rattle.smil_instance_rows.specs.Readings.{row_times, first_from, first_after};
-ghost use Rattle.smil_instance_rows.specs.Places.{IsNotAfter, EndsWith, last_part};
+ghost use Rattle.smil_instance_rows.specs.Places.{IsNotAfter, EndsWith, last_alone};
 ghost use Rattle.smil_instance_rows.specs.Cells.{side_of, list_of, with_list, with_item};
 
 use super::item_times::InstanceTime;
@@ -104,7 +104,7 @@ impl InstanceRow {
     pub fn keep_last(&mut self, side: Edge, item: usize)
         requires { item < length (side_of self.old side) }
         ensures kept { self.new ≡ with_list self.old side item
-            (last_part (list_of self.old side item)) }
+            (last_alone (list_of self.old side item)) }
         ensures serial { self.new.serial ≡ self.old.serial }
     {
         match side {

@@ -2,7 +2,7 @@
 
 ghost use Rattle.std.specs.Prelude.{◌≡◌, List, [], ◌∷◌, ◌++◌, OnOk, OnErr, ◌<◌, length, None, option_copied, option_map, slice_get};
 ghost use Rattle.smil_instance_rows.specs.Rows.{from_place, Row};
-ghost use Rattle.smil_instance_rows.specs.Places.{IsNotAfter, EndsWith, last_part};
+ghost use Rattle.smil_instance_rows.specs.Places.{IsNotAfter, EndsWith, last_alone};
 ghost use Rattle.smil_instance_rows.specs.Changes.{HasCell, cell_of, with_cell};
 ghost use Rattle.smil_instance_rows.specs.Readings.{place_in, row_in, begins_in, ends_in, times_in, first_from, first_after};
 ghost use Rattle.smil_model.specs.interval.Intervals.{has_any};
@@ -113,7 +113,7 @@ impl Rows {
     /// Takes out of an item all but the last instance time. It takes no memory.
     pub fn keep_last(&mut self, cell: Cell)
         requires { HasCell self.old cell }
-        ensures { self.new ≡ with_cell self.old cell (last_part (cell_of self.old cell)) }
+        ensures { self.new ≡ with_cell self.old cell (last_alone (cell_of self.old cell)) }
     {
         self.rows[cell.row].keep_last(cell.side, cell.item);
     }

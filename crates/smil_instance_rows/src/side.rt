@@ -3,7 +3,7 @@
 ghost use Rattle.std.specs.Prelude.{◌≡◌, List, [], ◌∷◌, ◌++◌, OnOk, OnErr, ◌<◌, length, get_or, set, not, find};
 ghost use Rattle.smil_instance_rows.specs.Rows.{from_place};
 ghost use Rattle.smil_instance_rows.specs.Values.{merged};
-ghost use Rattle.smil_instance_rows.specs.Places.{IsNotAfter, EndsWith, last_part};
+ghost use Rattle.smil_instance_rows.specs.Places.{IsNotAfter, EndsWith, last_alone};
 
 use super::copies::copy_each;
 use super::instant::Instant;
@@ -84,7 +84,7 @@ impl<T: Instant> Side<T> {
     /// Takes out of an item all but the last instance time. It takes no memory.
     pub fn keep_last(&mut self, item: usize)
         requires { item < length self.old }
-        ensures { self.new ≡ set self.old item (last_part (get_or self.old item [])) }
+        ensures { self.new ≡ set self.old item (last_alone (get_or self.old item [])) }
     {
         keep_last(&mut self.items[item], &mut self.sorted);
     }

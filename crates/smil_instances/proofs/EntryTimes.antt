@@ -15,7 +15,7 @@ use Rattle.smil_model.specs.diary.Clocks.{parent_start}
 use Rattle.smil_instance_rows.specs.declared.item_times.InstanceTime.{InstanceTime}
 use Rattle.smil_instances.specs.declared.source.Source.TheVariants as source
 use Rattle.smil_instances.specs.Laws.{IsUpTo}
-use Rattle.smil_instance_rows.specs.Places.{last_part}
+use Rattle.smil_instance_rows.specs.Places.{last_alone}
 use Rattle.smil_instances.specs.Contribution.{given_edge, given_event, given_repeat, given_at, offset_given, start_time}
 use Rattle.smil_instance_rows.specs.Rows.{at_place, from_place}
 use Rattle.smil_instances.specs.SettledTimes.{at_start, heard_time, occurs_key, instances_of, offset_instances, next_of, next_offset, next_start, next_named, next_event, next_repeat, with_time}
@@ -36,11 +36,11 @@ module _ (h : History) (y : Entry) (e : Node) (side : Edge) where
   abbrev from_birth : (birth' : ℕ) (o : Option Time) (kept : List InstanceTime) → from_place birth' (with_time (length h.diary) o kept) ≡ from_place birth' (kept ++ option_to_list (at_place (length h.diary) o))
   from_birth birth' o kept = ap (from_place birth') (time_last (length h.diary) o kept)
 
-  start_taken : (offset start : ℤ) (o : Option Node) → next_start h y o offset (at_start offset start) ≡ last_part (at_start offset start ++ option_to_list (start_time h y offset o))
+  start_taken : (offset start : ℤ) (o : Option Node) → next_start h y o offset (at_start offset start) ≡ last_alone (at_start offset start ++ option_to_list (start_time h y offset o))
   start_taken offset start None = refl
   start_taken offset start (Some p) = by_test (gives_birth p.serial y.step) _
     where
-      by_test : (t : Bool) (anew : InstanceTime) → cond t (anew ∷ []) (at_start offset start) ≡ last_part (at_start offset start ++ option_to_list (cond t (Some anew) None))
+      by_test : (t : Bool) (anew : InstanceTime) → cond t (anew ∷ []) (at_start offset start) ≡ last_alone (at_start offset start ++ option_to_list (cond t (Some anew) None))
       by_test true anew = refl
       by_test false anew = refl
 

@@ -4,7 +4,7 @@ use Rattle.std.specs.Prelude.{map, get_or, set, slice_get, ◌==◌, ◌&&◌, u
 use Rattle.std.specs.Option.{option_map}
 use Rattle.std.proofs.lemmas.Bool.{eqb-true, eq-eqb, and_parts}
 use Rattle.std.proofs.lemmas.Option.{slice_get-map, unwrap_or-slice_get, slice_get_within}
-use Rattle.std.proofs.lemmas.List.{length-set}
+use Rattle.std.proofs.lemmas.List.{length-set, length-map}
 use Rattle.smil_model.specs.declared.document.Edge.{Edge}
 use Rattle.smil_model.specs.declared.document.Edge.TheVariants.{Begin, End}
 use Rattle.smil_model.specs.declared.document.Item.{Item}
@@ -236,14 +236,10 @@ module _ (h : History) where
       ap (λ (r : Row). list_of r cell.side cell.item) (sym (unwrap_or-slice_get (settled_rows h) cell.row no_row) ∙ ap (λ o. unwrap_or o no_row) (slice_get-map (row_of h) (elements h.nodes) cell.row))
       ∙ of_row cell.side cell.item (slice_get (elements h.nodes) cell.row)
 
-  map_length : {A B : Type 0} (f : A → B) (xs : List A) → length (map f xs) ≡ length xs
-  map_length f [] = refl
-  map_length f (x ∷ xs) = ap suc (map_length f xs)
-
   row_shape : (e : Node) → shape_of (row_of h e) ≡ shape_in h.nodes e
   row_shape e =
-      ap (λ n. record { serial = e.serial; begins = n; ends = length (map (instances_of h e End) (items_of h.nodes End e)) }) (map_length (instances_of h e Begin) (items_of h.nodes Begin e))
-      ∙ ap (λ n. record { serial = e.serial; begins = length (items_of h.nodes Begin e); ends = n }) (map_length (instances_of h e End) (items_of h.nodes End e))
+      ap (λ n. record { serial = e.serial; begins = n; ends = length (map (instances_of h e End) (items_of h.nodes End e)) }) (length-map (items_of h.nodes Begin e) (instances_of h e Begin))
+      ∙ ap (λ n. record { serial = e.serial; begins = length (items_of h.nodes Begin e); ends = n }) (length-map (items_of h.nodes End e) (instances_of h e End))
 
   rows_shape : (es : List Node) → map shape_of (map (row_of h) es) ≡ map (shape_in h.nodes) es
   rows_shape [] = refl

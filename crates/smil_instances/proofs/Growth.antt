@@ -10,6 +10,7 @@ use Rattle.smil_model.specs.declared.document.Edge.{Edge}
 use Rattle.smil_model.specs.declared.document.Edge.TheVariants.{Begin, End}
 use Rattle.smil_model.specs.document.Document.{elements, serials}
 use Rattle.smil_model.specs.reach.Reach.{is_option}
+use Rattle.smil_laws.proofs.Lineages.{same_eqb}
 use Rattle.smil_instance_rows.specs.declared.cell.Cell.{Cell}
 use Rattle.smil_instances.specs.Sources.{is_cell}
 use Rattle.smil_instances.specs.Dependents.{ElementDependents, cells_of, cells_in, source_in, source_or, source_under, sources_of}
@@ -121,12 +122,9 @@ pushed nodes rows at old who b cell there below own = record {
 -- ---- by serial
 
 module _ (nodes : List Node) (index : ℕ → Option ℕ) (all : IsIndex (serials (elements nodes)) index) where
-  turned : (a b : ℕ) → a == b ≡ b == a
-  turned a b = grind arith
-
   by_place : (who row : ℕ) (x : Node) → slice_get (elements nodes) row ≡ Some x → is_option row (index who) ≡ x.serial == who
   by_place who row x here =
-      all row who ∙ ap (is_option who) (slice_get-map (λ (n : Node). n.serial) (elements nodes) row ∙ ap (option_map (λ (n : Node). n.serial)) here) ∙ turned who x.serial
+      all row who ∙ ap (is_option who) (slice_get-map (λ (n : Node). n.serial) (elements nodes) row ∙ ap (option_map (λ (n : Node). n.serial)) here) ∙ same_eqb who x.serial
 
   place_below : (who row : ℕ) → Some row ≡ index who → row < length (elements nodes)
   place_below who row q = by_node (slice_get (elements nodes) row) refl

@@ -14,7 +14,7 @@ use Rattle.smil_model.specs.reach.Reach.{is_option}
 use Rattle.smil_model.proofs.FirstPlaces.{position_cons}
 use Rattle.smil_laws.proofs.Lists.{take-more_at, each_at}
 use Rattle.smil_tree.proofs.Families.{drop_at}
-use Rattle.smil_tree.proofs.Holding.{same_test}
+use Rattle.smil_laws.proofs.Lineages.{same_eqb, is_option-serial_of}
 use Rattle.smil_tree.proofs.Removed.{distinct_fewer}
 
 abbrev pub last_or : Option Node → List Node → Option Node
@@ -61,7 +61,7 @@ none_before : (ns : List Node) (i : ℕ) (n : Node) → IsDistinct ns → slice_
 none_before [] i n d at = cc
 none_before (m ∷ ms) zero n d at = refl
 none_before (m ∷ ms) (suc i) n d at =
-    ap (λ t. t || list_any (λ (k : Node). k.serial == n.serial) (take i ms)) (same_test m.serial n.serial ∙ among ms i n m.serial at d.0)
+    ap (λ t. t || list_any (λ (k : Node). k.serial == n.serial) (take i ms)) (same_eqb m.serial n.serial ∙ among ms i n m.serial at d.0)
     ∙ none_before ms i n d.1 at
 
 pub one_place : (ns : List Node) (i j : ℕ) (n m : Node) → IsDistinct ns → slice_get ns i ≡ Some n → slice_get ns j ≡ Some m → m.serial == n.serial ≡ true → j ≡ i
@@ -72,8 +72,20 @@ one_place (x ∷ xs) zero (suc j) n m d a b q =
     let never : true ≡ false = sym q ∙ ap (λ (y : Node). m.serial == y.serial) (sym one) ∙ among xs j m x.serial b d.0 in cc
 one_place (x ∷ xs) (suc i) zero n m d a b q =
     let one : x ≡ m = cc in
-    let never : true ≡ false = sym q ∙ same_test m.serial n.serial ∙ ap (λ (y : Node). n.serial == y.serial) (sym one) ∙ among xs i n x.serial a d.0 in cc
+    let never : true ≡ false = sym q ∙ same_eqb m.serial n.serial ∙ ap (λ (y : Node). n.serial == y.serial) (sym one) ∙ among xs i n x.serial a d.0 in cc
 one_place (x ∷ xs) (suc i) (suc j) n m d a b q = ap suc (one_place xs i j n m d.1 a b q)
+
+-- what stands among the elements is one
+pub element_is : (ns : List Node) (i : ℕ) (n : Node) → slice_get (elements ns) i ≡ Some n → is_element n ≡ true
+element_is ns i n at = each_at (λ (m : Node). is_element m ≡ true) (elements ns) i n (each_passes ns) at
+  where
+    each_passes : (ms : List Node) → AllByRecursion (λ (m : Node). is_element m ≡ true) (elements ms)
+    each_passes [] = tt
+    each_passes (m ∷ ms) = step (is_element m) refl (each_passes ms)
+      where
+        step : (t : Bool) → is_element m ≡ t → AllByRecursion (λ (k : Node). is_element k ≡ true) (elements ms) → AllByRecursion (λ (k : Node). is_element k ≡ true) (cond t (m ∷ elements ms) (elements ms))
+        step true e rest = (e, rest)
+        step false e rest = rest
 
 -- ---- the time children among the elements
 
@@ -86,20 +98,9 @@ module _ (nodes : List Node) where
       step true e rest = ap (λ xs. cond (is_time_child nodes p n) (n ∷ xs) xs) rest
       step false e rest = rest ∙ sym (ap (λ u. cond (u && has_serial p (time_parent nodes n.serial)) (n ∷ filter (is_time_child nodes p) ns) (filter (is_time_child nodes p) ns)) e)
 
-  is_element_at : (ns : List Node) (i : ℕ) (n : Node) → slice_get (elements ns) i ≡ Some n → is_element n ≡ true
-  is_element_at ns i n at = each_at (λ (m : Node). is_element m ≡ true) (elements ns) i n (each_passes ns) at
-    where
-      each_passes : (ms : List Node) → AllByRecursion (λ (m : Node). is_element m ≡ true) (elements ms)
-      each_passes [] = tt
-      each_passes (m ∷ ms) = step (is_element m) refl (each_passes ms)
-        where
-          step : (t : Bool) → is_element m ≡ t → AllByRecursion (λ (k : Node). is_element k ≡ true) (elements ms) → AllByRecursion (λ (k : Node). is_element k ≡ true) (cond t (m ∷ elements ms) (elements ms))
-          step true e rest = (e, rest)
-          step false e rest = rest
-
   module _ (distinct : IsDistinct nodes) (i : ℕ) (n : Node) (at : slice_get (elements nodes) i ≡ Some n) where
     child_is : (p : ℕ) → is_time_child nodes p n ≡ has_serial p (time_parent nodes n.serial)
-    child_is p = ap (λ t. t && has_serial p (time_parent nodes n.serial)) (is_element_at nodes i n at)
+    child_is p = ap (λ t. t && has_serial p (time_parent nodes n.serial)) (element_is nodes i n at)
 
     split : elements nodes ≡ take i (elements nodes) ++ n ∷ drop (i + 1) (elements nodes)
     split = sym (take-append-drop i (elements nodes)) ∙ ap (λ xs. take i (elements nodes) ++ xs) (drop_at (elements nodes) i n at)
@@ -131,14 +132,10 @@ module _ (nodes : List Node) where
         ∙ ap (λ xs. serial_of (last_of xs)) (sym (filter-append (is_time_child nodes p) (take i (elements nodes)) (n ∷ [])))
         ∙ ap (λ xs. serial_of (last_of (filter (is_time_child nodes p) xs))) (sym (take-more_at (elements nodes) i n at))
       where
-        same_parent : (o : Option Node) → is_option p (serial_of o) ≡ has_serial p o
-        same_parent None = refl
-        same_parent (Some q) = same_test p q.serial
-
         by_test : (t : Bool) → has_serial p (time_parent nodes n.serial) ≡ t → cond (is_option p (serial_of (time_parent nodes n.serial))) (Some n.serial) (old p) ≡ serial_of (last_of (filter (is_time_child nodes p) (take i (elements nodes)) ++ cond t (n ∷ []) []))
-        by_test true e = ap (λ t. cond t (Some n.serial) (old p)) (same_parent (time_parent nodes n.serial) ∙ e) ∙ ap serial_of (sym (last_push None (filter (is_time_child nodes p) (take i (elements nodes))) n))
+        by_test true e = ap (λ t. cond t (Some n.serial) (old p)) (is_option-serial_of p (time_parent nodes n.serial) ∙ e) ∙ ap serial_of (sym (last_push None (filter (is_time_child nodes p) (take i (elements nodes))) n))
         by_test false e =
-            ap (λ t. cond t (Some n.serial) (old p)) (same_parent (time_parent nodes n.serial) ∙ e) ∙ all p
+            ap (λ t. cond t (Some n.serial) (old p)) (is_option-serial_of p (time_parent nodes n.serial) ∙ e) ∙ all p
             ∙ ap (λ xs. serial_of (last_of xs)) (sym (append-nil (filter (is_time_child nodes p) (take i (elements nodes)))))
 
 -- ---- places
@@ -149,7 +146,7 @@ first_told [] distinct zero who = refl
 first_told [] distinct (suc row) who = refl
 first_told (n ∷ ns) distinct zero who =
     ap (is_option 0) (position_cons (λ s. s == who) n.serial (serials ns))
-    ∙ by_test (n.serial == who) (position (λ s. s == who) (serials ns)) (same_test who n.serial)
+    ∙ by_test (n.serial == who) (position (λ s. s == who) (serials ns)) (same_eqb who n.serial)
   where
     by_test : (t : Bool) (o : Option ℕ) → who == n.serial ≡ t → is_option 0 (cond t (Some 0) (option_map suc o)) ≡ who == n.serial
     by_test true o is = sym is

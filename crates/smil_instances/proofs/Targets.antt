@@ -11,6 +11,8 @@ use Rattle.smil_model.specs.document.Document.{Document, is_element, elements, n
 use Rattle.smil_model.specs.document.Valid.{IsDistinct, IsValid}
 use Rattle.smil_model.specs.diary.Lawful.{has_element}
 use Rattle.smil_model.specs.interval.Instances.{same_target}
+use Rattle.smil_model.specs.declared.document.Restart.{Restart}
+use Rattle.smil_model.specs.document.Defaults.{restart_of}
 use Rattle.smil_laws.proofs.Lineages.{swap_eqb}
 use Rattle.smil_laws.proofs.Aside.{find_each, find_true, find_within}
 use Rattle.smil_laws.proofs.Lists.{each_weaker, each_kept}
@@ -53,6 +55,12 @@ known_node (n ∷ ns) s q = step (is_element n) (n.serial == s) refl q (known_no
     step t true k r later = refl
     step true false k r later = later (sym (ap (λ b. is_some (cond b (Some n) (node_at (elements ns) s))) k) ∙ r)
     step false false k r later = later r
+
+-- the restart that the tree tells is the element's
+pub restart_told : (ns : List Node) (s : ℕ) (e : Node) (r : Restart) → IsDistinct ns → node_at (elements ns) s ≡ Some e → Some r ≡ option_map (restart_of ns) (node_at ns s) → r ≡ restart_of ns e
+restart_told ns s e r d at is =
+    let same : Some r ≡ Some (restart_of ns e) = is ∙ ap (option_map (restart_of ns)) (element_in ns s e d at) in
+    cc
 
 -- the attributes of an element
 pub attrs_of : (ns : List Node) (s : ℕ) (e : Node) (a : Attrs) → IsDistinct ns → node_at (elements ns) s ≡ Some e → Some a ≡ option_map (λ (n : Node). n.attrs) (node_at ns s) → a ≡ e.attrs

@@ -12,7 +12,7 @@ use Rattle.smil_instance_rows.specs.declared.item_times.InstanceTime.{InstanceTi
 use Rattle.smil_instances.specs.declared.source.Source.{Source}
 use Rattle.smil_instances.specs.declared.source.Source.TheVariants as source
 use Rattle.smil_instances.specs.Laws.{IsUpTo}
-use Rattle.smil_instance_rows.specs.Places.{last_part}
+use Rattle.smil_instance_rows.specs.Places.{last_alone}
 use Rattle.smil_instance_rows.specs.Rows.{from_place}
 use Rattle.smil_instances.specs.SettledTimes.{instances_of}
 use Rattle.smil_instances.specs.Sources.{base_of, is_concerned, is_keyed, source_of}
@@ -20,7 +20,7 @@ use Rattle.smil_instances.specs.Contribution.{given_at}
 
 -- what is still kept for an item of e with this source, by the births in the history
 abbrev pub remaining : History → ℕ → Source → List InstanceTime → List InstanceTime
-remaining h e source.Start kept = last_part kept
+remaining h e source.Start kept = last_alone kept
 remaining h e (source.Syncbase x edge) kept = from_place (min (birth h e) (birth h x)) kept
 remaining h e (source.Eventbase x) kept = from_place (birth h e) kept
 remaining h e (source.Key key) kept = from_place (birth h e) kept

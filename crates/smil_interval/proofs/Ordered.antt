@@ -1,5 +1,6 @@
 -- Lists in order, and their parts.
 use Rattle.std.proofs.Common.{◌≡◌, refl, sym, ◌∙◌, ap, ℕ, suc, zero, ◌≤◌, ◌<◌, List, [], ◌∷◌, length, drop, get_or, Bool, true, false, arith}
+use Rattle.std.proofs.lemmas.List.Sums.{length-filter, count_by-le-length}
 use Rattle.std.specs.Prelude.{cond, not, filter}
 use Rattle.std.specs.List.Sorted.{IsPartitionedBy, IsPartitionPoint}
 use Rattle.smil_model.specs.Rising.{IsRising}
@@ -15,14 +16,6 @@ filter_all p [] all = refl
 filter_all p (x ∷ xs) all =
     ap (λ t. cond t (x ∷ filter p xs) (filter p xs)) (all 0 x (omega arith))
     ∙ ap (λ ys. x ∷ ys) (filter_all p xs (λ k d inside. all (suc k) d (omega (arith, inside))))
-
-filter_shorter : {A : Type 0} (p : A → Bool) (xs : List A) → length (filter p xs) ≤ length xs
-filter_shorter p [] = omega arith
-filter_shorter p (x ∷ xs) = step (p x) (filter_shorter p xs)
-  where
-    step : (t : Bool) → length (filter p xs) ≤ length xs → length (cond t (x ∷ filter p xs) (filter p xs)) ≤ length (x ∷ xs)
-    step true rest = omega (arith, rest)
-    step false rest = omega (arith, rest)
 
 point_of_rest : {A : Type 0} (P Q : A → Type 0) (x : A) (xs : List A) (k : ℕ) → IsPartitionPoint P Q (x ∷ xs) (suc k) → IsPartitionPoint P Q xs k
 point_of_rest P Q x xs k point =
@@ -52,4 +45,4 @@ not_before true q up fails = sym (ap not (up refl)) ∙ fails
 not_before false q up fails = refl
 
 pub shorter : {A : Type 0} (p : A → Bool) (xs ys : List A) → ys ≡ filter p xs → length ys ≤ length xs
-shorter p xs ys part = let kept : length (filter p xs) ≤ length xs = filter_shorter p xs in omega (arith, ap length part, kept)
+shorter p xs ys part = omega (arith, ap length part, length-filter p xs, count_by-le-length p xs)

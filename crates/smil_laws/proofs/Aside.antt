@@ -1,9 +1,11 @@
 -- Documents that are the same but for the descendants of an element that has not begun: the same current intervals.
 use Rattle.std.proofs.Common.{◌≡◌, refl, sym, ◌∙◌, ap, ℕ, suc, zero, List, [], ◌∷◌, ◌++◌, Option, Some, None, ℤ, Bool, true, false}
-use Rattle.std.specs.Prelude.{cond, not, ◌==◌, ◌||◌, reverse, drop, find, filter, fold, map, filter_map, is_some, slice_get}
+use Rattle.std.specs.Prelude.{cond, not, ◌==◌, ◌||◌, reverse, drop, find, filter, fold, map, filter_map, is_some, slice_get, unwrap_or}
 use Rattle.std.specs.List.{AllByRecursion, list_any, cons_option}
 use Rattle.std.proofs.lemmas.Bool.{or_parts, and_parts, eqb-true}
 use Rattle.std.proofs.lemmas.List.{reverse-append}
+use Rattle.smil_model.specs.declared.times.Time.{Time}
+use Rattle.smil_model.specs.declared.times.Time.TheVariants.{Unresolved}
 use Rattle.smil_model.specs.declared.diary.Entry.{Entry}
 use Rattle.smil_model.specs.declared.diary.LogEntry.{LogEntry}
 use Rattle.smil_model.specs.declared.interval.Interval.{Interval}
@@ -13,7 +15,8 @@ use Rattle.smil_model.specs.declared.document.Node.{Node}
 use Rattle.smil_model.specs.declared.document.Item.{Item}
 use Rattle.smil_model.specs.document.Document.{is_element, elements, node_at, upwards, time_parent, has_serial, is_time_child}
 use Rattle.smil_model.specs.diary.Diary.{is_active, active_after, is_alive, lives_under, with_past}
-use Rattle.smil_model.specs.interval.Current.{interval_given}
+use Rattle.smil_model.specs.interval.Instances.{is_event, is_log_event, is_log_key, is_press}
+use Rattle.smil_model.specs.interval.Current.{interval_given, length_after, length_of, media_length}
 use Rattle.smil_laws.specs.Agreement.{IsPlaced, IsAside, is_on, SparesAll}
 use Rattle.smil_model.specs.reach.Bounds.{is_begin_of, has_begun}
 use Rattle.smil_laws.proofs.Kept.{KeepsParents}
@@ -137,6 +140,28 @@ names_itself log (x ∷ xs) = (by_step x.step, names_itself log xs)
     by_step : (step : Step) → SameLogged log log step
     by_step (Logged place) = refl
     by_step _ = tt
+
+-- what is read of the two logs
+module _ (log1 log2 : List LogEntry) where
+  pub event_same : (x : ℕ) (name : List ℕ) (step : Step) → SameLogged log1 log2 step → is_event log1 x name step ≡ is_event log2 x name step
+  event_same x name (Logged place) q = ap (is_log_event x name) q
+  event_same x name _ q = refl
+
+  pub press_same : (key : ℕ) (step : Step) → SameLogged log1 log2 step → is_press log1 key step ≡ is_press log2 key step
+  press_same key (Logged place) q = ap (is_log_key key) q
+  press_same key _ q = refl
+
+  length_same : (s : ℕ) (before : Option Time) (step : Step) → SameLogged log1 log2 step → length_after log1 s before step ≡ length_after log2 s before step
+  length_same s before (Logged place) q = ap (λ o. length_of s o before) q
+  length_same s before _ q = refl
+
+  lengths_same : (s : ℕ) (before : Option Time) (xs : List Entry) → NamesAlike log1 log2 xs → fold (λ b (x : Entry). length_after log1 s b x.step) before xs ≡ fold (λ b (x : Entry). length_after log2 s b x.step) before xs
+  lengths_same s before [] named = refl
+  lengths_same s before (x ∷ xs) named =
+      ap (λ b. fold (λ b (x : Entry). length_after log1 s b x.step) b xs) (length_same s before x.step named.0) ∙ lengths_same s (length_after log2 s before x.step) xs named.1
+
+  pub media_same : (n1 n2 : List Node) (ds : List Entry) → NamesAlike log1 log2 ds → (s : ℕ) → media_length (record { nodes = n1; log = log1; diary = ds }) s ≡ media_length (record { nodes = n2; log = log2; diary = ds }) s
+  media_same n1 n2 ds named s = ap (λ o. unwrap_or o Unresolved) (lengths_same s None ds named)
 
 pub each_both : {A : Type 0} (P Q : A → Type 0) (xs : List A) → AllByRecursion P xs → AllByRecursion Q xs → AllByRecursion (λ x. P x × Q x) xs
 each_both P Q [] p q = tt

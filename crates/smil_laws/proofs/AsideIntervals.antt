@@ -1,6 +1,6 @@
 -- Two documents that are the same but for the descendants of an element that has not begun: the same current intervals.
 use Rattle.std.proofs.Common.{◌≡◌, refl, sym, ◌∙◌, ap, ℕ, suc, zero, ◌+◌, List, [], ◌∷◌, ◌++◌, length, Option, Some, None, ℤ, Bool, true, false, arith}
-use Rattle.std.specs.Prelude.{cond, not, ◌==◌, ◌||◌, ◌&&◌, drop, find, filter, map, filter_map, flat_map, option_map, option_and_then, ◌+ℤ◌, fold, unwrap_or}
+use Rattle.std.specs.Prelude.{cond, not, ◌==◌, ◌||◌, ◌&&◌, drop, find, filter, map, filter_map, flat_map, option_map, option_and_then, ◌+ℤ◌}
 use Rattle.std.specs.List.{list_any}
 use Rattle.std.proofs.lemmas.Bool.{or_left, or_right, eqb-true, eq-eqb}
 use Rattle.std.proofs.lemmas.List.Folds.{list_any-append}
@@ -10,7 +10,7 @@ use Rattle.smil_model.specs.declared.diary.Entry.{Entry}
 use Rattle.smil_model.specs.declared.diary.LogEntry.{LogEntry}
 use Rattle.smil_model.specs.declared.interval.Interval.{Interval}
 use Rattle.smil_model.specs.declared.diary.Step.{Step}
-use Rattle.smil_model.specs.declared.diary.Step.TheVariants.{Began, Repeated, Ended, Cut, Logged}
+use Rattle.smil_model.specs.declared.diary.Step.TheVariants.{Began, Repeated, Ended, Cut}
 use Rattle.smil_model.specs.declared.document.Node.{Node}
 use Rattle.smil_model.specs.declared.document.Edge.{Edge}
 use Rattle.smil_model.specs.declared.document.Edge.TheVariants.{Begin, End}
@@ -25,11 +25,11 @@ use Rattle.smil_model.specs.diary.Diary.{History, is_active, birth, up_to, with_
 use Rattle.smil_model.specs.diary.Clocks.{outer}
 use Rattle.smil_model.specs.document.Dependencies.{leads_to, is_sync_with, has_implicit_duration}
 use Rattle.smil_model.specs.document.Closure.{has}
-use Rattle.smil_laws.proofs.Aside.{SameLogged, NamesAlike, each_both, each_drop, each_filter, map_all, filter_map_all, filter_map_none, any_each, find_within, filter_swap, with_past_each, inactive, is_out, is_aside, other_who, closed, parent_out, child_kept, no_interval}
-use Rattle.smil_model.specs.interval.Instances.{is_log_event, is_log_key, is_press, edge_time, is_same_event, hears, heard_times, is_event, is_repeat, event_times, repeat_times, offset_times, named_times, sync_times, item_times, begin_times, end_times}
+use Rattle.smil_laws.proofs.Aside.{SameLogged, NamesAlike, event_same, press_same, media_same, each_both, each_drop, each_filter, map_all, filter_map_all, filter_map_none, any_each, find_within, filter_swap, with_past_each, inactive, is_out, is_aside, other_who, closed, parent_out, child_kept, no_interval}
+use Rattle.smil_model.specs.interval.Instances.{is_press, edge_time, is_same_event, hears, heard_times, is_event, is_repeat, event_times, repeat_times, offset_times, named_times, sync_times, item_times, begin_times, end_times}
 use Rattle.smil_model.specs.interval.Durations.{stated_duration}
 use Rattle.smil_model.specs.interval.Intervals.{interval_of}
-use Rattle.smil_model.specs.interval.Current.{length_of, length_after, media_length, child_end, container_implicit, implicit_of, simple_of, present_play, facts_of, interval_given, current_interval}
+use Rattle.smil_model.specs.interval.Current.{child_end, container_implicit, implicit_of, simple_of, present_play, facts_of, interval_given, current_interval}
 use Rattle.smil_laws.specs.Agreement.{IsAside, DifferBelow, is_on, SparesAll}
 use Rattle.smil_model.specs.reach.Bounds.{has_begun}
 use Rattle.smil_laws.proofs.Kept.{parent_same, restart_same, alive_same, reset_same, deferral_same, iteration_same, passed_same, in_seq_same, own_same, parent_time_same, parent_held_same, play_start_same, iteration_start_same, parent_start_same, plays_same, children_same, sync_same}
@@ -95,23 +95,6 @@ module _ (aside : ℕ → Bool) (p : ℕ) (n1 n2 : List Node) (differ : DifferBe
       by_case false d = rw (iteration_same k n1 n2 differ.same (closed aside p n1 differ.in_old) (closed aside p n2 differ.in_new) log1 log2 past x (ap not d))
   repeat_same past x n _ q = refl
 
-  event_same : (x : ℕ) (name : List ℕ) (step : Step) → SameLogged log1 log2 step → is_event log1 x name step ≡ is_event log2 x name step
-  event_same x name (Logged place) q = ap (is_log_event x name) q
-  event_same x name _ q = refl
-
-  press_same : (key : ℕ) (step : Step) → SameLogged log1 log2 step → is_press log1 key step ≡ is_press log2 key step
-  press_same key (Logged place) q = ap (is_log_key key) q
-  press_same key _ q = refl
-
-  length_same : (s : ℕ) (before : Option Time) (step : Step) → SameLogged log1 log2 step → length_after log1 s before step ≡ length_after log2 s before step
-  length_same s before (Logged place) q = ap (λ o. length_of s o before) q
-  length_same s before _ q = refl
-
-  lengths_same : (s : ℕ) (before : Option Time) (xs : List Entry) → NamesAlike log1 log2 xs → fold (λ b (x : Entry). length_after log1 s b x.step) before xs ≡ fold (λ b (x : Entry). length_after log2 s b x.step) before xs
-  lengths_same s before [] named = refl
-  lengths_same s before (x ∷ xs) named =
-      ap (λ b. fold (λ b (x : Entry). length_after log1 s b x.step) b xs) (length_same s before x.step named.0) ∙ lengths_same s (length_after log2 s before x.step) xs named.1
-
   -- ---- a diary that spares what is set aside, and in which p has not begun
 
   module _ (ds : List Entry) (free : SparesAll aside ds) (never : has_begun ds p ≡ false) (named : NamesAlike log1 log2 ds) where
@@ -133,9 +116,6 @@ module _ (aside : ℕ → Bool) (p : ℕ) (n1 n2 : List Node) (differ : DifferBe
       where
         hear : History → (History → Step → Bool) → List Entry × Entry → Option Time
         hear h occ = λ (w : List Entry × Entry). cond (occ (up_to h w.0) (w.1).step && hears (up_to h w.0) e side item) (Some (within_horizon (outer h e.serial (w.1).moment +ℤ offset))) None
-
-    media_same : (s : ℕ) → media_length h1 s ≡ media_length h2 s
-    media_same s = ap (λ o. unwrap_or o time.Unresolved) (lengths_same s None ds named)
 
     quiet : (e : Node) (h : History) (x j : ℕ) (offset : ℤ) (edge : Edge) → k x ≡ false → filter_map (λ (y : Entry). edge_time h e.serial x offset y.moment edge y.step) (drop j ds) ≡ []
     quiet e h x j offset edge kx =
@@ -179,7 +159,7 @@ module _ (aside : ℕ → Bool) (p : ℕ) (n1 n2 : List Node) (differ : DifferBe
       implicit_same kind.Text = refl
       implicit_same kind.Brush = refl
       implicit_same kind.Set = refl
-      implicit_same _ = media_same e.serial
+      implicit_same _ = media_same log1 log2 n1 n2 ds named e.serial
 
       pub simple_same : simple_of h1 J1 e ≡ simple_of h2 J2 e
       simple_same = ap (λ t. cond (has_implicit_duration e) t (stated_duration e.attrs.dur)) (implicit_same e.kind)
@@ -207,7 +187,7 @@ module _ (aside : ℕ → Bool) (p : ℕ) (n1 n2 : List Node) (differ : DifferBe
 
       events : (side : Edge) (item : Item) (offset : ℤ) (name : List ℕ) (o : Option ℕ) → event_times h1 e side item offset name o ≡ event_times h2 e side item offset name o
       events side item offset name None = refl
-      events side item offset name (Some x) = heard_same e side item offset (λ past step. is_event past.log x name step) (λ past step. is_event past.log x name step) a (λ past step q. event_same x name step q.1)
+      events side item offset name (Some x) = heard_same e side item offset (λ past step. is_event past.log x name step) (λ past step. is_event past.log x name step) a (λ past step q. event_same log1 log2 x name step q.1)
 
       repeats : (side : Edge) (item : Item) (offset : ℤ) (n : ℕ) (o : Option ℕ) → repeat_times h1 e side item offset n o ≡ repeat_times h2 e side item offset n o
       repeats side item offset n None = refl
@@ -221,7 +201,7 @@ module _ (aside : ℕ → Bool) (p : ℕ) (n1 n2 : List Node) (differ : DifferBe
       item_same side (Repeat who n offset) mark =
           repeats side (Repeat who n offset) offset n (target n1 e.serial who) ∙ ap (repeat_times h2 e side (Repeat who n offset) offset n) (target_same e.serial who)
       item_same side (Key key offset) mark =
-          heard_same e side (Key key offset) offset (λ past step. is_press past.log key step) (λ past step. is_press past.log key step) a (λ past step q. press_same key step q.1)
+          heard_same e side (Key key offset) offset (λ past step. is_press past.log key step) (λ past step. is_press past.log key step) a (λ past step q. press_same log1 log2 key step q.1)
       item_same Begin Indefinite mark = refl
       item_same End Indefinite mark = refl
 

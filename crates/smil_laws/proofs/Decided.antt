@@ -23,7 +23,7 @@ pub record Advances (c : Course) (q r : Progress) : Type 0 where
   pub within : q.moment ≤ c.last → r.moment ≤ c.last
   pub heard : q.heard ≤ length c.log → r.heard ≤ length c.log
 
-in_log : (i : ℕ) (es : List LogEntry) (x : LogEntry) → slice_get es i ≡ Some x → suc i ≤ length es
+pub in_log : (i : ℕ) (es : List LogEntry) (x : LogEntry) → slice_get es i ≡ Some x → suc i ≤ length es
 in_log i [] x q = cc
 in_log zero (y ∷ ys) x q = omega arith
 in_log (suc i) (y ∷ ys) x q = let rest = in_log i ys x q in omega (arith, rest)

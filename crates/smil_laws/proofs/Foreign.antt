@@ -118,6 +118,10 @@ pub fold_same : {A B : Type 0} (f g : B → A → B) (b : B) (xs : List A) → (
 fold_same f g b [] same = refl
 fold_same f g b (x ∷ xs) same = ap (λ z. fold f z xs) (same b x) ∙ fold_same f g (g b x) xs same
 
+pub filter_map_each : {A B : Type 0} (f g : A → Option B) (zs : List A) → ((z : A) → f z ≡ g z) → filter_map f zs ≡ filter_map g zs
+filter_map_each f g [] each = refl
+filter_map_each f g (z ∷ zs) each = ap (λ o. cons_option o (filter_map f zs)) (each z) ∙ ap (λ r. cons_option (g z) r) (filter_map_each f g zs each)
+
 pub last_place-push : {A : Type 0} (test : A → Bool) (xs : List A) (y : A) → test y ≡ false → last_place test (xs ++ y ∷ []) ≡ last_place test xs
 last_place-push test [] y q = ap (λ t. later_place t None) q
 last_place-push test (x ∷ xs) y q = ap (λ o. later_place (test x) o) (last_place-push test xs y q)
@@ -339,10 +343,6 @@ module _ (h : History) (first : ParentsBefore (reverse h.nodes)) (y : Entry) (x 
 
   -- ---- instance times
 
-  filter_map_same : {A B : Type 0} (f g : A → Option B) (zs : List A) → ((z : A) → f z ≡ g z) → filter_map f zs ≡ filter_map g zs
-  filter_map_same f g [] same = refl
-  filter_map_same f g (z ∷ zs) same = ap (λ o. cons_option o (filter_map f zs)) (same z) ∙ ap (λ r. cons_option (g z) r) (filter_map_same f g zs same)
-
   filter_map-ignores : {A B : Type 0} (f : A → Option B) (w : A) → f w ≡ None → (ws : List A) → filter_map f (ws ++ w ∷ []) ≡ filter_map f ws
   filter_map-ignores f w none ws = filter_map-append f ws (w ∷ []) ∙ ap (λ o. filter_map f ws ++ cons_option o []) none ∙ append-nil (filter_map f ws)
 
@@ -365,7 +365,7 @@ module _ (h : History) (first : ParentsBefore (reverse h.nodes)) (y : Entry) (x 
       tail-then (filter_map (λ (z : Entry). edge_time then e b offset z.moment edge z.step)) h.diary y (min (birth then e) (birth then b)) (min (birth h e) (birth h b)) refl
       (filter_map-ignores (λ (z : Entry). edge_time then e b offset z.moment edge z.step) y (edge-other then e b offset y.moment edge y.step (only b q.self)))
       (min-then (birth then e) (birth h e) (birth then b) (birth h b) (reset-then e p) (reset-then b q))
-      ∙ filter_map_same (λ (z : Entry). edge_time then e b offset z.moment edge z.step) (λ (z : Entry). edge_time h e b offset z.moment edge z.step) (drop (min (birth h e) (birth h b)) h.diary)
+      ∙ filter_map_each (λ (z : Entry). edge_time then e b offset z.moment edge z.step) (λ (z : Entry). edge_time h e b offset z.moment edge z.step) (drop (min (birth h e) (birth h b)) h.diary)
       (λ z. edge-then e b offset z.moment edge z.step p q)
 
   expected-then : (J : ℕ → Option Interval) (now : ℤ) (e b : ℕ) (offset : ℤ) (edge : Edge) → Apart h.nodes x e → Apart h.nodes x b → expected_times then J now e b offset edge ≡ expected_times h J now e b offset edge
@@ -416,7 +416,7 @@ module _ (h : History) (first : ParentsBefore (reverse h.nodes)) (y : Entry) (x 
       ∙ tail-then (filter_map (hear then)) (with_past [] h.diary) (h.diary, y) (birth then e.serial) (birth h e.serial) (with_past-length [] h.diary)
       (filter_map-ignores (hear then) (h.diary, y) (ap (λ t. cond (t && hears h e side item) (Some (within_horizon (outer then e.serial y.moment +ℤ offset))) None) not_now))
       (reset-then e.serial p)
-      ∙ filter_map_same (hear then) (hear h) (drop (birth h e.serial) (with_past [] h.diary))
+      ∙ filter_map_each (hear then) (hear h) (drop (birth h e.serial) (with_past [] h.diary))
       (λ w. ap (λ m. cond (occurs (up_to h w.0) (w.1).step && hears (up_to h w.0) e side item) (Some (within_horizon (m +ℤ offset))) None) (parent-then e.serial (w.1).moment p))
     where
       hear : History → List Entry × Entry → Option Time

@@ -27,6 +27,7 @@ use Rattle.smil_laws.proofs.Numbered.{all_low, ordered}
 use Rattle.smil_laws.proofs.Cutting.{next_on, steps_on}
 use Rattle.smil_laws.proofs.Quiet.{le_later, not_due}
 use Rattle.smil_laws.proofs.Lists.{each_weaker}
+use Rattle.smil_laws.proofs.Decided.{in_log}
 use Rattle.smil_laws.specs.Courses.{IsPast}
 
 -- ---- no entry is later than the moment
@@ -234,11 +235,6 @@ module _ (nodes : List Node) (first : ParentsBefore (reverse nodes)) (fresh : �
           by_test : (t : Bool) → cond t (Some (record { moment = suc q.moment; heard = q.heard; diary = q.diary })) None ≡ Some r → r.heard ≤ length log
           by_test true e = let one : record { moment = suc q.moment; heard = q.heard; diary = q.diary } ≡ r = cc in let same : q.heard ≡ r.heard = ap (λ (x : Progress). x.heard) one in omega (arith, same, l)
           by_test false e = cc
-
-      in_log : (i : ℕ) (es : List LogEntry) (x : LogEntry) → slice_get es i ≡ Some x → suc i ≤ length es
-      in_log i [] x q = cc
-      in_log zero (y ∷ ys) x q = omega arith
-      in_log (suc i) (y ∷ ys) x q = let rest = in_log i ys x q in omega (arith, rest)
 
       by_entry : (o : Option LogEntry) → slice_get log q.heard ≡ o → after_settling short q o ≡ Some r → r.heard ≤ length log
       by_entry None n e = by_quiet e

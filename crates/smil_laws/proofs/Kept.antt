@@ -1,7 +1,7 @@
 -- Two documents that are the same but for nodes that are set aside: what is read of the nodes that are kept is the same.
 use Rattle.std.proofs.Common.{◌≡◌, refl, sym, ◌∙◌, ap, ℕ, suc, zero, ◌+◌, List, [], ◌∷◌, ◌++◌, Option, Some, None, ℤ, Bool, true, false}
 use Rattle.std.specs.Prelude.{filter_map, min, unwrap_or, option_and_then, option_to_list, map, ◌||◌, ◌+ℤ◌, ◌-ℤ◌, ◌&&◌, pos, negsuc, cond, ◌==◌, reverse, drop, find, filter, fold}
-use Rattle.std.specs.List.{cons_option, list_any}
+use Rattle.std.specs.List.{list_any}
 use Rattle.smil_model.specs.declared.times.Time.{Time}
 use Rattle.smil_model.specs.Times.{within_horizon}
 use Rattle.smil_model.specs.diary.Diary.{is_active, History, is_paused, is_alive, lives_under, birth_under, birth, deferral, deferral_after, iteration, iteration_after}
@@ -16,7 +16,7 @@ use Rattle.smil_model.specs.document.Document.{time_children, is_time_child, has
 use Rattle.smil_model.specs.document.Defaults.{restart_stated, restart_or, restart_of, first_stated}
 use Rattle.smil_model.specs.declared.document.Restart.TheVariants.{Always}
 use Rattle.smil_model.specs.diary.Plays.{Plays, plays, play_after, is_birth_under, passed, passed_after}
-use Rattle.smil_laws.proofs.Foreign.{fold_same}
+use Rattle.smil_laws.proofs.Foreign.{filter_map_each, fold_same}
 use Rattle.std.proofs.lemmas.Bool.{eqb-true}
 use Rattle.std.proofs.lemmas.List.{reverse-append, append-nil}
 use Rattle.std.proofs.lemmas.List.Elements.{filter-append}
@@ -42,10 +42,6 @@ filter_reverse p (n ∷ ns) =
     by_test : (t : Bool) → reverse (filter p ns) ++ cond t (n ∷ []) [] ≡ reverse (cond t (n ∷ filter p ns) (filter p ns))
     by_test true = sym (reverse-append (n ∷ []) (filter p ns))
     by_test false = append-nil (reverse (filter p ns))
-
-pub filter_map_each : {A B : Type 0} (f g : A → Option B) (zs : List A) → ((z : A) → f z ≡ g z) → filter_map f zs ≡ filter_map g zs
-filter_map_each f g [] each = refl
-filter_map_each f g (z ∷ zs) each = ap (λ o. cons_option o (filter_map f zs)) (each z) ∙ ap (λ r. cons_option (g z) r) (filter_map_each f g zs each)
 
 module _ (kept : ℕ → Bool) where
   abbrev is_kept : Node → Bool

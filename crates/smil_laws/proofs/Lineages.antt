@@ -1,14 +1,22 @@
 -- Where parents stand before their children, the lineage of a parent is the rest of the lineage of the child.
-use Rattle.std.proofs.Common.{◌≡◌, refl, sym, ◌∙◌, ap, ℕ, List, [], ◌∷◌, Some, None, Bool, true, false}
+use Rattle.std.proofs.Common.{◌≡◌, refl, sym, ◌∙◌, ap, ℕ, List, [], ◌∷◌, Option, Some, None, Bool, true, false, arith}
 use Rattle.std.specs.Prelude.{cond, ◌==◌, ◌&&◌, reverse, drop, find}
 use Rattle.std.specs.List.{list_any}
 use Rattle.std.proofs.lemmas.Bool.{or_parts, eqb-true, eqb-false, ne_eqb}
 use Rattle.smil_model.specs.declared.document.Node.{Node}
 pub use Rattle.smil_laws.specs.Locality.{NoParent, ParentsBefore}
-use Rattle.smil_model.specs.document.Document.{upwards, lineage, time_parent, is_element}
+use Rattle.smil_model.specs.document.Document.{upwards, lineage, time_parent, is_element, has_serial, serial_of}
+use Rattle.smil_model.specs.reach.Reach.{is_option}
 
 pub swap_eqb : (a b : ℕ) → a == b ≡ false → b == a ≡ false
 swap_eqb a b q = ne_eqb b a (λ e. eqb-false a b q (sym e))
+
+pub same_eqb : (a b : ℕ) → a == b ≡ b == a
+same_eqb a b = grind arith
+
+pub is_option-serial_of : (s : ℕ) (o : Option Node) → is_option s (serial_of o) ≡ has_serial s o
+is_option-serial_of s None = refl
+is_option-serial_of s (Some n) = same_eqb s n.serial
 
 -- a chain that does not begin at the last node does not meet it
 pub skip : (n : Node) (before : List Node) (s : ℕ) → n.serial == s ≡ false → upwards (n ∷ before) s ≡ upwards before s

@@ -1,9 +1,11 @@
 -- Lists: their part up to a place, what holds of each element, and how many pass.
-use Rattle.std.proofs.Common.{◌≡◌, refl, sym, ◌∙◌, ap, ℕ, suc, zero, ◌+◌, ◌≤◌, List, [], ◌∷◌, ◌++◌, length, Some, Bool, true, false, arith}
-use Rattle.std.specs.Prelude.{cond, filter, slice_get, take}
+use Rattle.std.proofs.Common.{◌≡◌, refl, sym, ◌∙◌, ap, ℕ, suc, zero, ◌+◌, ◌≤◌, List, [], ◌∷◌, ◌++◌, length, append_assoc, Some, Bool, true, false, arith}
+use Rattle.std.specs.Prelude.{cond, filter, reverse, slice_get, take}
 use Rattle.std.specs.List.{AllByRecursion}
 use Rattle.std.specs.Str.{bytes_eq}
 use Rattle.std.specs.Cmp.Lexicographic.{bytes_decides}
+use Rattle.std.proofs.lemmas.List.Sums.{length-filter, count_by-le-length}
+use Rattle.std.proofs.lemmas.List.{reverse-append}
 
 -- ---- the part up to a place
 
@@ -47,15 +49,18 @@ each_chosen P Q t (x ∷ xs) each f = step (t x) (λ e. f x e each.0) (each_chos
 pub each_kept : {A : Type 0} (P : A → Type 0) (t : A → Bool) (xs : List A) → AllByRecursion P xs → AllByRecursion P (filter t xs)
 each_kept P t xs each = each_chosen P P t xs each (λ x q p. p)
 
+-- ---- what stands around an element
+
+pub reverse-around : {A : Type 0} (front : List A) (x : A) (back : List A) → reverse (front ++ x ∷ back) ≡ reverse back ++ x ∷ reverse front
+reverse-around front x back =
+    reverse-append front (x ∷ back)
+    ∙ ap (λ xs. xs ++ reverse front) (reverse-append (x ∷ []) back)
+    ∙ append_assoc (reverse back) (x ∷ []) (reverse front)
+
 -- ---- how many pass
 
 pub filter_shorter : {A : Type 0} (p : A → Bool) (xs : List A) → length (filter p xs) ≤ length xs
-filter_shorter p [] = omega arith
-filter_shorter p (x ∷ xs) = step (p x) (filter_shorter p xs)
-  where
-    step : (t : Bool) → length (filter p xs) ≤ length xs → length (cond t (x ∷ filter p xs) (filter p xs)) ≤ suc (length xs)
-    step true rest = omega (arith, rest)
-    step false rest = omega (arith, rest)
+filter_shorter p xs = omega (arith, length-filter p xs, count_by-le-length p xs)
 
 -- ---- bytes
 

@@ -97,7 +97,7 @@ module _ (h : History) (J K : ℕ → Option Interval) (now : ℤ) (e : Node) wh
   same_stated true f = f refl
   same_stated false f = refl
 
-  same_simple : AgreeFor h J K e → simple_of h J e ≡ simple_of h K e
+  pub same_simple : AgreeFor h J K e → simple_of h J e ≡ simple_of h K e
   same_simple agree =
       same_stated (has_implicit_duration e) (λ t. same_implicit e.kind (λ c q. agree.children c t q))
 

@@ -1,6 +1,6 @@
 -- What the diary does not name of a log is read by nothing.
 use Rattle.std.proofs.Common.{◌≡◌, refl, ◌∙◌, ap, ℕ, suc, zero, ◌<◌, List, [], ◌∷◌, ◌++◌, length, Option, Some, None, ℤ, Bool, arith}
-use Rattle.std.specs.Prelude.{cond, not, ◌&&◌, ◌||◌, ◌+ℤ◌, drop, flat_map, fold, map, unwrap_or, slice_get, is_some}
+use Rattle.std.specs.Prelude.{cond, not, ◌&&◌, ◌||◌, ◌+ℤ◌, drop, flat_map, map, slice_get, is_some}
 use Rattle.smil_model.specs.declared.times.Time.{Time}
 use Rattle.smil_model.specs.declared.times.Time.TheVariants as time
 use Rattle.smil_model.specs.declared.diary.Entry.{Entry}
@@ -23,12 +23,12 @@ use Rattle.smil_model.specs.diary.Diary.{History, birth, is_active, up_to, with_
 use Rattle.smil_model.specs.diary.Clocks.{outer, stands, outer_stands, iteration_start}
 use Rattle.smil_model.specs.interval.Durations.{stated_duration}
 use Rattle.smil_model.specs.interval.Intervals.{interval_of}
-use Rattle.smil_model.specs.interval.Instances.{is_log_event, is_event, is_log_key, is_press, hears, heard_times, event_times, item_times, begin_times, end_times}
-use Rattle.smil_model.specs.interval.Current.{length_of, length_after, media_length, implicit_of, simple_of, facts_of, interval_given, in_table, table, current_table}
+use Rattle.smil_model.specs.interval.Instances.{is_event, is_press, hears, heard_times, event_times, item_times, begin_times, end_times}
+use Rattle.smil_model.specs.interval.Current.{implicit_of, simple_of, facts_of, interval_given, in_table, table, current_table}
 use Rattle.smil_model.specs.happening.Keys.{coming_end, coming_begin, coming_repeat_at, coming_of}
 use Rattle.smil_model.specs.shown.Views.{view_of}
 use Rattle.smil_laws.specs.Cut.{IsNamedBelow, NamesBelow}
-use Rattle.smil_laws.proofs.Aside.{SameLogged, NamesAlike, each_drop, filter_map_all, with_past_each}
+use Rattle.smil_laws.proofs.Aside.{SameLogged, NamesAlike, event_same, press_same, media_same, each_drop, filter_map_all, with_past_each}
 use Rattle.smil_laws.specs.Same.{IsSame, LogMayBeLonger}
 
 -- ---- the places that the diary names
@@ -38,7 +38,7 @@ get_longer [] more place l = absurd (omega (arith, l))
 get_longer (x ∷ xs) more zero l = refl
 get_longer (x ∷ xs) more (suc place) l = get_longer xs more place (omega (arith, l))
 
-longer_alike : (log more : List LogEntry) (ds : List Entry) → NamesBelow (length log) ds → NamesAlike (log ++ more) log ds
+pub longer_alike : (log more : List LogEntry) (ds : List Entry) → NamesBelow (length log) ds → NamesAlike (log ++ more) log ds
 longer_alike log more [] named = tt
 longer_alike log more (x ∷ xs) named = (by_step x.step named.0, longer_alike log more xs named.1)
   where
@@ -62,30 +62,6 @@ module _ (nodes : List Node) (log1 log2 : List LogEntry) (ds : List Entry) (name
   abbrev h2 : History
   h2 = record { nodes = nodes; log = log2; diary = ds }
 
-  -- ---- the lengths that are logged
-
-  length_same : (s : ℕ) (before : Option Time) (step : Step) → SameLogged log1 log2 step → length_after log1 s before step ≡ length_after log2 s before step
-  length_same s before (Logged place) q = ap (λ o. length_of s o before) q
-  length_same s before _ q = refl
-
-  lengths_same : (s : ℕ) (before : Option Time) (xs : List Entry) → NamesAlike log1 log2 xs → fold (λ b (x : Entry). length_after log1 s b x.step) before xs ≡ fold (λ b (x : Entry). length_after log2 s b x.step) before xs
-  lengths_same s before [] same = refl
-  lengths_same s before (x ∷ xs) same =
-      ap (λ b. fold (λ b (x : Entry). length_after log1 s b x.step) b xs) (length_same s before x.step same.0) ∙ lengths_same s (length_after log2 s before x.step) xs same.1
-
-  media_same : (s : ℕ) → media_length h1 s ≡ media_length h2 s
-  media_same s = ap (λ o. unwrap_or o time.Unresolved) (lengths_same s None ds named)
-
-  -- ---- the events that are logged
-
-  event_same : (x : ℕ) (name : List ℕ) (step : Step) → SameLogged log1 log2 step → is_event log1 x name step ≡ is_event log2 x name step
-  event_same x name (Logged place) q = ap (is_log_event x name) q
-  event_same x name _ q = refl
-
-  press_same : (key : ℕ) (step : Step) → SameLogged log1 log2 step → is_press log1 key step ≡ is_press log2 key step
-  press_same key (Logged place) q = ap (is_log_key key) q
-  press_same key _ q = refl
-
   -- what is heard, where both logs have the same occurrences
   heard_same : (e : Node) (side : Edge) (item : Item) (offset : ℤ) (occurs : List LogEntry → Step → Bool) → ((step : Step) → SameLogged log1 log2 step → occurs log1 step ≡ occurs log2 step) → heard_times h1 e side item offset (λ past step. occurs past.log step) ≡ heard_times h2 e side item offset (λ past step. occurs past.log step)
   heard_same e side item offset occurs same =
@@ -98,7 +74,7 @@ module _ (nodes : List Node) (log1 log2 : List LogEntry) (ds : List Entry) (name
 
   events_same : (e : Node) (side : Edge) (item : Item) (offset : ℤ) (name : List ℕ) (o : Option ℕ) → event_times h1 e side item offset name o ≡ event_times h2 e side item offset name o
   events_same e side item offset name None = refl
-  events_same e side item offset name (Some x) = heard_same e side item offset (λ log step. is_event log x name step) (event_same x name)
+  events_same e side item offset name (Some x) = heard_same e side item offset (λ log step. is_event log x name step) (event_same log1 log2 x name)
 
   module _ (J : ℕ → Option Interval) (now : ℤ) (e : Node) where
     -- ---- the durations
@@ -111,7 +87,7 @@ module _ (nodes : List Node) (log1 log2 : List LogEntry) (ds : List Entry) (name
     implicit_same kind.Text = refl
     implicit_same kind.Brush = refl
     implicit_same kind.Set = refl
-    implicit_same _ = media_same e.serial
+    implicit_same _ = media_same log1 log2 nodes nodes ds named e.serial
 
     simple_same : simple_of h1 J e ≡ simple_of h2 J e
     simple_same = ap (λ t. cond (has_implicit_duration e) t (stated_duration e.attrs.dur)) (implicit_same e.kind)
@@ -123,7 +99,7 @@ module _ (nodes : List Node) (log1 log2 : List LogEntry) (ds : List Entry) (name
     item_same side (Sync who edge offset) = refl
     item_same side (Event who name offset) = events_same e side (Event who name offset) offset name (target nodes e.serial who)
     item_same side (Repeat who n offset) = refl
-    item_same side (Key key offset) = heard_same e side (Key key offset) offset (λ log step. is_press log key step) (press_same key)
+    item_same side (Key key offset) = heard_same e side (Key key offset) offset (λ log step. is_press log key step) (press_same log1 log2 key)
     item_same Begin Indefinite = refl
     item_same End Indefinite = refl
 

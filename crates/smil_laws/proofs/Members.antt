@@ -1,15 +1,28 @@
 -- Members of lists of nodes: which serials are among them, and that these are distinct.
-use Rattle.std.proofs.Common.{◌≡◌, refl, sym, ◌∙◌, ap, ℕ, List, [], ◌∷◌, ◌++◌, Some, Bool, true, false, inl, inr}
-use Rattle.std.specs.Prelude.{cond, ◌==◌, ◌||◌, ◌⊎◌, reverse, filter, find, is_some}
+use Rattle.std.proofs.Common.{◌≡◌, refl, sym, ◌∙◌, ap, ℕ, List, [], ◌∷◌, ◌++◌, Option, Some, None, Bool, true, false, inl, inr}
+use Rattle.std.specs.Prelude.{cond, ◌==◌, ◌||◌, ◌⊎◌, reverse, filter, find, is_some, IsSome}
 use Rattle.std.specs.List.{AllByRecursion, list_any}
 use Rattle.std.proofs.lemmas.Bool.{or_from, or_left, or_right, or_cases, eqb-true, or_parts}
 use Rattle.std.proofs.lemmas.List.{reverse-append}
 use Rattle.std.proofs.lemmas.List.Folds.{list_any-append}
 use Rattle.smil_model.specs.declared.document.Node.{Node}
+use Rattle.smil_model.specs.document.Document.{node_at}
 use Rattle.smil_model.specs.document.Valid.{IsDistinct}
 use Rattle.smil_laws.proofs.Lineages.{swap_eqb}
 use Rattle.smil_laws.proofs.Aside.{each_append, each_reverse}
 use Rattle.smil_laws.proofs.Lists.{each_kept}
+
+-- a node that is there
+pub record There (nodes : List Node) (s : ℕ) : Type 0 where
+  pub node : Node
+  pub at : node_at nodes s ≡ Some node
+
+pub there : (nodes : List Node) (s : ℕ) → IsSome (node_at nodes s) → There nodes s
+there nodes s some = by_node (node_at nodes s) refl some
+  where
+    by_node : (o : Option Node) → node_at nodes s ≡ o → IsSome o → There nodes s
+    by_node None at h = absurd cc
+    by_node (Some n) at h = record { node = n; at = at }
 
 -- whether a node with this serial is among these
 abbrev pub holds : ℕ → List Node → Bool

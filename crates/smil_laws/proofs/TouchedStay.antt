@@ -136,7 +136,7 @@ module _ (h : History) (first : ParentsBefore (reverse h.nodes)) (y : Entry) (x 
 -- ---- keys
 
 -- a press reaches no element that does not wait for its key
-mute : (nodes : List Node) (log : List LogEntry) (step : Step) (e : Node) → node_at (elements nodes) e.serial ≡ Some e → (o : Option ℕ) → key_of log step ≡ o → is_touched_through nodes o (subject_of log step) e.serial ≡ false → IsMute nodes log step e
+pub mute : (nodes : List Node) (log : List LogEntry) (step : Step) (e : Node) → node_at (elements nodes) e.serial ≡ Some e → (o : Option ℕ) → key_of log step ≡ o → is_touched_through nodes o (subject_of log step) e.serial ≡ false → IsMute nodes log step e
 mute nodes log step e here None on free k i = no_press log step k on
 mute nodes log step e here (Some key) on free k i =
     false_from_ne_true (is_press log k step)

@@ -1,19 +1,16 @@
 -- How often cells that go on have intervals evaluated: by one standing after another, and by the
 -- presentations.
-use Rattle.std.proofs.Common.{◌≡◌, refl, sym, ◌∙◌, ap, subst, ℕ, ◌+◌, ◌-◌, ◌≤◌, List, [], ◌++◌, Bool, true, false, arith, length, drop, append_assoc, append-nil}
+use Rattle.std.proofs.Common.{◌≡◌, refl, sym, ◌∙◌, ap, subst, ℕ, ◌+◌, ◌-◌, ◌≤◌, List, [], ◌++◌, Bool, arith, length, drop, append-nil}
 use Rattle.std.specs.Prelude.{pos, Result, Ok, Err, OnOk}
-use Rattle.std.proofs.Math.Seq.{drop-append_seam}
-use Rattle.std.proofs.lemmas.List.Sums.{sum_by-append}
 use Rattle.smil_model.specs.declared.diary.Entry.{Entry}
 use Rattle.smil_model.specs.declared.diary.LogEntry.{LogEntry}
-use Rattle.smil_model.specs.document.Document.{Document, elements}
+use Rattle.smil_model.specs.document.Document.{Document}
 use Rattle.smil_model.specs.diary.Diary.{History}
 use Rattle.smil_model.specs.interval.Current.{current_interval}
 use Rattle.smil_model.specs.reach.Bounds.{reaches}
-use Rattle.smil_model.specs.reach.Reach.{reach}
-use Rattle.smil_model.specs.shown.Orders.{Presentation, course_of}
-use Rattle.smil_cells.specs.Standing.{GoesOn, IsSettled, Standing, WhereTold, fresh, fresh_since, interval_at, moved_to, reached_since}
-use Rattle.smil_cells.proofs.OnWay.{nothing_fresh, nothing_reached, triangle}
+use Rattle.smil_model.specs.shown.Orders.{Presentation, course_of, as_of}
+use Rattle.smil_cells.specs.Standing.{GoesOn, IsSettled, Standing, WhereTold, fresh, fresh_since, interval_at, reached_since}
+use Rattle.smil_cells.proofs.OnWay.{drops, fresh_through, joined, least_adds_up, most_adds_up, nothing_fresh, nothing_reached, reached_through}
 use Rattle.smil_live.specs.Counts.{diary_at, interval_by, least_onward, most_onward}
 use Rattle.smil_live.specs.Moves.{IsShownAt, made}
 use Rattle.smil_shown.specs.ViewTable.{Shown}
@@ -39,63 +36,22 @@ counted_first counts s steps = record {
   least = nothing_fresh s counts steps;
 }
 
-pub drops : (x y z : List Entry) → z ≡ x ++ y → drop (length x) z ≡ y
-drops x y z e = ap (drop (length x)) e ∙ drop-append_seam x y
-
 -- two standings, one after the other, with the same document; the first entries reach as many
 -- elements by the new log
 module _ (old mid new : Standing) (document : mid.presentation.document ≡ old.presentation.document)
     (m n : List Entry) (first : mid.diary ≡ old.diary ++ m) (second : new.diary ≡ mid.diary ++ n)
-    (by_mid : reached_since old mid ≡ reaches old.presentation.document.nodes new.presentation.log m) where
-  whole : new.diary ≡ old.diary ++ (m ++ n)
-  whole = second ∙ ap (λ (x : List Entry). x ++ n) first ∙ append_assoc old.diary m n
-
-  -- the reaches add up
-  adds_up : reached_since old new ≡ reached_since old mid + reached_since mid new
-  adds_up =
-      let nodes = old.presentation.document.nodes in
-      let entries = new.presentation.log in
-      let all : reached_since old new ≡ reaches nodes entries (m ++ n) = ap (reaches nodes entries) (drops old.diary (m ++ n) new.diary whole) in
-      let by_new : reached_since mid new ≡ reaches nodes entries n =
-      ap (λ (d : Document). reaches d.nodes entries (drop (length mid.diary) new.diary)) document ∙ ap (reaches nodes entries) (drops mid.diary n new.diary second) in
-      three (reached_since old new) (reached_since old mid) (reached_since mid new) (reaches nodes entries (m ++ n)) (reaches nodes entries m) (reaches nodes entries n) all by_mid by_new
-      (sum_by-append (λ (x : Entry). length (reach nodes entries x)) m n)
-    where
-      three : (a b c x y z : ℕ) → a ≡ x → b ≡ y → c ≡ z → x ≡ y + z → a ≡ b + c
-      three a b c x y z e f g h = omega (arith, e, f, g, h)
-
-  -- what is fresh in the end was so on the way
-  fewer_fresh : fresh_since old new ≤ fresh_since old mid + fresh_since mid new
-  fewer_fresh =
-      subst (λ (d : Document). fresh_since old new ≤ fresh_since old mid + fresh d.nodes (interval_at mid) (interval_at new)) (sym document)
-      (triangle (interval_at old) (interval_at mid) (interval_at mid) (interval_at new) (λ x. refl) (elements old.presentation.document.nodes))
-
-  module _ (a b c : ℕ) (later : b ≤ c) where
-    reached_then : (counts : Bool) → IsCounted counts old mid a b → WhereTold counts (c - b ≤ reached_since mid new) → WhereTold counts (c - a ≤ reached_since old new)
-    reached_then false is on = tt
-    reached_then true is on = numbers (reached_since old mid) (reached_since mid new) (reached_since old new) adds_up is.from is.most on
-      where
-        numbers : (x y z : ℕ) → z ≡ x + y → a ≤ b → b - a ≤ x → c - b ≤ y → c - a ≤ z
-        numbers x y z e f p q = omega (arith, e, f, p, q, later)
-
-    fresh_then : (counts : Bool) → IsCounted counts old mid a b → WhereTold counts (fresh_since mid new ≤ c - b) → WhereTold counts (fresh_since old new ≤ c - a)
-    fresh_then false is on = tt
-    fresh_then true is on = numbers (fresh_since old mid) (fresh_since mid new) (fresh_since old new) fewer_fresh is.from is.least on
-      where
-        numbers : (x y z : ℕ) → z ≤ x + y → a ≤ b → x ≤ b - a → y ≤ c - b → z ≤ c - a
-        numbers x y z e f p q = omega (arith, e, f, p, q, later)
-
-    pub counted_by : (counts : Bool) → IsCounted counts old mid a b → WhereTold counts (c - b ≤ reached_since mid new) → WhereTold counts (fresh_since mid new ≤ c - b) → IsCounted counts old new a c
-    counted_by counts is most least = record {
-      diary = (m ++ n, whole);
-      from = let f = is.from in omega (arith, f, later);
-      most = reached_then counts is most;
-      least = fresh_then counts is least;
-    }
+    (by_mid : reached_since old mid ≡ reaches old.presentation.document.nodes new.presentation.log m) (a b c : ℕ) (later : b ≤ c) where
+  pub counted_by : (counts : Bool) → IsCounted counts old mid a b → WhereTold counts (c - b ≤ reached_since mid new) → WhereTold counts (fresh_since mid new ≤ c - b) → IsCounted counts old new a c
+  counted_by counts is most least = record {
+    diary = (m ++ n, joined old.diary mid.diary new.diary m n first second);
+    from = let f = is.from in omega (arith, f, later);
+    most = most_adds_up counts a b c (reached_since old mid) (reached_since mid new) (reached_since old new) is.from later (reached_through old mid new document m n first second by_mid) is.most most;
+    least = least_adds_up counts a b c (fresh_since old mid) (fresh_since mid new) (fresh_since old new) is.from later (fresh_through old mid new document) is.least least;
+  }
 
 -- a standing at a later moment that goes on from the one before
-pub counted_then : (counts : Bool) (old mid new : Standing) (moment : ℕ) (shown : Shown) (a b c : ℕ) → mid.presentation ≡ moved_to old.presentation mid.presentation.now → IsCounted counts old mid a b
-    → b ≤ c → IsShownAt (moved_to mid.presentation moment) new shown → GoesOn mid new → WhereTold counts (c - b ≤ reached_since mid new) → WhereTold counts (fresh_since mid new ≤ c - b)
+pub counted_then : (counts : Bool) (old mid new : Standing) (moment : ℕ) (shown : Shown) (a b c : ℕ) → mid.presentation ≡ as_of old.presentation mid.presentation.now → IsCounted counts old mid a b
+    → b ≤ c → IsShownAt (as_of mid.presentation moment) new shown → GoesOn mid new → WhereTold counts (c - b ≤ reached_since mid new) → WhereTold counts (fresh_since mid new ≤ c - b)
     → IsCounted counts old new a c
 counted_then counts old mid new moment shown a b c moved is later at on most least =
     let nodes = old.presentation.document.nodes in
@@ -104,8 +60,8 @@ counted_then counts old mid new moment shown a b c moved is later at on most lea
     ap (λ (l : List LogEntry). reaches nodes l (drop (length old.diary) mid.diary)) (sym log) ∙ ap (reaches nodes new.presentation.log) (drops old.diary is.diary.0 mid.diary is.diary.1) in
     counted_by old mid new (ap (λ (p : Presentation). p.document) moved) is.diary.0 on.diary.0 is.diary.1 on.diary.1 by_mid a b c later counts is most least
 
-pub counted_last : {A E : Type 0} (r : Result A E) (counts : Bool) (old mid new : Standing) (moment : ℕ) (shown : Shown) (a b c : ℕ) → mid.presentation ≡ moved_to old.presentation mid.presentation.now
-    → IsCounted counts old mid a b → b ≤ c → OnOk r (IsShownAt (moved_to mid.presentation moment) new shown) → OnOk r (GoesOn mid new) → OnOk r (WhereTold counts (c - b ≤ reached_since mid new))
+pub counted_last : {A E : Type 0} (r : Result A E) (counts : Bool) (old mid new : Standing) (moment : ℕ) (shown : Shown) (a b c : ℕ) → mid.presentation ≡ as_of old.presentation mid.presentation.now
+    → IsCounted counts old mid a b → b ≤ c → OnOk r (IsShownAt (as_of mid.presentation moment) new shown) → OnOk r (GoesOn mid new) → OnOk r (WhereTold counts (c - b ≤ reached_since mid new))
     → OnOk r (WhereTold counts (fresh_since mid new ≤ c - b)) → OnOk r (IsCounted counts old new a c)
 counted_last (Err e) counts old mid new moment shown a b c moved is later at on most least = tt
 counted_last (Ok x) counts old mid new moment shown a b c moved is later at on most least =

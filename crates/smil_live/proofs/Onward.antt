@@ -13,7 +13,7 @@ use Rattle.smil_model.specs.happening.Keys.{Coming}
 use Rattle.smil_model.specs.happening.Resolution.{diary_of}
 use Rattle.smil_model.specs.shown.Answers.{change_text}
 use Rattle.smil_model.specs.shown.Orders.{Presentation, as_of, course_of, changes_between, changes_through}
-use Rattle.smil_cells.specs.Standing.{NothingBefore, Standing, moved_to}
+use Rattle.smil_cells.specs.Standing.{NothingBefore, Standing}
 use Rattle.smil_cells.proofs.OnWay.{sooner}
 use Rattle.smil_cells.proofs.Passing.{over}
 use Rattle.smil_shown.specs.ShownViews.{IsShown}
@@ -39,16 +39,16 @@ told_on p a n d front text text' has quiet told new =
     ∙ (append_assoc front (text_of p (changes_through p a)) (text_of p (changes_through (as_of p (p.now + a)) n))
     ∙ ap (λ (l : List ℕ). front ++ l) (sym (ap (text_of p) (in_two p a n) ∙ flat_map-append (change_text p.document.nodes) (changes_through p a) (changes_through (as_of p (p.now + a)) n))))))
 
-built : (p q : Presentation) (a : ℕ) → q ≡ moved_to p q.now → p.now + a ≡ q.now → as_of p (p.now + a) ≡ q
-built p q a is there = ap (moved_to p) there ∙ sym is
+built : (p q : Presentation) (a : ℕ) → q ≡ as_of p q.now → p.now + a ≡ q.now → as_of p (p.now + a) ≡ q
+built p q a is there = ap (as_of p) there ∙ sym is
 
 -- the same where the later presentation has a name of its own
-pub told_from : (p q : Presentation) (a n : ℕ) (d : List Entry) (front text text' : List ℕ) → q ≡ moved_to p q.now → p.now + a ≡ q.now → HasDiary q d → IsQuiet q d (pos (q.now + n))
+pub told_from : (p q : Presentation) (a n : ℕ) (d : List Entry) (front text text' : List ℕ) → q ≡ as_of p q.now → p.now + a ≡ q.now → HasDiary q d → IsQuiet q d (pos (q.now + n))
     → text ≡ front ++ text_of p (changes_through p a)
-    → text' ≡ text ++ text_of q (changes_between q (moved_to q (q.now + n)))
+    → text' ≡ text ++ text_of q (changes_between q (as_of q (q.now + n)))
     → text' ≡ front ++ text_of p (changes_through p (a + n))
 told_from p q a n d front text text' is there =
-    subst (λ (x : Presentation). HasDiary x d → IsQuiet x d (pos (x.now + n)) → text ≡ front ++ text_of p (changes_through p a) → text' ≡ text ++ text_of x (changes_between x (moved_to x (x.now + n))) → text' ≡ front ++ text_of p (changes_through p (a + n)))
+    subst (λ (x : Presentation). HasDiary x d → IsQuiet x d (pos (x.now + n)) → text ≡ front ++ text_of p (changes_through p a) → text' ≡ text ++ text_of x (changes_between x (as_of x (x.now + n))) → text' ≡ front ++ text_of p (changes_through p (a + n)))
     (built p q a is there)
     (told_on p a n d front text text')
 
@@ -57,7 +57,7 @@ told_from p q a n d front text text' is there =
 -- a presentation was passed through up to the moment of a standing, and this is what is shown there
 -- and was told by then
 pub record IsPassing (p : Presentation) (front : List ℕ) (to : ℤ) (s : Standing) (shown : Shown) (text : List ℕ) : Type 0 where
-  pub presentation_is : s.presentation ≡ moved_to p s.presentation.now
+  pub presentation_is : s.presentation ≡ as_of p s.presentation.now
   pub from : p.now ≤ s.presentation.now
   pub within : pos s.presentation.now ≤ℤ to
   pub shown_is : IsShown s shown
@@ -77,11 +77,11 @@ sets_out s shown text to is within = record {
 
 module _ (p : Presentation) (front : List ℕ) (to : ℤ) (s : Standing) (shown : Shown) (text : List ℕ) (way : IsPassing p front to s shown text) where
   -- the moved presentation
-  pub moved_is : (m : ℕ) → moved_to s.presentation m ≡ moved_to p m
-  moved_is m = ap (λ (q : Presentation). moved_to q m) way.presentation_is
+  pub moved_is : (m : ℕ) → as_of s.presentation m ≡ as_of p m
+  moved_is m = ap (λ (q : Presentation). as_of q m) way.presentation_is
 
   module _ (next : Standing) (shown' : Shown) (text' : List ℕ) (v : ℤ) (from : pos s.presentation.now ≤ℤ v) (quiet : NothingBefore s v)
-      (new : text' ≡ text ++ text_of s.presentation (changes_between s.presentation (moved_to s.presentation (nat_abs v)))) where
+      (new : text' ≡ text ++ text_of s.presentation (changes_between s.presentation (as_of s.presentation (nat_abs v)))) where
     pub told_then : text' ≡ front ++ text_of p (changes_through p (nat_abs v - p.now))
     told_then = by_number (over s.presentation.now v from)
       where
@@ -94,7 +94,7 @@ module _ (p : Presentation) (front : List ℕ) (to : ℤ) (s : Standing) (shown 
             subst (λ (m : ℕ). text' ≡ front ++ text_of p (changes_through p m)) whole
             (told_from p s.presentation (s.presentation.now - p.now) n s.diary front text text' way.presentation_is first (has_diary s shown way.shown_is)
             (subst (λ (x : ℤ). NothingBefore s x) e quiet) way.told
-            (subst (λ (m : ℕ). text' ≡ text ++ text_of s.presentation (changes_between s.presentation (moved_to s.presentation m))) here new))
+            (subst (λ (m : ℕ). text' ≡ text ++ text_of s.presentation (changes_between s.presentation (as_of s.presentation m))) here new))
 
   module _ (due : ℤ) (first : IsFirstDue s due) where
     due_later : (pos s.presentation.now +ℤ pos 1) ≤ℤ due
@@ -112,9 +112,9 @@ module _ (p : Presentation) (front : List ℕ) (to : ℤ) (s : Standing) (shown 
         no_less : (x y : ℤ) → y ≡ x → x ≤ℤ y
         no_less x y e = omega (arith, ints, e)
 
-    module _ (within : due ≤ℤ to) (next : Standing) (shown' : Shown) (text' : List ℕ) (is : IsShownAt (moved_to s.presentation (nat_abs due)) next shown')
-        (new : text' ≡ text ++ text_of s.presentation (changes_between s.presentation (moved_to s.presentation (nat_abs due)))) where
-      at_due : next.presentation ≡ moved_to p (nat_abs due)
+    module _ (within : due ≤ℤ to) (next : Standing) (shown' : Shown) (text' : List ℕ) (is : IsShownAt (as_of s.presentation (nat_abs due)) next shown')
+        (new : text' ≡ text ++ text_of s.presentation (changes_between s.presentation (as_of s.presentation (nat_abs due)))) where
+      at_due : next.presentation ≡ as_of p (nat_abs due)
       at_due = is.presentation_is ∙ moved_is (nat_abs due)
 
       now_is : next.presentation.now ≡ nat_abs due
@@ -129,7 +129,7 @@ module _ (p : Presentation) (front : List ℕ) (to : ℤ) (s : Standing) (shown 
       -- one due moment further
       pub passes_on : IsPassing p front to next shown' text'
       passes_on = record {
-        presentation_is = at_due ∙ ap (moved_to p) (sym now_is);
+        presentation_is = at_due ∙ ap (as_of p) (sym now_is);
         from = let a = way.from in let b = due_later in numbers p.now s.presentation.now next.presentation.now due a b (ap pos now_is ∙ due_is);
         within = subst (λ (x : ℤ). x ≤ℤ to) (sym (ap pos now_is ∙ due_is)) within;
         shown_is = is.shown_is;
@@ -148,7 +148,7 @@ module _ (p : Presentation) (front : List ℕ) (to : ℤ) (s : Standing) (shown 
           numbers a b x (negsuc k) l e g = absurd (omega (arith, ints, l, e, g))
 
     -- what is too full by then is too full in the end
-    pub too_full_then : (within : due ≤ℤ to) (given : Refusal) → IsTooFull (moved_to s.presentation (nat_abs due)) given → IsTooFull (moved_to p (nat_abs to)) given
+    pub too_full_then : (within : due ≤ℤ to) (given : Refusal) → IsTooFull (as_of s.presentation (nat_abs due)) given → IsTooFull (as_of p (nat_abs to)) given
     too_full_then within given (inl memory) = inl memory
     too_full_then within given (inr (full, none)) =
         inr (
@@ -171,11 +171,11 @@ module _ (p : Presentation) (front : List ℕ) (to : ℤ) (s : Standing) (shown 
     quiet_to : NothingBefore s to
     quiet_to c e = sooner to c.key.value (silence c e)
 
-    pub arrives : (next : Standing) (shown' : Shown) (text' : List ℕ) → text' ≡ text ++ text_of s.presentation (changes_between s.presentation (moved_to s.presentation (nat_abs to))) → text' ≡ front ++ text_of p (changes_through p (nat_abs to - p.now))
+    pub arrives : (next : Standing) (shown' : Shown) (text' : List ℕ) → text' ≡ text ++ text_of s.presentation (changes_between s.presentation (as_of s.presentation (nat_abs to))) → text' ≡ front ++ text_of p (changes_through p (nat_abs to - p.now))
     arrives next shown' text' new = told_then next shown' text' to way.within quiet_to new
 
-  pub shown_there : (next : Standing) (shown' : Shown) → IsShownAt (moved_to s.presentation (nat_abs to)) next shown' → IsShownAt (moved_to p (nat_abs to)) next shown'
+  pub shown_there : (next : Standing) (shown' : Shown) → IsShownAt (as_of s.presentation (nat_abs to)) next shown' → IsShownAt (as_of p (nat_abs to)) next shown'
   shown_there next shown' is = record { presentation_is = is.presentation_is ∙ moved_is (nat_abs to); shown_is = is.shown_is }
 
-  pub too_full_there : (given : Refusal) → IsTooFull (moved_to s.presentation (nat_abs to)) given → IsTooFull (moved_to p (nat_abs to)) given
+  pub too_full_there : (given : Refusal) → IsTooFull (as_of s.presentation (nat_abs to)) given → IsTooFull (as_of p (nat_abs to)) given
   too_full_there given is = subst (λ (q : Presentation). IsTooFull q given) (moved_is (nat_abs to)) is

@@ -29,11 +29,11 @@ use Rattle.smil_model.specs.document.Words.{is_event_name, is_raised_name}
 use Rattle.smil_model.specs.happening.Resolution.{diary_of}
 use Rattle.smil_model.specs.shown.Answers.{Accepts, Refuses, change_text, gone_text}
 use Rattle.smil_model.specs.shown.Lines.{gone_line, name_of}
-use Rattle.smil_model.specs.shown.Orders.{IsState, Presentation, and_then, at_moment_with, changes_between, changes_through, course_of, found, kept_where, node_of, outcome, unless, unless_too_full, with_logged as logged_within}
+use Rattle.smil_model.specs.shown.Orders.{IsState, Presentation, and_then, at_moment_with, changes_between, changes_through, course_of, found, kept_where, node_of, outcome, unless, unless_too_full, with_logged as logged_within, as_of}
 use Rattle.smil_grammar.specs.Formats.{formats}
 use Rattle.smil_laws.proofs.Aside.{find_each}
 use Rattle.smil_tree.proofs.Spans.{all_known}
-use Rattle.smil_cells.specs.Standing.{Standing, moved_to, with_logged}
+use Rattle.smil_cells.specs.Standing.{Standing, with_logged}
 use Rattle.smil_cells.proofs.Heeded.{first_is_log}
 use Rattle.smil_live.specs.Moves.{IsHeardBy, IsNotHeard, IsReplayed, IsTooFull, entry_of, replay_of, sought_of, text_of}
 use Rattle.smil_live.specs.Telling.{element_named}
@@ -168,10 +168,10 @@ moved_by n (negsuc k) to from e = absurd (omega (arith, ints, from))
 
 -- ---- orders that move on
 
-pub advanced_by : (p q : Presentation) (by : ℤ) (old new : List ℕ) → IsState p → q ≡ moved_to p (p.now + nat_abs by) → IsState q → IsSome (diary_of (course_of q)) → new ≡ old ++ text_of p (changes_through p (nat_abs by)) → Accepts formats p q (order.Advance by) (drop (length old) new)
+pub advanced_by : (p q : Presentation) (by : ℤ) (old new : List ℕ) → IsState p → q ≡ as_of p (p.now + nat_abs by) → IsState q → IsSome (diary_of (course_of q)) → new ≡ old ++ text_of p (changes_through p (nat_abs by)) → Accepts formats p q (order.Advance by) (drop (length old) new)
 advanced_by p q by old new state is state' some told =
     let within : int_le (pos (p.now + nat_abs by)) HORIZON ≡ true = subst (λ (r : Presentation). int_le (pos r.now) HORIZON ≡ true) is state'.now in
-    let diary : IsSome (diary_of (course_of (moved_to p (p.now + nat_abs by)))) = subst (λ (r : Presentation). IsSome (diary_of (course_of r))) is some in
+    let diary : IsSome (diary_of (course_of (as_of p (p.now + nat_abs by)))) = subst (λ (r : Presentation). IsSome (diary_of (course_of r))) is some in
     record {
       state = at_moment_ok p (p.now + nat_abs by) p.log within diary ∙ ap Ok (sym is);
       answer =
@@ -179,10 +179,10 @@ advanced_by p q by old new state is state' some told =
           (cut_off old new (text_of p (changes_through p (nat_abs by))) told);
     }
 
-pub advanced_to : (p q : Presentation) (by to : ℤ) (old new : List ℕ) → IsState p → pos 0 ≤ℤ by → to ≡ pos p.now +ℤ by → q ≡ moved_to p (nat_abs to) → IsState q → IsSome (diary_of (course_of q)) → new ≡ old ++ text_of p (changes_through p (nat_abs to - p.now)) → Accepts formats p q (order.Advance by) (drop (length old) new)
+pub advanced_to : (p q : Presentation) (by to : ℤ) (old new : List ℕ) → IsState p → pos 0 ≤ℤ by → to ≡ pos p.now +ℤ by → q ≡ as_of p (nat_abs to) → IsState q → IsSome (diary_of (course_of q)) → new ≡ old ++ text_of p (changes_through p (nat_abs to - p.now)) → Accepts formats p q (order.Advance by) (drop (length old) new)
 advanced_to p q by to old new state from there is state' some told =
     let sums = moved_by p.now by to from there in
-    advanced_by p q by old new state (is ∙ ap (moved_to p) sums.0) state' some (told ∙ ap (λ (k : ℕ). old ++ text_of p (changes_through p k)) sums.1)
+    advanced_by p q by old new state (is ∙ ap (as_of p) sums.0) state' some (told ∙ ap (λ (k : ℕ). old ++ text_of p (changes_through p k)) sums.1)
 
 -- a log of which no entry is later is left whole
 all_left : (m : ℤ) (log : List LogEntry) → is_logged_by m log ≡ true → filter (λ (x : LogEntry). int_le x.moment m) log ≡ log
@@ -192,7 +192,7 @@ all_left m (x ∷ xs) q =
     ap (λ t. cond t (x ∷ filter (λ (y : LogEntry). int_le y.moment m) xs) (filter (λ (y : LogEntry). int_le y.moment m) xs)) parts.0
     ∙ ap (λ ys. x ∷ ys) (all_left m xs parts.1)
 
-pub moved_as_sought : (p q : Presentation) (to : ℤ) → q ≡ moved_to p (nat_abs to) → IsState q → q ≡ sought_of p to
+pub moved_as_sought : (p q : Presentation) (to : ℤ) → q ≡ as_of p (nat_abs to) → IsState q → q ≡ sought_of p to
 moved_as_sought p q to is state =
     let left = all_left (pos (nat_abs to)) p.log (subst (λ (r : Presentation). is_logged_by (pos r.now) r.log ≡ true) is state.logged) in
     is ∙ ap (λ (l : List LogEntry). record { document = p.document; log = l; now = nat_abs to }) (sym left)

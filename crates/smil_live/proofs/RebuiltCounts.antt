@@ -2,6 +2,7 @@
 use Rattle.std.proofs.Common.{◌≡◌, refl, sym, ◌∙◌, ap, subst, ℕ, suc, zero, ◌≤◌, ◌+◌, ◌-◌, List, [], ◌∷◌, ◌++◌, Option, Some, None, Bool, true, false, arith, length, drop}
 use Rattle.std.specs.Prelude.{cond, filter, is_some, not, pos, ◌&&◌}
 use Rattle.std.proofs.lemmas.List.Sums.{sum_by-cons}
+use Rattle.std.proofs.Math.Seq.{drop-length}
 use Rattle.smil_model.specs.declared.diary.Entry.{Entry}
 use Rattle.smil_model.specs.declared.diary.LogEntry.{LogEntry}
 use Rattle.smil_model.specs.declared.diary.Step.{Step}
@@ -20,9 +21,10 @@ use Rattle.smil_laws.proofs.Further.{is_past}
 use Rattle.smil_laws.proofs.Cutting.{names_weaker}
 use Rattle.smil_laws.proofs.Longer.{get_longer}
 use Rattle.smil_cells.specs.Standing.{GoesOn, IsSettled, Standing, WhereTold, any_interval, fresh, fresh_since, interval_at, is_same_interval, reached_since}
+use Rattle.smil_cells.proofs.OnWay.{drops}
 use Rattle.smil_live.specs.Counts.{interval_by, least_loading, reached_behind}
 use Rattle.smil_live.specs.Moves.{IsReplayed}
-use Rattle.smil_live.proofs.Counted.{IsCounted, counted_by, drops}
+use Rattle.smil_live.proofs.Counted.{IsCounted, counted_by}
 use Rattle.smil_shown.proofs.Ended.{diary_is, has_ended}
 use Rattle.smil_live.proofs.Resolved.{resolved_is}
 
@@ -68,11 +70,7 @@ pub named_since : (old mid : Standing) → IsSettled mid → NamesBelow (length 
 named_since old mid settled = names_behind (length mid.presentation.log) (length old.diary) mid.diary (settled_names (course_of mid.presentation) mid.diary settled)
 
 pub none_since : (n : ℕ) (s : Standing) → NamesBelow n (drop (length s.diary) s.diary)
-none_since n s = subst (λ (l : List Entry). NamesBelow n l) (sym (all_dropped s.diary)) tt
-  where
-    all_dropped : (ds : List Entry) → drop (length ds) ds ≡ []
-    all_dropped [] = refl
-    all_dropped (x ∷ xs) = all_dropped xs
+none_since n s = subst (λ (l : List Entry). NamesBelow n l) (sym (drop-length s.diary)) tt
 
 -- ---- one standing after another, with a longer log
 

@@ -17,6 +17,7 @@ use Rattle.smil_model.specs.diary.Logs.{is_log, may_happen, moments_rise}
 use Rattle.smil_model.specs.happening.Keys.{Coming, is_due}
 use Rattle.smil_model.specs.happening.Groups.{group}
 use Rattle.smil_model.specs.happening.Resolution.{Course, Progress, outset, history_at, after_quiet, after_settling, after_coming, next_step, after_steps, Reaches, diary_of}
+use Rattle.smil_model.proofs.Orders.{le_total}
 use Rattle.smil_laws.specs.Agreement.{course_on}
 use Rattle.smil_laws.proofs.Decided.{then, stays}
 use Rattle.smil_laws.proofs.Further.{is_past, reaches_further}
@@ -86,9 +87,6 @@ later_from m from (x ∷ xs) rise = by_test (int_le x.moment m) refl (and_parts 
     later : (a b c : ℤ) → int_le a b ≡ true → int_le a c ≡ false → int_le b c ≡ false
     later a b c p q = grind (arith, ints)
 
-    from_late : (a b : ℤ) → int_le a b ≡ false → int_le b a ≡ true
-    from_late a b p = grind (arith, ints)
-
     none_passes : (a : ℤ) (ys : List LogEntry) → int_le a m ≡ false → moments_rise a ys ≡ true → (filter (λ (y : LogEntry). int_le y.moment m) ys ≡ []) × AreFrom m ys
     none_passes a [] late rise = (refl, tt)
     none_passes a (y ∷ ys) late rise =
@@ -96,14 +94,14 @@ later_from m from (x ∷ xs) rise = by_test (int_le x.moment m) refl (and_parts 
         let here : int_le y.moment m ≡ false = later a y.moment m parts.0 late in
         let rest = none_passes y.moment ys here parts.1 in (
           ap (λ (t : Bool). cond t (y ∷ filter (λ (z : LogEntry). int_le z.moment m) ys) (filter (λ (z : LogEntry). int_le z.moment m) ys)) here ∙ rest.0,
-          (from_late y.moment m here, rest.1),
+          (le_total y.moment m here, rest.1),
         )
 
     by_test : (t : Bool) → int_le x.moment m ≡ t → moments_rise x.moment xs ≡ true → AreFrom m (drop (length (filter (λ (y : LogEntry). int_le y.moment m) xs)) xs) → AreFrom m (drop (length (cond t (x ∷ filter (λ (y : LogEntry). int_le y.moment m) xs) (filter (λ (y : LogEntry). int_le y.moment m) xs))) (x ∷ xs))
     by_test true e rise rest = rest
     by_test false e rise rest =
         let none = none_passes x.moment xs e rise in
-        subst (λ (l : List LogEntry). AreFrom m (drop (length l) (x ∷ xs))) (sym none.0) (from_late x.moment m e, none.1)
+        subst (λ (l : List LogEntry). AreFrom m (drop (length l) (x ∷ xs))) (sym none.0) (le_total x.moment m e, none.1)
 
 -- the diary with the log up to an earlier moment, where it begins with the entries up to that
 -- moment, has no others

@@ -1,9 +1,10 @@
 -- Cells of an earlier moment, rebuilt from the entries up to it.
-use Rattle.std.proofs.Common.{◌≡◌, refl, sym, ◌∙◌, ap, subst, ℕ, ◌-◌, ◌≤◌, List, [], ◌∷◌, ◌++◌, Some, None, ℤ, negsuc, Bool, true, false, arith, length, take, drop, append-nil}
+use Rattle.std.proofs.Common.{◌≡◌, refl, sym, ◌∙◌, ap, subst, ℕ, ◌-◌, ◌≤◌, List, [], ◌++◌, Some, None, ℤ, negsuc, Bool, true, false, arith, length, take, drop, append-nil}
 use Rattle.std.specs.Prelude.{filter, pos, int_le, nat_abs, ◌⊎◌, ◌≤ℤ◌}
 use Rattle.std.specs.List.{list_all}
 use Rattle.std.proofs.lemmas.Bool.{and_parts}
 use Rattle.std.proofs.lemmas.Int.{ints}
+use Rattle.std.proofs.Math.Seq.{drop-length}
 use Rattle.smil_model.specs.declared.diary.Entry.{Entry}
 use Rattle.smil_model.specs.declared.diary.LogEntry.{LogEntry}
 use Rattle.smil_model.specs.declared.times.TheConstants.{HORIZON}
@@ -13,13 +14,13 @@ use Rattle.smil_model.specs.document.Document.{Document, elements}
 use Rattle.smil_model.specs.document.Valid.{IsValid}
 use Rattle.smil_model.specs.happening.Resolution.{diary_of}
 use Rattle.smil_model.specs.reach.Bounds.{reaches}
-use Rattle.smil_model.specs.shown.Orders.{IsState, Presentation, course_of}
+use Rattle.smil_model.specs.shown.Orders.{IsState, Presentation, course_of, as_of}
 use Rattle.smil_model.proofs.Orders.{le_from}
 use Rattle.smil_diary.specs.declared.fault.BookFault.{BookFault}
 use Rattle.smil_diary.specs.Refusals.{of_book}
 use Rattle.smil_diary.specs.declared.fault.BookFault.TheVariants as book_fault
 use Rattle.smil_laws.specs.Cut.{logged}
-use Rattle.smil_cells.specs.Standing.{GoesOn, IsRebuilt, IsSettled, MayRebuild, Standing, WhereTold, moved_to, reached_since}
+use Rattle.smil_cells.specs.Standing.{GoesOn, IsRebuilt, IsSettled, MayRebuild, Standing, WhereTold, reached_since}
 use Rattle.smil_live.specs.Moves.{IsReplayed, IsTooFull, sought_of}
 use Rattle.smil_live.proofs.RebuiltCells.{may_rebuild, not_later}
 use Rattle.smil_live.proofs.RebuiltParts.{IsPart, front_until, log_until, part_until}
@@ -68,17 +69,17 @@ module _ (s : Standing) (d : Document) (to : ℤ) (len : ℕ) (state : IsState s
         ∙ log_until (course_of s.presentation) s.diary (pos (nat_abs to)) state.log state.logged replayed.settled)
 
     -- at that moment they are those of the presentation that is sought
-    pub moved_back : moved_to t.presentation (nat_abs to) ≡ sought_of s.presentation to
+    pub moved_back : as_of t.presentation (nat_abs to) ≡ sought_of s.presentation to
     moved_back = by_parts t.presentation.document s.presentation.document t.presentation.log (filter (λ (x : LogEntry). int_le x.moment (pos (nat_abs to))) s.presentation.log) (rebuilt.document_is ∙ same) log_is
       where
         by_parts : (a b : Document) (l m : List LogEntry) → a ≡ b → l ≡ m → ◌≡◌ {A = Presentation} (record { document = a; log = l; now = nat_abs to }) (record { document = b; log = m; now = nat_abs to })
         by_parts a b l m p q = cc
 
-    pub refused_back : (fault : BookFault) → (fault ≡ book_fault.DiaryFull → (t.fault ≡ Some fault) ⊎ (diary_of (course_of (moved_to t.presentation (nat_abs to))) ≡ None)) → IsTooFull (sought_of s.presentation to) (of_book fault)
+    pub refused_back : (fault : BookFault) → (fault ≡ book_fault.DiaryFull → (t.fault ≡ Some fault) ⊎ (diary_of (course_of (as_of t.presentation (nat_abs to))) ≡ None)) → IsTooFull (sought_of s.presentation to) (of_book fault)
     refused_back fault full =
-        refused_as (sought_of s.presentation to) (moved_to t.presentation (nat_abs to)) t fault rebuilt.sound full (subst (λ (q : Presentation). diary_of (course_of q) ≡ None) moved_back)
+        refused_as (sought_of s.presentation to) (as_of t.presentation (nat_abs to)) t fault rebuilt.sound full (subst (λ (q : Presentation). diary_of (course_of q) ≡ None) moved_back)
 
-    module _ (u : Standing) (there : u.presentation ≡ moved_to t.presentation (nat_abs to)) (settled : IsSettled u) (on : GoesOn t u) where
+    module _ (u : Standing) (there : u.presentation ≡ as_of t.presentation (nat_abs to)) (settled : IsSettled u) (on : GoesOn t u) where
       pub arrived_back : IsReplayed (sought_of s.presentation to) u
       arrived_back = record {
         presentation_is = there ∙ moved_back;
@@ -100,11 +101,7 @@ module _ (s : Standing) (d : Document) (to : ℤ) (len : ℕ) (state : IsState s
       nothing_reached =
           let same_diary : u.diary ≡ t.diary = on.diary.1 ∙ (ap (λ (l : List Entry). t.diary ++ l) none_added ∙ append-nil t.diary) in
           ap (λ (l : List Entry). reaches t.presentation.document.nodes u.presentation.log (drop (length t.diary) l)) same_diary
-          ∙ ap (reaches t.presentation.document.nodes u.presentation.log) (all_dropped t.diary)
-        where
-          all_dropped : (l : List Entry) → drop (length l) l ≡ []
-          all_dropped [] = refl
-          all_dropped (x ∷ xs) = all_dropped xs
+          ∙ ap (reaches t.presentation.document.nodes u.presentation.log) (drop-length t.diary)
 
       pub most_back : (counts : Bool) (a b c : ℕ) → a ≤ b → b ≤ c → WhereTold counts (b - a ≤ length (elements d.nodes)) → WhereTold counts (c - b ≤ reached_since t u) → WhereTold counts (c - a ≤ length (elements s.presentation.document.nodes))
       most_back false a b c earlier later most more = tt

@@ -11,14 +11,14 @@ use Rattle.smil_model.specs.document.Document.{Document}
 use Rattle.smil_model.specs.document.Valid.{IsNumberedTree}
 use Rattle.smil_model.specs.diary.Logs.{may_happen, moments_rise}
 use Rattle.smil_model.specs.happening.Resolution.{diary_of}
-use Rattle.smil_model.specs.shown.Orders.{IsState, Presentation, course_of}
+use Rattle.smil_model.specs.shown.Orders.{IsState, Presentation, course_of, as_of}
 use Rattle.smil_model.proofs.Orders.{le_self, le_both, le_from}
 use Rattle.smil_diary.specs.declared.fault.BookFault.{BookFault}
 use Rattle.smil_diary.specs.Refusals.{of_book}
 use Rattle.smil_diary.specs.declared.fault.BookFault.TheVariants as book_fault
 use Rattle.smil_laws.specs.Agreement.{course_on}
 use Rattle.smil_laws.proofs.Further.{le_same}
-use Rattle.smil_cells.specs.Standing.{GoesOn, IsSettled, Standing, moved_to, with_logged}
+use Rattle.smil_cells.specs.Standing.{GoesOn, IsSettled, Standing, with_logged}
 use Rattle.smil_live.specs.Moves.{IsReplayed, IsTooFull, IsUnderWay, heard_at}
 use Rattle.smil_live.proofs.Full.{full_further, full_by_first}
 use Rattle.smil_live.proofs.Logs.{IsAt, at, all_at, none_before, take_whole}
@@ -146,16 +146,16 @@ module _ (p : Presentation) (state : IsState p) where
   -- ---- at the end
 
   module _ (place : ℕ) (s : Standing) (way : IsUnderWay p place s) (past : length p.log ≤ place) where
-    pub at_end : moved_to s.presentation p.now ≡ p
+    pub at_end : as_of s.presentation p.now ≡ p
     at_end = made s.presentation p way.document_is (way.log_is ∙ take_whole place p.log past)
       where
-        by_parts : (d e : Document) (l m : List LogEntry) (n : ℕ) → d ≡ e → l ≡ m → moved_to (record { document = d; log = l; now = n }) n ≡ record { document = e; log = m; now = n }
+        by_parts : (d e : Document) (l m : List LogEntry) (n : ℕ) → d ≡ e → l ≡ m → as_of (record { document = d; log = l; now = n }) n ≡ record { document = e; log = m; now = n }
         by_parts d e l m n p q = cc
 
-        made : (a b : Presentation) → a.document ≡ b.document → a.log ≡ b.log → moved_to a b.now ≡ b
+        made : (a b : Presentation) → a.document ≡ b.document → a.log ≡ b.log → as_of a b.now ≡ b
         made a b d l = by_parts a.document b.document a.log b.log b.now d l
 
-    pub arrived : (t : Standing) → t.presentation ≡ moved_to s.presentation p.now → IsSettled t → GoesOn s t → IsReplayed p t
+    pub arrived : (t : Standing) → t.presentation ≡ as_of s.presentation p.now → IsSettled t → GoesOn s t → IsReplayed p t
     arrived t is settled on = record {
       presentation_is = is ∙ at_end;
       sound = on.sound;
@@ -163,6 +163,6 @@ module _ (p : Presentation) (state : IsState p) where
       settled = settled;
     }
 
-    pub refused_there : (fault : BookFault) → (fault ≡ book_fault.DiaryFull → (s.fault ≡ Some fault) ⊎ (diary_of (course_of (moved_to s.presentation p.now)) ≡ None)) → IsTooFull p (of_book fault)
+    pub refused_there : (fault : BookFault) → (fault ≡ book_fault.DiaryFull → (s.fault ≡ Some fault) ⊎ (diary_of (course_of (as_of s.presentation p.now)) ≡ None)) → IsTooFull p (of_book fault)
     refused_there fault full =
-        refused_as p (moved_to s.presentation p.now) s fault way.sound full (subst (λ (q : Presentation). diary_of (course_of q) ≡ None) at_end)
+        refused_as p (as_of s.presentation p.now) s fault way.sound full (subst (λ (q : Presentation). diary_of (course_of q) ≡ None) at_end)

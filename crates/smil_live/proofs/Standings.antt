@@ -2,8 +2,8 @@
 use Rattle.std.proofs.Common.{◌≡◌, sym, ap, subst, ℕ, ◌+◌, ℤ, arith}
 use Rattle.std.specs.Prelude.{pos, nat_abs, ◌≤ℤ◌, ◌+ℤ◌}
 use Rattle.smil_model.specs.declared.times.TheConstants.{HORIZON}
-use Rattle.smil_model.specs.shown.Orders.{IsState, Presentation, course_of, views_of}
-use Rattle.smil_cells.specs.Standing.{IsSettled, NothingBefore, Standing, moved_to}
+use Rattle.smil_model.specs.shown.Orders.{IsState, Presentation, course_of, views_of, as_of}
+use Rattle.smil_cells.specs.Standing.{IsSettled, NothingBefore, Standing}
 use Rattle.smil_cells.proofs.Passing.{over}
 use Rattle.smil_shown.specs.ShownViews.{IsShown, views_at}
 use Rattle.smil_live.specs.Moves.{MayMove, made}
@@ -30,13 +30,13 @@ has_diary s shown is = record { numbered = is.state.document.numbered; logged = 
 -- ---- moves
 
 -- a move from a state leads to a state
-pub state_then : (p : Presentation) (to : ℤ) → IsState p → pos p.now ≤ℤ to → to ≤ℤ HORIZON → IsState (moved_to p (nat_abs to))
+pub state_then : (p : Presentation) (to : ℤ) → IsState p → pos p.now ≤ℤ to → to ≤ℤ HORIZON → IsState (as_of p (nat_abs to))
 state_then p to state from within = by_number (over p.now to from)
   where
-    by_number : (n : ℕ) × (to ≡ pos (p.now + n)) → IsState (moved_to p (nat_abs to))
+    by_number : (n : ℕ) × (to ≡ pos (p.now + n)) → IsState (as_of p (nat_abs to))
     by_number (n, e) =
-        let there : IsState (moved_to p (p.now + n)) = state_moved p (p.now + n) state (omega arith) (subst (λ (x : ℤ). x ≤ℤ HORIZON) e within) in
-        subst (λ (m : ℕ). IsState (moved_to p m)) (sym (ap nat_abs e)) there
+        let there : IsState (as_of p (p.now + n)) = state_moved p (p.now + n) state (omega arith) (subst (λ (x : ℤ). x ≤ℤ HORIZON) e within) in
+        subst (λ (m : ℕ). IsState (as_of p m)) (sym (ap nat_abs e)) there
 
 pub made_is_state : (p : Presentation) (step : Move) → IsState p → MayMove p step → IsState (made p step)
 made_is_state p (move.Pass to) state may = state_then p to state may.0 may.1

@@ -13,8 +13,8 @@ use Rattle.smil_model.specs.diary.Logs.{may_happen, moments_rise}
 use Rattle.smil_model.specs.happening.Keys.{Coming}
 use Rattle.smil_model.specs.happening.Resolution.{diary_of}
 use Rattle.smil_model.specs.shown.Answers.{change_text}
-use Rattle.smil_model.specs.shown.Orders.{Presentation, course_of, changes_between, changes_through, with_logged as logged_within}
-use Rattle.smil_cells.specs.Standing.{Standing, IsSettled, first_at, moved_to, with_logged}
+use Rattle.smil_model.specs.shown.Orders.{Presentation, course_of, changes_between, changes_through, with_logged as logged_within, as_of}
+use Rattle.smil_cells.specs.Standing.{Standing, IsSettled, first_at, with_logged}
 use Rattle.smil_shown.specs.ShownViews.{IsShown}
 use Rattle.smil_shown.specs.ViewTable.{Shown}
 use Rattle.smil_live.specs.declared.moves.Move.{Move}
@@ -30,8 +30,8 @@ MayMove p (move.Hear entry) =
 
 -- the presentation behind a move
 abbrev pub made : Presentation → Move → Presentation
-made p (move.Pass to) = moved_to p (nat_abs to)
-made p (move.Settle to) = moved_to p (nat_abs to)
+made p (move.Pass to) = as_of p (nat_abs to)
+made p (move.Settle to) = as_of p (nat_abs to)
 made p (move.Hear entry) = with_logged p entry
 
 -- what a move changes: each moment that it passes tells its own changes, or its end tells all
@@ -63,7 +63,7 @@ replay_of document log len to = record { document = document; log = take len log
 
 -- a presentation that has come to the moment of an entry, and has heard it
 abbrev pub heard_at : Presentation → LogEntry → Presentation
-heard_at p entry = with_logged (moved_to p (nat_abs entry.moment)) entry
+heard_at p entry = with_logged (as_of p (nat_abs entry.moment)) entry
 
 -- a presentation as it is after a seek: with the log entries that are not later
 abbrev pub sought_of : Presentation → ℤ → Presentation

@@ -25,7 +25,7 @@ pub const ITERATIONS: u32 = 999_999_999;
 /// The greatest `repeatCount`, in thousandths.
 pub const COUNT_THOUSANDTHS: u64 = 999_999_999_999;
 
-/// Each text of an order has fewer bytes than these.
+/// Each text of an order has fewer bytes than this.
 pub const TEXT_BYTES: usize = 2_147_483_648;
 
 /// The greatest number of bytes of a line, without its line feed.

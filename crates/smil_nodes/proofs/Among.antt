@@ -52,11 +52,6 @@ set_others (c ∷ cs) zero (suc k) a b differ = refl
 set_others (c ∷ cs) (suc j) zero a b differ = refl
 set_others (c ∷ cs) (suc j) (suc k) a b differ = set_others cs j k a b (λ e. differ (ap suc e))
 
-pub set_count : (cs : List ChildEnd) (k : ℕ) (a b : Option Time) → length (set_ends cs k a b) ≡ length cs
-set_count [] k a b = refl
-set_count (c ∷ cs) zero a b = refl
-set_count (c ∷ cs) (suc k) a b = ap suc (set_count cs k a b)
-
 -- ---- among all
 
 among_twice : (es : List (List ChildEnd)) (p k : ℕ) (x y : Ending) → put_among (put_among es p k x) p k y ≡ put_among es p k y

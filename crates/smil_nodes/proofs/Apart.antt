@@ -14,10 +14,10 @@ use Rattle.smil_laws.proofs.Locality.{AgreeFor}
 use Rattle.smil_laws.proofs.Closures.{any_has, has_filter}
 use Rattle.smil_laws.proofs.Reached.{found_any, own_is_all}
 use Rattle.smil_graph.specs.Graph.{follows_unlooped, readers_of}
+use Rattle.smil_graph.proofs.Kept.{place_is}
 use Rattle.smil_nodes.specs.Work.{has_rank_above, is_later_reader}
 use Rattle.smil_nodes.proofs.Ranked.{found_place}
 use Rattle.smil_laws.proofs.Ranks.{any_elem, filter_has}
-use Rattle.smil_past.proofs.References.{only_own}
 
 -- they agree for an element that does not follow from that one
 pub agree_apart : (h : History) (J K : ℕ → Option Interval) (e : Node) (who : ℕ) → follows_unlooped h.nodes who e ≡ false → ((x : ℕ) → who == x ≡ false → J x ≡ K x) → AgreeFor h J K e
@@ -81,7 +81,7 @@ pub is_reader : (nodes : List Node) (order : List ℕ) (rank who j : ℕ) → is
 is_reader nodes order rank who j q =
     let one = any_elem (has_rank_above order rank j) (readers_of nodes who) q in
     let parts = and_parts (nat_lt rank j) (is_option j (position (λ s. s == one.0) order)) one.2 in
-    let there = position-Some (λ s. s == one.0) order j 0 (only_own j (position (λ s. s == one.0) order) parts.1) in
+    let there = position-Some (λ s. s == one.0) order j 0 (place_is j (position (λ s. s == one.0) order) parts.1) in
     record {
       above = ltb-true rank j parts.0;
       within = there.0;

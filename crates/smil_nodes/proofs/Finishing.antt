@@ -1,16 +1,12 @@
 -- Nothing is listed any more.
-use Rattle.std.proofs.Common.{◌≡◌, refl, ◌∙◌, ap, sym, ℕ, ◌+◌, ◌-◌, ◌≤◌, List, [], ◌∷◌, ◌++◌, length, Option, Some, None, ℤ, Bool, true, false, arith}
-use Rattle.std.specs.Prelude.{◌&&◌, ◌==◌, not, int_le, is_some}
+use Rattle.std.proofs.Common.{◌≡◌, refl, ◌∙◌, ap, sym, ℕ, ◌+◌, ◌-◌, ◌≤◌, List, [], ◌∷◌, ◌++◌, length, Option, ℤ, Bool, true, false, arith}
+use Rattle.std.specs.Prelude.{◌&&◌, ◌==◌, not, is_some}
 use Rattle.std.proofs.lemmas.Bool.{eqb-true, or_left, or_parts}
-use Rattle.std.proofs.lemmas.Int.{ints}
 use Rattle.std.proofs.lemmas.List.Folds.{list_any-append}
 use Rattle.smil_model.specs.declared.diary.Entry.{Entry}
 use Rattle.smil_model.specs.declared.diary.LogEntry.{LogEntry}
 use Rattle.smil_model.specs.declared.interval.Interval.{Interval}
 use Rattle.smil_model.specs.declared.document.Node.{Node}
-use Rattle.smil_model.specs.declared.times.Time.{Time}
-use Rattle.smil_model.specs.declared.times.Time.TheVariants.{At, Indefinite, Unresolved}
-use Rattle.smil_model.specs.Times.{time_le}
 use Rattle.smil_model.specs.document.Document.{elements}
 use Rattle.smil_model.specs.document.Closure.{has}
 use Rattle.smil_model.specs.document.Valid.{IsDistinct}
@@ -24,6 +20,7 @@ use Rattle.smil_cells.specs.Plain.{interval_in}
 use Rattle.smil_cells.specs.Round.{AreTaken, StayUnchanged}
 use Rattle.smil_cells.specs.Standing.{any_interval, fresh, is_same_interval}
 use Rattle.smil_cells.proofs.Current.{all_current}
+use Rattle.smil_cells.proofs.OnWay.{same_self}
 use Rattle.smil_nodes.specs.Schedule.{AreCurrent}
 use Rattle.smil_nodes.specs.Work.{AreSettled, IsCounted}
 use Rattle.smil_nodes.proofs.Counting.{passing_within, within_reaches}
@@ -68,21 +65,6 @@ untold_stay front h now old new told changed before after unchanged s out =
     sym (current_intervals new h now after s) ∙ unchanged.others s out ∙ current_intervals old front now before s
 
 -- ---- how many were evaluated
-
-same_self : (x : Option Interval) → is_some x && not (is_same_interval x x) ≡ false
-same_self None = refl
-same_self (Some i) = ap not (same_whole i)
-  where
-    no_less : (x : ℤ) → int_le x x ≡ true
-    no_less x = grind (arith, ints)
-
-    time_no_less : (x : Time) → time_le x x ≡ true
-    time_no_less (At x) = no_less x
-    time_no_less Indefinite = refl
-    time_no_less Unresolved = refl
-
-    same_whole : (i : Interval) → is_same_interval (Some i) (Some i) ≡ true
-    same_whole i = rw (no_less i.begin) (rw (time_no_less i.«end») refl)
 
 module _ (nodes : List Node) (log : List LogEntry) (entries : List Entry) (order : List ℕ) (listed : ℕ → Bool) (first rows : List Row) (start steps : ℕ) (counted : IsCounted nodes log entries order listed first rows start steps) where
   -- at most as many as the entries reach

@@ -1,16 +1,19 @@
 -- What entries touch is listed, and what is listed is in their reaches.
-use Rattle.std.proofs.Common.{◌≡◌, refl, sym, ◌∙◌, ap, ℕ, List, [], ◌∷◌, Option, Some, None, Bool, true, false, inl, inr}
+use Rattle.std.proofs.Common.{◌≡◌, refl, sym, ◌∙◌, ap, ℕ, List, [], ◌∷◌, Option, Some, None, Bool, true, false, inl, inr, ◌++◌, drop}
 use Rattle.std.specs.Prelude.{◌⊎◌, ◌||◌, is_some}
 use Rattle.std.proofs.lemmas.Bool.{or_cases, or_left, or_right}
+use Rattle.std.proofs.lemmas.List.{take-append-drop}
 use Rattle.smil_model.specs.declared.diary.Entry.{Entry}
 use Rattle.smil_model.specs.declared.diary.LogEntry.{LogEntry}
 use Rattle.smil_model.specs.declared.document.Node.{Node}
 use Rattle.smil_model.specs.document.Document.{elements, node_at, serials}
 use Rattle.smil_model.specs.document.Closure.{has}
 use Rattle.smil_model.specs.reach.Reach.{key_of, reach, reach_by, reads, subject_of, waiters}
+use Rattle.smil_model.specs.diary.Diary.{up_to}
 use Rattle.smil_laws.specs.Touched.{in_reaches, is_touched_by, is_touched_through}
 use Rattle.smil_laws.proofs.Closures.{has_set}
 use Rattle.smil_laws.proofs.TouchedReached.{reaches_hold}
+use Rattle.smil_past.specs.Past.{MarkedHistory, front, history_of}
 use Rattle.smil_nodes.specs.Noted.{is_noted_at, is_noted_by, is_noted_through}
 use Rattle.smil_nodes.proofs.Noting.{known_serial}
 
@@ -56,3 +59,7 @@ module _ (nodes : List Node) (log : List LogEntry) (e : Node) (here : node_at (e
       by_case : (is_noted_at nodes log e.serial y ≡ true) ⊎ (is_noted_by nodes log ys e.serial ≡ true) → (is_noted_by nodes log ys e.serial ≡ true → in_reaches nodes log ys e.serial ≡ true) → in_reaches nodes log (y ∷ ys) e.serial ≡ true
       by_case (inl t) later = or_left _ _ (reached_at y t)
       by_case (inr t) later = or_right _ _ (later t)
+
+-- the front of a history with the entries behind it is the whole
+pub front_whole : (past : MarkedHistory) (from : ℕ) → up_to (front past from) ((front past from).diary ++ drop from past.diary) ≡ history_of past
+front_whole past from = ap (λ d. up_to (history_of past) d) (take-append-drop from past.diary)

@@ -18,6 +18,7 @@ use Rattle.smil_element.specs.Comings.{HaveComings}
 use Rattle.smil_cells.specs.declared.plain.known.Row.{Row}
 use Rattle.smil_cells.specs.Rows.{IsChosen, empty_row}
 use Rattle.smil_cells.proofs.First.{first_by_key, none_first}
+use Rattle.smil_cells.proofs.Keyed.{key_of}
 use Rattle.smil_cells.proofs.Taking.{elements_few}
 use Rattle.smil_nodes.specs.Slots.{keys_in}
 use Rattle.smil_nodes.specs.Schedule.{AreCurrent, slot_of, slots_of}
@@ -57,9 +58,6 @@ rows_few nodes rows are all =
     omega (arith, whole, some, all)
 
 -- ---- the keys of what comes
-
-abbrev key_of : model.Coming → Key
-key_of c = c.key
 
 keys_of_two : (a b : Option Coming) (slots : List (Option Key)) → keys_in (slot_of a ∷ (slot_of b ∷ slots)) ≡ map key_of (both a b) ++ keys_in slots
 keys_of_two None None slots = refl

@@ -1,11 +1,9 @@
 -- What is current before entries is, but for the elements that they touch, as these entries leave it.
-use Rattle.std.proofs.Common.{◌≡◌, sym, ◌∙◌, ap, subst, ℕ, ◌<◌, List, length, get_or, drop, ◌++◌, Some, Bool, true, false, ℤ}
+use Rattle.std.proofs.Common.{◌≡◌, sym, ◌∙◌, ap, subst, ℕ, ◌<◌, List, length, get_or, drop, Some, Bool, true, false, ℤ}
 use Rattle.std.specs.Prelude.{◌==◌, nat_eq}
 use Rattle.std.specs.List.{IsDistinct, position}
-use Rattle.std.proofs.lemmas.List.{take-append-drop}
 use Rattle.smil_model.specs.declared.document.Node.{Node}
 use Rattle.smil_model.specs.document.Document.{elements, node_at}
-use Rattle.smil_model.specs.diary.Diary.{up_to}
 use Rattle.smil_model.specs.interval.Current.{simple_of}
 use Rattle.smil_laws.specs.Edited.{IsOrdered}
 use Rattle.smil_laws.specs.Touched.{GivesSame, in_reaches, is_touched_by}
@@ -22,16 +20,13 @@ use Rattle.smil_nodes.specs.Schedule.{AreCurrent}
 use Rattle.smil_nodes.specs.Noted.{is_noted_by}
 use Rattle.smil_nodes.specs.Work.{AreSettled}
 use Rattle.smil_nodes.proofs.Fixed.{current_elements, row_of_current}
-use Rattle.smil_nodes.proofs.Noted.{noted_reached, untouched}
+use Rattle.smil_nodes.proofs.Noted.{noted_reached, untouched, front_whole}
 use Rattle.smil_nodes.proofs.Ranked.{element_of, found_place}
 
 module _ (past : MarkedHistory) (from : ℕ) (now : ℤ) (order : List ℕ) (rows : List Row) (listed : ℕ → Bool) (ordered : IsOrdered past.document.nodes) (is : IsOrder past.document.nodes order) (distinct : IsDistinct nat_eq order) (told : (s r : ℕ) → position (λ t. t == s) order ≡ Some r → listed r ≡ is_noted_by past.document.nodes past.log (drop from past.diary) s) where
-  whole : up_to (front past from) ((front past from).diary ++ drop from past.diary) ≡ history_of past
-  whole = ap (λ d. up_to (history_of past) d) (take-append-drop from past.diary)
-
   given_same : (e : Node) → node_at (elements past.document.nodes) e.serial ≡ Some e → is_touched_by past.document.nodes past.log (drop from past.diary) e.serial ≡ false → GivesSame (front past from) (history_of past) (interval_in rows) now e
   given_same e here free =
-      subst (λ k. GivesSame (front past from) k (interval_in rows) now e) whole
+      subst (λ k. GivesSame (front past from) k (interval_in rows) now e) (front_whole past from)
       (leaves_untouched (front past from) (drop from past.diary) (interval_in rows) now e ordered.first here free)
 
   -- the row of an element that is not touched

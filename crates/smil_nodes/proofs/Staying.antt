@@ -1,31 +1,26 @@
 -- Entries leave each element that they do not touch with the ends that it had.
 use Rattle.std.proofs.Common.{◌≡◌, refl, sym, ◌∙◌, ap, ℕ, List, [], ◌∷◌, ◌++◌, Option, Some, None, Bool, true, false, append_assoc}
 use Rattle.std.specs.Prelude.{◌&&◌, ◌==◌, if◌then◌else◌, is_some, option_map, reverse}
-use Rattle.std.specs.List.{last_or, list_any}
+use Rattle.std.specs.List.{last_or}
 use Rattle.std.specs.Option.{option_or}
-use Rattle.std.proofs.lemmas.Bool.{false_from_ne_true, or_parts}
+use Rattle.std.proofs.lemmas.Bool.{or_parts}
 use Rattle.std.proofs.lemmas.List.{append-nil}
 use Rattle.smil_model.specs.declared.times.Time.TheVariants.{Unresolved}
 use Rattle.smil_model.specs.declared.diary.Entry.{Entry}
-use Rattle.smil_model.specs.declared.diary.LogEntry.{LogEntry}
-use Rattle.smil_model.specs.declared.diary.Step.{Step}
 use Rattle.smil_model.specs.declared.interval.ChildEnd.{ChildEnd}
 use Rattle.smil_model.specs.declared.interval.Interval.{Interval}
 use Rattle.smil_model.specs.declared.document.Node.{Node}
 use Rattle.smil_model.specs.document.Document.{elements, node_at}
-use Rattle.smil_model.specs.document.Dependencies.{all_items}
-use Rattle.smil_model.specs.document.Closure.{has}
 use Rattle.smil_model.specs.diary.Diary.{History, is_deferred, up_to}
 use Rattle.smil_model.specs.diary.Plays.{Plays, first_of, plays}
 use Rattle.smil_model.specs.interval.Current.{child_end, finish_time, is_named_child}
-use Rattle.smil_model.specs.interval.Instances.{is_press}
-use Rattle.smil_model.specs.reach.Reach.{is_key_item, key_of, subject_of, waiters}
+use Rattle.smil_model.specs.reach.Reach.{key_of, subject_of}
 use Rattle.smil_laws.specs.Locality.{ParentsBefore}
 use Rattle.smil_laws.specs.Touched.{is_touched, is_touched_by, is_touched_from, is_touched_through}
 use Rattle.smil_laws.proofs.Foreign.{Apart, deferral-then, is_about, plays-then}
 use Rattle.smil_laws.proofs.Law.{IsMute}
-use Rattle.smil_laws.proofs.TouchedStay.{far_absent, far_untouched}
-use Rattle.smil_laws.proofs.Unreached.{about_no_one, about_none, absent, found_here, fresh, is_waiter, lone_press, no_press, one_press}
+use Rattle.smil_laws.proofs.TouchedStay.{far_absent, far_untouched, mute}
+use Rattle.smil_laws.proofs.Unreached.{about_no_one, about_none, absent, found_here, fresh, lone_press}
 
 -- what has happened to an element is the same by two histories
 pub record SameDone (h k : History) (s : ℕ) : Type 0 where
@@ -50,14 +45,6 @@ pub end_by_interval : (h : History) (before after : ℕ → Option Interval) (e 
 end_by_interval h before after e c same = ap (λ o. end_from e c o (plays h c.serial) (is_deferred h c.serial)) same
 
 -- ---- one entry
-
-mute : (nodes : List Node) (log : List LogEntry) (step : Step) (e : Node) → node_at (elements nodes) e.serial ≡ Some e → (o : Option ℕ) → key_of log step ≡ o → is_touched_through nodes o (subject_of log step) e.serial ≡ false → IsMute nodes log step e
-mute nodes log step e here None on free k i = no_press log step k on
-mute nodes log step e here (Some key) on free k i =
-    false_from_ne_true (is_press log k step)
-    (λ u. let one : k ≡ key = one_press log step key k on u in
-    let is_in : has (waiters nodes key) e.serial ≡ true = is_waiter nodes key e here (sym (ap (λ z. list_any (is_key_item z) (all_items nodes e)) one) ∙ i) in
-    let never : false ≡ true = sym free ∙ is_in in cc)
 
 module _ (c : Node) where
   apart_done : (h : History) (first : ParentsBefore (reverse h.nodes)) (y : Entry) (x : ℕ) (only : (s : ℕ) → s == x ≡ false → is_about h.log s y.step ≡ false) → Apart h.nodes x c.serial → SameDone h (up_to h (h.diary ++ y ∷ [])) c.serial

@@ -2,7 +2,7 @@
 use Rattle.std.proofs.Common.{◌≡◌, ℕ, zero, suc, ◌+◌, ◌-◌, ◌<◌, ◌≤◌, Bool, true, false, eqb, List, [], ◌∷◌, ◌++◌, length, take, drop, map, reverse, get_or, Some, refl, sym, ap, subst, ◌∙◌, arith, length-take, length-append}
 use Rattle.std.specs.Prelude.{slice_get}
 use Rattle.std.specs.List.{prefix_len, suffix_len}
-use Rattle.std.proofs.lemmas.List.{take_all, take_more, take-append-le, reverse-append, reverse-reverse, length-reverse}
+use Rattle.std.proofs.lemmas.List.{take_all, take_more, take-append-le, reverse-append, reverse-reverse, length-reverse, map-append, length-map}
 use Rattle.std.proofs.lemmas.List.Sums.{prefix_len-le-length}
 use Rattle.std.proofs.lemmas.Option.{get_or_from_slice_get, slice_get-get_or}
 use Rattle.smil_model.specs.declared.document.Kind.{Kind}
@@ -11,19 +11,11 @@ use Rattle.smil_model.specs.document.Valid.{open_from}
 use Rattle.smil_grammar.specs.Outlines.{last_of}
 use Rattle.smil_outline.specs.Open.{upwards, is_other}
 
-pub map_on : {A B : Type 0} (f : A → B) (xs ys : List A) → map f (xs ++ ys) ≡ map f xs ++ map f ys
-map_on f [] ys = refl
-map_on f (x ∷ xs) ys = ap (λ (zs : List _). f x ∷ zs) (map_on f xs ys)
-
 pub upwards_on : (branch : List (ℕ × Kind)) (n : ℕ × Kind) → upwards (branch ++ n ∷ []) ≡ n.0 ∷ upwards branch
-upwards_on branch n = ap reverse (map_on (λ (m : ℕ × Kind). m.0) branch (n ∷ [])) ∙ reverse-append (map (λ (m : ℕ × Kind). m.0) branch) (n.0 ∷ [])
-
-pub length_map : {A B : Type 0} (f : A → B) (xs : List A) → length (map f xs) ≡ length xs
-length_map f [] = refl
-length_map f (x ∷ xs) = omega (arith, length_map f xs)
+upwards_on branch n = ap reverse (map-append (λ (m : ℕ × Kind). m.0) branch (n ∷ [])) ∙ reverse-append (map (λ (m : ℕ × Kind). m.0) branch) (n.0 ∷ [])
 
 pub length_upwards : (branch : List (ℕ × Kind)) → length (upwards branch) ≡ length branch
-length_upwards branch = length-reverse (map (λ (m : ℕ × Kind). m.0) branch) ∙ length_map (λ (m : ℕ × Kind). m.0) branch
+length_upwards branch = length-reverse (map (λ (m : ℕ × Kind). m.0) branch) ∙ length-map branch (λ (m : ℕ × Kind). m.0)
 
 pub get_or_behind : {A : Type 0} (xs ys : List A) (d : A) → get_or (xs ++ ys) (length xs) d ≡ get_or ys 0 d
 get_or_behind [] ys d = refl

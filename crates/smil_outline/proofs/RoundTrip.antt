@@ -3,7 +3,7 @@ use Rattle.std.proofs.Common.{◌≡◌, ℕ, zero, suc, ◌+◌, ◌<◌, ◌�
 use Rattle.std.specs.Prelude.{decimal, unwrap_or, bytes_eq, All, slice_get}
 use Rattle.std.specs.List.{list_any, list_all, AllByRecursion}
 use Rattle.std.proofs.lemmas.Bool.{and_parts, or_parts, not_from_true, eqb-true, eq-eqb, ltb-true, lt-ltb, le-ltb, ne_eqb, cond_both}
-use Rattle.std.proofs.lemmas.List.{reverse-append, reverse-reverse, length-reverse, take_all, take-append-le, append-nil}
+use Rattle.std.proofs.lemmas.List.{reverse-append, reverse-reverse, length-reverse, take_all, take-append-le, append-nil, map-append, length-map}
 use Rattle.std.proofs.lemmas.List.Sums.{sum_by-cons}
 use Rattle.std.proofs.lemmas.List.Folds.{list_any-append}
 use Rattle.std.proofs.lemmas.List.Elements.{recursion_from_All}
@@ -28,7 +28,7 @@ use Rattle.smil_grammar.specs.Outlines.{Outline, mixes, has_id as has_id_among, 
 use Rattle.smil_laws.proofs.Reached.{any_reverse}
 use Rattle.smil_outline.specs.Numbered.{number_of, renumbered}
 use Rattle.smil_outline.specs.Written.{saved_lines}
-use Rattle.smil_outline.proofs.Depths.{map_on, length_map, get_or_behind}
+use Rattle.smil_outline.proofs.Depths.{get_or_behind}
 use Rattle.smil_outline.proofs.Walks.{depths_back, all_at, IsWalked, next_depth, walk_on, walk_starts, depth_is}
 use Rattle.smil_outline.proofs.Fitting.{fits}
 use Rattle.smil_attrs.proofs.Noded.{shape_from, shape_is, plain_shape, saved_shape}
@@ -172,7 +172,7 @@ branch_on : (number : ℕ → ℕ) (nodes : List Node) (serial : ℕ) (opened : 
 branch_on number nodes serial opened = reverse-append (level number nodes serial ∷ []) (map (level number nodes) opened)
 
 length_branch : (number : ℕ → ℕ) (nodes : List Node) (opened : List ℕ) → length (branch_of number nodes opened) ≡ length opened
-length_branch number nodes opened = length-reverse (map (level number nodes) opened) ∙ length_map (level number nodes) opened
+length_branch number nodes opened = length-reverse (map (level number nodes) opened) ∙ length-map opened (level number nodes)
 
 fewer : (opened : List ℕ) (parent : ℕ) → length (open_from parent opened) ≤ length opened
 fewer [] parent = omega arith
@@ -354,7 +354,7 @@ sound document valid before n rest all distinct =
 few_before : (number : ℕ → ℕ) (nodes before : List Node) (n : Node) (rest : List Node) → nodes ≡ reverse before ++ n ∷ rest → length nodes ≤ 8000 → length (map (new number) (reverse before)) < 8000
 few_before number nodes before n rest all le =
     let len : length nodes ≡ length (reverse before) + length (n ∷ rest) = ap (λ (xs : List Node). length xs) all ∙ length-append (reverse before) (n ∷ rest) in
-    omega (arith, length_map (new number) (reverse before))
+    omega (arith, length-map (reverse before) (new number))
 
 room : (number : ℕ → ℕ) (document : Document) → IsValid document → (before : List Node) (n : Node) (rest : List Node) (above : List (ℕ × Kind)) → document.nodes ≡ reverse before ++ n ∷ rest → IsSound document.nodes before n
     → IsBelow number document.nodes (map (new number) (reverse before)) n above → IsRoom (map (new number) (reverse before)) above n.kind n.attrs
@@ -383,13 +383,13 @@ made_is number nodes read serial n above same under =
 place_is : (nodes before : List Node) (n : Node) (rest : List Node) → nodes ≡ reverse before ++ n ∷ rest → list_any (has_serial n.serial) (reverse before) ≡ false
     → length (map (new (number_of nodes)) (reverse before)) + 1 ≡ number_of nodes n.serial
 place_is nodes before n rest all first =
-    ap (λ (len : ℕ). len + 1) (length_map (new (number_of nodes)) (reverse before)) ∙ add-one (length (reverse before)) ∙ sym (ap (λ (xs : List Node). number_of xs n.serial) all ∙ number_is (reverse before) n rest first)
+    ap (λ (len : ℕ). len + 1) (length-map (reverse before) (new (number_of nodes))) ∙ add-one (length (reverse before)) ∙ sym (ap (λ (xs : List Node). number_of xs n.serial) all ∙ number_is (reverse before) n rest first)
 
 grown : (number : ℕ → ℕ) (next : Option ℕ) (nodes before : List Node) (n : Node) (rest : List Node) (kept opened : List ℕ) → nodes ≡ reverse before ++ n ∷ rest → list_any (has_serial n.serial) (reverse before) ≡ false
     → outline_on (so_far number next nodes before opened) (branch_of number nodes kept) (new number n) ≡ so_far number next nodes (n ∷ before) (n.serial ∷ kept)
 grown number next nodes before n rest kept opened all first =
     let more : map (new number) (reverse before) ++ new number n ∷ [] ≡ map (new number) (reverse (n ∷ before)) =
-    sym (ap (map (new number)) (reverse-append (n ∷ []) before) ∙ map_on (new number) (reverse before) (n ∷ [])) in
+    sym (ap (map (new number)) (reverse-append (n ∷ []) before) ∙ map-append (new number) (reverse before) (n ∷ [])) in
     let here : node_with nodes n.serial ≡ Some n = ap (λ (xs : List Node). node_with xs n.serial) all ∙ found (reverse before) n rest first in
     let kinds : n.kind ≡ kind_with nodes n.serial = sym (ap (λ (o : Option Node). unwrap_or (kind_of o) kind.Par) here) in
     let longer : branch_of number nodes kept ++ (number n.serial, n.kind) ∷ [] ≡ branch_of number nodes (n.serial ∷ kept) =
@@ -464,7 +464,7 @@ by_places document valid = record {
 
 ended_is : (nodes read : List Node) (branch : List (ℕ × Kind)) → read ≡ nodes → 0 < length nodes → ended (record { nodes = map (new (number_of nodes)) read; branch = branch; next = None }) ≡ Ok (renumbered nodes)
 ended_is nodes read branch e some =
-    let same : length (map (new (number_of nodes)) nodes) ≡ length nodes = length_map (new (number_of nodes)) nodes in
+    let same : length (map (new (number_of nodes)) nodes) ≡ length nodes = length-map nodes (new (number_of nodes)) in
     let not_empty : eqb (length (map (new (number_of nodes)) nodes)) 0 ≡ false = ne_eqb _ _ (λ z. omega arith) in
     ap (λ (xs : List Node). ended (record { nodes = map (new (number_of nodes)) xs; branch = branch; next = None })) e ∙ rw (not_empty, same) refl
 

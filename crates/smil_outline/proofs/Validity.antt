@@ -1,12 +1,12 @@
 -- What an outline is read as is a valid document.
 use Rattle.std.proofs.Common.{◌≡◌, ℕ, zero, suc, ◌+◌, ◌-◌, ◌<◌, ◌≤◌, Bool, true, false, not, cond, eqb, ltb, leb, ◌&&◌, ◌||◌, List, [], ◌∷◌, ◌++◌, length, take, drop, map, reverse, Option, Some, None, option_map, is_some, Result, Ok, Err, refl, sym, ap, subst, ◌∙◌, arith, length-append, length-take, inl, inr, ◌⊎◌}
-use Rattle.std.specs.Prelude.{◌/◌, ◌%◌, unwrap_or, option_and_then, sum_by, bytes_eq, codes, slice_get, IfSome}
+use Rattle.std.specs.Prelude.{◌/◌, ◌%◌, unwrap_or, option_and_then, sum_by, bytes_eq, codes, IfSome}
 use Rattle.std.specs.Bool.{nat_eq}
 use Rattle.std.specs.Char.{is_ascii_digit}
 use Rattle.std.specs.List.{prefix_len, list_any, list_all, starts_with, AllByRecursion}
 use Rattle.std.proofs.lemmas.Bool.{and_parts, and_right, or_parts, or_right, eq-eqb, eqb-true, lt-ltb, ltb-true, leb-false, ltb-false, not-false, ne_eqb, cond_both}
 use Rattle.std.proofs.lemmas.Bool.Decides.{nat_tests}
-use Rattle.std.proofs.lemmas.List.{reverse-append, take-append-drop}
+use Rattle.std.proofs.lemmas.List.{reverse-append, take-append-drop, map-append}
 use Rattle.std.proofs.lemmas.List.Elements.{All-from_recursion}
 use Rattle.std.proofs.lemmas.List.Sums.{sum_by-append, sum_by-cons}
 use Rattle.std.proofs.lemmas.Slice.Eq.{bytes_eq-Decides}
@@ -29,13 +29,14 @@ use Rattle.smil_model.specs.declared.limits.TheConstants.{NODES, DEPTH, REFERENC
 use Rattle.smil_model.specs.document.Limits.{limits}
 use Rattle.smil_time_list.proofs.Printable.{IsCounted, count_small}
 use Rattle.smil_laws.proofs.Lineages.{swap_eqb}
+use Rattle.smil_laws.proofs.Lists.{each_at}
 use Rattle.smil_outline.specs.Branches.{is_known, IsRead}
 use Rattle.smil_outline.proofs.Alike.{other_serial, known_on, known_self}
 use Rattle.smil_grammar.specs.Outlines.{Outline, unless, in_line, mixes, has_id as has_id_among, attrs_in, last_of, no_lines, shape_in, is_bad_serial, is_misplaced, opens_saved, header_of, with_header, node_within, shape_within, read_within, with_line, with_lines, ended, outline_of}
 use Rattle.smil_grammar.specs.Outlines.{with_node as outline_with}
 use Rattle.smil_attrs.proofs.Noded.{attrs_had_from}
 use Rattle.smil_outline.specs.Open.{upwards}
-use Rattle.smil_outline.proofs.Depths.{level, map_on, upwards_on, length_upwards}
+use Rattle.smil_outline.proofs.Depths.{level, upwards_on, length_upwards}
 use Rattle.smil_outline.proofs.Walks.{Levels, AreFresh, IsRest, IsWalked, next_depth, walk_on, depth_is}
 use Rattle.smil_outline.proofs.Reading.{IsRoom, made}
 use Rattle.smil_outline.proofs.Ranging.{ranges}
@@ -453,11 +454,6 @@ tree_grows (root ∷ nodes) open_nodes kept x h e k =
     let there : list_any (λ s. eqb s x.parent) (after (root.serial ∷ []) nodes) ≡ true = subst (λ (xs : List ℕ). list_any (λ s. eqb s x.parent) xs ≡ true) h.2 e in
     (h.0, tree_on (root.serial ∷ []) nodes x h.1 there, ap (λ (xs : List ℕ). x.serial ∷ xs) (k ∙ ap (open_from x.parent) h.2) ∙ sym (after_on (root.serial ∷ []) nodes x))
 
-got : {A : Type 0} (P : A → Type 0) (xs : List A) (i : ℕ) (p : A) → AllByRecursion P xs → slice_get xs i ≡ Some p → P p
-got P [] i p h e = absurd cc
-got P (x ∷ xs) zero p h e = let same : x ≡ p = cc in subst P same h.0
-got P (x ∷ xs) (suc i) p h e = got P xs i p h.1 e
-
 all_taken : {A : Type 0} (P : A → Type 0) (n : ℕ) (xs : List A) → AllByRecursion P xs → AllByRecursion P (take n xs)
 all_taken P zero xs h = tt
 all_taken P (suc n) [] h = tt
@@ -465,7 +461,7 @@ all_taken P (suc n) (x ∷ xs) h = (h.0, all_taken P n xs h.1)
 
 apart : (branch : List (ℕ × Kind)) (depth : ℕ) → upwards branch ≡ upwards (drop depth branch) ++ upwards (take depth branch)
 apart branch depth =
-    ap upwards (sym (take-append-drop depth branch)) ∙ ap (λ (xs : List ℕ). reverse xs) (map_on (λ (m : ℕ × Kind). m.0) (take depth branch) (drop depth branch)) ∙ reverse-append (map (λ (m : ℕ × Kind). m.0) (take depth branch)) (map (λ (m : ℕ × Kind). m.0) (drop depth branch))
+    ap upwards (sym (take-append-drop depth branch)) ∙ ap (λ (xs : List ℕ). reverse xs) (map-append (λ (m : ℕ × Kind). m.0) (take depth branch) (drop depth branch)) ∙ reverse-append (map (λ (m : ℕ × Kind). m.0) (take depth branch)) (map (λ (m : ℕ × Kind). m.0) (drop depth branch))
 
 put_at : (nodes : List Node) (branch : List (ℕ × Kind)) (next : Option ℕ) (depth serial : ℕ) (k : Kind) (attrs : Attrs) → IsReadable (record { nodes = nodes; branch = branch; next = next }) → is_known nodes serial ≡ false → depth ≤ length branch → IsRoom nodes (take depth branch) k attrs
     → IsPut nodes branch (take depth branch) (made serial (take depth branch) k attrs)
@@ -493,7 +489,7 @@ put_at nodes branch next (suc d) serial k attrs r new near room =
     let kept : upwards above ≡ open_from x.parent (upwards branch) =
     here.up ∙ sym (opens_at nodes p.0 (upwards (drop (suc d) branch)) tail once) ∙ ap (open_from p.0) (sym all) ∙ ap (λ (q : ℕ). open_from q (upwards branch)) (sym parent) in
     let known : kind_of (node_with nodes p.0) ≡ Some p.1 =
-    got (λ (b : ℕ × Kind). kind_of (node_with nodes b.0) ≡ Some b.1) above (length above - 1) p (all_taken (λ (b : ℕ × Kind). kind_of (node_with nodes b.0) ≡ Some b.1) (suc d) branch r.kinds) here.last in
+    each_at (λ (b : ℕ × Kind). kind_of (node_with nodes b.0) ≡ Some b.1) above (length above - 1) p (all_taken (λ (b : ℕ × Kind). kind_of (node_with nodes b.0) ≡ Some b.1) (suc d) branch r.kinds) here.last in
     let unmixed : mixes nodes (Some p) k ≡ false = subst (λ (o : Option (ℕ × Kind)). mixes nodes o k ≡ false) here.last room.unmixed in
     let alike_all = subst (λ (q : ℕ). AreAlike nodes q k) (sym parent) (all_alike nodes p.0 k unmixed) in
     record {

@@ -13,6 +13,7 @@ use Rattle.smil_model.specs.document.Valid.{open_from, IsTreeFrom, IsTree, IsDis
 use Rattle.smil_model.specs.document.Values.{is_seq_parent}
 use Rattle.smil_model.specs.document.Words.{Begins}
 use Rattle.smil_laws.proofs.Unreached.{absent_reverse}
+use Rattle.smil_laws.proofs.Lists.{reverse-around}
 use Rattle.smil_outline.specs.Written.{line_text, lines_behind}
 use Rattle.smil_grammar.specs.Allowed.{IsAttrs}
 use Rattle.smil_grammar.specs.Outlines.{depth_among}
@@ -112,16 +113,13 @@ skip (n ∷ front) back serial e =
     let parts = or_parts (eqb n.serial serial) (list_any (λ (m : Node). eqb m.serial serial) front) e in
     rw parts.0 (skip front back serial parts.1)
 
-turned : (front : List Node) (n : Node) (rest : List Node) → reverse (front ++ n ∷ rest) ≡ reverse rest ++ n ∷ reverse front
-turned front n rest = reverse-append front (n ∷ rest) ∙ ap (λ (xs : List Node). xs ++ reverse front) (reverse-append (n ∷ []) rest) ∙ append_assoc (reverse rest) (n ∷ []) (reverse front)
-
 -- the depth in the walk is the node's depth
 pub depth_is : (front : List Node) (n : Node) (rest : List Node) → IsDistinct (n ∷ rest) → depth_of (front ++ n ∷ rest) n.serial ≡ depth_among (depths_back (reverse front)) n.parent
 depth_is front n rest h =
     let own : eqb n.serial n.serial ≡ true = eq-eqb _ _ refl in
     let here : upwards (n ∷ reverse front) n.serial ≡ n ∷ upwards (reverse front) n.parent = rw own refl in
     let up : upwards (reverse (front ++ n ∷ rest)) n.serial ≡ n ∷ upwards (reverse front) n.parent =
-    ap (λ (nodes : List Node). upwards nodes n.serial) (turned front n rest) ∙ skip (reverse rest) (n ∷ reverse front) n.serial (absent_reverse (λ (m : Node). eqb m.serial n.serial) rest h.0) ∙ here in
+    ap (λ (nodes : List Node). upwards nodes n.serial) (reverse-around front n rest) ∙ skip (reverse rest) (n ∷ reverse front) n.serial (absent_reverse (λ (m : Node). eqb m.serial n.serial) rest h.0) ∙ here in
     ap (λ (nodes : List Node). length (drop 1 nodes)) up ∙ sym (depth_up (reverse front) n.parent)
 
 -- ---- places in the list

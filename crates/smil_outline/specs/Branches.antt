@@ -4,24 +4,21 @@ use Rattle.std.specs.List.{list_any}
 use Rattle.smil_model.specs.declared.limits.TheConstants.{NODES, REFERENCES}
 use Rattle.smil_model.specs.declared.document.Kind.{Kind}
 use Rattle.smil_model.specs.declared.document.Node.{Node}
+use Rattle.smil_model.specs.document.Closure.{has}
 use Rattle.smil_model.specs.document.Valid.{references, same_test}
 use Rattle.smil_model.specs.document.Document.{is_class_kind}
 use Rattle.smil_grammar.specs.Outlines.{Outline, no_lines, has_id, last_of, mixes, with_lines}
 
 -- an id among others
-abbrev pub has : List (List ℕ) → List ℕ → Bool
-has ids id = list_any (λ (other : List ℕ). bytes_eq other id) ids
-
--- a serial among others
-abbrev pub is_among : List ℕ → ℕ → Bool
-is_among serials serial = list_any (λ s. s == serial) serials
+abbrev pub is_listed : List (List ℕ) → List ℕ → Bool
+is_listed ids id = list_any (λ (other : List ℕ). bytes_eq other id) ids
 
 -- the ids and the serials of these nodes, the empty id for a node without one, and how many items refer to something
 pub record IsNoted (nodes : List Node) (ids : List (List ℕ)) (serials : List ℕ) (count : ℕ) : Type 0 where
   pub counted : count ≡ references nodes
   pub few : count ≤ REFERENCES
-  pub named : (id : List ℕ) → has ids id ≡ has_id nodes (Some id)
-  pub numbered : (serial : ℕ) → is_among serials serial ≡ list_any (λ (n : Node). n.serial == serial) nodes
+  pub named : (id : List ℕ) → is_listed ids id ≡ has_id nodes (Some id)
+  pub numbered : (serial : ℕ) → has serials serial ≡ list_any (λ (n : Node). n.serial == serial) nodes
 
 -- a kind that is a class beside one that is none, or the other way round
 abbrev pub differs : Option (ℕ × Kind) → Kind → Bool

@@ -1,7 +1,7 @@
 //! The serials of an outline's nodes.
 
 ghost use Rattle.std.specs.Prelude.{◌≡◌, ℕ, [], ◌||◌, ◌&&◌, not, ◌==◌, if◌then◌else◌, OnOk, OnErr};
-ghost use Rattle.smil_outline.specs.Branches.{is_among};
+ghost use Rattle.smil_model.specs.document.Closure.{has};
 
 use std::alloc::{AllocError, Global};
 use std::collections::BTreeSet;
@@ -33,7 +33,7 @@ impl SerialSet {
 
     /// Whether this serial is among them.
     pub fn has(&self, serial: u32) -> bool
-        ensures { result ≡ is_among self.now serial }
+        ensures { result ≡ has self.now serial }
     {
         self.serials.contains(&serial)
     }
@@ -42,7 +42,7 @@ impl SerialSet {
     /// are as before.
     pub fn put(&mut self, serial: u32) -> Result<(), AllocError>
         ensures ok { OnOk result ((other : ℕ)
-            → is_among self.new other ≡ (is_among self.old other || (serial == other))) }
+            → has self.new other ≡ (has self.old other || (serial == other))) }
         ensures err { OnErr result (self.new ≡ self.old) }
     {
         self.serials.insert(serial)?;
@@ -51,8 +51,8 @@ impl SerialSet {
 
     /// Takes out a serial that was put in, unless it was there before.
     pub fn take_back(&mut self, serial: u32, was_there: bool)
-        ensures { (other : ℕ) → is_among self.new other ≡ (if was_there then is_among self.old other
-            else is_among self.old other && not (serial == other)) }
+        ensures { (other : ℕ) → has self.new other ≡ (if was_there then has self.old other
+            else has self.old other && not (serial == other)) }
     {
         if !was_there {
             self.serials.remove(&serial);

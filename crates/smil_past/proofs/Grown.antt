@@ -1,9 +1,8 @@
 -- A log of which the diary does not name the last entries.
-use Rattle.std.proofs.Common.{◌≡◌, refl, sym, ◌∙◌, ap, subst, ℕ, suc, zero, ◌+◌, List, [], ◌∷◌, ◌++◌, take, length, length-append, Option, None, arith}
-use Rattle.std.specs.Prelude.{All, fold, map, unwrap_or}
+use Rattle.std.proofs.Common.{◌≡◌, refl, sym, ◌∙◌, ap, subst, ℕ, suc, zero, ◌+◌, List, [], ◌∷◌, ◌++◌, take, length, length-append, arith}
+use Rattle.std.specs.Prelude.{All, map}
 use Rattle.std.proofs.Math.Seq.{take-length}
 use Rattle.std.proofs.lemmas.List.{take-append-le}
-use Rattle.smil_model.specs.declared.times.Time.{Time}
 use Rattle.smil_model.specs.declared.times.Time.TheVariants as time
 use Rattle.smil_model.specs.declared.diary.Entry.{Entry}
 use Rattle.smil_model.specs.declared.diary.LogEntry.{LogEntry}
@@ -15,9 +14,9 @@ use Rattle.smil_model.specs.declared.document.Edge.TheVariants.{Begin, End}
 use Rattle.smil_model.specs.declared.document.Item.{Item}
 use Rattle.smil_model.specs.document.Document.{Document, elements}
 use Rattle.smil_model.specs.document.Defaults.{begin_list, end_list}
-use Rattle.smil_model.specs.interval.Current.{length_of, length_after, media_length}
 use Rattle.smil_laws.specs.Cut.{IsNamedBelow, NamesBelow}
-use Rattle.smil_laws.proofs.Longer.{get_longer}
+use Rattle.smil_laws.proofs.Aside.{media_same}
+use Rattle.smil_laws.proofs.Longer.{get_longer, longer_alike}
 use Rattle.smil_laws.proofs.Cutting.{names_weaker}
 use Rattle.smil_past.specs.declared.plays.played.PlayFacts.{PlayFacts}
 use Rattle.smil_past.specs.Played.{played, all_played}
@@ -49,29 +48,9 @@ all_alike log more (x ∷ xs) named (suc k) d below = all_alike log more xs name
 
 -- ---- what is kept
 
-length_same : (log more : List LogEntry) (s : ℕ) (before : Option Time) (step : Step) → IsNamedBelow (length log) step → length_after (log ++ more) s before step ≡ length_after log s before step
-length_same log more s before (Logged place) named = ap (λ o. length_of s o before) (get_longer log more place named)
-length_same log more s before (Began who begin) named = refl
-length_same log more s before (Repeated who start) named = refl
-length_same log more s before (Ended who end') named = refl
-length_same log more s before (Cut who) named = refl
-length_same log more s before (Paused who) named = refl
-length_same log more s before (Resumed who) named = refl
-length_same log more s before (Deferred who begin) named = refl
-length_same log more s before (Passed who begin) named = refl
-
-lengths_same : (log more : List LogEntry) (s : ℕ) (before : Option Time) (xs : List Entry) → NamesBelow (length log) xs → fold (λ b (x : Entry). length_after (log ++ more) s b x.step) before xs ≡ fold (λ b (x : Entry). length_after log s b x.step) before xs
-lengths_same log more s before [] named = refl
-lengths_same log more s before (x ∷ xs) named =
-    ap (λ b. fold (λ b (x : Entry). length_after (log ++ more) s b x.step) b xs) (length_same log more s before x.step named.0)
-    ∙ lengths_same log more s (length_after log s before x.step) xs named.1
-
 module _ (document : Document) (log more : List LogEntry) (diary : List Entry) (named : NamesBelow (length log) diary) where
-  media_same : (s : ℕ) → media_length (history_of document (log ++ more) diary) s ≡ media_length (history_of document log diary) s
-  media_same s = ap (λ o. unwrap_or o time.Unresolved) (lengths_same log more s None diary named)
-
   played_same : (s : ℕ) → played (history_of document (log ++ more) diary) s ≡ played (history_of document log diary) s
-  played_same s = ap (λ t. record (played (history_of document log diary) s) { length = t }) (media_same s)
+  played_same s = ap (λ t. record (played (history_of document log diary) s) { length = t }) (media_same (log ++ more) log document.nodes document.nodes diary (longer_alike log more diary named) s)
 
   abbrev play_row : List LogEntry → Node → ℕ × PlayFacts
   play_row l e = (e.serial, played (history_of document l diary) e.serial)

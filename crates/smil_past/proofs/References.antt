@@ -1,5 +1,5 @@
 -- What an item waits for, told from its source and its mark.
-use Rattle.std.proofs.Common.{◌≡◌, ◌∙◌, ap, sym, subst, refl, ℕ, ℤ, zero, suc, ◌+◌, List, [], ◌∷◌, ◌++◌, Bool, true, false, take, eq-eqb}
+use Rattle.std.proofs.Common.{◌≡◌, ◌∙◌, ap, sym, subst, refl, ℕ, ℤ, suc, ◌+◌, List, [], ◌∷◌, ◌++◌, Bool, true, false, take, eq-eqb}
 use Rattle.std.specs.Prelude.{Option, None, Some, pos, filter_map, slice_get, option_map, map, ◌==◌, if◌then◌else◌}
 use Rattle.std.proofs.lemmas.Bool.{eqb-true}
 use Rattle.std.proofs.lemmas.List.Elements.{filter_map-append}
@@ -20,6 +20,7 @@ use Rattle.smil_instances.specs.declared.source.Source.TheVariants as source
 use Rattle.smil_instance_rows.specs.declared.cell.Cell.{Cell}
 use Rattle.smil_instances.specs.Sources.{item_under, source_at, source_by, source_of, source_under, syncbase_or}
 use Rattle.smil_graph.specs.Graph.{is_looped_item, looped_at, looped_of}
+use Rattle.smil_graph.proofs.Kept.{place_is}
 use Rattle.smil_instances.specs.Dependents.{DocumentDependents, AreDependentsOf, source_in}
 use Rattle.smil_instances.specs.Spread.{IsIndex}
 use Rattle.smil_instances.specs.declared.syncbase.Syncbase.{Syncbase}
@@ -140,10 +141,6 @@ serial_there ns who e s =
 is_own : (n : ℕ) (o : Option ℕ) → o ≡ Some n → is_option n o ≡ true
 is_own n o e = ap (is_option n) e ∙ eq-eqb n n refl
 
-pub only_own : (n : ℕ) (o : Option ℕ) → is_option n o ≡ true → o ≡ Some n
-only_own n None e = absurd (cc)
-only_own n (Some m) e = ap Some (sym (eqb-true n m e))
-
 row_serials : (nodes : List Node) (ns : List Node) → serials_in (map (sync_row nodes) ns) ≡ serials ns
 row_serials nodes [] = refl
 row_serials nodes (n ∷ ns) = ap (λ rest. n.serial ∷ rest) (row_serials nodes ns)
@@ -154,7 +151,7 @@ row_found nodes who e rows index is same found =
     let s = stands (elements nodes) who e found in
     let whos : serials_in rows ≡ serials (elements nodes) = ap serials_in same ∙ row_serials nodes (elements nodes) in (
       s.place,
-      only_own s.place (index who) (is s.place who ∙ is_own who (slice_get (serials_in rows) s.place) (ap (λ xs. slice_get xs s.place) whos ∙ serial_there (elements nodes) who e s)),
+      place_is s.place (index who) (is s.place who ∙ is_own who (slice_get (serials_in rows) s.place) (ap (λ xs. slice_get xs s.place) whos ∙ serial_there (elements nodes) who e s)),
       ap (λ xs. slice_get xs s.place) same ∙ slice_get-map (sync_row nodes) (elements nodes) s.place ∙ ap (option_map (sync_row nodes)) s.at,
     )
 
@@ -174,20 +171,6 @@ side_told nodes End e = refl
 pub row_is : (nodes : List Node) (e : Node) (who : ℕ) (begins ends : List Syncbase) (row : SyncRow) → row ≡ record { serial = who; begins = begins; ends = ends } → who ≡ e.serial → begins ≡ syncs_of nodes Begin e → ends ≡ syncs_of nodes End e → row ≡ sync_row nodes e
 row_is nodes e who begins ends row made serial begins_are ends_are =
     made ∙ (λ i. record { serial = serial i; begins = begins_are i; ends = ends_are i })
-
--- what stands among the elements is one
-pub element_is : (ns : List Node) (i : ℕ) (e : Node) → slice_get (elements ns) i ≡ Some e → is_element e ≡ true
-element_is [] i e at = absurd (cc)
-element_is (n ∷ ns) zero e at =
-    elim (is_element n) as (λ (t : Bool). is_element n ≡ t → slice_get (if t then n ∷ elements ns else elements ns) zero ≡ Some e → is_element e ≡ true) [
-      | true ↦ λ is there. let one : n ≡ e = cc in ap is_element (sym one) ∙ is
-      | false ↦ λ _ there. element_is ns zero e there
-    ] refl at
-element_is (n ∷ ns) (suc i) e at =
-    elim (is_element n) as (λ (t : Bool). slice_get (if t then n ∷ elements ns else elements ns) (suc i) ≡ Some e → is_element e ≡ true) [
-      | true ↦ λ there. element_is ns i e there
-      | false ↦ λ there. element_is ns (suc i) e there
-    ] at
 
 -- an element is found among the elements
 pub kept_known : (ns : List Node) (who : ℕ) (e : Node) → node_at ns who ≡ Some e → is_element e ≡ true → node_at (elements ns) who ≡ Some e

@@ -7,7 +7,7 @@ use Rattle.smil_model.specs.declared.document.Node.{Node}
 use Rattle.smil_model.specs.document.Document.{is_element}
 use Rattle.smil_model.specs.document.Valid.{IsDistinct}
 use Rattle.smil_model.specs.reach.Reach.{is_option}
-use Rattle.smil_tree.proofs.Holding.{same_test}
+use Rattle.smil_laws.proofs.Lineages.{same_eqb}
 use Rattle.smil_instances.specs.Spread.{IsIndex}
 use Rattle.smil_past.specs.declared.plays.played.PlayFacts.{PlayFacts}
 use Rattle.smil_past.specs.Rows.{row_of, keys_of, IsPut}
@@ -79,9 +79,9 @@ set_row who r (x ∷ xs) (suc k) s is =
 -- the k-th row alone is of the element
 alone_first : (who : ℕ) (xs : List Row) (k : ℕ) → ((j : ℕ) → is_option j (Some k) ≡ is_option who (slice_get (keys_of xs) j)) → IsFirst who xs k
 alone_first who [] k alone = let never : true ≡ false = sym (eq-eqb k k refl) ∙ alone k in cc
-alone_first who (x ∷ xs) zero alone = same_test x.0 who ∙ sym (alone zero) ∙ eq-eqb zero zero refl
+alone_first who (x ∷ xs) zero alone = same_eqb x.0 who ∙ sym (alone zero) ∙ eq-eqb zero zero refl
 alone_first who (x ∷ xs) (suc k) alone =
-    (same_test x.0 who ∙ sym (alone zero) ∙ apart k, alone_first who xs k (λ j. next j k ∙ alone (suc j)))
+    (same_eqb x.0 who ∙ sym (alone zero) ∙ apart k, alone_first who xs k (λ j. next j k ∙ alone (suc j)))
   where
     apart : (i : ℕ) → zero == suc i ≡ false
     apart i = grind arith
@@ -93,7 +93,7 @@ alone_first who (x ∷ xs) (suc k) alone =
 none_first : (who : ℕ) (xs : List Row) → ((j : ℕ) → false ≡ is_option who (slice_get (keys_of xs) j)) → row_of xs who ≡ None
 none_first who [] none = refl
 none_first who (x ∷ xs) none =
-    cons_row who x xs ∙ ap (λ t. cond t (Some x.1) (row_of xs who)) (same_test x.0 who ∙ sym (none zero))
+    cons_row who x xs ∙ ap (λ t. cond t (Some x.1) (row_of xs who)) (same_eqb x.0 who ∙ sym (none zero))
     ∙ none_first who xs (λ j. none (suc j))
 
 module _ (who : ℕ) (xs : List Row) (index : ℕ → Option ℕ) (is : IsIndex (keys_of xs) index) where

@@ -1,5 +1,5 @@
 -- Attributes that are read for a node fit it.
-use Rattle.std.proofs.Common.{◌≡◌, ℕ, List, true, Option, Some, None, Ok, refl, sym, ap, ◌∙◌}
+use Rattle.std.proofs.Common.{◌≡◌, ℕ, List, true, Option, Some, Ok, sym, ap, ◌∙◌}
 use Rattle.std.specs.Prelude.{IsSome}
 use Rattle.smil_model.specs.declared.document.Node.{Node}
 use Rattle.smil_model.specs.declared.document.Kind.{Kind}
@@ -10,24 +10,13 @@ use Rattle.smil_model.specs.document.Edits.{with_attr}
 use Rattle.smil_model.specs.document.Valid.{IsValid, kind_of}
 use Rattle.smil_model.specs.document.Values.{fit_kind, is_seq_parent}
 use Rattle.smil_grammar.specs.Nodes.{attribute_of, node_of}
+use Rattle.smil_laws.proofs.Members.{There, there}
 use Rattle.smil_attrs.proofs.Kept.{with_stays}
 use Rattle.smil_attrs.proofs.Noded.{attribute_is, node_is}
 use Rattle.smil_outline.proofs.Fitting.{fits}
 use Rattle.smil_outline.proofs.Ranging.{ranges}
 use Rattle.smil_tree.specs.Outcomes.{may_bear, may_take, passes}
 use Rattle.smil_tree.proofs.Keeping.{fits_at}
-
--- a node that is there
-record There (nodes : List Node) (s : ℕ) : Type 0 where
-  node : Node
-  at : node_at nodes s ≡ Some node
-
-there : (nodes : List Node) (s : ℕ) → IsSome (node_at nodes s) → There nodes s
-there nodes s some = by_node (node_at nodes s) refl some
-  where
-    by_node : (o : Option Node) → node_at nodes s ≡ o → IsSome o → There nodes s
-    by_node None at h = absurd cc
-    by_node (Some n) at h = record { node = n; at = at }
 
 kind_there : (nodes : List Node) (s : ℕ) (n : Node) (kind : Kind) → node_at nodes s ≡ Some n → Some kind ≡ kind_of (node_at nodes s) → kind ≡ n.kind
 kind_there nodes s n kind at is = let found : Some kind ≡ Some n.kind = is ∙ ap kind_of at in cc

@@ -28,6 +28,7 @@ use Rattle.smil_grammar.specs.Results.{◌>>=◌}
 use Rattle.smil_grammar.specs.Gives.{GivesReading}
 use Rattle.smil_attrs.proofs.Kept.{with_stays}
 use Rattle.smil_attrs.proofs.Noded.{attribute_is, node_is}
+use Rattle.smil_laws.proofs.Members.{There, there}
 use Rattle.smil_laws.proofs.Rounds.{find-serial}
 use Rattle.smil_outline.proofs.Fitting.{fits}
 use Rattle.smil_outline.proofs.Ranging.{ranges}
@@ -41,18 +42,6 @@ use Rattle.smil_revision.specs.Refusing.{of_outcome}
 use Rattle.smil_revision.proofs.TreeFaults.{fault_refuses, place_is, remove_is, room_is, set_is}
 
 -- ---- the node of a serial
-
--- a node that is there
-pub record There (nodes : List Node) (s : ℕ) : Type 0 where
-  pub node : Node
-  pub at : node_at nodes s ≡ Some node
-
-pub there : (nodes : List Node) (s : ℕ) → IsSome (node_at nodes s) → There nodes s
-there nodes s some = by_node (node_at nodes s) refl some
-  where
-    by_node : (o : Option Node) → node_at nodes s ≡ o → IsSome o → There nodes s
-    by_node None at h = absurd cc
-    by_node (Some n) at h = record { node = n; at = at }
 
 pub some_from : {A : Type 0} (o : Option A) (x : A) → o ≡ Some x → IsSome o
 some_from {A = A} o x is = subst (λ (p : Option A). IsSome p) (sym is) refl

@@ -1,6 +1,6 @@
 -- What was written, of one text and of two.
-use Rattle.std.proofs.Common.{◌≡◌, true, ℕ, ◌+◌, ◌<◌, ◌≤◌, List, ◌++◌, length, take, Option, Result, Ok, Err, sym, subst, arith, inl, inr}
-use Rattle.std.specs.Prelude.{IsOk, OnOk, OnErr, is_err, ◌⊎◌}
+use Rattle.std.proofs.Common.{ℕ, ◌+◌, ◌<◌, ◌≤◌, List, ◌++◌, length, take, Option, Result, Ok, Err, sym, subst, arith, inl, inr}
+use Rattle.std.specs.Prelude.{IsOk, OnOk, OnErr, ◌⊎◌}
 use Rattle.std.proofs.Math.Seq.{take-append-add}
 use Rattle.std.proofs.lemmas.Bool.{cases_lt}
 use Rattle.std.proofs.lemmas.List.{length-append}
@@ -38,7 +38,3 @@ risen-from before between after le (inr last) = by_order (cases_lt before after)
     by_order : (before < after) ⊎ (after ≤ before) → HasRisen before after
     by_order (inl lt) = inl lt
     by_order (inr ge) = inr (omega (arith, last.0, last.1), last.1)
-
-pub on-err : {A E : Type 0} (result : Result A E) (P : Type 0) → is_err result ≡ true → OnErr result P → P
-on-err (Ok x) P is h = absurd cc
-on-err (Err e) P is h = h

@@ -15,17 +15,8 @@ use Rattle.smil_model.specs.declared.document.Node.{Node}
 use Rattle.smil_model.specs.declared.document.Attrs.{Attrs}
 use Rattle.smil_model.specs.document.Document.{has_serial, node_at}
 use Rattle.smil_model.specs.document.Edits.{changed_at}
-use Rattle.smil_laws.proofs.Lineages.{swap_eqb}
+use Rattle.smil_laws.proofs.Lineages.{same_eqb, swap_eqb}
 use Rattle.smil_tree.specs.Held.{and_those, held, IsHeld, cut}
-
--- ---- tests
-
-pub same_test : (a b : ℕ) → a == b ≡ b == a
-same_test a b = by_test (a == b) refl
-  where
-    by_test : (t : Bool) → a == b ≡ t → a == b ≡ b == a
-    by_test true e = e ∙ sym (eq-eqb b a (sym (eqb-true a b e)))
-    by_test false e = e ∙ sym (swap_eqb a b e)
 
 -- ---- what is read
 
@@ -60,7 +51,7 @@ held-find slab s (e ∷ es) all = step (get slab e.1) refl all.0 (held-find slab
   where
     step : (o : Option Node) → get slab e.1 ≡ o → has_serial e.0 o ≡ true → node_at (held slab es) s ≡ at_key slab (lookup (nat_eq s) es) → node_at (and_those o (held slab es)) s ≡ at_key slab (cond (nat_eq s e.0) (Some e.1) (lookup (nat_eq s) es))
     step None q h rest = cc
-    step (Some n) q h rest = by_test (nat_eq s e.0) (ap (λ x. x == s) (eqb-true n.serial e.0 h) ∙ same_test e.0 s)
+    step (Some n) q h rest = by_test (nat_eq s e.0) (ap (λ x. x == s) (eqb-true n.serial e.0 h) ∙ same_eqb e.0 s)
       where
         by_test : (t : Bool) → n.serial == s ≡ t → cond (n.serial == s) (Some n) (node_at (held slab es) s) ≡ at_key slab (cond t (Some e.1) (lookup (nat_eq s) es))
         by_test true e = ap (λ t. cond t (Some n) (node_at (held slab es) s)) e ∙ sym q
@@ -73,7 +64,7 @@ held-first slab s (e ∷ es) all = step (get slab e.1) all.0 (held-first slab s 
     step : (o : Option Node) → has_serial e.0 o ≡ true → position_or_len (λ (n : Node). n.serial == s) (held slab es) ≡ position_or_len (nat_eq s) (keys_of es) → position_or_len (λ (n : Node). n.serial == s) (and_those o (held slab es)) ≡ cond (not (nat_eq s e.0)) (1 + position_or_len (nat_eq s) (keys_of es)) 0
     step None h rest = cc
     step (Some n) h rest =
-        let same : n.serial == s ≡ nat_eq s e.0 = ap (λ x. x == s) (eqb-true n.serial e.0 h) ∙ same_test e.0 s in
+        let same : n.serial == s ≡ nat_eq s e.0 = ap (λ x. x == s) (eqb-true n.serial e.0 h) ∙ same_eqb e.0 s in
         ap (λ t. cond (not t) (1 + position_or_len (λ (m : Node). m.serial == s) (held slab es)) 0) same
         ∙ ap (λ k. cond (not (nat_eq s e.0)) (1 + k) 0) rest
 
@@ -152,7 +143,7 @@ absent slab s (e ∷ es) all q = step (get slab e.1) all.0 q (absent slab s es a
   where
     step : (o : Option Node) → has_serial e.0 o ≡ true → node_at (and_those o (held slab es)) s ≡ None → (node_at (held slab es) s ≡ None → lookup (nat_eq s) es ≡ None) → cond (nat_eq s e.0) (Some e.1) (lookup (nat_eq s) es) ≡ None
     step None h r rest = cc
-    step (Some n) h r rest = by_test (nat_eq s e.0) (ap (λ x. x == s) (eqb-true n.serial e.0 h) ∙ same_test e.0 s)
+    step (Some n) h r rest = by_test (nat_eq s e.0) (ap (λ x. x == s) (eqb-true n.serial e.0 h) ∙ same_eqb e.0 s)
       where
         by_test : (t : Bool) → n.serial == s ≡ t → cond t (Some e.1) (lookup (nat_eq s) es) ≡ None
         by_test true e = let never : Some n ≡ None = sym (ap (λ t. cond t (Some n) (node_at (held slab es) s)) e) ∙ r in cc
@@ -222,7 +213,7 @@ none_changed slab change s (e ∷ es) all free = step (get slab e.1) all.0 (none
     step : (o : Option Node) → has_serial e.0 o ≡ true → changed_at change s (held slab es) ≡ held slab es → changed_at change s (and_those o (held slab es)) ≡ and_those o (held slab es)
     step None h r = cc
     step (Some n) h r =
-        let other : n.serial == s ≡ false = ap (λ x. x == s) (eqb-true n.serial e.0 h) ∙ same_test e.0 s ∙ free.0 in
+        let other : n.serial == s ≡ false = ap (λ x. x == s) (eqb-true n.serial e.0 h) ∙ same_eqb e.0 s ∙ free.0 in
         ap (λ t. cond t (with_attrs change n) n ∷ changed_at change s (held slab es)) other ∙ ap (λ xs. n ∷ xs) r
 
 module _ (slab other : Slab Node) (change : Attrs → Attrs) (s key : ℕ) (old : Node) (was : get slab key ≡ Some old) (here : get other key ≡ Some (with_attrs change old)) (others : (k : ℕ) → k ≢ key → get other k ≡ get slab k) where
@@ -282,7 +273,7 @@ module _ (slab other : Slab Node) (change : Attrs → Attrs) (s key : ℕ) (old 
           step : (o : Option Node) → has_serial e.0 o ≡ true → and_those o (changed_at change s (held slab es)) ≡ changed_at change s (and_those o (held slab es))
           step None h = cc
           step (Some n) h =
-              let differs : n.serial == s ≡ false = ap (λ x. x == s) (eqb-true n.serial e.0 h) ∙ same_test e.0 s ∙ t in
+              let differs : n.serial == s ≡ false = ap (λ x. x == s) (eqb-true n.serial e.0 h) ∙ same_eqb e.0 s ∙ t in
               ap (λ b. cond b (with_attrs change n) n ∷ changed_at change s (held slab es)) (sym differs)
 
 -- ---- the same slots

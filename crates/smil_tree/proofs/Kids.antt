@@ -3,7 +3,7 @@ use Rattle.std.proofs.Common.{◌≡◌, refl, sym, ◌∙◌, ap, subst, ℕ, z
 use Rattle.std.specs.Prelude.{◌==◌, reverse, slice_get, slice_range, is_some, IsSome, nat_lt}
 use Rattle.std.specs.List.{position, position_or_len, AllByRecursion}
 use Rattle.std.proofs.lemmas.Bool.{eqb-true, lt-ltb}
-use Rattle.std.proofs.lemmas.List.{reverse-append, length-append, reverse-reverse}
+use Rattle.std.proofs.lemmas.List.{length-append, reverse-reverse}
 use Rattle.std.proofs.lemmas.List.Elements.{filter-append}
 use Rattle.smil_model.specs.declared.document.Node.{Node}
 use Rattle.smil_model.specs.document.Document.{node_at, descendants, is_within, serials}
@@ -13,6 +13,7 @@ use Rattle.smil_laws.specs.Locality.{ParentsBefore}
 use Rattle.smil_laws.specs.Edited.{IsOrdered}
 use Rattle.smil_laws.proofs.Numbered.{ordered}
 use Rattle.smil_laws.proofs.Aside.{each_reverse, find_true}
+use Rattle.smil_laws.proofs.Lists.{reverse-around}
 use Rattle.smil_tree.specs.Kin.{Families, IsKinOf, list_in}
 use Rattle.smil_tree.proofs.Changed.{some_node}
 use Rattle.smil_tree.proofs.Owners.{around}
@@ -87,16 +88,10 @@ serial_none (n ∷ ns) (suc k) at = serial_none ns k at
 -- ---- a numbered tree
 
 module _ (nodes : List Node) (next : ℕ) (numbered : IsNumberedTree (record { nodes = nodes; next = next })) where
-  turned : (front : List Node) (x : Node) (back : List Node) → reverse (front ++ x ∷ back) ≡ reverse back ++ x ∷ reverse front
-  turned front x back =
-      reverse-append front (x ∷ back)
-      ∙ ap (λ ms. ms ++ reverse front) (reverse-append (x ∷ []) back)
-      ∙ append_assoc (reverse back) (x ∷ []) (reverse front)
-
   behind : (front : List Node) (x : Node) (back : List Node) → nodes ≡ front ++ x ∷ back → ParentsBefore (x ∷ reverse front)
   behind front x back is =
       let o : IsOrdered nodes = ordered (record { nodes = nodes; next = next }) numbered in
-      parents_right (reverse back) (x ∷ reverse front) (subst ParentsBefore (ap reverse is ∙ turned front x back) o.first)
+      parents_right (reverse back) (x ∷ reverse front) (subst ParentsBefore (ap reverse is ∙ reverse-around front x back) o.first)
 
   pub no_child_before : (front : List Node) (x : Node) (back : List Node) → nodes ≡ front ++ x ∷ back → AllByRecursion (λ (n : Node). n.parent == x.serial ≡ false) front
   no_child_before front x back is =

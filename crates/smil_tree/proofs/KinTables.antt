@@ -8,8 +8,10 @@ use Rattle.std.proofs.lemmas.Bool.{eqb-true}
 use Rattle.std.proofs.lemmas.List.Folds.{list_any-append}
 use Rattle.smil_model.specs.declared.document.Node.{Node}
 use Rattle.smil_model.specs.document.Document.{is_time_child, serials}
+use Rattle.smil_model.specs.reach.Reach.{is_option}
+use Rattle.smil_laws.proofs.Lineages.{same_eqb}
 use Rattle.smil_tree.specs.Held.{cut}
-use Rattle.smil_tree.specs.Kin.{Families, IsKinOf, rows, list_in, list_of, AreListsOf, is_serial, Separates}
+use Rattle.smil_tree.specs.Kin.{Families, IsKinOf, rows, list_in, list_of, AreListsOf, Separates}
 use Rattle.smil_tree.proofs.KinLists.{before, passing-between, passing-cut, passing-rest}
 use Rattle.smil_laws.proofs.Lists.{take-more_at}
 
@@ -69,7 +71,7 @@ module _ {Z : Type 0} where
   -- a part taken out of the list of the owner
   abbrev pub IsTakenOut : (ℕ → Node → Bool) → Option ℕ → ℕ → ℕ → List Node → List (ℕ × Vec ℕ Z) → List (ℕ × Vec ℕ Z) → Type 0
   IsTakenOut t owner start past nodes old new =
-      (s : ℕ) → list_of new s ≡ cond (is_serial s owner) (serials (filter (t s) (cut start past nodes))) (list_of old s)
+      (s : ℕ) → list_of new s ≡ cond (is_option s owner) (serials (filter (t s) (cut start past nodes))) (list_of old s)
 
   pub taken_out : (old new : List (ℕ × Vec ℕ Z)) (owner first last start past : ℕ) (nodes : List Node) (t : ℕ → Node → Bool)
       → AreListsOf t old nodes
@@ -77,7 +79,9 @@ module _ {Z : Type 0} where
       → last ≡ before (t owner) past nodes
       → ((s : ℕ) → list_of new s ≡ cond (owner == s) (cut first last (list_of old s)) (list_of old s))
       → IsTakenOut t (Some owner) start past nodes old new
-  taken_out old new owner first last start past nodes t lists is_first is_last are s = are s ∙ step (owner == s) refl
+  taken_out old new owner first last start past nodes t lists is_first is_last are s =
+      are s ∙ step (owner == s) refl
+      ∙ ap (λ b. cond b (serials (filter (t s) (cut start past nodes))) (list_of old s)) (same_eqb owner s)
     where
       step : (b : Bool) → owner == s ≡ b → cond b (cut first last (list_of old s)) (list_of old s) ≡ cond b (serials (filter (t s) (cut start past nodes))) (list_of old s)
       step true e =
@@ -98,13 +102,13 @@ module _ {Z : Type 0} where
   separated old mid new owner start past nodes t le lists out apart are s =
       are s ∙ step (list_any (λ (n : Node). n.serial == s) (slice_range nodes start past)) refl
     where
-      other : (u : Bool) → is_serial s owner ≡ u → list_any (λ (n : Node). n.serial == s) (slice_range nodes start past) ≡ false → cond u (serials (filter (t s) (cut start past nodes))) (list_of old s) ≡ serials (filter (t s) (cut start past nodes))
+      other : (u : Bool) → is_option s owner ≡ u → list_any (λ (n : Node). n.serial == s) (slice_range nodes start past) ≡ false → cond u (serials (filter (t s) (cut start past nodes))) (list_of old s) ≡ serials (filter (t s) (cut start past nodes))
       other true q e = refl
       other false q e = lists s ∙ ap serials (sym (passing-rest (t s) start past nodes le (apart.inside s e q)))
 
       step : (b : Bool) → list_any (λ (n : Node). n.serial == s) (slice_range nodes start past) ≡ b → cond b [] (list_of mid s) ≡ serials (filter (t s) (cut start past nodes))
       step true e = ap serials (sym (apart.outside s e))
-      step false e = out s ∙ other (is_serial s owner) refl e
+      step false e = out s ∙ other (is_option s owner) refl e
 
   -- one more list dropped
   pub dropped_more : (base mid new : List (ℕ × Vec ℕ Z)) (nodes : List Node) (start place : ℕ) (n : Node)

@@ -12,24 +12,19 @@ use Rattle.smil_model.specs.declared.document.Node.{Node}
 use Rattle.smil_model.specs.document.Document.{lineage, time_parent, has_serial, is_element, is_time_child, serials, serial_of}
 use Rattle.smil_model.specs.document.Edits.{children}
 use Rattle.smil_model.specs.document.Valid.{IsDistinct}
+use Rattle.smil_model.specs.reach.Reach.{is_option}
 use Rattle.smil_laws.specs.Edited.{IsOrdered}
 use Rattle.smil_laws.proofs.Aside.{each_append, each_both, each_reverse, each_filter}
 use Rattle.smil_laws.proofs.Below.{IsChain, ordered_chains}
 use Rattle.smil_laws.proofs.Kept.{KeepsParents, parent_same, parent_kept}
-use Rattle.smil_laws.proofs.Lineages.{swap_eqb, upwards-rest, upwards-head}
+use Rattle.smil_laws.proofs.Lineages.{swap_eqb, is_option-serial_of, upwards-rest, upwards-head}
 use Rattle.smil_laws.proofs.Members.{holds, held_each, held_reverse, differ_each}
 use Rattle.smil_laws.proofs.Lists.{each_weaker, each_kept}
 use Rattle.smil_laws.proofs.EditsBelow.{keeps_list, own_parents}
 use Rattle.smil_tree.specs.Held.{cut}
-use Rattle.smil_tree.specs.Kin.{is_serial, IsSubtree, AreListsOf, Separates}
+use Rattle.smil_tree.specs.Kin.{IsSubtree, AreListsOf, Separates}
 use Rattle.smil_tree.proofs.Families.{drop_at, node_of_place, chain_of, none_up}
 use Rattle.smil_tree.proofs.KinLists.{each_left, each_right, none_pass, filter_none, filter_all, filter_each, parts}
-
--- ---- tests
-
-same_serial : (s : ℕ) (o : Option Node) → has_serial s o ≡ is_serial s (serial_of o)
-same_serial s None = refl
-same_serial s (Some n) = refl
 
 -- ---- nodes that are kept with their parents
 
@@ -104,12 +99,12 @@ grown_lists nodes at n table o there leaf lists =
     (grown_alike (take at nodes) n (drop (at + 1) nodes) (subst IsOrdered (sym (around_place nodes at n there)) o) leaf table lists)
 
 -- and the new one is a time child of its time parent alone
-pub grown_own : (nodes : List Node) (n : Node) (parent owner : Option ℕ) → parent ≡ serial_of (time_parent nodes n.serial) → owner ≡ cond (is_element n) parent None → (s : ℕ) → is_time_child nodes s n ≡ is_serial s owner
+pub grown_own : (nodes : List Node) (n : Node) (parent owner : Option ℕ) → parent ≡ serial_of (time_parent nodes n.serial) → owner ≡ cond (is_element n) parent None → (s : ℕ) → is_time_child nodes s n ≡ is_option s owner
 grown_own nodes n parent owner is_parent is_owner s =
-    ap (λ p. is_element n && p) (same_serial s (time_parent nodes n.serial) ∙ ap (is_serial s) (sym is_parent))
-    ∙ by_kind (is_element n) ∙ ap (is_serial s) (sym is_owner)
+    ap (λ p. is_element n && p) (sym (is_option-serial_of s (time_parent nodes n.serial)) ∙ ap (is_option s) (sym is_parent))
+    ∙ by_kind (is_element n) ∙ ap (is_option s) (sym is_owner)
   where
-    by_kind : (b : Bool) → (b && is_serial s parent) ≡ is_serial s (cond b parent None)
+    by_kind : (b : Bool) → (b && is_option s parent) ≡ is_option s (cond b parent None)
     by_kind true = refl
     by_kind false = refl
 
@@ -229,13 +224,13 @@ module _ (nodes : List Node) (o : IsOrdered nodes) (start past : ℕ) (le : star
   pub children_apart : Separates (λ s (m : Node). m.parent == s) (Some n.parent) start past nodes
   children_apart = record { inside = inside; outside = outside }
     where
-      inside : (s : ℕ) → holds s part ≡ false → n.parent == s ≡ false → filter (λ (m : Node). m.parent == s) part ≡ []
+      inside : (s : ℕ) → holds s part ≡ false → s == n.parent ≡ false → filter (λ (m : Node). m.parent == s) part ≡ []
       inside s free other =
           filter_none (λ (m : Node). m.parent == s) part
           (each_weaker (λ (m : Node). IsChain (reverse nodes) m × (within m.serial ≡ true)) (λ (m : Node). m.parent == s ≡ false) part part_chains (λ m q. by_case m (climb m q.0 q.1)))
         where
           by_case : (m : Node) → (m ≡ n) ⊎ (within m.parent ≡ true) → m.parent == s ≡ false
-          by_case m (inl e) = ap (λ (k : Node). k.parent == s) e ∙ other
+          by_case m (inl e) = ap (λ (k : Node). k.parent == s) e ∙ swap_eqb s n.parent other
           by_case m (inr w) = apart_from s m.parent free w
 
       outside : (s : ℕ) → holds s part ≡ true → filter (λ (m : Node). m.parent == s) rest ≡ []
@@ -265,14 +260,14 @@ module _ (nodes : List Node) (o : IsOrdered nodes) (start past : ℕ) (le : star
   pub time_apart : (owner : Option ℕ) → owner ≡ serial_of (time_parent nodes n.serial) → Separates (is_time_child nodes) owner start past nodes
   time_apart owner is_owner = record { inside = inside; outside = outside }
     where
-      inside : (s : ℕ) → holds s part ≡ false → is_serial s owner ≡ false → filter (is_time_child nodes s) part ≡ []
+      inside : (s : ℕ) → holds s part ≡ false → is_option s owner ≡ false → filter (is_time_child nodes s) part ≡ []
       inside s free other =
           filter_none (is_time_child nodes s) part
           (each_weaker (λ (m : Node). IsChain (reverse nodes) m × (within m.serial ≡ true)) (λ (m : Node). is_time_child nodes s m ≡ false) part part_chains
           (λ m q. and_right (is_element m) (has_serial s (time_parent nodes m.serial)) (by_case m q.0 (climb m q.0 q.1))))
         where
           up : has_serial s (time_parent nodes n.serial) ≡ false
-          up = same_serial s (time_parent nodes n.serial) ∙ ap (is_serial s) (sym is_owner) ∙ other
+          up = sym (is_option-serial_of s (time_parent nodes n.serial)) ∙ ap (is_option s) (sym is_owner) ∙ other
 
           by_case : (m : Node) → IsChain (reverse nodes) m → (m ≡ n) ⊎ (within m.parent ≡ true) → has_serial s (time_parent nodes m.serial) ≡ false
           by_case m chain (inl e) = ap (λ (k : Node). has_serial s (time_parent nodes k.serial)) e ∙ up

@@ -1,6 +1,6 @@
 -- What a result says where it is `Ok`.
 use Rattle.std.proofs.Common.{◌≡◌, sym, subst, Result, Ok, Err}
-use Rattle.std.specs.Prelude.{IfOk, IfErr, IsOk, OnOk}
+use Rattle.std.specs.Prelude.{IfOk, IfErr, IsOk}
 use Rattle.std.specs.Result.{IsErrAnd}
 
 pub of_ok : {A E : Type 0} {P : Type 0} (r : Result A E) → IfOk r (λ _. P) → IsOk r → P
@@ -9,10 +9,6 @@ of_ok {A} {E} {P} (Err e) holds ok = absurd_err ok
   where
     absurd_err : IsOk {T = A} {E = E} (Err e) → P
     absurd_err never = cc
-
-pub on_ok : {A E : Type 0} {P Q : Type 0} (r : Result A E) → OnOk r P → (P → Q) → OnOk r Q
-on_ok (Ok x) holds f = f holds
-on_ok (Err e) holds f = tt
 
 pub on_err : {A E : Type 0} (Q : E → Type 0) (r : Result A E) (e : E) → IsErrAnd r (λ x. x ≡ e) → Q e → IfErr r Q
 on_err {A} {E} Q (Ok x) e is h = tt

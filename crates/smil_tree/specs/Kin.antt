@@ -7,6 +7,7 @@ use Rattle.std.specs.declared.vec.Vec.{Vec}
 use Rattle.smil_model.specs.declared.document.Node.{Node}
 use Rattle.smil_model.specs.document.Document.{is_within, time_children as time_children_of, serials}
 use Rattle.smil_model.specs.document.Edits.{children as children_of}
+use Rattle.smil_model.specs.reach.Reach.{is_option}
 use Rattle.smil_tree.specs.Held.{cut}
 
 -- the children by the serial of their parent, and the time children by that of their time parent
@@ -22,11 +23,6 @@ list_in table serial = unwrap_or (lookup (nat_eq serial) table) []
 pub record IsKinOf (families : Families) (nodes : List Node) : Type 0 where
   pub children : (s : ℕ) → list_in families.children s ≡ serials (children_of nodes s)
   pub time_children : (s : ℕ) → list_in families.time_children s ≡ serials (time_children_of nodes s)
-
--- whether there is a serial, and it is this one
-abbrev pub is_serial : ℕ → Option ℕ → Bool
-is_serial serial None = false
-is_serial serial (Some s) = s == serial
 
 -- from one place on up to another stand this node and its descendants, and no others
 pub record IsSubtree (nodes : List Node) (start past : ℕ) (n : Node) : Type 0 where
@@ -65,6 +61,6 @@ module _ {Z : Type 0} where
 -- nothing in the part passes for a serial that is neither the owner nor of the part, and nothing outside for one that is
 pub record Separates (t : ℕ → Node → Bool) (owner : Option ℕ) (start past : ℕ) (nodes : List Node) : Type 0 where
   pub inside : (s : ℕ) → list_any (λ (n : Node). n.serial == s) (slice_range nodes start past) ≡ false
-      → is_serial s owner ≡ false → filter (t s) (slice_range nodes start past) ≡ []
+      → is_option s owner ≡ false → filter (t s) (slice_range nodes start past) ≡ []
   pub outside : (s : ℕ) → list_any (λ (n : Node). n.serial == s) (slice_range nodes start past) ≡ true
       → filter (t s) (cut start past nodes) ≡ []

@@ -6,9 +6,10 @@ ghost use Rattle.smil_model.specs.declared.document.Node.{Node as AnyNode};
 ghost use Rattle.smil_model.specs.document.Document.{is_element, time_parent as time_parent_in, serials, serial_of};
 ghost use Rattle.smil_model.specs.document.Edits.{children};
 ghost use Rattle.smil_model.specs.document.Valid.{IsDistinct};
+ghost use Rattle.smil_model.specs.reach.Reach.{is_option};
 ghost use Rattle.smil_laws.specs.Edited.{IsOrdered};
 ghost use Rattle.smil_tree.specs.Held.{cut};
-ghost use Rattle.smil_tree.specs.Kin.{IsKinOf, IsSubtree, is_serial, is_before, list_in, list_of, AreListsOf, HasRoom, Separates};
+ghost use Rattle.smil_tree.specs.Kin.{IsKinOf, IsSubtree, is_before, list_in, list_of, AreListsOf, HasRoom, Separates};
 
 use crate::nodes::Nodes;
 use smil_model::Node;
@@ -177,7 +178,7 @@ fn join(lists: &mut Lists, owner: Option<u32>, newcomer: &Newcomer<'_>)
     ensures { (t : ℕ → AnyNode → Bool)
         → AreListsOf t lists.old.entries
         (cut newcomer.now.at (newcomer.now.at + 1) newcomer.now.nodes.now)
-        → ((s : ℕ) → t s newcomer.now.node.now ≡ is_serial s owner)
+        → ((s : ℕ) → t s newcomer.now.node.now ≡ is_option s owner)
         → AreListsOf t lists.new.entries newcomer.now.nodes.now }
 {
     if let Some(owner) = owner {

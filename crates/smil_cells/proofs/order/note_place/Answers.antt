@@ -1,16 +1,14 @@
 use Rattle.std.proofs.Common.{◌≡◌, ◌∙◌, ◌++◌, ◌∷◌, [], ap, List, ℕ, Bool}
-use Rattle.std.specs.Prelude.{◌||◌, slice_get}
+use Rattle.std.proofs.lemmas.Result.{on_ok_weaker}
+use Rattle.std.specs.Prelude.{◌||◌}
 use Rattle.smil_model.specs.document.Closure.{has}
-use Rattle.smil_cells.specs.Shown.{is_listed}
-use Rattle.smil_cells.proofs.Refusals.{where_ok}
 use Rattle.smil_cells.proofs.Ordering.{place_is, place_none, pushed_place}
 use Rattle.smil_graph.proofs.Rows.{right}
 use Rattle.smil_cells.proofs.order.note_place.Goals as goal
 
 pub returns-in-Some : goal.returns-in-Some
 returns-in-Some c =
-    where_ok c.put.result (c.put.new.places.items ≡ c.args.places.now.items ++ c.in-Some.place ∷ [])
-    ((i : ℕ) → has c.put.new.places.items i ≡ (has c.args.places.now.items i || is_listed (c.args.serial ∷ []) (slice_get c.args.tree.now.nodes i)))
+    on_ok_weaker {P = c.put.new.places.items ≡ c.args.places.now.items ++ c.in-Some.place ∷ []} c.put.result
     (λ made i.
     ap (λ (l : List ℕ). has l i) made
     ∙ (pushed_place c.args.places.now.items c.in-Some.place i

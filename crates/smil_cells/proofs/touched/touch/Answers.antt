@@ -1,14 +1,12 @@
 use Rattle.std.proofs.Common.{◌≡◌, ◌∙◌, ◌-◌, sym, ap, subst, inr, List, Some, true, ℕ, drop, get_or, length, take}
 use Rattle.std.specs.Prelude.{slice_get, pos}
 use Rattle.smil_model.specs.declared.diary.Entry.{Entry}
-use Rattle.smil_model.specs.declared.document.Node.{Node}
 use Rattle.smil_model.specs.document.Document.{Document, elements, node_at}
-use Rattle.smil_model.specs.document.Closure.{has}
 use Rattle.smil_laws.specs.Seen.{any_shows}
-use Rattle.smil_cells.proofs.Refusals.{where_ok}
 use Rattle.smil_cells.proofs.Showing.{SameTouched, more_shown, all_shown}
 use Rattle.std.proofs.lemmas.List.{take_rest}
 use Rattle.std.proofs.lemmas.Option.{slice_get-get_or}
+use Rattle.std.proofs.lemmas.Result.{on_ok_weaker}
 use Rattle.smil_model.specs.declared.diary.Step.TheVariants.{Began}
 use Rattle.smil_cells.proofs.touched.touch.Goals as goal
 
@@ -36,15 +34,13 @@ loop-entry-preserved c =
 
 pub returns-clause-more : goal.returns-clause-more
 returns-clause-more c =
-    where_ok c.shorten.result (SameTouched c.tree-tree.result.now c.loop-entry.touched c.shorten.new.touched)
-    ((e : Node) → node_at (elements c.args.past.now.document.nodes) e.serial ≡ Some e → has c.args.touched.now e.serial ≡ true → has c.shorten.new.touched e.serial ≡ true)
+    on_ok_weaker {P = SameTouched c.tree-tree.result.now c.loop-entry.touched c.shorten.new.touched} c.shorten.result
     (λ same e here q. same e (subst (λ (d : Document). node_at (elements d.nodes) e.serial ≡ Some e) (sym c.tree-tree.ensures) here) ∙ c.loop-entry.invariant.more e here q)
     c.shorten.ensures
 
 pub returns-clause-shown : goal.returns-clause-shown
 returns-clause-shown c =
-    where_ok c.shorten.result (SameTouched c.tree-tree.result.now c.loop-entry.touched c.shorten.new.touched)
-    ((e : Node) → node_at (elements c.args.past.now.document.nodes) e.serial ≡ Some e → any_shows c.args.past.now.document.nodes c.args.past.now.log (drop c.args.from c.args.past.now.diary) e.serial ≡ true → has c.shorten.new.touched e.serial ≡ true)
+    on_ok_weaker {P = SameTouched c.tree-tree.result.now c.loop-entry.touched c.shorten.new.touched} c.shorten.result
     (λ same e here q.
     same e (subst (λ (d : Document). node_at (elements d.nodes) e.serial ≡ Some e) (sym c.tree-tree.ensures) here)
     ∙ all_shown c.args.past.now.document.nodes c.args.past.now.log (rest c.entries.result.now c.args.from) c.loop-entry.entry-index e.serial c.loop-entry.touched c.loop-entry-test.false

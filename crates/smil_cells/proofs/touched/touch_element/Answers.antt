@@ -1,11 +1,9 @@
-use Rattle.std.proofs.Common.{◌≡◌, ◌∙◌, ◌++◌, sym, ap, Some, true, false, filter}
+use Rattle.std.proofs.Common.{◌≡◌, ◌∙◌, ◌++◌, sym, ap, true, false, filter}
+use Rattle.std.proofs.lemmas.Result.{on_ok_weaker}
 use Rattle.std.specs.Prelude.{is_some}
 use Rattle.smil_model.specs.declared.document.Node.{Node}
-use Rattle.smil_model.specs.document.Document.{elements, is_within, node_at, serials}
-use Rattle.smil_model.specs.document.Closure.{has}
-use Rattle.smil_laws.specs.Seen.{shows_in}
+use Rattle.smil_model.specs.document.Document.{is_within, serials}
 use Rattle.smil_past.proofs.Listing.{known_at_place}
-use Rattle.smil_cells.proofs.Refusals.{where_ok}
 use Rattle.smil_cells.proofs.Showing.{no_place, no_node_shows, shown_alone, shown_beside}
 use Rattle.smil_cells.proofs.touched.touch_element.Goals as goal
 
@@ -26,8 +24,6 @@ returns-in-None-clause-shown c = shown_alone c.args.tree.now.nodes c.args.step c
 
 pub returns-in-Some-clause-shown : goal.returns-in-Some-clause-shown
 returns-in-Some-clause-shown c =
-    where_ok c.touch_within-in-Some.result
-    (c.touch_within-in-Some.new.touched ≡ c.touch_within.new.touched ++ serials (filter (λ (n : Node). is_within c.args.tree.now.nodes c.in-Some.parent n.serial) c.args.tree.now.nodes))
-    ((e : Node) → node_at (elements c.args.tree.now.nodes) e.serial ≡ Some e → shows_in c.args.tree.now.nodes c.args.step c.args.who e.serial ≡ true → has c.touch_within-in-Some.new.touched e.serial ≡ true)
+    on_ok_weaker {P = c.touch_within-in-Some.new.touched ≡ c.touch_within.new.touched ++ serials (filter (λ (n : Node). is_within c.args.tree.now.nodes c.in-Some.parent n.serial) c.args.tree.now.nodes)} c.touch_within-in-Some.result
     (λ made. shown_beside c.args.tree.now.nodes c.args.step c.args.who c.in-Some.parent c.args.touched.now c.touch_within.new.touched c.touch_within-in-Some.new.touched c.in_ok-touch_within.ensures c.in-Some.ensures.value made)
     c.touch_within-in-Some.ensures

@@ -1,4 +1,4 @@
-use Rattle.std.proofs.Common.{◌∙◌, ap, sym}
+use Rattle.std.proofs.Common.{◌∙◌, ap, sym, Some}
 use Rattle.std.specs.Prelude.{is_some}
 use Rattle.smil_model.specs.document.Document.{Document, node_at}
 use Rattle.smil_model.specs.document.Valid.{kind_of}
@@ -20,7 +20,7 @@ returns-then-next_began c =
     let distinct = c.possible.ensures.valid.numbered.distinct in
     let above = up past.document.nodes c.args.who c.in-Some.parent distinct (known_node past.document.nodes c.args.who c.requires) (sym c.in-Some.is ∙ c.parent_of.ensures.parent) in
     let kind_told = c.kind.ensures ∙ ap (λ (d : Document). kind_of (node_at d.nodes c.in-Some.parent)) c.tree.ensures in
-    seq_next (history_of past) c.args.who c.in-Some.parent above c.kind.result kind_told c.possible.ensures.lawful c.next_began.result distinct c.requires c.in-Seq.is c.next_began.ensures c.if-next_began.true
+    seq_next (history_of past) c.args.who c.in-Some.parent above c.kind.result kind_told c.possible.ensures.lawful c.next_began.result distinct c.requires c.in-Seq.is (c.next_began.ensures (Some above.node) (ap Some above.serial)) c.if-next_began.true
 
 pub returns-else-next_began : goal.returns-else-next_began
 returns-else-next_began c =
@@ -28,7 +28,7 @@ returns-else-next_began c =
     let distinct = c.possible.ensures.valid.numbered.distinct in
     let above = up past.document.nodes c.args.who c.in-Some.parent distinct (known_node past.document.nodes c.args.who c.requires) (sym c.in-Some.is ∙ c.parent_of.ensures.parent) in
     let kind_told = c.kind.ensures ∙ ap (λ (d : Document). kind_of (node_at d.nodes c.in-Some.parent)) c.tree.ensures in
-    seq_sibling (history_of past) c.args.who c.in-Some.parent above c.kind.result kind_told c.possible.ensures.lawful c.next_began.result c.sibling_set_off.result distinct c.requires c.in-Seq.is c.next_began.ensures c.if-next_began.false c.sibling_set_off.ensures
+    seq_sibling (history_of past) c.args.who c.in-Some.parent above c.kind.result kind_told c.possible.ensures.lawful c.next_began.result c.sibling_set_off.result distinct c.requires c.in-Seq.is (c.next_began.ensures (Some above.node) (ap Some above.serial)) c.if-next_began.false c.sibling_set_off.ensures
 
 pub returns-in-Excl : goal.returns-in-Excl
 returns-in-Excl c =

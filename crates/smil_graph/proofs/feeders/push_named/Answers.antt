@@ -2,7 +2,7 @@ use Rattle.std.proofs.Common.{◌≡◌, sym, ◌∙◌, ap, Some}
 use Rattle.std.specs.Prelude.{bytes_eq, slice_get}
 use Rattle.std.specs.HashMap.{get_by}
 use Rattle.std.proofs.lemmas.Option.{slice_get-get_or}
-use Rattle.smil_graph.specs.Links.{lists}
+use Rattle.smil_model.specs.document.Closure.{has}
 use Rattle.smil_graph.specs.Places.{named_by}
 use Rattle.smil_graph.proofs.Rows.{leads_more}
 use Rattle.smil_graph.proofs.feeders.push_named.Goals as goal
@@ -14,4 +14,4 @@ loop-item-preserved c =
     let items = c.slice-item-items.result.now in
     let at : slice_get items i ≡ Some item = slice_get-get_or items i item c.loop-item-test.true ∙ ap Some (sym c.item-item.is) in
     λ k.
-    leads_more (named_by (λ id. get_by (λ key. bytes_eq id key.now) c.args.ids.now)) items i item c.named_by.result k (lists c.args.row.now k) (lists c.loop-item.row k) (lists c.push_one.new.row k) at c.named_by.ensures (c.loop-item.invariant k) (c.in_ok-push_one.ensures k)
+    leads_more (named_by (λ id. get_by (λ key. bytes_eq id key.now) c.args.ids.now)) items i item c.named_by.result k (has c.args.row.now k) (has c.loop-item.row k) (has c.push_one.new.row k) at c.named_by.ensures (c.loop-item.invariant k) (c.in_ok-push_one.ensures k)

@@ -1,9 +1,9 @@
 use Rattle.std.proofs.Common.{◌≡◌, ℕ, take}
 use Rattle.std.specs.Prelude.{◌||◌, bytes_eq}
 use Rattle.std.specs.HashMap.{get_by}
-use Rattle.smil_graph.specs.Links.{lists}
+use Rattle.smil_model.specs.document.Closure.{has}
 use Rattle.smil_graph.specs.Places.{leads_to_place, named_by}
 use Rattle.smil_graph.proofs.feeders.push_named.Given as goal
 
 abbrev pub invariant-loop-item : goal.invariant-loop-item
-invariant-loop-item l = (i : ℕ) → lists l.row i ≡ (lists l.fn.row i || leads_to_place (named_by (λ id. get_by (λ k. bytes_eq id k.now) l.ids)) (take l.item-index l.item-items) i)
+invariant-loop-item l = (i : ℕ) → has l.row i ≡ (has l.fn.row i || leads_to_place (named_by (λ id. get_by (λ k. bytes_eq id k.now) l.ids)) (take l.item-index l.item-items) i)

@@ -1,6 +1,6 @@
 use Rattle.std.proofs.Common.{◌≡◌, ℕ, true, false, rules}
 use Rattle.std.specs.Prelude.{◌&&◌}
-use Rattle.smil_graph.specs.Links.{lists}
+use Rattle.smil_model.specs.document.Closure.{has}
 use Rattle.smil_graph.specs.Places.{up, is_element_at}
 use Rattle.smil_graph.proofs.Rows.{rows_step, parent_row, no_parent_row}
 use Rattle.smil_graph.proofs.outline.parent_rows.Goals as goal
@@ -9,7 +9,7 @@ use Rattle.smil_model.specs.reach.Reach.{is_option}
 
 pub loop-place-preserved : goal.loop-place-preserved
 loop-place-preserved c =
-    let each : (i : ℕ) → lists c.if-is_element_at.row i ≡ (is_element_at c.args.doc.now.nodes c.loop-place.place && is_option i (up c.args.time_parents.now c.loop-place.place)) =
+    let each : (i : ℕ) → has c.if-is_element_at.row i ≡ (is_element_at c.args.doc.now.nodes c.loop-place.place && is_option i (up c.args.time_parents.now c.loop-place.place)) =
     elim c.if-is_element_at.branch [
       | then-is_element_at+in_ok-push_one w ↦ λ i.
           let is : is_element_at c.args.doc.now.nodes c.loop-place.place ≡ true = search rules in

@@ -1,13 +1,14 @@
 use Rattle.std.proofs.Common.{◌≡◌, sym, ◌∙◌, ap, length, arith, [], refl}
 use Rattle.std.proofs.lemmas.List.{get_or_read_under}
-use Rattle.smil_graph.specs.Links.{row, lists, IsPushedInEach}
+use Rattle.smil_model.specs.document.Closure.{has}
+use Rattle.smil_graph.specs.Links.{row, IsPushedInEach}
 use Rattle.smil_graph.proofs.Pushed.{turned_more}
 use Rattle.smil_graph.proofs.turned.turned.Goals as goal
 
 pub push_in_each-requires : goal.push_in_each-requires
 push_in_each-requires c =
     let here : c.slice.result.now ≡ row c.args.rows.now c.loop-place.place = c.slice.ensures ∙ get_or_read_under c.args.rows.now c.loop-place.place (length c.args.rows.now) c.index-rows-place.result [] c.index-rows-place.is c.loop-place-test.true refl in
-    λ i q. omega (arith, c.requires c.loop-place.place i (sym (ap (λ is. lists is i) here) ∙ q), c.loop-place.invariant.count)
+    λ i q. omega (arith, c.requires c.loop-place.place i (sym (ap (λ is. has is i) here) ∙ q), c.loop-place.invariant.count)
 
 pub loop-place-preserved : goal.loop-place-preserved
 loop-place-preserved c =

@@ -5,11 +5,10 @@ use Rattle.smil_model.specs.declared.diary.Entry.{Entry}
 use Rattle.smil_model.specs.diary.Diary.{History}
 use Rattle.smil_model.specs.diary.Lawful.{is_rising_from}
 use Rattle.smil_model.specs.happening.Resolution.{diary_of}
-use Rattle.smil_model.specs.shown.Orders.{course_of}
+use Rattle.smil_model.specs.shown.Orders.{course_of, as_of}
 use Rattle.smil_diary.specs.declared.fault.BookFault.TheVariants.{DiaryFull}
 use Rattle.smil_diary.specs.Refusals.{of_book}
 use Rattle.smil_tree.proofs.Results.{on_err}
-use Rattle.smil_cells.specs.Standing.{moved_to}
 use Rattle.smil_live.specs.Moves.{IsTooFull, sought_of}
 use Rattle.smil_live.proofs.RebuiltSeek.{arrived_back, back_by, earlier_is, may_go_back, most_back, not_after, refused_back, until_same, within_horizon}
 use Rattle.smil_live.proofs.replay.cells_at.Goals as goal
@@ -50,7 +49,7 @@ returns-clause-ok g c =
     arrived_back s c.in_ok-doc.doc c.args.to c.diary_until-len.result c.requires.state c.requires.replayed (c.in_ok-doc.ensures.doc ∙ c.tree.ensures) (back_by c.args.to s.presentation.now c.requires.from c.requires.back)
     (subst (λ (l : List Entry). c.diary_until-len.result ≤ length l) c.book.ensures c.diary_until-len.ensures.within)
     (until_same c.diary_until-len.result c.book.result.now s.diary c.args.to (to_z w64 (of_z w64 c.args.to)) c.book.ensures there c.requires.from c.diary_until-len.ensures.first) t c.in_ok-earlier.ensures.rebuilt
-    c.settle.new.self (subst (λ (z : ℤ). c.settle.new.self.presentation ≡ moved_to t.presentation (nat_abs z)) there c.in_ok-settle.ensures.state) c.in_ok-settle.ensures.settled c.in_ok-settle.ensures.goes_on
+    c.settle.new.self (subst (λ (z : ℤ). c.settle.new.self.presentation ≡ as_of t.presentation (nat_abs z)) there c.in_ok-settle.ensures.state) c.in_ok-settle.ensures.settled c.in_ok-settle.ensures.goes_on
 
 pub returns-clause-most : goal.returns-clause-most
 returns-clause-most g c =
@@ -60,7 +59,7 @@ returns-clause-most g c =
     most_back s c.in_ok-doc.doc c.args.to c.diary_until-len.result c.requires.state c.requires.replayed (c.in_ok-doc.ensures.doc ∙ c.tree.ensures) (back_by c.args.to s.presentation.now c.requires.from c.requires.back)
     (subst (λ (l : List Entry). c.diary_until-len.result ≤ length l) c.book.ensures c.diary_until-len.ensures.within)
     (until_same c.diary_until-len.result c.book.result.now s.diary c.args.to (to_z w64 (of_z w64 c.args.to)) c.book.ensures there c.requires.from c.diary_until-len.ensures.first) t c.in_ok-earlier.ensures.rebuilt
-    c.settle.new.self (subst (λ (z : ℤ). c.settle.new.self.presentation ≡ moved_to t.presentation (nat_abs z)) there c.in_ok-settle.ensures.state) c.in_ok-settle.ensures.settled c.in_ok-settle.ensures.goes_on
+    c.settle.new.self (subst (λ (z : ℤ). c.settle.new.self.presentation ≡ as_of t.presentation (nat_abs z)) there c.in_ok-settle.ensures.state) c.in_ok-settle.ensures.settled c.in_ok-settle.ensures.goes_on
     g.T.Table.counts c.args.steps.now c.rebuilt.new.steps c.settle.new.steps c.rebuilt.ensures.counted c.settle.ensures.counted c.rebuilt.ensures.most c.in_ok-settle.ensures.most
 
 pub returns-in_err-settle-clause-refused : goal.returns-in_err-settle-clause-refused
@@ -73,4 +72,4 @@ returns-in_err-settle-clause-refused g c =
     (refused_back s c.in_ok-doc.doc c.args.to c.diary_until-len.result c.requires.state c.requires.replayed (c.in_ok-doc.ensures.doc ∙ c.tree.ensures) (back_by c.args.to s.presentation.now c.requires.from c.requires.back)
     (subst (λ (l : List Entry). c.diary_until-len.result ≤ length l) c.book.ensures c.diary_until-len.ensures.within)
     (until_same c.diary_until-len.result c.book.result.now s.diary c.args.to (to_z w64 (of_z w64 c.args.to)) c.book.ensures there c.requires.from c.diary_until-len.ensures.first) t c.in_ok-earlier.ensures.rebuilt fault
-    (subst (λ (z : ℤ). fault ≡ DiaryFull → (t.fault ≡ Some fault) ⊎ (diary_of (course_of (moved_to t.presentation (nat_abs z))) ≡ None)) there c.in_err-settle.ensures.full))
+    (subst (λ (z : ℤ). fault ≡ DiaryFull → (t.fault ≡ Some fault) ⊎ (diary_of (course_of (as_of t.presentation (nat_abs z))) ≡ None)) there c.in_err-settle.ensures.full))

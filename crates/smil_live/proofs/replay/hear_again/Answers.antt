@@ -4,10 +4,10 @@ use Rattle.std.proofs.lemmas.Int.{to_z-of_z}
 use Rattle.smil_diary.specs.declared.fault.BookFault.TheVariants.{DiaryFull}
 use Rattle.smil_diary.specs.Refusals.{of_book}
 use Rattle.smil_model.specs.declared.diary.LogEntry.{LogEntry}
-use Rattle.smil_model.specs.shown.Orders.{Presentation, course_of}
+use Rattle.smil_model.specs.shown.Orders.{Presentation, course_of, as_of}
 use Rattle.smil_model.specs.happening.Resolution.{diary_of}
 use Rattle.smil_tree.proofs.Results.{on_err}
-use Rattle.smil_cells.specs.Standing.{moved_to, with_logged}
+use Rattle.smil_cells.specs.Standing.{with_logged}
 use Rattle.smil_live.specs.Moves.{IsTooFull, heard_at}
 use Rattle.smil_shown.proofs.Ended.{nothing_due}
 use Rattle.smil_live.proofs.RebuiltCounts.{counted_twice}
@@ -26,9 +26,9 @@ returns-in_err-settle-clause-refused g c =
     ap (λ (e : LogEntry). to_z w64 (of_z w64 e.moment)) c.in_ok-again.ensures ∙ to_z-of_z w64 x.moment (fits s.presentation.now x.moment c.requires.from c.requires.within) in
     let fault = c.in_err-settle.field-0.0 in
     on_err (IsTooFull (heard_at s.presentation x)) c.from_residual-in_err-settle.result (of_book fault) c.from_residual-in_err-settle.ensures.1
-    (refused_as (heard_at s.presentation x) (moved_to s.presentation (nat_abs x.moment)) s fault c.requires.sound
-    (subst (λ (z : ℤ). fault ≡ DiaryFull → (s.fault ≡ Some fault) ⊎ (diary_of (course_of (moved_to s.presentation (nat_abs z))) ≡ None)) there c.in_err-settle.ensures.full)
-    (full_heard (moved_to s.presentation (nat_abs x.moment)) x c.requires.numbered (sym (not_below s.presentation.now x.moment c.requires.from))))
+    (refused_as (heard_at s.presentation x) (as_of s.presentation (nat_abs x.moment)) s fault c.requires.sound
+    (subst (λ (z : ℤ). fault ≡ DiaryFull → (s.fault ≡ Some fault) ⊎ (diary_of (course_of (as_of s.presentation (nat_abs z))) ≡ None)) there c.in_err-settle.ensures.full)
+    (full_heard (as_of s.presentation (nat_abs x.moment)) x c.requires.numbered (sym (not_below s.presentation.now x.moment c.requires.from))))
 
 pub returns-in_err-hear-clause-refused : goal.returns-in_err-hear-clause-refused
 returns-in_err-hear-clause-refused g c =
@@ -39,8 +39,8 @@ returns-in_err-hear-clause-refused g c =
     let there : to_z w64 (of_z w64 again.moment) ≡ x.moment =
     ap (λ (e : LogEntry). to_z w64 (of_z w64 e.moment)) c.in_ok-again.ensures ∙ to_z-of_z w64 x.moment (fits s.presentation.now x.moment c.requires.from c.requires.within) in
     let same : with_logged c.settle.new.self.presentation again ≡ heard_at s.presentation x =
-    ap (λ (q : Presentation). with_logged q again) (c.in_ok-settle.ensures.state ∙ ap (λ (z : ℤ). moved_to s.presentation (nat_abs z)) there)
-    ∙ ap (with_logged (moved_to s.presentation (nat_abs x.moment))) c.in_ok-again.ensures in
+    ap (λ (q : Presentation). with_logged q again) (c.in_ok-settle.ensures.state ∙ ap (λ (z : ℤ). as_of s.presentation (nat_abs z)) there)
+    ∙ ap (with_logged (as_of s.presentation (nat_abs x.moment))) c.in_ok-again.ensures in
     on_err (IsTooFull (heard_at s.presentation x)) c.from_residual-in_err-hear.result (of_book fault) c.from_residual-in_err-hear.ensures.1
     (refused_as (heard_at s.presentation x) (with_logged c.settle.new.self.presentation again) c.settle.new.self fault c.in_ok-settle.ensures.goes_on.sound c.in_err-hear.ensures.full
     (subst (λ (q : Presentation). diary_of (course_of q) ≡ None) same))

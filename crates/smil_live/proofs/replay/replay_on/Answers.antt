@@ -5,12 +5,11 @@ use Rattle.std.proofs.lemmas.List.{length-take-le}
 use Rattle.smil_model.specs.declared.diary.LogEntry.{LogEntry}
 use Rattle.smil_model.specs.declared.times.TheConstants.{HORIZON}
 use Rattle.smil_model.specs.happening.Resolution.{diary_of}
-use Rattle.smil_model.specs.shown.Orders.{Presentation, course_of}
+use Rattle.smil_model.specs.shown.Orders.{Presentation, course_of, as_of}
 use Rattle.smil_model.proofs.Orders.{le_from}
 use Rattle.smil_diary.specs.declared.fault.BookFault.TheVariants.{DiaryFull}
 use Rattle.smil_diary.specs.Refusals.{of_book}
 use Rattle.smil_tree.proofs.Results.{on_err}
-use Rattle.smil_cells.specs.Standing.{moved_to}
 use Rattle.smil_live.specs.Moves.{IsTooFull, IsUnderWay, replay_of}
 use Rattle.smil_live.proofs.Counted.{counted_first}
 use Rattle.smil_live.proofs.Logs.{entry_at, is_there}
@@ -88,7 +87,7 @@ returns-clause-ok g c =
     let to = c.args.replay.to in
     let there : to_z w64 (of_z w64 to) ≡ to = to_z-of_z w64 to (fits 0 to c.requires.from (le_from to HORIZON (subst (λ (z : ℤ). int_le z HORIZON ≡ true) (not_below 0 to c.requires.from) c.requires.state.now))) in
     arrived p c.requires.state c.loop-place.place s c.loop-place.invariant.0 (past_all c.args.replay.len c.loop-place.place c.args.replay.log.now c.requires.within c.loop-place-test.false) c.settle.new.self
-    (subst (λ (z : ℤ). c.settle.new.self.presentation ≡ moved_to s.presentation (nat_abs z)) there c.in_ok-settle.ensures.state) c.in_ok-settle.ensures.settled c.in_ok-settle.ensures.goes_on
+    (subst (λ (z : ℤ). c.settle.new.self.presentation ≡ as_of s.presentation (nat_abs z)) there c.in_ok-settle.ensures.state) c.in_ok-settle.ensures.settled c.in_ok-settle.ensures.goes_on
 
 pub returns-in_err-settle-clause-refused : goal.returns-in_err-settle-clause-refused
 returns-in_err-settle-clause-refused g c =
@@ -99,7 +98,7 @@ returns-in_err-settle-clause-refused g c =
     let there : to_z w64 (of_z w64 to) ≡ to = to_z-of_z w64 to (fits 0 to c.requires.from (le_from to HORIZON (subst (λ (z : ℤ). int_le z HORIZON ≡ true) (not_below 0 to c.requires.from) c.requires.state.now))) in
     on_err (IsTooFull p) c.from_residual-in_err-settle.result (of_book fault) c.from_residual-in_err-settle.ensures.1
     (refused_there p c.requires.state c.loop-place.place s c.loop-place.invariant.0 (past_all c.args.replay.len c.loop-place.place c.args.replay.log.now c.requires.within c.loop-place-test.false) fault
-    (subst (λ (z : ℤ). fault ≡ DiaryFull → (s.fault ≡ Some fault) ⊎ (diary_of (course_of (moved_to s.presentation (nat_abs z))) ≡ None)) there c.in_err-settle.ensures.full))
+    (subst (λ (z : ℤ). fault ≡ DiaryFull → (s.fault ≡ Some fault) ⊎ (diary_of (course_of (as_of s.presentation (nat_abs z))) ≡ None)) there c.in_err-settle.ensures.full))
 
 pub returns-clause-most : goal.returns-clause-most
 returns-clause-most g c =

@@ -1,6 +1,7 @@
 use Rattle.std.proofs.Common.{sym, ap, subst, ◌∙◌, arith, Some, cond, filter}
 use Rattle.smil_tree.specs.Held.{cut}
-use Rattle.smil_tree.specs.Kin.{is_serial, list_of}
+use Rattle.smil_tree.specs.Kin.{list_of}
+use Rattle.smil_model.specs.reach.Reach.{is_option}
 use Rattle.smil_model.specs.document.Document.{serials}
 use Rattle.smil_tree.proofs.KinLists.{before-rises, nothing_cut}
 use Rattle.smil_tree.proofs.KinTables.{IsTakenOut, taken_out, separated}
@@ -29,6 +30,6 @@ returns c = λ t lists apart.
       | in_default w ↦
           λ s.
           ap (λ m. list_of m.entries s) w.lists-is
-          ∙ ap (λ o. cond (is_serial s o) (serials (filter (t s) (cut c.args.span.now.start c.args.span.now.end c.args.span.now.nodes.now))) (list_of c.args.lists.now.entries s)) (sym w.in_default.is)
+          ∙ ap (λ o. cond (is_option s o) (serials (filter (t s) (cut c.args.span.now.start c.args.span.now.end c.args.span.now.nodes.now))) (list_of c.args.lists.now.entries s)) (sym w.in_default.is)
     ])
     apart c.forget.ensures

@@ -2,9 +2,9 @@ use Rattle.std.proofs.Common.{◌≡◌, ◌-◌, ◌≤◌, subst, ℤ, Some, N
 use Rattle.std.specs.Prelude.{◌⊎◌, IfErr, nat_abs}
 use Rattle.std.proofs.lemmas.Int.{to_z-of_z}
 use Rattle.smil_model.specs.happening.Resolution.{diary_of}
-use Rattle.smil_model.specs.shown.Orders.{course_of}
+use Rattle.smil_model.specs.shown.Orders.{course_of, as_of}
 use Rattle.smil_diary.specs.declared.fault.BookFault.TheVariants.{DiaryFull}
-use Rattle.smil_cells.specs.Standing.{Standing, GoesOn, IsFront, WhereTold, fresh_since, moved_to, reached_since}
+use Rattle.smil_cells.specs.Standing.{Standing, GoesOn, IsFront, WhereTold, fresh_since, reached_since}
 use Rattle.smil_cells.specs.Standings.{standing_of}
 use Rattle.smil_cells.proofs.Refusals.{none_is_there, front_is_there}
 use Rattle.smil_cells.proofs.OnWay.{goes_on_from}
@@ -14,17 +14,17 @@ pub returns-clause-full : goal.returns-clause-full
 returns-clause-full g c =
     let i = c.self.inside in
     let was = standing_of i.past i.moment i.fault i.mark i.touched in
-    subst (λ (s : Standing). IfErr c.settle_through.result (λ fault. fault ≡ DiaryFull → (s.fault ≡ Some fault) ⊎ (diary_of (course_of (moved_to s.presentation (nat_abs c.args.until))) ≡ None))) c.self.view_is
-    (none_is_there (course_of (moved_to was.presentation (nat_abs c.args.until))) c.settle_through.new.self.diary was.fault c.settle_through.result c.too_long_is_full.ensures
-    (subst (λ (v : ℤ). IfErr c.settle_through.result (λ fault. fault ≡ DiaryFull → IsFront (course_of (moved_to was.presentation (nat_abs v))) c.settle_through.new.self.diary)) (to_z-of_z w64 c.args.until c.ranges.until) c.settle_through.ensures.full))
+    subst (λ (s : Standing). IfErr c.settle_through.result (λ fault. fault ≡ DiaryFull → (s.fault ≡ Some fault) ⊎ (diary_of (course_of (as_of s.presentation (nat_abs c.args.until))) ≡ None))) c.self.view_is
+    (none_is_there (course_of (as_of was.presentation (nat_abs c.args.until))) c.settle_through.new.self.diary was.fault c.settle_through.result c.too_long_is_full.ensures
+    (subst (λ (v : ℤ). IfErr c.settle_through.result (λ fault. fault ≡ DiaryFull → IsFront (course_of (as_of was.presentation (nat_abs v))) c.settle_through.new.self.diary)) (to_z-of_z w64 c.args.until c.ranges.until) c.settle_through.ensures.full))
 
 pub returns-clause-front : goal.returns-clause-front
 returns-clause-front g c =
     let i = c.self.inside in
     let was = standing_of i.past i.moment i.fault i.mark i.touched in
-    subst (λ (s : Standing). IfErr c.settle_through.result (λ fault. fault ≡ DiaryFull → (s.fault ≡ Some fault) ⊎ IsFront (course_of (moved_to s.presentation (nat_abs c.args.until))) c.settle_through.new.self.diary)) c.self.view_is
-    (front_is_there (course_of (moved_to was.presentation (nat_abs c.args.until))) c.settle_through.new.self.diary was.fault c.settle_through.result
-    (subst (λ (v : ℤ). IfErr c.settle_through.result (λ fault. fault ≡ DiaryFull → IsFront (course_of (moved_to was.presentation (nat_abs v))) c.settle_through.new.self.diary)) (to_z-of_z w64 c.args.until c.ranges.until) c.settle_through.ensures.full))
+    subst (λ (s : Standing). IfErr c.settle_through.result (λ fault. fault ≡ DiaryFull → (s.fault ≡ Some fault) ⊎ IsFront (course_of (as_of s.presentation (nat_abs c.args.until))) c.settle_through.new.self.diary)) c.self.view_is
+    (front_is_there (course_of (as_of was.presentation (nat_abs c.args.until))) c.settle_through.new.self.diary was.fault c.settle_through.result
+    (subst (λ (v : ℤ). IfErr c.settle_through.result (λ fault. fault ≡ DiaryFull → IsFront (course_of (as_of was.presentation (nat_abs v))) c.settle_through.new.self.diary)) (to_z-of_z w64 c.args.until c.ranges.until) c.settle_through.ensures.full))
 
 pub returns-clause-most : goal.returns-clause-most
 returns-clause-most g c =

@@ -1,7 +1,8 @@
 use Rattle.std.proofs.Common.{arith, ◌≡◌, true}
 use Rattle.std.proofs.lemmas.Result.{on_ok_weaker}
-use Rattle.smil_graph.specs.Links.{row, lists}
-use Rattle.smil_graph.proofs.Lists.{lists_get}
+use Rattle.smil_model.specs.document.Closure.{has}
+use Rattle.smil_graph.specs.Links.{row}
+use Rattle.smil_graph.proofs.Lists.{has_get}
 use Rattle.smil_graph.proofs.Closed.{members_below}
 use Rattle.smil_graph.proofs.Stepped.{top_stands, place_below, link_step_at, leave_step_at}
 use Rattle.smil_graph.proofs.components.Components.step.Goals as goal
@@ -15,7 +16,7 @@ followed_of-requires c = rw c.place_at-place.ensures (omega (arith, place_below 
 pub follow_link-requires-clause-target : goal.follow_link-requires-clause-target
 follow_link-requires-clause-target c =
     let read = c.in-Some.ensures.lookup in
-    let listed : lists (row c.args.rows.now c.place_at-place.result) c.in-Some.target.now ≡ true = rw (← c.row_at.ensures, read.3.1 0) (lists_get c.row_at.result.now c.followed_of.result read.3.0) in
+    let listed : has (row c.args.rows.now c.place_at-place.result) c.in-Some.target.now ≡ true = rw (← c.row_at.ensures, read.3.1 0) (has_get c.row_at.result.now c.followed_of.result read.3.0) in
     omega (arith, c.requires.below c.place_at-place.result c.in-Some.target.now listed, c.requires.grouping.marks_count)
 
 pub returns-in-Some : goal.returns-in-Some

@@ -1,9 +1,9 @@
 use Rattle.std.proofs.Common.{nat_abs, ◌≡◌, sym, subst, ◌-◌, ◌≤◌, ◌+ℤ◌, to_z, of_z, w64, arith, pos}
 use Rattle.std.proofs.lemmas.Int.{ints}
 use Rattle.smil_model.specs.declared.order.Order.TheVariants as order
-use Rattle.smil_model.specs.shown.Orders.{IsState, Presentation}
+use Rattle.smil_model.specs.shown.Orders.{IsState, Presentation, as_of}
 use Rattle.smil_tree.proofs.Results.{on_err}
-use Rattle.smil_cells.specs.Standing.{WhereTold, moved_to}
+use Rattle.smil_cells.specs.Standing.{WhereTold}
 use Rattle.smil_live.specs.Counts.{least_onward, most_onward}
 use Rattle.smil_live.specs.Moves.{IsTooFull}
 use Rattle.smil_live.proofs.CountedOrders.{bounded_accepted, bounded_too_full}
@@ -32,5 +32,5 @@ returns-clause-bounded g c =
 pub returns-in_err-go-clause-bounded : goal.returns-in_err-go-clause-bounded
 returns-in_err-go-clause-bounded g c =
     let to = to_z w64 (of_z w64 (to_z w64 (of_z w64 c.moment.result) +ℤ to_z w64 (of_z w64 c.args.by))) in
-    bounded_too_full c.from_residual.result g.T.Table.counts c.args.self.now (moved_to c.args.self.now (nat_abs to)) (order.Advance c.args.by) (c.go.new.steps - c.args.steps.now) c.from_residual.ensures.0
-    (on_err (IsTooFull (moved_to c.args.self.now (nat_abs to))) c.from_residual.result c.in_err-go.field-0.0 c.from_residual.ensures.1 c.in_err-go.ensures.refused)
+    bounded_too_full c.from_residual.result g.T.Table.counts c.args.self.now (as_of c.args.self.now (nat_abs to)) (order.Advance c.args.by) (c.go.new.steps - c.args.steps.now) c.from_residual.ensures.0
+    (on_err (IsTooFull (as_of c.args.self.now (nat_abs to))) c.from_residual.result c.in_err-go.field-0.0 c.from_residual.ensures.1 c.in_err-go.ensures.refused)

@@ -1,21 +1,17 @@
-use Rattle.std.proofs.Common.{◌≡◌, refl, sym, ◌∙◌, subst, arith, ◌-◌, ◌++◌, ◌≤ℤ◌, ℕ, ℤ, pos, nat_abs, w64, to_z, of_z, FitsSigned}
-use Rattle.std.specs.Prelude.{OnOk, negsuc}
+use Rattle.std.proofs.Common.{◌≡◌, refl, sym, ◌∙◌, subst, arith, ◌-◌, ◌++◌, ◌≤ℤ◌, ℤ, pos, nat_abs, w64, to_z, of_z}
+use Rattle.std.specs.Prelude.{OnOk}
 use Rattle.std.proofs.lemmas.Int.{ints, to_z-of_z}
 use Rattle.std.proofs.lemmas.Result.{on_ok_weaker}
 use Rattle.smil_model.specs.declared.times.TheConstants.{HORIZON}
-use Rattle.smil_model.specs.shown.Orders.{changes_between, changes_through}
+use Rattle.smil_model.specs.shown.Orders.{changes_between, changes_through, as_of}
 use Rattle.smil_tree.proofs.Results.{on_err}
 use Rattle.smil_model.proofs.Growing.{begins_by, begins_itself}
-use Rattle.smil_cells.specs.Standing.{moved_to}
 use Rattle.smil_live.specs.Moves.{IsShownAt, IsTooFull, text_of}
 use Rattle.smil_live.proofs.Counted.{IsCounted, counted_first, counted_last, counted_then}
 use Rattle.smil_live.proofs.Onward.{arrives, comes_nearer, due_from, passes_on, sets_out, too_full_then}
+use Rattle.smil_live.proofs.Replays.{fits}
 use Rattle.smil_live.proofs.viewer.Viewer.pass_through.Given.{Over}
 use Rattle.smil_live.proofs.viewer.Viewer.pass_through.Goals as goal
-
-fits : (a : ℕ) (z : ℤ) → pos a ≤ℤ z → z ≤ℤ HORIZON → FitsSigned w64 z
-fits a (pos k) from within = record { sfits = omega (arith, ints, from, within) }
-fits a (negsuc k) from within = absurd (omega (arith, ints, from))
 
 not_above : (x y z : ℤ) → x ≤ℤ y → y ≤ℤ z → x ≤ℤ z
 not_above x y z p q = omega (arith, ints, p, q)
@@ -52,10 +48,10 @@ returns-in_err-settle_once-clause-refused g c =
     let from = due_from p c.args.out.now to s c.loop-due.self.seen c.loop-due.out v.0 due c.in-Some.ensures.first in
     let whole = to_z-of_z w64 due (fits s.presentation.now due from (not_above due to HORIZON c.in-Some.ensures.within v.2)) in
     let given = c.in_err-settle_once.field-0.0 in
-    on_err (IsTooFull (moved_to p (nat_abs c.args.to))) c.from_residual.result given c.from_residual.ensures.1
-    (subst (λ (x : ℤ). IsTooFull (moved_to p (nat_abs x)) given) (to_z-of_z w64 c.args.to c.ranges.to)
+    on_err (IsTooFull (as_of p (nat_abs c.args.to))) c.from_residual.result given c.from_residual.ensures.1
+    (subst (λ (x : ℤ). IsTooFull (as_of p (nat_abs x)) given) (to_z-of_z w64 c.args.to c.ranges.to)
     (too_full_then p c.args.out.now to s c.loop-due.self.seen c.loop-due.out v.0 due c.in-Some.ensures.first c.in-Some.ensures.within given
-    (subst (λ (x : ℤ). IsTooFull (moved_to s.presentation (nat_abs x)) given) whole c.in_err-settle_once.ensures.refused)))
+    (subst (λ (x : ℤ). IsTooFull (as_of s.presentation (nat_abs x)) given) whole c.in_err-settle_once.ensures.refused)))
 
 pub loop-due-smaller : goal.loop-due-smaller
 loop-due-smaller g c =
@@ -68,8 +64,8 @@ loop-due-smaller g c =
     let whole = to_z-of_z w64 due (fits s.presentation.now due from (not_above due to HORIZON c.in-Some.ensures.within v.2)) in
     let e = c.in_ok-settle_once.ensures in
     comes_nearer p c.args.out.now to s c.loop-due.self.seen c.loop-due.out v.0 due c.in-Some.ensures.first c.in-Some.ensures.within c.settle_once.new.self.cells c.settle_once.new.self.seen c.settle_once.new.out
-    (subst (λ (x : ℤ). IsShownAt (moved_to s.presentation (nat_abs x)) c.settle_once.new.self.cells c.settle_once.new.self.seen) whole e.ok)
-    (subst (λ (x : ℤ). c.settle_once.new.out ≡ c.loop-due.out ++ text_of s.presentation (changes_between s.presentation (moved_to s.presentation (nat_abs x)))) whole e.told)
+    (subst (λ (x : ℤ). IsShownAt (as_of s.presentation (nat_abs x)) c.settle_once.new.self.cells c.settle_once.new.self.seen) whole e.ok)
+    (subst (λ (x : ℤ). c.settle_once.new.out ≡ c.loop-due.out ++ text_of s.presentation (changes_between s.presentation (as_of s.presentation (nat_abs x)))) whole e.told)
 
 pub loop-due-preserved : goal.loop-due-preserved
 loop-due-preserved g c =
@@ -82,8 +78,8 @@ loop-due-preserved g c =
     let whole = to_z-of_z w64 due (fits s.presentation.now due from (not_above due to HORIZON c.in-Some.ensures.within v.2)) in
     let e = c.in_ok-settle_once.ensures in (
       passes_on p c.args.out.now to s c.loop-due.self.seen c.loop-due.out v.0 due c.in-Some.ensures.first c.in-Some.ensures.within c.settle_once.new.self.cells c.settle_once.new.self.seen c.settle_once.new.out
-          (subst (λ (x : ℤ). IsShownAt (moved_to s.presentation (nat_abs x)) c.settle_once.new.self.cells c.settle_once.new.self.seen) whole e.ok)
-          (subst (λ (x : ℤ). c.settle_once.new.out ≡ c.loop-due.out ++ text_of s.presentation (changes_between s.presentation (moved_to s.presentation (nat_abs x)))) whole e.told),
+          (subst (λ (x : ℤ). IsShownAt (as_of s.presentation (nat_abs x)) c.settle_once.new.self.cells c.settle_once.new.self.seen) whole e.ok)
+          (subst (λ (x : ℤ). c.settle_once.new.out ≡ c.loop-due.out ++ text_of s.presentation (changes_between s.presentation (as_of s.presentation (nat_abs x)))) whole e.told),
       refl,
       v.2,
       e.marked ∙ v.3,
@@ -99,7 +95,7 @@ returns-clause-told g c =
     let p = c.args.self.now.cells.presentation in
     let to = to_z w64 (of_z w64 c.args.to) in
     on_ok_weaker c.settle_once-2.result
-    (λ (q : c.settle_once-2.new.out ≡ c.loop-due.out ++ text_of c.loop-due.self.cells.presentation (changes_between c.loop-due.self.cells.presentation (moved_to c.loop-due.self.cells.presentation (nat_abs to)))).
+    (λ (q : c.settle_once-2.new.out ≡ c.loop-due.out ++ text_of c.loop-due.self.cells.presentation (changes_between c.loop-due.self.cells.presentation (as_of c.loop-due.self.cells.presentation (nat_abs to)))).
     subst (λ (x : ℤ). c.settle_once-2.new.out ≡ c.args.out.now ++ text_of p (changes_through p (nat_abs x - p.now))) (to_z-of_z w64 c.args.to c.ranges.to)
     (arrives p c.args.out.now to c.loop-due.self.cells c.loop-due.self.seen c.loop-due.out v.0 c.in_default.ensures.none c.settle_once-2.new.self.cells c.settle_once-2.new.self.seen c.settle_once-2.new.out q))
     c.settle_once-2.ensures.told

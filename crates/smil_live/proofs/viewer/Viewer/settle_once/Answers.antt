@@ -2,11 +2,10 @@ use Rattle.std.proofs.Common.{◌≡◌, refl, sym, ◌∙◌, ap, subst, ℤ, n
 use Rattle.std.specs.Prelude.{◌⊎◌}
 use Rattle.std.proofs.lemmas.Int.{to_z-of_z}
 use Rattle.smil_model.specs.happening.Resolution.{diary_of}
-use Rattle.smil_model.specs.shown.Orders.{IsState, Presentation, course_of}
+use Rattle.smil_model.specs.shown.Orders.{IsState, Presentation, course_of, as_of}
 use Rattle.smil_diary.specs.declared.fault.BookFault.TheVariants.{DiaryFull}
 use Rattle.smil_diary.specs.Refusals.{of_book}
 use Rattle.smil_tree.proofs.Results.{on_err}
-use Rattle.smil_cells.specs.Standing.{moved_to}
 use Rattle.smil_live.specs.Moves.{IsTooFull}
 use Rattle.smil_live.specs.declared.moves.Move.TheVariants as move
 use Rattle.smil_live.proofs.Edited.{on_ok_always}
@@ -18,21 +17,21 @@ use Rattle.smil_live.proofs.viewer.Viewer.settle_once.Goals as goal
 pub put_touched-requires-clause-state : goal.put_touched-requires-clause-state
 put_touched-requires-clause-state g c =
     let p = c.args.self.now.cells.presentation in
-    let is = c.in_ok-settle.ensures.state ∙ ap (λ (z : ℤ). moved_to p (nat_abs z)) (to_z-of_z w64 c.args.to c.ranges.to) in
+    let is = c.in_ok-settle.ensures.state ∙ ap (λ (z : ℤ). as_of p (nat_abs z)) (to_z-of_z w64 c.args.to c.ranges.to) in
     subst (λ (q : Presentation). IsState q) (sym is) (made_is_state p (move.Settle c.args.to) c.requires.shown.state c.requires.may)
 
 pub returns-clause-ok : goal.returns-clause-ok
 returns-clause-ok g c =
     let p = c.args.self.now.cells.presentation in
-    let is = c.in_ok-settle.ensures.state ∙ ap (λ (z : ℤ). moved_to p (nat_abs z)) (to_z-of_z w64 c.args.to c.ranges.to) in
+    let is = c.in_ok-settle.ensures.state ∙ ap (λ (z : ℤ). as_of p (nat_abs z)) (to_z-of_z w64 c.args.to c.ranges.to) in
     let state = subst (λ (q : Presentation). IsState q) (sym is) (made_is_state p (move.Settle c.args.to) c.requires.shown.state c.requires.may) in
-    shown_behind c.put_touched.result (moved_to p (nat_abs c.args.to)) c.settle.new.self c.put_touched.new.seen is state c.in_ok-settle.ensures.goes_on.sound c.in_ok-settle.ensures.settled c.put_touched.ensures.views
+    shown_behind c.put_touched.result (as_of p (nat_abs c.args.to)) c.settle.new.self c.put_touched.new.seen is state c.in_ok-settle.ensures.goes_on.sound c.in_ok-settle.ensures.settled c.put_touched.ensures.views
 
 pub returns-clause-told : goal.returns-clause-told
 returns-clause-told g c =
     let p = c.args.self.now.cells.presentation in
-    let is = c.in_ok-settle.ensures.state ∙ ap (λ (z : ℤ). moved_to p (nat_abs z)) (to_z-of_z w64 c.args.to c.ranges.to) in
-    told_behind c.put_touched.result c.args.self.now.cells c.settle.new.self (moved_to p (nat_abs c.args.to)) c.args.self.now.seen.views c.args.out.now c.put_touched.new.out is refl c.requires.shown.views_are
+    let is = c.in_ok-settle.ensures.state ∙ ap (λ (z : ℤ). as_of p (nat_abs z)) (to_z-of_z w64 c.args.to c.ranges.to) in
+    told_behind c.put_touched.result c.args.self.now.cells c.settle.new.self (as_of p (nat_abs c.args.to)) c.args.self.now.seen.views c.args.out.now c.put_touched.new.out is refl c.requires.shown.views_are
     c.requires.shown.settled c.in_ok-settle.ensures.settled c.put_touched.ensures.told
 
 pub returns-clause-goes_on : goal.returns-clause-goes_on
@@ -47,9 +46,9 @@ returns-clause-least g c = on_ok_always c.put_touched.result c.in_ok-settle.ensu
 pub returns-in_err-settle-clause-refused : goal.returns-in_err-settle-clause-refused
 returns-in_err-settle-clause-refused g c =
     let s = c.args.self.now.cells in
-    let q = moved_to s.presentation (nat_abs c.args.to) in
+    let q = as_of s.presentation (nat_abs c.args.to) in
     let fault = c.in_err-settle.field-0.0 in
     on_err (IsTooFull q) c.from_residual.result (of_book fault) c.from_residual.ensures.1
     (refused_as q q s fault c.requires.shown.sound
-    (subst (λ (z : ℤ). fault ≡ DiaryFull → (s.fault ≡ Some fault) ⊎ (diary_of (course_of (moved_to s.presentation (nat_abs z))) ≡ None)) (to_z-of_z w64 c.args.to c.ranges.to) c.in_err-settle.ensures.full)
+    (subst (λ (z : ℤ). fault ≡ DiaryFull → (s.fault ≡ Some fault) ⊎ (diary_of (course_of (as_of s.presentation (nat_abs z))) ≡ None)) (to_z-of_z w64 c.args.to c.ranges.to) c.in_err-settle.ensures.full)
     (λ none. none))

@@ -3,7 +3,7 @@ use Rattle.std.specs.Prelude.{Option, None}
 use Rattle.smil_model.specs.declared.interval.ChildEnd.{ChildEnd}
 use Rattle.smil_nodes.specs.declared.endings.Home.{Home}
 use Rattle.smil_nodes.specs.Endings.{KeptEnds, home_at, put_ending, put_home}
-use Rattle.smil_nodes.proofs.Among.{set_count}
+use Rattle.smil_endsync.proofs.Naming.{set_length}
 use Rattle.smil_nodes.proofs.Housing.{among_set, child_within, housed_set, looked_up}
 use Rattle.smil_nodes.proofs.endings.Endings.put.Goals as goal
 
@@ -33,7 +33,7 @@ invariant_of-self c =
     let is = looked_up i.homes.items c.deref.result.now i.ends.items c.args.place c.in-Some.home c.self.invariant c.deref.ensures.value c.in-Some.ensures in
     let own = c.index_mut.result.now in
     housed_set i.homes.items i.ends.items c.in-Some.home.container own c.set.new.self c.self.invariant c.index_mut.ensures.value is.container
-    (ap (λ (cs : List ChildEnd). length cs) c.set.ensures ∙ set_count own c.in-Some.home.child c.args.ending.first c.args.ending.latest)
+    (ap (λ (cs : List ChildEnd). length cs) c.set.ensures ∙ set_length own c.in-Some.home.child c.args.ending.first c.args.ending.latest)
 
 pub returns : goal.returns
 returns c =

@@ -5,7 +5,8 @@ use Rattle.smil_top.specs.Transcript.{untold}
 use Rattle.smil_top.specs.Running.{IsRunning}
 use Rattle.smil_top.proofs.Evaluated.{evaluated-fresh, evaluated-next}
 use Rattle.smil_top.proofs.Serving.{Nexts, Nexts-of, Hands, next-line, fault-open, HasRead, HasRead-fresh, IsServing-of, Wrote-fresh, Wrote-next, RanCounted-end, RanCounted-untold, Ran-too_long, Ran-fault, Ran-unwritten}
-use Rattle.smil_top.proofs.Writing.{on-err, risen-from}
+use Rattle.smil_live.proofs.Edited.{where_err}
+use Rattle.smil_top.proofs.Writing.{risen-from}
 use Rattle.smil_top.proofs.run.Run.answer_all.Goals as goal
 use Rattle.smil_top.proofs.run.Run.answer_all.Goals.{in-Bytes, in-LongLine}
 
@@ -272,4 +273,4 @@ pub returns-then-is_err-clause-write_cause : goal.returns-then-is_err-clause-wri
 returns-then-is_err-clause-write_cause g c = λ same.
     let faults = g.K.Sink.faults in
     let failed = sym c.is_err.ensures.value ∙ c.if-is_err.true in
-    risen-from (faults c.args.sink.now) (faults c.lines.sink) (faults c.line.new.sink) c.lines.invariant.writes (on-err c.line.result _ failed c.line.ensures.cause)
+    risen-from (faults c.args.sink.now) (faults c.lines.sink) (faults c.line.new.sink) c.lines.invariant.writes (where_err c.line.result _ failed c.line.ensures.cause)

@@ -1,7 +1,8 @@
-use Rattle.std.proofs.Common.{refl, sym, ap, ◌+◌, ◌∙◌, ◌≡◌, Some}
+use Rattle.std.proofs.Common.{sym, ap, ◌+◌, ◌∙◌, ◌≡◌, Some}
 use Rattle.std.specs.Option.{option_copied}
 use Rattle.smil_model.specs.declared.document.Node.{Node}
 use Rattle.smil_model.specs.document.Document.{is_time_child, time_parent, serial_of}
+use Rattle.smil_laws.proofs.Lineages.{same_eqb}
 use Rattle.smil_tree.specs.Held.{cut}
 use Rattle.smil_tree.proofs.KinTables.{is_child, in_err, same_lists, kin_of, lists_of}
 use Rattle.smil_tree.proofs.KinTrees.{grown_lists, grown_own}
@@ -37,7 +38,7 @@ returns-clause-ok c =
     let same : Some c.unwrap-node.result.now ≡ Some n = sym (sym c.at.ensures ∙ ap option_copied c.unwrap-node.ensures) ∙ c.requires.leaf.1 in
     let one : c.unwrap-node.result.now ≡ n = cc in
     kin_of c.join.new.lists.entries c.join-2.new.lists.entries nodes
-    (c.join.ensures is_child (same_lists c.self.inside.children.entries c.make_room.new.lists.entries others is_child lists.0 c.make_room.ensures.same) (λ s. refl))
+    (c.join.ensures is_child (same_lists c.self.inside.children.entries c.make_room.new.lists.entries others is_child lists.0 c.make_room.ensures.same) (λ s. same_eqb c.unwrap-node.result.now.parent s))
     (c.join-2.ensures (is_time_child nodes)
     (grown_lists nodes c.args.at n c.make_room-2.new.lists.entries c.requires.ordered c.requires.leaf.1 c.requires.leaf.2
     (same_lists c.self.inside.time_children.entries c.make_room-2.new.lists.entries others (is_time_child others) lists.1 c.make_room-2.ensures.same))
