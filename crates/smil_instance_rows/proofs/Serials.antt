@@ -3,7 +3,7 @@ use Rattle.std.proofs.Common.{◌≡◌, refl, sym, ◌∙◌, ap, ℕ, suc, zer
 use Rattle.std.specs.Prelude.{cond, get_or, set, slice_get, ◌==◌}
 use Rattle.std.specs.Option.{option_map}
 use Rattle.smil_instance_rows.specs.Rows.{Row}
-use Rattle.smil_instance_rows.specs.Readings.{place_in, row_in}
+use Rattle.smil_instance_rows.specs.Readings.{index_in, row_in}
 
 abbrev pub found : List Row → Option ℕ → Option Row
 found rows None = None
@@ -13,27 +13,27 @@ found_later : (r : Row) (rs : List Row) (o : Option ℕ) → found rs o ≡ foun
 found_later r rs None = refl
 found_later r rs (Some place) = refl
 
-pub row_placed : (rows : List Row) (who : ℕ) → found rows (place_in rows who) ≡ row_in rows who
+pub row_placed : (rows : List Row) (who : ℕ) → found rows (index_in rows who) ≡ row_in rows who
 row_placed [] who = refl
-row_placed (r ∷ rs) who = step (r.serial == who) (sym (found_later r rs (place_in rs who)) ∙ row_placed rs who)
+row_placed (r ∷ rs) who = step (r.serial == who) (sym (found_later r rs (index_in rs who)) ∙ row_placed rs who)
   where
-    step : (t : Bool) → found (r ∷ rs) (option_map suc (place_in rs who)) ≡ row_in rs who → found (r ∷ rs) (cond t (Some 0) (option_map suc (place_in rs who))) ≡ cond t (Some r) (row_in rs who)
+    step : (t : Bool) → found (r ∷ rs) (option_map suc (index_in rs who)) ≡ row_in rs who → found (r ∷ rs) (cond t (Some 0) (option_map suc (index_in rs who))) ≡ cond t (Some r) (row_in rs who)
     step true rest = refl
     step false rest = rest
 
 -- a row changed for another of its element
-pub place_kept : (rows : List Row) (i : ℕ) (old new : Row) → i < length rows → old ≡ get_or rows i old → new.serial ≡ old.serial → (who : ℕ) → place_in (set rows i new) who ≡ place_in rows who
-place_kept [] i old new inside is same who = absurd (omega (arith, inside))
-place_kept (r ∷ rs) zero old new inside is same who =
-    ap (λ s. cond (s == who) (Some 0) (option_map suc (place_in rs who))) (same ∙ ap (λ (r : Row). r.serial) is)
-place_kept (r ∷ rs) (suc i) old new inside is same who =
-    ap (λ o. cond (r.serial == who) (Some 0) (option_map suc o)) (place_kept rs i old new (omega (arith, inside)) is same who)
+pub index_kept : (rows : List Row) (i : ℕ) (old new : Row) → i < length rows → old ≡ get_or rows i old → new.serial ≡ old.serial → (who : ℕ) → index_in (set rows i new) who ≡ index_in rows who
+index_kept [] i old new inside is same who = absurd (omega (arith, inside))
+index_kept (r ∷ rs) zero old new inside is same who =
+    ap (λ s. cond (s == who) (Some 0) (option_map suc (index_in rs who))) (same ∙ ap (λ (r : Row). r.serial) is)
+index_kept (r ∷ rs) (suc i) old new inside is same who =
+    ap (λ o. cond (r.serial == who) (Some 0) (option_map suc o)) (index_kept rs i old new (omega (arith, inside)) is same who)
 
 -- a row at the end
-pub place_pushed : (rows : List Row) (row : Row) (who : ℕ) → place_in rows row.serial ≡ None → place_in (rows ++ row ∷ []) who ≡ cond (row.serial == who) (Some (length rows)) (place_in rows who)
-place_pushed [] row who none = refl
-place_pushed (r ∷ rs) row who none =
-    ap (λ o. cond (r.serial == who) (Some 0) (option_map suc o)) (place_pushed rs row who (in_rest (r.serial == row.serial) (place_in rs row.serial) none))
+pub index_pushed : (rows : List Row) (row : Row) (who : ℕ) → index_in rows row.serial ≡ None → index_in (rows ++ row ∷ []) who ≡ cond (row.serial == who) (Some (length rows)) (index_in rows who)
+index_pushed [] row who none = refl
+index_pushed (r ∷ rs) row who none =
+    ap (λ o. cond (r.serial == who) (Some 0) (option_map suc o)) (index_pushed rs row who (in_rest (r.serial == row.serial) (index_in rs row.serial) none))
     ∙ step (r.serial == who) (row.serial == who) refl refl
   where
     in_rest : (t : Bool) (o : Option ℕ) → cond t (Some 0) (option_map suc o) ≡ None → o ≡ None
@@ -41,11 +41,11 @@ place_pushed (r ∷ rs) row who none =
     in_rest false None q = refl
     in_rest false (Some place) q = cc
 
-    other : (t : Bool) → (r.serial == row.serial) ≡ t → cond t (Some 0) (option_map suc (place_in rs row.serial)) ≡ None → t ≡ false
+    other : (t : Bool) → (r.serial == row.serial) ≡ t → cond t (Some 0) (option_map suc (index_in rs row.serial)) ≡ None → t ≡ false
     other true e q = cc
     other false e q = refl
 
-    step : (s t : Bool) → (r.serial == who) ≡ s → (row.serial == who) ≡ t → cond s (Some 0) (option_map suc (cond t (Some (length rs)) (place_in rs who))) ≡ cond t (Some (suc (length rs))) (cond s (Some 0) (option_map suc (place_in rs who)))
+    step : (s t : Bool) → (r.serial == who) ≡ s → (row.serial == who) ≡ t → cond s (Some 0) (option_map suc (cond t (Some (length rs)) (index_in rs who))) ≡ cond t (Some (suc (length rs))) (cond s (Some 0) (option_map suc (index_in rs who)))
     step true true p q = let no : (r.serial == row.serial) ≡ false = other (r.serial == row.serial) refl none in absurd (grind (arith, p, q, no))
     step true false p q = refl
     step false true p q = refl

@@ -1,8 +1,8 @@
 -- Rows with a cell changed, and changed back.
-use Rattle.std.proofs.Common.{◌≡◌, refl, sym, ◌∙◌, ap, subst, ℕ, suc, zero, ◌<◌, List, [], ◌∷◌, ◌++◌, length, arith, pos, length-append}
+use Rattle.std.proofs.Common.{◌≡◌, refl, sym, ◌∙◌, ap, subst, ℕ, suc, zero, ◌-◌, ◌<◌, ◌≤◌, List, [], ◌∷◌, ◌++◌, length, reverse, arith, pos, length-append}
 use Rattle.std.specs.Prelude.{get_or, set, take}
 use Rattle.std.proofs.lemmas.List.Sums.{fold_push}
-use Rattle.std.proofs.lemmas.List.{length-set}
+use Rattle.std.proofs.lemmas.List.{get_or-reverse, get_or-take, get_or_default, length-reverse, length-set, length-take-le}
 use Rattle.smil_model.specs.declared.document.Edge.{Edge}
 use Rattle.smil_model.specs.declared.document.Edge.TheVariants.{Begin, End}
 use Rattle.smil_model.specs.declared.times.Time.TheVariants as time
@@ -11,7 +11,7 @@ use Rattle.smil_instance_rows.specs.declared.cell.Cell.{Cell}
 use Rattle.smil_instance_rows.specs.declared.cell.Add.{Add}
 use Rattle.smil_instance_rows.specs.Rows.{Row}
 use Rattle.smil_instance_rows.specs.Cells.{side_of, list_of, with_list}
-use Rattle.smil_instance_rows.specs.Places.{IsNotAfter}
+use Rattle.smil_instance_rows.specs.Places.{EndsWith, IsNotAfter}
 use Rattle.smil_instance_rows.specs.Changes.{row_at, no_row, HasCell, cell_of, with_cell, with_add, with_adds, Fits}
 
 get_set : {A : Type 0} (xs : List A) (i : ℕ) (x d : A) → i < length xs → get_or (set xs i x) i d ≡ x
@@ -111,6 +111,40 @@ undoes rows before adds i inside fit now =
 
 pub some_there : (ks ls : List InstanceTime) (k : InstanceTime) → ks ≡ ls ++ k ∷ [] → 0 < length ks
 some_there ks ls k is = omega (arith, ap length is, length-append ls (k ∷ []))
+
+-- ---- the first adds undone, the last of them first
+
+-- the add that is the next from the last of the first adds
+pub next_back : (adds : List Add) (made n : ℕ) (a : Add) → made ≤ length adds → (n < length (reverse (take made adds))) × (a ≡ get_or (reverse (take made adds)) n a)
+    → (n < made) × (a ≡ get_or adds (made - 1 - n) blank)
+next_back adds made n a within at =
+    let many : length (take made adds) ≡ made = length-take-le made adds within in
+    let below : n < length (take made adds) = omega (arith, at.0, length-reverse (take made adds)) in
+    let short : n < made = omega (arith, below, many) in
+    let inside : made - 1 - n < made = omega (arith, short) in
+    let there : made - 1 - n < length adds = omega (arith, inside, within) in (
+      short,
+      at.1 ∙ get_or-reverse (take made adds) n a below
+          ∙ ap (λ k. get_or (take made adds) (k - 1 - n) a) many
+          ∙ get_or-take made adds (made - 1 - n) a inside
+          ∙ get_or_default adds (made - 1 - n) a blank there,
+    )
+
+-- it can be undone, and is then no longer made
+pub record IsUndoneBy (rows before : List Row) (adds : List Add) (i : ℕ) (cell : Cell) : Type 0 where
+  pub has : HasCell rows cell
+  pub some : 0 < length (cell_of rows cell)
+  pub back : (new : List Row) → EndsWith (cell_of rows cell) (λ first last. new ≡ with_cell rows cell first) → new ≡ with_adds before (take i adds)
+
+pub undone_by : (rows before : List Row) (adds : List Add) (i : ℕ) (a : Add) → a ≡ get_or adds i blank → i < length adds → Fits before adds → rows ≡ with_adds before (take (suc i) adds) → IsUndoneBy rows before adds i a.cell
+undone_by rows before adds i a is inside fit now =
+    let ready = undoes rows before adds i inside fit now in
+    subst (λ (b : Add). IsUndoneBy rows before adds i b.cell) (sym is)
+    (record {
+      has = ready.has;
+      some = some_there _ _ _ ready.is;
+      back = λ new ends. ends (cell_of (with_adds before (take i adds)) (get_or adds i blank).cell) (get_or adds i blank).kept ready.is ∙ ready.back;
+    })
 
 -- ---- the shape is kept
 

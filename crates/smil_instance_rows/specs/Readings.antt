@@ -24,10 +24,10 @@ row_times row End = ends_of row.ends
 
 -- ---- by element
 
--- the place of the first row of an element
-abbrev pub place_in : List Row → ℕ → Option ℕ
-place_in [] who = None
-place_in (r ∷ rs) who = let rest = place_in rs who in if r.serial == who then Some 0 else option_map suc rest
+-- the index of the first row of an element
+abbrev pub index_in : List Row → ℕ → Option ℕ
+index_in [] who = None
+index_in (r ∷ rs) who = let rest = index_in rs who in if r.serial == who then Some 0 else option_map suc rest
 
 abbrev pub row_in : List Row → ℕ → Option Row
 row_in rows who = find (λ (r : Row). r.serial == who) rows

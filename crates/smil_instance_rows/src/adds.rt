@@ -13,29 +13,22 @@ pub fn add_each(rows: &mut Rows, adds: &[Add]) -> Result<(), AllocError>
     ensures ok { OnOk result (rows.new ≡ with_adds rows.old adds.now) }
     ensures err { OnErr result (rows.new ≡ rows.old) }
 {
-    let mut made = 0;
-    while made < adds.len() {
-        match rows.add(adds[made].cell, adds[made].kept) {
-            Ok(()) => {}
-            Err(error) => {
-                undo_each(rows, adds, made);
-                return Err(error);
-            }
+    for (made, add) in adds.iter().enumerate() {
+        if let Err(error) = rows.add(add.cell, add.kept) {
+            undo_each(rows, adds, made);
+            return Err(error);
         }
-        made += 1;
     }
     Ok(())
 }
 
-// Takes out what the first adds added.
+// Takes out what the first adds added, the last of them first.
 fn undo_each(rows: &mut Rows, adds: &[Add], made: usize)
     requires made { made ≤ length adds.now }
     requires some { SomeMade rows.old adds.now made }
     ensures { IsAsBefore rows.old adds.now made rows.new }
 {
-    let mut left = made;
-    while 0 < left {
-        left -= 1;
-        rows.undo(adds[left].cell);
+    for add in adds[..made].iter().rev() {
+        rows.undo(add.cell);
     }
 }

@@ -3,7 +3,7 @@
 use super::item_times::InstanceTime;
 use smil_model::Edge;
 
-/// An item of an element: the element's place among the rows, the side, and the item's place.
+/// An item of an element: the index of the element's row, the side, and the item's index there.
 #[derive(Clone, Copy, Debug, PartialEq, Eq)]
 pub struct Cell {
     pub row: usize,

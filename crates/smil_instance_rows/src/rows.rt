@@ -4,7 +4,7 @@ ghost use Rattle.std.specs.Prelude.{◌≡◌, List, [], ◌∷◌, ◌++◌, On
 ghost use Rattle.smil_instance_rows.specs.Rows.{from_place, Row};
 ghost use Rattle.smil_instance_rows.specs.Places.{IsNotAfter, EndsWith, last_alone};
 ghost use Rattle.smil_instance_rows.specs.Changes.{HasCell, cell_of, with_cell};
-ghost use Rattle.smil_instance_rows.specs.Readings.{place_in, row_in, begins_in, ends_in, times_in, first_from, first_after};
+ghost use Rattle.smil_instance_rows.specs.Readings.{index_in, row_in, begins_in, ends_in, times_in, first_from, first_after};
 ghost use Rattle.smil_model.specs.interval.Intervals.{has_any};
 
 use super::cell::Cell;
@@ -16,11 +16,11 @@ use std::alloc::{AllocError, Global};
 use std::collections::HashMap;
 use std::marker::Model;
 
-/// The instance times of all elements, with the places of their rows by serial; seen as the list of
-/// the rows.
+/// The instance times of all elements, with the indices of their rows by serial; seen as the list
+/// of the rows.
 pub struct Rows {
     rows: Vec<InstanceRow>,
-    places: HashMap<u32, usize>,
+    indices: HashMap<u32, usize>,
 }
 
 impl Drop for Rows {
@@ -28,7 +28,7 @@ impl Drop for Rows {
     fn drop(self) {
         let Rows {
             rows: _rows,
-            places: _places,
+            indices: _indices,
         } = self;
     }
 }
@@ -37,20 +37,20 @@ impl Model for Rows {
     ghost use Rattle.std.specs.Prelude.{◌≡◌, ℕ, List, nat_eq};
     ghost use Rattle.std.specs.HashMap.{get};
     ghost use Rattle.smil_instance_rows.specs.Rows.{Row};
-    ghost use Rattle.smil_instance_rows.specs.Readings.{place_in};
+    ghost use Rattle.smil_instance_rows.specs.Readings.{index_in};
 
     ghost Value = { List Row };
 
     ghost view = { λ a. a.rows.items };
 
-    ghost invariant = { λ a. (who : ℕ) → get nat_eq a.places who ≡ place_in a.rows.items who };
+    ghost invariant = { λ a. (who : ℕ) → get nat_eq a.indices who ≡ index_in a.rows.items who };
 }
 
 impl Duplicate for Rows {
     fn copy(&self) -> Result<Self, AllocError> {
         Ok(Rows {
             rows: copy_each(*self.rows.allocator(), &self.rows)?,
-            places: self.places.clone()?,
+            indices: self.indices.clone()?,
         })
     }
 }
@@ -62,7 +62,7 @@ impl Rows {
     {
         Rows {
             rows: Vec::new(alloc),
-            places: HashMap::new(alloc),
+            indices: HashMap::new(alloc),
         }
     }
 
@@ -75,14 +75,14 @@ impl Rows {
 
     /// Appends the row of an element that has none. Where memory runs out all is as before.
     pub fn push(&mut self, row: InstanceRow) -> Result<(), AllocError>
-        requires { place_in self.old row.serial ≡ None }
+        requires { index_in self.old row.serial ≡ None }
         ensures ok { OnOk result (self.new ≡ self.old ++ row ∷ []) }
         ensures err { OnErr result (self.new ≡ self.old) }
     {
         let serial = row.serial();
-        let place = self.len();
+        let index = self.len();
         self.rows.push(row)?;
-        match self.places.insert(serial, place) {
+        match self.indices.insert(serial, index) {
             Ok(_) => Ok(()),
             Err(_) => {
                 self.rows.pop();
@@ -181,36 +181,35 @@ impl Rows {
         }
     }
 
-    /// The place of the row of an element, from 0; None exactly where it has none. It takes no
-    /// memory.
-    pub fn place(&self, who: u32) -> Option<usize>
-        ensures { result ≡ place_in self.now who }
+    /// The index of the row of an element; None exactly where it has none. It takes no memory.
+    pub fn index_of(&self, who: u32) -> Option<usize>
+        ensures { result ≡ index_in self.now who }
     {
-        self.places.get(&who).copied()
+        self.indices.get(&who).copied()
     }
 
-    /// The serial of the element of a row, by the row's place from 0; None exactly where the place
-    /// is not below the number of rows. It takes no memory.
-    pub fn serial_at(&self, place: usize) -> Option<u32>
-        ensures { result ≡ option_map (λ (r : Row). r.serial) (slice_get self.now place) }
+    /// The serial of the element of a row, by the row's index; None exactly where the index is not
+    /// below the number of rows. It takes no memory.
+    pub fn serial_at(&self, index: usize) -> Option<u32>
+        ensures { result ≡ option_map (λ (r : Row). r.serial) (slice_get self.now index) }
     {
-        Some(self.at(place)?.serial())
+        Some(self.at(index)?.serial())
     }
 
     // The row of an element, if it has one.
     fn row(&self, who: u32) -> Option<&InstanceRow>
         ensures { option_copied result ≡ row_in self.now who }
     {
-        match self.places.get(&who) {
-            Some(place) => self.at(*place),
+        match self.indices.get(&who) {
+            Some(index) => self.at(*index),
             None => None,
         }
     }
 
-    // The row at a place from 0; None exactly where the place is not below the number of rows.
-    fn at(&self, place: usize) -> Option<&InstanceRow>
-        ensures { option_copied result ≡ slice_get self.now place }
+    // The row at an index; None exactly where the index is not below the number of rows.
+    fn at(&self, index: usize) -> Option<&InstanceRow>
+        ensures { option_copied result ≡ slice_get self.now index }
     {
-        self.rows.get(place)
+        self.rows.get(index)
     }
 }

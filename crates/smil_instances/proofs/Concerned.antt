@@ -17,7 +17,7 @@ use Rattle.smil_instances.specs.declared.source.Source.{Source}
 use Rattle.smil_instances.specs.declared.source.Source.TheVariants as source
 use Rattle.smil_instance_rows.specs.declared.cell.Cell.{Cell}
 use Rattle.smil_instance_rows.specs.Rows.{Row}
-use Rattle.smil_instance_rows.specs.Readings.{place_in}
+use Rattle.smil_instance_rows.specs.Readings.{index_in}
 use Rattle.smil_instances.specs.Sources.{base_of, is_reset_with, item_under, source_by, source_under, source_at, is_keyed, concerns_under, concerns_cell, AreThose}
 use Rattle.smil_model.specs.document.Defaults.{items_of}
 use Rattle.smil_model.specs.happening.Queue.{is_child_of}
@@ -216,10 +216,10 @@ module _ (nodes : List Node) (distinct : IsDistinct nodes) where
 
   -- ---- rows by serials
 
-  placed_row : (rows : List Row) (es : List Node) (who place : ℕ) → map shape_of rows ≡ map (shape_in nodes) es → place_in rows who ≡ Some place → (e : Node) × (slice_get es place ≡ Some e) × (e.serial ≡ who)
+  placed_row : (rows : List Row) (es : List Node) (who place : ℕ) → map shape_of rows ≡ map (shape_in nodes) es → index_in rows who ≡ Some place → (e : Node) × (slice_get es place ≡ Some e) × (e.serial ≡ who)
   placed_row [] es who place q at = cc
   placed_row (r ∷ rs) [] who place q at = cc
-  placed_row (r ∷ rs) (e ∷ es) who place q at = by (r.serial == who) refl (place_in rs who) refl at (λ k. placed_row rs es who k tail)
+  placed_row (r ∷ rs) (e ∷ es) who place q at = by (r.serial == who) refl (index_in rs who) refl at (λ k. placed_row rs es who k tail)
     where
       tail : map shape_of rs ≡ map (shape_in nodes) es
       tail = cc
@@ -227,7 +227,7 @@ module _ (nodes : List Node) (distinct : IsDistinct nodes) where
       head : shape_of r ≡ shape_in nodes e
       head = cc
 
-      by : (t : Bool) → (r.serial == who) ≡ t → (o : Option ℕ) → place_in rs who ≡ o → cond t (Some 0) (option_map suc o) ≡ Some place → ((k : ℕ) → place_in rs who ≡ Some k → (f : Node) × (slice_get es k ≡ Some f) × (f.serial ≡ who)) → (f : Node) × (slice_get (e ∷ es) place ≡ Some f) × (f.serial ≡ who)
+      by : (t : Bool) → (r.serial == who) ≡ t → (o : Option ℕ) → index_in rs who ≡ o → cond t (Some 0) (option_map suc o) ≡ Some place → ((k : ℕ) → index_in rs who ≡ Some k → (f : Node) × (slice_get es k ≡ Some f) × (f.serial ≡ who)) → (f : Node) × (slice_get (e ∷ es) place ≡ Some f) × (f.serial ≡ who)
       by true p o k r' rest =
           let zeroth : 0 ≡ place = cc in
           (e, ap (slice_get (e ∷ es)) (sym zeroth), sym (ap (λ (s : Shape). s.serial) head) ∙ eqb-true r.serial who p)
@@ -237,11 +237,11 @@ module _ (nodes : List Node) (distinct : IsDistinct nodes) where
           let found = rest j k in
           (found.0, ap (slice_get (e ∷ es)) (sym next) ∙ found.1, found.2)
 
-  unplaced_row : (rows : List Row) (es : List Node) (who : ℕ) → map shape_of rows ≡ map (shape_in nodes) es → place_in rows who ≡ None → node_at es who ≡ None
+  unplaced_row : (rows : List Row) (es : List Node) (who : ℕ) → map shape_of rows ≡ map (shape_in nodes) es → index_in rows who ≡ None → node_at es who ≡ None
   unplaced_row [] [] who q at = refl
   unplaced_row [] (e ∷ es) who q at = cc
   unplaced_row (r ∷ rs) [] who q at = cc
-  unplaced_row (r ∷ rs) (e ∷ es) who q at = by (r.serial == who) refl (place_in rs who) refl at (unplaced_row rs es who tail)
+  unplaced_row (r ∷ rs) (e ∷ es) who q at = by (r.serial == who) refl (index_in rs who) refl at (unplaced_row rs es who tail)
     where
       tail : map shape_of rs ≡ map (shape_in nodes) es
       tail = cc
@@ -249,7 +249,7 @@ module _ (nodes : List Node) (distinct : IsDistinct nodes) where
       head : shape_of r ≡ shape_in nodes e
       head = cc
 
-      by : (t : Bool) → (r.serial == who) ≡ t → (o : Option ℕ) → place_in rs who ≡ o → cond t (Some 0) (option_map suc o) ≡ None → (place_in rs who ≡ None → node_at es who ≡ None) → node_at (e ∷ es) who ≡ None
+      by : (t : Bool) → (r.serial == who) ≡ t → (o : Option ℕ) → index_in rs who ≡ o → cond t (Some 0) (option_map suc o) ≡ None → (index_in rs who ≡ None → node_at es who ≡ None) → node_at (e ∷ es) who ≡ None
       by true p o k r' rest = cc
       by false p (Some j) k r' rest = cc
       by false p None k r' rest =
@@ -258,7 +258,7 @@ module _ (nodes : List Node) (distinct : IsDistinct nodes) where
   -- ---- the cells
 
   -- for an entry on the element of a row
-  pub those_of : (rows : List Row) (dependents : DocumentDependents) (birth : Bool) (who : ℕ) (key : Option ℕ) (place : ℕ) → AreRowsOf nodes rows → AreDependentsOf nodes dependents → place_in rows who ≡ Some place → AreThose (is_concerned_cell nodes birth (Some who) key) (cells_in dependents.rows place birth)
+  pub those_of : (rows : List Row) (dependents : DocumentDependents) (birth : Bool) (who : ℕ) (key : Option ℕ) (place : ℕ) → AreRowsOf nodes rows → AreDependentsOf nodes dependents → index_in rows who ≡ Some place → AreThose (is_concerned_cell nodes birth (Some who) key) (cells_in dependents.rows place birth)
   those_of rows dependents birth who key place are known at = λ cell.
       let e = placed_row rows (elements nodes) who place are at in
       known.cells place e.0 birth e.1 cell
@@ -266,7 +266,7 @@ module _ (nodes : List Node) (distinct : IsDistinct nodes) where
       ∙ ap (λ t. cond t 1 0) (sym (same_test birth who key cell))
 
   -- for an entry on no element
-  pub those_unplaced : BasesAreElements → (rows : List Row) (birth : Bool) (who : ℕ) (key : Option ℕ) → AreRowsOf nodes rows → place_in rows who ≡ None → AreThose (is_concerned_cell nodes birth (Some who) key) []
+  pub those_unplaced : BasesAreElements → (rows : List Row) (birth : Bool) (who : ℕ) (key : Option ℕ) → AreRowsOf nodes rows → index_in rows who ≡ None → AreThose (is_concerned_cell nodes birth (Some who) key) []
   those_unplaced law rows birth who key are at = λ cell.
       sym (ap (λ t. cond t 1 0) (unconcerned who (unplaced_row rows (elements nodes) who are at) law birth key cell))
 

@@ -18,7 +18,8 @@ use Rattle.smil_instances.specs.Laws.{IsUpTo}
 use Rattle.smil_instance_rows.specs.Places.{last_alone}
 use Rattle.smil_instances.specs.Contribution.{given_edge, given_event, given_repeat, given_at, offset_given, start_time}
 use Rattle.smil_instance_rows.specs.Rows.{at_place, from_place}
-use Rattle.smil_instances.specs.SettledTimes.{at_start, heard_time, occurs_key, instances_of, offset_instances, next_of, next_offset, next_start, next_named, next_event, next_repeat, with_time}
+use Rattle.smil_instances.specs.SettledTimes.{at_start, heard_time, occurs_key, instances_of, offset_instances}
+use Rattle.smil_instances.proofs.NextTimes.{next_of, next_offset, next_start, next_named, next_event, next_repeat, with_time}
 use Rattle.smil_instances.specs.Sources.{eventbase, source_of, syncbase_or}
 use Rattle.smil_instances.specs.Updates.{remaining}
 use Rattle.smil_instances.proofs.Note.{kept-next}

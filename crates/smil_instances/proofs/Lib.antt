@@ -20,6 +20,7 @@ pub mod Lists
 pub mod Logs
 pub mod Moment
 pub mod Named
+pub mod NextTimes
 pub mod Note
 pub mod Past
 pub mod Placed

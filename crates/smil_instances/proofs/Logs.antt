@@ -1,6 +1,6 @@
 -- What is kept goes by those log entries alone that were heard.
 use Rattle.std.proofs.Common.{◌≡◌, refl, ◌∙◌, ap, ℕ, suc, List, [], ◌∷◌, ◌++◌, Option, Some, None, ℤ, Bool, arith}
-use Rattle.std.specs.Prelude.{cond, ◌+ℤ◌, ◌&&◌, All}
+use Rattle.std.specs.Prelude.{cond, ◌+ℤ◌, ◌&&◌, All, slice_get}
 use Rattle.std.specs.List.{cons_option}
 use Rattle.smil_model.specs.declared.times.Time.{Time}
 use Rattle.smil_model.specs.declared.diary.Entry.{Entry}
@@ -17,10 +17,14 @@ use Rattle.smil_model.specs.document.Document.{previous_in_seq, element_named, t
 use Rattle.smil_model.specs.diary.Diary.{History, birth, with_past, up_to}
 use Rattle.smil_model.specs.diary.Clocks.{outer}
 use Rattle.smil_model.specs.interval.Instances.{hears, is_event, is_log_event, is_log_key, is_press}
-use Rattle.smil_instances.specs.Laws.{IsSameHeard}
 use Rattle.smil_instance_rows.specs.Rows.{at_place, from_place}
 use Rattle.smil_instances.specs.SettledTimes.{heard_time, offset_instances, named_instances, event_instances, instances_of, occurs_event, occurs_key}
 use Rattle.smil_instances.proofs.Places.{placed}
+
+-- the two logs have the same where the step hears an entry
+abbrev pub IsSameHeard : List LogEntry → List LogEntry → Step → Type 0
+IsSameHeard log more (Logged place) = slice_get more place ≡ slice_get log place
+IsSameHeard log more _ = Unit {0}
 
 same_event : (log more : List LogEntry) (x : ℕ) (name : List ℕ) (step : Step) → IsSameHeard log more step → is_event more x name step ≡ is_event log x name step
 same_event log more x name (Logged place) q = ap (is_log_event x name) q

@@ -23,7 +23,8 @@ use Rattle.smil_model.specs.interval.Instances.{edge_time, hears}
 use Rattle.smil_diary.proofs.PlaceLists.{past-length}
 use Rattle.smil_instances.specs.Laws.{IsUpTo}
 use Rattle.smil_instance_rows.specs.Rows.{at_place, from_place}
-use Rattle.smil_instances.specs.SettledTimes.{with_time, all_edges, edge_instances, next_edges, heard_time, all_heard, heard_instances, next_heard, offset_instances, next_offset, named_instances, next_named, event_instances, next_event, repeat_instances, next_repeat, instances_of, next_of, next_start, at_start, occurs_event, occurs_repeat, occurs_key}
+use Rattle.smil_instances.specs.SettledTimes.{all_edges, edge_instances, heard_time, all_heard, heard_instances, offset_instances, named_instances, event_instances, repeat_instances, instances_of, at_start, occurs_event, occurs_repeat, occurs_key}
+use Rattle.smil_instances.proofs.NextTimes.{with_time, next_edges, next_heard, next_offset, next_named, next_event, next_repeat, next_of, next_start}
 use Rattle.smil_instances.proofs.Places.{placed, placed-same, placed-push, from-with_time}
 use Rattle.smil_instances.proofs.Resets.{birth-rises}
 use Rattle.smil_instances.proofs.Moment.{edge-at, parent-at, own-at}

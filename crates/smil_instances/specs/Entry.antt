@@ -8,6 +8,7 @@ use Rattle.smil_model.specs.diary.Lawful.{IsLawful}
 use Rattle.smil_stretch.specs.declared.clock.NodeClock.{NodeClock}
 use Rattle.smil_stretch.specs.Clocks.{AreClocksOf}
 use Rattle.smil_instances.specs.declared.arrival.Arrival.{Arrival}
+use Rattle.smil_instances.specs.Dependents.{AreDependentsOf}
 
 -- the history before an entry, by what is at hand once it was appended: the document, the clocks
 -- before it, the log, and the diary with it
@@ -28,8 +29,14 @@ pub record IsAtHand (document : Document) (clocks : List NodeClock) (log : List 
 
 -- the arrival is that of this entry, with what was before it
 abbrev pub IsArrivalOf : History → Entry → Arrival → Type 0
-IsArrivalOf h y arrival = IsEntryOf h y arrival.tree.now arrival.clocks.now arrival.log.now arrival.book.now
+IsArrivalOf h y arrival =
+    IsEntryOf h y arrival.history.tree.now arrival.clocks.now arrival.history.log.now arrival.history.book.now
 
 -- it is that of some entry
 abbrev pub HasArrived : Arrival → Type 0
-HasArrived arrival = IsAtHand arrival.tree.now arrival.clocks.now arrival.log.now arrival.book.now
+HasArrived arrival =
+    IsAtHand arrival.history.tree.now arrival.clocks.now arrival.history.log.now arrival.history.book.now
+
+-- it has what the items of its document follow from, and which of them an entry concerns
+abbrev pub HasDependents : Arrival → Type 0
+HasDependents arrival = AreDependentsOf arrival.history.tree.now.nodes arrival.dependents.now

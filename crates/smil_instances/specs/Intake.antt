@@ -20,9 +20,14 @@ use Rattle.smil_instance_rows.specs.Changes.{cell_of, with_cell}
 use Rattle.smil_instances.specs.Updates.{concerned_by, remaining}
 use Rattle.smil_instances.specs.Contribution.{given_at}
 use Rattle.smil_instances.specs.Dependents.{DocumentDependents, keyed_in}
+use Rattle.smil_instances.specs.declared.history.DocumentHistory.{DocumentHistory}
 
 abbrev pub history_of : Document → List LogEntry → List Entry → History
 history_of document log diary = record { nodes = document.nodes; log = log; diary = diary }
+
+-- what has happened to a document with this diary in place of its own
+abbrev pub history_with : DocumentHistory → List Entry → History
+history_with history diary = history_of history.tree.now history.log.now diary
 
 -- ---- which items
 

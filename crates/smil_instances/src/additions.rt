@@ -3,9 +3,8 @@
 ghost use Rattle.std.specs.Prelude.{◌≡◌, List, [], ◌∷◌, ◌++◌, IfOk};
 ghost use Rattle.smil_model.specs.declared.diary.Entry.{Entry as AnyEntry};
 ghost use Rattle.smil_model.specs.declared.document.Edge.TheVariants as edge;
-ghost use Rattle.smil_instances.specs.Entry.{HasArrived};
-ghost use Rattle.smil_instances.specs.Dependents.{AreDependentsOf};
-ghost use Rattle.smil_instances.specs.Intake.{history_of, default_of, IsCellOf, IsUnstated, given_to as gift, adds_to, AreRowsOf};
+ghost use Rattle.smil_instances.specs.Entry.{HasArrived, HasDependents};
+ghost use Rattle.smil_instances.specs.Intake.{history_with, default_of, IsCellOf, IsUnstated, given_to as gift, adds_to, AreRowsOf};
 
 use super::arrival::Arrival;
 use super::contribution::given;
@@ -23,11 +22,11 @@ pub(crate) fn adds_of(
     arrival: &Arrival<'_>,
 ) -> Result<Vec<Add>, AllocError>
     requires hand { HasArrived arrival.now }
-    requires dependents { AreDependentsOf arrival.now.tree.now.nodes arrival.now.dependents.now }
-    requires rows { AreRowsOf arrival.now.tree.now.nodes rows.now }
+    requires dependents { HasDependents arrival.now }
+    requires rows { AreRowsOf arrival.now.history.tree.now.nodes rows.now }
     ensures { IfOk result (λ adds. (before : List AnyEntry) (y : AnyEntry)
-        → arrival.now.book.now ≡ before ++ y ∷ [] → adds.items
-        ≡ adds_to (history_of arrival.now.tree.now arrival.now.log.now before) y cells.now) }
+        → arrival.now.history.book.now ≡ before ++ y ∷ [] → adds.items
+        ≡ adds_to (history_with arrival.now.history before) y cells.now) }
 {
     let mut adds = Vec::new(alloc);
     for cell in cells {
@@ -41,13 +40,13 @@ pub(crate) fn adds_of(
 // What the last entry gives to a cell's item.
 fn given_to(rows: &Rows, cell: Cell, arrival: &Arrival<'_>) -> Option<InstanceTime>
     requires hand { HasArrived arrival.now }
-    requires dependents { AreDependentsOf arrival.now.tree.now.nodes arrival.now.dependents.now }
-    requires rows { AreRowsOf arrival.now.tree.now.nodes rows.now }
+    requires dependents { HasDependents arrival.now }
+    requires rows { AreRowsOf arrival.now.history.tree.now.nodes rows.now }
     ensures { (before : List AnyEntry) (y : AnyEntry)
-        → arrival.now.book.now ≡ before ++ y ∷ []
-        → result ≡ gift (history_of arrival.now.tree.now arrival.now.log.now before) y cell }
+        → arrival.now.history.book.now ≡ before ++ y ∷ []
+        → result ≡ gift (history_with arrival.now.history before) y cell }
 {
-    arrival.tree.valid();
+    arrival.history.tree.valid();
     let who = rows.serial_at(cell.row)?;
     let source = arrival.dependents.source(cell);
     given_item(arrival, CellItem { cell, who, source })
@@ -56,14 +55,14 @@ fn given_to(rows: &Rows, cell: Cell, arrival: &Arrival<'_>) -> Option<InstanceTi
 // What the last entry gives to the item of a cell.
 fn given_item(arrival: &Arrival<'_>, own: CellItem) -> Option<InstanceTime>
     requires hand { HasArrived arrival.now }
-    requires cell { IsCellOf arrival.now.tree.now.nodes own.cell own.who own.source }
+    requires cell { IsCellOf arrival.now.history.tree.now.nodes own.cell own.who own.source }
     ensures { (before : List AnyEntry) (y : AnyEntry)
-        → arrival.now.book.now ≡ before ++ y ∷ []
-        → result ≡ gift (history_of arrival.now.tree.now arrival.now.log.now before) y own.cell }
+        → arrival.now.history.book.now ≡ before ++ y ∷ []
+        → result ≡ gift (history_with arrival.now.history before) y own.cell }
 {
     let CellItem { cell, who, source } = own;
     let side = cell.side;
-    match arrival.tree.attrs(who).list(side) {
+    match arrival.history.tree.attrs(who).list(side) {
         Some(items) => {
             let item = items.get(cell.item)?;
             given(arrival, &ListItem { who, side, item }, source)
@@ -78,12 +77,12 @@ fn given_item(arrival: &Arrival<'_>, own: CellItem) -> Option<InstanceTime>
 // What the last entry gives to the item of a cell, whose element has no `begin`.
 fn given_by_default(arrival: &Arrival<'_>, own: CellItem) -> Option<InstanceTime>
     requires hand { HasArrived arrival.now }
-    requires cell { IsCellOf arrival.now.tree.now.nodes own.cell own.who own.source }
+    requires cell { IsCellOf arrival.now.history.tree.now.nodes own.cell own.who own.source }
     requires side { own.cell.side ≡ edge.Begin }
-    requires absent { IsUnstated arrival.now.tree.now.nodes own.who edge.Begin }
+    requires absent { IsUnstated arrival.now.history.tree.now.nodes own.who edge.Begin }
     ensures { (before : List AnyEntry) (y : AnyEntry)
-        → arrival.now.book.now ≡ before ++ y ∷ []
-        → result ≡ gift (history_of arrival.now.tree.now arrival.now.log.now before) y own.cell }
+        → arrival.now.history.book.now ≡ before ++ y ∷ []
+        → result ≡ gift (history_with arrival.now.history before) y own.cell }
 {
     let CellItem { cell, who, source } = own;
     if 0 < cell.item {

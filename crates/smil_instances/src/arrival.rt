@@ -8,20 +8,17 @@ ghost use Rattle.smil_instances.specs.Entry.{HasArrived, IsArrivalOf};
 
 use super::before::last_entry;
 use super::dependents::Dependents;
-use smil_diary::Book;
-use smil_model::{Entry, Log};
+use super::history::DocumentHistory;
+use smil_model::Entry;
 use smil_stretch::Clocks;
-use smil_tree::Tree;
 
-/// The last entry of a diary, as it is taken in: the document, what its items depend on, the clocks
-/// before the entry, the log, and the book with it.
+/// The last entry of a diary, as it is taken in: what has happened with it, what the document's
+/// items depend on, and the clocks before the entry.
 #[derive(Clone, Copy)]
 pub struct Arrival<'a> {
-    pub tree: &'a Tree,
+    pub history: DocumentHistory<'a>,
     pub dependents: &'a Dependents,
     pub clocks: &'a Clocks,
-    pub log: &'a Log,
-    pub book: &'a Book,
 }
 
 impl Arrival<'_> {
@@ -29,10 +26,10 @@ impl Arrival<'_> {
     pub fn last_entry(&self) -> Entry
         requires { HasArrived self.now }
         ensures value { (before : List AnyEntry) (y : AnyEntry)
-            → self.now.book.now ≡ before ++ y ∷ [] → result ≡ y }
+            → self.now.history.book.now ≡ before ++ y ∷ [] → result ≡ y }
         ensures moment { IsMoment result.moment }
     {
-        last_entry(self.book)
+        last_entry(self.history.book)
     }
 
     /// The place of the entry in the diary. It takes no memory.
@@ -41,6 +38,6 @@ impl Arrival<'_> {
         ensures { (h : History) (y : AnyEntry) → IsArrivalOf h y self.now
             → result ≡ length h.diary }
     {
-        self.book.len() - 1
+        self.history.book.len() - 1
     }
 }

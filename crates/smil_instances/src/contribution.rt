@@ -38,8 +38,9 @@ use smil_model::{Item, Time};
 /// from a key, a press of it that this element hears.
 pub fn given(arrival: &Arrival<'_>, own: &ListItem<'_>, source: Source) -> Option<InstanceTime>
     requires hand { HasArrived arrival.now }
-    requires element { has_element arrival.now.tree.now.nodes own.now.who ≡ true }
-    requires source { source ≡ source_of arrival.now.tree.now.nodes own.now.who own.now.item.now }
+    requires element { has_element arrival.now.history.tree.now.nodes own.now.who ≡ true }
+    requires source { source
+        ≡ source_of arrival.now.history.tree.now.nodes own.now.who own.now.item.now }
     ensures { (h : History) (y : AnyEntry) (e : AnyNode) → IsArrivalOf h y arrival.now
         → node_at (elements h.nodes) own.now.who ≡ Some e
         → result ≡ given_at h y e own.now.side own.now.item.now }
@@ -48,7 +49,7 @@ pub fn given(arrival: &Arrival<'_>, own: &ListItem<'_>, source: Source) -> Optio
     let offset = offset_of(own.item);
     match source {
         Source::Start => {
-            let parent = arrival.tree.time_parent(own.who);
+            let parent = arrival.history.tree.time_parent(own.who);
             start_time(arrival.clocks, entry, parent, offset)
         }
         Source::Syncbase { of, edge } => {
@@ -66,8 +67,9 @@ pub fn given(arrival: &Arrival<'_>, own: &ListItem<'_>, source: Source) -> Optio
 // element `of`.
 fn heard(arrival: &Arrival<'_>, own: &ListItem<'_>, of: Option<u32>) -> Option<InstanceTime>
     requires hand { HasArrived arrival.now }
-    requires element { has_element arrival.now.tree.now.nodes own.now.who ≡ true }
-    requires means { of ≡ target_of arrival.now.tree.now.nodes own.now.who own.now.item.now }
+    requires element { has_element arrival.now.history.tree.now.nodes own.now.who ≡ true }
+    requires means { of
+        ≡ target_of arrival.now.history.tree.now.nodes own.now.who own.now.item.now }
     ensures { (h : History) (y : AnyEntry) (e : AnyNode) → IsArrivalOf h y arrival.now
         → node_at (elements h.nodes) own.now.who ≡ Some e
         → result ≡ given_heard h y e own.now.side own.now.item.now of }
@@ -86,8 +88,9 @@ fn heard(arrival: &Arrival<'_>, own: &ListItem<'_>, of: Option<u32>) -> Option<I
 // element `of`, waits for, and the item's element hears it.
 fn is_heard(arrival: &Arrival<'_>, own: &ListItem<'_>, of: Option<u32>) -> bool
     requires hand { HasArrived arrival.now }
-    requires element { has_element arrival.now.tree.now.nodes own.now.who ≡ true }
-    requires means { of ≡ target_of arrival.now.tree.now.nodes own.now.who own.now.item.now }
+    requires element { has_element arrival.now.history.tree.now.nodes own.now.who ≡ true }
+    requires means { of
+        ≡ target_of arrival.now.history.tree.now.nodes own.now.who own.now.item.now }
     ensures { (h : History) (y : AnyEntry) (e : AnyNode) → IsArrivalOf h y arrival.now
         → node_at (elements h.nodes) own.now.who ≡ Some e
         → result ≡ (occurs_in h y of own.now.item.now

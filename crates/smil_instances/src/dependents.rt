@@ -54,8 +54,8 @@ impl Duplicate for Dependents {
 }
 
 impl Dependents {
-    /// The concerns of the document that a tree stands for, unless memory runs out. It takes time
-    /// near linear in the nodes and the items of the document.
+    /// What the items of a document follow from, and which of them an entry concerns, unless memory
+    /// runs out. It takes time near linear in the nodes and the items of the document.
     pub fn of(alloc: Global, tree: &Tree) -> Result<Dependents, AllocError>
         ensures { IfOk result (λ dependents. AreDependentsOf tree.now.nodes dependents) }
     {

@@ -13,10 +13,11 @@ ghost use Rattle.smil_stretch.specs.Clocks.{IsLawfulFor};
 ghost use Rattle.smil_instances.specs.Entry.{IsAtHand};
 ghost use Rattle.smil_instances.specs.Dependents.{AreDependentsOf};
 ghost use Rattle.smil_instances.specs.Instances.{IsElementOf, IsSettled, settled_times};
-ghost use Rattle.smil_instances.specs.Intake.{history_of};
+ghost use Rattle.smil_instances.specs.Intake.{history_with};
 
 use super::arrival::Arrival;
 use super::dependents::Dependents;
+use super::history::DocumentHistory;
 use super::idle::idle_rows;
 use super::intake::take_in;
 use super::laws::rows_tell_instances;
@@ -101,11 +102,9 @@ impl Instances {
         ensures err { OnErr result (self.new ≡ self.old) }
     {
         let arrival = Arrival {
-            tree,
+            history: DocumentHistory { tree, log, book },
             dependents: &self.dependents,
             clocks,
-            log,
-            book,
         };
         take_in(self.alloc, &mut self.rows, &arrival)
     }
@@ -119,18 +118,19 @@ impl Instances {
         ensures ok { OnOk result (IsSettled self.new tree.now log.now book.now) }
         ensures err { OnErr result (self.new ≡ self.old) }
     {
-        self.rows = self.rows_of(tree, log, book)?;
+        self.rows = self.rows_of(&DocumentHistory { tree, log, book })?;
         Ok(())
     }
 
     // The rows of the document after the entries of its book, each taken in by the clocks before
     // it.
-    fn rows_of(&self, tree: &Tree, log: &Log, book: &Book) -> Result<Rows, AllocError>
-        requires lawful { IsLawfulFor tree.now book.now }
-        requires document { AreDependentsOf tree.now.nodes self.now.dependents }
+    fn rows_of(&self, history: &DocumentHistory<'_>) -> Result<Rows, AllocError>
+        requires lawful { IsLawfulFor history.now.tree.now history.now.book.now }
+        requires document { AreDependentsOf history.now.tree.now.nodes self.now.dependents }
         ensures { IfOk result (λ rows. rows
-            ≡ settled_rows (history_of tree.now log.now book.now)) }
+            ≡ settled_rows (history_with history.now history.now.book.now)) }
     {
+        let DocumentHistory { tree, log, book } = *history;
         let dependents = &self.dependents;
         let mut rows = idle_rows(self.alloc, tree, dependents)?;
         let mut front = Book::new(self.alloc);
@@ -138,11 +138,13 @@ impl Instances {
         for entry in book.entries() {
             push(&mut front, *entry)?;
             let arrival = Arrival {
-                tree,
+                history: DocumentHistory {
+                    tree,
+                    log,
+                    book: &front,
+                },
                 dependents,
                 clocks: &clocks,
-                log,
-                book: &front,
             };
             take_in(self.alloc, &mut rows, &arrival)?;
             clocks.follow(*entry);

@@ -6,9 +6,8 @@ ghost use Rattle.smil_model.specs.reach.Reach.{key_of, subject_of};
 ghost use Rattle.smil_laws.specs.Resolved.{is_opening};
 ghost use Rattle.smil_instances.specs.SettledTimes.{settled_rows};
 ghost use Rattle.smil_instances.specs.Sources.{AreThose};
-ghost use Rattle.smil_instances.specs.Entry.{HasArrived};
-ghost use Rattle.smil_instances.specs.Dependents.{AreDependentsOf};
-ghost use Rattle.smil_instances.specs.Intake.{history_of, is_concerned_cell, keyed_by, AreRowsOf};
+ghost use Rattle.smil_instances.specs.Entry.{HasArrived, HasDependents};
+ghost use Rattle.smil_instances.specs.Intake.{history_with, is_concerned_cell, keyed_by, AreRowsOf};
 
 use super::additions::adds_of;
 use super::arrival::Arrival;
@@ -28,15 +27,15 @@ pub(crate) fn take_in(
     arrival: &Arrival<'_>,
 ) -> Result<(), AllocError>
     requires hand { HasArrived arrival.now }
-    requires dependents { AreDependentsOf arrival.now.tree.now.nodes arrival.now.dependents.now }
+    requires dependents { HasDependents arrival.now }
     requires rows { (before : List AnyEntry) (y : AnyEntry)
-        → arrival.now.book.now ≡ before ++ y ∷ []
-        → rows.old ≡ settled_rows (history_of arrival.now.tree.now arrival.now.log.now before) }
+        → arrival.now.history.book.now ≡ before ++ y ∷ []
+        → rows.old ≡ settled_rows (history_with arrival.now.history before) }
     ensures ok { OnOk result (rows.new ≡ settled_rows
-        (history_of arrival.now.tree.now arrival.now.log.now arrival.now.book.now)) }
+        (history_with arrival.now.history arrival.now.history.book.now)) }
     ensures err { OnErr result (rows.new ≡ rows.old) }
 {
-    arrival.tree.valid();
+    arrival.history.tree.valid();
     entries_are_taken_in();
     only_concerned_items_change();
     let entry = arrival.last_entry();
@@ -49,17 +48,18 @@ pub(crate) fn take_in(
 
 // The items that an entry with this step concerns.
 fn concerned<'a>(rows: &Rows, arrival: &Arrival<'a>, step: Step) -> &'a [Cell]
-    requires rows { AreRowsOf arrival.now.tree.now.nodes rows.now }
-    requires dependents { AreDependentsOf arrival.now.tree.now.nodes arrival.now.dependents.now }
-    ensures those { AreThose (is_concerned_cell arrival.now.tree.now.nodes (is_opening step)
-        (subject_of arrival.now.log.now step) (key_of arrival.now.log.now step)) result.now }
+    requires rows { AreRowsOf arrival.now.history.tree.now.nodes rows.now }
+    requires dependents { HasDependents arrival.now }
+    ensures those { AreThose (is_concerned_cell arrival.now.history.tree.now.nodes (is_opening step)
+        (subject_of arrival.now.history.log.now step)
+        (key_of arrival.now.history.log.now step)) result.now }
 {
-    arrival.tree.valid();
+    arrival.history.tree.valid();
     bases_are_elements();
-    let Some(on) = subject(arrival.log, step) else {
-        return keyed(arrival.dependents, key(arrival.log, step));
+    let Some(on) = subject(arrival.history.log, step) else {
+        return keyed(arrival.dependents, key(arrival.history.log, step));
     };
-    match rows.place(on) {
+    match rows.index_of(on) {
         Some(row) => arrival.dependents.cells(row, is_birth(step)),
         None => &[],
     }

@@ -1,8 +1,8 @@
 //! Each cell is noted with the access key that its item waits for, if any.
 
-ghost use Rattle.std.specs.Prelude.{◌≡◌, ℕ, ◌<◌, length, IfOk, OnOk};
+ghost use Rattle.std.specs.Prelude.{◌≡◌, ℕ, ◌<◌, List, length, Some, slice_get, IfOk, OnOk};
 ghost use Rattle.smil_instances.specs.Sources.{AreThose};
-ghost use Rattle.smil_instances.specs.Dependents.{keyed_in};
+ghost use Rattle.smil_instances.specs.Dependents.{ElementDependents, keyed_in};
 ghost use Rattle.smil_instances.specs.Keys.{TakesKeys, goes_to_key, is_for_key, side_keys};
 
 use super::dependents_row::DependentsRow;
@@ -21,24 +21,24 @@ pub fn cells_by_key(
         → AreThose (is_for_key rows.now key) (keyed_in keys.items key)) }
 {
     let mut keys = Vec::new(alloc);
-    for row in 0..rows.len() {
-        note_side(&mut keys, rows, row, Edge::Begin)?;
-        note_side(&mut keys, rows, row, Edge::End)?;
+    for (row, own) in rows.iter().enumerate() {
+        note_side(&mut keys, own, row, Edge::Begin)?;
+        note_side(&mut keys, own, row, Edge::End)?;
     }
     Ok(keys)
 }
 
-// Notes each cell of one side of an element with its key.
+// Notes each cell of one side of an element, whose row has this index, with its key.
 fn note_side(
     keys: &mut Vec<GrowingList<Cell>>,
-    rows: &[DependentsRow],
+    own: &DependentsRow,
     row: usize,
     side: Edge,
 ) -> Result<(), AllocError>
-    requires { row < length rows.now }
-    ensures { OnOk result (TakesKeys (side_keys rows.now row side) keys.old.items keys.new.items) }
+    ensures { (rows : List ElementDependents) → slice_get rows row ≡ Some own.now
+        → OnOk result (TakesKeys (side_keys rows row side) keys.old.items keys.new.items) }
 {
-    for (item, source) in rows[row].sources(side).iter().enumerate() {
+    for (item, source) in own.sources(side).iter().enumerate() {
         note_key(keys, *source, Cell { row, side, item })?;
     }
     Ok(())

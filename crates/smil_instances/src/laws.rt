@@ -1,6 +1,6 @@
 //! Laws of what is kept. A function here has no code: its contract is the law.
 
-ghost use Rattle.smil_instances.specs.Laws.{LogMayGrow, RowsTellInstances};
+ghost use Rattle.smil_instances.specs.Laws.{RowsTellInstances};
 ghost use Rattle.smil_instances.specs.ExpectedTimes.{InstancesAreMerged};
 ghost use Rattle.smil_instances.specs.Updates.{EntriesAreTakenIn, OnlyConcernedChange, BasesAreElements};
 
@@ -8,11 +8,6 @@ ghost use Rattle.smil_instances.specs.Updates.{EntriesAreTakenIn, OnlyConcernedC
 /// places.
 pub fn instances_are_merged()
     ensures { InstancesAreMerged }
-{}
-
-/// What is kept goes by those log entries alone that were heard.
-pub fn log_may_grow()
-    ensures { LogMayGrow }
 {}
 
 /// Of a history the rows tell the instance times that follow from no current interval.

@@ -12,6 +12,7 @@ ghost use Rattle.smil_instances.specs.Occurrence.{occurs_in};
 
 use super::arrival::Arrival;
 use super::before::{last_entry, repeated_iteration};
+use super::history::DocumentHistory;
 use smil_diary::Book;
 use smil_model::{Happening, Item, Log, LogEntry, Step};
 use smil_tree::Tree;
@@ -21,19 +22,15 @@ use smil_tree::Tree;
 /// press of the key. False for any other item, and for an event or repeat item that means no
 /// element. It takes no memory.
 pub fn occurs(arrival: &Arrival<'_>, of: Option<u32>, item: &Item) -> bool
-    requires hand { (clocks : List NodeClock)
-        × IsAtHand arrival.now.tree.now clocks arrival.now.log.now arrival.now.book.now }
-    requires element { (x : ℕ) → of ≡ Some x → has_element arrival.now.tree.now.nodes x ≡ true }
+    requires hand { (clocks : List NodeClock) × IsAtHand arrival.now.history.tree.now clocks
+        arrival.now.history.log.now arrival.now.history.book.now }
+    requires element { (x : ℕ) → of ≡ Some x
+        → has_element arrival.now.history.tree.now.nodes x ≡ true }
     ensures { (h : History) (y : AnyEntry) (clocks : List NodeClock)
-        → IsEntryOf h y arrival.now.tree.now clocks arrival.now.log.now arrival.now.book.now
-        → result ≡ occurs_in h y of item.now }
+        → IsEntryOf h y arrival.now.history.tree.now clocks arrival.now.history.log.now
+        arrival.now.history.book.now → result ≡ occurs_in h y of item.now }
 {
-    let Arrival {
-        tree,
-        log,
-        book,
-        ..
-    } = *arrival;
+    let DocumentHistory { tree, log, book } = arrival.history;
     match (item, of) {
         (Item::Event { name, .. }, Some(of)) => {
             is_event(log, of, name.slice(), last_entry(book).step)

@@ -7,7 +7,7 @@ ghost use Rattle.smil_model.specs.diary.Diary.{birth_under};
 ghost use Rattle.smil_instances.specs.Sources.{base_of};
 ghost use Rattle.smil_instance_rows.specs.Changes.{cell_of, with_cell, HasCell};
 ghost use Rattle.smil_instances.specs.Updates.{remaining};
-ghost use Rattle.smil_instances.specs.Dependents.{AreDependentsOf};
+ghost use Rattle.smil_instances.specs.Entry.{HasDependents};
 ghost use Rattle.smil_instances.specs.Intake.{history_of, HasItem, HaveItems, IsCellOf, with_remainder, with_remainders, AreRowsOf};
 
 use super::arrival::Arrival;
@@ -21,11 +21,11 @@ use smil_tree::Tree;
 /// Takes out of each of these items what is no longer kept, by the births in the book. It takes no
 /// memory.
 pub(crate) fn trim_each(rows: &mut Rows, cells: &[Cell], arrival: &Arrival<'_>)
-    requires cells { HaveItems arrival.now.tree.now.nodes cells.now }
-    requires dependents { AreDependentsOf arrival.now.tree.now.nodes arrival.now.dependents.now }
-    requires rows { AreRowsOf arrival.now.tree.now.nodes rows.old }
-    ensures { (log : List AnyLogEntry) → rows.new
-        ≡ with_remainders (history_of arrival.now.tree.now log arrival.now.book.now) rows.old
+    requires cells { HaveItems arrival.now.history.tree.now.nodes cells.now }
+    requires dependents { HasDependents arrival.now }
+    requires rows { AreRowsOf arrival.now.history.tree.now.nodes rows.old }
+    ensures { (log : List AnyLogEntry) → rows.new ≡ with_remainders
+        (history_of arrival.now.history.tree.now log arrival.now.history.book.now) rows.old
         cells.now }
 {
     for cell in cells {
@@ -35,19 +35,19 @@ pub(crate) fn trim_each(rows: &mut Rows, cells: &[Cell], arrival: &Arrival<'_>)
 
 // Takes out of an item what is no longer kept.
 fn trim_at(rows: &mut Rows, cell: Cell, arrival: &Arrival<'_>)
-    requires cell { HasItem arrival.now.tree.now.nodes cell }
-    requires dependents { AreDependentsOf arrival.now.tree.now.nodes arrival.now.dependents.now }
-    requires rows { AreRowsOf arrival.now.tree.now.nodes rows.old }
-    ensures value { (log : List AnyLogEntry) → rows.new
-        ≡ with_remainder (history_of arrival.now.tree.now log arrival.now.book.now) rows.old cell }
-    ensures rows { AreRowsOf arrival.now.tree.now.nodes rows.new }
+    requires cell { HasItem arrival.now.history.tree.now.nodes cell }
+    requires dependents { HasDependents arrival.now }
+    requires rows { AreRowsOf arrival.now.history.tree.now.nodes rows.old }
+    ensures value { (log : List AnyLogEntry) → rows.new ≡ with_remainder
+        (history_of arrival.now.history.tree.now log arrival.now.history.book.now) rows.old cell }
+    ensures rows { AreRowsOf arrival.now.history.tree.now.nodes rows.new }
 {
-    arrival.tree.valid();
+    arrival.history.tree.valid();
     bases_are_elements();
     let who = rows.serial_at(cell.row).unwrap();
     let source = arrival.dependents.source(cell);
     let own = CellItem { cell, who, source };
-    trim(rows, own, arrival.tree, arrival.book);
+    trim(rows, own, arrival.history.tree, arrival.history.book);
 }
 
 // Takes out of the item of a cell what is no longer kept.

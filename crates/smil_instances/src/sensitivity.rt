@@ -18,10 +18,9 @@ ghost use Rattle.smil_instances.specs.Occurrence.{target_of, is_always};
 
 use super::arrival::Arrival;
 use super::before::{was_active, was_alive};
+use super::history::DocumentHistory;
 use super::items::ListItem;
-use smil_diary::Book;
 use smil_model::{Bytes, Edge, Item, Restart};
-use smil_stretch::Clocks;
 use smil_tree::Tree;
 
 /// Whether an element hears an event for an item of its begin list or end list, by what had
@@ -32,28 +31,32 @@ use smil_tree::Tree;
 /// hears its end items alone. An access key is heard as an event is. `of` is the element that an
 /// event or repeat item means; a key is on none. It takes no memory.
 pub fn hears(arrival: &Arrival<'_>, own: &ListItem<'_>, of: Option<u32>) -> bool
-    requires hand { (log : List LogEntry)
-        × IsAtHand arrival.now.tree.now arrival.now.clocks.now log arrival.now.book.now }
-    requires element { has_element arrival.now.tree.now.nodes own.now.who ≡ true }
-    requires means { of ≡ target_of arrival.now.tree.now.nodes own.now.who own.now.item.now }
+    requires hand { (log : List LogEntry) × IsAtHand arrival.now.history.tree.now
+        arrival.now.clocks.now log arrival.now.history.book.now }
+    requires element { has_element arrival.now.history.tree.now.nodes own.now.who ≡ true }
+    requires means { of
+        ≡ target_of arrival.now.history.tree.now.nodes own.now.who own.now.item.now }
     ensures { (h : History) (y : AnyEntry) (e : AnyNode)
-        → IsEntryOf h y arrival.now.tree.now arrival.now.clocks.now h.log arrival.now.book.now
+        → IsEntryOf h y arrival.now.history.tree.now arrival.now.clocks.now h.log
+        arrival.now.history.book.now
         → node_at (elements h.nodes) own.now.who ≡ Some e
         → result ≡ instances.hears h e own.now.side own.now.item.now }
 {
-    is_awake(arrival.tree, arrival.clocks, arrival.book, own.who)
-        && is_sensitive(arrival.tree, was_active(arrival.book, own.who), own, of)
+    let DocumentHistory { tree, book, .. } = arrival.history;
+    is_awake(arrival, own.who) && is_sensitive(tree, was_active(book, own.who), own, of)
 }
 
 // Whether an element was alive before the last entry of the book, and the clock of its time parent
 // ran.
-fn is_awake(tree: &Tree, clocks: &Clocks, book: &Book, who: u32) -> bool
-    requires some { 0 < length book.now }
-    requires element { has_element tree.now.nodes who ≡ true }
-    ensures { (h : History) (y : AnyEntry) → h.nodes ≡ tree.now.nodes → IsBefore h y book.now
-        → AreClocksOf clocks.now h → result ≡ (alive_in h who && not (outer_stands h who)) }
+fn is_awake(arrival: &Arrival<'_>, who: u32) -> bool
+    requires some { 0 < length arrival.now.history.book.now }
+    requires element { has_element arrival.now.history.tree.now.nodes who ≡ true }
+    ensures { (h : History) (y : AnyEntry) → h.nodes ≡ arrival.now.history.tree.now.nodes
+        → IsBefore h y arrival.now.history.book.now → AreClocksOf arrival.now.clocks.now h
+        → result ≡ (alive_in h who && not (outer_stands h who)) }
 {
-    was_alive(tree, book, who) && !clocks.outer_stands(who)
+    let DocumentHistory { tree, book, .. } = arrival.history;
+    was_alive(tree, book, who) && !arrival.clocks.outer_stands(who)
 }
 
 // Whether an element of a document, which is active or not, is sensitive to events for an item.

@@ -1,4 +1,4 @@
--- The priorityClass that a node stands in, and its place.
+-- The priorityClass of a node, and its place.
 use Rattle.std.proofs.Common.{◌≡◌, refl, sym, ◌∙◌, ap, ℕ, ◌+◌, List, [], ◌∷◌, Option, Some, None, Bool, true, false, length}
 use Rattle.std.specs.Prelude.{cond, not, ◌==◌, ◌&&◌, nat_lt, option_map, is_some, unwrap_or, get_or, slice_get}
 use Rattle.std.specs.List.{list_all, position, position_or_len}
@@ -25,7 +25,7 @@ class_there nodes kept k s d is q =
     (ap (λ cs. slice_get cs k) is ∙ slice_get-map (λ (n : Node). class_facts nodes n.serial) nodes k ∙ ap (option_map (λ (n : Node). class_facts nodes n.serial)) found.at
     ∙ ap (λ x. Some (class_facts nodes x)) found.serial)
 
--- the class that a node stands in is a node
+-- the class of a node is a node
 pub record IsClassOf (nodes : List Node) (s class : ℕ) : Type 0 where
   pub node : Node
   pub is : class_of nodes s ≡ Some node

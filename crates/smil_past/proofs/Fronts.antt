@@ -1,8 +1,9 @@
 -- The first entries of a diary.
-use Rattle.std.proofs.Common.{◌≡◌, refl, sym, subst, ℕ, ◌+◌, List, [], ◌∷◌, ◌++◌, take, length, Some, arith}
+use Rattle.std.proofs.Common.{◌≡◌, refl, sym, ◌∙◌, ap, subst, ℕ, ◌+◌, ◌-◌, ◌<◌, ◌≤◌, List, [], ◌∷◌, ◌++◌, take, length, length-drop, get_or, Some, arith}
 use Rattle.std.specs.Prelude.{drop, pos, slice_get}
 use Rattle.std.specs.List.{AllByRecursion}
-use Rattle.std.proofs.lemmas.List.{take-append-drop}
+use Rattle.std.proofs.lemmas.List.{get_or-drop, take-append-drop, take_rest}
+use Rattle.std.proofs.lemmas.Option.{slice_get-get_or}
 use Rattle.smil_model.specs.declared.diary.Entry.{Entry}
 use Rattle.smil_model.specs.declared.diary.LogEntry.{LogEntry}
 use Rattle.smil_model.specs.declared.diary.Step.TheVariants.{Began}
@@ -23,6 +24,22 @@ no_entry = record { moment = pos 0; step = Began 0 (pos 0) }
 each_last : {A : Type 0} (P : A → Type 0) (xs : List A) (y : A) → AllByRecursion P (xs ++ y ∷ []) → P y
 each_last P [] y each = each.0
 each_last P (x ∷ xs) y each = each_last P xs y each.1
+
+-- the entries from one on, as the slice of them is
+abbrev pub rest : List Entry → ℕ → List Entry
+rest entries from = take (length entries - from) (drop from entries)
+
+pub entry_at : (entries : List Entry) (from k : ℕ) → k < length (rest entries from) → slice_get entries (from + k) ≡ Some (get_or (rest entries from) k no_entry)
+entry_at entries from k within =
+    let left : k < length (drop from entries) = subst (λ (es : List Entry). k < length es) (take_rest entries from) within in
+    let below : from + k < length entries = omega (arith, left, length-drop from entries) in
+    slice_get-get_or entries (from + k) no_entry below
+    ∙ ap (λ (y : Entry). Some y) (sym (ap (λ (es : List Entry). get_or es k no_entry) (take_rest entries from) ∙ get_or-drop from entries k no_entry))
+
+pub all_reached : (entries : List Entry) (from k : ℕ) → length (rest entries from) ≤ k → length entries ≤ from + k
+all_reached entries from k most =
+    let left : length (drop from entries) ≤ k = subst (λ (es : List Entry). length es ≤ k) (take_rest entries from) most in
+    omega (arith, left, length-drop from entries)
 
 -- each entry may follow those before it
 pub follows_at : (document : Document) (log : List LogEntry) (diary : List Entry) (place : ℕ) (y : Entry) → IsPossible document log diary → slice_get diary place ≡ Some y → MayFollow (unmarked document log (take place diary)) y

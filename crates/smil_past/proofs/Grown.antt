@@ -20,9 +20,8 @@ use Rattle.smil_laws.proofs.Longer.{get_longer, longer_alike}
 use Rattle.smil_laws.proofs.Cutting.{names_weaker}
 use Rattle.smil_past.specs.declared.plays.played.PlayFacts.{PlayFacts}
 use Rattle.smil_past.specs.Played.{played, all_played}
-use Rattle.smil_instances.specs.Laws.{IsSameHeard}
 use Rattle.smil_instances.specs.SettledTimes.{instances_of, row_of, settled_rows}
-use Rattle.smil_instances.proofs.Logs.{kept_grown}
+use Rattle.smil_instances.proofs.Logs.{IsSameHeard, kept_grown}
 use Rattle.smil_instances.specs.Intake.{history_of}
 use Rattle.smil_past.specs.declared.readings.Readings.{Readings}
 use Rattle.smil_past.specs.Past.{IsPossible}

@@ -1,4 +1,4 @@
--- A second chronicle that lags behind.
+-- A second chronicle, which has first entries of the same diary.
 use Rattle.std.proofs.Common.{◌≡◌, refl, sym, ◌∙◌, ap, subst, ℕ, ◌+◌, ◌<◌, ◌≤◌, List, [], ◌∷◌, ◌++◌, take, length, length-append, Option, None, Some, true, arith}
 use Rattle.std.specs.Prelude.{drop, is_some, slice_get}
 use Rattle.std.proofs.Math.Seq.{take-length}
@@ -25,7 +25,7 @@ names_front place len diary named =
 
 -- ---- catching up
 
--- with no entry it lags behind any diary
+-- with no entry it has the first entries of any diary
 pub lags_new : (document : Document) (log : List LogEntry) (diary : List Entry) (c : Chronicle) → IsPossible document log diary → TellsNothing document log c → Lags document log diary c
 lags_new document log diary c possible new =
     let none : length c.book ≡ 0 = ap length new.nothing in
@@ -62,7 +62,7 @@ caught_up document log diary c lags all =
     let same : length c.book ≡ length diary = omega (arith, lags.within, all) in
     lags.first ∙ ap (λ k. take k diary) same ∙ take-length diary
 
--- a chronicle lags behind its own diary
+-- a chronicle has the first entries of its own diary
 pub lags_itself : (document : Document) (log : List LogEntry) (c : Chronicle) → Tells document log c → Lags document log c.book c
 lags_itself document log c tells = record { within = omega arith; first = sym (take-length c.book); tells = tells }
 
@@ -145,7 +145,7 @@ backs_unheard document log full now entry diary second marked is cut named withi
 
 -- ---- marks
 
--- no mark stands
+-- there is no mark
 pub backs_unmarked : (document : Document) (log : List LogEntry) (diary : List Entry) (second : Option Chronicle) → LagsIfAny document log diary second → BacksUp document log diary second None
 backs_unmarked document log diary second lags = record { lags = lags; at = λ mark is. let none : ⊥ = cc in absurd none }
 
@@ -154,7 +154,7 @@ pub backs_none : (document : Document) (log : List LogEntry) (diary : List Entry
 backs_none document log diary =
     backs_unmarked document log diary None (λ c is. let none : ⊥ = cc in absurd none)
 
--- a mark stands here
+-- a mark is made here
 pub backs_here : (document : Document) (log : List LogEntry) (diary : List Entry) (second : Option Chronicle) → IsPossible document log diary → LagsIfAny document log diary second → BacksUp document log diary second (Some (length log, length diary))
 backs_here document log diary second possible lags = record {
   lags = lags;
@@ -169,7 +169,7 @@ backs_here document log diary second possible lags = record {
       });
 }
 
--- the second one was brought up to the mark, or need not be
+-- the second one was given the entries up to the mark, or need not be
 pub backs_noted : (document : Document) (log : List LogEntry) (diary : List Entry) (second noted : Option Chronicle) (marked : Option (ℕ × ℕ)) → ((mark : ℕ × ℕ) → marked ≡ Some mark → length diary ≤ mark.1) → LagsIfAny document log diary noted → BacksUp document log diary second marked → BacksUp document log diary noted marked
 backs_noted document log diary second noted marked here lags backs = record {
   lags = lags;

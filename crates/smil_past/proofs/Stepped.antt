@@ -269,7 +269,7 @@ module _ (h : History) (y : Entry) (s : ℕ) (lawful : IsLawful (with_entry h y)
       by_birth true = refl
       by_birth false = last_step (plays h s) (plays_until h y s lawful) y.step
 
-  -- ---- what was let pass or put off since birth
+  -- ---- what was passed over or deferred since birth
 
   own_alive : (who : ℕ) → (has_element h.nodes who && may_begin h who) ≡ true → who == s ≡ true → is_alive h s ≡ true
   own_alive who q is =

@@ -1,4 +1,4 @@
--- Chronicles, and a second one that lags behind.
+-- Chronicles, and a second one that has first entries of the same diary.
 use Rattle.std.specs.Prelude.{◌≡◌, ℕ, ◌≤◌, ◌<◌, List, [], length, take, Option, Some, option_map}
 use Rattle.smil_model.specs.declared.diary.Entry.{Entry}
 use Rattle.smil_model.specs.declared.diary.LogEntry.{LogEntry}
@@ -32,7 +32,7 @@ LagsIfAny document log diary second = (c : Chronicle) → second ≡ Some c → 
 abbrev pub reach : Option Chronicle → Option ℕ
 reach second = option_map (λ (c : Chronicle). length c.book) second
 
--- what had happened where the mark stands was possible; where the diary is longer now, the second one ends at the mark
+-- what had happened when the mark was made was possible; where the diary is longer now, the second one ends at the mark
 pub record HoldsAt (document : Document) (log : List LogEntry) (diary : List Entry)
     (second : Option Chronicle) (mark : ℕ × ℕ) : Type 0 where
   pub log_within : mark.0 ≤ length log
@@ -40,18 +40,18 @@ pub record HoldsAt (document : Document) (log : List LogEntry) (diary : List Ent
   pub possible : IsPossible document (take mark.0 log) (take mark.1 diary)
   pub noted : mark.1 < length diary → reach second ≡ Some mark.1
 
--- the second one, where there is one, lags behind, and has what is needed to go back where a mark stands
+-- the second one, where there is one, has first entries of the diary, and what is needed to go back where there is a mark
 pub record BacksUp (document : Document) (log : List LogEntry) (diary : List Entry)
     (second : Option Chronicle) (marked : Option (ℕ × ℕ)) : Type 0 where
   pub lags : LagsIfAny document log diary second
   pub at : (mark : ℕ × ℕ) → marked ≡ Some mark → HoldsAt document log diary second mark
 
--- where a mark stands, the second one ends there
+-- where there is a mark, the second one ends there
 abbrev pub EndsAtMark : Option Chronicle → Option (ℕ × ℕ) → Type 0
 EndsAtMark second marked = (mark : ℕ × ℕ) → marked ≡ Some mark → reach second ≡ Some mark.1
 
 -- a document with its log, and what is kept of it: its graph, what its items wait for, a chronicle,
--- a second one that lags behind, and a mark
+-- a second one with first entries of its diary, and a mark
 pub record KeepsPast (document : Document) (log : List LogEntry) (graph : OrderedNodes) (syncs : List SyncRow)
     (first : Chronicle) (second : Option Chronicle) (mark : Option (ℕ × ℕ)) : Type 0 where
   pub graph_is : graph.nodes ≡ document.nodes

@@ -57,7 +57,7 @@ interval_finished_by h s m begun shown (Cut who) =
     if who == s then finished_interval h s m (outer h s m) true begun shown else None
 interval_finished_by h s m begun shown _ = None
 
--- the begin that an excl has put off, in document time
+-- the begin that an excl has deferred, in document time
 abbrev pub shown_deferred_after : History → ℕ → ℤ → Option ℤ → Step → Option ℤ
 shown_deferred_after h s m before (Began who begin) = if who == s then None else before
 shown_deferred_after h s m before (Ended who end') = if who == s then None else before
@@ -91,8 +91,8 @@ own_after h y s r = record {
   length = told_after h.log s r.length y.step;
 }
 
--- what a birth or an end of the time parent leaves: a birth forgets what finished, was put off or passed since the last one,
--- and with an end nothing is put off
+-- what a birth or an end of the time parent leaves: a birth forgets what finished, was deferred or passed since the last
+-- one, and after an end nothing is deferred
 abbrev pub child_after : Bool → Bool → PlayFacts → PlayFacts
 child_after birth death r = record r {
   first_finished = none_if birth r.first_finished;

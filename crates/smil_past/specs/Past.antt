@@ -14,7 +14,7 @@ use Rattle.smil_model.specs.diary.Diary.{with_entry}
 use Rattle.smil_laws.specs.Near.{AllNear, HasNear}
 use Rattle.smil_laws.specs.Cut.{IsNamedBelow, NamesBelow}
 
--- a document, its log and its diary; and how long log and diary were where a mark stands
+-- a document, its log and its diary; and, where there is a mark, how long log and diary were when it was made
 pub record MarkedHistory : Type 0 where
   pub document : Document
   pub log : List LogEntry
@@ -24,7 +24,7 @@ pub record MarkedHistory : Type 0 where
 abbrev pub history_of : MarkedHistory → History
 history_of past = record { nodes = past.document.nodes; log = past.log; diary = past.diary }
 
--- what has happened, where no mark stands
+-- what has happened, where there is no mark
 abbrev pub unmarked : Document → List LogEntry → List Entry → MarkedHistory
 unmarked document log diary = record { document = document; log = log; diary = diary; marked = None }
 

@@ -1,4 +1,4 @@
--- The queues of the elements of a document, and the classes that its nodes stand in.
+-- The queues of the elements of a document, and the classes of its nodes.
 use Rattle.std.specs.Prelude.{◌≡◌, ℕ, ◌<◌, List, [], map, length, true, ◌==◌, if◌then◌else◌}
 use Rattle.smil_model.specs.declared.diary.Entry.{Entry}
 use Rattle.smil_model.specs.declared.diary.LogEntry.{LogEntry}

@@ -10,6 +10,7 @@ ghost use Rattle.smil_past.specs.Chronicle.{Lags, Tells, TellsNothing};
 use super::readings::Readings;
 use smil_diary::{Book, BookFault};
 use smil_graph::Graph;
+use smil_instances::DocumentHistory;
 use smil_model::{Duplicate, Entry, Log};
 use smil_tree::Tree;
 use std::alloc::{AllocError, Global};
@@ -52,7 +53,7 @@ impl Chronicle {
         })
     }
 
-    /// Appends an entry, which may follow. `DiaryFull` exactly where the diary is full; after a
+    /// Appends an entry, which may follow. `DiaryFull` only where the diary is full; after a
     /// refusal all is as before. It touches what the entry concerns alone.
     pub fn push(&mut self, tree: &Tree, log: &Log, entry: Entry) -> Result<(), BookFault>
         requires tells { Tells tree.now log.now self.old }
@@ -64,7 +65,9 @@ impl Chronicle {
             ≡ limits.DIARY_ENTRIES) }
     {
         self.book.push(entry)?;
-        match self.readings.take_in(tree, log, &self.book, entry) {
+        let book = &self.book;
+        let history = DocumentHistory { tree, log, book };
+        match self.readings.take_in(&history, entry) {
             Ok(()) => Ok(()),
             Err(_) => {
                 let len = self.book.len();
@@ -74,16 +77,19 @@ impl Chronicle {
         }
     }
 
-    /// Appends the entries of a diary that it lacks; where memory runs out, the first of them. It
-    /// has no others.
-    pub fn catch_up(&mut self, tree: &Tree, log: &Log, entries: &[Entry]) -> Result<(), AllocError>
-        requires possible { IsPossible tree.now log.now entries.now }
-        requires lags { Lags tree.now log.now entries.now self.old }
-        ensures lags { Lags tree.now log.now entries.now self.new }
-        ensures ok { OnOk result (self.new.book ≡ entries.now) }
+    /// Appends the entries of a history that it lacks; where memory runs out, the first of them.
+    /// All that it has are among the first of that history.
+    pub fn catch_up(&mut self, history: &DocumentHistory<'_>) -> Result<(), AllocError>
+        requires possible { IsPossible history.now.tree.now history.now.log.now
+            history.now.book.now }
+        requires lags { Lags history.now.tree.now history.now.log.now history.now.book.now
+            self.old }
+        ensures lags { Lags history.now.tree.now history.now.log.now history.now.book.now
+            self.new }
+        ensures ok { OnOk result (self.new.book ≡ history.now.book.now) }
     {
-        for place in self.book.len()..entries.len() {
-            let Ok(()) = self.push(tree, log, entries[place]) else {
+        for entry in &history.book.entries()[self.book.len()..] {
+            let Ok(()) = self.push(history.tree, history.log, *entry) else {
                 return Err(AllocError);
             };
         }

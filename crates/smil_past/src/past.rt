@@ -17,7 +17,7 @@ use super::queues::Queues;
 use super::syncs::Syncs;
 use smil_diary::{Book, BookFault};
 use smil_graph::Graph;
-use smil_instances::Instances;
+use smil_instances::{DocumentHistory, Instances};
 use smil_model::{Duplicate, Entry, Log, LogEntry, Step};
 use smil_stretch::Clocks;
 use smil_tree::Tree;
@@ -25,9 +25,9 @@ use std::alloc::{AllocError, Global};
 use std::marker::Model;
 
 /// A document, its log and its diary so far, with the graph of the document, the clocks, the plays,
-/// the queues of excls and the instance times that these give; seen as the first three, and how
-/// long log and diary were where a mark stands. A second chronicle lags behind: it has the first
-/// entries of the diary, and from the first one under a mark on those up to the mark.
+/// the queues of excls and the instance times that these give; seen as the first three, and, where
+/// there is a mark, how long log and diary were when it was made. A second chronicle has the first
+/// entries of the diary; once an entry was appended after the mark, those up to the mark.
 pub struct Past {
     tree: Tree,
     graph: Graph,
@@ -103,10 +103,10 @@ impl Past {
         Ok(past)
     }
 
-    /// Appends an entry, which may follow what has happened. `DiaryFull` exactly where the diary is
+    /// Appends an entry, which may follow what has happened. `DiaryFull` only where the diary is
     /// full; after a refusal all is as before. It touches what the entry concerns alone. The first
-    /// one under a mark also gives the second chronicle the entries that it lacks, so that each
-    /// entry is taken in twice; where there is no second one, it copies what is kept.
+    /// one after a mark also gives the second chronicle the entries that it lacks, so that each
+    /// entry is taken in twice; where there is no second one, it makes a copy of the first.
     pub fn append(&mut self, entry: Entry) -> Result<(), BookFault>
         requires { MayFollow self.old entry }
         ensures ok { OnOk result (self.new ≡ with_diary self.old (self.old.diary ++ entry ∷ [])) }
@@ -149,8 +149,8 @@ impl Past {
         }
     }
 
-    /// From here on `back` comes back to this. No mark stands. It takes no memory; the first entry
-    /// after it may, as `append` says.
+    /// Makes a mark, to which `back` goes back; there is none yet. It takes no memory; the first
+    /// entry after it may, as `append` says.
     pub fn mark(&mut self)
         requires { self.old.marked ≡ None }
         ensures { self.new ≡ record {
@@ -164,9 +164,9 @@ impl Past {
         self.mark = Some((self.log.len(), self.chronicle.book.len()));
     }
 
-    /// Goes back to where the mark was made. A mark stands, and none does afterwards. It takes no
-    /// memory. Where entries came since, the second chronicle takes the place of the first, which
-    /// is dropped, so that the next first entry under a mark copies.
+    /// Goes back to where the mark was made; there is one, and afterwards none. It takes no memory.
+    /// Where entries came since, the second chronicle takes the place of the first, which is
+    /// dropped, so that the first entry after the next mark makes a copy.
     pub fn back(&mut self)
         requires { is_some self.old.marked ≡ true }
         ensures { (mark : ℕ × ℕ) → self.old.marked ≡ Some mark → self.new ≡ at_mark self.old mark }
@@ -178,8 +178,8 @@ impl Past {
         }
     }
 
-    /// Takes the mark away, from which on the second chronicle lags behind. A mark stands, and none
-    /// does afterwards. It takes no memory.
+    /// Takes the mark away; there is one. The second chronicle keeps the entries that it has. It
+    /// takes no memory.
     pub fn forget(&mut self)
         requires { is_some self.old.marked ≡ true }
         ensures { self.new ≡ record {
@@ -256,8 +256,8 @@ impl Past {
         &self.chronicle.readings.instances
     }
 
-    /// A copy, unless memory runs out. No mark stands. The original stays. It takes in the diary's
-    /// entries anew.
+    /// A copy, unless memory runs out. There is no mark. The original stays. It takes in the
+    /// diary's entries anew.
     pub fn copy(&self) -> Result<Past, AllocError>
         requires { self.now.marked ≡ None }
         ensures { IfOk result (λ copy. copy ≡ self.now) }
@@ -294,7 +294,7 @@ struct First<'a> {
     chronicle: &'a Chronicle,
 }
 
-// Where a mark stands at the end of the diary, brings the second chronicle up to it.
+// Where the mark was made at the end of the diary, gives the second chronicle the entries up to it.
 fn note(
     second: &mut Option<Chronicle>,
     first: &First<'_>,
@@ -327,7 +327,11 @@ fn bring_up(second: &mut Option<Chronicle>, first: &First<'_>) -> Result<(), All
     ensures ok { OnOk result (reach second.new ≡ Some (length first.now.chronicle.now.book)) }
 {
     match second {
-        Some(lagging) => lagging.catch_up(first.tree, first.log, first.chronicle.book.entries()),
+        Some(lagging) => lagging.catch_up(&DocumentHistory {
+            tree: first.tree,
+            log: first.log,
+            book: &first.chronicle.book,
+        }),
         None => {
             *second = Some(first.chronicle.copy()?);
             Ok(())

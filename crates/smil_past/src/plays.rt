@@ -18,7 +18,7 @@ mod row;
 pub use played::{PastInterval, PlayFacts};
 use row::{OwnEntry, child, own_row};
 use smil_instances::elements::{elements, places_of};
-use smil_instances::subject;
+use smil_instances::{DocumentHistory, subject};
 use smil_model::{Duplicate, Entry, Log, Step, Time};
 use smil_stretch::Clocks;
 use smil_tree::Tree;
@@ -91,18 +91,19 @@ impl Plays {
         Ok(Plays { places, rows })
     }
 
-    /// Takes in an entry that may follow what has happened so far, by the document, the clocks
-    /// before the entry, and the log. Its number, where it has one, is from -10^12 to 10^12. It
-    /// takes no memory, and touches the entry's element and, at a begin, a repeat, an end or a cut,
-    /// its time children: an end leaves none of them put off.
-    pub fn follow(&mut self, tree: &Tree, clocks: &Clocks, log: &Log, entry: Entry)
-        requires follows { MayBeTaken entry tree.now clocks.now log.now }
+    /// Takes in an entry that may follow what has happened so far, by the document, the log, and
+    /// the clocks before the entry. Its number, where it has one, is from -10^12 to 10^12. It takes
+    /// no memory, and touches the entry's element and, at a begin, a repeat, an end or a cut, its
+    /// time children: an end leaves none of them deferred.
+    pub fn follow(&mut self, history: &DocumentHistory<'_>, clocks: &Clocks, entry: Entry)
+        requires follows { MayBeTaken entry history.now.tree.now clocks.now history.now.log.now }
         requires near { HasNear entry.step }
-        ensures { (h : History) → IsEntryAfter h entry tree.now clocks.now log.now
+        ensures { (h : History)
+            → IsEntryAfter h entry history.now.tree.now clocks.now history.now.log.now
             → TakesIn h entry self.old self.new }
     {
-        self.take_own(clocks, log, entry);
-        self.take_children(tree, entry.step);
+        self.take_own(clocks, history.log, entry);
+        self.take_children(history.tree, entry.step);
     }
 
     /// What is kept of an element; None exactly where the document has no such element. It takes no

@@ -90,7 +90,7 @@ impl Queues {
         first_at(&self.queues, tree, excl)
     }
 
-    /// The class that a node stands in. It takes no memory.
+    /// The priority class of a node. It takes no memory.
     pub fn class(&self, tree: &Tree, who: u32) -> Class
         requires known { IsSome (node_at tree.now.nodes who) }
         requires kept { (h : History) × AreQueuesOf self.now tree.now h }

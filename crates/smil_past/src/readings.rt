@@ -8,8 +8,8 @@ use super::plays::Plays;
 use super::queues::Queues;
 use smil_diary::Book;
 use smil_graph::Graph;
-use smil_instances::Instances;
-use smil_model::{Duplicate, Entry, Log};
+use smil_instances::{DocumentHistory, Instances};
+use smil_model::{Duplicate, Entry};
 use smil_stretch::Clocks;
 use smil_tree::Tree;
 use std::alloc::{AllocError, Global};
@@ -63,21 +63,18 @@ impl Readings {
         })
     }
 
-    /// Takes in the last entry of the book. Where memory runs out all is as before. It touches what
-    /// the entry concerns alone.
-    pub fn take_in(
-        &mut self,
-        tree: &Tree,
-        log: &Log,
-        book: &Book,
-        entry: Entry,
-    ) -> Result<(), AllocError>
-        requires { IsLast self.old entry tree.now log.now book.now }
-        ensures ok { OnOk result (AreReadingsOf self.new tree.now log.now book.now) }
+    /// Takes in the last entry of a history. Where memory runs out all is as before. It touches
+    /// what the entry concerns alone.
+    pub fn take_in(&mut self, history: &DocumentHistory<'_>, entry: Entry) -> Result<(), AllocError>
+        requires { IsLast self.old entry history.now.tree.now history.now.log.now
+            history.now.book.now }
+        ensures ok { OnOk result (AreReadingsOf self.new history.now.tree.now history.now.log.now
+            history.now.book.now) }
         ensures err { OnErr result (self.new ≡ self.old) }
     {
+        let DocumentHistory { tree, log, book } = *history;
         self.instances.note(tree, &self.clocks, log, book)?;
-        self.plays.follow(tree, &self.clocks, log, entry);
+        self.plays.follow(history, &self.clocks, entry);
         self.queues.follow(tree, entry);
         self.clocks.follow(entry);
         Ok(())

@@ -27,9 +27,9 @@ pub struct PlayFacts {
     /// The first and the last interval that finished since birth.
     pub first_finished: Option<PastInterval>,
     pub last_finished: Option<PastInterval>,
-    /// The begin that an excl has put off, in document time.
+    /// The begin that an excl has deferred, in document time.
     pub shown_deferred: Option<i64>,
-    /// The greatest begin since birth that an excl let pass, on the time parent's clock.
+    /// The greatest begin since birth that an excl passed over, on the time parent's clock.
     pub passed: Option<i64>,
     /// The last length of the element's media that the diary tells.
     pub length: Time,

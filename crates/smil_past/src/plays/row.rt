@@ -133,7 +133,7 @@ fn finished(own: &OwnEntry<'_>, finish: i64, was_cut: bool, row: PlayFacts) -> P
     }
 }
 
-// What a begin that is put off makes of a row.
+// What a begin that is deferred makes of a row.
 fn put_off(own: &OwnEntry<'_>, begin: i64, row: PlayFacts) -> PlayFacts
     requires moment { IsMoment own.now.entry.moment }
     requires near { IsNear begin }
@@ -174,7 +174,7 @@ fn finished_interval(
     }
 }
 
-// The greater of two begins, of which the first need not be there.
+// The greater of two begins; the second where there is no first.
 fn greater(before: Option<i64>, begin: i64) -> Option<i64>
     ensures { result ≡ greater_begin before begin }
 {

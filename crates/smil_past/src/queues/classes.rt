@@ -1,4 +1,4 @@
-//! The classes that the nodes of a document stand in.
+//! The priority classes of the nodes of a document.
 
 ghost use Rattle.std.specs.Prelude.{◌≡◌, ℕ, ◌<◌, ◌≤◌, ◌==◌, true, length, IsSome, IfOk, IfSome, unwrap_or};
 ghost use Rattle.std.specs.List.{position};
@@ -48,7 +48,7 @@ fn class_of(tree: &Tree, serial: u32) -> Class
     }
 }
 
-// The class of a node that stands in this priorityClass.
+// The class of a node that is in this priorityClass.
 fn class_by(tree: &Tree, class: u32) -> Class
     requires known { IsSome (node_at tree.now.nodes class) }
     requires kind { has_kind is_class_kind (node_at tree.now.nodes class) ≡ true }

@@ -1,32 +1,61 @@
-use Rattle.std.proofs.Common.{◌≡◌, ◌∙◌, sym, ap, suc, ◌-◌, ◌<◌, length, take, arith}
+use Rattle.std.proofs.Common.{◌≡◌, ◌∙◌, sym, ap, suc, ◌+◌, ◌-◌, ◌<◌, ◌++◌, ◌∷◌, [], length, take, arith}
 use Rattle.std.specs.Prelude.{get_or}
-use Rattle.smil_instance_rows.specs.Changes.{cell_of, with_adds}
-use Rattle.smil_instance_rows.proofs.Tables.{Undoes, undoes, some_there, blank}
+use Rattle.std.proofs.lemmas.Iterator.Adapters.{YieldsList-from_rev_slice}
+use Rattle.std.proofs.lemmas.Iterator.Consumers.{YieldsList-end, YieldsList-turn}
+use Rattle.std.proofs.lemmas.List.{length-reverse, length-take-le, length_push}
+use Rattle.smil_instance_rows.specs.Changes.{with_adds}
+use Rattle.smil_instance_rows.proofs.Tables.{IsUndoneBy, next_back, undone_by}
 use Rattle.smil_instance_rows.proofs.adds.undo_each.Goals as goal
 
 pub undo-requires-clause-cell : goal.undo-requires-clause-cell
 undo-requires-clause-cell c =
-    let e : suc (c.loop-left.left - 1) ≡ c.loop-left.left = omega (arith, c.loop-left-test.true) in
-    let inside : c.loop-left.left - 1 < length c.args.adds.now = omega (arith, c.loop-left-test.true, c.loop-left.invariant.0, c.requires.made) in
-    (undoes c.loop-left.rows c.requires.some.0 c.args.adds.now (c.loop-left.left - 1) inside c.requires.some.1.fit
-    (c.loop-left.invariant.1 c.requires.some.0 c.requires.some.1 ∙ ap (λ n. with_adds c.requires.some.0 (take n c.args.adds.now)) (sym e))).has
+    let adds = c.args.adds.now in
+    let made = c.args.made in
+    let n = length c.loop-add.yielded in
+    let turn = YieldsList-turn (YieldsList-from_rev_slice (take made adds) (cc)) c.loop-add.yielded _ c.loop-add.yielded_by _ c.next.new.self c.in-Some.add c.in-Some.is c.next.ensures.steps in
+    let next = next_back adds made n c.in-Some.add.now c.requires.made turn in
+    let e : suc (made - 1 - n) ≡ made - n = omega (arith, next.0) in
+    let inside : made - 1 - n < length adds = omega (arith, next.0, c.requires.made) in
+    (undone_by c.loop-add.rows c.requires.some.0 adds (made - 1 - n) c.in-Some.add.now next.1 inside c.requires.some.1.fit
+    (c.loop-add.invariant c.requires.some.0 c.requires.some.1 ∙ ap (λ k. with_adds c.requires.some.0 (take k adds)) (sym e))).has
 
 pub undo-requires-clause-some : goal.undo-requires-clause-some
 undo-requires-clause-some c =
-    let e : suc (c.loop-left.left - 1) ≡ c.loop-left.left = omega (arith, c.loop-left-test.true) in
-    let inside : c.loop-left.left - 1 < length c.args.adds.now = omega (arith, c.loop-left-test.true, c.loop-left.invariant.0, c.requires.made) in
-    some_there _ _ _
-    (undoes c.loop-left.rows c.requires.some.0 c.args.adds.now (c.loop-left.left - 1) inside c.requires.some.1.fit
-    (c.loop-left.invariant.1 c.requires.some.0 c.requires.some.1 ∙ ap (λ n. with_adds c.requires.some.0 (take n c.args.adds.now)) (sym e))).is
+    let adds = c.args.adds.now in
+    let made = c.args.made in
+    let n = length c.loop-add.yielded in
+    let turn = YieldsList-turn (YieldsList-from_rev_slice (take made adds) (cc)) c.loop-add.yielded _ c.loop-add.yielded_by _ c.next.new.self c.in-Some.add c.in-Some.is c.next.ensures.steps in
+    let next = next_back adds made n c.in-Some.add.now c.requires.made turn in
+    let e : suc (made - 1 - n) ≡ made - n = omega (arith, next.0) in
+    let inside : made - 1 - n < length adds = omega (arith, next.0, c.requires.made) in
+    (undone_by c.loop-add.rows c.requires.some.0 adds (made - 1 - n) c.in-Some.add.now next.1 inside c.requires.some.1.fit
+    (c.loop-add.invariant c.requires.some.0 c.requires.some.1 ∙ ap (λ k. with_adds c.requires.some.0 (take k adds)) (sym e))).some
 
-pub loop-left-preserved : goal.loop-left-preserved
-loop-left-preserved c =
-    let e : suc (c.loop-left.left - 1) ≡ c.loop-left.left = omega (arith, c.loop-left-test.true) in
-    let inside : c.loop-left.left - 1 < length c.args.adds.now = omega (arith, c.loop-left-test.true, c.loop-left.invariant.0, c.requires.made) in (
-      omega (arith, c.loop-left.invariant.0),
-      λ before m.
-          let ready : Undoes c.loop-left.rows before c.args.adds.now (c.loop-left.left - 1) = undoes c.loop-left.rows before c.args.adds.now (c.loop-left.left - 1) inside m.fit
-          (c.loop-left.invariant.1 before m ∙ ap (λ n. with_adds before (take n c.args.adds.now)) (sym e)) in
-          c.undo.ensures (cell_of (with_adds before (take (c.loop-left.left - 1) c.args.adds.now)) (get_or c.args.adds.now (c.loop-left.left - 1) blank).cell) (get_or c.args.adds.now (c.loop-left.left - 1) blank).kept ready.is
-          ∙ ready.back,
-    )
+pub loop-add-init : goal.loop-add-init
+loop-add-init c = λ before m.
+    let all : c.args.made ≡ c.args.made - 0 = omega arith in
+    m.are ∙ ap (λ k. with_adds before (take k c.args.adds.now)) all
+
+pub loop-add-preserved : goal.loop-add-preserved
+loop-add-preserved c = λ before m.
+    let adds = c.args.adds.now in
+    let made = c.args.made in
+    let n = length c.loop-add.yielded in
+    let turn = YieldsList-turn (YieldsList-from_rev_slice (take made adds) (cc)) c.loop-add.yielded _ c.loop-add.yielded_by _ c.next.new.self c.in-Some.add c.in-Some.is c.next.ensures.steps in
+    let next = next_back adds made n c.in-Some.add.now c.requires.made turn in
+    let e : suc (made - 1 - n) ≡ made - n = omega (arith, next.0) in
+    let inside : made - 1 - n < length adds = omega (arith, next.0, c.requires.made) in
+    let undone : IsUndoneBy c.loop-add.rows before adds (made - 1 - n) c.in-Some.add.now.cell = undone_by c.loop-add.rows before adds (made - 1 - n) c.in-Some.add.now next.1 inside m.fit
+    (c.loop-add.invariant before m ∙ ap (λ k. with_adds before (take k adds)) (sym e)) in
+    let more : length (c.loop-add.yielded ++ c.in-Some.add ∷ []) ≡ n + 1 = length_push c.loop-add.yielded c.in-Some.add in
+    let left : made - 1 - n ≡ made - length (c.loop-add.yielded ++ c.in-Some.add ∷ []) = omega (arith, more, next.0) in
+    undone.back c.undo.new.self c.undo.ensures ∙ ap (λ k. with_adds before (take k adds)) left
+
+pub returns : goal.returns
+returns c = λ before m.
+    let adds = c.args.adds.now in
+    let made = c.args.made in
+    let all = YieldsList-end (YieldsList-from_rev_slice (take made adds) (cc)) c.loop-add.yielded _ c.loop-add.yielded_by _ c.next.new.self c.in-None.is c.next.ensures.steps in
+    let many : length (take made adds) ≡ made = length-take-le made adds c.requires.made in
+    let none : made - length c.loop-add.yielded ≡ 0 = omega (arith, all.1, length-reverse (take made adds), many) in
+    c.loop-add.invariant before m ∙ ap (λ k. with_adds before (take k adds)) none

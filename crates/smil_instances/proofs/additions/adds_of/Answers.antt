@@ -13,7 +13,7 @@ no_cell = record { row = 0; side = Begin; item = 0 }
 
 pub loop-cell-preserved : goal.loop-cell-preserved
 loop-cell-preserved c = λ before y q.
-    let past = history_of c.args.arrival.now.tree.now c.args.arrival.now.log.now before in
+    let past = history_of c.args.arrival.now.history.tree.now c.args.arrival.now.history.log.now before in
     let cells = c.args.cells.now in
     let i = c.loop-cell.cell-index in
     let rest = c.loop-cell.invariant before y q in
@@ -34,4 +34,4 @@ loop-cell-preserved c = λ before y q.
 pub returns : goal.returns
 returns c = λ before y q.
     c.loop-cell.invariant before y q
-    ∙ ap (adds_to (history_of c.args.arrival.now.tree.now c.args.arrival.now.log.now before) y) (take_all c.loop-cell.cell-index c.args.cells.now c.loop-cell-test.false)
+    ∙ ap (adds_to (history_of c.args.arrival.now.history.tree.now c.args.arrival.now.history.log.now before) y) (take_all c.loop-cell.cell-index c.args.cells.now c.loop-cell-test.false)

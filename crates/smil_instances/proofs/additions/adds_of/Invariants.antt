@@ -5,5 +5,5 @@ use Rattle.smil_instances.proofs.additions.adds_of.Given as goal
 
 abbrev pub invariant-loop-cell : goal.invariant-loop-cell
 invariant-loop-cell l =
-    (before : List Entry) (y : Entry) → l.arrival.book.now ≡ before ++ y ∷ []
-    → l.adds.items ≡ adds_to (history_of l.arrival.tree.now l.arrival.log.now before) y (take l.cell-index l.cells)
+    (before : List Entry) (y : Entry) → l.arrival.history.book.now ≡ before ++ y ∷ []
+    → l.adds.items ≡ adds_to (history_of l.arrival.history.tree.now l.arrival.history.log.now before) y (take l.cell-index l.cells)

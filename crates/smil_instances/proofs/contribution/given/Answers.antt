@@ -19,16 +19,16 @@ source_read nodes ns who s item source kind is own q r =
     ap (λ k. source_of nodes k item) own ∙ ap (λ l. source_of l who item) is ∙ sym q ∙ r
 
 pub time_parent-parent-requires : goal.time_parent-parent-requires
-time_parent-parent-requires c = known_node c.args.arrival.now.tree.now.nodes c.args.own.now.who c.requires.element
+time_parent-parent-requires c = known_node c.args.arrival.now.history.tree.now.nodes c.args.own.now.who c.requires.element
 
 pub returns-in-Start : goal.returns-in-Start
 returns-in-Start c = λ h y e is at.
     let own = serial_is h.nodes c.args.own.now.who e at in
     let same = c.last_entry-entry.ensures.value h.diary y is.same_diary in
     let fits : SFits w64 c.offset_of-offset.result = search rules in
-    c.start_time.ensures h (time_parent c.args.arrival.now.tree.now.nodes c.args.own.now.who) (clocks_read _ _ _ _ h y is c.last_entry-entry.result same) (sym c.time_parent-parent.ensures)
-    ∙ start_read h y e c.args.own.now.side c.args.own.now.who own c.last_entry-entry.result same c.args.arrival.now.tree.now.nodes _ _ is.same_nodes (to_z-of_z w64 c.offset_of-offset.result fits ∙ c.offset_of-offset.ensures)
-    ∙ sym (start_given h y e c.args.own.now.side c.args.own.now.item.now (source_read h.nodes c.args.arrival.now.tree.now.nodes c.args.own.now.who e.serial c.args.own.now.item.now c.args.source _ is.same_nodes own c.requires.source c.in-Start.is))
+    c.start_time.ensures h (time_parent c.args.arrival.now.history.tree.now.nodes c.args.own.now.who) (clocks_read _ _ _ _ h y is c.last_entry-entry.result same) (sym c.time_parent-parent.ensures)
+    ∙ start_read h y e c.args.own.now.side c.args.own.now.who own c.last_entry-entry.result same c.args.arrival.now.history.tree.now.nodes _ _ is.same_nodes (to_z-of_z w64 c.offset_of-offset.result fits ∙ c.offset_of-offset.ensures)
+    ∙ sym (start_given h y e c.args.own.now.side c.args.own.now.item.now (source_read h.nodes c.args.arrival.now.history.tree.now.nodes c.args.own.now.who e.serial c.args.own.now.item.now c.args.source _ is.same_nodes own c.requires.source c.in-Start.is))
 
 pub returns-in-Syncbase : goal.returns-in-Syncbase
 returns-in-Syncbase c = λ h y e is at.
@@ -40,26 +40,26 @@ returns-in-Syncbase c = λ h y e is at.
     (c.edge_time-time.ensures h (clocks_read _ _ _ _ h y is c.last_entry-entry.result same))
     (to_z-of_z w64 c.offset_of-offset.result fits ∙ c.offset_of-offset.ensures)
     (c.place.ensures h y is)
-    ∙ sym (edge_given h y e c.args.own.now.side c.args.own.now.item.now c.in-Syncbase.of c.in-Syncbase.edge (source_read h.nodes c.args.arrival.now.tree.now.nodes c.args.own.now.who e.serial c.args.own.now.item.now c.args.source _ is.same_nodes own c.requires.source c.in-Syncbase.is))
+    ∙ sym (edge_given h y e c.args.own.now.side c.args.own.now.item.now c.in-Syncbase.of c.in-Syncbase.edge (source_read h.nodes c.args.arrival.now.history.tree.now.nodes c.args.own.now.who e.serial c.args.own.now.item.now c.args.source _ is.same_nodes own c.requires.source c.in-Syncbase.is))
 
 pub heard-requires-clause-means : goal.heard-requires-clause-means
 heard-requires-clause-means c =
-    sym (means c.args.arrival.now.tree.now.nodes c.args.own.now.who c.args.own.now.item.now c.in-Eventbase.of (sym c.requires.source ∙ c.in-Eventbase.is))
+    sym (means c.args.arrival.now.history.tree.now.nodes c.args.own.now.who c.args.own.now.item.now c.in-Eventbase.of (sym c.requires.source ∙ c.in-Eventbase.is))
 
 pub heard-requires-in-Key-clause-means : goal.heard-requires-in-Key-clause-means
 heard-requires-in-Key-clause-means c =
-    key_means c.args.arrival.now.tree.now.nodes c.args.own.now.who c.args.own.now.item.now c.in-Key.key (sym c.requires.source ∙ c.in-Key.is)
+    key_means c.args.arrival.now.history.tree.now.nodes c.args.own.now.who c.args.own.now.item.now c.in-Key.key (sym c.requires.source ∙ c.in-Key.is)
 
 pub returns-in-Eventbase : goal.returns-in-Eventbase
 returns-in-Eventbase c = λ h y e is at.
     c.heard.ensures h y e is at
     ∙ sym
     (event_given h y e c.args.own.now.side c.args.own.now.item.now c.in-Eventbase.of
-    (source_read h.nodes c.args.arrival.now.tree.now.nodes c.args.own.now.who e.serial c.args.own.now.item.now c.args.source _ is.same_nodes (serial_is h.nodes c.args.own.now.who e at) c.requires.source c.in-Eventbase.is))
+    (source_read h.nodes c.args.arrival.now.history.tree.now.nodes c.args.own.now.who e.serial c.args.own.now.item.now c.args.source _ is.same_nodes (serial_is h.nodes c.args.own.now.who e at) c.requires.source c.in-Eventbase.is))
 
 pub returns-in-Key : goal.returns-in-Key
 returns-in-Key c = λ h y e is at.
     c.heard-in-Key.ensures h y e is at
     ∙ sym
     (key_given h y e c.args.own.now.side c.args.own.now.item.now c.in-Key.key
-    (source_read h.nodes c.args.arrival.now.tree.now.nodes c.args.own.now.who e.serial c.args.own.now.item.now c.args.source _ is.same_nodes (serial_is h.nodes c.args.own.now.who e at) c.requires.source c.in-Key.is))
+    (source_read h.nodes c.args.arrival.now.history.tree.now.nodes c.args.own.now.who e.serial c.args.own.now.item.now c.args.source _ is.same_nodes (serial_is h.nodes c.args.own.now.who e at) c.requires.source c.in-Key.is))

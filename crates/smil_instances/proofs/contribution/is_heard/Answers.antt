@@ -5,7 +5,7 @@ use Rattle.smil_instances.proofs.Targets.{means_known}
 use Rattle.smil_instances.proofs.contribution.is_heard.Goals as goal
 
 pub occurs-requires-clause-element : goal.occurs-requires-clause-element
-occurs-requires-clause-element c = λ x q. means_known c.args.arrival.now.tree.now.nodes c.args.own.now.who x c.args.own.now.item.now c.requires.element (sym c.requires.means ∙ q)
+occurs-requires-clause-element c = λ x q. means_known c.args.arrival.now.history.tree.now.nodes c.args.own.now.who x c.args.own.now.item.now c.requires.element (sym c.requires.means ∙ q)
 
 pub returns-else-occurs : goal.returns-else-occurs
 returns-else-occurs c = λ h y e is at.

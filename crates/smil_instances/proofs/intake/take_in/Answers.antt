@@ -17,13 +17,13 @@ pub concerned-cells-requires-clause-rows : goal.concerned-cells-requires-clause-
 concerned-cells-requires-clause-rows c =
     let hand = c.requires.hand in
     ap (map shape_of) (c.requires.rows hand.past.diary hand.entry hand.is_entry.same_diary)
-    ∙ settled_shape (history_of c.args.arrival.now.tree.now c.args.arrival.now.log.now hand.past.diary)
+    ∙ settled_shape (history_of c.args.arrival.now.history.tree.now c.args.arrival.now.history.log.now hand.past.diary)
 
 pub adds_of-requires-clause-rows : goal.adds_of-requires-clause-rows
 adds_of-requires-clause-rows c =
     let hand = c.requires.hand in
     ap (map shape_of) (c.requires.rows hand.past.diary hand.entry hand.is_entry.same_diary)
-    ∙ settled_shape (history_of c.args.arrival.now.tree.now c.args.arrival.now.log.now hand.past.diary)
+    ∙ settled_shape (history_of c.args.arrival.now.history.tree.now c.args.arrival.now.history.log.now hand.past.diary)
 
 pub add_each-requires : goal.add_each-requires
 add_each-requires c =
@@ -31,8 +31,8 @@ add_each-requires c =
     let before = hand.past.diary in
     let y = hand.entry in
     let q = hand.is_entry.same_diary in
-    let nodes = c.args.arrival.now.tree.now.nodes in
-    let log = c.args.arrival.now.log.now in
+    let nodes = c.args.arrival.now.history.tree.now.nodes in
+    let log = c.args.arrival.now.history.log.now in
     let cells = c.concerned-cells.result.now in
     subst (Fits c.args.rows.now) (sym (c.as_slice.ensures.value ∙ c.in_ok-adds.ensures before y q))
     (adds_fit nodes log before y cells
@@ -42,7 +42,7 @@ add_each-requires c =
 pub trim_each-requires-clause-cells : goal.trim_each-requires-clause-cells
 trim_each-requires-clause-cells c =
     let step = c.last_entry-entry.result.step in
-    those_have_items c.args.arrival.now.tree.now.nodes (is_opening step) (subject_of c.args.arrival.now.log.now step) (key_of c.args.arrival.now.log.now step) c.concerned-cells.result.now c.concerned-cells.ensures.those
+    those_have_items c.args.arrival.now.history.tree.now.nodes (is_opening step) (subject_of c.args.arrival.now.history.log.now step) (key_of c.args.arrival.now.history.log.now step) c.concerned-cells.result.now c.concerned-cells.ensures.those
 
 pub trim_each-requires-clause-rows : goal.trim_each-requires-clause-rows
 trim_each-requires-clause-rows c =
@@ -50,7 +50,7 @@ trim_each-requires-clause-rows c =
     ap (map shape_of) c.in_ok-add_each.ensures.ok
     ∙ adds_shape c.args.rows.now c.as_slice.result.now
     ∙ ap (map shape_of) (c.requires.rows hand.past.diary hand.entry hand.is_entry.same_diary)
-    ∙ settled_shape (history_of c.args.arrival.now.tree.now c.args.arrival.now.log.now hand.past.diary)
+    ∙ settled_shape (history_of c.args.arrival.now.history.tree.now c.args.arrival.now.history.log.now hand.past.diary)
 
 pub returns-clause-ok : goal.returns-clause-ok
 returns-clause-ok c =
@@ -58,9 +58,9 @@ returns-clause-ok c =
     let before = hand.past.diary in
     let y = hand.entry in
     let q = hand.is_entry.same_diary in
-    let document = c.args.arrival.now.tree.now in
-    let log = c.args.arrival.now.log.now in
-    let book = c.args.arrival.now.book.now in
+    let document = c.args.arrival.now.history.tree.now in
+    let log = c.args.arrival.now.history.log.now in
+    let book = c.args.arrival.now.history.book.now in
     let rows = c.args.rows.now in
     let cells = c.concerned-cells.result.now in
     let past = history_of document log before in

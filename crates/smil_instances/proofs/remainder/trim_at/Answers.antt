@@ -8,30 +8,30 @@ use Rattle.smil_instances.proofs.Concerned.{base_there, cell_known, item_there, 
 use Rattle.smil_instances.proofs.remainder.trim_at.Goals as goal
 
 pub trim-requires-clause-has : goal.trim-requires-clause-has
-trim-requires-clause-has c = item_there c.args.arrival.now.tree.now.nodes c.args.rows.now c.args.cell c.requires.rows c.requires.cell
+trim-requires-clause-has c = item_there c.args.arrival.now.history.tree.now.nodes c.args.rows.now c.args.cell c.requires.rows c.requires.cell
 
 pub trim-requires-clause-cell : goal.trim-requires-clause-cell
 trim-requires-clause-cell c =
-    cell_known c.args.arrival.now.tree.now.nodes c.valid.ensures.numbered.distinct c.args.rows.now c.args.arrival.now.dependents.now c.args.cell c.unwrap-who.result c.source-source.result
+    cell_known c.args.arrival.now.history.tree.now.nodes c.valid.ensures.numbered.distinct c.args.rows.now c.args.arrival.now.dependents.now c.args.cell c.unwrap-who.result c.source-source.result
     c.requires.rows c.requires.dependents (sym c.serial_at.ensures ∙ c.unwrap-who.ensures) c.source-source.ensures
 
 pub trim-requires-clause-base : goal.trim-requires-clause-base
 trim-requires-clause-base c =
-    base_there c.args.arrival.now.tree.now.nodes c.valid.ensures.numbered.distinct c.bases_are_elements.ensures c.args.cell c.unwrap-who.result c.source-source.result
-    (cell_known c.args.arrival.now.tree.now.nodes c.valid.ensures.numbered.distinct c.args.rows.now c.args.arrival.now.dependents.now c.args.cell c.unwrap-who.result c.source-source.result
+    base_there c.args.arrival.now.history.tree.now.nodes c.valid.ensures.numbered.distinct c.bases_are_elements.ensures c.args.cell c.unwrap-who.result c.source-source.result
+    (cell_known c.args.arrival.now.history.tree.now.nodes c.valid.ensures.numbered.distinct c.args.rows.now c.args.arrival.now.dependents.now c.args.cell c.unwrap-who.result c.source-source.result
     c.requires.rows c.requires.dependents (sym c.serial_at.ensures ∙ c.unwrap-who.ensures) c.source-source.ensures)
 
 pub returns-clause-value : goal.returns-clause-value
 returns-clause-value c = λ log.
-    let is : IsCellOf c.args.arrival.now.tree.now.nodes c.args.cell c.unwrap-who.result c.source-source.result =
-    cell_known c.args.arrival.now.tree.now.nodes c.valid.ensures.numbered.distinct c.args.rows.now c.args.arrival.now.dependents.now c.args.cell c.unwrap-who.result c.source-source.result
+    let is : IsCellOf c.args.arrival.now.history.tree.now.nodes c.args.cell c.unwrap-who.result c.source-source.result =
+    cell_known c.args.arrival.now.history.tree.now.nodes c.valid.ensures.numbered.distinct c.args.rows.now c.args.arrival.now.dependents.now c.args.cell c.unwrap-who.result c.source-source.result
     c.requires.rows c.requires.dependents (sym c.serial_at.ensures ∙ c.unwrap-who.ensures) c.source-source.ensures in
     c.trim.ensures log
     ∙ ap (with_cell c.args.rows.now c.args.cell)
-    (trimmed_here c.args.arrival.now.tree.now.nodes c.valid.ensures.numbered.distinct log c.args.arrival.now.book.now c.args.cell c.unwrap-who.result c.source-source.result is (cell_of c.args.rows.now c.args.cell))
+    (trimmed_here c.args.arrival.now.history.tree.now.nodes c.valid.ensures.numbered.distinct log c.args.arrival.now.history.book.now c.args.cell c.unwrap-who.result c.source-source.result is (cell_of c.args.rows.now c.args.cell))
 
 pub returns-clause-rows : goal.returns-clause-rows
 returns-clause-rows c =
     ap (map shape_of) (c.trim.ensures [])
-    ∙ cell_shape c.args.rows.now c.args.cell (remaining (history_of c.args.arrival.now.tree.now [] c.args.arrival.now.book.now) c.unwrap-who.result c.source-source.result (cell_of c.args.rows.now c.args.cell))
+    ∙ cell_shape c.args.rows.now c.args.cell (remaining (history_of c.args.arrival.now.history.tree.now [] c.args.arrival.now.history.book.now) c.unwrap-who.result c.source-source.result (cell_of c.args.rows.now c.args.cell))
     ∙ c.requires.rows

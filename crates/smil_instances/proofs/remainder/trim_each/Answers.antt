@@ -12,7 +12,7 @@ pub loop-cell-preserved : goal.loop-cell-preserved
 loop-cell-preserved c = record {
   value = λ log.
       c.trim_at.ensures.value log
-      ∙ ap (λ rows. with_remainder (history_of c.args.arrival.now.tree.now log c.args.arrival.now.book.now) rows (get_or c.args.cells.now c.loop-cell.cell-index no_cell)) (c.loop-cell.invariant.value log)
-      ∙ sym (fold_more (with_remainder (history_of c.args.arrival.now.tree.now log c.args.arrival.now.book.now)) c.args.rows.now c.args.cells.now c.loop-cell.cell-index no_cell c.loop-cell-test.true);
+      ∙ ap (λ rows. with_remainder (history_of c.args.arrival.now.history.tree.now log c.args.arrival.now.history.book.now) rows (get_or c.args.cells.now c.loop-cell.cell-index no_cell)) (c.loop-cell.invariant.value log)
+      ∙ sym (fold_more (with_remainder (history_of c.args.arrival.now.history.tree.now log c.args.arrival.now.history.book.now)) c.args.rows.now c.args.cells.now c.loop-cell.cell-index no_cell c.loop-cell-test.true);
   rows = c.trim_at.ensures.rows;
 }

@@ -6,7 +6,7 @@ use Rattle.smil_model.specs.declared.diary.Entry.{Entry}
 use Rattle.smil_model.specs.declared.diary.Step.TheVariants.{Began}
 use Rattle.smil_stretch.specs.Clocks.{AreClocksOf}
 use Rattle.smil_instances.specs.SettledTimes.{settled_rows}
-use Rattle.smil_instances.specs.Intake.{history_of}
+use Rattle.smil_instances.specs.Intake.{history_of, history_with}
 use Rattle.smil_instances.proofs.Rebuilt.{at_hand, lawful_of, next_front, next_is, next_lawful}
 use Rattle.smil_instances.proofs.instances.Instances.rows_of.Goals as goal
 
@@ -15,37 +15,41 @@ no_entry = record { moment = pos 0; step = Began 0 (pos 0) }
 
 pub of-requires : goal.of-requires
 of-requires c = record {
-  past = history_of c.args.tree.now [] [];
+  past = history_of c.args.history.now.tree.now [] [];
   history = record { same_nodes = refl; same_diary = sym c.new-front.ensures; lawful = record { moments = refl; steps = tt } };
 }
 
 pub take_in-requires-clause-hand : goal.take_in-requires-clause-hand
 take_in-requires-clause-hand c =
-    let book = c.args.book.now in
+    let document = c.args.history.now.tree.now in
+    let log = c.args.history.now.log.now in
+    let book = c.args.history.now.book.now in
     let entries = c.entries-entry-items.result.now in
     let k = c.loop-entry.entry-index in
     let y = get_or entries k no_entry in
     let at : slice_get book k ≡ Some y = ap (λ (ds : List Entry). slice_get ds k) (sym c.entries-entry-items.ensures) ∙ slice_get-get_or entries k no_entry c.loop-entry-test.true in
-    at_hand c.args.tree.now c.args.log.now book k y at c.loop-entry.clocks c.push.new.front (lawful_of c.args.tree.now c.args.log.now book c.requires.lawful) c.loop-entry.invariant.2 (c.in_ok-push.ensures ∙ ap (λ (ys : List Entry). ys ++ y ∷ []) c.loop-entry.invariant.1)
+    at_hand document log book k y at c.loop-entry.clocks c.push.new.front (lawful_of document log book c.requires.lawful) c.loop-entry.invariant.2 (c.in_ok-push.ensures ∙ ap (λ (ys : List Entry). ys ++ y ∷ []) c.loop-entry.invariant.1)
 
 pub follow-requires : goal.follow-requires
 follow-requires c =
-    let book = c.args.book.now in
+    let document = c.args.history.now.tree.now in
+    let log = c.args.history.now.log.now in
+    let book = c.args.history.now.book.now in
     let entries = c.entries-entry-items.result.now in
     let k = c.loop-entry.entry-index in
     let y = get_or entries k no_entry in
     let at : slice_get book k ≡ Some y = ap (λ (ds : List Entry). slice_get ds k) (sym c.entries-entry-items.ensures) ∙ slice_get-get_or entries k no_entry c.loop-entry-test.true in
     record {
-      past = history_of c.args.tree.now c.args.log.now (take k book);
+      past = history_of document log (take k book);
       known = c.loop-entry.invariant.2;
-      lawful = next_lawful c.args.tree.now c.args.log.now book k y at (lawful_of c.args.tree.now c.args.log.now book c.requires.lawful);
+      lawful = next_lawful document log book k y at (lawful_of document log book c.requires.lawful);
     }
 
 pub loop-entry-preserved : goal.loop-entry-preserved
 loop-entry-preserved c =
-    let document = c.args.tree.now in
-    let log = c.args.log.now in
-    let book = c.args.book.now in
+    let document = c.args.history.now.tree.now in
+    let log = c.args.history.now.log.now in
+    let book = c.args.history.now.book.now in
     let entries = c.entries-entry-items.result.now in
     let k = c.loop-entry.entry-index in
     let y = get_or entries k no_entry in
@@ -61,4 +65,4 @@ pub returns : goal.returns
 returns c =
     let many = ap (λ (ds : List Entry). length ds) c.entries-entry-items.ensures in
     c.loop-entry.invariant.0
-    ∙ ap (λ (ds : List Entry). settled_rows (history_of c.args.tree.now c.args.log.now ds)) (take_all c.loop-entry.entry-index c.args.book.now (omega (arith, many, c.loop-entry-test.false)))
+    ∙ ap (λ (ds : List Entry). settled_rows (history_with c.args.history.now ds)) (take_all c.loop-entry.entry-index c.args.history.now.book.now (omega (arith, many, c.loop-entry-test.false)))

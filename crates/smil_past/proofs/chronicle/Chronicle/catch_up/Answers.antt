@@ -1,27 +1,43 @@
-use Rattle.std.proofs.Common.{◌≡◌, ◌∙◌, ap, [], ◌∷◌, ◌++◌, length, get_or}
-use Rattle.std.specs.Prelude.{◌+◌}
+use Rattle.std.proofs.Common.{◌≡◌, ◌≤◌, ◌∙◌, sym, ap, List, Some, [], ◌∷◌, ◌++◌, length, get_or, arith}
+use Rattle.std.specs.Prelude.{◌+◌, slice_get}
 use Rattle.std.proofs.lemmas.List.{length_push}
-use Rattle.std.proofs.lemmas.Option.{slice_get-get_or}
-use Rattle.smil_past.proofs.Fronts.{no_entry}
-use Rattle.smil_past.proofs.Seconds.{lags_next, next_follows}
+use Rattle.smil_model.specs.declared.diary.Entry.{Entry}
+use Rattle.smil_past.proofs.Fronts.{all_reached, entry_at, no_entry, rest}
+use Rattle.smil_past.proofs.Seconds.{caught_up, lags_next, next_follows}
 use Rattle.smil_past.proofs.chronicle.Chronicle.catch_up.Goals as goal
 
 pub push-requires-clause-follows : goal.push-requires-clause-follows
 push-requires-clause-follows c =
-    let diary = c.args.entries.now in
-    let place = c.loop-place.place in
-    next_follows c.args.tree.now c.args.log.now diary place (get_or diary place no_entry) c.loop-place.self
-    (slice_get-get_or diary place no_entry c.loop-place-test.true) c.loop-place.invariant.lags c.loop-place.invariant.reached c.requires.possible
+    let diary = c.args.history.now.book.now in
+    let entries = c.entries.result.now in
+    let from = c.len.result in
+    let k = c.loop-entry.entry-index in
+    let y = get_or (rest entries from) k no_entry in
+    let at : slice_get diary (from + k) ≡ Some y = ap (λ (es : List Entry). slice_get es (from + k)) (sym c.entries.ensures) ∙ entry_at entries from k c.loop-entry-test.true in
+    let reached : length c.loop-entry.self.book ≡ from + k = c.loop-entry.invariant.reached ∙ ap (λ n. n + k) (sym c.len.ensures.value) in
+    next_follows c.args.history.now.tree.now c.args.history.now.log.now diary (from + k) y c.loop-entry.self at c.loop-entry.invariant.lags reached c.requires.possible
 
-pub loop-place-preserved : goal.loop-place-preserved
-loop-place-preserved c =
-    let diary = c.args.entries.now in
-    let place = c.loop-place.place in
-    let y = get_or diary place no_entry in
-    let more : c.push.new.self.book ≡ c.loop-place.self.book ++ y ∷ [] = c.in-Ok.ensures.ok in
+pub loop-entry-preserved : goal.loop-entry-preserved
+loop-entry-preserved c =
+    let diary = c.args.history.now.book.now in
+    let entries = c.entries.result.now in
+    let from = c.len.result in
+    let k = c.loop-entry.entry-index in
+    let y = get_or (rest entries from) k no_entry in
+    let at : slice_get diary (from + k) ≡ Some y = ap (λ (es : List Entry). slice_get es (from + k)) (sym c.entries.ensures) ∙ entry_at entries from k c.loop-entry-test.true in
+    let reached : length c.loop-entry.self.book ≡ from + k = c.loop-entry.invariant.reached ∙ ap (λ n. n + k) (sym c.len.ensures.value) in
+    let more : c.push.new.self.book ≡ c.loop-entry.self.book ++ y ∷ [] = c.in-Ok.ensures.ok in
+    let one : length c.push.new.self.book ≡ length c.loop-entry.self.book + 1 = ap (λ (es : List Entry). length es) more ∙ length_push c.loop-entry.self.book y in
     record {
-      lags =
-          lags_next c.args.tree.now c.args.log.now diary place y c.loop-place.self (slice_get-get_or diary place no_entry c.loop-place-test.true) c.loop-place.invariant.lags c.loop-place.invariant.reached
-          c.push.new.self more c.in-Ok.ensures.tells;
-      reached = ap length more ∙ length_push c.loop-place.self.book y ∙ ap (λ k. k + 1) c.loop-place.invariant.reached;
+      lags = lags_next c.args.history.now.tree.now c.args.history.now.log.now diary (from + k) y c.loop-entry.self at c.loop-entry.invariant.lags reached c.push.new.self more c.in-Ok.ensures.tells;
+      reached = omega (arith, one, c.loop-entry.invariant.reached);
     }
+
+pub returns-clause-ok : goal.returns-clause-ok
+returns-clause-ok c =
+    let diary = c.args.history.now.book.now in
+    let entries = c.entries.result.now in
+    let same : length entries ≡ length diary = ap (λ (es : List Entry). length es) c.entries.ensures in
+    let most : length entries ≤ c.len.result + c.loop-entry.entry-index = all_reached entries c.len.result c.loop-entry.entry-index c.loop-entry-test.false in
+    let all : length diary ≤ length c.loop-entry.self.book = omega (arith, same, most, c.len.ensures.value, c.loop-entry.invariant.reached) in
+    caught_up c.args.history.now.tree.now c.args.history.now.log.now diary c.loop-entry.self c.loop-entry.invariant.lags all

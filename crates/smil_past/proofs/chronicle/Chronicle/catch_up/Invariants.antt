@@ -1,7 +1,10 @@
-use Rattle.std.proofs.Common.{◌≡◌, length}
+use Rattle.std.proofs.Common.{◌≡◌, ◌+◌, length}
 use Rattle.smil_past.specs.Chronicle.{Lags}
 use Rattle.smil_past.proofs.chronicle.Chronicle.catch_up.Given as goal
 
--- it has the entries up to the place
-abbrev pub invariant-loop-place : goal.invariant-loop-place
-invariant-loop-place l = record { lags : Lags l.fn.tree l.fn.log l.entries l.self; reached : length l.self.book ≡ l.place }
+-- it has the first of the entries that it lacked
+abbrev pub invariant-loop-entry : goal.invariant-loop-entry
+invariant-loop-entry l = record {
+  lags : Lags l.fn.history.tree.now l.fn.history.log.now l.fn.history.book.now l.self;
+  reached : length l.self.book ≡ length l.initial.self.book + l.entry-index;
+}
