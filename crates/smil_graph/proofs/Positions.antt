@@ -1,47 +1,36 @@
--- The places of serials in a list, found from its end.
-use Rattle.std.proofs.Common.{◌≡◌, refl, sym, ◌∙◌, ap, ℕ, suc, zero, ◌<◌, ◌+◌, ◌-◌, List, [], ◌∷◌, length, get_or, drop, Bool, true, false, Option, Some, None, arith}
-use Rattle.std.specs.Prelude.{cond, ◌==◌, slice_get, option_map}
+-- The places of serials in a list.
+use Rattle.std.proofs.Common.{◌≡◌, refl, sym, ◌∙◌, ap, ℕ, suc, ◌<◌, ◌+◌, List, [], ◌∷◌, ◌++◌, length, get_or, take, Bool, true, false, Option, Some, None, arith}
+use Rattle.std.specs.Prelude.{cond, ◌==◌, option_map}
 use Rattle.std.specs.List.{position}
+use Rattle.std.specs.Option.{option_or}
 use Rattle.std.proofs.lemmas.Grind.{common_steps}
+use Rattle.std.proofs.lemmas.List.{take_more, length-take-le}
 use Rattle.smil_graph.specs.Tables.{AreRanks}
-use Rattle.smil_tree.proofs.Families.{drop-suc_at}
 
 pub position_step : (t : ℕ → Bool) (x : ℕ) (xs : List ℕ) → position t (x ∷ xs) ≡ cond (t x) (Some 0) (option_map suc (position t xs))
 position_step t x xs = grind (arith, common_steps)
 
--- the places of what the list has from a place on
-abbrev pub AreRanksFrom : List ℕ → ℕ → (ℕ → Option ℕ) → Type 0
-AreRanksFrom order from ranks = (s : ℕ) → ranks s ≡ option_map (λ k. from + k) (position (λ t. t == s) (drop from order))
-
-pub no_ranks : (order : List ℕ) (from : ℕ) (ranks : ℕ → Option ℕ) → from ≡ length order → ((s : ℕ) → ranks s ≡ None) → AreRanksFrom order from ranks
-no_ranks order from ranks end none s = none s ∙ sym (ap (λ f. option_map (λ k. from + k) (position (λ t. t == s) (drop f order))) end ∙ ap (λ xs. option_map (λ k. from + k) (position (λ t. t == s) xs)) (drop_all order))
+position_push : (t : ℕ → Bool) (xs : List ℕ) (x : ℕ) → position t (xs ++ x ∷ []) ≡ option_or (position t xs) (cond (t x) (Some (length xs)) None)
+position_push t [] x = position_step t x [] ∙ none (t x)
   where
-    drop_all : (xs : List ℕ) → drop (length xs) xs ≡ []
-    drop_all [] = refl
-    drop_all (x ∷ xs) = drop_all xs
+    none : (b : Bool) → cond b (Some 0) (option_map suc (position t [])) ≡ option_or (position t []) (cond b (Some 0) None)
+    none true = refl
+    none false = refl
+position_push t (y ∷ ys) x =
+    position_step t y (ys ++ x ∷ []) ∙ ap (λ o. cond (t y) (Some 0) (option_map suc o)) (position_push t ys x)
+    ∙ step (t y) (position t ys) (t x) ∙ ap (λ o. option_or o (cond (t x) (Some (suc (length ys))) None)) (sym (position_step t y ys))
+  where
+    step : (a : Bool) (o : Option ℕ) (b : Bool) → cond a (Some 0) (option_map suc (option_or o (cond b (Some (length ys)) None))) ≡ option_or (cond a (Some 0) (option_map suc o)) (cond b (Some (suc (length ys))) None)
+    step true o b = refl
+    step false None true = refl
+    step false None false = refl
+    step false (Some k) b = refl
 
-pub seen : (xs : List ℕ) (k x : ℕ) → k < length xs → x ≡ get_or xs k x → slice_get xs k ≡ Some x
-seen [] k x l q = absurd (omega (arith, l))
-seen (y ∷ ys) zero x l q = ap Some (sym q)
-seen (y ∷ ys) (suc k) x l q = seen ys k x (omega (arith, l)) q
-
-pub one_rank : (order : List ℕ) (from place x : ℕ) (old new : ℕ → Option ℕ) → suc place ≡ from → slice_get order place ≡ Some x → AreRanksFrom order from old → ((s : ℕ) → new s ≡ cond (x == s) (Some place) (old s)) → AreRanksFrom order place new
-one_rank order from place x old new next here so after s =
+-- the places of one serial more
+pub ranks_step : (order : List ℕ) (k : ℕ) (old new : ℕ → Option ℕ) → k < length order → AreRanks (take k order) old → ((s : ℕ) → new s ≡ option_or (old s) (cond (get_or order k 0 == s) (Some k) None)) → AreRanks (take (k + 1) order) new
+ranks_step order k old new low so after s =
     after s
-    ∙ ap (cond (x == s) (Some place)) (so s)
-    ∙ ap (λ f. cond (x == s) (Some place) (option_map (λ k. f + k) (position (λ t. t == s) (drop f order)))) (sym next)
-    ∙ by_test (x == s) (position (λ t. t == s) (drop (suc place) order))
-    ∙ ap (option_map (λ k. place + k)) (sym (position_step (λ t. t == s) x (drop (suc place) order)))
-    ∙ ap (λ xs. option_map (λ k. place + k) (position (λ t. t == s) xs)) (sym (drop-suc_at order place x here))
-  where
-    by_test : (t : Bool) (o : Option ℕ) → cond t (Some place) (option_map (λ k. suc place + k) o) ≡ option_map (λ k. place + k) (cond t (Some 0) (option_map suc o))
-    by_test true o = let none : place ≡ place + 0 = omega arith in ap Some none
-    by_test false None = refl
-    by_test false (Some k) = let one : suc place + k ≡ place + suc k = omega arith in ap Some one
-
-pub all_ranks : (order : List ℕ) (from : ℕ) (ranks : ℕ → Option ℕ) → from ≡ 0 → AreRanksFrom order from ranks → AreRanks order ranks
-all_ranks order from ranks start so s = so s ∙ ap (λ f. option_map (λ k. f + k) (position (λ t. t == s) (drop f order))) start ∙ same (position (λ t. t == s) order)
-  where
-    same : (o : Option ℕ) → option_map (λ k. 0 + k) o ≡ o
-    same None = refl
-    same (Some k) = let none : 0 + k ≡ k = omega arith in ap Some none
+    ∙ ap (λ o. option_or o (cond (get_or order k 0 == s) (Some k) None)) (so s)
+    ∙ ap (λ l. option_or (position (λ t. t == s) (take k order)) (cond (get_or order k 0 == s) (Some l) None)) (sym (length-take-le k order (omega (arith, low))))
+    ∙ sym (position_push (λ t. t == s) (take k order) (get_or order k 0))
+    ∙ ap (position (λ t. t == s)) (sym (take_more order k 0 low))

@@ -1,7 +1,8 @@
 //! The places of nodes in document order, by serial and by id.
 
-ghost use Rattle.std.specs.Prelude.{◌≡◌, ℕ, List, Some, ◌&&◌, if◌then◌else◌, nat_eq, bytes_eq, IfOk, OnOk};
+ghost use Rattle.std.specs.Prelude.{◌≡◌, ◌==◌, ℕ, List, Some, None, ◌&&◌, if◌then◌else◌, nat_eq, bytes_eq, IfOk, OnOk};
 ghost use Rattle.std.specs.HashMap.{get, get_by};
+ghost use Rattle.std.specs.Option.{option_or};
 ghost use Rattle.smil_model.specs.document.Document.{node_at, element_named, is_element, has_id};
 ghost use Rattle.smil_graph.specs.Places.{IsIndex};
 
@@ -16,13 +17,26 @@ pub fn serial_places(alloc: Global, doc: &Doc) -> Result<HashMap<u32, usize>, Al
         (get nat_eq places)) }
 {
     let mut places = HashMap::new(alloc);
-    for behind in 0..doc.len() {
-        let place = doc.len() - 1 - behind;
-        if let Some(node) = doc.get(place) {
-            places.insert(node.serial, place)?;
-        }
+    for (place, node) in doc.nodes().iter().enumerate() {
+        note_place(&mut places, node.serial, place)?;
     }
     Ok(places)
+}
+
+/// Notes the place of a serial, where it has none yet.
+pub fn note_place(
+    places: &mut HashMap<u32, usize>,
+    serial: u32,
+    place: usize,
+) -> Result<(), AllocError>
+    ensures { OnOk result ((s : ℕ) → get nat_eq places.new s
+        ≡ option_or (get nat_eq places.old s) (if serial == s then Some place else None)) }
+{
+    if places.contains_key(&serial) {
+        return Ok(());
+    }
+    places.insert(serial, place)?;
+    Ok(())
 }
 
 /// The place of the first element with each id.
@@ -31,16 +45,13 @@ pub fn id_places<'a>(alloc: Global, doc: &'a Doc) -> Result<HashMap<&'a [u8], us
         (λ id. get_by (λ k. bytes_eq id k.now) places)) }
 {
     let mut places = HashMap::new(alloc);
-    for behind in 0..doc.len() {
-        let place = doc.len() - 1 - behind;
-        if let Some(node) = doc.get(place) {
-            note_id(&mut places, node, place)?;
-        }
+    for (place, node) in doc.nodes().iter().enumerate() {
+        note_id(&mut places, node, place)?;
     }
     Ok(places)
 }
 
-// Notes the place of an element for its id, if it has one.
+// Notes the place of an element for its id, if it has one that has no place yet.
 fn note_id<'a>(
     places: &mut HashMap<&'a [u8], usize>,
     node: &'a Node,
@@ -48,13 +59,31 @@ fn note_id<'a>(
 ) -> Result<(), AllocError>
     ensures { OnOk result ((id : List ℕ)
         → get_by (λ k. bytes_eq id k.now) places.new
-        ≡ (if is_element node.now && has_id id node.now.attrs.id then Some place else get_by
-        (λ k. bytes_eq id k.now) places.old)) }
+        ≡ option_or (get_by (λ k. bytes_eq id k.now) places.old)
+        (if is_element node.now && has_id id node.now.attrs.id then Some place else None)) }
 {
     if is_element(node) {
         if let Some(id) = &node.attrs.id {
-            places.insert(id.slice(), place)?;
+            note_first(places, id.slice(), place)?;
         }
     }
+    Ok(())
+}
+
+// Notes the place of an id, where it has none yet.
+fn note_first<'a>(
+    places: &mut HashMap<&'a [u8], usize>,
+    id: &'a [u8],
+    place: usize,
+) -> Result<(), AllocError>
+    ensures { OnOk result ((q : List ℕ)
+        → get_by (λ k. bytes_eq q k.now) places.new
+        ≡ option_or (get_by (λ k. bytes_eq q k.now) places.old)
+        (if bytes_eq id.now q then Some place else None)) }
+{
+    if places.contains_key(id) {
+        return Ok(());
+    }
+    places.insert(id, place)?;
     Ok(())
 }

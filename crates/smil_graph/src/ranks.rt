@@ -4,6 +4,7 @@ ghost use Rattle.std.specs.Prelude.{◌≡◌, ◌==◌, ℕ, nat_eq, IfOk};
 ghost use Rattle.std.specs.HashMap.{get};
 ghost use Rattle.smil_graph.specs.Tables.{AreRanks};
 
+use super::places::note_place;
 use std::alloc::{AllocError, Global};
 use std::collections::HashMap;
 
@@ -12,11 +13,8 @@ pub fn ranks_of(alloc: Global, order: &[u32]) -> Result<HashMap<u32, usize>, All
     ensures { IfOk result (λ ranks. AreRanks order.now (get nat_eq ranks)) }
 {
     let mut ranks = HashMap::with_capacity(alloc, order.len())?;
-    for behind in 0..order.len() {
-        let place = order.len() - 1 - behind;
-        if let Some(serial) = order.get(place) {
-            ranks.insert(*serial, place)?;
-        }
+    for (place, serial) in order.iter().enumerate() {
+        note_place(&mut ranks, *serial, place)?;
     }
     Ok(ranks)
 }
