@@ -56,7 +56,7 @@ pub struct Cells<T: Table> {
 }
 
 impl<T: Table> Drop for Cells<T> {
-    // One call for each holder: its fields are dropped here alone.
+    // Dropped by a call of its own, so that no function that lets one go drops it field by field.
     fn drop(self) {
         let Cells {
             past: _past,

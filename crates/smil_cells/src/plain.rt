@@ -34,7 +34,7 @@ pub struct PlainTable {
 }
 
 impl Drop for PlainTable {
-    // One call for each holder: its fields are dropped here alone.
+    // Dropped by a call of its own, so that no function that lets one go drops it field by field.
     fn drop(self) {
         let PlainTable {
             known: _known,

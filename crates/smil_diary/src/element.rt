@@ -28,7 +28,7 @@ pub(crate) struct ElementPlaces {
 }
 
 impl Drop for ElementPlaces {
-    // One call for each holder: its fields are dropped here alone.
+    // Dropped by a call of its own, so that no function that lets one go drops it field by field.
     fn drop(self) {
         let ElementPlaces {
             began: _began,

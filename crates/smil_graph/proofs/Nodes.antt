@@ -1,9 +1,11 @@
 -- Nodes by their places.
-use Rattle.std.proofs.Common.{◌≡◌, refl, sym, ◌∙◌, ap, ℕ, suc, zero, ◌<◌, ◌≤◌, ◌+◌, ◌-◌, List, [], ◌∷◌, ◌++◌, length, drop, Bool, true, false, Option, Some, None, arith, inl, inr}
-use Rattle.std.specs.Prelude.{cond, ◌==◌, ◌⊎◌, reverse, find, slice_get}
+use Rattle.std.proofs.Common.{◌≡◌, refl, sym, ◌∙◌, ap, ℕ, suc, zero, ◌<◌, ◌≤◌, ◌+◌, List, [], ◌∷◌, ◌++◌, length, take, drop, Bool, true, false, Option, Some, None, arith, inl, inr}
+use Rattle.std.specs.Prelude.{bytes_eq, cond, ◌==◌, ◌⊎◌, is_some, reverse, find, slice_get}
 use Rattle.std.specs.List.{AllByRecursion}
+use Rattle.std.specs.Option.{option_or}
+use Rattle.std.specs.Cmp.Lexicographic.{bytes_decides}
 use Rattle.std.proofs.lemmas.Bool.{eq-eqb}
-use Rattle.std.proofs.lemmas.List.{reverse-append, reverse-reverse}
+use Rattle.std.proofs.lemmas.List.{reverse-append, reverse-reverse, take_all}
 use Rattle.smil_model.specs.declared.document.Node.{Node}
 use Rattle.smil_model.specs.document.Document.{Document, is_element, node_at, upwards, time_parent}
 use Rattle.smil_model.specs.document.Valid.{IsNumberedTree}
@@ -12,10 +14,9 @@ use Rattle.smil_laws.proofs.Aside.{each_reverse, find_each}
 use Rattle.smil_laws.proofs.Below.{IsChain, ordered_chains}
 use Rattle.smil_laws.proofs.Numbered.{ordered}
 use Rattle.smil_laws.proofs.Rounds.{find-serial}
-use Rattle.smil_laws.proofs.Lists.{each_at}
+use Rattle.smil_laws.proofs.Lists.{each_at, take-more_at}
 use Rattle.smil_laws.proofs.EditsBelow.{along_each}
 use Rattle.smil_graph.specs.Places.{at_place, up, has_element, is_element_at, element_above, parent_by, IsTable, IsIndex}
-use Rattle.smil_tree.proofs.Families.{drop-suc_at}
 
 -- ---- lists by places
 
@@ -37,49 +38,82 @@ find_place t (m ∷ ms) n q = step (t m) q (find_place t ms n)
     step true r later = (0, r)
     step false r later = let found = later r in (suc found.0, found.1)
 
--- an index has the last k nodes
-pub record IsFilled {K : Type 0} (test : K → Node → Bool) (nodes : List Node) (k : ℕ) (index : K → Option ℕ) : Type 0 where
-  pub node : (q : K) → find (test q) (drop (length nodes - k) nodes) ≡ at_place nodes (index q)
+-- an index has the first k nodes
+pub record IsFilledTo {K : Type 0} (test : K → Node → Bool) (nodes : List Node) (k : ℕ) (index : K → Option ℕ) : Type 0 where
+  pub node : (q : K) → find (test q) (take k nodes) ≡ at_place nodes (index q)
   pub below : (q : K) (p : ℕ) → index q ≡ Some p → p < length nodes
 
-pub fill_none : {K : Type 0} (test : K → Node → Bool) (nodes : List Node) (index : K → Option ℕ) → ((q : K) → index q ≡ None) → IsFilled test nodes 0 index
+pub fill_none : {K : Type 0} (test : K → Node → Bool) (nodes : List Node) (index : K → Option ℕ) → ((q : K) → index q ≡ None) → IsFilledTo test nodes 0 index
 fill_none test nodes index none = record {
-  node = λ q. let whole : length nodes - 0 ≡ length nodes = omega arith in ap (λ p. find (test q) (drop p nodes)) whole ∙ ap (find (test q)) (drop_all nodes) ∙ ap (at_place nodes) (sym (none q));
+  node = λ q. ap (at_place nodes) (sym (none q));
   below = λ q p e. let never : None ≡ Some p = sym (none q) ∙ e in absurd (cc);
 }
+
+find_push : (t : Node → Bool) (ns : List Node) (n : Node) → find t (ns ++ n ∷ []) ≡ option_or (find t ns) (cond (t n) (Some n) None)
+find_push t [] n = refl
+find_push t (m ∷ ms) n = step (t m) (find_push t ms n)
   where
-    drop_all : (xs : List Node) → drop (length xs) xs ≡ []
-    drop_all [] = refl
-    drop_all (x ∷ xs) = drop_all xs
+    step : (b : Bool) → find t (ms ++ n ∷ []) ≡ option_or (find t ms) (cond (t n) (Some n) None) → cond b (Some m) (find t (ms ++ n ∷ [])) ≡ option_or (cond b (Some m) (find t ms)) (cond (t n) (Some n) None)
+    step true later = refl
+    step false later = later
 
 -- one node more
-pub fill_step : {K : Type 0} (test : K → Node → Bool) (nodes : List Node) (k place : ℕ) (n : Node) (old new : K → Option ℕ) → k < length nodes → place ≡ (length nodes - 1) - k → slice_get nodes place ≡ Some n → IsFilled test nodes k old → ((q : K) → new q ≡ cond (test q n) (Some place) (old q)) → IsFilled test nodes (k + 1) new
-fill_step {K} test nodes k place n old new l is here so after = record {
+pub fill_step : {K : Type 0} (test : K → Node → Bool) (nodes : List Node) (k : ℕ) (n : Node) (old new : K → Option ℕ) → slice_get nodes k ≡ Some n → IsFilledTo test nodes k old → ((q : K) → new q ≡ option_or (old q) (cond (test q n) (Some k) None)) → IsFilledTo test nodes (k + 1) new
+fill_step {K} test nodes k n old new here so after = record {
   node = λ q.
-      let low : length nodes - (k + 1) ≡ place = omega arith in
-      let high : suc place ≡ length nodes - k = omega arith in
-      ap (λ p. find (test q) (drop p nodes)) low
-      ∙ ap (find (test q)) (drop-suc_at nodes place n here)
-      ∙ ap (λ p. cond (test q n) (Some n) (find (test q) (drop p nodes))) high
-      ∙ ap (cond (test q n) (Some n)) (so.node q)
-      ∙ by_test q (test q n)
+      ap (find (test q)) (take-more_at nodes k n here)
+      ∙ find_push (test q) (take k nodes) n
+      ∙ ap (λ o. option_or o (cond (test q n) (Some n) None)) (so.node q)
+      ∙ by_index q (old q) (test q n) refl
       ∙ ap (at_place nodes) (sym (after q));
-  below = λ q p e. low q p (test q n) (sym (after q) ∙ e);
+  below = λ q p e. low q p (old q) (test q n) refl (sym (after q) ∙ e);
 }
   where
-    by_test : (q : K) (t : Bool) → cond t (Some n) (at_place nodes (old q)) ≡ at_place nodes (cond t (Some place) (old q))
-    by_test q true = sym here
-    by_test q false = refl
+    by_index : (q : K) (o : Option ℕ) (t : Bool) → old q ≡ o → option_or (at_place nodes o) (cond t (Some n) None) ≡ at_place nodes (option_or o (cond t (Some k) None))
+    by_index q None true e = sym here
+    by_index q None false e = refl
+    by_index q (Some p) t e = let m = there nodes p (so.below q p e) in ap (λ z. option_or z (cond t (Some n) None)) m.1 ∙ sym m.1
 
-    low : (q : K) (p : ℕ) (t : Bool) → cond t (Some place) (old q) ≡ Some p → p < length nodes
-    low q p true e = let same : place ≡ p = cc in omega (arith, same, l, is)
-    low q p false e = so.below q p e
+    low : (q : K) (p : ℕ) (o : Option ℕ) (t : Bool) → old q ≡ o → option_or o (cond t (Some k) None) ≡ Some p → p < length nodes
+    low q p None true e is = let same : k ≡ p = cc in omega (arith, same, there_below nodes k n here)
+    low q p None false e is = absurd (cc)
+    low q p (Some r) t e is = let same : r ≡ p = cc in omega (arith, same, so.below q r e)
 
-pub fill_all : {K : Type 0} (test : K → Node → Bool) (nodes : List Node) (k : ℕ) (index : K → Option ℕ) → length nodes ≤ k → IsFilled test nodes k index → IsIndex nodes (λ q. find (test q) nodes) index
+pub fill_all : {K : Type 0} (test : K → Node → Bool) (nodes : List Node) (k : ℕ) (index : K → Option ℕ) → length nodes ≤ k → IsFilledTo test nodes k index → IsIndex nodes (λ q. find (test q) nodes) index
 fill_all test nodes k index l so = record {
-  node = λ q. let none : length nodes - k ≡ 0 = omega arith in sym (ap (λ p. find (test q) (drop p nodes)) none) ∙ so.node q;
+  node = λ q. sym (ap (find (test q)) (take_all k nodes l)) ∙ so.node q;
   below = so.below;
 }
+
+-- ---- what is noted of an id
+
+or_none : (o : Option ℕ) → o ≡ option_or o None
+or_none None = refl
+or_none (Some p) = refl
+
+-- where the id has a place
+pub noted_before : (index : List ℕ → Option ℕ) (id q : List ℕ) (place : ℕ) → is_some (index id) ≡ true → index q ≡ option_or (index q) (cond (bytes_eq id q) (Some place) None)
+noted_before index id q place there_already = by_test (bytes_eq id q) refl
+  where
+    by_some : (o : Option ℕ) → is_some o ≡ true → o ≡ option_or o (Some place)
+    by_some None h = cc
+    by_some (Some p) h = refl
+
+    by_test : (t : Bool) → bytes_eq id q ≡ t → index q ≡ option_or (index q) (cond t (Some place) None)
+    by_test true e = by_some (index q) (ap (λ x. is_some (index x)) (sym ((bytes_decides id q).0 e)) ∙ there_already)
+    by_test false e = or_none (index q)
+
+-- where it has none
+pub noted_now : (index : List ℕ → Option ℕ) (id q : List ℕ) (place : ℕ) (new : Option ℕ) → is_some (index id) ≡ false → new ≡ cond (bytes_eq id q) (Some place) (index q) → new ≡ option_or (index q) (cond (bytes_eq id q) (Some place) None)
+noted_now index id q place new none put = put ∙ by_test (bytes_eq id q) refl
+  where
+    by_none : (o : Option ℕ) → is_some o ≡ false → Some place ≡ option_or o (Some place)
+    by_none None h = refl
+    by_none (Some p) h = cc
+
+    by_test : (t : Bool) → bytes_eq id q ≡ t → cond t (Some place) (index q) ≡ option_or (index q) (cond t (Some place) None)
+    by_test true e = by_none (index q) (ap (λ x. is_some (index x)) (sym ((bytes_decides id q).0 e)) ∙ none)
+    by_test false e = or_none (index q)
 
 -- ---- parents stand before their children
 

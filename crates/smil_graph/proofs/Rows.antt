@@ -1,14 +1,17 @@
 -- Rows that are built one by one, and what is pushed in them.
 use Rattle.std.proofs.Common.{◌≡◌, refl, sym, ◌∙◌, ap, ℕ, suc, zero, ◌<◌, ◌+◌, List, [], ◌∷◌, ◌++◌, length, take, Bool, true, false, Option, Some, None, arith, inl, inr, append_assoc}
-use Rattle.std.specs.Prelude.{map, ◌||◌, ◌&&◌, ◌⊎◌, slice_get}
+use Rattle.std.specs.Prelude.{cond, map, ◌||◌, ◌&&◌, ◌⊎◌, slice_get, slice_index_or}
+use Rattle.std.proofs.lemmas.List.{get_or_append_left, get_or_push, length_push}
 use Rattle.std.proofs.lemmas.List.Folds.{list_any-append}
 use Rattle.smil_model.specs.declared.document.Node.{Node}
 use Rattle.smil_model.specs.declared.document.Item.{Item}
+use Rattle.smil_model.specs.declared.document.Edge.{Edge}
+use Rattle.smil_model.specs.document.Defaults.{items_or, stated_list}
 use Rattle.smil_model.specs.document.Document.{is_element}
 use Rattle.smil_model.specs.reach.Reach.{is_option}
 use Rattle.smil_model.specs.document.Closure.{has}
 use Rattle.smil_graph.specs.Links.{row, links, AreRows}
-use Rattle.smil_graph.specs.Places.{leads_to_place, follows, hears, element_follows, element_hears}
+use Rattle.smil_graph.specs.Places.{leads_to_place, follows, hears, element_follows, element_hears, is_on_level, named_by, marks_of, HaveMarks}
 use Rattle.smil_laws.proofs.Lists.{take-suc_at}
 
 -- ---- one row more
@@ -69,15 +72,9 @@ feeder_row o n children previous named i new empty none at pushed =
     ∙ ap (λ r. has r i || (is_element n && follows children previous named n i)) none
     ∙ ap (λ z. element_follows children previous named z i) at
 
-pub no_feeder_row : (o : Option Node) (children : List ℕ) (previous : Option ℕ) (named : List ℕ → Option ℕ) (i : ℕ) (new : List ℕ) → new ≡ [] → None ≡ o → has new i ≡ element_follows children previous named o i
-no_feeder_row o children previous named i new none at = ap (λ r. has r i) none ∙ ap (λ z. element_follows children previous named z i) at
-
 pub source_row : (o : Option Node) (n : Node) (read : List ℕ) (named : List ℕ → Option ℕ) (place i : ℕ) (new mid : List ℕ) → has mid i ≡ has read i → Some n ≡ o → has new i ≡ (has mid i || (is_element n && hears named place n i)) → has new i ≡ (has read i || element_hears named place o i)
 source_row o n read named place i new mid same at pushed =
     pushed ∙ ap (λ t. t || (is_element n && hears named place n i)) same ∙ ap (λ z. has read i || element_hears named place z i) at
-
-pub no_source_row : (o : Option Node) (read : List ℕ) (named : List ℕ → Option ℕ) (place i : ℕ) (mid : List ℕ) → has mid i ≡ has read i → None ≡ o → has mid i ≡ (has read i || element_hears named place o i)
-no_source_row o read named place i mid same at = same ∙ right (has read i) ∙ ap (λ z. has read i || element_hears named place z i) at
 
 pub parent_row : (t : Bool) (p p' : Option ℕ) (i : ℕ) (new empty : List ℕ) → empty ≡ [] → t ≡ true → p ≡ p' → has new i ≡ (has empty i || is_option i p) → has new i ≡ (t && is_option i p')
 parent_row t p p' i new empty none is same pushed = pushed ∙ ap (λ r. has r i || is_option i p) none ∙ ap (is_option i) same ∙ ap (λ u. u && is_option i p') (sym is)
@@ -97,3 +94,34 @@ marks_more f items k item b old mid new at is so pushed =
     let one : k + 1 ≡ suc k = omega arith in
     pushed ∙ ap (λ c. mid ++ c ∷ []) is ∙ ap (λ r. r ++ f item ∷ []) so ∙ append_assoc old (map f (take k items)) (f item ∷ [])
     ∙ ap (λ r. old ++ r) (sym (map_take f items k item at)) ∙ ap (λ m. old ++ map f (take m items)) (sym one)
+
+-- the marks of a node
+module _ (side : Edge) (levels : List ℕ) (named : List ℕ → Option ℕ) (k : ℕ) (n : Node) where
+  pub marked_element : (items : Option (List Item)) (row new : List Bool) → is_element n ≡ true → row ≡ [] → items ≡ stated_list n.attrs side → new ≡ row ++ map (λ (item : Item). is_on_level levels k (named_by named item)) (items_or [] items) → new ≡ marks_of side levels named k (Some n)
+  marked_element items row new is none stated pushed =
+      pushed
+      ∙ ap (λ r. r ++ map (λ (item : Item). is_on_level levels k (named_by named item)) (items_or [] items)) none
+      ∙ ap (λ o. map (λ (item : Item). is_on_level levels k (named_by named item)) (items_or [] o)) stated
+      ∙ sym (ap (λ t. cond t (map (λ (item : Item). is_on_level levels k (named_by named item)) (items_or [] (stated_list n.attrs side))) []) is)
+
+  pub marked_class : (row : List Bool) → is_element n ≡ false → row ≡ [] → row ≡ marks_of side levels named k (Some n)
+  marked_class row isnt none =
+      none ∙ sym (ap (λ t. cond t (map (λ (item : Item). is_on_level levels k (named_by named item)) (items_or [] (stated_list n.attrs side))) []) isnt)
+
+  -- one row of marks more
+  pub marked_step : (nodes : List Node) (rows : List (List Bool)) (new : List Bool) → slice_get nodes k ≡ Some n → new ≡ marks_of side levels named k (Some n) → HaveMarks nodes side levels named k rows → HaveMarks nodes side levels named (k + 1) (rows ++ new ∷ [])
+  marked_step nodes rows new at is so = record {
+    long = length_push rows new ∙ ap (λ m. m + 1) so.long;
+    each = λ j l. by_place j (split j l);
+  }
+    where
+      split : (j : ℕ) → j < k + 1 → (j < k) ⊎ (j ≡ k)
+      split j l = grind arith
+
+      by_place : (j : ℕ) → (j < k) ⊎ (j ≡ k) → slice_index_or (rows ++ new ∷ []) j [] ≡ marks_of side levels named j (slice_get nodes j)
+      by_place j (inl l) = get_or_append_left rows (new ∷ []) [] j (omega (arith, l, so.long)) ∙ so.each j l
+      by_place j (inr e) =
+          get_or_push rows new [] j (so.long ∙ sym e)
+          ∙ is
+          ∙ ap (marks_of side levels named k) (sym at)
+          ∙ ap (λ m. marks_of side levels named m (slice_get nodes m)) (sym e)

@@ -66,11 +66,9 @@ fn feeder_rows(
         rows.items) }
 {
     let mut rows = Vec::with_capacity(alloc, doc.len())?;
-    for place in 0..doc.len() {
+    for (place, node) in doc.nodes().iter().enumerate() {
         let mut row = GrowingList::new(alloc);
-        if let Some(node) = doc.get(place) {
-            push_feeders(&mut row, index, node, place)?;
-        }
+        push_feeders(&mut row, index, node, place)?;
         rows.push(row)?;
     }
     Ok(rows)
@@ -92,12 +90,10 @@ pub fn sources(
         rows.items) }
 {
     let mut rows = Vec::with_capacity(alloc, doc.len())?;
-    for place in 0..doc.len() {
+    for (place, node) in doc.nodes().iter().enumerate() {
         let mut row = GrowingList::new(alloc);
         push_all(&mut row, row_at(feeders, place))?;
-        if let Some(node) = doc.get(place) {
-            push_heard_by(&mut row, node, ids, place)?;
-        }
+        push_heard_by(&mut row, node, ids, place)?;
         rows.push(row)?;
     }
     Ok(rows)

@@ -39,12 +39,10 @@ pub fn looped_marks(
     ensures { IfOk result (λ rows. AreMarks doc.now.nodes side rows.items) }
 {
     let mut rows = Vec::with_capacity(alloc, doc.len())?;
-    for place in 0..doc.len() {
+    for (place, node) in doc.nodes().iter().enumerate() {
         let mut row = GrowingList::new(alloc);
-        if let Some(node) = doc.get(place) {
-            if is_element(node) {
-                push_marks(&mut row, node.attrs.list(side), loops, place)?;
-            }
+        if is_element(node) {
+            push_marks(&mut row, node.attrs.list(side), loops, place)?;
         }
         rows.push(row)?;
     }

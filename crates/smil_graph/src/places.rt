@@ -1,7 +1,8 @@
 //! The places of nodes in document order, by serial and by id.
 
-ghost use Rattle.std.specs.Prelude.{◌≡◌, ℕ, List, Some, ◌&&◌, if◌then◌else◌, nat_eq, bytes_eq, IfOk, OnOk};
+ghost use Rattle.std.specs.Prelude.{◌≡◌, ◌==◌, ℕ, List, Some, None, ◌&&◌, if◌then◌else◌, nat_eq, bytes_eq, IfOk, OnOk};
 ghost use Rattle.std.specs.HashMap.{get, get_by};
+ghost use Rattle.std.specs.Option.{option_or};
 ghost use Rattle.smil_model.specs.document.Document.{node_at, element_named, is_element, has_id};
 ghost use Rattle.smil_graph.specs.Places.{IsIndex};
 
@@ -24,16 +25,13 @@ pub fn id_places<'a>(alloc: Global, doc: &'a Doc) -> Result<HashMap<&'a [u8], us
         (λ id. get_by (λ k. bytes_eq id k.now) places)) }
 {
     let mut places = HashMap::new(alloc);
-    for behind in 0..doc.len() {
-        let place = doc.len() - 1 - behind;
-        if let Some(node) = doc.get(place) {
-            note_id(&mut places, node, place)?;
-        }
+    for (place, node) in doc.nodes().iter().enumerate() {
+        note_id(&mut places, node, place)?;
     }
     Ok(places)
 }
 
-// Notes the place of an element for its id, if it has one.
+// Notes the place of an element for its id, if it has one that has no place yet.
 fn note_id<'a>(
     places: &mut HashMap<&'a [u8], usize>,
     node: &'a Node,
@@ -41,13 +39,31 @@ fn note_id<'a>(
 ) -> Result<(), AllocError>
     ensures { OnOk result ((id : List ℕ)
         → get_by (λ k. bytes_eq id k.now) places.new
-        ≡ (if is_element node.now && has_id id node.now.attrs.id then Some place else get_by
-        (λ k. bytes_eq id k.now) places.old)) }
+        ≡ option_or (get_by (λ k. bytes_eq id k.now) places.old)
+        (if is_element node.now && has_id id node.now.attrs.id then Some place else None)) }
 {
     if is_element(node) {
         if let Some(id) = &node.attrs.id {
-            places.insert(id.slice(), place)?;
+            note_first(places, id.slice(), place)?;
         }
     }
+    Ok(())
+}
+
+// Notes the place of an id, where it has none yet.
+fn note_first<'a>(
+    places: &mut HashMap<&'a [u8], usize>,
+    id: &'a [u8],
+    place: usize,
+) -> Result<(), AllocError>
+    ensures { OnOk result ((q : List ℕ)
+        → get_by (λ k. bytes_eq q k.now) places.new
+        ≡ option_or (get_by (λ k. bytes_eq q k.now) places.old)
+        (if bytes_eq id.now q then Some place else None)) }
+{
+    if places.contains_key(id) {
+        return Ok(());
+    }
+    places.insert(id, place)?;
     Ok(())
 }

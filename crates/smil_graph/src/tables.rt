@@ -38,7 +38,7 @@ pub struct Tables {
 }
 
 impl Drop for Tables {
-    // One call for each holder: its fields are dropped here alone.
+    // Dropped by a call of its own, so that no function that lets one go drops it field by field.
     fn drop(self) {
         let Tables {
             places: _places,

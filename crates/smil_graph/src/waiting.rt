@@ -19,10 +19,8 @@ pub fn waiting(alloc: Global, doc: &Doc) -> Result<Vec<GrowingList<usize>>, Allo
     ensures { IfOk result (λ rows. AreWaiting doc.now.nodes rows.items) }
 {
     let mut rows = empty_rows(alloc, KEYS)?;
-    for place in 0..doc.len() {
-        if let Some(node) = doc.get(place) {
-            push_waits(&mut rows, node, place)?;
-        }
+    for (place, node) in doc.nodes().iter().enumerate() {
+        push_waits(&mut rows, node, place)?;
     }
     Ok(rows)
 }

@@ -39,7 +39,7 @@ pub struct Instances {
 }
 
 impl Drop for Instances {
-    // One call for each holder: its fields are dropped here alone.
+    // Dropped by a call of its own, so that no function that lets one go drops it field by field.
     fn drop(self) {
         let Instances {
             rows: _rows,

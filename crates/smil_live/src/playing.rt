@@ -40,7 +40,7 @@ pub struct Playing<T: Table> {
 }
 
 impl<T: Table> Drop for Playing<T> {
-    // One call for each holder: its fields are dropped here alone.
+    // Dropped by a call of its own, so that no function that lets one go drops it field by field.
     fn drop(self) {
         let Playing {
             viewer: _viewer,

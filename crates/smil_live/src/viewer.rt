@@ -25,7 +25,7 @@ pub struct Viewer<T: Table> {
 }
 
 impl<T: Table> Drop for Viewer<T> {
-    // One call for each holder: its fields are dropped here alone.
+    // Dropped by a call of its own, so that no function that lets one go drops it field by field.
     fn drop(self) {
         let Viewer {
             cells: _cells,

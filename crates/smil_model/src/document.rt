@@ -494,7 +494,7 @@ pub struct Doc {
 }
 
 impl Drop for Doc {
-    // One call for each holder: its fields are dropped here alone.
+    // Dropped by a call of its own, so that no function that lets one go drops it field by field.
     fn drop(self) {
         let Doc {
             nodes: _nodes,

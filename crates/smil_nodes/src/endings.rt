@@ -36,7 +36,7 @@ pub struct Endings {
 }
 
 impl Drop for Endings {
-    // One call for each holder: its fields are dropped here alone.
+    // Dropped by a call of its own, so that no function that lets one go drops it field by field.
     fn drop(self) {
         let Endings {
             homes: _homes,

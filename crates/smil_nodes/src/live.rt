@@ -52,7 +52,7 @@ pub struct LiveTable {
 }
 
 impl Drop for LiveTable {
-    // One call for each holder: its fields are dropped here alone.
+    // Dropped by a call of its own, so that no function that lets one go drops it field by field.
     fn drop(self) {
         let LiveTable {
             schedule: _schedule,

@@ -26,7 +26,7 @@ pub struct Schedule {
 }
 
 impl Drop for Schedule {
-    // One call for each holder: its fields are dropped here alone.
+    // Dropped by a call of its own, so that no function that lets one go drops it field by field.
     fn drop(self) {
         let Schedule {
             known: _known,

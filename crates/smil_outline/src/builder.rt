@@ -31,7 +31,7 @@ pub struct Builder {
 }
 
 impl Drop for Builder {
-    // One call for each holder: its fields are dropped here alone.
+    // Dropped by a call of its own, so that no function that lets one go drops it field by field.
     fn drop(self) {
         let Builder {
             alloc: _alloc,

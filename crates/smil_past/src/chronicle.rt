@@ -22,7 +22,7 @@ pub struct Chronicle {
 }
 
 impl Drop for Chronicle {
-    // One call for each holder: its fields are dropped here alone.
+    // Dropped by a call of its own, so that no function that lets one go drops it field by field.
     fn drop(self) {
         let Chronicle {
             book: _book,

@@ -40,7 +40,7 @@ pub struct Past {
 }
 
 impl Drop for Past {
-    // One call for each holder: its fields are dropped here alone.
+    // Dropped by a call of its own, so that no function that lets one go drops it field by field.
     fn drop(self) {
         let Past {
             tree: _tree,

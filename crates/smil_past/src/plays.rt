@@ -46,7 +46,7 @@ pub struct Plays {
 }
 
 impl Drop for Plays {
-    // One call for each holder: its fields are dropped here alone.
+    // Dropped by a call of its own, so that no function that lets one go drops it field by field.
     fn drop(self) {
         let Plays {
             places: _places,

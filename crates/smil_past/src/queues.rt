@@ -29,7 +29,7 @@ pub struct Queues {
 }
 
 impl Drop for Queues {
-    // One call for each holder: its fields are dropped here alone.
+    // Dropped by a call of its own, so that no function that lets one go drops it field by field.
     fn drop(self) {
         let Queues {
             queues: _queues,

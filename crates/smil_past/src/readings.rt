@@ -24,7 +24,7 @@ pub struct Readings {
 }
 
 impl Drop for Readings {
-    // One call for each holder: its fields are dropped here alone.
+    // Dropped by a call of its own, so that no function that lets one go drops it field by field.
     fn drop(self) {
         let Readings {
             clocks: _clocks,

@@ -30,7 +30,7 @@ pub struct Syncs {
 }
 
 impl Drop for Syncs {
-    // One call for each holder: its fields are dropped here alone.
+    // Dropped by a call of its own, so that no function that lets one go drops it field by field.
     fn drop(self) {
         let Syncs {
             places: _places,

@@ -25,7 +25,7 @@ pub struct IntervalTeller {
 }
 
 impl Drop for IntervalTeller {
-    // One call for each holder: its fields are dropped here alone.
+    // Dropped by a call of its own, so that no function that lets one go drops it field by field.
     fn drop(self) {
         let IntervalTeller {
             who: _who,

@@ -28,7 +28,7 @@ pub struct ViewTable {
 }
 
 impl Drop for ViewTable {
-    // One call for each holder: its fields are dropped here alone.
+    // Dropped by a call of its own, so that no function that lets one go drops it field by field.
     fn drop(self) {
         let ViewTable {
             rows: _rows,

@@ -33,7 +33,7 @@ pub struct Clocks {
 }
 
 impl Drop for Clocks {
-    // One call for each holder: its fields are dropped here alone.
+    // Dropped by a call of its own, so that no function that lets one go drops it field by field.
     fn drop(self) {
         let Clocks {
             places: _places,

@@ -1,14 +1,17 @@
 -- Lists without what stands between two places, and with one more item.
-use Rattle.std.proofs.Common.{◌≡◌, refl, sym, ◌∙◌, ap, ℕ, zero, suc, ◌+◌, ◌≤◌, List, [], ◌∷◌, ◌++◌, Some, None, Bool, true, false, cond, length, take, drop, insert, arith}
-use Rattle.std.specs.Prelude.{count_by, sum_by, slice_get}
+use Rattle.std.proofs.Common.{◌≡◌, refl, sym, ◌∙◌, ap, subst, ℕ, zero, suc, ◌+◌, ◌≤◌, List, [], ◌∷◌, ◌++◌, Some, None, Bool, true, false, cond, length, take, drop, insert, arith}
+use Rattle.std.specs.Prelude.{count_by, sum_by, slice_get, slice_range}
+use Rattle.std.specs.Map.{lookup}
+use Rattle.std.specs.Str.{bytes_eq}
 use Rattle.std.proofs.lemmas.List.{take-append-drop, length-take-le}
 use Rattle.std.proofs.lemmas.List.Sums.{sum_by-cons, sum_by-append}
 use Rattle.smil_model.specs.declared.document.Node.{Node}
 use Rattle.smil_model.specs.document.Valid.{references, references_of}
 use Rattle.smil_tree.specs.Held.{cut}
-use Rattle.smil_tree.specs.TreeFields.{bears, owner}
+use Rattle.smil_tree.specs.TreeFields.{bears, owner, IsTableOf}
 use Rattle.smil_tree.proofs.Families.{drop_at}
-use Rattle.smil_tree.proofs.Owners.{owner-between, owner-without}
+use Rattle.smil_tree.proofs.KinLists.{parts}
+use Rattle.smil_tree.proofs.Owners.{count-one, count-append, owner-between, owner-without}
 
 -- ---- one more taken out
 
@@ -32,10 +35,47 @@ owner_cut q ns start i n once le at =
     owner-without q (take start ns) n (drop (i + 1) ns) (omega (arith, once, sum_cut (λ (m : Node). cond (bears q m) 1 0) start i ns le, ap (count_by (bears q)) before))
     ∙ ap (λ ms. cond (bears q n) None (owner q ms)) (sym before)
 
-pub references_cut : (ns : List Node) (start i : ℕ) (n : Node) → slice_get ns i ≡ Some n → references (cut start i ns) ≡ references (cut start (i + 1) ns) + references_of n
-references_cut ns start i n at =
-    ap references (cut_before ns start i n at)
-    ∙ omega (arith, sum_by-append references_of (take start ns) (n ∷ drop (i + 1) ns), sum_by-cons references_of n (drop (i + 1) ns), sum_by-append references_of (take start ns) (drop (i + 1) ns))
+-- a part that is let go node by node: what is left of it, between those before it and those behind it
+pub record IsTableLeft (table : List (List ℕ × ℕ)) (front left back : List Node) : Type 0 where
+  pub ids : IsTableOf table (front ++ (left ++ back))
+  pub once : (q : List ℕ) → count_by (bears q) (front ++ (left ++ back)) ≤ 1
+
+pub none_forgotten : (table : List (List ℕ × ℕ)) (ns left : List Node) (start past : ℕ) → start ≤ past → ((q : List ℕ) → count_by (bears q) ns ≤ 1) → IsTableOf table ns → left ≡ slice_range ns start past → IsTableLeft table (take start ns) left (drop past ns)
+none_forgotten table ns left start past le once ids is =
+    let whole : take start ns ++ (left ++ drop past ns) ≡ ns = ap (λ ms. take start ns ++ (ms ++ drop past ns)) is ∙ parts start past ns le in
+    record {
+      ids = λ q. ids q ∙ ap (owner q) (sym whole);
+      once = λ q. omega (arith, once q, ap (count_by (bears q)) whole);
+    }
+
+pub forgotten_more : (old new : List (List ℕ × ℕ)) (front left rest back : List Node) (n : Node) → left ≡ n ∷ rest → ((q : List ℕ) → lookup (bytes_eq q) new ≡ cond (bears q n) None (lookup (bytes_eq q) old)) → IsTableLeft old front left back → IsTableLeft new front rest back
+forgotten_more old new front left rest back n at forgot so = record {
+  ids = λ q.
+      forgot q
+      ∙ ap (cond (bears q n) None) (so.ids q ∙ ap (λ ms. owner q (front ++ (ms ++ back))) at)
+      ∙ sym (owner-without q front n (rest ++ back) (few q));
+  once = λ q. omega (arith, few q, count-one q front n (rest ++ back), count-append q front (rest ++ back));
+}
+  where
+    few : (q : List ℕ) → count_by (bears q) (front ++ n ∷ (rest ++ back)) ≤ 1
+    few q = subst (λ ms. count_by (bears q) (front ++ (ms ++ back)) ≤ 1) at (so.once q)
+
+pub all_forgotten : (table : List (List ℕ × ℕ)) (ns left : List Node) (start past : ℕ) → left ≡ [] → IsTableLeft table (take start ns) left (drop past ns) → IsTableOf table (cut start past ns)
+all_forgotten table ns left start past none so = λ q. so.ids q ∙ ap (λ ms. owner q (take start ns ++ (ms ++ drop past ns))) none
+
+pub references_parts : (ns left : List Node) (start past : ℕ) → start ≤ past → left ≡ slice_range ns start past → references left + references (cut start past ns) ≡ references ns
+references_parts ns left start past le is =
+    omega (
+      arith,
+      ap references is,
+      ap references (parts start past ns le),
+      sum_by-append references_of (take start ns) (slice_range ns start past ++ drop past ns),
+      sum_by-append references_of (slice_range ns start past) (drop past ns),
+      sum_by-append references_of (take start ns) (drop past ns),
+    )
+
+pub references_first : (left rest : List Node) (n : Node) → left ≡ n ∷ rest → references left ≡ references_of n + references rest
+references_first left rest n at = ap references at ∙ sum_by-cons references_of n rest
 
 pub nothing_cut : {A : Type 0} (xs : List A) (i : ℕ) → cut i i xs ≡ xs
 nothing_cut xs i = take-append-drop i xs

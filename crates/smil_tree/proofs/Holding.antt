@@ -1,10 +1,12 @@
 -- The nodes that a slab holds in the order of a table.
-use Rattle.std.proofs.Common.{◌≡◌, ◌≢◌, refl, sym, ◌∙◌, ap, ℕ, zero, suc, ◌+◌, ◌<◌, ◌≤◌, List, [], ◌∷◌, Option, Some, None, Bool, true, false, cond, length, drop, insert, arith}
-use Rattle.std.specs.Prelude.{◌==◌, ◌||◌, nat_eq, nat_lt, not, slice_get, slice_index_or, option_map, is_some, IsSome}
+use Rattle.std.proofs.Common.{◌≡◌, ◌≢◌, refl, sym, ◌∙◌, ap, subst, ℕ, zero, suc, ◌+◌, ◌-◌, ◌<◌, ◌≤◌, List, [], ◌∷◌, Option, Some, None, Bool, true, false, cond, length, take, drop, insert, arith}
+use Rattle.std.specs.Prelude.{◌==◌, ◌||◌, nat_eq, nat_lt, not, slice_get, slice_index_or, slice_range, option_map, is_some, IsSome, IfSome}
 use Rattle.std.specs.List.{list_any, position, position_or_len, IsDistinct, AllByRecursion}
-use Rattle.std.specs.Map.{keys_of, lookup}
-use Rattle.std.specs.Option.{option_copied_mut}
-use Rattle.std.specs.Borrow.{MutBor}
+use Rattle.std.specs.Map.{keys_of, values_of, lookup}
+use Rattle.std.specs.Map.Iter.{TakesFirst, deref}
+use Rattle.std.specs.Iterator.{MakesProgress, at_most}
+use Rattle.std.specs.Option.{option_copied, option_copied_mut}
+use Rattle.std.specs.Borrow.{Bor, MutBor}
 use Rattle.std.proofs.lemmas.Bool.{or_parts, or_from, eqb-true, eq-eqb}
 use Rattle.slab.specs.Slab.{Slab, get, Updates, with_value}
 use Rattle.slab.proofs.SlabLemmas.{Updates-with_value}
@@ -151,10 +153,19 @@ absent slab s (e ∷ es) all q = step (get slab e.1) all.0 q (absent slab s es a
 
 -- ---- nodes taken out
 
-any_drop : (t : ℕ × ℕ → Bool) (es : List (ℕ × ℕ)) (q : ℕ) → list_any t es ≡ false → list_any t (drop q es) ≡ false
-any_drop t es zero all = all
+any_drop : {A : Type 0} (t : A → Bool) (xs : List A) (q : ℕ) → list_any t xs ≡ false → list_any t (drop q xs) ≡ false
+any_drop t xs zero all = all
 any_drop t [] (suc q) all = refl
-any_drop t (e ∷ es) (suc q) all = any_drop t es q ((or_parts (t e) (list_any t es) all).1)
+any_drop t (x ∷ xs) (suc q) all = any_drop t xs q ((or_parts (t x) (list_any t xs) all).1)
+
+any_take : {A : Type 0} (t : A → Bool) (xs : List A) (q : ℕ) → list_any t xs ≡ false → list_any t (take q xs) ≡ false
+any_take t xs zero all = refl
+any_take t [] (suc q) all = refl
+any_take t (x ∷ xs) (suc q) all = let parts = or_parts (t x) (list_any t xs) all in or_from _ _ parts.0 (any_take t xs q parts.1)
+
+any_values : (key : ℕ) (es : List (ℕ × ℕ)) → list_any (λ k. k == key) (values_of es) ≡ list_any (λ (f : ℕ × ℕ). f.1 == key) es
+any_values key [] = refl
+any_values key (e ∷ es) = ap (λ t. (e.1 == key) || t) (any_values key es)
 
 any_cut : (t : ℕ × ℕ → Bool) (es : List (ℕ × ℕ)) (p q : ℕ) → p ≤ q → list_any t es ≡ false → list_any t (cut p q es) ≡ false
 any_cut t es zero q le all = any_drop t es q all
@@ -183,21 +194,34 @@ held-cut slab (e ∷ es) (suc p) (suc q) le all =
     step None h r = cc
     step (Some n) h r = ap (λ xs. n ∷ xs) r
 
--- the key of an entry between is none of those that stay
-pub cut_apart : (slab : Slab Node) (es : List (ℕ × ℕ)) (p q i : ℕ) (e : ℕ × ℕ) → p ≤ i → i < q → IsHeld slab es → slice_get es i ≡ Some e → list_any (λ (f : ℕ × ℕ). f.1 == e.1) (cut p q es) ≡ false
-cut_apart slab [] p q i e low high all at = cc
-cut_apart slab (f ∷ es) zero zero i e low high all at = absurd (omega arith)
-cut_apart slab (f ∷ es) zero (suc q) zero e low high all at = let one : f ≡ e = cc in any_drop (λ (g : ℕ × ℕ). g.1 == e.1) es q (ap (λ (x : ℕ × ℕ). list_any (λ (g : ℕ × ℕ). g.1 == x.1) es) (sym one) ∙ all.1)
-cut_apart slab (f ∷ es) zero (suc q) (suc i) e low high all at = cut_apart slab es zero q i e (omega arith) (omega arith) all.2 at
-cut_apart slab (f ∷ es) (suc p) q zero e low high all at = absurd (omega arith)
-cut_apart slab (f ∷ es) (suc p) zero (suc i) e low high all at = absurd (omega arith)
-cut_apart slab (f ∷ es) (suc p) (suc q) (suc i) e low high all at =
-    or_from _ _ (swap_eqb e.1 f.1 (apart es i all.1 at)) (cut_apart slab es p q i e (omega arith) (omega arith) all.2 at)
+-- an entry's key is that of no other
+front_apart : (slab : Slab Node) (es : List (ℕ × ℕ)) (q key : ℕ) → IsHeld slab es → list_any (λ (f : ℕ × ℕ). f.1 == key) (drop q es) ≡ true → list_any (λ k. k == key) (take q (values_of es)) ≡ false
+front_apart slab es zero key all h = refl
+front_apart slab [] (suc q) key all h = refl
+front_apart slab (e ∷ es) (suc q) key all h = or_from _ _ (by_test (e.1 == key) refl) (front_apart slab es q key all.2 h)
   where
-    apart : (xs : List (ℕ × ℕ)) (k : ℕ) → list_any (λ (g : ℕ × ℕ). g.1 == f.1) xs ≡ false → slice_get xs k ≡ Some e → e.1 == f.1 ≡ false
-    apart [] k none here = cc
-    apart (x ∷ xs) zero none here = let one : x ≡ e = cc in ap (λ (y : ℕ × ℕ). y.1 == f.1) (sym one) ∙ (or_parts _ _ none).0
-    apart (x ∷ xs) (suc k) none here = apart xs k ((or_parts (x.1 == f.1) (list_any (λ (g : ℕ × ℕ). g.1 == f.1) xs) none).1) here
+    by_test : (t : Bool) → e.1 == key ≡ t → t ≡ false
+    by_test false r = refl
+    by_test true r =
+        let none : list_any (λ (f : ℕ × ℕ). f.1 == key) es ≡ false = ap (λ k. list_any (λ (f : ℕ × ℕ). f.1 == k) es) (sym (eqb-true e.1 key r)) ∙ all.1 in
+        let never : true ≡ false = sym h ∙ any_drop (λ (f : ℕ × ℕ). f.1 == key) es q none in cc
+
+-- no key of a part is one of those that stay
+keys_apart : (slab : Slab Node) (es : List (ℕ × ℕ)) (p q key : ℕ) → p ≤ q → IsHeld slab es → list_any (λ (f : ℕ × ℕ). f.1 == key) (cut p q es) ≡ true → list_any (λ k. k == key) (slice_range (values_of es) p q) ≡ false
+keys_apart slab es zero q key le all h =
+    let whole : q - 0 ≡ q = omega arith in
+    ap (λ n. list_any (λ k. k == key) (take n (values_of es))) whole ∙ front_apart slab es q key all h
+keys_apart slab es (suc p) zero key le all h = absurd (omega arith)
+keys_apart slab [] (suc p) (suc q) key le all h = cc
+keys_apart slab (e ∷ es) (suc p) (suc q) key le all h =
+    let less : suc q - suc p ≡ q - p = omega arith in
+    ap (λ n. list_any (λ k. k == key) (take n (drop p (values_of es)))) less ∙ by_test (e.1 == key) refl h (keys_apart slab es p q key (omega arith) all.2)
+  where
+    by_test : (t : Bool) → e.1 == key ≡ t → (t || list_any (λ (f : ℕ × ℕ). f.1 == key) (cut p q es)) ≡ true → (list_any (λ (f : ℕ × ℕ). f.1 == key) (cut p q es) ≡ true → list_any (λ k. k == key) (slice_range (values_of es) p q) ≡ false) → list_any (λ k. k == key) (slice_range (values_of es) p q) ≡ false
+    by_test false r g rest = rest g
+    by_test true r g rest =
+        let none : list_any (λ (f : ℕ × ℕ). f.1 == key) es ≡ false = ap (λ k. list_any (λ (f : ℕ × ℕ). f.1 == k) es) (sym (eqb-true e.1 key r)) ∙ all.1 in
+        any_take (λ k. k == key) (drop p (values_of es)) (q - p) (any_drop (λ k. k == key) (values_of es) p (any_values key es ∙ none))
 
 -- ---- a node changed in place
 
@@ -319,16 +343,53 @@ pub some_lent : {T : Type 0} (r : Option (MutBor T)) → IsSome (option_copied_m
 some_lent None h = h
 some_lent (Some x) h = refl
 
-pub rest-held : (slab other : Slab Node) (es fs : List (ℕ × ℕ)) (p q : ℕ) → IsHeld slab es → p ≤ q → ((key : ℕ) → list_any (λ (e : ℕ × ℕ). e.1 == key) (cut p q es) ≡ true → get other key ≡ get slab key) → fs ≡ cut p q es → IsHeld other fs × (held other fs ≡ cut p q (held slab es))
-rest-held slab other es fs p q all le same entries =
+-- a part taken out: the slab lets its keys go, the table its entries
+pub rest-held : (slab other : Slab Node) (es fs : List (ℕ × ℕ)) (p q : ℕ) (keys : List ℕ) → IsHeld slab es → p ≤ q → keys ≡ values_of es → ((key : ℕ) → list_any (λ k. k == key) (slice_range keys p q) ≡ false → get other key ≡ get slab key) → fs ≡ cut p q es → IsHeld other fs × (held other fs ≡ cut p q (held slab es))
+rest-held slab other es fs p q keys all le keys_are same entries =
     let rest = held-cut slab es p q le all in
-    let moved = held-same slab other (cut p q es) rest.0 same in
+    let moved = held-same slab other (cut p q es) rest.0 (λ key h. same key (ap (λ ks. list_any (λ k. k == key) (slice_range ks p q)) keys_are ∙ keys_apart slab es p q key le all h)) in
     rw entries (moved.0, moved.1 ∙ rest.1)
 
--- one more let go
-pub remove_range-more : (slab now after : Slab Node) (es : List (ℕ × ℕ)) (p q i : ℕ) (e : ℕ × ℕ) → IsHeld slab es → p ≤ i → i < q → slice_get es i ≡ Some e → Updates now after e.1 None → ((key : ℕ) → list_any (λ (f : ℕ × ℕ). f.1 == key) (cut p q es) ≡ true → get now key ≡ get slab key) → (key : ℕ) → list_any (λ (f : ℕ × ℕ). f.1 == key) (cut p q es) ≡ true → get after key ≡ get slab key
-remove_range-more slab now after es p q i e all low high at up same key h =
-    up.others key (λ one. never (sym (cut_apart slab es p q i e low high all at) ∙ ap (λ x. list_any (λ (f : ℕ × ℕ). f.1 == x) (cut p q es)) (sym one) ∙ h)) ∙ same key h
+-- a key of a list that has another one nowhere
+pub key_apart : (keys : List ℕ) (i key : ℕ) → i < length keys → list_any (λ k. k == key) keys ≡ false → key ≡ slice_index_or keys i 0 → ⊥
+key_apart [] i key l none same = omega (arith, l)
+key_apart (k ∷ ks) zero key l none same = let never : false ≡ true = sym ((or_parts (k == key) (list_any (λ x. x == key) ks) none).0) ∙ eq-eqb k key (sym same) in cc
+key_apart (k ∷ ks) (suc i) key l none same = key_apart ks i key (omega (arith, l)) ((or_parts (k == key) (list_any (λ x. x == key) ks) none).1) same
+
+-- ---- a walk
+
+held-take : (slab : Slab Node) (es : List (ℕ × ℕ)) (k : ℕ) → IsHeld slab es → IsHeld slab (take k es) × (held slab (take k es) ≡ take k (held slab es))
+held-take slab es zero all = (tt, refl)
+held-take slab [] (suc k) all = (tt, refl)
+held-take slab (e ∷ es) (suc k) all =
+    let rest = held-take slab es k all.2 in
+    ((all.0, any_take (λ (f : ℕ × ℕ). f.1 == e.1) es k all.1, rest.0), step (get slab e.1) all.0 rest.1)
   where
-    never : false ≡ true → ⊥
-    never q = cc
+    step : (o : Option Node) → has_serial e.0 o ≡ true → held slab (take k es) ≡ take k (held slab es) → and_those o (held slab (take k es)) ≡ take (suc k) (and_those o (held slab es))
+    step None h r = cc
+    step (Some n) h r = ap (λ xs. n ∷ xs) r
+
+-- the nodes of a part
+pub held-range : (slab : Slab Node) (es part : List (ℕ × ℕ)) (p q : ℕ) → IsHeld slab es → part ≡ slice_range es p q → IsHeld slab part × (held slab part ≡ slice_range (held slab es) p q)
+held-range slab es part p q all is =
+    let behind = held-drop slab es p all in
+    let among = held-take slab (drop p es) (q - p) behind.0 in
+    rw is (among.0, among.1 ∙ ap (take (q - p)) behind.1)
+
+pub part_of : (o : Option (List (ℕ × ℕ))) (part whole es : List (ℕ × ℕ)) (p q : ℕ) → IfSome o (λ s. s ≡ slice_range whole p q) → o ≡ Some part → whole ≡ es → part ≡ slice_range es p q
+part_of o part whole es p q found is same = subst (λ r. IfSome r (λ s. s ≡ slice_range whole p q)) is found ∙ ap (λ xs. slice_range xs p q) same
+
+-- one node more of a walk
+pub walk_more : (slab : Slab Node) (es rest : List (ℕ × ℕ)) (e : ℕ × ℕ) (o : Option (Bor Node)) → IsHeld slab es → es ≡ e ∷ rest → option_copied o ≡ get slab e.1 → IsHeld slab rest × TakesFirst deref (held slab es) o (held slab rest)
+walk_more slab es rest e o all is at = let parts : IsHeld slab (e ∷ rest) = subst (IsHeld slab) is all in (parts.2, by_node o at parts.0)
+  where
+    by_node : (r : Option (Bor Node)) → option_copied r ≡ get slab e.1 → has_serial e.0 (get slab e.1) ≡ true → TakesFirst deref (held slab es) r (held slab rest)
+    by_node None a h = let never : false ≡ true = ap (has_serial e.0) a ∙ h in absurd (cc)
+    by_node (Some x) a h = ap (held slab) is ∙ ap (λ n. and_those n (held slab rest)) (sym a)
+
+pub walk_done : (slab : Slab Node) (es rest : List (ℕ × ℕ)) (o : Option (Bor Node)) → o ≡ None → (es ≡ []) × (rest ≡ []) → TakesFirst deref (held slab es) o (held slab rest)
+walk_done slab es rest o none both = rw none (ap (held slab) both.0, ap (held slab) both.1)
+
+pub walk_goes : (s t : List Node) (r : Option (Bor Node)) → TakesFirst deref s r t → MakesProgress (λ _. Unit {0}) (λ l. at_most (length l)) s r t
+walk_goes s t None h = record { on = λ _. tt; keeps = tt; rests = λ _. tt }
+walk_goes s t (Some x) h = record { on = λ _. (tt, tt, omega (arith, ap length h)); keeps = tt; rests = λ _. tt }

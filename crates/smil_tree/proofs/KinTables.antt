@@ -110,25 +110,21 @@ module _ {Z : Type 0} where
       step true e = ap serials (sym (apart.outside s e))
       step false e = out s ∙ other (is_option s owner) refl e
 
-  -- one more list dropped
-  pub dropped_more : (base mid new : List (ℕ × Vec ℕ Z)) (nodes : List Node) (start place : ℕ) (n : Node)
-      → start ≤ place
-      → slice_get nodes place ≡ Some n
-      → ((s : ℕ) → list_of mid s ≡ cond (list_any (λ (m : Node). m.serial == s) (slice_range nodes start place)) [] (list_of base s))
-      → ((s : ℕ) → lookup (nat_eq s) new ≡ cond (nat_eq n.serial s) None (lookup (nat_eq s) mid))
-      → (s : ℕ) → list_of new s ≡ cond (list_any (λ (m : Node). m.serial == s) (slice_range nodes start (place + 1))) [] (list_of base s)
-  dropped_more base mid new nodes start place n le at before_this removed s =
-      ap (λ o. unwrap_or (option_map (λ (v : Vec ℕ Z). v.items) o) []) (removed s)
-      ∙ by_test (n.serial == s) ∙ ap (cond (n.serial == s) []) (before_this s)
-      ∙ both (list_any (λ (m : Node). m.serial == s) (slice_range nodes start place)) (n.serial == s)
-      ∙ ap (λ t. cond t [] (list_of base s))
-      (sym (ap (list_any (λ (m : Node). m.serial == s)) (slice_range-more nodes start place n le at) ∙ list_any-append (λ (m : Node). m.serial == s) (slice_range nodes start place) (n ∷ [])))
+  -- one more list dropped, of a part of which these nodes are left
+  pub dropped_more : (mid new : List (ℕ × Vec ℕ Z)) (left rest : List Node) (n : Node) (s : ℕ)
+      → left ≡ n ∷ rest
+      → ((k : ℕ) → lookup (nat_eq k) new ≡ cond (nat_eq n.serial k) None (lookup (nat_eq k) mid))
+      → cond (list_any (λ (m : Node). m.serial == s) rest) [] (list_of new s) ≡ cond (list_any (λ (m : Node). m.serial == s) left) [] (list_of mid s)
+  dropped_more mid new left rest n s at removed =
+      ap (cond (list_any (λ (m : Node). m.serial == s) rest) []) (ap (λ o. unwrap_or (option_map (λ (v : Vec ℕ Z). v.items) o) []) (removed s) ∙ by_test (n.serial == s))
+      ∙ both (n.serial == s) (list_any (λ (m : Node). m.serial == s) rest)
+      ∙ ap (λ ms. cond (list_any (λ (m : Node). m.serial == s) ms) [] (list_of mid s)) (sym at)
     where
       by_test : (t : Bool) → unwrap_or (option_map (λ (v : Vec ℕ Z). v.items) (cond t None (lookup (nat_eq s) mid))) [] ≡ cond t [] (list_of mid s)
       by_test true = refl
       by_test false = refl
 
-      both : (t u : Bool) → cond u [] (cond t [] (list_of base s)) ≡ cond (t || (u || false)) [] (list_of base s)
+      both : (t u : Bool) → cond u [] (cond t [] (list_of mid s)) ≡ cond (t || u) [] (list_of mid s)
       both true true = refl
       both true false = refl
       both false true = refl

@@ -8,7 +8,7 @@ use Rattle.std.proofs.lemmas.List.Sums.{sum_by-cons, sum_by-append, sum_by-take-
 use Rattle.std.proofs.lemmas.Bool.{or_parts}
 use Rattle.std.proofs.lemmas.List.{append-nil}
 use Rattle.smil_model.specs.declared.document.Node.{Node}
-use Rattle.smil_model.specs.document.Document.{Document, has_id, node_at}
+use Rattle.smil_model.specs.document.Document.{Document, has_id, node_at, with_node}
 use Rattle.smil_model.specs.document.Valid.{IsValid, IsDistinct, is_id_taken, is_other_with, references, references_of}
 use Rattle.smil_laws.proofs.Lineages.{swap_eqb}
 use Rattle.smil_laws.proofs.Lists.{take-more_at}
@@ -25,6 +25,23 @@ insert-more_at ns i n at = insert-suc_at ns i n at ∙ sym (ap (λ k. take k ns)
 
 pub taken_more : (ns old new : List Node) (i : ℕ) (copy n : Node) → slice_get ns i ≡ Some n → new ≡ insert old i copy → old ≡ take i ns → copy ≡ n → new ≡ take (i + 1) ns
 taken_more ns old new i copy n at put was same = put ∙ ap (λ ms. insert ms i copy) was ∙ ap (insert (take i ns) i) same ∙ insert-more_at ns i n at
+
+-- a document that is copied node by node
+abbrev document : List Node → ℕ → Document
+document nodes next = record { nodes = nodes; next = next }
+
+pub copied_more : (all left rest : List Node) (old new : Document) (n copy : Node) → left ≡ n ∷ rest → copy ≡ n → new ≡ with_node old copy → old.nodes ++ left ≡ all → new.nodes ++ rest ≡ all
+copied_more all left rest old new n copy at same put so =
+    ap (λ (d : Document). d.nodes ++ rest) put
+    ∙ ap (λ m. (old.nodes ++ m ∷ []) ++ rest) same
+    ∙ append_assoc old.nodes (n ∷ []) rest
+    ∙ ap (λ ms. old.nodes ++ ms) (sym at)
+    ∙ so
+
+pub copied_all : (all left : List Node) (next : ℕ) (d : Document) → left ≡ [] → d.nodes ++ left ≡ all → d.next ≡ next → d ≡ document all next
+copied_all all left next d none so same =
+    ap (λ ns. document ns d.next) (sym (append-nil d.nodes) ∙ ap (λ ms. d.nodes ++ ms) (sym none) ∙ so)
+    ∙ ap (document all) same
 
 -- no earlier node has the serial of the node at a place
 pub fresh_at : (ns : List Node) (i : ℕ) (n : Node) → IsDistinct ns → slice_get ns i ≡ Some n → node_at (take i ns) n.serial ≡ None

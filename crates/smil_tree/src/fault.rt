@@ -23,7 +23,7 @@ pub enum TreeFault {
     /// There would be more than 8,000 nodes, or no serial is left.
     #[error("too many elements")]
     TooManyElements,
-    /// More than 32,000 items would refer to an element or an event.
+    /// More than 32,000 items would refer to an element, an event or an access key.
     #[error("too many references")]
     TooManyReferences,
     /// The root is to be removed.

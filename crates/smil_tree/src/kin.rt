@@ -250,8 +250,7 @@ fn forget(lists: &mut Lists, span: &Span<'_>)
         (slice_range span.now.nodes.now span.now.start span.now.end) then []
         else list_of lists.old.entries s) }
 {
-    for place in span.start..span.end {
-        let node = span.nodes.at(place).unwrap();
+    for node in span.nodes.between(span.start, span.end) {
         lists.remove(&node.serial);
     }
 }

@@ -1,7 +1,9 @@
 //! Nodes in document order, found by their serials.
 
-ghost use Rattle.std.specs.Prelude.{◌≡◌, ℕ, ◌<◌, ◌≤◌, ◌==◌, nat_eq, [], length, insert, true, None, IsSome, OnOk, OnErr, slice_get, option_copied};
+ghost use Rattle.std.specs.Prelude.{◌≡◌, ℕ, ◌<◌, ◌≤◌, ◌==◌, nat_eq, [], length, insert, false, None, IsSome, OnOk, OnErr, slice_get, slice_range, option_copied};
 ghost use Rattle.std.specs.List.{position, list_any};
+ghost use Rattle.std.specs.Iterator.{at_most};
+ghost use Rattle.std.specs.Map.Iter.{TakesFirst, deref};
 ghost use Rattle.smil_model.specs.declared.document.Node.{Node as AnyNode};
 ghost use Rattle.smil_model.specs.document.Document.{node_at};
 ghost use Rattle.smil_model.specs.document.Edits.{changed_at, with_attr as attrs_with, without_attr as attrs_without};
@@ -10,6 +12,7 @@ ghost use Rattle.indexmap.specs.IndexMap.{get as key_at, index_map_len, spare, I
 ghost use Rattle.slab.specs.Slab.{get, HasRoomFor};
 
 use indexmap::IndexMap;
+use indexmap::map::Iter;
 use slab::Slab;
 use smil_model::{Attr, AttrName, Node, with_attr, without_attr};
 use std::alloc::{AllocError, Global};
@@ -22,7 +25,7 @@ pub struct Nodes {
 }
 
 impl Drop for Nodes {
-    // One call for each holder: its fields are dropped here alone.
+    // Dropped by a call of its own, so that no function that lets one go drops it field by field.
     fn drop(self) {
         let Nodes {
             order: _order,
@@ -43,6 +46,38 @@ impl Model for Nodes {
     ghost invariant = { λ a. IsHeld a.slab a.order.entries };
 }
 
+/// The nodes that are left of a walk through nodes in document order, seen as their list.
+#[derive(Drop)]
+pub struct Walk<'a> {
+    entries: Iter<'a, u32, usize>,
+    slab: &'a Slab<Node>,
+}
+
+impl<'a> Model for Walk<'a> {
+    ghost use Rattle.std.specs.Prelude.{List};
+    ghost use Rattle.smil_model.specs.declared.document.Node.{Node};
+    ghost use Rattle.smil_tree.specs.Held.{held, IsHeld};
+
+    ghost Value = { List Node };
+
+    ghost view = { λ a. held a.slab.now a.entries };
+
+    ghost invariant = { λ a. IsHeld a.slab.now a.entries };
+}
+
+impl<'a> Iterator for Walk<'a> {
+    type Item = &'a Node;
+
+    ghost next_gives = { TakesFirst deref };
+
+    ghost remaining = { λ s. at_most (length s) };
+
+    fn next(&mut self) -> Option<&'a Node> {
+        let (_, key) = self.entries.next()?;
+        self.slab.get(*key)
+    }
+}
+
 impl Nodes {
     /// No nodes. It takes no memory.
     pub fn new(alloc: Global) -> Nodes
@@ -59,6 +94,29 @@ impl Nodes {
         ensures { result ≡ length self.now }
     {
         self.order.len()
+    }
+
+    /// The nodes, one after another in document order. It takes no memory.
+    pub fn iter(&self) -> Walk<'_>
+        ensures { result ≡ self.now }
+    {
+        Walk {
+            entries: self.order.iter(),
+            slab: &self.slab,
+        }
+    }
+
+    /// The nodes from a position on up to another, one after another. It takes no memory.
+    pub fn between(&self, start: usize, end: usize) -> Walk<'_>
+        requires in_order { start ≤ end }
+        requires within { end ≤ length self.now }
+        ensures { result ≡ slice_range self.now start end }
+    {
+        let part = self.order.as_slice().get_range(start..end).unwrap();
+        Walk {
+            entries: part.iter(),
+            slab: &self.slab,
+        }
     }
 
     /// The node at a place from 0; None exactly where the place is not below the length. It takes
@@ -104,7 +162,8 @@ impl Nodes {
         requires within { end ≤ length self.old }
         ensures { self.new ≡ cut place end self.old }
     {
-        remove_range(&self.order, &mut self.slab, place, end);
+        let keys = &self.order.values().as_slice()[place..end];
+        remove_each(&mut self.slab, keys);
         self.order.drain(place..end);
     }
 
@@ -166,15 +225,12 @@ fn put(order: &mut IndexMap<u32, usize>, slab: &mut Slab<Node>, place: usize, no
     order.shift_insert(place, serial, key).unwrap();
 }
 
-// Drops the nodes from a place on up to another.
-fn remove_range(order: &IndexMap<u32, usize>, slab: &mut Slab<Node>, place: usize, end: usize)
-    requires was_held { IsHeld slab.old order.now.entries }
-    requires within { end ≤ index_map_len order.now }
-    ensures { (key : ℕ) → list_any (λ (e : ℕ × ℕ). e.1 == key) (cut place end order.now.entries)
-        ≡ true → get slab.new key ≡ get slab.old key }
+// Drops the nodes under these keys.
+fn remove_each(slab: &mut Slab<Node>, keys: &[usize])
+    ensures { (key : ℕ) → list_any (λ k. k == key) keys.now ≡ false
+        → get slab.new key ≡ get slab.old key }
 {
-    for at in place..end {
-        let (_, key) = order.get_index(at).unwrap();
+    for key in keys {
         slab.try_remove(*key);
     }
 }

@@ -11,7 +11,7 @@ mod spans;
 ghost use Rattle.std.specs.Prelude.{◌≡◌, ℕ, ◌<◌, ◌≤◌, ◌==◌, List, [], ◌∷◌, take, length, true, Some, IsSome, IfOk, OnOk, slice_get, option_map, sum_by};
 ghost use Rattle.std.specs.List.{position as first_place};
 ghost use Rattle.smil_model.specs.declared.document.Node.{Node as AnyNode};
-ghost use Rattle.smil_model.specs.document.Document.{Document, node_at, serial_of, time_parent as time_parent_of, time_children};
+ghost use Rattle.smil_model.specs.document.Document.{Document, elements, node_at, serial_of, time_parent as time_parent_of, time_children};
 ghost use Rattle.smil_model.specs.document.Valid.{IsValid, kind_of, references, references_of};
 ghost use Rattle.smil_model.specs.shown.Orders.{node_of};
 ghost use Rattle.smil_tree.specs.TreeFields.{IsTableOf, Keeps};
@@ -36,7 +36,7 @@ pub struct Tree {
 }
 
 impl Drop for Tree {
-    // One call for each holder: its fields are dropped here alone.
+    // Dropped by a call of its own, so that no function that lets one go drops it field by field.
     fn drop(self) {
         let Tree {
             nodes: _nodes,
@@ -119,6 +119,32 @@ impl Tree {
         Some(self.nodes.at(position)?.serial)
     }
 
+    /// The index of an element among the elements in document order, from 0; None exactly where the
+    /// serial is no element's. It takes a step for each node up to the element, and no memory.
+    pub fn element_index(&self, serial: u32) -> Option<usize>
+        ensures { result ≡ first_place (λ (n : AnyNode). n.serial == serial)
+            (elements self.now.nodes) }
+    {
+        self.nodes
+            .iter()
+            .filter(|node| node.kind.is_element())
+            .position(|node| node.serial == serial)
+    }
+
+    /// The serial of the element at an index among the elements in document order, from 0; None
+    /// exactly where the index is not below the number of elements. It takes a step for each node
+    /// up to the element, and no memory.
+    pub fn element_at(&self, index: usize) -> Option<u32>
+        ensures { result ≡ serial_of (slice_get (elements self.now.nodes) index) }
+    {
+        let node = self
+            .nodes
+            .iter()
+            .filter(|node| node.kind.is_element())
+            .nth(index)?;
+        Some(node.serial)
+    }
+
     /// The kind of a node. It takes no memory.
     pub fn kind(&self, serial: u32) -> Kind
         requires { IsSome (node_at self.now.nodes serial) }
@@ -142,8 +168,7 @@ fn doc_of(alloc: Global, nodes: &Nodes, next: u32) -> Result<Doc, AllocError>
     ensures { IfOk result (λ doc. doc ≡ record { nodes = nodes.now; next = next }) }
 {
     let mut doc = Doc::new(alloc, next);
-    for place in 0..nodes.len() {
-        let node = nodes.at(place).unwrap();
+    for node in nodes.iter() {
         doc.push(node.copy()?)?;
     }
     Ok(doc)
@@ -176,11 +201,10 @@ fn take_in(nodes: &mut Nodes, kin: &mut Kin, doc: &Doc) -> Result<(), AllocError
     ensures nodes { OnOk result (nodes.new ≡ doc.now.nodes) }
     ensures kin { OnOk result (IsKinOf kin.new doc.now.nodes) }
 {
-    for place in 0..doc.len() {
-        let node = doc.get(place).unwrap();
-        nodes.insert(place, node.copy()?)?;
+    for (position, node) in doc.nodes().iter().enumerate() {
+        nodes.insert(position, node.copy()?)?;
         let time_parent = element_from(nodes, node.parent);
-        kin.grow(nodes, time_parent, place)?;
+        kin.grow(nodes, time_parent, position)?;
     }
     Ok(())
 }
@@ -197,7 +221,7 @@ fn ids_of(alloc: Global, doc: &Doc) -> Result<Ids, AllocError>
     Ok(ids)
 }
 
-// How many items of a document refer to an element or an event.
+// How many items of a document refer to an element, an event or an access key.
 fn references_of(doc: &Doc) -> usize
     requires { references doc.now.nodes ≤ REFERENCES }
     ensures { result ≡ references doc.now.nodes }

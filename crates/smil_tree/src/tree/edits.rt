@@ -20,9 +20,9 @@ use std::alloc::AllocError;
 
 impl Tree {
     /// Gives a node an attribute, which fits its kind and its parent's kind. Refused where another
-    /// node has the id (`DuplicateId`), then where more than 32,000 items would refer to an element
-    /// or an event (`TooManyReferences`), and where memory runs out (`Memory`). After a refusal the
-    /// tree is as before.
+    /// node has the id (`DuplicateId`), then where more than 32,000 items would refer to an
+    /// element, an event or an access key (`TooManyReferences`), and where memory runs out
+    /// (`Memory`). After a refusal the tree is as before.
     pub fn set(&mut self, serial: u32, attr: Attr) -> Result<(), TreeFault>
         requires { may_take self.old.nodes serial attr ≡ true }
         ensures ok { OnOk result (set_outcome self.old serial attr ≡ Ok self.new) }

@@ -15,7 +15,7 @@ ghost use Rattle.smil_tree.specs.Outcomes.{IsFaultOf, and_after, insert_outcome,
 use super::Tree;
 use super::edits::other_has;
 use super::family::element_from;
-use super::spans::place_of_child;
+use super::spans::position_of_child;
 use crate::fault::TreeFault;
 use crate::ids::{Ids, forget_node, note_node};
 use crate::kin::Kin;
@@ -28,9 +28,9 @@ impl Tree {
     /// from 1, with attributes that fit its kind and its parent's kind. The answer is its serial,
     /// which no node had before. Refused as by `may_insert` (`TooDeep`, `BadPlace`), then where
     /// another node has the id (`DuplicateId`), where there would be more than 8,000 nodes or no
-    /// serial is left (`TooManyElements`), where more than 32,000 items would refer to an element
-    /// or an event (`TooManyReferences`), and where memory runs out (`Memory`). After a refusal the
-    /// tree is as before.
+    /// serial is left (`TooManyElements`), where more than 32,000 items would refer to an element,
+    /// an event or an access key (`TooManyReferences`), and where memory runs out (`Memory`). After
+    /// a refusal the tree is as before.
     pub fn insert(
         &mut self,
         parent: u32,
@@ -47,7 +47,7 @@ impl Tree {
         self.may_insert(parent, place, kind)?;
         self.has_room(&attrs)?;
         let serial = self.next;
-        let at = place_of_child(&self.nodes, &self.kin, parent, place);
+        let at = position_of_child(&self.nodes, &self.kin, parent, place);
         self.put(
             at,
             Node {

@@ -50,7 +50,7 @@ impl Tree {
     }
 }
 
-// The table without the ids of the nodes from a place on up to another.
+// The table without the ids of the nodes from a position on up to another.
 fn forget_nodes(ids: &mut Ids, nodes: &Nodes, start: usize, end: usize)
     requires in_order { start ≤ end }
     requires within { end ≤ length nodes.now }
@@ -58,12 +58,13 @@ fn forget_nodes(ids: &mut Ids, nodes: &Nodes, start: usize, end: usize)
     requires table { IsTableOf ids.old nodes.now }
     ensures { IsTableOf ids.new (cut start end nodes.now) }
 {
-    for place in start..end {
-        forget_node(ids, nodes.at(place).unwrap());
+    for node in nodes.between(start, end) {
+        forget_node(ids, node);
     }
 }
 
-// How many items of the nodes from a place on up to another refer to an element or an event.
+// How many items of the nodes from a position on up to another refer to an element, an event or an
+// access key.
 fn references_between(nodes: &Nodes, start: usize, end: usize) -> usize
     requires in_order { start ≤ end }
     requires within { end ≤ length nodes.now }
@@ -71,8 +72,8 @@ fn references_between(nodes: &Nodes, start: usize, end: usize) -> usize
     ensures { result + references (cut start end nodes.now) ≡ references nodes.now }
 {
     let mut count = 0;
-    for place in start..end {
-        count += references_in(&nodes.at(place).unwrap().attrs);
+    for node in nodes.between(start, end) {
+        count += references_in(&node.attrs);
     }
     count
 }

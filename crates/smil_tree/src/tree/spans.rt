@@ -13,9 +13,8 @@ use crate::kin::Kin;
 use crate::nodes::Nodes;
 
 impl Tree {
-    /// The place in document order, from 0, of a node, and the one behind the last of its
-    /// descendants: from the first up to the second stand the node and its descendants, and no
-    /// others. It takes no memory.
+    /// The position of a node, from 0, and the one behind the last of its descendants: from the
+    /// first up to the second stand the node and its descendants, and no others. It takes no memory.
     pub fn span(&self, serial: u32) -> (usize, usize)
         requires { IsSome (node_at self.now.nodes serial) }
         ensures places { result ≡ (
@@ -34,7 +33,7 @@ impl Tree {
     }
 }
 
-/// The place behind the last descendant of a node.
+/// The position behind the last descendant of a node.
 pub fn end_of(nodes: &Nodes, kin: &Kin, serial: u32) -> usize
     requires known { IsSome (node_at nodes.now serial) }
     requires kin { IsKinOf kin.now nodes.now }
@@ -48,9 +47,9 @@ pub fn end_of(nodes: &Nodes, kin: &Kin, serial: u32) -> usize
     nodes.place(at).unwrap() + 1
 }
 
-/// The place at which a new child of a node comes to stand, to be one of its children at a place
+/// The position at which a new child of a node comes to stand, to be one of its children at a place
 /// counted from 1.
-pub fn place_of_child(nodes: &Nodes, kin: &Kin, parent: u32, place: usize) -> usize
+pub fn position_of_child(nodes: &Nodes, kin: &Kin, parent: u32, place: usize) -> usize
     requires counted { 0 < place }
     requires known { IsSome (node_at nodes.now parent) }
     requires kin { IsKinOf kin.now nodes.now }

@@ -1,24 +1,20 @@
-use Rattle.std.proofs.Common.{◌≡◌, sym, ◌∙◌, refl, ℕ, List, ◌-◌, arith, Some, None}
-use Rattle.std.specs.Prelude.{◌&&◌, bytes_eq}
+use Rattle.std.proofs.Common.{◌≡◌, sym, ◌∙◌, ap, refl, ℕ, List, length, arith, Some, None}
+use Rattle.std.specs.Prelude.{◌&&◌, bytes_eq, slice_get}
 use Rattle.std.specs.HashMap.{get_by}
+use Rattle.std.proofs.lemmas.Option.{slice_get-get_or}
 use Rattle.smil_model.specs.document.Document.{is_element, has_id}
-use Rattle.smil_graph.proofs.Nodes.{fill_none, fill_step, fill_all, there}
+use Rattle.smil_graph.proofs.Nodes.{fill_none, fill_step, fill_all}
 use Rattle.smil_graph.proofs.places.id_places.Goals as goal
-use Rattle.smil_graph.proofs.places.id_places.Goals.{in-Some+in_ok-note_id, in_default}
 
-pub loop-behind-init : goal.loop-behind-init
-loop-behind-init c = fill_none {K = List ℕ} (λ id n. is_element n && has_id id n.attrs.id) c.args.doc.now.nodes (λ id. get_by (λ k. bytes_eq id k.now) c.new-places.result) (λ id. let none : get_by (λ k. bytes_eq id k.now) c.new-places.result ≡ None = rw c.new-places.ensures.empty refl in none)
+pub loop-place-init : goal.loop-place-init
+loop-place-init c = fill_none {K = List ℕ} (λ id n. is_element n && has_id id n.attrs.id) c.args.doc.now.nodes (λ id. get_by (λ k. bytes_eq id k.now) c.new-places.result) (λ id. let none : get_by (λ k. bytes_eq id k.now) c.new-places.result ≡ None = rw c.new-places.ensures.empty refl in none)
 
-pub loop-behind-preserved : goal.loop-behind-preserved
-loop-behind-preserved c =
-    elim c.match-get.branch [
-      | in-Some+in_ok-note_id w ↦
-          rw w.places-is (fill_step {K = List ℕ} (λ id n. is_element n && has_id id n.attrs.id) c.args.doc.now.nodes c.loop-behind.behind (c.len.result - 1 - c.loop-behind.behind) w.in-Some.node.now (λ id. get_by (λ k. bytes_eq id k.now) c.loop-behind.places) (λ id. get_by (λ k. bytes_eq id k.now) w.note_id.new.places) (omega arith) (omega arith) (sym w.in-Some.ensures) c.loop-behind.invariant w.in_ok-note_id.ensures)
-      | in_default w ↦
-          let m = there c.args.doc.now.nodes (c.len.result - 1 - c.loop-behind.behind) (omega arith) in
-          let never : None ≡ Some m.0 = w.in_default.ensures ∙ m.1 in
-          absurd (cc)
-    ]
+pub loop-place-preserved : goal.loop-place-preserved
+loop-place-preserved c =
+    let place = c.loop-place.place in
+    let node = c.node-item.result in
+    let at : slice_get c.args.doc.now.nodes place ≡ Some node = ap (λ ns. slice_get ns place) (sym c.nodes-node-items.ensures) ∙ slice_get-get_or c.nodes-node-items.result.now place node c.loop-place-test.true ∙ ap Some (sym c.node-item.is) in
+    fill_step {K = List ℕ} (λ id n. is_element n && has_id id n.attrs.id) c.args.doc.now.nodes place node (λ id. get_by (λ k. bytes_eq id k.now) c.loop-place.places) (λ id. get_by (λ k. bytes_eq id k.now) c.note_id.new.places) at c.loop-place.invariant c.in_ok-note_id.ensures
 
 pub returns : goal.returns
-returns c = fill_all {K = List ℕ} (λ id n. is_element n && has_id id n.attrs.id) c.args.doc.now.nodes c.loop-behind.behind (λ id. get_by (λ k. bytes_eq id k.now) c.loop-behind.places) (omega arith) c.loop-behind.invariant
+returns c = fill_all {K = List ℕ} (λ id n. is_element n && has_id id n.attrs.id) c.args.doc.now.nodes c.loop-place.place (λ id. get_by (λ k. bytes_eq id k.now) c.loop-place.places) (omega (arith, ap length c.nodes-node-items.ensures, c.loop-place-test.false)) c.loop-place.invariant

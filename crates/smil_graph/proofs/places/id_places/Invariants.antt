@@ -2,8 +2,8 @@ use Rattle.std.proofs.Common.{ℕ, List}
 use Rattle.std.specs.Prelude.{◌&&◌, bytes_eq}
 use Rattle.std.specs.HashMap.{get_by}
 use Rattle.smil_model.specs.document.Document.{is_element, has_id}
-use Rattle.smil_graph.proofs.Nodes.{IsFilled}
+use Rattle.smil_graph.proofs.Nodes.{IsFilledTo}
 use Rattle.smil_graph.proofs.places.id_places.Given as goal
 
-abbrev pub invariant-loop-behind : goal.invariant-loop-behind
-invariant-loop-behind l = IsFilled {K = List ℕ} (λ id n. is_element n && has_id id n.attrs.id) l.doc.nodes l.behind (λ id. get_by (λ k. bytes_eq id k.now) l.places)
+abbrev pub invariant-loop-place : goal.invariant-loop-place
+invariant-loop-place l = IsFilledTo {K = List ℕ} (λ id n. is_element n && has_id id n.attrs.id) l.doc.nodes l.place (λ id. get_by (λ k. bytes_eq id k.now) l.places)

@@ -25,14 +25,14 @@ returns-in_err-has_room-clause-err c =
 pub put-requires-clause-within : goal.put-requires-clause-within
 put-requires-clause-within c =
     let valid = subst IsValid c.self.view_is c.self.invariant.valid in
-    let at = c.place_of_child-at.ensures ∙ ap (λ (d : Document). child_place d.nodes c.args.parent (slice_get (children d.nodes c.args.parent) (c.args.place - 1))) c.self.view_is in
+    let at = c.position_of_child-at.ensures ∙ ap (λ (d : Document). child_place d.nodes c.args.parent (slice_get (children d.nodes c.args.parent) (c.args.place - 1))) c.self.view_is in
     subst (λ k. k ≤ length c.args.self.now.nodes) (sym at) (place_within c.args.self.now valid c.args.parent c.args.place c.args.kind c.args.attrs c.requires)
 
 pub put-requires-clause-valid : goal.put-requires-clause-valid
 put-requires-clause-valid c =
     let valid = subst IsValid c.self.view_is c.self.invariant.valid in
     let grown = after c.args.self.now valid c.args.parent c.args.place c.args.kind c.args.attrs c.requires in
-    let at = c.place_of_child-at.ensures ∙ ap (λ (d : Document). child_place d.nodes c.args.parent (slice_get (children d.nodes c.args.parent) (c.args.place - 1))) c.self.view_is in
+    let at = c.position_of_child-at.ensures ∙ ap (λ (d : Document). child_place d.nodes c.args.parent (slice_get (children d.nodes c.args.parent) (c.args.place - 1))) c.self.view_is in
     let serial = ap (λ (d : Document). d.next) c.self.view_is in
     let room = sym (c.in_ok-has_room.ensures grown
     (long_after c.args.self.now valid c.args.parent c.args.place c.args.kind c.args.attrs c.requires)
@@ -45,7 +45,7 @@ pub returns-clause-ok : goal.returns-clause-ok
 returns-clause-ok c =
     let valid = subst IsValid c.self.view_is c.self.invariant.valid in
     let grown = after c.args.self.now valid c.args.parent c.args.place c.args.kind c.args.attrs c.requires in
-    let at = c.place_of_child-at.ensures ∙ ap (λ (d : Document). child_place d.nodes c.args.parent (slice_get (children d.nodes c.args.parent) (c.args.place - 1))) c.self.view_is in
+    let at = c.position_of_child-at.ensures ∙ ap (λ (d : Document). child_place d.nodes c.args.parent (slice_get (children d.nodes c.args.parent) (c.args.place - 1))) c.self.view_is in
     let serial = ap (λ (d : Document). d.next) c.self.view_is in
     let room = sym (c.in_ok-has_room.ensures grown
     (long_after c.args.self.now valid c.args.parent c.args.place c.args.kind c.args.attrs c.requires)

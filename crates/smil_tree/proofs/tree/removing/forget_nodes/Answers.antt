@@ -1,13 +1,15 @@
-use Rattle.std.proofs.Common.{◌≡◌, sym, ap, ◌∙◌, Some, None, cond}
-use Rattle.std.specs.Prelude.{slice_get}
-use Rattle.std.specs.Option.{option_copied}
-use Rattle.smil_tree.specs.TreeFields.{bears}
-use Rattle.smil_tree.proofs.Cuts.{owner_cut}
+use Rattle.std.proofs.Common.{◌∙◌, take, drop}
+use Rattle.smil_tree.proofs.Cuts.{none_forgotten, forgotten_more, all_forgotten}
 use Rattle.smil_tree.proofs.tree.removing.forget_nodes.Goals as goal
 
-pub loop-place-preserved : goal.loop-place-preserved
-loop-place-preserved c =
-    let at : slice_get c.args.nodes.now c.loop-place.place ≡ Some c.unwrap.result.now = sym c.at.ensures ∙ ap option_copied c.unwrap.ensures in
-    λ q. c.forget_node.ensures q
-    ∙ ap (λ o. cond (bears q c.unwrap.result.now) None o) (c.loop-place.invariant q)
-    ∙ sym (owner_cut q c.args.nodes.now c.args.start c.loop-place.place c.unwrap.result.now (c.requires.once q) c.loop-place.auto.place at)
+pub loop-node-init : goal.loop-node-init
+loop-node-init c =
+    none_forgotten c.args.ids.now c.args.nodes.now c.into_iter-node-iterator.result c.args.start c.args.end c.requires.in_order c.requires.once c.requires.table
+    (c.into_iter-node-iterator.ensures.into_iter_gives ∙ c.between-node-items.ensures)
+
+pub loop-node-preserved : goal.loop-node-preserved
+loop-node-preserved c =
+    forgotten_more c.loop-node.ids c.forget_node.new.ids (take c.args.start c.args.nodes.now) c.loop-node.node-iterator c.next.new.self (drop c.args.end c.args.nodes.now) c.in-Some.node.now c.in-Some.ensures.steps c.forget_node.ensures c.loop-node.invariant
+
+pub returns : goal.returns
+returns c = all_forgotten c.loop-node.ids c.args.nodes.now c.loop-node.node-iterator c.args.start c.args.end c.in-None.ensures.steps.0 c.loop-node.invariant

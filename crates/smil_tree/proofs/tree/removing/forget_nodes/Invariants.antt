@@ -1,6 +1,6 @@
-use Rattle.smil_tree.specs.Held.{cut}
-use Rattle.smil_tree.specs.TreeFields.{IsTableOf}
+use Rattle.std.proofs.Common.{take, drop}
+use Rattle.smil_tree.proofs.Cuts.{IsTableLeft}
 use Rattle.smil_tree.proofs.tree.removing.forget_nodes.Given as goal
 
-abbrev pub invariant-loop-place : goal.invariant-loop-place
-invariant-loop-place l = IsTableOf l.ids (cut l.fn.start l.place l.nodes)
+abbrev pub invariant-loop-node : goal.invariant-loop-node
+invariant-loop-node l = IsTableLeft l.ids (take l.fn.start l.nodes) l.node-iterator (drop l.fn.end l.nodes)

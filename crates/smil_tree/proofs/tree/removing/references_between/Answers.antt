@@ -1,20 +1,23 @@
-use Rattle.std.proofs.Common.{◌≡◌, sym, ap, ◌∙◌, Some, arith}
-use Rattle.std.specs.Prelude.{slice_get}
-use Rattle.std.specs.Option.{option_copied}
-use Rattle.smil_tree.proofs.Cuts.{references_cut}
+use Rattle.std.proofs.Common.{◌∙◌, ap, arith}
+use Rattle.smil_model.specs.document.Valid.{references}
+use Rattle.smil_tree.proofs.Cuts.{references_parts, references_first}
 use Rattle.smil_tree.proofs.tree.removing.references_between.Goals as goal
+
+pub loop-node-init : goal.loop-node-init
+loop-node-init c =
+    omega (arith, references_parts c.args.nodes.now c.into_iter-node-iterator.result c.args.start c.args.end c.requires.in_order (c.into_iter-node-iterator.ensures.into_iter_gives ∙ c.between-node-items.ensures))
 
 pub references_in-count-requires : goal.references_in-count-requires
 references_in-count-requires c =
-    let at : slice_get c.args.nodes.now c.loop-place.place ≡ Some c.unwrap.result.now = sym c.at.ensures ∙ ap option_copied c.unwrap.ensures in
-    omega (arith, references_cut c.args.nodes.now c.args.start c.loop-place.place c.unwrap.result.now at, c.loop-place.invariant, c.requires.few)
+    omega (arith, references_first c.loop-node.node-iterator c.next.new.self c.in-Some.node.now c.in-Some.ensures.steps, c.loop-node.invariant, c.requires.few)
 
 pub overflow_add-count : goal.overflow_add-count
 overflow_add-count c =
-    let at : slice_get c.args.nodes.now c.loop-place.place ≡ Some c.unwrap.result.now = sym c.at.ensures ∙ ap option_copied c.unwrap.ensures in
-    omega (arith, references_cut c.args.nodes.now c.args.start c.loop-place.place c.unwrap.result.now at, c.loop-place.invariant, c.requires.few, c.references_in-count.ensures)
+    omega (arith, references_first c.loop-node.node-iterator c.next.new.self c.in-Some.node.now c.in-Some.ensures.steps, c.loop-node.invariant, c.requires.few, c.references_in-count.ensures)
 
-pub loop-place-preserved : goal.loop-place-preserved
-loop-place-preserved c =
-    let at : slice_get c.args.nodes.now c.loop-place.place ≡ Some c.unwrap.result.now = sym c.at.ensures ∙ ap option_copied c.unwrap.ensures in
-    omega (arith, references_cut c.args.nodes.now c.args.start c.loop-place.place c.unwrap.result.now at, c.loop-place.invariant, c.references_in-count.ensures)
+pub loop-node-preserved : goal.loop-node-preserved
+loop-node-preserved c =
+    omega (arith, references_first c.loop-node.node-iterator c.next.new.self c.in-Some.node.now c.in-Some.ensures.steps, c.loop-node.invariant, c.references_in-count.ensures)
+
+pub returns : goal.returns
+returns c = omega (arith, ap references c.in-None.ensures.steps.0, c.loop-node.invariant)
