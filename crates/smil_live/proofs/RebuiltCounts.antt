@@ -1,6 +1,7 @@
 -- How often cells that are rebuilt, or made anew, have intervals evaluated.
 use Rattle.std.proofs.Common.{◌≡◌, refl, sym, ◌∙◌, ap, subst, ℕ, suc, zero, ◌≤◌, ◌+◌, ◌-◌, List, [], ◌∷◌, ◌++◌, Option, Some, None, Bool, true, false, arith, length, drop}
 use Rattle.std.specs.Prelude.{cond, filter, is_some, not, pos, ◌&&◌}
+use Rattle.std.proofs.Math.Seq.{drop-length}
 use Rattle.std.proofs.lemmas.List.Sums.{sum_by-cons}
 use Rattle.smil_model.specs.declared.diary.Entry.{Entry}
 use Rattle.smil_model.specs.declared.diary.LogEntry.{LogEntry}
@@ -68,11 +69,7 @@ pub named_since : (old mid : Standing) → IsSettled mid → NamesBelow (length 
 named_since old mid settled = names_behind (length mid.presentation.log) (length old.diary) mid.diary (settled_names (course_of mid.presentation) mid.diary settled)
 
 pub none_since : (n : ℕ) (s : Standing) → NamesBelow n (drop (length s.diary) s.diary)
-none_since n s = subst (λ (l : List Entry). NamesBelow n l) (sym (all_dropped s.diary)) tt
-  where
-    all_dropped : (ds : List Entry) → drop (length ds) ds ≡ []
-    all_dropped [] = refl
-    all_dropped (x ∷ xs) = all_dropped xs
+none_since n s = subst (λ (l : List Entry). NamesBelow n l) (sym (drop-length s.diary)) tt
 
 -- ---- one standing after another, with a longer log
 

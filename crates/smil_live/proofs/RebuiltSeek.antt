@@ -1,7 +1,8 @@
 -- Cells of an earlier moment, rebuilt from the entries up to it.
-use Rattle.std.proofs.Common.{◌≡◌, refl, sym, ◌∙◌, ap, subst, ℕ, ◌-◌, ◌≤◌, List, [], ◌∷◌, ◌++◌, Some, None, ℤ, negsuc, Bool, true, false, arith, length, take, drop, append-nil}
+use Rattle.std.proofs.Common.{◌≡◌, refl, sym, ◌∙◌, ap, subst, ℕ, ◌-◌, ◌≤◌, List, [], ◌++◌, Some, None, ℤ, negsuc, Bool, true, false, arith, length, take, drop, append-nil}
 use Rattle.std.specs.Prelude.{filter, pos, int_le, nat_abs, ◌⊎◌, ◌≤ℤ◌}
 use Rattle.std.specs.List.{list_all}
+use Rattle.std.proofs.Math.Seq.{drop-length}
 use Rattle.std.proofs.lemmas.Bool.{and_parts}
 use Rattle.std.proofs.lemmas.Int.{ints}
 use Rattle.smil_model.specs.declared.diary.Entry.{Entry}
@@ -100,11 +101,7 @@ module _ (s : Standing) (d : Document) (to : ℤ) (len : ℕ) (state : IsState s
       nothing_reached =
           let same_diary : u.diary ≡ t.diary = on.diary.1 ∙ (ap (λ (l : List Entry). t.diary ++ l) none_added ∙ append-nil t.diary) in
           ap (λ (l : List Entry). reaches t.presentation.document.nodes u.presentation.log (drop (length t.diary) l)) same_diary
-          ∙ ap (reaches t.presentation.document.nodes u.presentation.log) (all_dropped t.diary)
-        where
-          all_dropped : (l : List Entry) → drop (length l) l ≡ []
-          all_dropped [] = refl
-          all_dropped (x ∷ xs) = all_dropped xs
+          ∙ ap (reaches t.presentation.document.nodes u.presentation.log) (drop-length t.diary)
 
       pub most_back : (counts : Bool) (a b c : ℕ) → a ≤ b → b ≤ c → WhereTold counts (b - a ≤ length (elements d.nodes)) → WhereTold counts (c - b ≤ reached_since t u) → WhereTold counts (c - a ≤ length (elements s.presentation.document.nodes))
       most_back false a b c earlier later most more = tt

@@ -212,8 +212,8 @@ impl<T: Table> Playing<T> {
         without_node(tree, serial)
     }
 
-    // The node that an order names, as the site of an edit; 0, which is no node's serial, where
-    // there is none.
+    // The site of an edit of the node that an order names: its serial, or 0, which is no node's,
+    // where there is none.
     fn site(&self, who: &Who) -> Site
         ensures { result ≡ Site.Old (serial_or_0 (node_of self.now.document.nodes who.now)) }
     {
@@ -245,8 +245,8 @@ impl<T: Table> Playing<T> {
         self.take_over(&mut cells, out)
     }
 
-    // Tells what is gone by other cells and what has changed, and goes on with those, which the old
-    // cells stand for then; unless memory runs out.
+    // Tells which elements other cells have no longer and which views differ by them, and puts them
+    // in the place of its own, which `cells` holds then. Where memory runs out all is as before.
     pub(crate) fn take_over(&mut self, cells: &mut Cells<T>, out: &mut Bytes) -> Result<(), Refusal>
         requires state { IsState cells.old.presentation }
         requires replayed { IsReplayed cells.old.presentation cells.old }
@@ -290,9 +290,9 @@ impl<T: Table> Playing<T> {
         cells_with(&self.viewer.cells, &doc, len, steps)
     }
 
-    // How many entries of the diary stay by an edit, unless memory runs out: those through the
-    // first begin of the time parent of the edited node, where the edit leaves the references as
-    // they were.
+    // How many entries of the diary stay by an edit, unless memory runs out: those up to the first
+    // begin of the time parent of the edited node, with that, where the edit leaves the references
+    // as they were.
     fn staying(&self, edited: &Tree, doc: &Doc, site: Site) -> Result<usize, AllocError>
         requires made { IsMade self.now.document site edited.now }
         requires doc { doc.now ≡ edited.now }
@@ -373,8 +373,9 @@ fn edited_node(tree: &Tree, edited: &Tree, doc: &Doc, site: Site) -> (u32, Optio
     }
 }
 
-// How many entries of a diary stay by an edit: those through the first begin of the time parent of
-// the edited node, if it has one and the edit leaves the references as they were.
+// How many entries of a diary stay by an edit: those up to the first begin of the time parent of
+// the edited node, with that, if it has one and the edit leaves the references as they were; else
+// none.
 fn entries_staying(book: &Book, keeps: bool, parent: Option<u32>) -> usize
     ensures { (node : Option AnyNode) → serial_of node ≡ parent
         → result ≡ agreed_under keeps node book.now }

@@ -1,5 +1,5 @@
-use Rattle.std.proofs.Common.{◌≡◌, refl, sym, ◌∙◌, subst, arith, ◌-◌, ◌++◌, ◌≤ℤ◌, ℕ, ℤ, pos, nat_abs, w64, to_z, of_z, FitsSigned}
-use Rattle.std.specs.Prelude.{OnOk, negsuc}
+use Rattle.std.proofs.Common.{◌≡◌, refl, sym, ◌∙◌, subst, arith, ◌-◌, ◌++◌, ◌≤ℤ◌, ℤ, pos, nat_abs, w64, to_z, of_z}
+use Rattle.std.specs.Prelude.{OnOk}
 use Rattle.std.proofs.lemmas.Int.{ints, to_z-of_z}
 use Rattle.std.proofs.lemmas.Result.{on_ok_weaker}
 use Rattle.smil_model.specs.declared.times.TheConstants.{HORIZON}
@@ -10,12 +10,9 @@ use Rattle.smil_cells.specs.Standing.{moved_to}
 use Rattle.smil_live.specs.Moves.{IsShownAt, IsTooFull, text_of}
 use Rattle.smil_live.proofs.Counted.{IsCounted, counted_first, counted_last, counted_then}
 use Rattle.smil_live.proofs.Onward.{arrives, comes_nearer, due_from, passes_on, sets_out, too_full_then}
+use Rattle.smil_live.proofs.Replays.{fits}
 use Rattle.smil_live.proofs.viewer.Viewer.pass_through.Given.{Over}
 use Rattle.smil_live.proofs.viewer.Viewer.pass_through.Goals as goal
-
-fits : (a : ℕ) (z : ℤ) → pos a ≤ℤ z → z ≤ℤ HORIZON → FitsSigned w64 z
-fits a (pos k) from within = record { sfits = omega (arith, ints, from, within) }
-fits a (negsuc k) from within = absurd (omega (arith, ints, from))
 
 not_above : (x y z : ℤ) → x ≤ℤ y → y ≤ℤ z → x ≤ℤ z
 not_above x y z p q = omega (arith, ints, p, q)
