@@ -49,7 +49,7 @@ abbrev pub IsTooFull : Presentation → Refusal → Type 0
 IsTooFull p given =
     (given ≡ refusal.Memory) ⊎ ((given ≡ refusal.DiaryFull) × (diary_of (course_of p) ≡ None))
 
--- what comes first in a standing, comes at this moment
+-- what comes first in a standing comes at this moment
 pub record IsFirstDue (s : Standing) (due : ℤ) : Type 0 where
   pub coming : Coming
   pub first : first_at s ≡ Some coming

@@ -17,6 +17,7 @@ ghost use Rattle.smil_live.specs.Moves.{IsReplayed, IsTooFull, IsUnderWay, edite
 use smil_cells::{Cells, Table};
 use smil_diary::Book;
 use smil_model::{Doc, Duplicate, LOG_ENTRIES, LogEntry, Refusal, StepKind, Steps};
+use smil_past::GraphedTree;
 use std::alloc::Global;
 use std::sync::ledger::Ledger;
 
@@ -87,27 +88,28 @@ pub fn cells_at<T: Table, L: Ledger>(
 /// diary would have too many entries, `Memory` where memory runs out.
 pub fn cells_with<T: Table, L: Ledger>(
     cells: &Cells<T>,
-    doc: &Doc,
+    graphed: GraphedTree,
     len: usize,
     steps: &mut Steps<L>,
 ) -> Result<Cells<T>, Refusal>
-    requires state { IsState (edited_to cells.now.presentation doc.now) }
-    requires rebuild { MayRebuild cells.now doc.now len }
-    requires way { (rebuilt : Standing) → IsRebuilt cells.now doc.now len rebuilt
-        → IsUnderWay (edited_to cells.now.presentation doc.now) (length rebuilt.presentation.log)
-        rebuilt }
-    ensures ok { IfOk result (IsReplayed (edited_to cells.now.presentation doc.now)) }
-    ensures refused { IfErr result (IsTooFull (edited_to cells.now.presentation doc.now)) }
+    requires state { IsState (edited_to cells.now.presentation graphed.tree) }
+    requires rebuild { MayRebuild cells.now graphed.tree len }
+    requires graph { graphed.graph.nodes ≡ graphed.tree.nodes }
+    requires way { (rebuilt : Standing) → IsRebuilt cells.now graphed.tree len rebuilt
+        → IsUnderWay (edited_to cells.now.presentation graphed.tree)
+        (length rebuilt.presentation.log) rebuilt }
+    ensures ok { IfOk result (IsReplayed (edited_to cells.now.presentation graphed.tree)) }
+    ensures refused { IfErr result (IsTooFull (edited_to cells.now.presentation graphed.tree)) }
     ensures counted { steps.old ≤ steps.new }
     ensures most { OnOk result (WhereTold T.counts
-        (steps.new - steps.old ≤ length (elements doc.now.nodes) + reached_behind len
-        (edited_to cells.now.presentation doc.now))) }
+        (steps.new - steps.old ≤ length (elements graphed.tree.nodes) + reached_behind len
+        (edited_to cells.now.presentation graphed.tree))) }
 {
     let replay = Replay {
         log: cells.log().slice(),
         to: cells.moment(),
     };
-    let mut rebuilt = cells.rebuilt(doc, len, steps)?;
+    let mut rebuilt = cells.rebuilt_over(graphed, len, steps)?;
     replay_on(&mut rebuilt, replay, steps)?;
     Ok(rebuilt)
 }
