@@ -33,7 +33,7 @@ use smil_laws::firsts::first_is_of_element;
 use smil_laws::near::resolved_is_near;
 use smil_laws::stays::{log_may_be_longer, other_views_stay, time_passes_quietly};
 use smil_model::{Doc, Duplicate, Entry, Interval, Log, LogEntry, Serials, Steps};
-use smil_past::Past;
+use smil_past::{GraphedTree, Past};
 use smil_stretch::Clocks;
 use smil_tree::Tree;
 use std::alloc::{AllocError, Global};
@@ -292,12 +292,30 @@ impl<T: Table> Cells<T> {
         ensures most { WhereTold T.counts (steps.new - steps.old
             ≤ length (elements doc.now.nodes)) }
     {
+        let tree = Tree::of_doc(self.alloc, doc)?;
+        self.rebuilt_over(GraphedTree::of(self.alloc, tree)?, len, steps)
+    }
+
+    /// The cells of a document whose graph was made, with the first entries of this diary and what
+    /// they name of this log, unless memory runs out.
+    pub fn rebuilt_over<L: Ledger>(
+        &self,
+        graphed: GraphedTree,
+        len: usize,
+        steps: &mut Steps<L>,
+    ) -> Result<Self, AllocError>
+        requires rebuild { MayRebuild self.now graphed.tree len }
+        requires graph { graphed.graph.nodes ≡ graphed.tree.nodes }
+        ensures rebuilt { IfOk result (IsRebuilt self.now graphed.tree len) }
+        ensures counted { steps.old ≤ steps.new }
+        ensures most { WhereTold T.counts (steps.new - steps.old
+            ≤ length (elements graphed.tree.nodes)) }
+    {
         reached_is_past();
         resolved_is_near();
         self.past.possible();
-        let tree = Tree::of_doc(self.alloc, doc)?;
         let log = heard_log(self.alloc, self.past.log(), self.past.book(), len)?;
-        let past = Past::of(self.alloc, tree, log, &self.past.book().entries()[..len])?;
+        let past = Past::of(self.alloc, graphed, log, &self.past.book().entries()[..len])?;
         let moment = last_moment(&past);
         Cells::over(self.alloc, past, moment, steps)
     }

@@ -99,7 +99,7 @@ fn was_cut(played: &PlayFacts) -> bool
     }
 }
 
-// Whether the view minds what displaces an element.
+// Whether it shows in the view of an element that something displaces it.
 fn minds(fill: Fill, last: Option<(i64, i64)>) -> bool
     ensures { result ≡ minds fill last }
 {

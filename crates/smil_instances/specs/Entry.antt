@@ -10,8 +10,8 @@ use Rattle.smil_stretch.specs.Clocks.{AreClocksOf}
 use Rattle.smil_instances.specs.declared.arrival.Arrival.{Arrival}
 use Rattle.smil_instances.specs.Dependents.{AreDependentsOf}
 
--- the history before an entry, by what is at hand once it was appended: the document, the clocks
--- before it, the log, and the diary with it
+-- the history before an entry, by what a call is given after the entry was appended: the document,
+-- the clocks before the entry, the log, and the diary with it
 pub record IsEntryOf (h : History) (y : Entry) (document : Document) (clocks : List NodeClock)
     (log : List LogEntry) (diary : List Entry) : Type 0 where
   pub same_nodes : h.nodes ≡ document.nodes

@@ -35,7 +35,7 @@ use Rattle.smil_laws.proofs.Aside.{find_each}
 use Rattle.smil_tree.proofs.Spans.{all_known}
 use Rattle.smil_cells.specs.Standing.{Standing, with_logged}
 use Rattle.smil_cells.proofs.Heeded.{first_is_log}
-use Rattle.smil_live.specs.Moves.{IsHeardBy, IsNotHeard, IsReplayed, IsTooFull, entry_of, replay_of, sought_of, text_of}
+use Rattle.smil_live.specs.Moves.{IsHeardBy, IsNotHeard, IsReplayed, IsTooFull, entry_of, sought_of, text_of}
 use Rattle.smil_live.specs.Telling.{element_named}
 use Rattle.smil_live.proofs.Growth.{is_appended}
 
@@ -210,13 +210,6 @@ passing t (x ∷ xs) = by_test (t x) refl (passing t xs)
 natural : (to : ℤ) → is_clock to ≡ true → pos (nat_abs to) ≡ to
 natural (pos k) q = refl
 natural (negsuc k) q = cc
-
-pub replay_as_sought : (p : Presentation) (doc : Document) (log : List LogEntry) (len : ℕ) (to : ℤ) → is_clock to ≡ true → doc ≡ p.document → log ≡ p.log → take len log ≡ filter (λ (x : LogEntry). int_le x.moment to) log → replay_of doc log len to ≡ sought_of p to
-replay_as_sought p doc log len to clock same logs first =
-    ap (λ (d : Document). record { document = d; log = take len log; now = nat_abs to }) same
-    ∙ ap (λ (l : List LogEntry). record { document = p.document; log = l; now = nat_abs to })
-    (first ∙ ap (λ (l : List LogEntry). filter (λ (x : LogEntry). int_le x.moment to) l) logs
-    ∙ ap (λ (m : ℤ). filter (λ (x : LogEntry). int_le x.moment m) p.log) (sym (natural to clock)))
 
 pub sought_state : (p : Presentation) (log : List LogEntry) (len : ℕ) (to : ℤ) → IsState p → is_clock to ≡ true → log ≡ p.log → take len log ≡ filter (λ (x : LogEntry). int_le x.moment to) log → IsState (sought_of p to)
 sought_state p log len to state clock logs first =

@@ -56,7 +56,7 @@ pub record HasDiary (p : Presentation) (d : List Entry) : Type 0 where
 later : (a b : ℕ) (x : ℤ) → a ≤ b → int_le x (pos a) ≡ true → int_le x (pos b) ≡ true
 later a b x l q = grind (arith, ints)
 
--- a log that no entry is later in than a moment is so at each later moment
+-- a log in which no entry is later than a moment has none later than a later moment
 pub logged_later : (a b : ℕ) (log : List LogEntry) → a ≤ b → is_logged_by (pos a) log ≡ true → is_logged_by (pos b) log ≡ true
 logged_later a b [] l q = q
 logged_later a b (x ∷ xs) l q =

@@ -1,15 +1,34 @@
 -- The entries of a diary up to a moment, which are its first ones.
-use Rattle.std.proofs.Common.{◌≡◌, sym, ◌∙◌, ap, subst, ℕ, suc, zero, ◌<◌, ◌-◌, List, [], ◌∷◌, ◌++◌, Some, ℤ, Bool, true, false, arith, take}
-use Rattle.std.specs.Prelude.{cond, pos, int_le, slice_get, ◌&&◌}
+use Rattle.std.proofs.Common.{◌≡◌, sym, ◌∙◌, ap, ℕ, suc, zero, ◌<◌, ◌≤◌, List, [], ◌∷◌, Bool, true, false, ℤ, arith, length, take}
+use Rattle.std.specs.Prelude.{cond, filter, int_le, slice_index_or, ◌&&◌}
+use Rattle.std.specs.List.Sorted.{IsPartitionPoint, IsPartitionedBy}
 use Rattle.std.proofs.lemmas.Bool.{and_parts}
-use Rattle.std.proofs.lemmas.List.{append-nil}
-use Rattle.std.proofs.lemmas.List.Elements.{filter-append}
 use Rattle.smil_model.specs.declared.diary.Entry.{Entry}
 use Rattle.smil_model.specs.declared.times.TheConstants.{HORIZON}
-use Rattle.smil_model.specs.diary.Clocks.{until}
 use Rattle.smil_model.specs.diary.Lawful.{is_rising_from}
 use Rattle.smil_model.proofs.Orders.{le_both}
-use Rattle.smil_laws.proofs.Lists.{take-suc_at}
+
+-- ---- what a binary search parts
+
+none_pass : {X : Type 0} (p : X → Bool) (xs : List X) → ((k : ℕ) (d : X) → 0 ≤ k → k < length xs → p (slice_index_or xs k d) ≡ false) → filter p xs ≡ []
+none_pass p [] none = refl
+none_pass p (x ∷ xs) none =
+    ap (λ t. cond t (x ∷ filter p xs) (filter p xs)) (none 0 x (omega arith) (omega arith))
+    ∙ none_pass p xs (λ k d low high. none (suc k) d (omega arith) (omega (arith, high)))
+
+-- the elements before the place are those that pass
+pub front_passes : {X : Type 0} (p : X → Bool) (xs : List X) (i : ℕ) → IsPartitionPoint (λ y. p y ≡ true) (λ y. p y ≡ false) xs i → i ≤ length xs → take i xs ≡ filter p xs
+front_passes p [] i parts within = let none : i ≡ 0 = omega (arith, within) in ap (λ n. take n []) none
+front_passes p (x ∷ xs) zero parts within = sym (none_pass p (x ∷ xs) parts.1)
+front_passes p (x ∷ xs) (suc i) parts within =
+    let first : p x ≡ true = parts.0 0 x (omega arith) (omega arith) in
+    ap (λ ys. x ∷ ys) (front_passes p xs i (
+      (λ k d low high. parts.0 (suc k) d (omega arith) (omega (arith, high))),
+      (λ k d low high. parts.1 (suc k) d (omega (arith, low)) (omega (arith, high))),
+    ) (omega (arith, within)))
+    ∙ sym (ap (λ t. cond t (x ∷ filter p xs) (filter p xs)) first)
+
+-- ---- moments that do not fall
 
 -- what rises, entry by entry
 record Rises (from : ℤ) (x : Entry) (xs : List Entry) : Type 0 where
@@ -21,47 +40,19 @@ rises from x xs q =
     let parts = and_parts (int_le from x.moment && int_le x.moment HORIZON) (is_rising_from x.moment xs) q in
     record { here = (and_parts (int_le from x.moment) (int_le x.moment HORIZON) parts.0).0; rest = parts.1 }
 
-first_low : (from : ℤ) (xs : List Entry) (k : ℕ) (x : Entry) → is_rising_from from xs ≡ true → slice_get xs k ≡ Some x → int_le from x.moment ≡ true
-first_low from [] k x q e = cc
-first_low from (y ∷ ys) zero x q e = let one : y ≡ x = cc in rw (← one) (rises from y ys q).here
-first_low from (y ∷ ys) (suc k) x q e =
-    let r = rises from y ys q in
-    le_both from y.moment x.moment r.here (first_low y.moment ys k x r.rest e)
+first_low : (from : ℤ) (xs : List Entry) (k : ℕ) (d : Entry) → is_rising_from from xs ≡ true → k < length xs → int_le from (slice_index_or xs k d).moment ≡ true
+first_low from [] k d q l = absurd (omega (arith, l))
+first_low from (x ∷ xs) zero d q l = (rises from x xs q).here
+first_low from (x ∷ xs) (suc k) d q l =
+    let r = rises from x xs q in
+    le_both from x.moment (slice_index_or xs k d).moment r.here (first_low x.moment xs k d r.rest (omega (arith, l)))
 
--- where the last of the first entries is not later, none of them is
-pub first_until : (m from : ℤ) (xs : List Entry) (k : ℕ) (x : Entry) → is_rising_from from xs ≡ true → slice_get xs k ≡ Some x → int_le x.moment m ≡ true → until m (take (suc k) xs) ≡ take (suc k) xs
-first_until m from [] k x q e low = cc
-first_until m from (y ∷ ys) zero x q e low =
-    let one : y ≡ x = cc in
-    let here : int_le y.moment m ≡ true = ap (λ (z : Entry). int_le z.moment m) one ∙ low in
-    ap (λ (t : Bool). cond t (y ∷ []) []) here
-first_until m from (y ∷ ys) (suc k) x q e low =
-    let r = rises from y ys q in
-    let here : int_le y.moment m ≡ true = le_both y.moment x.moment m (first_low y.moment ys k x r.rest e) low in
-    ap (λ (t : Bool). cond t (y ∷ until m (take (suc k) ys)) (until m (take (suc k) ys))) here
-    ∙ ap (λ (l : List Entry). y ∷ l) (first_until m y.moment ys k x r.rest e low)
-
--- an entry that is later is none of those up to the moment
-pub until_shorter : (m : ℤ) (xs : List Entry) (k : ℕ) (x : Entry) → slice_get xs k ≡ Some x → int_le x.moment m ≡ false → until m (take (suc k) xs) ≡ until m (take k xs)
-until_shorter m xs k x e late =
-    ap (until m) (take-suc_at xs k x e)
-    ∙ (filter-append (λ (y : Entry). int_le y.moment m) (take k xs) (x ∷ [])
-    ∙ (ap (λ (t : Bool). until m (take k xs) ++ cond t (x ∷ []) []) late ∙ append-nil (until m (take k xs))))
-
--- ---- from the last entry on
-
--- the first entries of which the last is not later are those up to the moment
-pub until_found : (m : ℤ) (xs : List Entry) (len : ℕ) (x : Entry) → is_rising_from (pos 0) xs ≡ true → 0 < len → slice_get xs (len - 1) ≡ Some x → int_le x.moment m ≡ true → until m (take len xs) ≡ until m xs → take len xs ≡ until m xs
-until_found m xs len x rise some here low so_far =
-    subst (λ (n : ℕ). until m (take n xs) ≡ take n xs → until m (take n xs) ≡ until m xs → take n xs ≡ until m xs) (one_more len some)
-    (λ a b. sym a ∙ b) (subst (λ (n : ℕ). until m (take n xs) ≡ take n xs) (one_more len some) (first_until m (pos 0) xs (len - 1) x rise here low)) so_far
-  where
-    one_more : (n : ℕ) → 0 < n → suc (n - 1) ≡ n
-    one_more n l = omega (arith, l)
-
-pub until_passed : (m : ℤ) (xs : List Entry) (len : ℕ) (x : Entry) → 0 < len → slice_get xs (len - 1) ≡ Some x → int_le x.moment m ≡ false → until m (take len xs) ≡ until m xs → until m (take (len - 1) xs) ≡ until m xs
-until_passed m xs len x some here late so_far =
-    sym (until_shorter m xs (len - 1) x here late) ∙ (ap (λ (n : ℕ). until m (take n xs)) (one_more len some) ∙ so_far)
-  where
-    one_more : (n : ℕ) → 0 < n → suc (n - 1) ≡ n
-    one_more n l = omega (arith, l)
+-- a moment parts the entries that are not later from those that are
+pub parted : (m from : ℤ) (xs : List Entry) → is_rising_from from xs ≡ true → IsPartitionedBy (λ (x : Entry). int_le x.moment m) xs
+parted m from [] q i j d low high holds = absurd (omega (arith, high))
+parted m from (x ∷ xs) q zero zero d low high holds = holds
+parted m from (x ∷ xs) q zero (suc j) d low high holds =
+    le_both x.moment (slice_index_or xs j d).moment m (first_low x.moment xs j d (rises from x xs q).rest (omega (arith, high))) holds
+parted m from (x ∷ xs) q (suc i) zero d low high holds = absurd (omega (arith, low))
+parted m from (x ∷ xs) q (suc i) (suc j) d low high holds =
+    parted m x.moment xs (rises from x xs q).rest i j d (omega (arith, low)) (omega (arith, high)) holds

@@ -1,7 +1,6 @@
 -- Cells that are rebuilt from a part of the diary, and what they go on from there.
 use Rattle.std.proofs.Common.{◌≡◌, refl, sym, ◌∙◌, ap, subst, ℕ, suc, zero, ◌≤◌, List, [], ◌∷◌, None, ℤ, true, arith, length, take, drop, w64, to_z, of_z, FitsSigned}
 use Rattle.std.specs.Prelude.{pos, int_le, nat_abs}
-use Rattle.std.proofs.Math.Seq.{take-length}
 use Rattle.std.proofs.lemmas.Int.{ints, to_z-of_z}
 use Rattle.smil_model.specs.declared.diary.Entry.{Entry}
 use Rattle.smil_model.specs.declared.diary.LogEntry.{LogEntry}
@@ -80,11 +79,10 @@ module _ (s t : Standing) (d : Document) (len : ℕ) (bound : ℕ) (rebuilt : Is
 
 -- ---- the same log, heard anew
 
-pub replay_is : (p : Presentation) (doc d : Document) (log : List LogEntry) (len : ℕ) (to : ℤ) → doc ≡ d → log ≡ p.log → len ≡ length log → to ≡ pos p.now → replay_of doc log len to ≡ edited_to p d
-replay_is p doc d log len to same logs lens moment =
-    let whole : take len log ≡ p.log = ap (λ n. take n log) lens ∙ take-length log ∙ logs in
-    ap (λ (e : Document). replay_of e log len to) same
-    ∙ ap (λ (l : List LogEntry). record { document = d; log = l; now = nat_abs to }) whole
+pub replay_is : (p : Presentation) (doc d : Document) (log : List LogEntry) (to : ℤ) → doc ≡ d → log ≡ p.log → to ≡ pos p.now → replay_of doc log to ≡ edited_to p d
+replay_is p doc d log to same logs moment =
+    ap (λ (e : Document). replay_of e log to) same
+    ∙ ap (λ (l : List LogEntry). record { document = d; log = l; now = nat_abs to }) logs
     ∙ ap (λ (t : ℤ). record { document = d; log = p.log; now = nat_abs t }) moment
 
 -- a moment of a state is kept as it is in 64 bits
@@ -93,11 +91,11 @@ moment_kept p m state is =
     to_z-of_z w64 m (subst (λ (z : ℤ). FitsSigned w64 z) (sym is) (fits 0 (pos p.now) (omega (arith, ints)) (le_from (pos p.now) HORIZON state.now))) ∙ is
 
 -- new cells of a document are under way
-pub new_way : (d : Document) (log : List LogEntry) (len : ℕ) (to : ℤ) (s : Standing) → IsState (replay_of d log len to) → s.presentation ≡ record { document = d; log = []; now = 0 } → s.fault ≡ None → s.marked ≡ None
-    → IsUnderWay (replay_of s.presentation.document log len to) (length s.presentation.log) s
-new_way d log len to s state is sound unmarked =
-    subst (λ (e : Document). IsUnderWay (replay_of e log len to) (length s.presentation.log) s) (sym (ap (λ (p : Presentation). p.document) is))
-    (subst (λ (n : ℕ). IsUnderWay (replay_of d log len to) n s) (sym (ap (λ (p : Presentation). length p.log) is)) (under_way (replay_of d log len to) state s is sound unmarked))
+pub new_way : (d : Document) (log : List LogEntry) (to : ℤ) (s : Standing) → IsState (replay_of d log to) → s.presentation ≡ record { document = d; log = []; now = 0 } → s.fault ≡ None → s.marked ≡ None
+    → IsUnderWay (replay_of s.presentation.document log to) (length s.presentation.log) s
+new_way d log to s state is sound unmarked =
+    subst (λ (e : Document). IsUnderWay (replay_of e log to) (length s.presentation.log) s) (sym (ap (λ (p : Presentation). p.document) is))
+    (subst (λ (n : ℕ). IsUnderWay (replay_of d log to) n s) (sym (ap (λ (p : Presentation). length p.log) is)) (under_way (replay_of d log to) state s is sound unmarked))
 
-pub made_of : (d : Document) (log : List LogEntry) (len : ℕ) (to : ℤ) (s t : Standing) → s.presentation ≡ record { document = d; log = []; now = 0 } → IsReplayed (replay_of s.presentation.document log len to) t → IsReplayed (replay_of d log len to) t
-made_of d log len to s t is replayed = subst (λ (e : Document). IsReplayed (replay_of e log len to) t) (ap (λ (p : Presentation). p.document) is) replayed
+pub made_of : (d : Document) (log : List LogEntry) (to : ℤ) (s t : Standing) → s.presentation ≡ record { document = d; log = []; now = 0 } → IsReplayed (replay_of s.presentation.document log to) t → IsReplayed (replay_of d log to) t
+made_of d log to s t is replayed = subst (λ (e : Document). IsReplayed (replay_of e log to) t) (ap (λ (p : Presentation). p.document) is) replayed

@@ -1,6 +1,7 @@
 -- How often cells that are rebuilt, or made anew, have intervals evaluated.
 use Rattle.std.proofs.Common.{◌≡◌, refl, sym, ◌∙◌, ap, subst, ℕ, suc, zero, ◌≤◌, ◌+◌, ◌-◌, List, [], ◌∷◌, ◌++◌, Option, Some, None, Bool, true, false, arith, length, drop}
 use Rattle.std.specs.Prelude.{cond, filter, is_some, not, pos, ◌&&◌}
+use Rattle.std.proofs.Math.Seq.{drop-length}
 use Rattle.std.proofs.lemmas.List.Sums.{sum_by-cons}
 use Rattle.std.proofs.Math.Seq.{drop-length}
 use Rattle.smil_model.specs.declared.diary.Entry.{Entry}

@@ -2,6 +2,7 @@
 use Rattle.std.proofs.Common.{◌≡◌, refl, sym, ◌∙◌, ap, subst, ℕ, ◌-◌, ◌≤◌, List, [], ◌++◌, Some, None, ℤ, negsuc, Bool, true, false, arith, length, take, drop, append-nil}
 use Rattle.std.specs.Prelude.{filter, pos, int_le, nat_abs, ◌⊎◌, ◌≤ℤ◌}
 use Rattle.std.specs.List.{list_all}
+use Rattle.std.proofs.Math.Seq.{drop-length}
 use Rattle.std.proofs.lemmas.Bool.{and_parts}
 use Rattle.std.proofs.lemmas.Int.{ints}
 use Rattle.std.proofs.Math.Seq.{drop-length}

@@ -1,9 +1,10 @@
 -- Presentations made anew, entry by entry of a log.
 use Rattle.std.proofs.Common.{◌≡◌, refl, sym, ◌∙◌, ap, subst, ℕ, suc, ◌≤◌, ◌+◌, List, [], ◌∷◌, ◌++◌, Some, None, true, ℤ, arith, inl, inr, length, take, drop, negsuc, w64, FitsSigned}
-use Rattle.std.specs.Prelude.{◌⊎◌, pos, int_le, nat_abs, slice_get, ◌≤ℤ◌}
+use Rattle.std.specs.Prelude.{◌⊎◌, min, pos, int_le, nat_abs, slice_get, ◌≤ℤ◌}
 use Rattle.std.specs.List.{list_all}
 use Rattle.std.proofs.lemmas.Bool.{and_parts}
 use Rattle.std.proofs.lemmas.Int.{ints}
+use Rattle.std.proofs.lemmas.List.{length-take, take_all}
 use Rattle.smil_model.specs.declared.diary.LogEntry.{LogEntry}
 use Rattle.smil_model.specs.declared.order.Refusal.{Refusal}
 use Rattle.smil_model.specs.declared.times.TheConstants.{HORIZON}
@@ -21,7 +22,7 @@ use Rattle.smil_laws.proofs.Further.{le_same}
 use Rattle.smil_cells.specs.Standing.{GoesOn, IsSettled, Standing, with_logged}
 use Rattle.smil_live.specs.Moves.{IsReplayed, IsTooFull, IsUnderWay, heard_at}
 use Rattle.smil_live.proofs.Full.{full_further, full_by_first}
-use Rattle.smil_live.proofs.Logs.{IsAt, at, all_at, none_before, take_whole}
+use Rattle.smil_live.proofs.Logs.{IsAt, at, all_at, none_before}
 
 -- ---- numbers
 
@@ -68,6 +69,12 @@ pub record IsNextOf (p : Presentation) (place : ℕ) (s : Standing) (x : LogEntr
   pub natural : pos (nat_abs x.moment) ≡ x.moment
   pub until : nat_abs x.moment ≤ p.now
   pub here : IsAt (pos s.presentation.now) p.log place x
+
+-- no more was heard than there is
+pub heard_within : (p : Presentation) (place : ℕ) (s : Standing) → IsUnderWay p place s → length s.presentation.log ≤ length p.log
+heard_within p place s way =
+    let same : length s.presentation.log ≡ min place (length p.log) = ap (λ (l : List LogEntry). length l) way.log_is ∙ length-take place p.log in
+    omega (arith, same)
 
 module _ (p : Presentation) (state : IsState p) where
   rising : moments_rise (pos 0) p.log ≡ true
@@ -147,7 +154,7 @@ module _ (p : Presentation) (state : IsState p) where
 
   module _ (place : ℕ) (s : Standing) (way : IsUnderWay p place s) (past : length p.log ≤ place) where
     pub at_end : as_of s.presentation p.now ≡ p
-    at_end = made s.presentation p way.document_is (way.log_is ∙ take_whole place p.log past)
+    at_end = made s.presentation p way.document_is (way.log_is ∙ take_all place p.log past)
       where
         by_parts : (d e : Document) (l m : List LogEntry) (n : ℕ) → d ≡ e → l ≡ m → as_of (record { document = d; log = l; now = n }) n ≡ record { document = e; log = m; now = n }
         by_parts d e l m n p q = cc

@@ -3,7 +3,7 @@ use Rattle.std.proofs.Common.{◌≡◌, refl, sym, ◌∙◌, ap, ℕ, suc, zer
 use Rattle.std.specs.Prelude.{cond, pos, int_le, find, map, not, ◌==◌, ◌≤ℤ◌, ◌+ℤ◌, unwrap_or}
 use Rattle.std.specs.List.{AllByRecursion, list_any}
 use Rattle.std.proofs.lemmas.Int.{ints}
-use Rattle.std.proofs.lemmas.Bool.{eq-eqb, eqb-true, or_parts, and_from}
+use Rattle.std.proofs.lemmas.Bool.{eq-eqb, or_parts, and_from}
 use Rattle.smil_model.specs.declared.diary.Entry.{Entry}
 use Rattle.smil_model.specs.declared.document.Node.{Node}
 use Rattle.smil_model.specs.declared.view.View.{View}
@@ -16,6 +16,7 @@ use Rattle.smil_model.specs.interval.Current.{current_table, in_table}
 use Rattle.smil_model.specs.shown.Orders.{Presentation, as_of, views_of, view_eq, state_code, shown_eq, view_before, changed, at_moment, changes_through, changes_between, resolved_history}
 use Rattle.smil_model.specs.shown.Views.{views, view_of, blank}
 use Rattle.smil_model.proofs.Orders.{le_self}
+use Rattle.smil_laws.proofs.Lineages.{swap_eqb}
 use Rattle.smil_live.proofs.Quiet.{HasDiary, IsQuiet, views_stay}
 
 -- ---- one advance after another
@@ -102,15 +103,8 @@ module _ (h : History) (now : ℤ) where
   no_other s [] q = tt
   no_other s (n ∷ ns) q = by_element (is_element n) (no_other s ns (or_parts (n.serial == s) (list_any (λ (m : Node). m.serial == s) ns) q).1)
     where
-      other : (a b : ℕ) → a == b ≡ false → b == a ≡ false
-      other a b r = by_test (b == a) refl
-        where
-          by_test : (t : Bool) → b == a ≡ t → t ≡ false
-          by_test true e = sym (eq-eqb a b (sym (eqb-true b a e))) ∙ r
-          by_test false e = refl
-
       by_element : (t : Bool) → AllByRecursion (λ (w : View). s == w.serial ≡ false) (map of_node (elements ns)) → AllByRecursion (λ (w : View). s == w.serial ≡ false) (map of_node (cond t (n ∷ elements ns) (elements ns)))
-      by_element true rest = (other n.serial s (or_parts (n.serial == s) (list_any (λ (m : Node). m.serial == s) ns) q).0, rest)
+      by_element true rest = (swap_eqb n.serial s (or_parts (n.serial == s) (list_any (λ (m : Node). m.serial == s) ns) q).0, rest)
       by_element false rest = rest
 
   of_each : (ns : List Node) → IsDistinct ns → AreOfEach (map of_node (elements ns))

@@ -15,12 +15,12 @@ IsAtMost counts before given rise = WhereTold counts (rise ≤ most_number befor
 abbrev pub IsAtLeast : Bool → Presentation → Order → ℕ → Type 0
 IsAtLeast counts before given rise = WhereTold counts (least_number before given ≤ rise)
 
--- never, where it was refused for another cause than a full diary or out of memory
+-- never, where it was refused for another cause than a full diary or a lack of memory
 abbrev pub IsFree : Bool → Presentation → Order → Refusal → ℕ → Type 0
 IsFree counts before given refusal rise =
     MayEvaluate (told_where counts (most_number before given)) refusal rise
 
--- by what came of it
+-- the bounds that hold of an order, by its answer
 pub record KeepsToCounts (counts : Bool) (before : Presentation) (given : Order)
     (answer : Result (Unit {0}) Refusal) (rise : ℕ) : Type 0 where
   pub most : OnOk answer (IsAtMost counts before given rise)

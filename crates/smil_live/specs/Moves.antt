@@ -57,9 +57,9 @@ pub record IsFirstDue (s : Standing) (due : ℤ) : Type 0 where
 
 -- ---- made anew
 
--- a document with the first entries of a log, at a moment
-abbrev pub replay_of : Document → List LogEntry → ℕ → ℤ → Presentation
-replay_of document log len to = record { document = document; log = take len log; now = nat_abs to }
+-- a document with a log, at a moment
+abbrev pub replay_of : Document → List LogEntry → ℤ → Presentation
+replay_of document log to = record { document = document; log = log; now = nat_abs to }
 
 -- a presentation that has come to the moment of an entry, and has heard it
 abbrev pub heard_at : Presentation → LogEntry → Presentation
@@ -73,8 +73,8 @@ sought_of p to = record {
   now = nat_abs to;
 }
 
--- cells that are under way to a presentation: they stand at the entries before a place of its log,
--- and none of the others is before their moment
+-- cells that are under way to a presentation: they have heard the entries before a place of its
+-- log, and none of the others is before their moment
 pub record IsUnderWay (p : Presentation) (place : ℕ) (s : Standing) : Type 0 where
   pub document_is : s.presentation.document ≡ p.document
   pub log_is : s.presentation.log ≡ take place p.log
@@ -94,7 +94,7 @@ pub record IsReplayed (p : Presentation) (s : Standing) : Type 0 where
 abbrev pub edited_to : Presentation → Document → Presentation
 edited_to p document = record { document = document; log = p.log; now = p.now }
 
--- ---- what calls come to
+-- ---- what calls give
 
 -- settled cells of a presentation, with the views that they give
 pub record IsShownAt (p : Presentation) (s : Standing) (shown : Shown) : Type 0 where

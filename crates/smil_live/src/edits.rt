@@ -22,9 +22,9 @@ use super::playing::Playing;
 use super::replay::{cells_with, diary_through};
 use smil_cells::{Cells, Table};
 use smil_diary::Book;
-use smil_graph::Graph;
 use smil_instances::parent_of;
 use smil_model::{Bytes, Doc, Refusal, Steps, Who};
+use smil_past::GraphedTree;
 use smil_revision::{
     Child, GraphedDocument, LineText, Revision, Setting, keeps_references, with_child, with_value,
     without_name, without_node,
@@ -70,7 +70,7 @@ impl<T: Table> Playing<T> {
     {
         let edited = self.set_copy(who, setting)?;
         let site = self.site(who);
-        self.take_edited(&edited, site, out, steps)
+        self.take_edited(edited, site, out, steps)
     }
 
     /// Takes an attribute of a node away. The refusals are those of the node, of the name, and that
@@ -98,7 +98,7 @@ impl<T: Table> Playing<T> {
     {
         let edited = self.unset_copy(who, attr)?;
         let site = self.site(who);
-        self.take_edited(&edited, site, out, steps)
+        self.take_edited(edited, site, out, steps)
     }
 
     /// Inserts a node into another at a place. The refusals are those of the parent, of the line's
@@ -126,7 +126,7 @@ impl<T: Table> Playing<T> {
             child.entry.line.text.now child.entry.line.column) result (steps.new - steps.old) }
     {
         let edited = self.insert_copy(who, child)?;
-        self.take_edited(&edited, Site::New, out, steps)
+        self.take_edited(edited, Site::New, out, steps)
     }
 
     /// Removes a node with all below it. The refusals are those of the node, `Root`, and that of a
@@ -150,7 +150,7 @@ impl<T: Table> Playing<T> {
     {
         let edited = self.remove_copy(who)?;
         let site = self.site(who);
-        self.take_edited(&edited, site, out, steps)
+        self.take_edited(edited, site, out, steps)
     }
 
     // The document with an attribute of a node set.
@@ -212,8 +212,8 @@ impl<T: Table> Playing<T> {
         without_node(tree, serial)
     }
 
-    // The node that an order names, as the site of an edit; 0, which is no node's serial, where
-    // there is none.
+    // The site of an edit of the node that an order names: its serial, or 0, which is no node's,
+    // where there is none.
     fn site(&self, who: &Who) -> Site
         ensures { result ≡ Site.Old (serial_or_0 (node_of self.now.document.nodes who.now)) }
     {
@@ -227,26 +227,26 @@ impl<T: Table> Playing<T> {
     // what is gone and what has changed, and goes on with it.
     fn take_edited<L: Ledger>(
         &mut self,
-        edited: &Tree,
+        edited: Tree,
         site: Site,
         out: &mut Bytes,
         steps: &mut Steps<L>,
     ) -> Result<(), Refusal>
-        requires { IsMade self.old.document site edited.now }
-        ensures ok { OnOk result (IsEdited self.old edited.now self.new out.old out.new) }
-        ensures refused { IfErr result (IsTooFull (edited_to self.old edited.now)) }
+        requires { IsMade self.old.document site edited }
+        ensures ok { OnOk result (IsEdited self.old edited self.new out.old out.new) }
+        ensures refused { IfErr result (IsTooFull (edited_to self.old edited)) }
         ensures kept { OnErr result (self.new ≡ self.old) }
         ensures text { OnErr result (out.new ≡ out.old) }
         ensures counted { steps.old ≤ steps.new }
         ensures most { OnOk result (WhereTold T.counts
-            (steps.new - steps.old ≤ most_resolving self.old site edited.now)) }
+            (steps.new - steps.old ≤ most_resolving self.old site edited)) }
     {
         let mut cells = self.edited_cells(edited, site, steps)?;
         self.take_over(&mut cells, out)
     }
 
-    // Tells what is gone by other cells and what has changed, and goes on with those, which the old
-    // cells stand for then; unless memory runs out.
+    // Tells which elements other cells have no longer and which views differ by them, and puts them
+    // in the place of its own, which `cells` holds then. Where memory runs out all is as before.
     pub(crate) fn take_over(&mut self, cells: &mut Cells<T>, out: &mut Bytes) -> Result<(), Refusal>
         requires state { IsState cells.old.presentation }
         requires replayed { IsReplayed cells.old.presentation cells.old }
@@ -272,55 +272,62 @@ impl<T: Table> Playing<T> {
     // stays.
     fn edited_cells<L: Ledger>(
         &self,
-        edited: &Tree,
+        edited: Tree,
         site: Site,
         steps: &mut Steps<L>,
     ) -> Result<Cells<T>, Refusal>
-        requires { IsMade self.now.document site edited.now }
-        ensures state { OnOk result (IsState (edited_to self.now edited.now)) }
-        ensures ok { IfOk result (IsReplayed (edited_to self.now edited.now)) }
-        ensures refused { IfErr result (IsTooFull (edited_to self.now edited.now)) }
+        requires { IsMade self.now.document site edited }
+        ensures state { OnOk result (IsState (edited_to self.now edited)) }
+        ensures ok { IfOk result (IsReplayed (edited_to self.now edited)) }
+        ensures refused { IfErr result (IsTooFull (edited_to self.now edited)) }
         ensures counted { steps.old ≤ steps.new }
         ensures most { OnOk result (WhereTold T.counts
-            (steps.new - steps.old ≤ most_resolving self.now site edited.now)) }
+            (steps.new - steps.old ≤ most_resolving self.now site edited)) }
     {
         edited.valid();
         let doc = edited.doc_copy()?;
-        let len = self.staying(edited, &doc, site)?;
-        cells_with(&self.viewer.cells, &doc, len, steps)
+        let graphed = GraphedTree::of(self.alloc, edited)?;
+        let len = self.staying(&graphed, &doc, site)?;
+        cells_with(&self.viewer.cells, graphed, len, steps)
     }
 
-    // How many entries of the diary stay by an edit, unless memory runs out: those through the
-    // first begin of the time parent of the edited node, where the edit leaves the references as
-    // they were.
-    fn staying(&self, edited: &Tree, doc: &Doc, site: Site) -> Result<usize, AllocError>
-        requires made { IsMade self.now.document site edited.now }
-        requires doc { doc.now ≡ edited.now }
-        ensures { IfOk result (λ len. len ≡ staying self.now edited.now site) }
+    // How many entries of the diary stay by an edit, unless memory runs out: those up to the first
+    // begin of the time parent of the edited node, with that, where the edit leaves the references
+    // as they were.
+    fn staying(&self, graphed: &GraphedTree, doc: &Doc, site: Site) -> Result<usize, AllocError>
+        requires made { IsMade self.now.document site graphed.now.tree }
+        requires doc { doc.now ≡ graphed.now.tree }
+        requires graph { graphed.now.graph.nodes ≡ graphed.now.tree.nodes }
+        ensures { IfOk result (λ len. len ≡ staying self.now graphed.now.tree site) }
     {
-        let (serial, parent) = edited_node(self.viewer.cells.tree(), edited, doc, site);
-        let keeps = self.keeps_references(serial, edited, doc)?;
+        let (serial, parent) = edited_node(self.viewer.cells.tree(), &graphed.tree, doc, site);
+        let keeps = self.keeps_references(serial, graphed, doc)?;
         Ok(entries_staying(self.viewer.cells.book(), keeps, parent))
     }
 
     // Whether an edit of a node leaves the references as they were, unless memory runs out.
-    fn keeps_references(&self, serial: u32, edited: &Tree, doc: &Doc) -> Result<bool, AllocError>
-        requires { doc.now ≡ edited.now }
+    fn keeps_references(
+        &self,
+        serial: u32,
+        graphed: &GraphedTree,
+        doc: &Doc,
+    ) -> Result<bool, AllocError>
+        requires doc { doc.now ≡ graphed.now.tree }
+        requires graph { graphed.now.graph.nodes ≡ graphed.now.tree.nodes }
         ensures { IfOk result (λ keeps. keeps
-            ≡ keeps_references serial self.now.document.nodes edited.now.nodes) }
+            ≡ keeps_references serial self.now.document.nodes graphed.now.tree.nodes) }
     {
         let tree = self.viewer.cells.tree();
         let before = tree.doc_copy()?;
-        let graph = Graph::of(self.alloc, edited)?;
         let old = GraphedDocument {
             tree,
             nodes: before.nodes(),
             graph: self.viewer.cells.past().graph(),
         };
         let new = GraphedDocument {
-            tree: edited,
+            tree: &graphed.tree,
             nodes: doc.nodes(),
-            graph: &graph,
+            graph: &graphed.graph,
         };
         let revision = Revision {
             edited: serial,
@@ -373,8 +380,9 @@ fn edited_node(tree: &Tree, edited: &Tree, doc: &Doc, site: Site) -> (u32, Optio
     }
 }
 
-// How many entries of a diary stay by an edit: those through the first begin of the time parent of
-// the edited node, if it has one and the edit leaves the references as they were.
+// How many entries of a diary stay by an edit: those up to the first begin of the time parent of
+// the edited node, with that, if it has one and the edit leaves the references as they were; else
+// none.
 fn entries_staying(book: &Book, keeps: bool, parent: Option<u32>) -> usize
     ensures { (node : Option AnyNode) → serial_of node ≡ parent
         → result ≡ agreed_under keeps node book.now }

@@ -33,8 +33,9 @@ pub enum Move {
 }
 
 impl<T: Table> Playing<T> {
-    /// The clock moves on by so many milliseconds. `BeyondHorizon` where it would pass 10^12, then
-    /// `DiaryFull`.
+    /// Moves on by so many milliseconds of document time, and tells the changes of each moment on
+    /// the way. `BeyondHorizon` where the new moment would be above 10^12, then `DiaryFull` where
+    /// the diary would have too many entries, or `Memory`.
     pub fn advance<L: Ledger>(
         &mut self,
         by: i64,
@@ -61,8 +62,9 @@ impl<T: Table> Playing<T> {
         Ok(())
     }
 
-    /// Moves to a moment. Backward, the log entries that are later are removed. `DiaryFull` where
-    /// the diary would have too many entries.
+    /// Moves to a moment, in milliseconds of document time, and tells what is different there.
+    /// Backward, the log entries that are later are removed. `DiaryFull` where the diary would have
+    /// too many entries, or `Memory`.
     pub fn seek<L: Ledger>(
         &mut self,
         to: i64,
@@ -88,8 +90,7 @@ impl<T: Table> Playing<T> {
         Ok(())
     }
 
-    // Moves to an earlier moment: the presentation is made anew with the diary and the log up to
-    // it.
+    // Moves to an earlier moment: the cells are made anew from the diary and the log up to it.
     fn seek_back<L: Ledger>(
         &mut self,
         to: i64,
@@ -127,8 +128,8 @@ impl<T: Table> Playing<T> {
         cells_at(&self.viewer.cells, to, steps)
     }
 
-    /// An event on an element. `NoElement` where there is no such node, `BadPlace` where it is a
-    /// priorityClass, then `LogFull` and `DiaryFull`.
+    /// An event happens on an element at the present moment. `NoElement` where there is no such
+    /// node, `BadPlace` where it is a priorityClass, then `LogFull` and `DiaryFull`, or `Memory`.
     pub fn event<L: Ledger>(
         &mut self,
         who: &Who,
@@ -153,8 +154,9 @@ impl<T: Table> Playing<T> {
         self.hear(Happening::Event { who: serial, name }, out, steps)
     }
 
-    /// The length of a node's media. `NoElement` where there is no such node, `NotContinuous` where
-    /// its media have no length, then `LogFull` and `DiaryFull`.
+    /// The length of a node's media, in milliseconds, becomes known at the present moment.
+    /// `NoElement` where there is no such node, `NotContinuous` where its media have no length, then
+    /// `LogFull` and `DiaryFull`, or `Memory`.
     pub fn media<L: Ledger>(
         &mut self,
         who: &Who,
@@ -184,8 +186,8 @@ impl<T: Table> Playing<T> {
         self.hear(what, out, steps)
     }
 
-    /// What came from outside joins the log at the present moment, and what follows happens.
-    /// `LogFull` where the log is, then `DiaryFull`.
+    /// Appends what came from outside to the log, at the present moment, and tells what differs
+    /// behind it. `LogFull` where the log is full, then `DiaryFull`, or `Memory`.
     pub fn hear<L: Ledger>(
         &mut self,
         what: Happening,
@@ -217,7 +219,7 @@ impl<T: Table> Playing<T> {
         Ok(())
     }
 
-    // Goes on under a mark: by the whole move, or not at all.
+    // Goes on by a move under a mark; after a refusal all is as before.
     fn go<L: Ledger>(
         &mut self,
         step: Move,

@@ -20,7 +20,7 @@ ghost use Rattle.smil_live.specs.Telling.{element_named, is_edit};
 use super::replay::{Replay, replayed};
 use super::viewer::Viewer;
 use smil_cells::{Cells, Table};
-use smil_model::{Bytes, Doc, Happening, Log, Order, Player, Refusal, Steps, Who};
+use smil_model::{Bytes, Doc, Happening, Order, Player, Refusal, Steps, Who};
 use smil_nodes::LiveTable;
 use smil_revision::{Child, LineText, Setting};
 use smil_shown::{Scene, ViewTable, put_differences};
@@ -28,7 +28,8 @@ use std::alloc::Global;
 use std::marker::Model;
 use std::sync::ledger::Ledger;
 
-/// A presentation that evaluates after each happening what it can reach.
+/// A presentation that evaluates after each happening those elements alone that the happening can
+/// reach.
 pub type Presentation = Playing<LiveTable>;
 
 /// A presentation, seen as its document, its log and its moment, in milliseconds of document time.
@@ -82,12 +83,7 @@ impl<T: Table> Playing<T> {
         ensures least { IfOk result (λ playing. WhereTold T.counts
             (least_loading playing ≤ steps.new - steps.old)) }
     {
-        let log = Log::new(alloc);
-        let replay = Replay {
-            log: &log,
-            len: 0,
-            to: 0,
-        };
+        let replay = Replay { log: &[], to: 0 };
         let cells = replayed(alloc, &doc, replay, steps)?;
         Playing::over(alloc, cells, out)
     }

@@ -16,21 +16,21 @@ ghost use Rattle.smil_live.specs.Moves.{IsReplayed, IsTooFull, IsUnderWay, edite
 
 use smil_cells::{Cells, Table};
 use smil_diary::Book;
-use smil_model::{Doc, Duplicate, LOG_ENTRIES, Log, LogEntry, Refusal, StepKind, Steps};
+use smil_model::{Doc, Duplicate, LOG_ENTRIES, LogEntry, Refusal, StepKind, Steps};
+use smil_past::GraphedTree;
 use std::alloc::Global;
 use std::sync::ledger::Ledger;
 
-/// What is heard again: the first entries of a log; and the moment up to which a presentation with
-/// them is resolved.
+/// A log that is heard again, and the moment up to which the presentation with it is resolved, in
+/// milliseconds of document time.
 #[derive(Clone, Copy)]
 pub struct Replay<'a> {
-    pub log: &'a Log,
-    pub len: usize,
+    pub log: &'a [LogEntry],
     pub to: i64,
 }
 
-/// The cells of a document, with the first entries of a log heard at their moments and all settled
-/// up to a moment, from nothing. `DiaryFull` where the diary would have too many entries, `Memory`
+/// New cells of a document, by which the entries of a log were heard at their moments, and which
+/// are settled up to a moment. `DiaryFull` where the diary would have too many entries, `Memory`
 /// where memory runs out.
 pub fn replayed<T: Table, L: Ledger>(
     alloc: Global,
@@ -38,19 +38,18 @@ pub fn replayed<T: Table, L: Ledger>(
     replay: Replay<'_>,
     steps: &mut Steps<L>,
 ) -> Result<Cells<T>, Refusal>
-    requires state { IsState (replay_of doc.now replay.log.now replay.len replay.to) }
+    requires state { IsState (replay_of doc.now replay.log.now replay.to) }
     requires from { pos 0 ≤ℤ replay.to }
-    requires within { replay.len ≤ length replay.log.now }
     ensures ok { IfOk result (IsReplayed
-        (replay_of doc.now replay.entry.log.now replay.entry.len replay.entry.to)) }
+        (replay_of doc.now replay.entry.log.now replay.entry.to)) }
     ensures refused { IfErr result (IsTooFull
-        (replay_of doc.now replay.entry.log.now replay.entry.len replay.entry.to)) }
+        (replay_of doc.now replay.entry.log.now replay.entry.to)) }
     ensures counted { steps.old ≤ steps.new }
     ensures most { IfOk result (λ cells. WhereTold T.counts
         (steps.new - steps.old ≤ most_loading
-        (replay_of doc.now replay.entry.log.now replay.entry.len replay.entry.to))) }
+        (replay_of doc.now replay.entry.log.now replay.entry.to))) }
     ensures least { IfOk result (λ cells. WhereTold T.counts
-        (least_loading (replay_of doc.now replay.entry.log.now replay.entry.len replay.entry.to)
+        (least_loading (replay_of doc.now replay.entry.log.now replay.entry.to)
         ≤ steps.new - steps.old)) }
 {
     let mut cells = Cells::<T>::new(alloc, doc, steps)?;
@@ -58,9 +57,9 @@ pub fn replayed<T: Table, L: Ledger>(
     Ok(cells)
 }
 
-/// The cells of an earlier moment, rebuilt from the part of the diary up to it. The cells are
-/// settled, of a state, with no mark. `DiaryFull` where the diary would have too many entries,
-/// `Memory` where memory runs out.
+/// The cells of a moment from 0 to the present one, in milliseconds of document time, rebuilt from
+/// the entries of the diary up to it. The present cells are settled, answered no refusal and have
+/// no mark. `DiaryFull` where the diary would have too many entries, `Memory` where memory runs out.
 pub fn cells_at<T: Table, L: Ledger>(
     cells: &Cells<T>,
     to: i64,
@@ -84,70 +83,69 @@ pub fn cells_at<T: Table, L: Ledger>(
     Ok(earlier)
 }
 
-/// The cells of another document with the same log at the same moment, rebuilt from the first
-/// entries of the diary, to which its resolution comes. `DiaryFull` where its diary would have too
-/// many entries, `Memory` where memory runs out.
+/// The cells of another document with the same log at the same moment, rebuilt from the first `len`
+/// entries of the diary, with which the diary of that document begins too. `DiaryFull` where that
+/// diary would have too many entries, `Memory` where memory runs out.
 pub fn cells_with<T: Table, L: Ledger>(
     cells: &Cells<T>,
-    doc: &Doc,
+    graphed: GraphedTree,
     len: usize,
     steps: &mut Steps<L>,
 ) -> Result<Cells<T>, Refusal>
-    requires state { IsState (edited_to cells.now.presentation doc.now) }
-    requires rebuild { MayRebuild cells.now doc.now len }
-    requires way { (rebuilt : Standing) → IsRebuilt cells.now doc.now len rebuilt
-        → IsUnderWay (edited_to cells.now.presentation doc.now) (length rebuilt.presentation.log)
-        rebuilt }
-    ensures ok { IfOk result (IsReplayed (edited_to cells.now.presentation doc.now)) }
-    ensures refused { IfErr result (IsTooFull (edited_to cells.now.presentation doc.now)) }
+    requires state { IsState (edited_to cells.now.presentation graphed.tree) }
+    requires rebuild { MayRebuild cells.now graphed.tree len }
+    requires graph { graphed.graph.nodes ≡ graphed.tree.nodes }
+    requires way { (rebuilt : Standing) → IsRebuilt cells.now graphed.tree len rebuilt
+        → IsUnderWay (edited_to cells.now.presentation graphed.tree)
+        (length rebuilt.presentation.log) rebuilt }
+    ensures ok { IfOk result (IsReplayed (edited_to cells.now.presentation graphed.tree)) }
+    ensures refused { IfErr result (IsTooFull (edited_to cells.now.presentation graphed.tree)) }
     ensures counted { steps.old ≤ steps.new }
     ensures most { OnOk result (WhereTold T.counts
-        (steps.new - steps.old ≤ length (elements doc.now.nodes) + reached_behind len
-        (edited_to cells.now.presentation doc.now))) }
+        (steps.new - steps.old ≤ length (elements graphed.tree.nodes) + reached_behind len
+        (edited_to cells.now.presentation graphed.tree))) }
 {
-    let log = cells.log();
     let replay = Replay {
-        log,
-        len: log.len(),
+        log: cells.log().slice(),
         to: cells.moment(),
     };
-    let mut rebuilt = cells.rebuilt(doc, len, steps)?;
+    let mut rebuilt = cells.rebuilt_over(graphed, len, steps)?;
     replay_on(&mut rebuilt, replay, steps)?;
     Ok(rebuilt)
 }
 
-/// Hears the entries of a log that cells have not heard yet at their moments, and settles up to a
-/// moment. `DiaryFull` where the diary would have too many entries, `Memory` where memory runs out.
+/// Hears at their moments the entries of a log that cells have not heard yet, and settles up to a
+/// moment. The cells have heard the first entries of that log, and no others. `DiaryFull` where the
+/// diary would have too many entries, `Memory` where memory runs out.
 pub fn replay_on<T: Table, L: Ledger>(
     cells: &mut Cells<T>,
     replay: Replay<'_>,
     steps: &mut Steps<L>,
 ) -> Result<(), Refusal>
-    requires way { IsUnderWay (replay_of cells.old.presentation.document replay.log.now replay.len
-        replay.to) (length cells.old.presentation.log) cells.old }
-    requires state { IsState (replay_of cells.old.presentation.document replay.log.now replay.len
-        replay.to) }
+    requires way { IsUnderWay (replay_of cells.old.presentation.document replay.log.now replay.to)
+        (length cells.old.presentation.log) cells.old }
+    requires state { IsState
+        (replay_of cells.old.presentation.document replay.log.now replay.to) }
     requires from { pos 0 ≤ℤ replay.to }
-    requires within { replay.len ≤ length replay.log.now }
     ensures ok { OnOk result (IsReplayed (replay_of cells.old.presentation.document
-        replay.entry.log.now replay.entry.len replay.entry.to) cells.new) }
+        replay.entry.log.now replay.entry.to) cells.new) }
     ensures refused { IfErr result (IsTooFull (replay_of cells.old.presentation.document
-        replay.entry.log.now replay.entry.len replay.entry.to)) }
+        replay.entry.log.now replay.entry.to)) }
     ensures counted { steps.old ≤ steps.new }
     ensures most { OnOk result (WhereTold T.counts
         (steps.new - steps.old ≤ reached_since cells.old cells.new)) }
     ensures least { OnOk result (WhereTold T.counts
         (fresh_since cells.old cells.new ≤ steps.new - steps.old)) }
 {
-    for place in cells.log().len()..replay.len {
-        let entry = replay.log.get(place).unwrap();
+    let heard = cells.log().len();
+    for entry in &replay.log[heard..] {
         hear_again(cells, entry, steps)?;
     }
     Ok(cells.settle(replay.to, steps)?)
 }
 
-// Settles up to the moment of a log entry, and hears it. `Memory` also where the log has as many
-// entries as may be.
+// Settles up to the moment of a log entry, and hears it. `DiaryFull` where the diary would have too
+// many entries, `Memory` where memory runs out or the log is full.
 fn hear_again<T: Table, L: Ledger>(
     cells: &mut Cells<T>,
     entry: &LogEntry,
@@ -181,24 +179,18 @@ fn hear_again<T: Table, L: Ledger>(
 }
 
 /// How many entries of a diary, which stand in the order of their moments, are not later than a
-/// moment. It takes time for those that are.
+/// moment, in milliseconds of document time. It takes log n steps for n entries.
 pub fn diary_until(book: &Book, moment: i64) -> usize
     requires { is_rising_from (pos 0) book.now ≡ true }
     ensures within { result ≤ length book.now }
     ensures first { take result book.now ≡ until moment book.now }
 {
-    let mut len = book.len();
-    while len > 0 {
-        if book.entry(len - 1).unwrap().moment <= moment {
-            return len;
-        }
-        len -= 1;
-    }
-    0
+    book.entries()
+        .partition_point(|entry| entry.moment <= moment)
 }
 
-/// How many entries of a diary there are through the first begin of an element; all where it has
-/// not begun.
+/// How many entries of a diary there are up to the first begin of an element, with that; all where
+/// it has not begun.
 pub fn diary_through(book: &Book, who: u32) -> usize
     ensures { result ≡ length (through_begin who book.now) }
 {

@@ -35,7 +35,9 @@ impl<T: Table> Drop for Viewer<T> {
 }
 
 impl<T: Table> Viewer<T> {
-    /// Goes on by a move, and tells what it changes.
+    /// Goes on by a move, and tells what it changes. `DiaryFull` where the diary would have too
+    /// many entries, `Memory` where memory runs out: after a refusal the cells and the views are to
+    /// go back to a mark, and the text to its length.
     pub fn go_on<L: Ledger>(
         &mut self,
         step: Move,
@@ -164,8 +166,9 @@ fn due_by<T: Table>(cells: &Cells<T>, to: i64) -> Option<i64>
     if due <= to { Some(due) } else { None }
 }
 
-// Puts the views of the touched elements in place, and appends the lines of those that differ from
-// the views of an earlier state, of which the last call may have changed these alone.
+// Puts the present views of the touched elements in place of the old ones, and appends the lines of
+// those that differ. The old views are those before the last call to the cells, which changed the
+// views of no other elements.
 fn put_touched<T: Table>(
     cells: &Cells<T>,
     seen: &mut ViewTable,
@@ -190,7 +193,8 @@ fn put_touched<T: Table>(
     Ok(())
 }
 
-// Puts the view of an element in its place, and appends its line where it differs from that before.
+// Puts the present view of an element in place of the old one, and appends its line where the two
+// differ.
 fn put_one<T: Table>(
     cells: &Cells<T>,
     seen: &mut ViewTable,

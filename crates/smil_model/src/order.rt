@@ -138,7 +138,7 @@ pub enum Refusal {
     NoPresentation,
     /// A presentation has the name already.
     NameTaken,
-    /// 64 presentations stand.
+    /// There are 64 presentations already.
     TooManyPresentations,
     /// The document has no such node.
     NoElement,

@@ -9,7 +9,7 @@ mod queues;
 pub mod readings;
 pub mod syncs;
 
-pub use past::Past;
+pub use past::{GraphedTree, Past};
 pub use plays::{PastInterval, PlayFacts, Plays};
 pub use queues::Queues;
 pub use readings::Readings;

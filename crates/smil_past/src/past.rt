@@ -66,6 +66,24 @@ impl Model for Past {
     ghost invariant = { λ p. KeepsPast p.tree p.log p.graph p.syncs p.chronicle p.second p.mark };
 }
 
+/// A document in place, with its graph.
+#[derive(Drop)]
+pub struct GraphedTree {
+    pub tree: Tree,
+    pub graph: Graph,
+}
+
+impl GraphedTree {
+    /// A document with its graph, which is made; unless memory runs out.
+    pub fn of(alloc: Global, tree: Tree) -> Result<GraphedTree, AllocError>
+        ensures tree { IfOk result (λ graphed. graphed.tree ≡ tree) }
+        ensures graph { IfOk result (λ graphed. graphed.graph.nodes ≡ graphed.tree.nodes) }
+    {
+        let graph = Graph::of(alloc, &tree)?;
+        Ok(GraphedTree { tree, graph })
+    }
+}
+
 impl Past {
     /// A document to which nothing has happened yet, with a log of which nothing was heard yet;
     /// unless memory runs out. It takes time near linear in the document.
@@ -74,7 +92,18 @@ impl Past {
         ensures { IfOk result (λ past. past
             ≡ record { document = tree; log = log; diary = []; marked = None }) }
     {
-        let graph = Graph::of(alloc, &tree)?;
+        Past::over(alloc, GraphedTree::of(alloc, tree)?, log)
+    }
+
+    // A document with its graph, to which nothing has happened yet, with a log of which nothing was
+    // heard yet.
+    fn over(alloc: Global, graphed: GraphedTree, log: Log) -> Result<Past, AllocError>
+        requires possible { IsPossible graphed.tree log [] }
+        requires graph { graphed.graph.nodes ≡ graphed.tree.nodes }
+        ensures { IfOk result (λ past. past
+            ≡ record { document = graphed.tree; log = log; diary = []; marked = None }) }
+    {
+        let GraphedTree { tree, graph } = graphed;
         let syncs = Syncs::of(alloc, &tree, &graph)?;
         let chronicle = Chronicle::new(alloc, &tree, &graph)?;
         Ok(Past {
@@ -89,14 +118,20 @@ impl Past {
         })
     }
 
-    /// What has happened to a document by a log and these entries of a diary, unless memory runs
-    /// out.
-    pub fn of(alloc: Global, tree: Tree, log: Log, entries: &[Entry]) -> Result<Past, AllocError>
-        requires { IsPossible tree log entries.now }
+    /// What has happened to a document, whose graph was made, by a log and these entries of a diary;
+    /// unless memory runs out.
+    pub fn of(
+        alloc: Global,
+        graphed: GraphedTree,
+        log: Log,
+        entries: &[Entry],
+    ) -> Result<Past, AllocError>
+        requires possible { IsPossible graphed.tree log entries.now }
+        requires graph { graphed.graph.nodes ≡ graphed.tree.nodes }
         ensures { IfOk result (λ past. past
-            ≡ record { document = tree; log = log; diary = entries.now; marked = None }) }
+            ≡ record { document = graphed.tree; log = log; diary = entries.now; marked = None }) }
     {
-        let mut past = Past::new(alloc, tree, log)?;
+        let mut past = Past::over(alloc, graphed, log)?;
         for entry in entries {
             push(&mut past, *entry)?;
         }
@@ -262,9 +297,9 @@ impl Past {
         requires { self.now.marked ≡ None }
         ensures { IfOk result (λ copy. copy ≡ self.now) }
     {
-        let tree = self.tree.copy()?;
+        let graphed = GraphedTree::of(self.alloc, self.tree.copy()?)?;
         let log = self.log.copy()?;
-        Past::of(self.alloc, tree, log, self.chronicle.book.entries())
+        Past::of(self.alloc, graphed, log, self.chronicle.book.entries())
     }
 
     /// What has happened is possible: a law for proofs, which costs nothing.

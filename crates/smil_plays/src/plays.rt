@@ -2,6 +2,7 @@
 
 ghost use Rattle.std.specs.Prelude.{◌≡◌, ◌<◌, ◌+ℤ◌, pos, true, false, None, IfOk, OnOk};
 ghost use Rattle.smil_cells.specs.Standing.{NothingBefore};
+ghost use Rattle.smil_model.specs.Times.{IsMoment};
 ghost use Rattle.smil_model.specs.diary.Logs.{is_serial, may_happen};
 ghost use Rattle.smil_model.specs.document.Valid.{IsValid};
 ghost use Rattle.smil_model.specs.shown.Answers.{IsGiven};
@@ -114,10 +115,7 @@ fn settle<L: Ledger>(cells: &mut PlainCells, until: i64, steps: &mut Steps<L>) -
     if until < cells.moment() || until > HORIZON {
         return Err(Fault::Refused);
     }
-    match cells.settle(until, steps) {
-        Ok(()) => Ok(()),
-        Err(fault) => Err(refusal(fault)),
-    }
+    cells.settle(until, steps).map_err(refusal)
 }
 
 // Hears what came from outside, where nothing is due and the log has room.
@@ -134,10 +132,9 @@ fn hear<L: Ledger>(
     if cells.log().len() >= LOG_ENTRIES || is_due(cells) {
         return Err(Fault::Refused);
     }
-    match cells.hear(LogEntry { moment, what }, steps) {
-        Ok(()) => Ok(()),
-        Err(fault) => Err(refusal(fault)),
-    }
+    cells
+        .hear(LogEntry { moment, what }, steps)
+        .map_err(refusal)
 }
 
 // Whether something comes at the present moment.
@@ -162,10 +159,7 @@ fn refusal(fault: BookFault) -> Fault {
 // The present moment, the clocks of the elements, and whether those that are made anew are the
 // same.
 fn tell_clocks(alloc: Global, out: &mut Bytes, cells: &PlainCells) -> Result<(), Fault> {
-    let moment = cells.moment();
-    if moment < 0 || moment > HORIZON {
-        return Err(Fault::Refused);
-    }
+    let moment = moment_of(cells)?;
     let whos = elements(alloc, cells.tree())?;
     let mut shown = Bytes::new(alloc);
     let kept = Present {
@@ -186,6 +180,17 @@ fn tell_clocks(alloc: Global, out: &mut Bytes, cells: &PlainCells) -> Result<(),
     Ok(())
 }
 
+// The present moment, in milliseconds of document time.
+fn moment_of(cells: &PlainCells) -> Result<i64, Fault>
+    ensures { IfOk result IsMoment }
+{
+    let moment = cells.moment();
+    if moment < 0 || moment > HORIZON {
+        return Err(Fault::Refused);
+    }
+    Ok(moment)
+}
+
 // The clocks after the entries of the diary, made anew.
 fn clocks_anew(alloc: Global, past: &Past) -> Result<Clocks, AllocError> {
     past.possible();
@@ -195,10 +200,7 @@ fn clocks_anew(alloc: Global, past: &Past) -> Result<Clocks, AllocError> {
 // The instance times of the elements, which are made anew, and whether those that were kept are
 // the same.
 fn tell_times(alloc: Global, out: &mut Bytes, cells: &PlainCells) -> Result<(), Fault> {
-    let moment = cells.moment();
-    if moment < 0 || moment > HORIZON {
-        return Err(Fault::Refused);
-    }
+    let moment = moment_of(cells)?;
     let whos = elements(alloc, cells.tree())?;
     let past = cells.past();
     let present = Present {

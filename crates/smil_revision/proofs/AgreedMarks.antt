@@ -1,7 +1,6 @@
 -- Marks of looped references, item by item.
-use Rattle.std.proofs.Common.{◌≡◌, refl, sym, ◌∙◌, ap, ℕ, suc, zero, ◌<◌, ◌≤◌, ◌+◌, List, [], ◌∷◌, ◌++◌, Option, Some, None, Bool, true, false, arith, length, take, drop, ◌≢◌, append_assoc, add-one}
+use Rattle.std.proofs.Common.{◌≡◌, refl, sym, ◌∙◌, ap, ℕ, suc, zero, ◌<◌, ◌+◌, List, [], ◌∷◌, ◌++◌, Option, Some, None, Bool, true, false, arith, length, take, append_assoc, add-one}
 use Rattle.std.specs.Prelude.{cond, map, option_map, pos, slice_get, slice_index_or, ◌&&◌, IsSome}
-use Rattle.std.specs.Bool.{beq}
 use Rattle.std.specs.List.{list_all}
 use Rattle.std.proofs.lemmas.List.{map-append}
 use Rattle.smil_model.specs.declared.document.Attrs.{Attrs}
@@ -19,7 +18,7 @@ use Rattle.smil_graph.specs.Graph.{is_looped_item, looped_at, looped_of}
 use Rattle.smil_graph.proofs.Answered.{element_at}
 use Rattle.smil_instances.specs.Spread.{only_element}
 use Rattle.smil_revision.specs.ItemCounts.{counts_at, item_counts}
-use Rattle.smil_revision.specs.References.{are_same_marks, loops}
+use Rattle.smil_revision.specs.References.{loops}
 
 -- ---- how many items
 
@@ -99,34 +98,6 @@ one_more nodes serial k side e before start is below so_far =
     along [] k l = absurd (omega (arith, l))
     along (i ∷ is) zero l = refl
     along (i ∷ is) (suc k) l = ap (λ (l : List Bool). is_looped nodes e.serial i ∷ l) (along is k (omega (arith, l)))
-
-pub all_items : {X : Type 0} (xs : List X) (k n : ℕ) → n ≡ length xs → n ≤ k → take k xs ≡ xs
-all_items [] zero n e l = refl
-all_items [] (suc k) n e l = refl
-all_items (x ∷ xs) zero n e l = absurd (omega (arith, e, l))
-all_items (x ∷ xs) (suc k) zero e l = absurd (omega (arith, e))
-all_items (x ∷ xs) (suc k) (suc n) e l = ap (λ ys. x ∷ ys) (all_items xs k n (omega (arith, e)) (omega (arith, l)))
-
--- ---- marks that are the same
-
-pub other_length : (xs ys : List Bool) → length xs ≢ length ys → are_same_marks xs ys ≡ false
-other_length [] [] l = absurd (l refl)
-other_length [] (y ∷ ys) l = refl
-other_length (x ∷ xs) [] l = refl
-other_length (x ∷ xs) (y ∷ ys) l = ap (λ (t : Bool). beq x y && t) (other_length xs ys (λ e. l (ap suc e))) ∙ never (beq x y)
-  where
-    never : (t : Bool) → t && false ≡ false
-    never true = refl
-    never false = refl
-
-at_first : (xs ys : List Bool) (k : ℕ) → k < length xs → k < length ys → are_same_marks (drop k xs) (drop k ys) ≡ (beq (slice_index_or xs k false) (slice_index_or ys k false) && are_same_marks (drop (suc k) xs) (drop (suc k) ys))
-at_first [] ys k l m = absurd (omega (arith, l))
-at_first (x ∷ xs) [] k l m = absurd (omega (arith, m))
-at_first (x ∷ xs) (y ∷ ys) zero l m = refl
-at_first (x ∷ xs) (y ∷ ys) (suc k) l m = at_first xs ys k (omega (arith, l)) (omega (arith, m))
-
-pub at_next : (xs ys : List Bool) (k : ℕ) → k < length xs → k < length ys → are_same_marks (drop k xs) (drop k ys) ≡ (beq (slice_index_or xs k false) (slice_index_or ys k false) && are_same_marks (drop (k + 1) xs) (drop (k + 1) ys))
-at_next xs ys k l m = rw add-one (at_first xs ys k l m)
 
 -- ---- both sides
 

@@ -1,7 +1,8 @@
 -- Whether an edit leaves the references as they were: what the ids name, and which references are
 -- looped.
-use Rattle.std.specs.Prelude.{ℕ, List, [], ◌∷◌, ◌++◌, map, Bool, true, false, not, ◌&&◌, ◌||◌, ◌==◌, Option, Some, None, option_map, is_some}
+use Rattle.std.specs.Prelude.{ℕ, List, [], ◌++◌, map, Bool, true, false, not, ◌&&◌, ◌||◌, ◌==◌, Option, Some, None, option_map, is_some}
 use Rattle.std.specs.Bool.{beq}
+use Rattle.std.specs.Cmp.Lexicographic.{pointwise}
 use Rattle.std.specs.List.{list_all}
 use Rattle.smil_model.specs.declared.document.Node.{Node}
 use Rattle.smil_model.specs.document.Document.{elements, element_named, node_at}
@@ -33,9 +34,7 @@ loops nodes (Some e) = map (is_looped nodes e.serial) (all_items nodes e)
 
 -- whether two lists of marks are the same
 abbrev pub are_same_marks : List Bool → List Bool → Bool
-are_same_marks [] [] = true
-are_same_marks (x ∷ xs) (y ∷ ys) = beq x y && are_same_marks xs ys
-are_same_marks _ _ = false
+are_same_marks one other = pointwise beq one other
 
 -- whether the items of an element that both have are looped as before; the edited one is left out
 abbrev pub keeps_loops_of : ℕ → List Node → List Node → ℕ → Bool

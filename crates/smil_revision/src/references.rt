@@ -8,7 +8,7 @@ ghost use Rattle.smil_model.specs.document.Defaults.{items_of, items_or};
 ghost use Rattle.smil_model.specs.document.Dependencies.{is_looped};
 ghost use Rattle.smil_model.specs.document.Document.{elements, node_at};
 ghost use Rattle.smil_revision.specs.ItemCounts.{counts_at};
-ghost use Rattle.smil_revision.specs.References.{are_same_marks, is_same_serial, keeps_id, keeps_loops, keeps_loops_of, keeps_references, loops};
+ghost use Rattle.smil_revision.specs.References.{is_same_serial, keeps_id, keeps_loops, keeps_loops_of, keeps_references, loops};
 
 use smil_graph::Graph;
 use smil_instances::{element_named, element_of};
@@ -125,7 +125,7 @@ fn keeps_loops_of(alloc: Global, revision: Revision<'_>, serial: u32) -> Result<
     }
     let before = loops(alloc, revision.old, serial)?;
     let after = loops(alloc, revision.new, serial)?;
-    Ok(are_same_marks(before.as_slice(), after.as_slice()))
+    Ok(before == after)
 }
 
 // Which items of an element are looped references; nothing for a serial of no element.
@@ -191,19 +191,4 @@ fn count_or(items: &Option<Items>, without: usize) -> usize
         Some(items) => items.len(),
         None => without,
     }
-}
-
-// Whether two lists of marks are the same.
-fn are_same_marks(one: &[bool], other: &[bool]) -> bool
-    ensures { result ≡ are_same_marks one.now other.now }
-{
-    if one.len() != other.len() {
-        return false;
-    }
-    for (place, mark) in one.iter().enumerate() {
-        if other[place] != *mark {
-            return false;
-        }
-    }
-    true
 }

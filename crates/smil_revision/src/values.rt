@@ -15,8 +15,8 @@ use smil_attrs::{
 use smil_model::{Attr, AttrName, Attrs, Kind, Refusal};
 use std::alloc::Global;
 
-/// An attribute as an order names it, with the column of its name in the order's line, and of a
-/// node of a kind under a parent of another, None being for the root.
+/// An attribute of a node as an order names it: the kind of the node, that of its parent, None for
+/// the root, and the name, with its column in the order's line.
 #[derive(Clone, Copy)]
 pub struct AttrMention<'a> {
     pub kind: Kind,
@@ -123,7 +123,8 @@ pub fn read_line_attrs(
     }
 }
 
-// The refusal of an attribute whose name and value begin at these columns.
+// The refusal of an attribute whose name and value begin at these columns; a fault within the value
+// is told by the column of its byte.
 fn refused_value(fault: AttrFault, name_column: u32, column: u32) -> Refusal
     requires column { IsColumn column }
     requires placed { IsPlaced fault }
@@ -136,24 +137,24 @@ fn refused_value(fault: AttrFault, name_column: u32, column: u32) -> Refusal
         AttrFault::UnsupportedName => Refusal::Unsupported {
             column: name_column,
         },
-        AttrFault::UnsupportedValue { place } => Refusal::Unsupported {
-            column: behind(column, place),
+        AttrFault::UnsupportedValue { place: byte_place } => Refusal::Unsupported {
+            column: behind(column, byte_place),
         },
-        AttrFault::BadValue { place } => Refusal::BadValue {
-            column: behind(column, place),
+        AttrFault::BadValue { place: byte_place } => Refusal::BadValue {
+            column: behind(column, byte_place),
         },
         AttrFault::TooManyItems => Refusal::TooManyItems { column },
         AttrFault::Memory => Refusal::Memory,
     }
 }
 
-// The column of a place, counted from 0, in a text that begins at a column.
-fn behind(column: u32, place: usize) -> u32
+// The column of a byte at a place, counted from 0, of a text that begins at a column.
+fn behind(column: u32, byte_place: usize) -> u32
     requires column { IsColumn column }
-    requires place { place ≤ TEXT_BYTES }
-    ensures { result ≡ column + place }
+    requires place { byte_place ≤ TEXT_BYTES }
+    ensures { result ≡ column + byte_place }
 {
-    column + place as u32
+    column + byte_place as u32
 }
 
 // The refusal of a node line that begins at a column.

@@ -55,7 +55,7 @@ impl Sandwich {
         Ok(())
     }
 
-    /// The set at a place from 0, from the top down, in the stack of an attribute of a target; None
+    /// The set at a place, from 0 at the top, in the stack of an attribute of a target; None
     /// exactly past its end. Where the layers of sets at different places are kept, that is their
     /// stack made from scratch. It takes no memory.
     pub fn at(&self, target: u32, attr: &[u8], k: usize) -> Option<u32>

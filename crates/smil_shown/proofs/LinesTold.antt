@@ -5,7 +5,7 @@ use Rattle.std.specs.Option.{option_map_or}
 use Rattle.std.specs.List.{position, position_or_len}
 use Rattle.std.proofs.Math.Seq.{drop-cons}
 use Rattle.std.proofs.lemmas.Bool.{eqb-true, ltb-true, ltb-false}
-use Rattle.std.proofs.lemmas.Option.{same_Some}
+use Rattle.std.proofs.lemmas.Option.{same_Some, slice_get_past}
 use Rattle.std.proofs.lemmas.List.{append_assoc}
 use Rattle.std.proofs.lemmas.List.Folds.{find_at}
 use Rattle.std.proofs.Math.ListN.{drop_of_length-le}
@@ -84,11 +84,6 @@ is_there ns s =
     by_test (position_or_len (λ (n : Node). n.serial == s) ns) (nat_lt (position_or_len (λ (n : Node). n.serial == s) ns) (length ns)) refl
     ∙ ap is_some (sym (find_at (λ (n : Node). n.serial == s) ns))
   where
-    beyond : (ms : List Node) (i : ℕ) → length ms ≤ i → slice_get ms i ≡ None
-    beyond [] i l = refl
-    beyond (m ∷ ms) zero l = absurd (omega (arith, l))
-    beyond (m ∷ ms) (suc i) l = beyond ms i (omega (arith, l))
-
     inside : (ms : List Node) (i : ℕ) → i < length ms → is_some (slice_get ms i) ≡ true
     inside [] i l = absurd (omega (arith, l))
     inside (m ∷ ms) zero l = refl
@@ -96,7 +91,7 @@ is_there ns s =
 
     by_test : (k : ℕ) (t : Bool) → nat_lt k (length ns) ≡ t → is_some (cond {A = Option ℕ} t (Some k) None) ≡ is_some (slice_get ns k)
     by_test k true e = sym (inside ns k (ltb-true k (length ns) e))
-    by_test k false e = sym (ap is_some (beyond ns k (ltb-false k (length ns) e)))
+    by_test k false e = sym (ap is_some (slice_get_past ns k (ltb-false k (length ns) e)))
 
 -- what is told of one node of this kind, which is an element or not, and has a place in the other
 -- document or not

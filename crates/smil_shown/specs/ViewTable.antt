@@ -9,7 +9,7 @@ use Rattle.smil_model.specs.shown.Views.{blank}
 use Rattle.smil_laws.specs.Same.{view_at}
 use Rattle.smil_cells.specs.Standing.{Standing, history_of}
 
--- the views in document order, and as they were when the last change was let stand
+-- the views in document order, and those that `back` gives, with each noted view in its place
 pub record Shown : Type 0 where
   pub views : List View
   pub before : List View
@@ -31,7 +31,7 @@ put_back views (view ∷ noted) = put_in (put_back views noted) view
 abbrev pub view_in : List View → ℕ → View
 view_in views serial = view_before views (blank serial)
 
--- an element has a view among these
+-- whether an element has a view among these
 abbrev pub has_view : List View → ℕ → Bool
 has_view views serial = list_any (λ (v : View). v.serial == serial) views
 
@@ -40,7 +40,7 @@ abbrev pub AreOne : List View → Type 0
 AreOne [] = Unit {0}
 AreOne (view ∷ views) = (has_view views view.serial ≡ false) × AreOne views
 
--- the table leads each element to the place of its view, of which it has one
+-- the table tells the place of the view of each element that has one, and no element has two
 pub record AreAt (places : ℕ → Option ℕ) (views : List View) : Type 0 where
   pub place : (serial : ℕ) → places serial ≡ position (λ (v : View). v.serial == serial) views
   pub one : AreOne views

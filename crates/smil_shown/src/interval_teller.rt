@@ -16,8 +16,8 @@ use smil_stretch::Clocks;
 use smil_tree::Tree;
 use std::alloc::{AllocError, Global};
 
-/// An element whose intervals are told: the clocks by the entries so far, and the begin of its
-/// present play, in document time.
+/// An element whose intervals are told: the clocks after the entries so far, and the begin of its
+/// present play, in milliseconds of document time, None where it is not playing.
 pub struct IntervalTeller {
     who: u32,
     clocks: Clocks,
@@ -49,7 +49,8 @@ impl IntervalTeller {
         })
     }
 
-    /// Takes in all that happened, and appends the lines of the intervals that have finished.
+    /// Takes in the entries of a diary, and appends the lines of the intervals that have finished.
+    /// Where memory is refused, some of the lines stand in `out`.
     pub fn follow_all(&mut self, book: &Book, name: &Who, out: &mut Bytes) -> Result<(), AllocError>
         requires may { MayTell book.now name.now self.old out.old }
         requires near { AllNear book.now }
@@ -110,7 +111,7 @@ impl IntervalTeller {
         }
     }
 
-    // Appends the line of the present play, which is finished.
+    // Appends the line of the present play, which finishes at a moment of document time.
     fn finish(&mut self, end: i64, how: How, name: &Who, out: &mut Bytes) -> Result<(), AllocError>
         ensures ok { OnOk result (out.new ≡ out.old
             ++ finish_line name.now self.old.present end how) }

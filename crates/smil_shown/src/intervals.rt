@@ -24,9 +24,10 @@ pub struct Subject<'a> {
     pub name: &'a Who,
 }
 
-/// Appends the lines of the intervals of an element, in order. The clocks are gone through from the
-/// start, since each time is carried to document time at its own moment. Where memory is refused,
-/// some of the lines stand in `out`.
+/// Appends the lines of the intervals of an element, in order. The clocks are followed again from
+/// the first entry of the diary on, since each time is carried to document time at its own moment.
+/// The cells answered no refusal, and are settled. Where memory is refused, some of the lines stand
+/// in `out`.
 pub fn put_intervals<T: Table>(
     alloc: Global,
     cells: &Cells<T>,
@@ -50,7 +51,7 @@ pub fn put_intervals<T: Table>(
     put_present(cells, subject, told.present, out)
 }
 
-// Appends the line of the present play, by its begin, where there is one.
+// Appends the line of the present play, where there is one, by its begin in document time.
 fn put_present<T: Table>(
     cells: &Cells<T>,
     subject: Subject<'_>,

@@ -10,8 +10,9 @@ use smil_model::{Bytes, Duplicate, Kind, Layer, Shown, State, View, Who};
 use smil_tree::Tree;
 use std::alloc::AllocError;
 
-/// The layer of an element by its view: that of a set which plays, is paused or is frozen, and has
-/// an attribute to set, a value and a target; None of all others. `Memory` where it runs out.
+/// The layer of an element by its view: that of a set that is active, paused or frozen, whose begin
+/// is shown as a number, and which has an attribute to set, a value and a target; None for all
+/// others; unless memory runs out.
 pub fn layer(tree: &Tree, view: &View) -> Result<Option<Layer>, AllocError>
     requires { (n : AnyNode) × (node_at tree.now.nodes view.now.serial ≡ Some n) }
     ensures { (n : AnyNode) → node_at tree.now.nodes view.now.serial ≡ Some n
@@ -83,7 +84,7 @@ fn target(tree: &Tree, setter: u32, named: &Option<Bytes>) -> Result<Option<u32>
     }
 }
 
-// A begin that is shown as a number.
+// A begin that is shown as a number, in milliseconds of document time.
 fn begin_of(begin: Shown) -> Option<i64>
     ensures { result ≡ begin_shown begin }
 {

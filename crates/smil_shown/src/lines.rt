@@ -66,7 +66,7 @@ pub fn put_differences(
     Ok(())
 }
 
-// Appends the line of a view, where it differs from that before.
+// Appends the line of a view, where it differs from the one that the element had before.
 fn put_difference(
     scene: Scene<'_>,
     before: &ViewTable,

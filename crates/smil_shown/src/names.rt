@@ -8,8 +8,8 @@ ghost use Rattle.smil_shown.specs.Names.{is_there, is_up_to};
 use smil_model::{Bytes, Duplicate};
 use std::alloc::AllocError;
 
-/// Puts a name in its place among names in the order of their bytes, where it doesn't stand there
-/// yet; unless memory runs out.
+/// Puts a name in its place among names in the order of their bytes, where it doesn't stand among
+/// them yet; unless memory runs out.
 pub fn put_name(names: &mut Vec<Bytes>, name: &Bytes) -> Result<(), AllocError>
     ensures { OnOk result (names.new.items ≡ put_name names.old.items name.now) }
 {

@@ -51,8 +51,8 @@ impl Sets {
         Ok(sets)
     }
 
-    // Takes in the layer of an element, where it has one, of another set at another place than
-    // those before.
+    // Takes in the layer of an element, where it has one. The element is another one than those
+    // taken in before, and stands at another place.
     fn take_in(&mut self, tree: &Tree, view: &View) -> Result<(), AllocError>
         requires { IsSome (node_at tree.now.nodes view.now.serial) }
         ensures { (before : List (ℕ × AnyLayer)) → AreSetsOf self.old before
@@ -79,8 +79,8 @@ impl Sets {
         }
     }
 
-    /// The set at a place from 0, from the top down, in the stack of an attribute of a target; None
-    /// past its end. It takes no memory.
+    /// The serial of the set at a place, from 0 at the top, in the stack of an attribute of a
+    /// target; None past its end. It takes no memory.
     pub fn at(&self, target: u32, attr: &[u8], k: usize) -> Option<u32>
         ensures { (all : List (ℕ × AnyLayer)) → AreSetsOf self.now all → result
             ≡ slice_get (stack_of all target attr.now) k }

@@ -19,8 +19,8 @@ use std::alloc::{AllocError, Global};
 use std::collections::HashMap;
 use std::marker::Model;
 
-/// The views of elements in document order, of each element one. Where a view is changed the one
-/// before is noted until `forget`; seen as the views, with those that `back` gives.
+/// The views of elements in document order, one of each element. Where a view is changed, the one
+/// before is noted, until `back` or `forget`. Seen as the views, with those that `back` gives.
 pub struct ViewTable {
     rows: Vec<View>,
     places: HashMap<u32, usize>,
@@ -63,8 +63,8 @@ impl ViewTable {
         }
     }
 
-    /// The views of all elements, unless memory runs out. No refusal was answered, and all is
-    /// settled.
+    /// The views of all elements at the present moment, unless memory runs out. The cells answered
+    /// no refusal, and are settled.
     pub fn of<T: Table>(alloc: Global, cells: &Cells<T>) -> Result<ViewTable, AllocError>
         requires sound { cells.now.fault ≡ None }
         requires state { IsState cells.now.presentation }
@@ -84,7 +84,7 @@ impl ViewTable {
         Ok(seen)
     }
 
-    // Puts the view of a node behind all others, where it is an element.
+    // Puts the view of a node behind all others, where it is an element; the table has none of it.
     fn push_node<T: Table>(&mut self, cells: &Cells<T>, serial: u32) -> Result<(), AllocError>
         requires sound { cells.now.fault ≡ None }
         requires state { IsState cells.now.presentation }
@@ -133,8 +133,8 @@ impl ViewTable {
         }
     }
 
-    /// Puts a view in the place of that of the same element, which is noted, and tells whether the
-    /// two differ. Where memory runs out all is as before.
+    /// Puts a view in the place of the one that the element has, where the two differ, and tells
+    /// whether they do; the old one is noted then. Where memory runs out all is as before.
     pub fn put(&mut self, view: View) -> Result<bool, AllocError>
         requires { has_view self.old.views view.serial ≡ true }
         ensures differs { IfOk result (λ different. different ≡ differs self.old.views view) }
@@ -150,7 +150,7 @@ impl ViewTable {
         Ok(true)
     }
 
-    /// Puts back the views that were noted. It takes no memory.
+    /// Puts back the views that were noted; none is noted afterwards. It takes no memory.
     pub fn back(&mut self)
         ensures { self.new ≡ record { views = self.old.before; before = self.old.before } }
     {
@@ -161,7 +161,8 @@ impl ViewTable {
         }
     }
 
-    /// Lets the noted views go. It takes no memory.
+    /// Forgets the views that were noted, so that `back` gives the present ones. It takes no
+    /// memory.
     pub fn forget(&mut self)
         ensures { self.new ≡ record { views = self.old.views; before = self.old.views } }
     {
@@ -169,7 +170,7 @@ impl ViewTable {
     }
 }
 
-/// The view of an element at the present moment. No refusal was answered, and all is settled. It
+/// The view of an element at the present moment. The cells answered no refusal, and are settled. It
 /// takes no memory.
 pub fn view_in<T: Table>(cells: &Cells<T>, serial: u32) -> View
     requires sound { cells.now.fault ≡ None }

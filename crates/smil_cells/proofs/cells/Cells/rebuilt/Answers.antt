@@ -1,70 +1,17 @@
-use Rattle.std.proofs.Common.{◌≡◌, ◌∙◌, sym, ap, subst, ℤ, List, None, take, w64, to_z, of_z}
+use Rattle.std.proofs.Common.{◌≡◌, ◌∙◌, sym, subst, length, ◌-◌, ◌≤◌}
 use Rattle.std.specs.Prelude.{IfOk}
-use Rattle.std.proofs.lemmas.Int.{to_z-of_z}
-use Rattle.smil_model.specs.declared.diary.Entry.{Entry}
-use Rattle.smil_model.specs.declared.diary.LogEntry.{LogEntry}
-use Rattle.smil_model.specs.document.Document.{Document}
-use Rattle.smil_model.specs.diary.Diary.{last_moment}
-use Rattle.smil_stretch.proofs.Diaries.{lawful_first}
-use Rattle.smil_past.specs.Past.{MarkedHistory, IsPossible, history_of}
-use Rattle.smil_cells.specs.Standing.{Standing, IsRebuilt, MayRebuild, cut_log}
-use Rattle.smil_cells.specs.Standings.{MayBegin, begun, standing_of}
-use Rattle.smil_cells.proofs.Begun.{moment_is, possible_part, may_part, rebuilt_is}
-use Rattle.std.proofs.lemmas.Result.{IfOk-weaker}
+use Rattle.smil_model.specs.document.Document.{Document, elements}
+use Rattle.smil_cells.specs.Standing.{IsRebuilt, MayRebuild, WhereTold}
 use Rattle.smil_cells.proofs.cells.Cells.rebuilt.Goals as goal
 
-pub of-requires : goal.of-requires
-of-requires g c =
-    let i = c.self.inside in
-    let len = c.args.len in
-    let doc = c.args.doc.now in
-    let s = standing_of i.past i.moment i.fault i.mark i.touched in
-    let may = subst (λ (x : Standing). MayRebuild x doc len) (sym c.self.view_is) c.requires in
-    let lawful = lawful_first (history_of i.past) len c.possible.ensures.lawful in
-    let log_is = c.in_ok-log.ensures ∙ (ap (λ (l : List LogEntry). cut_log l (take len c.book.result.now)) c.log.ensures ∙ ap (λ (d : List Entry). cut_log i.past.log (take len d)) c.book.ensures) in
-    subst (λ (d : List Entry). IsPossible c.in_ok-tree.tree c.in_ok-log.log (take len d)) (sym (c.entries.ensures ∙ c.book-2.ensures))
-    (subst (λ (l : List LogEntry). IsPossible c.in_ok-tree.tree l (take len i.past.diary)) (sym log_is)
-    (subst (λ (d : Document). IsPossible d (cut_log i.past.log (take len i.past.diary)) (take len i.past.diary)) (sym c.in_ok-tree.ensures)
-    (possible_part s doc len may i.past.log lawful c.reached_is_past.ensures c.resolved_is_near.ensures c.possible.ensures.few)))
-
-pub over-requires : goal.over-requires
-over-requires g c =
-    let i = c.self.inside in
-    let len = c.args.len in
-    let doc = c.args.doc.now in
-    let s = standing_of i.past i.moment i.fault i.mark i.touched in
-    let may = subst (λ (x : Standing). MayRebuild x doc len) (sym c.self.view_is) c.requires in
-    let lawful = lawful_first (history_of i.past) len c.possible.ensures.lawful in
-    let log_is = c.in_ok-log.ensures ∙ (ap (λ (l : List LogEntry). cut_log l (take len c.book.result.now)) c.log.ensures ∙ ap (λ (d : List Entry). cut_log i.past.log (take len d)) c.book.ensures) in
-    let part = cut_log i.past.log (take len i.past.diary) in
-    let past_is : c.in_ok-past.past ≡ record { document = doc; log = part; diary = take len i.past.diary; marked = None } =
-    c.in_ok-past.ensures
-    ∙ (ap (λ (d : Document). record { document = d; log = c.in_ok-log.log; diary = take len c.entries.result.now; marked = None }) c.in_ok-tree.ensures
-    ∙ (ap (λ (l : List LogEntry). record { document = doc; log = l; diary = take len c.entries.result.now; marked = None }) log_is
-    ∙ ap (λ (d : List Entry). record { document = doc; log = part; diary = take len d; marked = None }) (c.entries.ensures ∙ c.book-2.ensures))) in
-    let z = to_z w64 (of_z w64 c.last_moment-moment.result) in
-    let at = to_z-of_z w64 c.last_moment-moment.result (record { sfits = c.last_moment-moment.type_inv }) ∙ c.last_moment-moment.ensures ∙ (ap (λ (p : MarkedHistory). last_moment p.diary) past_is ∙ sym (moment_is s doc len may)) in
-    subst (λ (p : MarkedHistory). MayBegin p z) (sym past_is)
-    (subst (λ (z : ℤ). MayBegin (record { document = doc; log = part; diary = take len i.past.diary; marked = None }) z) (sym at)
-    (may_part s doc len may i.past.log lawful c.reached_is_past.ensures c.self.invariant.log))
+pub rebuilt_over-requires-clause-rebuild : goal.rebuilt_over-requires-clause-rebuild
+rebuilt_over-requires-clause-rebuild g c =
+    subst (λ (d : Document). MayRebuild c.args.self.now d c.args.len) (sym (c.in_ok-of.ensures.tree ∙ c.in_ok-tree.ensures)) c.requires
 
 pub returns-clause-rebuilt : goal.returns-clause-rebuilt
 returns-clause-rebuilt g c =
-    let i = c.self.inside in
-    let len = c.args.len in
-    let doc = c.args.doc.now in
-    let s = standing_of i.past i.moment i.fault i.mark i.touched in
-    let may = subst (λ (x : Standing). MayRebuild x doc len) (sym c.self.view_is) c.requires in
-    let lawful = lawful_first (history_of i.past) len c.possible.ensures.lawful in
-    let log_is = c.in_ok-log.ensures ∙ (ap (λ (l : List LogEntry). cut_log l (take len c.book.result.now)) c.log.ensures ∙ ap (λ (d : List Entry). cut_log i.past.log (take len d)) c.book.ensures) in
-    let part = cut_log i.past.log (take len i.past.diary) in
-    let past_is : c.in_ok-past.past ≡ record { document = doc; log = part; diary = take len i.past.diary; marked = None } =
-    c.in_ok-past.ensures
-    ∙ (ap (λ (d : Document). record { document = d; log = c.in_ok-log.log; diary = take len c.entries.result.now; marked = None }) c.in_ok-tree.ensures
-    ∙ (ap (λ (l : List LogEntry). record { document = doc; log = l; diary = take len c.entries.result.now; marked = None }) log_is
-    ∙ ap (λ (d : List Entry). record { document = doc; log = part; diary = take len d; marked = None }) (c.entries.ensures ∙ c.book-2.ensures))) in
-    let z = to_z w64 (of_z w64 c.last_moment-moment.result) in
-    let at = to_z-of_z w64 c.last_moment-moment.result (record { sfits = c.last_moment-moment.type_inv }) ∙ c.last_moment-moment.ensures ∙ (ap (λ (p : MarkedHistory). last_moment p.diary) past_is ∙ sym (moment_is s doc len may)) in
-    subst (λ (x : Standing). IfOk c.over.result (IsRebuilt x doc len)) c.self.view_is
-    (IfOk-weaker c.over.result (λ (cells : Standing). cells ≡ begun c.in_ok-past.past z) (IsRebuilt s doc len)
-    (λ cells made. rebuilt_is s doc len may c.in_ok-past.past z cells past_is at made) c.over.ensures.begun)
+    subst (λ (d : Document). IfOk c.rebuilt_over.result (IsRebuilt c.args.self.now d c.args.len)) (c.in_ok-of.ensures.tree ∙ c.in_ok-tree.ensures) c.rebuilt_over.ensures.rebuilt
+
+pub returns-clause-most : goal.returns-clause-most
+returns-clause-most g c =
+    subst (λ (d : Document). WhereTold g.T.Table.counts (c.rebuilt_over.new.steps - c.args.steps.now ≤ length (elements d.nodes))) (c.in_ok-of.ensures.tree ∙ c.in_ok-tree.ensures) c.rebuilt_over.ensures.most

@@ -11,12 +11,12 @@ use Rattle.smil_live.proofs.playing.Playing.staying.Goals as goal
 pub edited_node-serial-requires-clause-made : goal.edited_node-serial-requires-clause-made
 edited_node-serial-requires-clause-made g c =
     let same : c.tree.result.now ≡ c.args.self.now.document = c.tree.ensures ∙ ap (λ (q : Presentation). q.document) c.self.view_is in
-    subst (λ (x : Document). IsMade x c.args.site c.args.edited.now) (sym same) c.requires.made
+    subst (λ (x : Document). IsMade x c.args.site c.args.graphed.now.tree) (sym same) c.requires.made
 
 pub returns : goal.returns
 returns g c =
     let p = c.args.self.now in
-    let d = c.args.edited.now in
+    let d = c.args.graphed.now.tree in
     let at = c.args.site in
     let same : c.tree.result.now ≡ p.document = c.tree.ensures ∙ ap (λ (q : Presentation). q.document) c.self.view_is in
     let o = time_parent (site_nodes p.document d at) (site_serial p.document at) in

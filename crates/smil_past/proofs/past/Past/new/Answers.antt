@@ -1,23 +1,13 @@
-use Rattle.std.proofs.Common.{ap, []}
-use Rattle.std.proofs.lemmas.Result.{IfOk-at_ok}
-use Rattle.smil_past.specs.Past.{unmarked}
-use Rattle.smil_past.specs.Chronicle.{TellsNothing}
-use Rattle.smil_past.proofs.Seconds.{backs_none, lags_new}
+use Rattle.std.proofs.Common.{◌≡◌, sym, subst, []}
+use Rattle.std.specs.Prelude.{IfOk}
+use Rattle.smil_model.specs.document.Document.{Document}
+use Rattle.smil_past.specs.Past.{IsPossible, MarkedHistory, unmarked}
 use Rattle.smil_past.proofs.past.Past.new.Goals as goal
 
-pub invariant_of-result : goal.invariant_of-result
-invariant_of-result c =
-    let tree = c.args.tree in
-    let log = c.args.log in
-    let chronicle = c.in_ok-chronicle.chronicle in
-    let nothing = IfOk-at_ok (TellsNothing tree log) c.in_ok-chronicle.was (c.new.ensures log) in record {
-      graph_is = c.in_ok-graph.ensures;
-      syncs_are = c.in_ok-syncs.ensures;
-      tells = (lags_new tree log [] chronicle c.requires nothing).tells;
-      backs_up = backs_none tree log chronicle.book;
-    }
+pub over-requires-clause-possible : goal.over-requires-clause-possible
+over-requires-clause-possible c =
+    subst (λ (d : Document). IsPossible d c.args.log []) (sym c.in_ok-of.ensures.tree) c.requires
 
 pub returns : goal.returns
 returns c =
-    let nothing = IfOk-at_ok (TellsNothing c.args.tree c.args.log) c.in_ok-chronicle.was (c.new.ensures c.args.log) in
-    ap (unmarked c.args.tree c.args.log) nothing.nothing
+    subst (λ (d : Document). IfOk c.over.result (λ (past : MarkedHistory). past ≡ unmarked d c.args.log [])) c.in_ok-of.ensures.tree c.over.ensures

@@ -3,4 +3,4 @@ use Rattle.smil_past.proofs.past.Past.of.Given as goal
 
 -- the past by the first entries
 abbrev pub invariant-loop-entry : goal.invariant-loop-entry
-invariant-loop-entry l = l.past ≡ record { document = l.fn.tree; log = l.fn.log; diary = take l.entry-index l.entries; marked = None }
+invariant-loop-entry l = l.past ≡ record { document = l.fn.graphed.tree; log = l.fn.log; diary = take l.entry-index l.entries; marked = None }
