@@ -34,7 +34,7 @@ unfolding spares
 unlimited (Ok accepted) m = refl
 unlimited (Err fault) m = ap not m
 
--- what goes on the same way has the same outcome
+-- the same steps behind the same results have the same outcome
 then_same : {A B : Type 0} (r q : Result A RefusedOrder) (f g : A → Result B RefusedOrder) → spares (r >>= f) ≡ true → (spares r ≡ true → q ≡ r) → ((x : A) → spares (f x) ≡ true → g x ≡ f x) → (q >>= g) ≡ (r >>= f)
 unfolding spares
 then_same (Ok x) q f g m first later = ap (λ z. z >>= g) (first refl) ∙ later x m

@@ -135,7 +135,7 @@ module _ (old new : Reading) (before rest after : Option (List ℕ)) (came : Lis
         number,
       )
 
-  -- either line, as the reader hands it on
+  -- either line, as the reader shows it
   abbrev pub Hands : Line → Option (List ℕ) → Type 0
   Hands answer text = ((answer ≡ Bytes) × (text ≡ Some new.line)) ⊎ ((answer ≡ LongLine) × (text ≡ None))
 

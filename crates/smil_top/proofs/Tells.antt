@@ -202,9 +202,9 @@ pub unfinished-made : (checks : Bool) (text : AnswerText) (house : Presentations
 unfinished-made true text house session lines line same holds = (holds, inl (ap (λ n. at_line n (Err UnfinishedLoad)) same))
 unfinished-made false text house session lines line same holds = (holds, inl (ap (λ n. at_line n (Err UnfinishedLoad)) same))
 
--- ---- the load that stands open
+-- ---- the load that hasn't ended
 
--- the line that a reader hands on, as `IsLine` says it
+-- the line that a reader shows, in the words of `IsLine`
 abbrev pub Shows : Option (Bor (List ℕ)) → List ℕ → Type 0
 Shows text line = IsLine (option_map {T = Bor (List ℕ)} {U = List ℕ} (λ t. t.now) text) line
 
@@ -239,7 +239,7 @@ running-order checks result run cut count whole told before after room left is n
 pub Goes-nothing : (told : Progress) (before : Option (List ℕ)) (room : ℕ) → WritesAll before before room room [] → Goes (Ok tt) told told before before room room
 Goes-nothing told before room nothing = record { text = []; text_is = sym (append-nil told.text); writes = nothing }
 
--- nothing is told, and a load stands open
+-- nothing is told, and a load hasn't ended
 pub running-load : (checks : Bool) (run : Run) (load : Load) (cut : Cut) (count : ℕ) (whole : List OrderLines) (lines : LoadLines) (told : Progress) (before : Option (List ℕ)) (room : ℕ) →
     cut ≡ record { count = count; whole = whole; «open» = Some lines } → run.load ≡ Some load → IsRead load lines → Tells checks run whole told →
     WritesAll before before room room [] → Answers checks (Ok tt) run cut told before before room room
@@ -249,7 +249,7 @@ running-load checks run load cut count whole lines told before room is loaded re
   running = subst (λ (c : Cut). IsRunning checks run c told) (sym is) (record { tells = tells; load = subst (λ o. IsOpen o (Some lines)) (sym loaded) read });
 }
 
--- nothing is told, and no load stands open
+-- nothing is told, and each load has ended
 pub running-silent : (checks : Bool) (run : Run) (cut : Cut) (count : ℕ) (whole : List OrderLines) (told : Progress) (before : Option (List ℕ)) (room : ℕ) →
     cut ≡ record { count = count; whole = whole; «open» = None } → run.load ≡ None → Tells checks run whole told →
     WritesAll before before room room [] → Answers checks (Ok tt) run cut told before before room room

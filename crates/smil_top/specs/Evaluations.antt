@@ -95,7 +95,7 @@ abbrev pub is_diary_full : Refusal → Bool
 is_diary_full DiaryFull = true
 is_diary_full _ = false
 
--- whether one of the orders is refused so
+-- whether one of the orders is refused for it
 abbrev pub has_full_diary : List OrderLines → Bool
 has_full_diary orders = any_refused_as is_diary_full (answered_by answer_of (map with_ease orders))
 

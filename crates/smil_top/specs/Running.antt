@@ -244,7 +244,7 @@ pub record Goes (result : Result (Unit {0}) Failed) (told more : Progress)
   pub text_is : more.text ≡ told.text ++ text
   pub writes : Writes result before after room left text
 
--- behind what was told more is, which answers the orders that are whole now
+-- more was told, and with it the orders are answered that are whole now
 pub record Answers (checks : Bool) (result : Result (Unit {0}) Failed) (run : Run) (cut : Cut)
     (told : Progress) (before after : Option (List ℕ)) (room left : ℕ) : Type 0 where
   pub more : Progress
