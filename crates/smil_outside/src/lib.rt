@@ -20,7 +20,7 @@ pub use failed::Failed;
 pub use line::{INPUT_BYTES, Line};
 pub use line_reader::LineReader;
 pub use mem_sink::MemSink;
-pub use mem_source::MemSource;
+pub use mem_source::{CHUNK, MemSource};
 pub use sink::{Sink, write_all};
 pub use smil_model::LINE_BYTES;
 pub use source::Source;

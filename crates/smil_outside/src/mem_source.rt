@@ -10,6 +10,9 @@ use crate::source::Source;
 use std::alloc::{AllocError, Global};
 use std::marker::Model;
 
+/// A chunk for a source of which nothing else is asked, in bytes.
+pub const CHUNK: usize = 4_096;
+
 /// Gives the bytes that it was made with, at most `chunk` of them at a read.
 #[derive(Drop)]
 pub struct MemSource {

@@ -5,11 +5,9 @@ ghost use Rattle.std.specs.Prelude.{◌<◌};
 use super::fault::Fault;
 use super::numbers::{number, numbers};
 use smil_model::{Bytes, GrowingList};
+use smil_outside::CHUNK;
 use std::alloc::Global;
 use std::num::NonZeroUsize;
-
-// How many bytes a read gives at most, where no option says so.
-const CHUNK: usize = 4096;
 
 /// How many bytes may be written, where no option says so.
 pub const ROOM: usize = 65_536;

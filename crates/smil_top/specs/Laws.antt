@@ -11,9 +11,10 @@ use Rattle.smil_grammar.specs.declared.read.Read.{Read}
 use Rattle.smil_grammar.specs.declared.read.Read.TheVariants.{Load, Close}
 use Rattle.smil_grammar.specs.Scripts.{first_of, is_title, line_of}
 use Rattle.smil_laws.specs.Migration.{AreBelow, is_for_limit}
+use Rattle.smil_top.specs.declared.fault.Fault.{Fault}
 use Rattle.smil_top.specs.Cut.{NumberedLine, OrderLines, single, load, first_line, whole_orders, orders}
 use Rattle.smil_top.specs.Session.{Session, is_named, presentation_of}
-use Rattle.smil_top.specs.Answers.{Answer, RefusedOrder, at_line, answer_within, check_within}
+use Rattle.smil_top.specs.Answers.{Answer, at_line, answer_within, check_within}
 use Rattle.smil_top.specs.Transcript.{Answering, Progress, untold, with_answer, is_memory, IsTranscriptBy, transcript_by}
 
 -- ---- transcripts, answer by answer
@@ -42,7 +43,7 @@ told_by answering tried = fold (λ told one. with_answer told (answer_to answeri
 
 -- what is heard of an answer: its text, or the refusal and its line
 abbrev pub Heard : Type 0
-Heard = Result (List ℕ) RefusedOrder
+Heard = Result (List ℕ) Fault
 
 -- an answer without the session that it leaves
 abbrev pub heard : Answer → Heard
@@ -180,7 +181,7 @@ abbrev pub last_line : ℕ → List (List ℕ) → List ℕ
 last_line number words = text_line (codes "ok" ∷ decimal number ∷ words)
 
 -- a refusal, with the number of the line at fault
-abbrev pub refused_in : ℕ → Refusal → RefusedOrder
+abbrev pub refused_in : ℕ → Refusal → Fault
 refused_in number refusal = record { line = number; refusal = refusal }
 
 -- two answers are the same but for the line's number, and the number of the line at fault

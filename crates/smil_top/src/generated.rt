@@ -14,12 +14,9 @@ use super::status::Status;
 use itoa::Buffer;
 use smil_gen::session_bytes;
 use smil_model::{Bytes, Steps};
-use smil_outside::MemSource;
+use smil_outside::{CHUNK, MemSource};
 use std::alloc::{AllocError, Global};
 use std::sync::ledger::Ledger;
-
-// How many bytes of a session that is made are read at a time.
-const CHUNK: usize = 4096;
 
 /// The lines that tell of a session, and how it ended.
 #[derive(Drop)]
