@@ -11,3 +11,4 @@ mod subject;
 pub use book::Book;
 pub use fault::BookFault;
 pub use places::{is_from, later_of};
+pub use smil_model::StepKind;

@@ -1,1 +1,4 @@
 pub mod Line
+pub mod Following
+pub mod Once
+pub mod Waiting

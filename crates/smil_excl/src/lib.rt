@@ -4,8 +4,10 @@
 
 mod decision;
 mod held;
+pub mod laws;
 mod queue;
 
 pub use decision::decide;
 pub use held::QueuedChild;
 pub use queue::Queue;
+pub use smil_model::{Act, Class};

@@ -1,8 +1,8 @@
 //! The queue of an excl's paused and deferred children.
 
-ghost use Rattle.std.specs.Prelude.{◌≡◌, ◌<◌, ◌≤◌, ◌==◌, nat_le, nat_lt, [], drop, length, slice_get, option_map, IfOk, IfSome, vec_len, vec_capacity};
-ghost use Rattle.std.specs.List.{list_any, position};
-ghost use Rattle.smil_excl.specs.Line.{Line, paused_before, deferred_after, without};
+ghost use Rattle.std.specs.Prelude.{◌≡◌, ◌<◌, ◌≤◌, nat_le, nat_lt, [], drop, length, slice_get, option_map, IfOk, IfSome, vec_len, vec_capacity};
+ghost use Rattle.std.specs.List.{position};
+ghost use Rattle.smil_excl.specs.Line.{Line, paused_before, deferred_after, without, holds};
 
 use super::held::QueuedChild;
 use smil_model::Duplicate;
@@ -102,7 +102,7 @@ impl Queue {
 
     /// Takes out this child; false exactly where it isn't in the queue. It takes no memory.
     pub fn leave(&mut self, who: u32) -> bool
-        ensures was { result ≡ list_any (λ other. other.who == who) self.old.held }
+        ensures was { result ≡ holds who self.old.held }
         ensures rest { self.new
             ≡ record { held = without who self.old.held; room = self.old.room } }
     {
@@ -113,7 +113,7 @@ impl Queue {
 
     // Whether the queue holds this child.
     fn holds(&self, who: u32) -> bool
-        ensures { result ≡ list_any (λ other. other.who == who) self.now.held }
+        ensures { result ≡ holds who self.now.held }
     {
         self.held.iter().any(|other| other.who == who)
     }

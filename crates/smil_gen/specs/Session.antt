@@ -8,7 +8,7 @@ abbrev pub image_line : ℕ → List ℕ
 image_line k =
     codes "    img id=\"p" ++ decimal k ++ codes "\" dur=\"" ++ decimal (1 + k % 4) ++ codes "s\" end=\"click\"\n"
 
--- a text half a second behind the image's begin
+-- a text from half a second after the image's begin on
 abbrev pub text_line : ℕ → List ℕ
 text_line k =
     codes "    text id=\"c" ++ decimal k ++ codes "\" begin=\"p" ++ decimal k ++ codes ".begin+500ms\" dur=\"1s\"\n"

@@ -72,8 +72,9 @@ fn given_limit(facts: &Facts, ends: &[Time], begin: i64) -> Option<Time>
     }
 }
 
-// The limit where no end instance counts: none for an active element, for one whose list has an
-// event or repeat item, and where the list gives no instance at all.
+// The limit where no end instance counts: unresolved for an active element, for one whose list
+// waits for an event, a repeat or a key, and where the list gives no instance at all; else there is
+// none.
 fn no_end_counts(facts: &Facts, ends: &[Time]) -> Option<Time>
     ensures { result ≡ limit_of facts.now (pos 0) ends.now [] }
 {

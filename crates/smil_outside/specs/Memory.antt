@@ -26,7 +26,7 @@ pub record Giving : Type 0 where
   pub chunk : ℕ
   pub plan : Plan
 
--- no read is told to fail, and none has
+-- no read is to fail, and none has failed
 pub record SurelyGives (source : Giving) : Type 0 where
   pub told : source.plan.fail_at ≡ []
   pub counted : source.plan.faults ≡ 0
@@ -37,6 +37,6 @@ pub record Taking : Type 0 where
   pub room : ℕ
   pub plan : Plan
 
--- the room that is left, where no write is told to fail
+-- the room that is left, where no write is to fail
 abbrev pub sure_room_of : Taking → ℕ
 sure_room_of sink = if length sink.plan.fail_at == 0 then sink.room - length sink.taken else 0

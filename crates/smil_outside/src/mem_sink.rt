@@ -1,4 +1,4 @@
-//! A sink into memory of a fixed size, whose writes fail when they are told to.
+//! A sink into memory of a fixed size, of which writes with given numbers fail.
 
 ghost use Rattle.std.specs.Prelude.{◌≡◌, ◌↔◌, ◌⊎◌, ◌+◌, ◌-◌, ◌<◌, ◌≤◌, [], ◌++◌, length, Some, IsErr, IsOk, IfOk, OnOk, OnErr, Contains};
 ghost use Rattle.std.specs.Io.KnownBytes.{WriteAppends};
@@ -62,8 +62,8 @@ impl Sink for MemSink {
 
     ghost sure_room = { sure_room_of };
 
-    /// Takes the whole piece. It fails where the piece would pass the room, and at the numbers
-    /// told.
+    /// Takes the whole piece. It fails where the piece would pass the room, and at the numbers in
+    /// `fail_at`.
     fn write(&mut self, piece: &[u8]) -> Result<usize, Failed>
         ensures bound { IfOk result (λ n. n ≤ length piece.now) }
         ensures progress { IfOk result (λ n. 0 < length piece.now → 0 < n) }

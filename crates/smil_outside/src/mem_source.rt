@@ -1,4 +1,4 @@
-//! A source over bytes in memory, whose reads fail when they are told to.
+//! A source over bytes in memory, of which reads with given numbers fail.
 
 ghost use Rattle.std.specs.Prelude.{◌≡◌, ◌↔◌, ◌+◌, ◌<◌, ◌≤◌, length, drop, min, Some, IsErr, IsOk, IfOk, OnErr, Contains};
 ghost use Rattle.std.specs.Io.KnownBytes.{ReadConsumes};
@@ -65,7 +65,8 @@ impl Source for MemSource {
 
     ghost never_fails = { SurelyGives };
 
-    /// Gives as many bytes as the chunk, the buffer and the rest allow.
+    /// Gives as many bytes as the chunk, the buffer and the rest allow. It fails at the numbers in
+    /// `fail_at`.
     fn read(&mut self, buf: &mut [u8]) -> Result<usize, Failed>
         ensures bound { IfOk result (λ n. n ≤ length buf.new) }
         ensures bytes { ReadConsumes (Some self.old.rest) (Some self.new.rest) result buf.new }

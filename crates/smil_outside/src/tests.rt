@@ -121,25 +121,26 @@ impl Source for Lines {
     }
 }
 
+// Reads so many bytes to the first answer that is no line, and expects this one.
+fn expect_limit<R: AllocGlobal + Abort>(rt: &R, left: usize, wanted: Line) -> Result<(), Fail> {
+    let mut source = Lines { left };
+    let mut reader = LineReader::new(rt.alloc())?;
+    let mut answer = Line::Bytes;
+    for _ in 0..INPUT_BYTES {
+        answer = reader.next(&mut source);
+        if answer != Line::Bytes {
+            break;
+        }
+    }
+    assert_eq!(rt; answer, wanted);
+    assert_eq!(rt; reader.number(), 1_048_576);
+    Ok(())
+}
+
 #[test]
 fn input_limit(rt: HostRuntime) -> Result<(), Fail> {
-    for (left, wanted) in [
-        (INPUT_BYTES, Line::End),
-        (INPUT_BYTES + 1, Line::InputTooLong),
-    ] {
-        let mut source = Lines { left };
-        let mut reader = LineReader::new(rt.alloc())?;
-        let mut answer = Line::Bytes;
-        for _ in 0..INPUT_BYTES {
-            answer = reader.next(&mut source);
-            if answer != Line::Bytes {
-                break;
-            }
-        }
-        assert_eq!(rt; answer, wanted);
-        assert_eq!(rt; reader.number(), 1_048_576);
-    }
-    Ok(())
+    expect_limit(&rt, INPUT_BYTES, Line::End)?;
+    expect_limit(&rt, INPUT_BYTES + 1, Line::InputTooLong)
 }
 
 #[test]

@@ -13,7 +13,6 @@ pub mod Classing
 pub mod Listing
 pub mod Placing
 pub mod Taking
-pub mod Waiting
 pub mod Law
 pub mod References
 pub mod Appended

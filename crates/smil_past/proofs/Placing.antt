@@ -1,22 +1,24 @@
 -- A change of the queue of one node.
-use Rattle.std.proofs.Common.{◌≡◌, refl, sym, ◌∙◌, ap, subst, ℕ, zero, suc, ◌+◌, ◌≤◌, List, [], ◌∷◌, Option, Some, None, Bool, true, false, length, get_or, arith}
+use Rattle.std.proofs.Common.{◌≡◌, refl, sym, ◌∙◌, ap, subst, ℕ, zero, suc, ◌+◌, ◌<◌, ◌≤◌, List, [], ◌∷◌, Option, Some, None, Bool, true, false, length, get_or, arith}
 use Rattle.std.specs.Prelude.{cond, not, ◌==◌, nat_lt, map, set, slice_get, option_map}
 use Rattle.std.specs.List.{AllByRecursion, position}
 use Rattle.std.specs.Option.{option_and_then}
 use Rattle.std.proofs.lemmas.Bool.{ltb-true, ltb-false, lt-ltb, le-ltb, eq-eqb}
+use Rattle.std.proofs.lemmas.List.{length-map}
 use Rattle.std.proofs.lemmas.Option.{slice_get-map, get_or_from_slice_get, same_Some}
 use Rattle.smil_model.specs.declared.document.Node.{Node}
 use Rattle.smil_model.specs.document.Document.{has_serial, time_parent}
 use Rattle.smil_model.specs.document.Valid.{IsDistinct}
-use Rattle.smil_model.specs.happening.Queue.{is_child_of}
+use Rattle.smil_model.specs.happening.Queue.{is_child_of, rank}
 use Rattle.smil_laws.proofs.Lineages.{swap_eqb}
 use Rattle.smil_laws.proofs.Aside.{map_all}
 use Rattle.smil_laws.proofs.Members.{differ_each}
 use Rattle.smil_laws.proofs.Lists.{each_at}
-use Rattle.smil_excl.specs.Line.{Line}
+use Rattle.smil_excl.specs.declared.held.QueuedChild.{QueuedChild}
+use Rattle.smil_excl.specs.Line.{Line, line_in, ranked}
 use Rattle.smil_stretch.specs.Clocks.{parent_place}
 use Rattle.smil_stretch.proofs.Placed.{place, IsFound, found_at}
-use Rattle.smil_past.specs.Queues.{line_in, lines}
+use Rattle.smil_past.specs.Queues.{HasRoom, lines}
 
 module _ (f g : ℕ → Line) where
   changed_there : (ns : List Node) (k : ℕ) (n : Node) → IsDistinct ns → slice_get ns k ≡ Some n → ((e : ℕ) → n.serial == e ≡ false → f e ≡ g e) → set (map (λ (m : Node). f m.serial) ns) k (g n.serial) ≡ map (λ (m : Node). g m.serial) ns
@@ -124,3 +126,24 @@ module _ (nodes : List Node) (who : ℕ) (change : List ℕ → List ℕ) (queue
     where
       itself : (s : ℕ) → s == s ≡ true
       itself s = eq-eqb s s refl
+
+-- ---- a child is put in
+
+module _ (nodes : List Node) (who k : ℕ) (kept : List Line) (d : Line) (q : Some k ≡ parent_place nodes who) where
+  -- the queue of the time parent has room
+  pub room_there : HasRoom kept nodes who → length (get_or kept k d).held < (get_or kept k d).room
+  room_there room =
+      let of = parent_there nodes who k q in
+      subst (λ (l : Line). length l.held < l.room) (sym (line_there nodes room.queue kept k of.parent d room.value of.at))
+      (subst (λ n. n < (line_in nodes of.parent (room.queue of.parent)).room) (sym (length-map (room.queue of.parent) (ranked nodes)))
+      (room.room of.parent (of.children of.parent ∙ eq-eqb of.parent of.parent refl)))
+
+  -- and what is put in it with its rank is what the model puts in
+  pub put_there : (put : QueuedChild → List QueuedChild → List QueuedChild) (change : List ℕ → List ℕ) → ((queue : List ℕ) → put (ranked nodes who) (map (ranked nodes) queue) ≡ map (ranked nodes) (change queue)) → (r : ℕ) (now : Line) (queue : ℕ → List ℕ) → IsDistinct nodes → kept ≡ lines nodes queue → r ≡ rank nodes who → now ≡ record { held = put (record { who = who; rank = r }) (get_or kept k d).held; room = (get_or kept k d).room } → set kept k now ≡ lines nodes (joined nodes who change queue)
+  put_there put change same r now queue distinct is ranks made =
+      let of = parent_there nodes who k q in
+      child_changed nodes who change queue kept k now of distinct is
+      (made
+      ∙ ap (λ r. record { held = put (record { who = who; rank = r }) (get_or kept k d).held; room = (get_or kept k d).room }) ranks
+      ∙ ap (λ (l : Line). record { held = put (ranked nodes who) l.held; room = l.room }) (line_there nodes queue kept k of.parent d is of.at)
+      ∙ ap (λ held. record (line_in nodes of.parent (queue of.parent)) { held = held }) (same (queue of.parent)))

@@ -1,6 +1,6 @@
 -- What a lawful step makes of the queues.
-use Rattle.std.proofs.Common.{◌≡◌, refl, sym, ◌∙◌, ap, subst, ℕ, ℤ, ◌<◌, List, [], ◌∷◌, Bool, true, false, length, inl, inr}
-use Rattle.std.specs.Prelude.{cond, ◌==◌, ◌⊎◌, ◌&&◌, not, is_some, option_map, slice_get, map}
+use Rattle.std.proofs.Common.{◌≡◌, refl, sym, ◌∙◌, ap, subst, ℕ, ℤ, ◌<◌, List, [], Bool, true, false, length, inl, inr}
+use Rattle.std.specs.Prelude.{cond, ◌==◌, ◌⊎◌, ◌&&◌, not, is_some}
 use Rattle.std.proofs.lemmas.Bool.{and_parts}
 use Rattle.std.proofs.lemmas.List.{length-map}
 use Rattle.std.proofs.lemmas.List.Sums.{fold_push}
@@ -12,17 +12,12 @@ use Rattle.smil_model.specs.document.Document.{node_at, time_children}
 use Rattle.smil_model.specs.diary.Diary.{History, is_active, is_paused}
 use Rattle.smil_model.specs.diary.Lawful.{has_element, is_lawful_step, may_begin}
 use Rattle.smil_model.specs.happening.Queue.{is_child_of, put_paused, put_deferred, queue_after, queue_of, without}
-use Rattle.smil_excl.specs.declared.held.QueuedChild.{QueuedChild}
-use Rattle.smil_excl.specs.Line.{Line, ranked}
+use Rattle.smil_excl.specs.Line.{Line}
+use Rattle.smil_excl.proofs.Waiting.{left_is, has_room}
 use Rattle.smil_model.specs.diary.Diary.{with_entry}
 use Rattle.smil_past.specs.Queues.{HasRoom, MayTakeIn, with_deferred, without_children, without_child, lines, with_paused, queues_after}
 use Rattle.smil_past.proofs.Listing.{known_node}
 use Rattle.smil_past.proofs.Placing.{lines_same}
-use Rattle.smil_past.proofs.Waiting.{left_is, has_room}
-
-pub first_of : (nodes : List Node) (queue : List ℕ) → option_map (λ (f : QueuedChild). f.who) (slice_get (map (ranked nodes) queue) 0) ≡ slice_get queue 0
-first_of nodes [] = refl
-first_of nodes (x ∷ xs) = refl
 
 pub lines_long : (nodes : List Node) (queue : ℕ → List ℕ) (kept : List Line) → kept ≡ lines nodes queue → length kept ≡ length nodes
 lines_long nodes queue kept is = ap length is ∙ length-map nodes _

@@ -9,12 +9,8 @@ use Rattle.smil_model.specs.document.Document.{Document, time_children}
 use Rattle.smil_model.specs.diary.Diary.{History}
 use Rattle.smil_model.specs.diary.Lawful.{IsLawful, is_lawful_step}
 use Rattle.smil_model.specs.happening.Queue.{queue_of, queue_after, class_facts, is_child_of, without, put_paused, put_deferred}
-use Rattle.smil_excl.specs.Line.{Line, ranked}
+use Rattle.smil_excl.specs.Line.{Line, line_in}
 use Rattle.smil_model.specs.diary.Diary.{with_entry}
-
--- a queue of an element, with the ranks of those in it, and room for all time children
-abbrev pub line_in : List Node → ℕ → List ℕ → Line
-line_in nodes serial queue = record { held = map (ranked nodes) queue; room = length (time_children nodes serial) }
 
 -- the queues of all nodes, in document order; only those of excls are ever filled in a resolved diary
 abbrev pub lines : List Node → (ℕ → List ℕ) → List Line

@@ -13,4 +13,5 @@ pub use past::{GraphedTree, Past};
 pub use plays::{PastInterval, PlayFacts, Plays};
 pub use queues::Queues;
 pub use readings::Readings;
+pub use smil_model::Class;
 pub use syncs::{Syncbase, Syncs};

@@ -18,7 +18,7 @@
 //! | .. `reads=N,N..` `writes=N,N..` | the reads and the writes that fail, counted from 1 |
 //! | `\|TEXT` | a line of the input that ends with a line feed |
 //! | `crlf\|TEXT` | one that ends with a carriage return and a line feed |
-//! | `open\|TEXT` | one without an end |
+//! | `open\|TEXT` | one that ends with neither |
 //! | `end` | the session is served |
 //! | `turns WORD..` | a session that is read line by line |
 //! | `N\|TEXT` | a line, which ends with a line feed: a read gives it if N bytes of answers were taken, no more and no fewer, and fails otherwise |
@@ -27,8 +27,8 @@
 //! An empty line and one that begins with `#` say nothing. Of each session are written `session` and
 //! the number of its header among all headers, the transcript as it was taken, and `exit` with the
 //! exit number. A line that has no reading is left out, and told as `refused` with its number among
-//! the lines; a header so where its session has no end. `memory` in that place says that there was
-//! none for what the line asks.
+//! the lines; so is a header whose session has no end. `memory` in place of `refused` says that
+//! memory ran out at the line.
 #![tactic(auto)]
 
 mod listing;

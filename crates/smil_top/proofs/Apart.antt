@@ -16,9 +16,10 @@ use Rattle.smil_grammar.specs.Scripts.{is_title, line_of}
 use Rattle.smil_grammar.specs.Formats.{formats}
 use Rattle.smil_grammar.specs.Outlines.{Outline, no_lines, ended, version_of}
 use Rattle.smil_live.proofs.AgreedReferences.{bytes_same}
+use Rattle.smil_top.specs.declared.fault.Fault.{Fault}
 use Rattle.smil_top.specs.Cut.{NumberedLine, LoadLines, OrderLines, single, load, is_short}
 use Rattle.smil_top.specs.Session.{Session, presentation_of, with_state, without, may_load}
-use Rattle.smil_top.specs.Answers.{RefusedOrder, Answer, LoadedDocument, at_line, found_presentation, said_within, name_of, outline_from, given_within, loaded_within, answer_within}
+use Rattle.smil_top.specs.Answers.{Answer, LoadedDocument, at_line, found_presentation, said_within, name_of, outline_from, given_within, loaded_within, answer_within}
 use Rattle.smil_top.specs.Laws.{heard, session_after, refuses_as, loads, is_of, part_of, is_too_many, IsOwn as HasOwn}
 use Rattle.smil_top.proofs.Aside.{document_from}
 use Rattle.smil_top.proofs.Sifted.{part-with, part-without, part-own, presentation-part, may-part, with-other, without-other, loaded-other}
@@ -27,18 +28,18 @@ use Rattle.smil_top.proofs.Isolated.{IsOwn, IsOther, own_line, other_line}
 -- ---- what a load gives has the name of its first line
 
 module _ (allowed : Limits) (line end_line : ℕ) (nodes : List NumberedLine) where
-  abbrev nodes_from : List ℕ → Result Outline RefusedOrder → Result LoadedDocument RefusedOrder
+  abbrev nodes_from : List ℕ → Result Outline Fault → Result LoadedDocument Fault
   nodes_from name o = o >>= λ outline. document_from name outline (at_line end_line (ended outline))
 
-  abbrev given_from : Result Read Refusal → Result LoadedDocument RefusedOrder
+  abbrev given_from : Result Read Refusal → Result LoadedDocument Fault
   given_from r = at_line line (r >>= name_of) >>= λ name. nodes_from name (outline_from allowed no_lines nodes)
 
-  name_by : (name : List ℕ) (outline : Outline) (d : Result Document RefusedOrder) (given : LoadedDocument) → document_from name outline d ≡ Ok given → name ≡ given.name
+  name_by : (name : List ℕ) (outline : Outline) (d : Result Document Fault) (given : LoadedDocument) → document_from name outline d ≡ Ok given → name ≡ given.name
   name_by name outline (Ok document) given e =
       let is : record { name = name; document = document; version = version_of outline } ≡ given = cc in ap (λ (g : LoadedDocument). g.name) is
   name_by name outline (Err fault) given e = absurd cc
 
-  name_from : (name : List ℕ) (o : Result Outline RefusedOrder) (given : LoadedDocument) → nodes_from name o ≡ Ok given → name ≡ given.name
+  name_from : (name : List ℕ) (o : Result Outline Fault) (given : LoadedDocument) → nodes_from name o ≡ Ok given → name ≡ given.name
   name_from name (Ok outline) given e = name_by name outline (at_line end_line (ended outline)) given e
   name_from name (Err fault) given e = absurd cc
 
@@ -93,7 +94,7 @@ module _ (allowed : Limits) (name : List ℕ) (session : Session) where
   single_stays line true r apart = read_stays line r apart
   single_stays line false r apart = refl
 
-  given_stays : (lines : LoadLines) (end_line : ℕ) (g : Result LoadedDocument RefusedOrder) → given_within allowed lines end_line ≡ g → loads name (line_of lines.head.text) ≡ false
+  given_stays : (lines : LoadLines) (end_line : ℕ) (g : Result LoadedDocument Fault) → given_within allowed lines end_line ≡ g → loads name (line_of lines.head.text) ≡ false
       → Stays (g >>= λ given. at_line lines.head.number (loaded_within allowed session lines.head.number given))
   given_stays lines end_line (Ok given) e h =
       let title = given_name allowed lines.head.number end_line lines.nodes (line_of lines.head.text) given e in
@@ -120,7 +121,7 @@ module _ (allowed : Limits) (name : List ℕ) (session : Session) where
     heard_is : heard small ≡ heard large
     after_is : session_after part small ≡ part_of name (session_after session large)
 
-  refused_alike : (fault : RefusedOrder) → Alike (Err fault) (Err fault)
+  refused_alike : (fault : Fault) → Alike (Err fault) (Err fault)
   refused_alike fault = record { heard_is = refl; after_is = refl }
 
   module _ (line : ℕ) where
@@ -205,7 +206,7 @@ module _ (allowed : Limits) (name : List ℕ) (session : Session) where
   loads_is : (r : Result Read Refusal) (given : LoadedDocument) → r ≡ Ok (Load given.name) → loads name r ≡ true → given.name ≡ name
   loads_is r given e h = bytes_same given.name name (ap (loads name) (sym e) ∙ h)
 
-  given_alike : (lines : LoadLines) (end_line : ℕ) (g : Result LoadedDocument RefusedOrder) → given_within allowed lines end_line ≡ g → loads name (line_of lines.head.text) ≡ true
+  given_alike : (lines : LoadLines) (end_line : ℕ) (g : Result LoadedDocument Fault) → given_within allowed lines end_line ≡ g → loads name (line_of lines.head.text) ≡ true
       → refuses_as is_too_many (heard (g >>= given_in session lines.head.number)) ≡ false
       → Alike (g >>= given_in part lines.head.number) (g >>= given_in session lines.head.number)
   given_alike lines end_line (Ok given) e h few =

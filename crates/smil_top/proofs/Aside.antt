@@ -17,20 +17,21 @@ use Rattle.smil_grammar.specs.Results.{◌>>=◌}
 use Rattle.smil_grammar.specs.Scripts.{line_of}
 use Rattle.smil_grammar.specs.Formats.{formats}
 use Rattle.smil_grammar.specs.Outlines.{Outline, no_lines, line_within, ended, version_of}
+use Rattle.smil_top.specs.declared.fault.Fault.{Fault}
 use Rattle.smil_top.specs.Cut.{NumberedLine, OrderLines, single, load, first_line}
 use Rattle.smil_top.specs.Session.{Session, presentation_of, with_state, without, may_load}
-use Rattle.smil_top.specs.Answers.{RefusedOrder, Answer, LoadedDocument, at_line, read_of, found_presentation, said_within, name_of, outline_from, given_within, loaded_within, answer_within}
+use Rattle.smil_top.specs.Answers.{Answer, LoadedDocument, at_line, read_of, found_presentation, said_within, name_of, outline_from, given_within, loaded_within, answer_within}
 use Rattle.smil_top.specs.Transcript.{Answering, untold}
 use Rattle.smil_top.specs.Laws.{OrderAttempt, AnsweredOrder, answer_to, heard, session_after, answered_from, numbered_by, renumbered, renumbered_try, AreSameBut, without_text, with_text, refused_at, AreAside}
 use Rattle.smil_top.proofs.Retold.{sessions_from, sessions-told}
 
 -- what a load gives, by its name, its outline and what the outline's end gives
-abbrev pub document_from : List ℕ → Outline → Result Document RefusedOrder → Result LoadedDocument RefusedOrder
+abbrev pub document_from : List ℕ → Outline → Result Document Fault → Result LoadedDocument Fault
 document_from name outline d = d >>= λ document. Ok (record { name = name; document = document; version = version_of outline })
 
 module _ (allowed : Limits) (given : ℕ → ℕ) where
   -- the same with the line of a fault moved
-  abbrev moved : {A : Type 0} → Result A RefusedOrder → Result A RefusedOrder
+  abbrev moved : {A : Type 0} → Result A Fault → Result A Fault
   moved (Ok x) = Ok x
   moved (Err fault) = Err (record { line = given fault.line; refusal = fault.refusal })
 
@@ -55,10 +56,10 @@ module _ (allowed : Limits) (given : ℕ → ℕ) where
   ended-moved name outline end_line (Ok document) = refl
   ended-moved name outline end_line (Err refusal) = refl
 
-  abbrev nodes_from : List ℕ → ℕ → Result Outline RefusedOrder → Result LoadedDocument RefusedOrder
+  abbrev nodes_from : List ℕ → ℕ → Result Outline Fault → Result LoadedDocument Fault
   nodes_from name end_line o = o >>= λ outline. document_from name outline (at_line end_line (ended outline))
 
-  nodes-moved : (name : List ℕ) (end_line : ℕ) (o : Result Outline RefusedOrder) → nodes_from name (given end_line) (moved o) ≡ moved (nodes_from name end_line o)
+  nodes-moved : (name : List ℕ) (end_line : ℕ) (o : Result Outline Fault) → nodes_from name (given end_line) (moved o) ≡ moved (nodes_from name end_line o)
   nodes-moved name end_line (Ok outline) = ended-moved name outline end_line (ended outline)
   nodes-moved name end_line (Err fault) = refl
 
@@ -119,10 +120,10 @@ module _ (allowed : Limits) (given : ℕ → ℕ) where
     loaded_same line what (Ok free) = opened_same line what (opened_within allowed what.document)
     loaded_same line what (Err refusal) = (refused_at line refusal, refl)
 
-    abbrev given_at : ℕ → Result LoadedDocument RefusedOrder → Answer
+    abbrev given_at : ℕ → Result LoadedDocument Fault → Answer
     given_at line g = g >>= λ what. at_line line (loaded_within allowed session line what)
 
-    given_same : (line : ℕ) (g : Result LoadedDocument RefusedOrder) → Same line (given_at line g) (given_at (given line) (moved g))
+    given_same : (line : ℕ) (g : Result LoadedDocument Fault) → Same line (given_at line g) (given_at (given line) (moved g))
     given_same line (Ok what) = loaded_same line what (may_load what.name session)
     given_same line (Err fault) = (refused_at fault.line fault.refusal, refl)
 
@@ -130,7 +131,7 @@ module _ (allowed : Limits) (given : ℕ → ℕ) where
     order_same (single line) = read_same line.number (read_of line.text)
     order_same (load lines None) = (refused_at lines.head.number _, refl)
     order_same (load lines (Some end_line)) =
-        subst (λ (g : Result LoadedDocument RefusedOrder). Same lines.head.number (given_at lines.head.number (given_within allowed lines end_line)) (given_at (given lines.head.number) g))
+        subst (λ (g : Result LoadedDocument Fault). Same lines.head.number (given_at lines.head.number (given_within allowed lines end_line)) (given_at (given lines.head.number) g))
         (sym (title-moved lines.head.number end_line lines.nodes (line_of lines.head.text >>= name_of))) (given_same lines.head.number (given_within allowed lines end_line))
 
     renumbered-first : (order : OrderLines) → first_line (renumbered given order) ≡ given (first_line order)

@@ -32,9 +32,10 @@ use Rattle.smil_grammar.specs.Scripts.{Reading, given, timed, end_timed, finish,
 use Rattle.smil_grammar.specs.Formats.{formats, written_at}
 use Rattle.smil_grammar.specs.Nodes.{Shape, is_space, shape_of, kind_of_shape}
 use Rattle.smil_grammar.specs.Outlines.{Outline, no_lines, unless, is_misplaced, is_bad_serial, has_id, in_line, attrs_in, last_of, node_within, opens_saved, shape_in, with_header, header_of, shape_within, read_within, line_within, ended, with_node}
+use Rattle.smil_top.specs.declared.fault.Fault.{Fault}
 use Rattle.smil_top.specs.Cut.{NumberedLine, LoadLines, OrderLines, single, load}
 use Rattle.smil_top.specs.Session.{Session, presentation_of, may_load}
-use Rattle.smil_top.specs.Answers.{RefusedOrder, Answer, LoadedDocument, at_line, read_of, found_presentation, said_within, name_of, outline_from, given_within, loaded_within, silent, answer_within, check_within}
+use Rattle.smil_top.specs.Answers.{Answer, LoadedDocument, at_line, read_of, found_presentation, said_within, name_of, outline_from, given_within, loaded_within, silent, answer_within, check_within}
 use Rattle.smil_top.specs.Transcript.{is_memory}
 use Rattle.smil_top.specs.Laws.{heard, refuses_as}
 use Rattle.smil_top.proofs.Sure.{Sure, made, refused, either, onward, attr_sure, attrs_sure, kind_shape_sure, node_sure, name_sure, column_sure, node_lacks}
@@ -256,7 +257,7 @@ outcome_sure allowed p (order.Stack who name) = on_sure p who _ (λ n. made is_m
 
 -- ---- orders
 
-abbrev fault_lacks : RefusedOrder → Bool
+abbrev fault_lacks : Fault → Bool
 fault_lacks fault = is_memory fault.refusal
 
 at_line_sure : {A : Type 0} (line : ℕ) (r : Result A Refusal) → Fine r → Sure fault_lacks (at_line line r)

@@ -25,13 +25,13 @@ use Rattle.smil_top.specs.declared.given.LoadedDoc.{LoadedDoc as GivenDoc}
 use Rattle.smil_top.specs.declared.run.Run.{Run}
 use Rattle.smil_top.specs.Cut.{Cut, LoadLines, OrderLines, cut_of, load, unended, with_line}
 use Rattle.smil_top.specs.Session.{Session, presentation_of, may_load}
-use Rattle.smil_top.specs.Answers.{Answer, LoadedDocument, RefusedOrder, at_line, found_presentation, given_within, answer_of}
+use Rattle.smil_top.specs.Answers.{Answer, LoadedDocument, at_line, found_presentation, given_within, answer_of}
 use Rattle.smil_top.specs.Transcript.{Progress, MayAnswer, is_memory, transcript_by, untold}
 use Rattle.smil_top.specs.Serving.{status_by}
 use Rattle.smil_top.specs.Laws.{heard, refuses_as}
 use Rattle.smil_top.specs.Evaluations.{Bound, most, least, ordered_number, said_number, line_number, loaded_number, number_of, least_of, most_of, sum_of, is_diary_full, IsBounded, AreEvaluated}
 use Rattle.smil_top.specs.Houses.{Presentations, Holds}
-use Rattle.smil_top.specs.Running.{fault_at, given_of, refused_by, EvaluatesOn, Gives, HasEvaluated, IsCounted, IsCountedBy, IsOrderCounted, MakesAnswer, Tells}
+use Rattle.smil_top.specs.Running.{given_of, EvaluatesOn, Gives, HasEvaluated, IsCounted, IsCountedBy, IsOrderCounted, MakesAnswer, Tells}
 use Rattle.smil_top.proofs.CutLines.{is_short-true}
 use Rattle.smil_top.proofs.Cuts.{cut_of-one_more}
 use Rattle.smil_top.proofs.HouseLemmas.{may_load-held}
@@ -119,7 +119,7 @@ counted-line r session line read rise short is counted =
 
 -- a single line
 pub counted-single : (r : Result (Unit {0}) Refusal) (line : ℕ) (number : Bound → Result ℕ Refusal) (rise : ℕ) → IsCounted r number rise →
-    IsOrderCounted (fault_at line r) (λ bound. result_unwrap_or (number bound) 0) rise
+    IsOrderCounted (at_line line r) (λ bound. result_unwrap_or (number bound) 0) rise
 counted-single (Ok done) line number rise counted = counted
 counted-single (Err refusal) line number rise counted = counted
 
@@ -131,15 +131,15 @@ at_line-number line (Err refusal) = refl
 pub counted-load : (r : Result (Unit {0}) Refusal) (session : Session) (lines : LoadLines) (line end_line : ℕ) (given : GivenDoc) (rise : ℕ) →
     Gives (Ok given) (given_within limits lines end_line) ⊎ (fine given ≡ Err (record { line = lines.head.number; refusal = Memory })) →
     IsCounted r (λ bound. loaded_number bound session (given_of given)) rise →
-    IsOrderCounted (fault_at line r) (λ bound. number_of bound session (load lines (Some end_line))) rise
+    IsOrderCounted (at_line line r) (λ bound. number_of bound session (load lines (Some end_line))) rise
 counted-load r session lines line end_line given rise (inr never) counted = absurd cc
 counted-load r session lines line end_line given rise (inl gives) counted =
     let same : (bound : Bound) → result_unwrap_or (loaded_number bound session (given_of given)) 0 ≡ number_of bound session (load lines (Some end_line)) =
     λ bound.
     at_line-number lines.head.number (loaded_number bound session (given_of given))
-    ∙ sym (ap (λ (g : Result LoadedDocument RefusedOrder). result_unwrap_or (g >>= λ (g : LoadedDocument). at_line lines.head.number (loaded_number bound session g)) 0) gives)
+    ∙ sym (ap (λ (g : Result LoadedDocument Fault). result_unwrap_or (g >>= λ (g : LoadedDocument). at_line lines.head.number (loaded_number bound session g)) 0) gives)
     in
-    counted-same (λ (fault : Fault). fault.refusal) (fault_at line r)
+    counted-same (λ (fault : Fault). fault.refusal) (at_line line r)
     (λ bound. result_unwrap_or (loaded_number bound session (given_of given)) 0)
     (λ bound. number_of bound session (load lines (Some end_line)))
     rise
@@ -168,14 +168,14 @@ within-bounds (Err fault) text counts house session order rise made counted enou
     sufficed : is_memory fault.refusal ≡ false
     sufficed = (or_parts counts.memory (is_memory fault.refusal) enough).1
 
-    go : MayAnswer answer_of session order (Err (refused_by fault)) → (fault.refusal ≡ DiaryFull) ⊎ ((fault.refusal ≡ Memory) ⊎ (rise ≡ 0)) →
+    go : MayAnswer answer_of session order (Err fault) → (fault.refusal ≡ DiaryFull) ⊎ ((fault.refusal ≡ Memory) ⊎ (rise ≡ 0)) →
         (number_of least session order ≤ rise) × (rise ≤ number_of most session order)
     go (inr memory) c = clash (is_memory fault.refusal) (ap (λ (a : Answer). refuses_as is_memory (heard a)) memory) sufficed
     go (inl is) (inl full) =
         clash (is_diary_full fault.refusal) (ap is_diary_full full) (ap (λ (a : Answer). refuses_as is_diary_full (heard a)) is ∙ not_full)
     go (inl is) (inr (inl memory)) = clash (is_memory fault.refusal) (ap is_memory memory) sufficed
     go (inl is) (inr (inr none)) =
-        let least_is : number_of least session order ≡ 0 = refused-0 least least_spares session order (refused_by fault) (sym is) in
+        let least_is : number_of least session order ≡ 0 = refused-0 least least_spares session order fault (sym is) in
         (omega arith, omega arith)
 
 pub evaluated-more : (run : Run) (new : Counts) (orders : List OrderLines) (told : Progress) (order : OrderLines) (answered : Result (Unit {0}) Fault) (text : AnswerText) (house : Presentations) (before after : ℕ) →

@@ -11,12 +11,12 @@ use Rattle.smil_top.specs.declared.given.LoadedDoc.{LoadedDoc as GivenDoc}
 use Rattle.smil_top.specs.declared.load.Load.{Load}
 use Rattle.smil_top.specs.declared.given.NamedOutline.{NamedOutline}
 use Rattle.smil_top.specs.Cut.{NumberedLine, LoadLines}
-use Rattle.smil_top.specs.Answers.{RefusedOrder, at_line, name_of, outline_from, given_within}
+use Rattle.smil_top.specs.Answers.{at_line, name_of, outline_from, given_within}
 use Rattle.smil_top.specs.Running.{Gives, IsRead, Reads, ReadsTitle, given_at, reading_of, with_node}
 
 -- ---- chains of steps that may be refused
 
-unit-step : {A : Type 0} (r : Result A RefusedOrder) → r ≡ (r >>= λ x. Ok x)
+unit-step : {A : Type 0} (r : Result A Fault) → r ≡ (r >>= λ x. Ok x)
 unit-step (Ok x) = refl
 unit-step (Err e) = refl
 
@@ -26,20 +26,20 @@ outline-append : (outline : Outline) (lines : List NumberedLine) (this : Numbere
 outline-append outline [] this = sym (unit-step (at_line this.number (line_within limits outline this.text)))
 outline-append outline (line ∷ lines) this = go (at_line line.number (line_within limits outline line.text)) (λ more. outline-append more lines this)
   where
-    go : (r : Result Outline RefusedOrder) →
+    go : (r : Result Outline Fault) →
         ((more : Outline) → outline_from limits more (lines ++ this ∷ []) ≡ (outline_from limits more lines >>= λ (o : Outline). at_line this.number (line_within limits o this.text))) →
         (r >>= λ (more : Outline). outline_from limits more (lines ++ this ∷ []))
         ≡ ((r >>= λ (more : Outline). outline_from limits more lines) >>= λ (o : Outline). at_line this.number (line_within limits o this.text))
     go (Ok more) rest = rest more
     go (Err e) rest = refl
 
-abbrev joined : Result (List ℕ) RefusedOrder → Result Outline RefusedOrder → Result (List ℕ × Outline) RefusedOrder
+abbrev joined : Result (List ℕ) Fault → Result Outline Fault → Result (List ℕ × Outline) Fault
 joined r s = r >>= λ (name : List ℕ). s >>= λ (o : Outline). Ok (name, o)
 
-abbrev further : (Outline → Result Outline RefusedOrder) → List ℕ × Outline → Result (List ℕ × Outline) RefusedOrder
+abbrev further : (Outline → Result Outline Fault) → List ℕ × Outline → Result (List ℕ × Outline) Fault
 further f x = f x.1 >>= λ (o : Outline). Ok (x.0, o)
 
-chain : (r : Result (List ℕ) RefusedOrder) (s : Result Outline RefusedOrder) (f : Outline → Result Outline RefusedOrder) →
+chain : (r : Result (List ℕ) Fault) (s : Result Outline Fault) (f : Outline → Result Outline Fault) →
     joined r (s >>= f) ≡ (joined r s >>= further f)
 chain (Err e) s f = refl
 chain (Ok name) (Err e) f = refl
@@ -57,7 +57,7 @@ reading-more : (lines : LoadLines) (this : NumberedLine) →
     reading_of (more_lines lines this) ≡ (reading_of lines >>= λ (x : List ℕ × Outline). with_node x.0 x.1 this)
 reading-more lines this =
     let name = at_line lines.head.number (line_of lines.head.text >>= name_of) in
-    ap (λ (s : Result Outline RefusedOrder). joined name s) (outline-append no_lines lines.nodes this)
+    ap (λ (s : Result Outline Fault). joined name s) (outline-append no_lines lines.nodes this)
     ∙ chain name (outline_from limits no_lines lines.nodes) (λ (o : Outline). at_line this.number (line_within limits o this.text))
 
 -- the line was read behind those before it
@@ -119,7 +119,7 @@ IsRead-untitled line head refusal (inr is) = record {
 
 -- ---- the end
 
-chain-end : (r : Result (List ℕ) RefusedOrder) (s : Result Outline RefusedOrder) (end_line : ℕ) →
+chain-end : (r : Result (List ℕ) Fault) (s : Result Outline Fault) (end_line : ℕ) →
     (r >>= λ (name : List ℕ). s >>= λ (o : Outline). given_at name o end_line)
     ≡ (joined r s >>= λ (x : List ℕ × Outline). given_at x.0 x.1 end_line)
 chain-end (Err e) s end_line = refl

@@ -17,15 +17,16 @@ use Rattle.smil_grammar.specs.Outlines.{Outline, no_lines, line_within, ended, v
 use Rattle.smil_laws.specs.Migration.{AreBelow, is_for_limit, meets_no_limit}
 use Rattle.smil_laws.proofs.Migrating.{outcome_same, opening_same}
 use Rattle.smil_outline.proofs.Migrating.{line_same, then_same as plain_same}
+use Rattle.smil_top.specs.declared.fault.Fault.{Fault}
 use Rattle.smil_top.specs.Cut.{NumberedLine, LoadLines, OrderLines, single, load}
 use Rattle.smil_top.specs.Session.{Session, presentation_of, with_state, may_load}
-use Rattle.smil_top.specs.Answers.{AcceptedOrder, RefusedOrder, Answer, LoadedDocument, at_line, read_of, found_presentation, ordered_within, said_within, name_of, outline_from, given_within, loaded_within, checked, answer_within, check_within}
+use Rattle.smil_top.specs.Answers.{AcceptedOrder, Answer, LoadedDocument, at_line, read_of, found_presentation, ordered_within, said_within, name_of, outline_from, given_within, loaded_within, checked, answer_within, check_within}
 use Rattle.smil_top.specs.Transcript.{Answering, Progress, with_answer, untold}
 use Rattle.smil_top.specs.Laws.{OrderAttempt, answer_to, told_by, heard, session_after, answered_from, answered_by, refuses_as, any_refused_as}
 use Rattle.smil_top.proofs.Retold.{told_further, session_with}
 
 -- accepted, or refused for another cause than a limit, at a line
-spares : {A : Type 0} → Result A RefusedOrder → Bool
+spares : {A : Type 0} → Result A Fault → Bool
 spares (Ok x) = true
 spares (Err fault) = not (is_for_limit fault.refusal)
 
@@ -34,8 +35,8 @@ unfolding spares
 unlimited (Ok accepted) m = refl
 unlimited (Err fault) m = ap not m
 
--- what goes on the same way has the same outcome
-then_same : {A B : Type 0} (r q : Result A RefusedOrder) (f g : A → Result B RefusedOrder) → spares (r >>= f) ≡ true → (spares r ≡ true → q ≡ r) → ((x : A) → spares (f x) ≡ true → g x ≡ f x) → (q >>= g) ≡ (r >>= f)
+-- the same steps behind the same results have the same outcome
+then_same : {A B : Type 0} (r q : Result A Fault) (f g : A → Result B Fault) → spares (r >>= f) ≡ true → (spares r ≡ true → q ≡ r) → ((x : A) → spares (f x) ≡ true → g x ≡ f x) → (q >>= g) ≡ (r >>= f)
 unfolding spares
 then_same (Ok x) q f g m first later = ap (λ z. z >>= g) (first refl) ∙ later x m
 then_same (Err e) q f g m first later = ap (λ z. z >>= g) (first m)
@@ -76,7 +77,7 @@ module _ (small large : Limits) (below : AreBelow small large) where
 
   given_same : (lines : LoadLines) (end_line : ℕ) → spares (given_within small lines end_line) ≡ true → given_within large lines end_line ≡ given_within small lines end_line
   given_same lines end_line m =
-      let with : List ℕ → Outline → Result LoadedDocument RefusedOrder = λ name outline. at_line end_line (ended outline) >>= λ document. Ok (record { name = name; document = document; version = version_of outline }) in
+      let with : List ℕ → Outline → Result LoadedDocument Fault = λ name outline. at_line end_line (ended outline) >>= λ document. Ok (record { name = name; document = document; version = version_of outline }) in
       then_same (at_line lines.head.number (line_of lines.head.text >>= name_of)) (at_line lines.head.number (line_of lines.head.text >>= name_of))
       (λ name. outline_from small no_lines lines.nodes >>= with name) (λ name. outline_from large no_lines lines.nodes >>= with name) m (λ _. refl)
       (λ name v. then_same (outline_from small no_lines lines.nodes) (outline_from large no_lines lines.nodes) (with name) (with name) v (outline_same no_lines lines.nodes) (λ outline w. refl))

@@ -23,7 +23,7 @@ use Rattle.smil_words.specs.declared.mode.Mode.TheVariants as mode
 use Rattle.smil_top.specs.Cut.{Cut, OrderLines, cut_of, with_line, orders, unended, whole_orders}
 use Rattle.smil_top.specs.Transcript.{Progress, IsTranscriptBy, untold}
 use Rattle.smil_top.specs.Words.{is_told}
-use Rattle.smil_top.specs.Serving.{counted_bytes, status_by, status_of, IsWholeTranscript, IsPart, AreFirst, IsBroken, Runs, Explains, Generates, Serves, reads}
+use Rattle.smil_top.specs.Serving.{counted_bytes, status_by, status_of, IsWholeTranscript, IsCutShort, IsPart, AreFirst, IsBroken, Runs, Explains, Generates, Serves, ServesBy, reads}
 use Rattle.smil_top.specs.Evaluations.{AreEvaluated, Evaluates, EvaluatesBy}
 use Rattle.smil_top.specs.Running.{answering, asked_by, ended_by, IsAll, IsRunning, IsLine, Tells, WritesAll, WritesPart, Goes, Answers, AnswersOrders, Ends, Ran, RanCounted, RunsBy}
 use Rattle.smil_top.proofs.Cuts.{cut_of-one_more, count-cut_of, whole-first, orders-first}
@@ -135,7 +135,7 @@ module _ (old new : Reading) (before rest after : Option (List ℕ)) (came : Lis
         number,
       )
 
-  -- either line, as the reader hands it on
+  -- either line, as the reader shows it
   abbrev pub Hands : Line → Option (List ℕ) → Type 0
   Hands answer text = ((answer ≡ Bytes) × (text ≡ Some new.line)) ⊎ ((answer ≡ LongLine) × (text ≡ None))
 
@@ -328,6 +328,10 @@ module _ (checks : Bool) (old new : Reading) (run after_run : Run) (before rest 
     bounded = EvaluatesBy-of checks ended (Ran-end ended nexts ends).came rise (λ runs. subst (λ zs. AreEvaluated ended (orders zs) rise) (sym (lines-came ended nexts ends)) (evaluated runs));
   }
 
+  -- all that was told is the transcript of the whole lines
+  cut-short : (came : List ℕ) → whole_lines (counted_bytes came) ≡ serving.answered → IsCutShort (answering checks) came serving.told.text
+  cut-short came is = (serving.told, subst (λ zs. IsTranscriptBy (answering checks) (whole_orders zs) serving.told) (sym is) serving.writing.running.tells.transcript, refl)
+
   -- the input is too long
   pub Ran-too_long : Nexts old new InputTooLong rest after → Ran checks status.InputTooLong run before after taken_before taken room
   Ran-too_long nexts =
@@ -337,7 +341,7 @@ module _ (checks : Bool) (old new : Reading) (run after_run : Run) (before rest 
         text = serving.told.text;
         read = n.1;
         written = serving.writing.written.0;
-        runs = (n.3, (serving.told, subst (λ zs. IsTranscriptBy (answering checks) (whole_orders zs) serving.told) (sym n.2) serving.writing.running.tells.transcript, refl));
+        runs = (n.3, cut-short n.0 n.2);
       }
 
   -- a read failed
@@ -349,7 +353,7 @@ module _ (checks : Bool) (old new : Reading) (run after_run : Run) (before rest 
         text = serving.told.text;
         read = n.1;
         written = serving.writing.written.0;
-        runs = (n.3, (serving.told, subst (λ zs. IsTranscriptBy (answering checks) (whole_orders zs) serving.told) (sym n.2) serving.writing.running.tells.transcript, refl));
+        runs = (n.3, cut-short n.0 n.2);
       }
 
 -- a line was read behind those answered, and the session went on
@@ -405,29 +409,26 @@ runs-of checks status.WriteFault run rest came text room runs = runs
 runs-of checks status.Memory run rest came text room runs = inr (runs.0, whole-of checks status.Memory run came text runs.1)
 runs-of checks status.InputTooLong run rest came text room runs = runs
 
+-- a session is run or checked
+served-by : (checks : Bool) (ended : Status) (rest : Option (List ℕ)) (came text : List ℕ) (room : ℕ) → Runs (answering checks) ended rest came text room → ServesBy (Some (asked_by checks)) ended rest came text room
+served-by true ended rest came text room runs = runs
+served-by false ended rest came text room runs = runs
+
 pub Serves-ran : (checks : Bool) (ended : Status) (run : Run) (before after taken_before taken_after : Option (List ℕ)) (room : ℕ) → Ran checks ended run before after taken_before taken_after room →
     Serves (Some (asked_by checks)) ended before after taken_before taken_after room
-Serves-ran true ended run before after taken_before taken_after room ran = record {
+Serves-ran checks ended run before after taken_before taken_after room ran = record {
   came = ran.came;
   text = ran.text;
   read = ran.read;
   written = ran.written;
-  served = runs-of true ended run after ran.came ran.text room ran.runs;
-}
-Serves-ran false ended run before after taken_before taken_after room ran = record {
-  came = ran.came;
-  text = ran.text;
-  read = ran.read;
-  written = ran.written;
-  served = runs-of false ended run after ran.came ran.text room ran.runs;
+  served = served-by checks ended after ran.came ran.text room (runs-of checks ended run after ran.came ran.text room ran.runs);
 }
 
 -- the same bytes came
 came-ran : (checks : Bool) (ended : Status) (run : Run) (before after taken_before taken_after : Option (List ℕ)) (room : ℕ) (ran : Ran checks ended run before after taken_before taken_after room) →
     (Serves-ran checks ended run before after taken_before taken_after room ran).came ≡ ran.came
 unfolding Serves-ran
-came-ran true ended run before after taken_before taken_after room ran = refl
-came-ran false ended run before after taken_before taken_after room ran = refl
+came-ran checks ended run before after taken_before taken_after room ran = refl
 
 pub Evaluates-ran : (checks : Bool) (ended : Status) (run : Run) (before after taken_before taken_after : Option (List ℕ)) (room rise : ℕ) → RanCounted checks ended run before after taken_before taken_after room rise →
     Evaluates (Some (asked_by checks)) ended before after taken_before taken_after room rise
@@ -438,8 +439,13 @@ Evaluates-ran checks ended run before after taken_before taken_after room rise r
 
 -- there was no memory to begin with
 pub Serves-nothing : (checks : Bool) (rest taken : Option (List ℕ)) (room : ℕ) → Serves (Some (asked_by checks)) status.Memory rest rest taken taken room
-Serves-nothing true rest taken room = record { came = []; text = []; read = Consumes-nil rest; written = Appends-nil taken; served = inl (refl, refl) }
-Serves-nothing false rest taken room = record { came = []; text = []; read = Consumes-nil rest; written = Appends-nil taken; served = inl (refl, refl) }
+Serves-nothing checks rest taken room = record {
+  came = [];
+  text = [];
+  read = Consumes-nil rest;
+  written = Appends-nil taken;
+  served = served-by checks status.Memory rest [] [] room (inl (refl, refl));
+}
 
 pub Evaluates-nothing : (checks : Bool) (rest taken : Option (List ℕ)) (room rise : ℕ) → Evaluates (Some (asked_by checks)) status.Memory rest rest taken taken room rise
 Evaluates-nothing checks rest taken room rise =

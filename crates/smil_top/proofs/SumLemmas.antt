@@ -14,9 +14,10 @@ use Rattle.smil_grammar.specs.declared.read.Read.TheVariants.{Blank, Load, Close
 use Rattle.smil_grammar.specs.Formats.{formats}
 use Rattle.smil_grammar.specs.Results.{◌>>=◌}
 use Rattle.smil_live.specs.Counts.{least_between, when_accepted}
+use Rattle.smil_top.specs.declared.fault.Fault.{Fault}
 use Rattle.smil_top.specs.Cut.{OrderLines, single, load}
 use Rattle.smil_top.specs.Session.{Session, presentation_of, with_state, may_load}
-use Rattle.smil_top.specs.Answers.{AcceptedOrder, Answer, LoadedDocument, RefusedOrder, at_line, read_of, found_presentation, said_within, given_within, loaded_within, answer_of}
+use Rattle.smil_top.specs.Answers.{AcceptedOrder, Answer, LoadedDocument, at_line, read_of, found_presentation, said_within, given_within, loaded_within, answer_of}
 use Rattle.smil_top.specs.Transcript.{Progress, with_answer}
 use Rattle.smil_top.specs.Laws.{with_ease, heard, session_after, answered_from, refuses_as, any_refused_as}
 use Rattle.smil_top.specs.Evaluations.{Bound, least, number_of, loaded_number, said_number, sum_from, is_diary_full}
@@ -67,7 +68,7 @@ SparesRefused bound = (p : Presentation) (order : Order) (refusal : Refusal) →
 pub least_spares : SparesRefused least
 least_spares p order refusal is = ap (λ (r : Result Presentation Refusal). when_accepted r (least_between p order)) is
 
-module _ (bound : Bound) (spares : SparesRefused bound) (session : Session) (line : ℕ) (fault : RefusedOrder) where
+module _ (bound : Bound) (spares : SparesRefused bound) (session : Session) (line : ℕ) (fault : Fault) where
   ordered_by : List ℕ → Order → Presentation → Result Presentation Refusal → Result AcceptedOrder Refusal
   ordered_by name order before outcome = outcome >>= λ (after : Presentation). Ok (record {
     text = answer_text formats before after order ++ ok_line line name (pos after.now);
@@ -109,13 +110,13 @@ module _ (bound : Bound) (spares : SparesRefused bound) (session : Session) (lin
   loaded-0 given (Ok done) (Err refusal) refused = refl
   loaded-0 given (Ok done) (Ok p) refused = absurd cc
 
-  given-0 : (r : Result LoadedDocument RefusedOrder) → (r >>= λ given. at_line line (loaded_within limits session line given)) ≡ Err fault →
+  given-0 : (r : Result LoadedDocument Fault) → (r >>= λ given. at_line line (loaded_within limits session line given)) ≡ Err fault →
       result_unwrap_or (r >>= λ given. at_line line (loaded_number bound session given)) 0 ≡ 0
   given-0 (Err e) refused = refl
   given-0 (Ok given) refused = loaded-0 given (may_load given.name session) (opened given.document) refused
 
 -- so does an order that a session refuses
-pub refused-0 : (bound : Bound) → SparesRefused bound → (session : Session) (order : OrderLines) (fault : RefusedOrder) → answer_of session order ≡ Err fault →
+pub refused-0 : (bound : Bound) → SparesRefused bound → (session : Session) (order : OrderLines) (fault : Fault) → answer_of session order ≡ Err fault →
     number_of bound session order ≡ 0
 refused-0 bound spares session (single line) fault refused = said-0 bound spares session line.number fault (read_of line.text) refused
 refused-0 bound spares session (load lines None) fault refused = refl

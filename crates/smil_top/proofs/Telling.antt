@@ -28,7 +28,7 @@ told-all status.WriteFault run rest came text room is runs = absurd cc
 told-all status.Memory run rest came text room is runs = absurd cc
 told-all status.InputTooLong run rest came text room is runs = absurd cc
 
--- a call that has told all ran out of memory at no order
+-- in a call that has told all, no order was refused since memory ran out
 pub no-memory : (refused memory : Bool) → is_told (status_by refused memory) ≡ true → memory ≡ false
 no-memory refused false is = refl
 no-memory true true is = absurd cc

@@ -20,19 +20,20 @@ use Rattle.smil_top.specs.declared.fault.Fault.{Fault}
 use Rattle.smil_top.specs.declared.given.LoadedDoc.{LoadedDoc as GivenDoc}
 use Rattle.smil_top.specs.declared.load.Load.{Load}
 use Rattle.smil_top.specs.declared.run.Run.{Run}
+use Rattle.smil_top.specs.declared.session.Session.{Session as KeptSession}
 use Rattle.smil_top.specs.Cut.{OrderLines, single, load as load_order, LoadLines, Cut}
 use Rattle.smil_top.specs.Session.{Session}
-use Rattle.smil_top.specs.Answers.{RefusedOrder, Answer, LoadedDocument, at_line, said_within, silent, given_within, loaded_within, checked}
+use Rattle.smil_top.specs.Answers.{Answer, LoadedDocument, at_line, said_within, silent, given_within, loaded_within, checked}
 use Rattle.smil_top.specs.Transcript.{Progress, and_then, is_memory, with_answer}
 use Rattle.smil_top.specs.Summary.{line_count}
 use Rattle.smil_top.specs.Houses.{Presentations, Holds}
-use Rattle.smil_top.specs.Running.{answering, with_order, counted_on, fault_at, given_of, line_by, load_by, refused_by, said, text_of, AreCounted, Answers, AnswersOrders, Gives, Goes, IsOpen, IsRead, IsRunning, IsLine, Makes, MakesAnswer, Tells, Writes, WritesAll}
+use Rattle.smil_top.specs.Running.{answering, with_order, counted_on, given_of, line_by, load_by, said, text_of, AreCounted, Answers, AnswersOrders, Gives, Goes, IsOpen, IsRead, IsRunning, IsLine, Makes, MakesAnswer, Tells, Writes, WritesAll}
 use Rattle.smil_top.proofs.CutLines.{is_short-true, is_short-false}
 
 -- the answer that was made
 abbrev answer_as : Result (Unit {0}) Fault → AnswerText → Session → Answer
 answer_as (Ok done) text after = Ok (record { text = text_of text; session = after })
-answer_as (Err fault) text after = Err (refused_by fault)
+answer_as (Err fault) text after = Err fault
 
 abbrev pub counted_as : Result (Unit {0}) Fault → AnswerText → Counts → Counts
 counted_as answered text counts = with_order answered (min (line_count (said answered text)) last_count) counts
@@ -100,22 +101,25 @@ told-more checks run new whole told order (Err fault) text tells made same count
   with_answer told (answer_as (Err fault) text told.session),
   record {
     checks_is = same ∙ tells.checks_is;
-    transcript = and_then tells.transcript order (Err (refused_by fault)) made.1;
+    transcript = and_then tells.transcript order (Err fault) made.1;
     holds = made.0;
     counted = subst (λ (k : Counts). AreCounted k (whole ++ order ∷ []) (with_answer told (answer_as (Err fault) text told.session))) (sym counts) (told-counted (Err fault) text run.counts whole told order told.session tells.counted);
   },
   refl,
 )
 
--- the same, where its text was written
-pub told-order : (checks : Bool) (run new : Run) (whole : List OrderLines) (told : Progress) (order : OrderLines) (answered : Result (Unit {0}) Fault) (text : AnswerText)
+-- the same, where its text was written, and what is kept stayed meanwhile
+pub told-order : (checks : Bool) (run new : Run) (kept : KeptSession) (whole : List OrderLines) (told : Progress) (order : OrderLines) (answered : Result (Unit {0}) Fault) (text : AnswerText)
     (result : Result (Unit {0}) Failed) (before after : Option (List ℕ)) (room left : ℕ) →
-    Tells checks run whole told → MakesAnswer answered text new.session.house told.session (answering checks) order →
-    new.session.checks ≡ run.session.checks → new.counts ≡ with_order answered (min (line_count (said answered text)) last_count) run.counts →
+    Tells checks run whole told → MakesAnswer answered text kept.house told.session (answering checks) order →
+    new.session ≡ kept → kept.checks ≡ run.session.checks → new.counts ≡ with_order answered (min (line_count (said answered text)) last_count) run.counts →
     Writes result before after room left (said answered text) →
     AnswersOrders checks result new (whole ++ order ∷ []) told before after room left
-told-order checks run new whole told order answered text result before after room left tells made same counts writes =
-    let more = told-more checks run new whole told order answered text tells made same counts in
+told-order checks run new kept whole told order answered text result before after room left tells made is same counts writes =
+    let at_end : MakesAnswer answered text new.session.house told.session (answering checks) order =
+    subst (λ (s : KeptSession). MakesAnswer answered text s.house told.session (answering checks) order) (sym is) made
+    in
+    let more = told-more checks run new whole told order answered text tells at_end (ap (λ (s : KeptSession). s.checks) is ∙ same) counts in
     record { more = more.0; goes = record { text = said answered text; text_is = more.2; writes = writes }; tells = more.1 }
 
 -- ---- single lines
@@ -129,7 +133,7 @@ answer-single false session number line short =
 
 pub single-made : (checks : Bool) (r : Result (Unit {0}) Refusal) (text : AnswerText) (house : Presentations) (session : Session) (number : ℕ) (line : List ℕ) → length line ≤ LINE_BYTES →
     Makes r text house session (line_by checks session number line) →
-    MakesAnswer (fault_at number r) text house session (answering checks) (single (record { number = number; text = line }))
+    MakesAnswer (at_line number r) text house session (answering checks) (single (record { number = number; text = line }))
 single-made checks (Ok done) text house session number line short made =
     (made.0, made.1, answer-single checks session number line short ∙ ap (at_line number) made.2)
 single-made checks (Err refusal) text house session number line short made = (
@@ -161,10 +165,10 @@ abbrev pub faulty : Fault → Result GivenDoc Fault
 faulty fault = Err fault
 
 abbrev as_answer : Result GivenDoc Fault → Answer
-as_answer (Err fault) = Err (refused_by fault)
+as_answer (Err fault) = Err fault
 as_answer (Ok given) = Err (record { line = 0; refusal = Memory })
 
-answer-load : (checks : Bool) (session : Session) (lines : LoadLines) (end_line : ℕ) (given : Result LoadedDocument RefusedOrder) → given_within limits lines end_line ≡ given →
+answer-load : (checks : Bool) (session : Session) (lines : LoadLines) (end_line : ℕ) (given : Result LoadedDocument Fault) → given_within limits lines end_line ≡ given →
     answering checks session (load_order lines (Some end_line)) ≡ (given >>= λ (g : LoadedDocument). at_line lines.head.number (load_by checks session lines.head.number g))
 answer-load true session lines end_line given is = ap (λ r. r >>= λ (g : LoadedDocument). at_line lines.head.number (checked session lines.head.number g)) is
 answer-load false session lines end_line given is = ap (λ r. r >>= λ (g : LoadedDocument). at_line lines.head.number (loaded_within limits session lines.head.number g)) is
@@ -173,7 +177,7 @@ pub load-made : (checks : Bool) (r : Result (Unit {0}) Refusal) (text : AnswerTe
     line ≡ lines.head.number →
     Gives (Ok given) (given_within limits lines end_line) ⊎ (fine given ≡ Err (record { line = lines.head.number; refusal = Memory })) →
     Makes r text house session (load_by checks session line (given_of given)) →
-    MakesAnswer (fault_at line r) text house session (answering checks) (load_order lines (Some end_line))
+    MakesAnswer (at_line line r) text house session (answering checks) (load_order lines (Some end_line))
 load-made checks r text house session lines line end_line given same (inr never) made = absurd cc
 load-made checks (Ok done) text house session lines line end_line given same (inl gives) made = (
   made.0,
@@ -193,7 +197,7 @@ load-made checks (Err refusal) text house session lines line end_line given same
 pub unread-made : (checks : Bool) (text : AnswerText) (house : Presentations) (session : Session) (lines : LoadLines) (end_line : ℕ) (fault : Fault) → Holds house session →
     Gives (Err fault) (given_within limits lines end_line) ⊎ (faulty fault ≡ Err (record { line = lines.head.number; refusal = Memory })) →
     MakesAnswer (Err fault) text house session (answering checks) (load_order lines (Some end_line))
-unread-made checks text house session lines end_line fault holds (inl gives) = (holds, inl (sym (answer-load checks session lines end_line (Err (refused_by fault)) gives)))
+unread-made checks text house session lines end_line fault holds (inl gives) = (holds, inl (sym (answer-load checks session lines end_line (Err fault) gives)))
 unread-made checks text house session lines end_line fault holds (inr memory) = (holds, inr (ap as_answer memory))
 
 -- the input ends within a load
@@ -202,9 +206,9 @@ pub unfinished-made : (checks : Bool) (text : AnswerText) (house : Presentations
 unfinished-made true text house session lines line same holds = (holds, inl (ap (λ n. at_line n (Err UnfinishedLoad)) same))
 unfinished-made false text house session lines line same holds = (holds, inl (ap (λ n. at_line n (Err UnfinishedLoad)) same))
 
--- ---- the load that stands open
+-- ---- the load that hasn't ended
 
--- the line that a reader hands on, as `IsLine` says it
+-- the line that a reader shows, in the words of `IsLine`
 abbrev pub Shows : Option (Bor (List ℕ)) → List ℕ → Type 0
 Shows text line = IsLine (option_map {T = Bor (List ℕ)} {U = List ℕ} (λ t. t.now) text) line
 
@@ -239,7 +243,7 @@ running-order checks result run cut count whole told before after room left is n
 pub Goes-nothing : (told : Progress) (before : Option (List ℕ)) (room : ℕ) → WritesAll before before room room [] → Goes (Ok tt) told told before before room room
 Goes-nothing told before room nothing = record { text = []; text_is = sym (append-nil told.text); writes = nothing }
 
--- nothing is told, and a load stands open
+-- nothing is told, and a load hasn't ended
 pub running-load : (checks : Bool) (run : Run) (load : Load) (cut : Cut) (count : ℕ) (whole : List OrderLines) (lines : LoadLines) (told : Progress) (before : Option (List ℕ)) (room : ℕ) →
     cut ≡ record { count = count; whole = whole; «open» = Some lines } → run.load ≡ Some load → IsRead load lines → Tells checks run whole told →
     WritesAll before before room room [] → Answers checks (Ok tt) run cut told before before room room
@@ -249,15 +253,13 @@ running-load checks run load cut count whole lines told before room is loaded re
   running = subst (λ (c : Cut). IsRunning checks run c told) (sym is) (record { tells = tells; load = subst (λ o. IsOpen o (Some lines)) (sym loaded) read });
 }
 
--- nothing is told, and no load stands open
+-- nothing is told, and each load has ended
 pub running-silent : (checks : Bool) (run : Run) (cut : Cut) (count : ℕ) (whole : List OrderLines) (told : Progress) (before : Option (List ℕ)) (room : ℕ) →
     cut ≡ record { count = count; whole = whole; «open» = None } → run.load ≡ None → Tells checks run whole told →
     WritesAll before before room room [] → Answers checks (Ok tt) run cut told before before room room
-running-silent checks run cut count whole told before room is no_load tells nothing = record {
-  more = told;
-  goes = Goes-nothing told before room nothing;
-  running = subst (λ (c : Cut). IsRunning checks run c told) (sym is) (record { tells = tells; load = subst (λ o. IsOpen o None) (sym no_load) tt });
-}
+running-silent checks run cut count whole told before room is no_load tells nothing =
+    running-order checks (Ok tt) run cut count whole told before before room room is no_load
+    (record { more = told; goes = Goes-nothing told before room nothing; tells = tells })
 
 -- what is told stays where the run differs in its load alone
 pub tells-on : (checks : Bool) (run new : Run) (whole : List OrderLines) (told : Progress) → new.session ≡ run.session → new.counts ≡ run.counts →

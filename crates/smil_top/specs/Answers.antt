@@ -15,6 +15,7 @@ use Rattle.smil_grammar.specs.Results.{◌>>=◌}
 use Rattle.smil_grammar.specs.Scripts.{line_of}
 use Rattle.smil_grammar.specs.Outlines.{Outline, no_lines, line_within, ended, version_of, outline_text, saved_text}
 use Rattle.smil_grammar.specs.Formats.{formats}
+use Rattle.smil_top.specs.declared.fault.Fault.{Fault}
 use Rattle.smil_top.specs.Cut.{NumberedLine, LoadLines, OrderLines, single, load, is_short}
 use Rattle.smil_top.specs.Session.{Session, presentation_of, with_state, without, may_load}
 
@@ -23,17 +24,12 @@ pub record AcceptedOrder : Type 0 where
   pub text : List ℕ
   pub session : Session
 
--- a refused order: the refusal, and the number of the line where the fault stands
-pub record RefusedOrder : Type 0 where
-  pub line : ℕ
-  pub refusal : Refusal
-
--- an order is accepted or refused
+-- an order is accepted, or refused by its fault: the refusal, and the number of the line where it stands
 abbrev pub Answer : Type 0
-Answer = Result AcceptedOrder RefusedOrder
+Answer = Result AcceptedOrder Fault
 
 -- a refusal stands at this line
-abbrev pub at_line : {A : Type 0} → ℕ → Result A Refusal → Result A RefusedOrder
+abbrev pub at_line : {A : Type 0} → ℕ → Result A Refusal → Result A Fault
 at_line line (Ok x) = Ok x
 at_line line (Err refusal) = Err (record { line = line; refusal = refusal })
 
@@ -89,14 +85,14 @@ name_of (Load name) = Ok name
 name_of _ = Err NotACommand
 
 -- node lines up to the first fault, which stands at its line
-abbrev pub outline_from : Limits → Outline → List NumberedLine → Result Outline RefusedOrder
+abbrev pub outline_from : Limits → Outline → List NumberedLine → Result Outline Fault
 outline_from allowed outline [] = Ok outline
 outline_from allowed outline (line ∷ lines) = do
   more ← at_line line.number (line_within allowed outline line.text)
   outline_from allowed more lines
 
 -- what the lines of a load give, or their first fault; an outline without a node is faulty at the line that ends it
-abbrev pub given_within : Limits → LoadLines → ℕ → Result LoadedDocument RefusedOrder
+abbrev pub given_within : Limits → LoadLines → ℕ → Result LoadedDocument Fault
 given_within allowed lines end_line = do
   name ← at_line lines.head.number (line_of lines.head.text >>= name_of)
   outline ← outline_from allowed no_lines lines.nodes

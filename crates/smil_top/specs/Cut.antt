@@ -1,4 +1,4 @@
--- The orders of a script: a single line is an order, and a load is one with its lines up to `%%`.
+-- The orders of a script: each is a single line, or a load, which has the lines up to `%%`.
 use Rattle.std.specs.Prelude.{ℕ, suc, Bool, not, ◌&&◌, List, [], ◌∷◌, ◌++◌, length, nat_lt, Option, Some, None, if◌then◌else◌}
 use Rattle.smil_model.specs.declared.limits.TheConstants.{LINE_BYTES}
 use Rattle.smil_grammar.specs.Scripts.{is_blank, opens_load}

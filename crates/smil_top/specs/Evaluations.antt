@@ -13,10 +13,11 @@ use Rattle.smil_grammar.specs.Results.{◌>>=◌}
 use Rattle.smil_words.specs.declared.mode.Mode.{Mode}
 use Rattle.smil_words.specs.declared.mode.Mode.TheVariants as mode
 use Rattle.smil_live.specs.Counts.{most_loading, least_loading, most_number, least_number}
+use Rattle.smil_top.specs.declared.fault.Fault.{Fault}
 use Rattle.smil_top.specs.declared.status.Status.{Status}
 use Rattle.smil_top.specs.Cut.{LoadLines, OrderLines, single, load, orders}
 use Rattle.smil_top.specs.Session.{Session, presentation_of, may_load}
-use Rattle.smil_top.specs.Answers.{RefusedOrder, LoadedDocument, at_line, read_of, found_presentation, given_within, answer_of}
+use Rattle.smil_top.specs.Answers.{LoadedDocument, at_line, read_of, found_presentation, given_within, answer_of}
 use Rattle.smil_top.specs.Words.{is_told}
 use Rattle.smil_top.specs.Serving.{Serves}
 use Rattle.smil_top.specs.Laws.{with_ease, answered_by, any_refused_as, session_after}
@@ -59,7 +60,7 @@ loaded_number bound session given = do
   Ok (bound.loading loaded)
 
 -- of the lines of a load, and the line that ends it
-abbrev pub load_number : Bound → Session → LoadLines → ℕ → Result ℕ RefusedOrder
+abbrev pub load_number : Bound → Session → LoadLines → ℕ → Result ℕ Fault
 load_number bound session lines end_line = do
   given ← given_within limits lines end_line
   at_line lines.head.number (loaded_number bound session given)
@@ -95,7 +96,7 @@ abbrev pub is_diary_full : Refusal → Bool
 is_diary_full DiaryFull = true
 is_diary_full _ = false
 
--- whether one of the orders is refused so
+-- whether one of the orders is refused for it
 abbrev pub has_full_diary : List OrderLines → Bool
 has_full_diary orders = any_refused_as is_diary_full (answered_by answer_of (map with_ease orders))
 

@@ -11,9 +11,10 @@ use Rattle.smil_grammar.specs.declared.read.Read.{Read}
 use Rattle.smil_grammar.specs.declared.read.Read.TheVariants.{Load, Close}
 use Rattle.smil_grammar.specs.Scripts.{first_of, is_title, line_of}
 use Rattle.smil_laws.specs.Migration.{AreBelow, is_for_limit}
+use Rattle.smil_top.specs.declared.fault.Fault.{Fault}
 use Rattle.smil_top.specs.Cut.{NumberedLine, OrderLines, single, load, first_line, whole_orders, orders}
 use Rattle.smil_top.specs.Session.{Session, is_named, presentation_of}
-use Rattle.smil_top.specs.Answers.{Answer, RefusedOrder, at_line, answer_within, check_within}
+use Rattle.smil_top.specs.Answers.{Answer, at_line, answer_within, check_within}
 use Rattle.smil_top.specs.Transcript.{Answering, Progress, untold, with_answer, is_memory, IsTranscriptBy, transcript_by}
 
 -- ---- transcripts, answer by answer
@@ -42,7 +43,7 @@ told_by answering tried = fold (λ told one. with_answer told (answer_to answeri
 
 -- what is heard of an answer: its text, or the refusal and its line
 abbrev pub Heard : Type 0
-Heard = Result (List ℕ) RefusedOrder
+Heard = Result (List ℕ) Fault
 
 -- an answer without the session that it leaves
 abbrev pub heard : Answer → Heard
@@ -81,7 +82,7 @@ abbrev pub refuses_as : (Refusal → Bool) → Heard → Bool
 refuses_as kind (Ok text) = false
 refuses_as kind (Err fault) = kind fault.refusal
 
--- whether one of the answers is
+-- whether one of the answers is such a refusal
 abbrev pub any_refused_as : (Refusal → Bool) → List AnsweredOrder → Bool
 any_refused_as kind answered = list_any (λ (one : AnsweredOrder). refuses_as kind one.answer) answered
 
@@ -131,7 +132,7 @@ HasEase answering =
 abbrev pub HasTranscript : Type 0
 HasTranscript = (allowed : Limits) → HasEase (answer_within allowed) × HasEase (check_within allowed)
 
--- and no other
+-- and no other such transcript
 abbrev pub HasOneTranscript : Type 0
 HasOneTranscript =
     (answering : Answering) (orders : List OrderLines) (told : Progress) → IsTranscriptBy answering orders told
@@ -144,7 +145,7 @@ HasOneTranscript =
 abbrev pub numbered_by : (ℕ → ℕ) → NumberedLine → NumberedLine
 numbered_by given line = record { number = given line.number; text = line.text }
 
--- an order whose lines are
+-- an order whose lines are given other numbers
 abbrev pub renumbered : (ℕ → ℕ) → OrderLines → OrderLines
 renumbered given (single line) = single (numbered_by given line)
 renumbered given (load lines ended) =
@@ -171,7 +172,7 @@ OrdersAreCutAgain =
     × (orders (flat_map lines_of (filter kept (orders lines)))
     ≡ map (renumbered given) (filter kept (orders lines)))
 
--- the same, with whether memory runs out at it
+-- an order that is renumbered, with whether memory runs out at it
 abbrev pub renumbered_try : (ℕ → ℕ) → OrderAttempt → OrderAttempt
 renumbered_try given one = record { order = renumbered given one.order; lacks = one.lacks }
 
@@ -180,7 +181,7 @@ abbrev pub last_line : ℕ → List (List ℕ) → List ℕ
 last_line number words = text_line (codes "ok" ∷ decimal number ∷ words)
 
 -- a refusal, with the number of the line at fault
-abbrev pub refused_in : ℕ → Refusal → RefusedOrder
+abbrev pub refused_in : ℕ → Refusal → Fault
 refused_in number refusal = record { line = number; refusal = refusal }
 
 -- two answers are the same but for the line's number, and the number of the line at fault
@@ -193,7 +194,7 @@ pub data AreSameBut (given : ℕ → ℕ) (number : ℕ) : Heard → Heard → T
   refused_at : (place : ℕ) (refusal : Refusal) →
       AreSameBut given number (Err (refused_in place refusal)) (Err (refused_in (given place) refusal))
 
--- answers that are, one by one
+-- answers that are the same but for these numbers, one by one
 abbrev pub AllSameBut : (ℕ → ℕ) → List AnsweredOrder → List AnsweredOrder → Type 0
 AllSameBut given answered others =
     AllZip (λ (one other : AnsweredOrder). AreSameBut given (first_line one.order) one.answer other.answer) answered others
@@ -219,7 +220,7 @@ abbrev pub closes : List ℕ → Result Read Refusal → Bool
 closes name (Ok (Close closed)) = bytes_eq closed name
 closes name _ = false
 
--- whether it loads it
+-- whether what a line says loads this name
 abbrev pub loads : List ℕ → Result Read Refusal → Bool
 loads name (Ok (Load loaded)) = bytes_eq loaded name
 loads name _ = false
@@ -259,7 +260,7 @@ PresentationsStay =
     → is_of name order ≡ false
     → presentation_of name (session_after session (answer_within allowed session order)) ≡ presentation_of name session
 
--- its answer rests on what the session has of its own name, unless that is that too many are held
+-- an order's answer follows from what the session has of its name, unless the order is refused since too many are held
 pub record IsOwn (allowed : Limits) (name : List ℕ) (session : Session) (order : OrderLines) : Type 0 where
   pub answer : heard (answer_within allowed (part_of name session) order)
       ≡ heard (answer_within allowed session order)
@@ -284,7 +285,7 @@ abbrev pub own_answered : List ℕ → List AnsweredOrder → List AnsweredOrder
 own_answered name answered = filter (λ (one : AnsweredOrder). is_of name one.order) answered
 
 -- so the answers to the orders of a name, and what is left of it, are those of a session that has these orders alone,
--- where no answer is that too many are held; line numbers are aside, and memory may run out at any order
+-- where none is refused since too many are held; line numbers are aside, and memory may run out at any order
 pub record IsAlone (answering : Answering) (name : List ℕ) (tried : List OrderAttempt) : Type 0 where
   pub answers : own_answered name (answered_by answering tried) ≡ answered_by answering (own_tried name tried)
   pub session : part_of name (told_by answering tried).session ≡ (told_by answering (own_tried name tried)).session
@@ -310,7 +311,7 @@ pub record IsAloneInInput (answering : Answering) (name : List ℕ) (lines : Lis
   pub session : part_of name (transcript_by answering (orders lines)).session
       ≡ (transcript_by answering (orders own)).session
 
--- where memory suffices, and no answer in the whole input is that too many are held
+-- where memory suffices, and no order of the whole input is refused since too many are held
 abbrev pub InputsAreIsolated : Type 0
 InputsAreIsolated =
     (allowed : Limits) (name : List ℕ) (lines : List (List ℕ)) → is_title name ≡ true
@@ -369,7 +370,7 @@ TranscriptsAreCut =
     (transcript_by answering (orders (lines came)))
     (transcript_by answering (orders (lines (came ++ more))))
 
--- and where memory ran out at some orders, a transcript of the part, with memory running out at the same ones
+-- and where memory ran out at some orders, the part has a transcript in which it ran out at the same ones
 abbrev pub AllTranscriptsAreCut : Type 0
 AllTranscriptsAreCut =
     (answering : Answering) (came more : List ℕ) (whole : Progress)

@@ -32,7 +32,7 @@ use Rattle.smil_top.specs.declared.status.Status.TheVariants as status
 use Rattle.smil_top.specs.Cut.{NumberedLine, LoadLines, OrderLines, Cut, unended, orders}
 use Rattle.smil_top.specs.Session.{Session}
 use Rattle.smil_top.specs.Houses.{Presentations, Holds}
-use Rattle.smil_top.specs.Answers.{AcceptedOrder, RefusedOrder, LoadedDocument, at_line, name_of, outline_from, said_within, silent, loaded_within, checked, outline_in, answer_of, check_of}
+use Rattle.smil_top.specs.Answers.{AcceptedOrder, LoadedDocument, at_line, name_of, outline_from, said_within, silent, loaded_within, checked, outline_in, answer_of, check_of}
 use Rattle.smil_top.specs.Transcript.{Answering, MayAnswer, Progress, IsTranscriptBy, is_memory}
 use Rattle.smil_top.specs.declared.generated.Summary.{Summary}
 use Rattle.smil_top.specs.Summary.{line_count, session_told, summary}
@@ -48,15 +48,6 @@ text_of answer = answer.told ++ answer.last
 -- no text
 abbrev pub no_text : AnswerText
 no_text = record { told = []; last = [] }
-
--- a refusal and its line
-abbrev pub refused_by : Fault → RefusedOrder
-refused_by fault = record { line = fault.line; refusal = fault.refusal }
-
--- a refusal stands at this line
-abbrev pub fault_at : ℕ → Result (Unit {0}) Refusal → Result (Unit {0}) Fault
-fault_at line (Ok done) = Ok done
-fault_at line (Err refusal) = Err (record { line = line; refusal = refusal })
 
 -- after a refusal its line stands in place of the text
 abbrev pub finished : Result (Unit {0}) Fault → AnswerText → AnswerText
@@ -81,7 +72,7 @@ MakesAnswer (Ok done) text house session answering order =
     (after : Session) × Holds house after
     × (answering session order ≡ Ok (record { text = text_of text; session = after }))
 MakesAnswer (Err fault) text house session answering order =
-    Holds house session × MayAnswer answering session order (Err (refused_by fault))
+    Holds house session × MayAnswer answering session order (Err fault)
 
 -- how orders are answered where loads are only read, and where they are opened too
 abbrev pub answering : Bool → Answering
@@ -119,22 +110,22 @@ HoldsTitle Blank = Unit {0}
 -- ---- loads
 
 -- the name and the outline with one more line
-abbrev pub with_node : List ℕ → Outline → NumberedLine → Result (List ℕ × Outline) RefusedOrder
+abbrev pub with_node : List ℕ → Outline → NumberedLine → Result (List ℕ × Outline) Fault
 with_node name outline line = do
   more ← at_line line.number (line_within limits outline line.text)
   Ok (name, more)
 
 -- what the lines of a load say before its end
-abbrev pub reading_of : LoadLines → Result (List ℕ × Outline) RefusedOrder
+abbrev pub reading_of : LoadLines → Result (List ℕ × Outline) Fault
 reading_of lines = do
   name ← at_line lines.head.number (line_of lines.head.text >>= name_of)
   outline ← outline_from limits no_lines lines.nodes
   Ok (name, outline)
 
 -- what was read is this
-abbrev pub Reads : Result NamedOutline Fault → Result (List ℕ × Outline) RefusedOrder → Type 0
+abbrev pub Reads : Result NamedOutline Fault → Result (List ℕ × Outline) Fault → Type 0
 Reads (Ok titled) wanted = wanted ≡ Ok (titled.name, titled.outline)
-Reads (Err fault) wanted = wanted ≡ Err (refused_by fault)
+Reads (Err fault) wanted = wanted ≡ Err fault
 
 -- a load that was read so far, or for which memory ran out
 pub record IsRead (load : LoadSoFar) (lines : LoadLines) : Type 0 where
@@ -153,12 +144,12 @@ abbrev pub given_of : GivenDoc → LoadedDocument
 given_of given = record { name = given.name; document = given.doc; version = given.version }
 
 -- what a load gives is this
-abbrev pub Gives : Result GivenDoc Fault → Result LoadedDocument RefusedOrder → Type 0
+abbrev pub Gives : Result GivenDoc Fault → Result LoadedDocument Fault → Type 0
 Gives (Ok given) wanted = wanted ≡ Ok (given_of given)
-Gives (Err fault) wanted = wanted ≡ Err (refused_by fault)
+Gives (Err fault) wanted = wanted ≡ Err fault
 
 -- an outline that ends gives its document, or is faulty at the line that ends it
-abbrev pub given_at : List ℕ → Outline → ℕ → Result LoadedDocument RefusedOrder
+abbrev pub given_at : List ℕ → Outline → ℕ → Result LoadedDocument Fault
 given_at name outline end_line = do
   document ← at_line end_line (ended outline)
   Ok (record { name = name; document = document; version = version_of outline })
@@ -244,7 +235,7 @@ pub record Goes (result : Result (Unit {0}) Failed) (told more : Progress)
   pub text_is : more.text ≡ told.text ++ text
   pub writes : Writes result before after room left text
 
--- behind what was told more is, which answers the orders that are whole now
+-- more was told, and with it the orders are answered that are whole now
 pub record Answers (checks : Bool) (result : Result (Unit {0}) Failed) (run : Run) (cut : Cut)
     (told : Progress) (before after : Option (List ℕ)) (room left : ℕ) : Type 0 where
   pub more : Progress

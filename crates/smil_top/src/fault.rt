@@ -1,7 +1,7 @@
 //! Why and where an order is refused.
 
 ghost use Rattle.std.specs.Prelude.{◌≡◌};
-ghost use Rattle.smil_top.specs.Running.{fault_at};
+ghost use Rattle.smil_top.specs.Answers.{at_line};
 
 use smil_model::Refusal;
 
@@ -15,7 +15,7 @@ pub(crate) struct Fault {
 impl Fault {
     /// A refusal that stands at this line.
     pub fn at(line: u32, answered: Result<(), Refusal>) -> Result<(), Fault>
-        ensures { result ≡ fault_at line answered }
+        ensures { result ≡ at_line line answered }
     {
         match answered {
             Ok(()) => Ok(()),

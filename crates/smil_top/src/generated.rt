@@ -26,8 +26,8 @@ pub(crate) struct Summary {
 }
 
 /// Answers the session of a number, and tells how many orders it has, how many were refused, how
-/// many lines the transcript has, and the moment at its end; unless memory runs out, and then that
-/// is the answer.
+/// many lines the transcript has, and the moment at its end; unless memory runs out, also where an
+/// order of the session is refused for it.
 pub(crate) fn summary_of<L: Ledger>(
     alloc: Global,
     number: u32,

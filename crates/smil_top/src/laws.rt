@@ -8,8 +8,8 @@ ghost use Rattle.smil_top.specs.Laws.{NamesAreIsolated, NumbersAreAside, OrdersA
 ghost use Rattle.smil_top.specs.Laws.{InputsAreIsolated, InputsAreCut, TranscriptsHaveFronts};
 ghost use Rattle.smil_top.specs.Laws.{TranscriptsAreCut, AllTranscriptsAreCut, TranscriptsMigrate};
 
-/// The transcripts of orders are what they are told where memory runs out at some of them, none or
-/// all: which these are gives every answer.
+/// A transcript of orders is what they are told where memory runs out at some of them, at none or
+/// at all: at which ones it does determines each answer.
 pub fn transcripts_are_told()
     ensures told { TranscriptsAreTold }
     ensures each { WhatIsToldIsTranscript }
@@ -31,13 +31,14 @@ pub fn others_stay()
     ensures presentations { PresentationsStay }
 {}
 
-/// And it is answered by what the session has of its own name, unless too many presentations are
-/// held.
+/// An order of a name is answered by what the session has of this name, unless it is refused since
+/// too many presentations are held.
 pub fn answers_are_own()
     ensures { AnswersAreOwn }
 {}
 
-/// So the answers to the orders of a name are those of a session with these orders alone.
+/// The answers to the orders of a name are those of a session with these orders alone, where no
+/// order is refused since too many presentations are held.
 pub fn names_are_isolated()
     ensures { NamesAreIsolated }
 {}
@@ -53,8 +54,9 @@ pub fn orders_are_cut_again()
     ensures { OrdersAreCutAgain }
 {}
 
-/// So the answers to the orders of a name are those of the input that has the lines of these orders
-/// alone, line numbers aside.
+/// The answers to the orders of a name are those of the input that has the lines of these orders
+/// alone, line numbers aside, where memory suffices and no order is refused since too many
+/// presentations are held.
 pub fn inputs_are_isolated()
     ensures { InputsAreIsolated }
 {}
@@ -65,7 +67,8 @@ pub fn inputs_are_cut()
     ensures { InputsAreCut }
 {}
 
-/// So its transcript is a front of the whole one, and the answer of at most one order more.
+/// The transcript of a part of an input from its front is a front of the whole one, and the answer
+/// of at most one order more.
 pub fn transcripts_are_cut()
     ensures fronts { TranscriptsHaveFronts }
     ensures cut { TranscriptsAreCut }

@@ -6,9 +6,9 @@ ghost use Rattle.smil_top.specs.Words.{exit_number_of, is_told as is_told_by};
 /// How a call of `serve` ended.
 #[derive(Clone, Copy, Debug, PartialEq, Eq)]
 pub enum Status {
-    /// The input was read to its end, and every order was accepted.
+    /// The input, where one is read, was read to its end, and every order was accepted.
     Clean,
-    /// The input was read to its end, and an order was refused.
+    /// The input, where one is read, was read to its end, and an order was refused.
     Refused,
     /// The words are none that the program knows.
     Words,
@@ -16,7 +16,8 @@ pub enum Status {
     ReadFault,
     /// A write failed.
     WriteFault,
-    /// There was no memory to begin with, or the answer of an order is `memory`.
+    /// There was no memory to begin with, or an order was refused since memory ran out; or memory
+    /// ran out with `gen`.
     Memory,
     /// The input is longer than the limit.
     InputTooLong,

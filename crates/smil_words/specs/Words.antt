@@ -4,17 +4,17 @@ use Rattle.smil_grammar.specs.Numbers.{number_of}
 use Rattle.smil_grammar.specs.Texts.{◌>>=◌, zero_digit}
 use Rattle.smil_words.specs.declared.mode.Mode.{Mode}
 use Rattle.smil_words.specs.declared.mode.Mode.TheVariants.{Run, Check, Gen}
-use Rattle.smil_words.specs.declared.mode.TheConstants.{SESSIONS}
+use Rattle.smil_words.specs.declared.mode.TheConstants.{SESSIONS, SESSION_DIGITS}
 
 -- a number of a session
 abbrev pub in_range : ℕ → Option ℕ
 in_range n = if nat_le 1 n && nat_le n SESSIONS then Some n else None
 
--- one to three digits, the first not 0
+-- one to so many digits, the first not 0
 abbrev pub session_number : List ℕ → Option ℕ
 session_number [] = None
 session_number (b ∷ bytes) =
-    if b == zero_digit then None else (if nat_le (length bytes) 2 then number_of (b ∷ bytes) >>= in_range else None)
+    if b == zero_digit then None else (if nat_le (length (b ∷ bytes)) SESSION_DIGITS then number_of (b ∷ bytes) >>= in_range else None)
 
 abbrev pub of_one : List ℕ → Option Mode
 of_one word = if bytes_eq word (codes "run") then Some Run else (if bytes_eq word (codes "check") then Some Check else None)

@@ -11,6 +11,9 @@ use smil_model::WordList;
 /// The greatest number of a session that `gen` runs.
 pub const SESSIONS: u32 = 900;
 
+/// The greatest number of digits of a session's number.
+pub const SESSION_DIGITS: usize = 3;
+
 /// What the program is to do.
 #[derive(Clone, Copy, Debug, PartialEq, Eq)]
 pub enum Mode {
@@ -63,12 +66,12 @@ fn of_two(word: &[u8], digits: &[u8]) -> Option<Mode>
     }
 }
 
-// The number of a session: one to three digits, the first not 0.
+// The number of a session: one to `SESSION_DIGITS` digits, the first not 0.
 fn session_number(digits: &[u8]) -> Option<u32>
     ensures { result ≡ session_number digits.now }
 {
     let first = digits.first()?;
-    if *first == b'0' || 3 < digits.len() {
+    if *first == b'0' || SESSION_DIGITS < digits.len() {
         return None;
     }
     let number = short(digits)?;

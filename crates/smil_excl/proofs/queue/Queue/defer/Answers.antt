@@ -3,7 +3,7 @@ use Rattle.std.specs.Prelude.{nat_lt}
 use Rattle.std.specs.List.{insert, position_or_len}
 use Rattle.smil_excl.specs.declared.held.QueuedChild.{QueuedChild}
 use Rattle.smil_excl.specs.Line.{deferred_after}
-use Rattle.smil_excl.proofs.Line.{changed, deferred_at, or_length}
+use Rattle.smil_excl.proofs.Line.{changed, put_at, or_length}
 use Rattle.smil_excl.proofs.queue.Queue.defer.Goals as goal
 
 pub returns : goal.returns
@@ -13,4 +13,4 @@ returns c =
     let placed : c.insert.new.self.items ≡ insert held c.unwrap_or-place.result child = search rules in
     let place : c.unwrap_or-place.result ≡ position_or_len (λ (o : QueuedChild). nat_lt c.args.rank o.rank) held =
     let found = or_length (λ (o : QueuedChild). nat_lt c.args.rank o.rank) held in search (rules, found) in
-    changed (deferred_after child) _ _ _ _ c.self.view_is (placed ∙ ap (λ i. insert held i child) place ∙ deferred_at child held)
+    changed (deferred_after child) _ _ _ _ c.self.view_is (placed ∙ ap (λ i. insert held i child) place ∙ put_at (λ (o : QueuedChild). nat_lt c.args.rank o.rank) child held)

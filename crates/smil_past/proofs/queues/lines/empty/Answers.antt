@@ -1,8 +1,8 @@
 use Rattle.std.proofs.Common.{refl, sym, ap, ◌∙◌, []}
 use Rattle.std.specs.Prelude.{cond}
 use Rattle.std.proofs.lemmas.Bool.{eq-eqb}
-use Rattle.smil_excl.specs.Line.{Line}
-use Rattle.smil_past.specs.Queues.{without_children, line_in}
+use Rattle.smil_excl.specs.Line.{Line, line_in}
+use Rattle.smil_past.specs.Queues.{without_children}
 use Rattle.smil_past.proofs.Placing.{queue_changed, queue_absent, line_there}
 use Rattle.smil_past.proofs.queues.lines.empty.Goals as goal
 

@@ -2,9 +2,9 @@ use Rattle.std.proofs.Common.{sym, ap, ◌∙◌}
 use Rattle.std.specs.Prelude.{is_some, option_map, slice_get}
 use Rattle.smil_excl.specs.declared.held.QueuedChild.{QueuedChild}
 use Rattle.smil_excl.specs.Line.{Line}
+use Rattle.smil_excl.proofs.Following.{first_of}
 use Rattle.smil_past.proofs.Listing.{known_place}
 use Rattle.smil_past.proofs.Placing.{line_there}
-use Rattle.smil_past.proofs.Taking.{first_of}
 use Rattle.smil_past.proofs.queues.lines.first_at.Goals as goal
 
 pub unwrap-place-requires : goal.unwrap-place-requires

@@ -1,8 +1,7 @@
 use Rattle.std.proofs.Common.{ap, ◌∙◌}
 use Rattle.smil_model.specs.happening.Queue as model
-use Rattle.smil_excl.specs.Line.{Line, without}
+use Rattle.smil_excl.specs.Line.{Line, without, line_in}
 use Rattle.smil_excl.proofs.Line.{without_is_without}
-use Rattle.smil_past.specs.Queues.{line_in}
 use Rattle.smil_past.proofs.Placing.{child_changed, child_absent, parent_there, line_there}
 use Rattle.smil_past.proofs.queues.lines.leave.Goals as goal
 

@@ -1,8 +1,8 @@
 use Rattle.std.proofs.Common.{◌≡◌, ℕ, ◌-◌, List, Bool, false, ap, sym, subst, ◌∙◌}
-use Rattle.smil_top.specs.declared.session.Session.{Session}
 use Rattle.smil_top.specs.Cut.{OrderLines, single}
 use Rattle.smil_top.specs.Evaluations.{line_number}
-use Rattle.smil_top.specs.Running.{MakesAnswer, Makes, answering, fault_at, line_by}
+use Rattle.smil_top.specs.Answers.{at_line}
+use Rattle.smil_top.specs.Running.{MakesAnswer, Makes, answering, line_by}
 use Rattle.smil_top.proofs.Evaluated.{counted-single, evaluated-more}
 use Rattle.smil_top.proofs.Tells.{counted_as, single-made, told-order}
 use Rattle.smil_top.proofs.run.Run.answer_single.Goals as goal
@@ -18,19 +18,17 @@ returns-clause-answers g c checks whole told tells =
     subst (λ (k : Bool). Makes r text between.house session (line_by k session c.args.number c.args.text.now)) tells.checks_is
     (c.answer_line-answered.ensures.answer session tells.holds)
     in
-    let made : MakesAnswer (fault_at c.args.number r) text between.house session (answering checks) order =
+    let made : MakesAnswer (at_line c.args.number r) text between.house session (answering checks) order =
     single-made checks r text between.house session c.args.number c.args.text.now c.requires.short makes
     in
     let told_as : MakesAnswer c.at.result text between.house session (answering checks) order =
     subst (λ a. MakesAnswer a text between.house session (answering checks) order) (sym c.at.ensures) made
     in
-    let at_end : MakesAnswer c.at.result text c.tell.new.self.session.house session (answering checks) order =
-    subst (λ (s : Session). MakesAnswer c.at.result text s.house session (answering checks) order) (sym c.tell.ensures.session) told_as
-    in
     told-order
     checks
     c.args.self.now
     c.tell.new.self
+    between
     whole
     told
     order
@@ -42,8 +40,9 @@ returns-clause-answers g c checks whole told tells =
     (g.K.Sink.sure_room c.args.sink.now)
     (g.K.Sink.sure_room c.tell.new.sink)
     tells
-    at_end
-    (ap (λ (s : Session). s.checks) c.tell.ensures.session ∙ c.answer_line-answered.ensures.checks)
+    told_as
+    c.tell.ensures.session
+    c.answer_line-answered.ensures.checks
     c.tell.ensures.counts
     c.tell.ensures.writes
 
@@ -67,7 +66,7 @@ returns-clause-evaluated g c whole told tells =
     whole
     told
     (single (record { number = number; text = line }))
-    (fault_at number r)
+    (at_line number r)
     text
     between.house
     c.args.steps.now

@@ -1,7 +1,6 @@
-use Rattle.std.proofs.Common.{[], ◌∷◌, ◌++◌, Option, None, Err, false, refl, arith, ap, sym, subst, ◌∙◌}
+use Rattle.std.proofs.Common.{[], ◌∷◌, ◌++◌, Option, None, Err, false, refl, arith, sym, subst, ◌∙◌}
 use Rattle.smil_model.specs.declared.order.Refusal.TheVariants.{UnfinishedLoad}
 use Rattle.smil_top.specs.declared.fault.Fault.{Fault}
-use Rattle.smil_top.specs.declared.session.Session.{Session}
 use Rattle.smil_top.specs.Cut.{OrderLines, LoadLines, load as load_order, unended}
 use Rattle.smil_top.specs.Evaluations.{number_of}
 use Rattle.smil_top.specs.Running.{AnswersOrders, EvaluatesOn, MakesAnswer, answering}
@@ -19,13 +18,11 @@ returns-in-Some-clause-answers g c checks cut told running =
     let made : MakesAnswer (Err fault) run.answer run.session.house told.session (answering checks) order =
     unfinished-made checks run.answer run.session.house told.session found.0 load.line found.2.line running.tells.holds
     in
-    let at_end : MakesAnswer (Err fault) run.answer c.tell.new.self.session.house told.session (answering checks) order =
-    subst (λ (s : Session). MakesAnswer (Err fault) run.answer s.house told.session (answering checks) order) (sym c.tell.ensures.session) made
-    in
     let answers = told-order
     checks
     run
     c.tell.new.self
+    run.session
     cut.whole
     told
     order
@@ -37,8 +34,9 @@ returns-in-Some-clause-answers g c checks cut told running =
     (g.K.Sink.sure_room c.args.sink.now)
     (g.K.Sink.sure_room c.tell.new.sink)
     running.tells
-    at_end
-    (ap (λ (s : Session). s.checks) c.tell.ensures.session)
+    made
+    c.tell.ensures.session
+    refl
     c.tell.ensures.counts
     c.tell.ensures.writes in
     subst

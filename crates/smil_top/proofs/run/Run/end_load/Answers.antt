@@ -1,5 +1,4 @@
-use Rattle.std.proofs.Common.{◌≡◌, Bool, false, Some, ap, sym, subst, ◌∙◌}
-use Rattle.smil_top.specs.declared.session.Session.{Session}
+use Rattle.std.proofs.Common.{◌≡◌, Bool, false, Some, ap, subst, ◌∙◌}
 use Rattle.smil_top.specs.declared.counts.Counts.{Counts}
 use Rattle.smil_top.specs.Cut.{OrderLines, load}
 use Rattle.smil_top.specs.Running.{MakesAnswer, answering}
@@ -18,13 +17,11 @@ returns-clause-answers g c checks whole lines told read tells =
     let made : MakesAnswer answered text between.session.house session (answering checks) order =
     subst (λ (k : Bool). MakesAnswer answered text between.session.house session (answering k) order) tells.checks_is (e.answer session lines tells.holds read)
     in
-    let at_end : MakesAnswer answered text c.tell.new.self.session.house session (answering checks) order =
-    subst (λ (s : Session). MakesAnswer answered text s.house session (answering checks) order) (sym c.tell.ensures.session) made
-    in
     told-order
     checks
     c.args.self.now
     c.tell.new.self
+    between.session
     whole
     told
     order
@@ -36,8 +33,9 @@ returns-clause-answers g c checks whole lines told read tells =
     (g.K.Sink.sure_room c.args.sink.now)
     (g.K.Sink.sure_room c.tell.new.sink)
     tells
-    at_end
-    (ap (λ (s : Session). s.checks) c.tell.ensures.session ∙ e.checks)
+    made
+    c.tell.ensures.session
+    e.checks
     (c.tell.ensures.counts ∙ ap (λ (k : Counts). counted_as answered text k) e.counts)
     c.tell.ensures.writes
 

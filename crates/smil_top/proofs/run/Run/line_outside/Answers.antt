@@ -5,7 +5,6 @@ use Rattle.smil_model.specs.declared.order.Refusal.TheVariants.{LongLine}
 use Rattle.smil_grammar.specs.Scripts.{opens_load}
 use Rattle.smil_top.specs.declared.fault.Fault.{Fault}
 use Rattle.smil_top.specs.declared.run.Run.{Run}
-use Rattle.smil_top.specs.declared.session.Session.{Session}
 use Rattle.smil_top.specs.Cut.{OrderLines, NumberedLine, LoadLines, single, with_line}
 use Rattle.smil_top.specs.Evaluations.{number_of}
 use Rattle.smil_top.specs.Running.{IsRead, IsLine, MakesAnswer, answering}
@@ -28,13 +27,11 @@ returns-in-None-clause-answers g c checks cut told line out tells number shows =
     let made : MakesAnswer (Err fault) run.answer run.session.house told.session (answering checks) order =
     long-made checks run.answer run.session.house told.session count line long tells.holds
     in
-    let at_end : MakesAnswer (Err fault) run.answer c.tell.new.self.session.house told.session (answering checks) order =
-    subst (λ (s : Session). MakesAnswer (Err fault) run.answer s.house told.session (answering checks) order) (sym c.tell.ensures.session) made
-    in
     let answers = told-order
     checks
     run
     c.tell.new.self
+    run.session
     cut.whole
     told
     order
@@ -46,8 +43,9 @@ returns-in-None-clause-answers g c checks cut told line out tells number shows =
     room
     left
     tells
-    at_end
-    (ap (λ (s : Session). s.checks) c.tell.ensures.session)
+    made
+    c.tell.ensures.session
+    refl
     c.tell.ensures.counts
     c.tell.ensures.writes in
     running-order
