@@ -3,7 +3,7 @@ use Rattle.std.proofs.Common.{◌≡◌, refl, sym, ◌∙◌, ap, subst, ℕ, z
 use Rattle.std.specs.Prelude.{◌==◌, ◌++◌, ◌+◌, nat_eq, slice_get, slice_index_or, drop}
 use Rattle.std.specs.List.{IsDistinct as IsApart, position}
 use Rattle.std.proofs.lemmas.Bool.{eq-eqb, eqb-true, eqb-false}
-use Rattle.std.proofs.lemmas.List.{length-map, take-append-drop}
+use Rattle.std.proofs.lemmas.List.{length-map}
 use Rattle.smil_model.specs.declared.interval.ChildEnd.{ChildEnd}
 use Rattle.smil_model.specs.declared.interval.Interval.{Interval}
 use Rattle.smil_model.specs.declared.document.Node.{Node}
@@ -34,6 +34,7 @@ use Rattle.smil_nodes.proofs.Family.{child_below, family, one_child, rank_of}
 use Rattle.smil_nodes.proofs.Housing.{home_each, ends_at}
 use Rattle.smil_nodes.proofs.Noted.{untouched}
 use Rattle.smil_nodes.proofs.Ranked.{found_place}
+use Rattle.smil_nodes.proofs.Starting.{whole_past}
 use Rattle.smil_nodes.proofs.Staying.{all_done, end_by_interval, same_end}
 
 -- ---- lists of ends
@@ -261,9 +262,6 @@ children_unlisted nodes order old mid rank e distinct is lt at here implicit off
 -- ---- entries are taken in
 
 module _ (past : MarkedHistory) (from : ℕ) (order : List ℕ) (listed : ℕ → Bool) (ordered : IsOrdered past.document.nodes) (distinct : IsApart nat_eq order) (told : (s r : ℕ) → position (λ t. t == s) order ≡ Some r → listed r ≡ is_noted_by past.document.nodes past.log (drop from past.diary) s) where
-  whole : up_to (front past from) ((front past from).diary ++ drop from past.diary) ≡ history_of past
-  whole = ap (λ d. up_to (history_of past) d) (take-append-drop from past.diary)
-
   pub known_first : (given : ℕ → Option Interval) (kept : KeptEnds) → AreKnown (front past from) given anyone kept → AreKnown (history_of past) given (IsUnlisted order listed) kept
   known_first given kept are = record {
     homes = are.homes;
@@ -275,5 +273,5 @@ module _ (past : MarkedHistory) (from : ℕ) (order : List ℕ) (listed : ℕ �
         ∙ ap Some
         (sym (same_end (front past from) (up_to (front past from) ((front past from).diary ++ drop from past.diary)) given e c
         (all_done c (front past from) (drop from past.diary) ordered.first there free))
-        ∙ ap (λ x. child_end x given e c) whole);
+        ∙ ap (λ x. child_end x given e c) (whole_past past from));
   }

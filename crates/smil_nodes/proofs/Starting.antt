@@ -25,13 +25,14 @@ use Rattle.smil_nodes.proofs.Fixed.{current_elements, row_of_current}
 use Rattle.smil_nodes.proofs.Noted.{noted_reached, untouched}
 use Rattle.smil_nodes.proofs.Ranked.{element_of, found_place}
 
-module _ (past : MarkedHistory) (from : ℕ) (now : ℤ) (order : List ℕ) (rows : List Row) (listed : ℕ → Bool) (ordered : IsOrdered past.document.nodes) (is : IsOrder past.document.nodes order) (distinct : IsDistinct nat_eq order) (told : (s r : ℕ) → position (λ t. t == s) order ≡ Some r → listed r ≡ is_noted_by past.document.nodes past.log (drop from past.diary) s) where
-  whole : up_to (front past from) ((front past from).diary ++ drop from past.diary) ≡ history_of past
-  whole = ap (λ d. up_to (history_of past) d) (take-append-drop from past.diary)
+-- the entries before a place and those from it on are all of them
+pub whole_past : (past : MarkedHistory) (from : ℕ) → up_to (front past from) ((front past from).diary ++ drop from past.diary) ≡ history_of past
+whole_past past from = ap (λ d. up_to (history_of past) d) (take-append-drop from past.diary)
 
+module _ (past : MarkedHistory) (from : ℕ) (now : ℤ) (order : List ℕ) (rows : List Row) (listed : ℕ → Bool) (ordered : IsOrdered past.document.nodes) (is : IsOrder past.document.nodes order) (distinct : IsDistinct nat_eq order) (told : (s r : ℕ) → position (λ t. t == s) order ≡ Some r → listed r ≡ is_noted_by past.document.nodes past.log (drop from past.diary) s) where
   given_same : (e : Node) → node_at (elements past.document.nodes) e.serial ≡ Some e → is_touched_by past.document.nodes past.log (drop from past.diary) e.serial ≡ false → GivesSame (front past from) (history_of past) (interval_in rows) now e
   given_same e here free =
-      subst (λ k. GivesSame (front past from) k (interval_in rows) now e) whole
+      subst (λ k. GivesSame (front past from) k (interval_in rows) now e) (whole_past past from)
       (leaves_untouched (front past from) (drop from past.diary) (interval_in rows) now e ordered.first here free)
 
   -- the row of an element that is not touched
