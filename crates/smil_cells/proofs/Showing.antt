@@ -1,5 +1,5 @@
 -- The elements in whose views a step shows, among the serials that are appended.
-use Rattle.std.proofs.Common.{◌≡◌, refl, sym, ◌∙◌, ap, subst, ℕ, zero, suc, ◌+◌, ◌-◌, ◌<◌, ◌≤◌, List, [], ◌∷◌, ◌++◌, Option, Some, None, Bool, true, false, inl, inr, arith, length, drop, filter, append_assoc, append-nil, reverse, eqb-true}
+use Rattle.std.proofs.Common.{◌≡◌, refl, sym, ◌∙◌, ap, subst, ℕ, zero, suc, ◌+◌, ◌-◌, ◌<◌, ◌≤◌, List, [], ◌∷◌, ◌++◌, Option, Some, None, Bool, true, false, inl, inr, arith, length, take, drop, filter, append_assoc, append-nil, reverse, eqb-true}
 use Rattle.std.specs.Prelude.{◌⊎◌, ◌&&◌, ◌||◌, ◌==◌, cond, find, is_some, slice_get, slice_range}
 use Rattle.std.specs.List.{list_any, position}
 use Rattle.std.proofs.lemmas.Option.{same_Some}
@@ -22,12 +22,8 @@ use Rattle.smil_element.proofs.Above.{IsUp}
 use Rattle.smil_element.proofs.Cutting.{part_none, span_within}
 use Rattle.smil_cells.specs.Shown.{displaced_in, sequenced}
 use Rattle.smil_tree.proofs.KinTables.{slice_range-more}
-use Rattle.std.proofs.lemmas.Bool.{or_left, or_right}
+use Rattle.std.proofs.lemmas.Bool.{or_cases, or_left, or_parts, or_right}
 use Rattle.smil_instances.proofs.Targets.{known_node}
-
-pub or_cases : (a b : Bool) → a || b ≡ true → (a ≡ true) ⊎ (b ≡ true)
-or_cases true b q = inl refl
-or_cases false b q = inr q
 
 or_none : (a b : Bool) → a ≡ false → b ≡ false → a || b ≡ false
 or_none true b p q = cc
@@ -68,27 +64,14 @@ within_there nodes x e here q = there (λ (s : ℕ). is_within nodes x s) nodes 
 
 any_up : (x : ℕ) (rs : List Node) (s : ℕ) → list_any (λ (a : Node). a.serial == x) rs ≡ false → list_any (λ (a : Node). a.serial == x) (upwards rs s) ≡ false
 any_up x [] s q = refl
-any_up x (n ∷ before) s q = by_here (n.serial == s) (any_up x before n.parent (second (n.serial == x) (list_any (λ (a : Node). a.serial == x) before) q)) (any_up x before s (second (n.serial == x) (list_any (λ (a : Node). a.serial == x) before) q))
+any_up x (n ∷ before) s q =
+    let parts = or_parts (n.serial == x) (list_any (λ (a : Node). a.serial == x) before) q in
+    by_here (n.serial == s) parts.0 (any_up x before n.parent parts.1) (any_up x before s parts.1)
   where
-    second : (a b : Bool) → a || b ≡ false → b ≡ false
-    second true b p = cc
-    second false b p = p
-
-    first : (a b : Bool) → a || b ≡ false → a ≡ false
-    first true b p = cc
-    first false b p = refl
-
-    by_here : (b : Bool) → list_any (λ (a : Node). a.serial == x) (upwards before n.parent) ≡ false → list_any (λ (a : Node). a.serial == x) (upwards before s) ≡ false
+    by_here : (b : Bool) → n.serial == x ≡ false → list_any (λ (a : Node). a.serial == x) (upwards before n.parent) ≡ false → list_any (λ (a : Node). a.serial == x) (upwards before s) ≡ false
         → list_any (λ (a : Node). a.serial == x) (cond b (n ∷ upwards before (cond b n.parent s)) (upwards before (cond b n.parent s))) ≡ false
-    by_here true up still = or_none (n.serial == x) (list_any (λ (a : Node). a.serial == x) (upwards before n.parent)) own up
-      where
-        own : n.serial == x ≡ false
-        own = none_first (n.serial == x) (list_any (λ (a : Node). a.serial == x) before) q
-          where
-            none_first : (a b : Bool) → a || b ≡ false → a ≡ false
-            none_first true b p = cc
-            none_first false b p = refl
-    by_here false up still = still
+    by_here true own up still = or_none (n.serial == x) (list_any (λ (a : Node). a.serial == x) (upwards before n.parent)) own up
+    by_here false own up still = still
 
 none_any : (x : ℕ) (ns : List Node) → is_some (node_at ns x) ≡ false → list_any (λ (a : Node). a.serial == x) ns ≡ false
 none_any x [] q = refl
@@ -183,6 +166,10 @@ none_displaced nodes step who q = by_start (starts step) (by_parent (time_parent
     by_start false e = refl
 
 -- ---- the entries one after another
+
+-- those from an index on, as the slice of them is
+abbrev pub entries_from : List Entry → ℕ → List Entry
+entries_from entries from = take (length entries - from) (drop from entries)
 
 pub shows_first : (nodes : List Node) (log : List LogEntry) (diary : List Entry) (place s : ℕ) (x : Entry) → slice_get diary place ≡ Some x → any_shows nodes log (drop place diary) s ≡ true
     → (shows_from nodes x.step (subject_of log x.step) s ≡ true) ⊎ (any_shows nodes log (drop (place + 1) diary) s ≡ true)

@@ -11,11 +11,12 @@ use Rattle.smil_model.specs.document.Document.{elements, is_element, node_at, se
 use Rattle.smil_model.specs.document.Valid.{IsDistinct}
 use Rattle.smil_model.specs.document.Closure.{has}
 use Rattle.smil_model.specs.diary.Diary.{History}
+use Rattle.smil_laws.specs.Near.{AllNear, IsIntervalNear}
 use Rattle.smil_laws.proofs.Members.{Differ, differ_all, differ_kept}
+use Rattle.smil_laws.proofs.NearIntervals.{interval_near}
 use Rattle.smil_graph.specs.Graph.{IsOrder}
-use Rattle.smil_element.specs.declared.comings.Comings.{Comings}
 use Rattle.smil_element.specs.declared.evaluation.Evaluation.{Evaluation}
-use Rattle.smil_element.specs.Element.{IsEvaluated, both, coming_by}
+use Rattle.smil_element.specs.Element.{IsEvaluated}
 use Rattle.smil_cells.specs.declared.plain.known.Row.{Row}
 use Rattle.smil_cells.specs.Plain.{interval_in}
 use Rattle.smil_cells.specs.Round.{AreTaken, IsRowOf, IsTaken, StayUnchanged}
@@ -84,25 +85,29 @@ elements_few (n ∷ ns) = by_test (is_element n) (elements_few ns)
     by_test true l = omega (arith, l)
     by_test false l = omega (arith, l)
 
-pub near_where : (P : Interval → Type 0) (o : Option Interval) → ((i : Interval) → o ≡ Some i → P i) → IfSome o P
-near_where P None f = tt
-near_where P (Some i) f = f i refl
+-- the numbers of an interval that was evaluated are near
+pub evaluated_near : (h : History) (intervals : ℕ → Option Interval) (now : ℤ) (e : Node) (made : Evaluation) → AllNear h.diary → IsEvaluated h intervals now e made → IfSome made.interval IsIntervalNear
+evaluated_near h intervals now e made near is = where_some made.interval (λ i q. interval_near h intervals now e i near (sym is.interval ∙ q))
+  where
+    where_some : (o : Option Interval) → ((i : Interval) → o ≡ Some i → IsIntervalNear i) → IfSome o IsIntervalNear
+    where_some None f = tt
+    where_some (Some i) f = f i refl
 
--- an element is taken where its evaluation is that by the rows as they were
-pub taken_of : (h : History) (now : ℤ) (who : ℕ) (before after : List Row) (place : ℕ) (made : Evaluation) (comings : Comings) → (at : IsFound h.nodes before who) → place ≡ at.place → IsEvaluated h (interval_in before) now at.element made → both comings.moved comings.repeat ≡ coming_by h made.interval made.simple now place at.element → after ≡ set before place (record { serial = who; interval = made.interval; comings = comings }) → IsTaken h now who before after
-taken_of h now who before after place made comings at is evaluated come after_is = record {
+-- an element is taken where its row is that by the rows as they were
+pub taken_by : (h : History) (now : ℤ) (who place : ℕ) (before after : List Row) (row : Row) → (at : IsFound h.nodes before who) → place ≡ at.place → IsRowOf h (interval_in before) now place at.element row → after ≡ set before place row → IsTaken h now who before after
+taken_by h now who place before after row at is made after_is = record {
   place = place;
   element = at.element;
-  row = record { serial = who; interval = made.interval; comings = comings };
+  row = row;
   here = ap (slice_get (elements h.nodes)) is ∙ at.here;
   is_who = at.is_who;
-  made = record {
-    serial = sym at.is_who;
-    interval = evaluated.interval;
-    comings = come ∙ ap (λ simple. coming_by h made.interval simple now place at.element) evaluated.simple;
-  };
+  made = made;
   after_is = after_is;
 }
+
+-- its row is put in the place of its own
+pub own_first : (nodes : List Node) (rows : List Row) (who place : ℕ) (row : Row) → (at : IsFound nodes rows who) → place ≡ at.place → row.serial ≡ who → IsFirst row.serial rows place
+own_first nodes rows who place row at is own = subst (λ s. IsFirst s rows place) (sym own) (subst (IsFirst who rows) (sym is) at.first)
 
 -- ---- what is told of an interval that changes
 

@@ -6,7 +6,9 @@ ghost use Rattle.smil_model.specs.declared.limits.TheConstants.{LOG_ENTRIES as t
 ghost use Rattle.smil_model.specs.declared.diary.Entry.{Entry as AnyEntry};
 ghost use Rattle.smil_model.specs.document.Valid.{IsValid};
 ghost use Rattle.smil_model.specs.document.Document.{elements};
+ghost use Rattle.smil_model.specs.diary.Lawful.{has_element};
 ghost use Rattle.smil_model.specs.diary.Logs.{may_happen};
+ghost use Rattle.smil_model.specs.happening.Groups.{group as group_at};
 ghost use Rattle.smil_model.specs.happening.Keys.{Coming as AnyComing, coming, first_coming};
 ghost use Rattle.smil_model.specs.happening.Resolution.{diary_of};
 ghost use Rattle.smil_model.specs.shown.Orders.{Presentation, course_of, as_of};
@@ -15,7 +17,7 @@ ghost use Rattle.smil_diary.specs.declared.fault.BookFault.TheVariants as book_f
 ghost use Rattle.smil_stretch.specs.Clocks.{AreClocksOf};
 ghost use Rattle.smil_past.specs.Past as past_of;
 ghost use Rattle.smil_model.specs.declared.limits.TheConstants as limits;
-ghost use Rattle.smil_element.specs.Parts.{coming_meant};
+ghost use Rattle.smil_element.specs.Parts.{coming_meant, meant};
 ghost use Rattle.smil_cells.specs.Standing.{GoesOn, IsFront, IsHeard, IsNext, IsPassed, IsRebuilt, IsRefusing, IsSettled, NothingBefore, first_at, IsPart, MayAppendAll, MayRebuild, Standing, StayTouched, WhereTold, any_interval, fresh_since, history_of, interval_at, reached_since, with_logged};
 ghost use Rattle.smil_cells.specs.Standings.{MayBegin, at_mark, begun};
 ghost use Rattle.smil_laws.specs.Same.{IsSame};
@@ -42,8 +44,8 @@ use std::sync::ledger::Ledger;
 
 /// A presentation under way, whose diary is resolved moment by moment; seen as its document, its
 /// log, its moment in milliseconds of document time and its diary, with the refusal that it answers
-/// from now on, what a mark goes back to, and the elements whose views the last call may have
-/// changed.
+/// from now on, what a mark goes back to, and the elements whose views the last `settle` or `hear`
+/// may have changed.
 pub struct Cells<T: Table> {
     past: Past,
     moment: i64,
@@ -107,9 +109,9 @@ impl<T: Table> Cells<T> {
         Cells::over(alloc, past, 0, steps)
     }
 
-    /// Resolves the presentation up to a moment, which is not before its own and not above 10^12.
-    /// `DiaryFull` where its diary would have too many entries, `Memory` where memory runs out, and
-    /// an earlier refusal again.
+    /// Resolves the presentation up to a moment, in milliseconds of document time, which is not
+    /// before its own and not above 10^12. `DiaryFull` where its diary would have too many entries,
+    /// `Memory` where memory runs out, and an earlier refusal again, which changes nothing.
     pub fn settle<L: Ledger>(&mut self, until: i64, steps: &mut Steps<L>) -> Result<(), BookFault>
         requires from { pos self.old.presentation.now ≤ℤ until }
         requires within { until ≤ℤ the_horizon }
@@ -141,8 +143,9 @@ impl<T: Table> Cells<T> {
     }
 
     /// Appends an entry to the log at its moment, which is the presentation's, and resolves what
-    /// follows at that moment. The presentation is settled, and its log is not full. The answers
-    /// are those of `settle`.
+    /// follows at that moment. The entry is one that a log may have: an event that begins, ends and
+    /// repeats don't raise by themselves, a length of media, or the press of a key. The
+    /// presentation is settled, and its log is not full. The answers are those of `settle`.
     pub fn hear<L: Ledger>(
         &mut self,
         entry: LogEntry,
@@ -206,7 +209,7 @@ impl<T: Table> Cells<T> {
         }
     }
 
-    /// The present moment. It takes no memory.
+    /// The present moment, in milliseconds of document time. It takes no memory.
     pub fn moment(&self) -> i64
         ensures { result ≡ pos self.now.presentation.now }
     {
@@ -241,8 +244,8 @@ impl<T: Table> Cells<T> {
         self.past.log()
     }
 
-    /// The elements whose views the last `settle` or `hear` may have changed, in document order. It
-    /// takes no memory.
+    /// The elements whose views the last `settle` or `hear` may have changed, in document order
+    /// where that was not refused. It takes no memory.
     pub fn touched(&self) -> &Serials
         ensures { result.now ≡ self.now.touched }
     {
@@ -279,7 +282,8 @@ impl<T: Table> Cells<T> {
     }
 
     /// The cells of a document with the first entries of this diary and what they name of this log,
-    /// unless memory runs out.
+    /// at the moment of the last of these, or 0; unless memory runs out. The document is valid, and
+    /// its resolution with that part of the log comes to these entries. No mark stands.
     pub fn rebuilt<L: Ledger>(
         &self,
         doc: &Doc,
@@ -320,8 +324,8 @@ impl<T: Table> Cells<T> {
         Cells::over(self.alloc, past, moment, steps)
     }
 
-    /// Makes these the cells of a document with the first entries of the diary and what they name
-    /// of the log. After a refusal `settle` and `hear` answer `Memory`.
+    /// Makes these the cells that `rebuilt` gives, under its conditions. Where memory runs out
+    /// `settle` and `hear` answer `Memory` from then on.
     pub fn rebuild<L: Ledger>(
         &mut self,
         doc: &Doc,
@@ -347,7 +351,7 @@ impl<T: Table> Cells<T> {
         }
     }
 
-    /// From here on `back` comes back to this. No refusal was answered and no mark stands. It takes
+    /// Sets a mark, to which `back` goes back. No refusal was answered and no mark stands. It takes
     /// no memory.
     pub fn mark(&mut self)
         requires sound { self.old.fault ≡ None }
@@ -360,8 +364,8 @@ impl<T: Table> Cells<T> {
         self.mark = Some(self.moment);
     }
 
-    /// Goes back to the mark, which stands no longer; no refusal is answered any more. It takes no
-    /// memory.
+    /// Goes back to the mark, which stands, and takes it away; no refusal is answered any more. It
+    /// takes no memory.
     pub fn back(&mut self)
         requires { is_some self.old.marked ≡ true }
         ensures { (mark : Presentation × List AnyEntry) → self.old.marked ≡ Some mark → self.new
@@ -375,7 +379,7 @@ impl<T: Table> Cells<T> {
         self.fault = None;
     }
 
-    /// Takes the mark away. It takes no memory.
+    /// Takes away the mark, which stands. It takes no memory.
     pub fn forget(&mut self)
         requires { is_some self.old.marked ≡ true }
         ensures { self.new ≡ record self.old { marked = None } }
@@ -567,15 +571,7 @@ impl<T: Table> Cells<T> {
         other_views_stay();
         self.fault = Some(BookFault::Memory);
         let from = self.past.book().len();
-        self.group.clear();
-        let parts = Parts {
-            tree: self.past.tree(),
-            book: self.past.book(),
-            clocks: self.past.clocks(),
-            queues: self.past.queues(),
-            moment: self.moment,
-        };
-        group_of(&parts, coming.key.serial, coming.change, &mut self.group)?;
+        fill_group(&self.past, self.moment, coming, &mut self.group)?;
         if let Err(fault) = append_all(&mut self.past, &self.group) {
             self.fault = Some(fault);
             return Err(fault);
@@ -592,6 +588,29 @@ impl<T: Table> Cells<T> {
         self.fault = None;
         Ok(())
     }
+}
+
+// Fills a list with the group of what comes, at a moment.
+fn fill_group(
+    past: &Past,
+    moment: i64,
+    coming: Coming,
+    entries: &mut Vec<Entry>,
+) -> Result<(), AllocError>
+    requires element { has_element past.now.document.nodes coming.key.serial ≡ true }
+    requires moment { past_of.IsPresent past.now moment }
+    ensures { OnOk result (entries.new.items
+        ≡ group_at (past_of.history_of past.now) moment coming.key.serial (meant coming.change)) }
+{
+    entries.clear();
+    let parts = Parts {
+        tree: past.tree(),
+        book: past.book(),
+        clocks: past.clocks(),
+        queues: past.queues(),
+        moment,
+    };
+    group_of(&parts, coming.key.serial, coming.change, entries)
 }
 
 // Appends entries, one after another, each of which may follow what has happened by then.

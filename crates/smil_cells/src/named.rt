@@ -1,4 +1,4 @@
-//! What is left of a log beside the first entries of a diary.
+//! The part of a log that the first entries of a diary name, and the moment of the last of these.
 
 ghost use Rattle.std.specs.Prelude.{◌≡◌, ◌≤◌, length, take, IfOk};
 ghost use Rattle.smil_model.specs.diary.Diary.{last_moment as model_last_moment};
@@ -18,7 +18,8 @@ pub fn heard_log(alloc: Global, log: &Log, book: &Book, len: usize) -> Result<Lo
     first_of(alloc, log, logged_among(book, len))
 }
 
-/// The moment of the last entry of what has happened; 0 where there is none. It takes no memory.
+/// The moment of the last entry of what has happened, in milliseconds of document time; 0 where
+/// there is none. It takes no memory.
 pub fn last_moment(past: &Past) -> i64
     ensures { result ≡ model_last_moment past.now.diary }
 {

@@ -10,9 +10,9 @@ pub mod known;
 
 use super::cells::Cells;
 use super::table::{Since, Table};
-use known::{CurrentRows, Row};
+use known::{CurrentRows, Row, row_of};
 use smil_due::DueQueue;
-use smil_element::{Coming, Intervals, Present, Room, comings_of, evaluation_of};
+use smil_element::{Coming, Intervals, Present, Room};
 use smil_model::{Duplicate, Interval, Serials, Steps};
 use smil_past::Past;
 use std::alloc::{AllocError, Global};
@@ -26,7 +26,7 @@ pub type PlainCells = Cells<PlainTable>;
 pub struct PlainTable {
     known: CurrentRows,
     due: DueQueue,
-    /// Where a mark stands and something changed since, both as they were there.
+    /// Where a mark stands and something changed since, the rows and the queue as they were there.
     noted: Option<(CurrentRows, DueQueue)>,
     has_mark: bool,
     room: Room,
@@ -198,20 +198,12 @@ impl PlainTable {
     {
         let who = present.who;
         present.past.possible();
-        let place = self.known.place(who).unwrap();
-        let made = evaluation_of(present, &self.known, &mut self.room, steps)?;
-        if !is_same(self.known.interval(who), made.interval) {
+        let index = self.known.place(who).unwrap();
+        let row = row_of(present, index, &self.known, &mut self.room, steps)?;
+        if !is_same(self.known.interval(who), row.interval) {
             changed.push(who)?;
         }
-        let comings = comings_of(present, place as u32, &made);
-        self.known.put(
-            place,
-            Row {
-                serial: who,
-                interval: made.interval,
-                comings,
-            },
-        );
+        self.known.put(index, row);
         Ok(())
     }
 }

@@ -18,8 +18,8 @@ use smil_past::Past;
 use std::alloc::{AllocError, Global};
 use std::sync::ledger::Ledger;
 
-/// What has happened, of which the entries from a place on were appended since a table took it in,
-/// and the moment at which they were.
+/// What has happened, the index of the first of its entries that a table has not taken in, and the
+/// moment at which that and all later ones were appended, in milliseconds of document time.
 #[derive(Clone, Copy)]
 pub struct Since<'a> {
     pub past: &'a Past,
@@ -30,7 +30,7 @@ pub struct Since<'a> {
 /// The current interval of each element of a document, and what comes next, kept while entries are
 /// appended. Its meanings are whether they are those of a history at a moment, whether `back` gives
 /// those of a history at a moment, whether a mark stands, and whether it tells how often intervals
-/// are evaluated.
+/// are evaluated. After a refusal of `refresh` nothing is known of it but what `back` gives.
 pub trait Table: Drop {
     ghost is_current: { Self → History → ℤ → Type 0 };
 
@@ -58,8 +58,8 @@ pub trait Table: Drop {
             (any_interval past.now.document.nodes (current_interval (history_of past.now) moment) ≤
             steps.new - steps.old)) };
 
-    /// Takes in the entries from a place on, and appends to `changed` the elements whose intervals
-    /// they may have changed. After a refusal nothing is known of the table but what `back` gives.
+    /// Takes in the entries from an index on, and appends to `changed` the elements whose intervals
+    /// they may have changed. Refused where memory runs out.
     fn refresh<L: Ledger>(
         &mut self,
         since: &Since<'_>,
@@ -106,7 +106,7 @@ pub trait Table: Drop {
             → is_current copy h now) }
         ensures unmarked { IfOk result (λ copy. has_mark copy ≡ false) };
 
-    /// From here on `back` comes back to this. No mark stands. It takes no memory.
+    /// Sets a mark, to which `back` goes back. No mark stands. It takes no memory.
     fn mark(&mut self)
         requires { has_mark self.old ≡ false }
         ensures current { (h : History) (now : ℤ) → is_current self.old h now
@@ -115,14 +115,14 @@ pub trait Table: Drop {
             → is_marked self.new h now }
         ensures has_mark { has_mark self.new ≡ true };
 
-    /// Goes back to the mark, which stands no longer. It takes no memory.
+    /// Goes back to the mark, which stands, and takes it away. It takes no memory.
     fn back(&mut self)
         requires { has_mark self.old ≡ true }
         ensures current { (h : History) (now : ℤ) → is_marked self.old h now
             → is_current self.new h now }
         ensures has_mark { has_mark self.new ≡ false };
 
-    /// Takes the mark away. It takes no memory.
+    /// Takes away the mark, which stands. It takes no memory.
     fn forget(&mut self)
         requires { has_mark self.old ≡ true }
         ensures current { (h : History) (now : ℤ) → is_current self.old h now

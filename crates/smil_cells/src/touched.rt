@@ -15,12 +15,13 @@ use smil_past::Past;
 use smil_tree::Tree;
 use std::alloc::{AllocError, Global};
 
-// A list of more serials is put in order, so that it has each element once.
+// How many serials a list may have before it is put in order, each element once.
 const CROWD: usize = 100_000;
 
-/// Appends the elements in whose views the entries from a place on show. An element may be appended
-/// more than once, as long as the list is short. Refused where memory runs out. It takes time for
-/// the nodes in which they show.
+/// Appends the elements in whose views the entries from an index on show. Beside them the list may
+/// get other nodes, and an element more than once; a list that grows long is put in order. Refused
+/// where memory runs out. It takes a step for each node that is appended, and n log n steps for a
+/// list of n that is put in order.
 pub fn touch(
     alloc: Global,
     past: &Past,
@@ -124,8 +125,8 @@ fn touch_within(tree: &Tree, who: u32, touched: &mut Serials) -> Result<(), Allo
         (filter (λ (n : AnyNode). is_within tree.now.nodes who n.serial) tree.now.nodes)) }
 {
     let (start, past) = tree.span(who);
-    for at in start..past {
-        let serial = tree.serial_at(at).unwrap();
+    for position in start..past {
+        let serial = tree.serial_at(position).unwrap();
         touched.push(serial)?;
     }
     Ok(())

@@ -31,8 +31,8 @@ pub struct Comings {
 }
 
 /// What comes of an element by its interval and its simple duration, at a moment: its begin, or its
-/// end and its repeat. `place` is its place among the elements. The numbers of the interval are
-/// from -10^12 to 10^12. It takes no memory.
+/// end and its repeat. `place` is its place among the elements in document order, from 0. The
+/// numbers of the interval are from -10^12 to 10^12. It takes no memory.
 pub fn comings_of(present: &Present<'_>, place: u32, made: &Evaluation) -> Comings
     requires element { has_element present.now.past.now.document.nodes present.now.who ≡ true }
     requires moment { IsPresent present.now.past.now present.now.moment }
@@ -197,7 +197,7 @@ fn bounds_of(past: &Past, who: u32) -> Bounds
     Bounds::of_attrs(attrs_of(past, who))
 }
 
-// When the own clock of an element shows a value, if it goes on as now.
+// The moment at which the own clock of an element shows a value, if it goes on as now.
 fn moment_of(present: &Present<'_>, value: i64) -> i64
     requires moment { IsPresent present.now.past.now present.now.moment }
     requires near { IsNear value }

@@ -17,8 +17,8 @@ use smil_model::{Kind, StepKind};
 use smil_past::Past;
 
 // Whether another child of its seq or excl began or resumed after the last end of an element, or
-// the next child of its seq began since its birth. It takes no memory, and a look-up for each
-// child.
+// the next child of its seq began since the seq last began or repeated. It takes no memory, and a
+// look-up for each child.
 pub(crate) fn is_displaced(past: &Past, who: u32) -> bool
     requires { has_element past.now.document.nodes who ≡ true }
     ensures { result ≡ is_displaced (history_of past.now) who }
@@ -67,7 +67,7 @@ fn sets_off(past: &Past, who: u32, from: usize) -> bool
         || is_from(from, past.book().last(who, StepKind::Resumed))
 }
 
-// Whether the next child of a seq began since the birth of one of its children.
+// Whether the time child after one of a seq's children began since the seq last began or repeated.
 fn next_began(past: &Past, parent: u32, who: u32) -> bool
     ensures { (node : Option Node) → serial_of node ≡ Some parent
         → result ≡ option_map_or (began_from past.now.diary (birth_under node past.now.diary))

@@ -22,8 +22,8 @@ use smil_model::{Attrs, ChildEnd, Endsync, Interval, Kind, Time};
 use smil_past::{Past, PastInterval};
 use std::alloc::AllocError;
 
-/// The first and the latest end of an element since its container's iteration began, as the
-/// container takes them.
+/// The first and the latest end of an element since its container's iteration began, in
+/// milliseconds on the container's clock, as the container takes them.
 #[derive(Clone, Copy, Debug, PartialEq, Eq)]
 pub struct Ending {
     pub first: Option<Time>,
@@ -44,9 +44,9 @@ pub fn ending_of(past: &Past, who: u32, interval: Option<Interval>) -> Ending
     }
 }
 
-/// The implicit duration of an active container, in milliseconds, by a walk over its time children.
-/// It takes a step for each time child (a seq: for its last one alone), and memory for a list of
-/// their ends.
+/// The implicit duration of an active container, in milliseconds on its own clock, by a walk over
+/// its time children. It takes a step for each time child, in a seq for the last one alone, and
+/// memory for a list of their ends; refused where that runs out.
 pub fn walked_duration<J: Intervals>(
     container: &Container<'_>,
     intervals: &J,
@@ -78,7 +78,7 @@ fn end_by(kind: Kind, attrs: &Attrs, start: i64, children: &[ChildEnd]) -> Time
     }
 }
 
-// The ends of the time children of a container from which its implicit duration follows: of a seq
+// The ends of those time children of a container by which its implicit duration is told: in a seq
 // that of the last one alone.
 fn deciding_ends<J: Intervals>(
     past: &Past,

@@ -53,7 +53,8 @@ impl Room {
 
 /// The interval of an element at a moment, given those of the others, and its simple duration; one
 /// evaluation is counted. What is kept of the ends of its time children is right where its duration
-/// is implicit. Memory may be wanted for the lists that it reads, and then none is.
+/// is implicit. Refused where memory runs out for the lists that it reads, and then at most one is
+/// counted.
 pub fn evaluation_of<J: Containers, L: Ledger>(
     present: &Present<'_>,
     intervals: &J,
@@ -93,7 +94,8 @@ pub fn evaluation_of<J: Containers, L: Ledger>(
     })
 }
 
-// Fills a list with the begin instance times of an element, unless the diary alone gives them.
+// Fills a list with the begin instance times of an element; where the diary alone gives them the
+// list stays as it is.
 fn fill_begins<J: Intervals>(
     reading: &Reading<J>,
     who: u32,
@@ -112,7 +114,8 @@ fn fill_begins<J: Intervals>(
     pour_begins(reading, who, times)
 }
 
-// Fills a list with the end instance times of an element, unless the diary alone gives them.
+// Fills a list with the end instance times of an element; where the diary alone gives them the
+// list stays as it is.
 fn fill_ends<J: Intervals>(
     reading: &Reading<J>,
     who: u32,

@@ -20,7 +20,7 @@ use smil_past::{Past, Syncbase};
 use std::alloc::AllocError;
 
 /// What an evaluation reads: what has happened, the intervals of the elements, and the present
-/// moment.
+/// moment, in milliseconds of document time.
 #[derive(Drop)]
 pub struct Reading<'a, J: Intervals> {
     pub past: &'a Past,
@@ -29,7 +29,8 @@ pub struct Reading<'a, J: Intervals> {
 }
 
 /// The time that an item of an element gives by the interval of the element that it waits for; None
-/// where that has none, or where one of the two clocks stands. It takes no memory.
+/// where that has no interval, where its begin is meant and has happened, where its end is meant
+/// and is no number, and where one of the two clocks stands. It takes no memory.
 pub fn expected<J: Intervals>(reading: &Reading<J>, who: u32, sync: Syncbase) -> Option<Time>
     requires { IsPresent reading.now.past.now reading.now.moment }
     ensures { option_to_list result ≡ expected_times (history_of reading.now.past.now)
@@ -46,7 +47,7 @@ pub fn expected<J: Intervals>(reading: &Reading<J>, who: u32, sync: Syncbase) ->
     ))
 }
 
-// The begin or the end that an interval has before it has happened.
+// The begin of an interval before it has happened, or its end where that is a number.
 fn edge_value<J: Intervals>(reading: &Reading<J>, sync: Syncbase) -> Option<i64>
     ensures value { result ≡ interval_edge sync.edge (is_active reading.now.past.now.diary sync.of)
         (J.given reading.now.intervals.now sync.of) }
@@ -69,8 +70,7 @@ fn edge_value<J: Intervals>(reading: &Reading<J>, sync: Syncbase) -> Option<i64>
 }
 
 /// The begin instance times of an element, in rising order: those that the diary gives, with the
-/// expected ones in their places. Where no item waits for another element they are those of the
-/// diary.
+/// expected ones in their places. Refused where memory runs out.
 pub fn pour_begins<J: Intervals>(
     reading: &Reading<J>,
     who: u32,
@@ -88,7 +88,8 @@ pub fn pour_begins<J: Intervals>(
     pour(reading, who, syncs, times)
 }
 
-/// The end instance times of an element, in the same way.
+/// The end instance times of an element, in rising order: those that the diary gives, with the
+/// expected ones in their places. Refused where memory runs out.
 pub fn pour_ends<J: Intervals>(
     reading: &Reading<J>,
     who: u32,
@@ -106,8 +107,8 @@ pub fn pour_ends<J: Intervals>(
     pour(reading, who, syncs, times)
 }
 
-/// Whether no item of a list of an element waits for another element, so that the diary alone gives
-/// its instance times.
+/// Whether no item of a list of an element gives a time by the interval of another element, so that
+/// the diary alone gives its instance times. It takes no memory.
 pub fn is_settled(past: &Past, who: u32, side: Edge) -> bool
     requires { has_element past.now.document.nodes who ≡ true }
     ensures { (e : AnyNode) → node_at (elements past.now.document.nodes) who ≡ Some e → result

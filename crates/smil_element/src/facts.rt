@@ -101,7 +101,7 @@ pub(crate) fn is_alive(past: &Past, parent: Option<u32>) -> bool
     }
 }
 
-// The play start for the time children of a parent; 0 for the root, which has none.
+// The start of a time parent's present iteration; 0 for the root, which has no time parent.
 fn parent_start(past: &Past, parent: Option<u32>) -> i64
     requires { IfSome parent (λ p. has_element past.now.document.nodes p ≡ true) }
     ensures { (node : Option AnyNode) → serial_of node ≡ parent → result
@@ -167,7 +167,7 @@ fn interval_of(last: PastInterval) -> Interval
     }
 }
 
-// What an end list can do without a usable end instance.
+// What an end list leaves open where it has no usable end instance.
 fn end_list(items: &Option<Items>) -> EndList
     ensures { result ≡ model.end_list_of items.now }
 {

@@ -16,7 +16,8 @@ use smil_model::{Attrs, Fill};
 use smil_past::{Past, PastInterval};
 
 // Whether an element is frozen; false where there is none. It takes no memory, and a step for each
-// element above it up to an active one.
+// element above it up to an active one; for each of these that freezes in a seq or an excl, a
+// look-up for each of its siblings.
 pub(crate) fn is_frozen(past: &Past, who: Option<u32>) -> bool
     requires { IfSome who (λ w. has_element past.now.document.nodes w ≡ true) }
     ensures { result ≡ frozen_at (history_of past.now) who }

@@ -16,7 +16,8 @@ use smil_model::{ChildEnd, Interval, Time};
 use smil_past::Past;
 use std::alloc::AllocError;
 
-/// Intervals of elements, with numbers from -10^12 to 10^12.
+/// Intervals of elements, each in milliseconds on the clock of the element's time parent, with
+/// numbers from -10^12 to 10^12.
 pub trait Intervals {
     /// The interval that is given of the element with this serial.
     ghost given: { Self → ℕ → Option AnyInterval };
@@ -28,7 +29,7 @@ pub trait Intervals {
 }
 
 /// The active container with the serial `who`, what has happened, and the start of the container's
-/// present iteration.
+/// present iteration, in milliseconds on its own clock.
 #[derive(Clone, Copy)]
 pub struct Container<'a> {
     pub past: &'a Past,
@@ -42,8 +43,9 @@ pub struct Container<'a> {
 pub trait Containers: Intervals {
     ghost knows_ends: { Self → History → ℕ → Type 0 };
 
-    /// The implicit duration of an active container, in milliseconds, where what is kept of its
-    /// time children is right. Memory may be wanted for a list of their ends.
+    /// The implicit duration of an active container, in milliseconds on its own clock, where what
+    /// is kept of the ends of its time children is right. Refused where memory runs out for a list
+    /// of them.
     fn implicit(
         &self,
         container: &Container<'_>,

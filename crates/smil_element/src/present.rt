@@ -2,7 +2,8 @@
 
 use smil_past::Past;
 
-/// The element with the serial `who` at a moment, and what has happened by then.
+/// The element with the serial `who` at a moment, in milliseconds of document time, and what has
+/// happened by then.
 #[derive(Clone, Copy)]
 pub struct Present<'a> {
     pub past: &'a Past,

@@ -5,7 +5,7 @@ use Rattle.std.specs.Prelude.{◌||◌, ◌==◌, cond, filter, nat_lt, not, set
 use Rattle.std.specs.List.{position, position_or_len}
 use Rattle.std.proofs.lemmas.Bool.{and_from, eq-eqb, eqb-true, lt-ltb, or_left, or_right}
 use Rattle.std.proofs.lemmas.List.{length-map, map-append, take_more}
-use Rattle.std.proofs.lemmas.Option.{get_or_from_slice_get, slice_get_within}
+use Rattle.std.proofs.lemmas.Option.{get_or_from_slice_get, slice_get-get_or, slice_get_within}
 use Rattle.smil_model.specs.declared.document.Node.{Node}
 use Rattle.smil_model.specs.declared.interval.ChildEnd.{ChildEnd}
 use Rattle.smil_model.specs.document.Document.{Document, elements, has_serial, is_element, is_time_child, node_at, serial_of, serials, time_children, time_parent}
@@ -16,7 +16,7 @@ use Rattle.smil_past.proofs.References.{stands}
 use Rattle.smil_element.proofs.Known.{IsChild, child_at, known_node, passes}
 use Rattle.smil_cells.specs.declared.plain.known.Row.{Row}
 use Rattle.smil_cells.specs.Round.{AreOfElements}
-use Rattle.smil_cells.proofs.Paired.{element_at, first_at, there_at}
+use Rattle.smil_cells.proofs.Paired.{element_at, first_at, serials_in, there_at}
 use Rattle.smil_cells.proofs.Taking.{IsFound, elements_differ}
 use Rattle.smil_nodes.specs.declared.endings.Home.{Home}
 use Rattle.smil_endsync.specs.Ends.{set_ends}
@@ -73,7 +73,7 @@ pub record IsRowed (nodes : List Node) (place who : ℕ) : Type 0 where
   pub own : element.serial ≡ who
   pub known : node_at (elements nodes) who ≡ Some element
 
-pub rowed : (nodes : List Node) (rows : List Row) (place : ℕ) (row : Row) → IsDistinct nodes → AreOfElements nodes rows → slice_get rows place ≡ Some row → IsRowed nodes place row.serial
+rowed : (nodes : List Node) (rows : List Row) (place : ℕ) (row : Row) → IsDistinct nodes → AreOfElements nodes rows → slice_get rows place ≡ Some row → IsRowed nodes place row.serial
 rowed nodes rows place row distinct same got =
     let at = element_at (elements nodes) rows place row same got in
     let differ = elements_differ nodes distinct in
@@ -84,6 +84,11 @@ rowed nodes rows place row distinct same got =
       own = sym own;
       known = ap (node_at (elements nodes)) own ∙ there_at (elements nodes) place at.0 differ at.1;
     }
+
+-- the same in a list that has the rows
+pub rowed_in : (nodes : List Node) (rows read : List Row) (place : ℕ) (d : Row) → IsDistinct nodes → AreOfElements nodes rows → read ≡ rows → place < length read → IsRowed nodes place (get_or read place d).serial
+rowed_in nodes rows read place d distinct same is within =
+    rowed nodes read place (get_or read place d) distinct (ap serials_in is ∙ same) (slice_get-get_or read place d within)
 
 pub rows_count : (nodes : List Node) (rows : List Row) → AreOfElements nodes rows → length rows ≡ length (elements nodes)
 rows_count nodes rows same =

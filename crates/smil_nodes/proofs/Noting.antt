@@ -1,11 +1,10 @@
 -- The ranks of elements are listed one after another.
-use Rattle.std.proofs.Common.{◌≡◌, refl, sym, ◌∙◌, ap, subst, ℕ, zero, suc, ◌+◌, ◌-◌, ◌<◌, ◌≤◌, List, [], ◌∷◌, length, take, drop, get_or, Option, Some, None, Bool, true, false, arith, inl, inr}
+use Rattle.std.proofs.Common.{◌≡◌, refl, sym, ◌∙◌, ap, subst, ℕ, suc, ◌+◌, ◌-◌, ◌<◌, ◌≤◌, List, [], ◌∷◌, length, take, drop, get_or, Option, Some, None, Bool, true, false, arith, inl, inr}
 use Rattle.std.specs.Prelude.{◌⊎◌, ◌==◌, ◌||◌, ◌&&◌, cond, filter, is_some, option_map, slice_get, slice_range}
 use Rattle.std.specs.List.{list_any, position}
 use Rattle.std.proofs.lemmas.Bool.{and_from, and_parts, or_cases, or_left, or_right, eqb-true, eq-eqb}
-use Rattle.std.proofs.lemmas.List.{get_or-drop, length-drop}
+use Rattle.std.proofs.lemmas.List.{get_or-drop, length-drop, take_all}
 use Rattle.std.proofs.lemmas.List.Folds.{list_any_more}
-use Rattle.std.proofs.Math.Seq.{take-nil}
 use Rattle.std.proofs.lemmas.List.Quantifiers.{position-Some}
 use Rattle.std.proofs.lemmas.List.Sorted.{list_any-IsPermutation}
 use Rattle.std.proofs.lemmas.Option.{get_or_from_slice_get, slice_get_within}
@@ -69,11 +68,6 @@ ranked nodes order s is =
 take_none : {A : Type 0} (xs : List A) → take 0 xs ≡ []
 take_none [] = refl
 take_none (x ∷ xs) = refl
-
-take_all : {A : Type 0} (xs : List A) (k : ℕ) → length xs ≤ k → take k xs ≡ xs
-take_all [] k l = take-nil k
-take_all (x ∷ xs) zero l = absurd (omega (arith, l))
-take_all (x ∷ xs) (suc k) l = ap (λ ys. x ∷ ys) (take_all xs k (omega (arith, l)))
 
 module _ (order : List ℕ) where
   -- nothing more is listed
@@ -143,7 +137,7 @@ module _ (order : List ℕ) where
       (noted_then (has (take k xs)) (λ s. get_or xs k 0 == s) old now new so_far one)
 
   pub all_noted : (xs : List ℕ) (k : ℕ) (old new : List ℕ) → length xs ≤ k → AreNoted order (has (take k xs)) old new → AreNoted order (has xs) old new
-  all_noted xs k old new l noted = noted_by (has (take k xs)) (has xs) old new (λ s r at. ap (λ ys. has ys s) (take_all xs k l)) noted
+  all_noted xs k old new l noted = noted_by (has (take k xs)) (has xs) old new (λ s r at. ap (λ ys. has ys s) (take_all k xs l)) noted
 
 -- ---- of the elements of a document
 
@@ -315,4 +309,4 @@ module _ (order : List ℕ) (nodes : List Node) (log : List LogEntry) (entries :
   pub all_entries : (k : ℕ) (old new : List ℕ) → length entries ≤ k → AreNoted order (is_noted_by nodes log (take k entries)) old new → AreNoted order (is_noted_by nodes log entries) old new
   all_entries k old new most noted =
       noted_by order (is_noted_by nodes log (take k entries)) (is_noted_by nodes log entries) old new
-      (λ s r at. ap (list_any (is_noted_at nodes log s)) (take_all entries k most)) noted
+      (λ s r at. ap (list_any (is_noted_at nodes log s)) (take_all k entries most)) noted

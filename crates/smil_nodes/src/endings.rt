@@ -1,4 +1,4 @@
-//! The ends of the time children of each element, kept under a change of one of them.
+//! The ends of the time children of each element, kept while the endings of elements change.
 
 ghost use Rattle.std.specs.Prelude.{◌≡◌, ◌==◌, ◌<◌, [], Some, true, length, map, slice_get, slice_index_or, IfOk};
 ghost use Rattle.std.specs.List.{position};
@@ -20,8 +20,8 @@ use smil_tree::Tree;
 use std::alloc::{AllocError, Global};
 use std::marker::Model;
 
-/// Where the ending of an element stands: the place of its container among the elements, and its
-/// own among the container's time children.
+/// Where the ending of an element stands: the index of its container among the elements, and its
+/// own place, from 0, among the container's time children.
 #[derive(Clone, Copy, Debug, PartialEq, Eq)]
 pub struct Home {
     pub container: usize,
@@ -65,8 +65,8 @@ impl Duplicate for Endings {
 }
 
 impl Endings {
-    /// No ends yet, of the time children of the elements that have these rows. It takes a step for
-    /// each element, and memory for each; refused where memory runs out.
+    /// The ends of the time children of the elements that have these rows, none known yet. It takes
+    /// a step for each element, and memory for each; refused where memory runs out.
     pub fn of(alloc: Global, tree: &Tree, schedule: &Schedule) -> Result<Endings, AllocError>
         requires { AreOfElements tree.now.nodes schedule.now }
         ensures homes { IfOk result (λ made. AreHomes tree.now.nodes made.homes) }
@@ -79,12 +79,12 @@ impl Endings {
         })
     }
 
-    /// The ending of the element at a place; none of an element without a container. It takes no
-    /// memory.
-    pub fn ending(&self, place: usize) -> Ending
-        ensures { result ≡ ending_in self.now place }
+    /// The ending of the element with an index; one without ends where the element has no
+    /// container. It takes no memory.
+    pub fn ending(&self, index: usize) -> Ending
+        ensures { result ≡ ending_in self.now index }
     {
-        match home_in(&self.homes, place) {
+        match home_in(&self.homes, index) {
             Some(home) => {
                 let end = self.ends[home.container].end(home.child);
                 Ending {
@@ -99,26 +99,26 @@ impl Endings {
         }
     }
 
-    /// Puts the ending of the element at a place; where it has no container nothing changes. It
+    /// Puts the ending of the element with an index; where it has no container nothing changes. It
     /// takes log n steps for n time children of the container, and no memory.
-    pub fn put(&mut self, place: usize, ending: Ending)
-        ensures { self.new ≡ put_ending self.old place ending }
+    pub fn put(&mut self, index: usize, ending: Ending)
+        ensures { self.new ≡ put_ending self.old index ending }
     {
-        let Some(home) = home_in(&self.homes, place) else {
+        let Some(home) = home_in(&self.homes, index) else {
             return;
         };
         self.ends[home.container].set(home.child, ending.first, ending.latest);
     }
 
-    /// The implicit duration of an active container of this kind and with these attributes that
-    /// stands at a place, in milliseconds; `start` is the start of its present iteration. It takes
-    /// a fixed number of steps, and no memory.
-    pub fn implicit(&self, place: usize, kind: Kind, attrs: &Attrs, start: i64) -> Time
-        requires { place < length self.now.ends }
+    /// The implicit duration of the active container with an index, which has this kind and these
+    /// attributes; `start` is the start of its present iteration. Both are in milliseconds on its
+    /// own clock. It takes a fixed number of steps, and no memory.
+    pub fn implicit(&self, index: usize, kind: Kind, attrs: &Attrs, start: i64) -> Time
+        requires { index < length self.now.ends }
         ensures { result ≡ container_duration kind (endsync_of attrs.now) start
-            (slice_index_or self.now.ends place []) }
+            (slice_index_or self.now.ends index []) }
     {
-        end_by(&self.ends[place], kind, attrs, start)
+        end_by(&self.ends[index], kind, attrs, start)
     }
 }
 
@@ -133,11 +133,11 @@ fn end_by(ends: &Ends, kind: Kind, attrs: &Attrs, start: i64) -> Time
     }
 }
 
-// Where the ending of the element at a place stands.
-fn home_in(homes: &[Option<Home>], place: usize) -> Option<Home>
-    ensures { result ≡ home_at homes.now place }
+// Where the ending of the element with an index stands.
+fn home_in(homes: &[Option<Home>], index: usize) -> Option<Home>
+    ensures { result ≡ home_at homes.now index }
 {
-    match homes.get(place) {
+    match homes.get(index) {
         Some(home) => *home,
         None => None,
     }
@@ -153,18 +153,16 @@ fn homes_of(
     ensures { IfOk result (λ homes. AreHomes tree.now.nodes homes.items) }
 {
     tree.valid();
-    let count = schedule.len();
-    let mut nexts = Vec::from_elem(alloc, 0, count)?;
+    let mut nexts = Vec::from_elem(alloc, 0, schedule.rows().len())?;
     let mut homes = Vec::new(alloc);
-    for place in 0..count {
-        let who = schedule.row(place).serial;
-        homes.push(home_of(tree, schedule, who, &mut nexts))?;
+    for row in schedule.rows() {
+        homes.push(home_of(tree, schedule, row.serial, &mut nexts))?;
     }
     Ok(homes)
 }
 
-// Where the ending of an element stands. For each place of a container there is the number of its
-// time child that comes next.
+// Where the ending of an element stands. `nexts` has for each element the place of that of its time
+// children that is expected next.
 fn home_of(tree: &Tree, schedule: &Schedule, who: u32, nexts: &mut Vec<usize>) -> Option<Home>
     requires of_elements { AreOfElements tree.now.nodes schedule.now }
     requires element { has_element tree.now.nodes who ≡ true }
@@ -216,9 +214,8 @@ fn ends_of(alloc: Global, tree: &Tree, schedule: &Schedule) -> Result<Vec<Ends>,
 {
     tree.valid();
     let mut ends = Vec::new(alloc);
-    for place in 0..schedule.len() {
-        let who = schedule.row(place).serial;
-        ends.push(Ends::of(alloc, children_of(alloc, tree, who)?)?)?;
+    for row in schedule.rows() {
+        ends.push(Ends::of(alloc, children_of(alloc, tree, row.serial)?)?)?;
     }
     Ok(ends)
 }

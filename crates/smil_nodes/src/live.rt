@@ -23,11 +23,9 @@ use super::schedule::Schedule;
 use super::sources::Sources;
 use super::touched::{Network, note_touched};
 use super::undo::{Note, Undo};
-use smil_cells::plain::known::Row;
+use smil_cells::plain::known::{Row, row_of};
 use smil_cells::{Cells, Since, Table};
-use smil_element::{
-    Coming, Ending, Intervals, Present, Room, comings_of, ending_of, evaluation_of,
-};
+use smil_element::{Coming, Ending, Intervals, Present, Room, ending_of};
 use smil_model::{Duplicate, Interval, Serials, Steps};
 use smil_past::Past;
 use std::alloc::{AllocError, Global};
@@ -36,8 +34,9 @@ use std::sync::ledger::Ledger;
 /// Cells over the live table.
 pub type LiveCells = Cells<LiveTable>;
 
-/// A table that evaluates, after a happening, only the elements that it touches or that wait for a
-/// pressed key, and those that read an element whose interval changed; each at most once.
+/// A table that evaluates, after a happening, only the elements that it touches, after the press of
+/// a key those in the key's reach, and those that read an element whose interval changed; each at
+/// most once.
 pub struct LiveTable {
     schedule: Schedule,
     /// The ends of the time children of each element, by the intervals of the schedule.
@@ -196,7 +195,7 @@ impl LiveTable {
     }
 
     // Evaluates an element, where the ends of its time children are right if its duration is
-    // implicit; whether its interval changes.
+    // implicit. The answer is whether its interval changes.
     fn evaluate<L: Ledger>(
         &mut self,
         present: &Present<'_>,
@@ -226,47 +225,38 @@ impl LiveTable {
     {
         let who = present.who;
         present.past.possible();
-        let place = self.schedule.place(who).unwrap();
+        let index = self.schedule.place(who).unwrap();
         let sources = Sources {
             schedule: &self.schedule,
             endings: &self.endings,
         };
-        let made = evaluation_of(present, &sources, &mut self.room, steps)?;
-        let comings = comings_of(present, place as u32, &made);
+        let row = row_of(present, index, &sources, &mut self.room, steps)?;
         let before = self.schedule.interval(who);
-        self.replace(
-            place,
-            Row {
-                serial: who,
-                interval: made.interval,
-                comings,
-            },
-            ending_of(present.past, who, made.interval),
-        )?;
-        Ok(differ(before, made.interval))
+        self.replace(index, row, ending_of(present.past, who, row.interval))?;
+        Ok(differ(before, row.interval))
     }
 
-    // Puts a row in the place of the one that its element has, and the ending of that; what was is
-    // noted where a mark stands.
-    fn replace(&mut self, place: usize, row: Row, ending: Ending) -> Result<(), AllocError>
-        requires place { position (λ (r : AnyRow). r.serial == row.serial) self.old.schedule
-            ≡ Some place }
+    // Puts a row in the place of the one that its element has, and the ending of the element; what
+    // was there is noted where a mark stands.
+    fn replace(&mut self, index: usize, row: Row, ending: Ending) -> Result<(), AllocError>
+        requires index { position (λ (r : AnyRow). r.serial == row.serial) self.old.schedule
+            ≡ Some index }
         requires near { IfSome row.interval IsIntervalNear }
-        ensures put { OnOk result (self.new.schedule ≡ slice_set self.old.schedule place row) }
+        ensures put { OnOk result (self.new.schedule ≡ slice_set self.old.schedule index row) }
         ensures ended { OnOk result (self.new.endings
-            ≡ put_ending self.old.endings place ending) }
+            ≡ put_ending self.old.endings index ending) }
         ensures back { GoesBack self.old self.new }
         ensures agenda { self.new.agenda ≡ self.old.agenda }
         ensures has_mark { self.new.has_mark ≡ self.old.has_mark }
     {
         if self.has_mark {
             self.undo.note(Note {
-                row: self.schedule.row(place),
-                ending: self.endings.ending(place),
+                row: self.schedule.row(index),
+                ending: self.endings.ending(index),
             })?;
         }
-        self.schedule.put(place, row);
-        self.endings.put(place, ending);
+        self.schedule.put(index, row);
+        self.endings.put(index, ending);
         Ok(())
     }
 }
@@ -277,11 +267,11 @@ fn put_back(schedule: &mut Schedule, endings: &mut Endings, noted: Note)
     ensures rows { schedule.new ≡ row_back schedule.old noted.row }
     ensures ends { endings.new ≡ ending_back schedule.old endings.old noted }
 {
-    let Some(place) = schedule.place(noted.row.serial) else {
+    let Some(index) = schedule.place(noted.row.serial) else {
         return;
     };
-    schedule.put(place, noted.row);
-    endings.put(place, noted.ending);
+    schedule.put(index, noted.row);
+    endings.put(index, noted.ending);
 }
 
 // Whether two intervals, which may be absent, differ.

@@ -7,7 +7,8 @@ use super::agenda::Agenda;
 use smil_graph::Graph;
 use std::alloc::AllocError;
 
-/// Lists the ranks of the elements that read an element, where they are above its own.
+/// Lists the ranks of the elements that read an element, where they are above its own. Refused
+/// where memory runs out.
 pub fn put_readers(
     graph: &Graph,
     who: u32,
@@ -27,7 +28,7 @@ fn put_above(graph: &Graph, who: u32, rank: usize, agenda: &mut Agenda) -> Resul
     ensures { OnOk result (ListsAbove graph.now rank who agenda.old agenda.new) }
 {
     match graph.place_in_order(who) {
-        Some(place) if rank < place => agenda.put(place),
+        Some(other) if rank < other => agenda.put(other),
         _ => Ok(()),
     }
 }

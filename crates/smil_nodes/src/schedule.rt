@@ -78,39 +78,39 @@ impl Schedule {
         Ok(Schedule { known, due })
     }
 
-    /// How many rows there are. It takes no memory.
-    pub fn len(&self) -> usize
-        ensures { result ≡ length self.now }
+    /// The rows. It takes no memory.
+    pub fn rows(&self) -> &[Row]
+        ensures { result.now ≡ self.now }
     {
-        self.known.rows().len()
+        self.known.rows()
     }
 
-    /// The place of the row of an element; None exactly where it has none. It takes no memory.
+    /// The index of the row of an element; None exactly where it has none. It takes no memory.
     pub fn place(&self, who: u32) -> Option<usize>
         ensures { result ≡ position (λ (r : AnyRow). r.serial == who) self.now }
     {
         self.known.place(who)
     }
 
-    /// The row at a place. It takes no memory.
-    pub fn row(&self, place: usize) -> Row
-        requires { place < length self.now }
-        ensures row { slice_get self.now place ≡ Some result }
+    /// The row at an index. It takes no memory.
+    pub fn row(&self, index: usize) -> Row
+        requires { index < length self.now }
+        ensures row { slice_get self.now index ≡ Some result }
         ensures near { IfSome result.interval IsIntervalNear }
     {
-        self.known.rows()[place]
+        self.known.rows()[index]
     }
 
     /// Puts a row in the place of the one that its element has. It takes no memory, and log n steps
     /// for n elements.
-    pub fn put(&mut self, place: usize, row: Row)
-        requires place { position (λ (r : AnyRow). r.serial == row.serial) self.old ≡ Some place }
+    pub fn put(&mut self, index: usize, row: Row)
+        requires index { position (λ (r : AnyRow). r.serial == row.serial) self.old ≡ Some index }
         requires near { IfSome row.interval IsIntervalNear }
-        ensures { self.new ≡ slice_set self.old place row }
+        ensures { self.new ≡ slice_set self.old index row }
     {
-        self.known.put(place, row);
-        self.due.set(2 * place, key_of(row.comings.moved));
-        self.due.set(2 * place + 1, key_of(row.comings.repeat));
+        self.known.put(index, row);
+        self.due.set(2 * index, key_of(row.comings.moved));
+        self.due.set(2 * index + 1, key_of(row.comings.repeat));
     }
 
     /// What comes first by the rows; where they are current, None exactly where nothing comes. It

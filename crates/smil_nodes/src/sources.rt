@@ -35,10 +35,10 @@ impl<'a> Containers for Sources<'a> {
     ) -> Result<Time, AllocError> {
         let who = container.who;
         container.past.possible();
-        let place = self.schedule.place(who).unwrap();
+        let index = self.schedule.place(who).unwrap();
         let tree = container.past.tree();
         let kind = tree.kind(who);
         let attrs = tree.attrs(who);
-        Ok(self.endings.implicit(place, kind, attrs, container.start))
+        Ok(self.endings.implicit(index, kind, attrs, container.start))
     }
 }

@@ -22,9 +22,10 @@ pub struct Network<'a> {
     pub graph: &'a Graph,
 }
 
-/// Lists the ranks, in the order of the document's graph, of the elements that the entries from a
-/// place on touch, and for a press of a key those of its whole reach. Where memory runs out some
-/// may be listed. It takes time for what is below the entries' elements and for what reads these.
+/// Lists the ranks, in the order of the document's graph, of the elements that the entries from an
+/// index on touch, and for a press of a key those of its whole reach. Where memory runs out some
+/// may be listed. It takes a step for each node below the entries' elements and for each reader of
+/// one of these.
 pub fn note_touched(
     alloc: Global,
     network: &Network<'_>,
@@ -84,8 +85,8 @@ fn note_within(tree: &Tree, graph: &Graph, who: u32, agenda: &mut Agenda) -> Res
         return Ok(());
     }
     let (start, past) = tree.span(who);
-    for at in start..past {
-        let serial = tree.serial_at(at).unwrap();
+    for position in start..past {
+        let serial = tree.serial_at(position).unwrap();
         note_element(graph, serial, agenda)?;
     }
     Ok(())

@@ -17,12 +17,12 @@ pub struct Note {
     pub ending: Ending,
 }
 
-/// Elements as they were before they changed, that of the last change last; seen as the list of
-/// them.
+/// Elements as they were before they changed, the one that changed last at the end; seen as the
+/// list of these notes.
 #[derive(Drop)]
 pub struct Undo {
     notes: Vec<Note>,
-    /// Elements that have a note here, whose later ones are not needed.
+    /// Serials of elements that have one of the notes, so that no further one of them is needed.
     noted: BTreeSet<u32>,
 }
 
@@ -39,7 +39,7 @@ impl Model for Undo {
 }
 
 impl Undo {
-    /// Nothing noted yet, which takes no memory.
+    /// No notes. It takes no memory.
     pub fn new(alloc: Global) -> Undo
         ensures { result ≡ [] }
     {
@@ -50,7 +50,8 @@ impl Undo {
     }
 
     /// Notes an element before it changes, unless it is noted already. It takes memory for each
-    /// element once, and log n steps for n of them; where memory runs out it may be noted.
+    /// element once, and log n steps for n of them. Where memory runs out the element may be noted
+    /// or not.
     pub fn note(&mut self, noted: Note) -> Result<(), AllocError>
         requires { IfSome noted.row.interval IsIntervalNear }
         ensures grown { MayGrow self.old noted self.new }
@@ -63,7 +64,7 @@ impl Undo {
         Ok(())
     }
 
-    /// Takes the element of the last change; None exactly where there is none. It takes no memory.
+    /// Takes the last note; None exactly where there is none. It takes no memory.
     pub fn take_last(&mut self) -> Option<Note>
         ensures last { MatchOption result (self.old ≡ []) (λ noted. self.old
             ≡ self.new ++ noted ∷ []) }
@@ -73,7 +74,7 @@ impl Undo {
         self.notes.pop()
     }
 
-    /// Forgets all of them. It takes no memory.
+    /// Drops all notes. It takes no memory.
     pub fn clear(&mut self)
         ensures { self.new ≡ [] }
     {

@@ -1,21 +1,31 @@
 //! What is known of each element.
 
-ghost use Rattle.std.specs.Prelude.{◌≡◌, ◌==◌, map, slice_set, slice_get, Some, IfOk, IfSome};
+ghost use Rattle.std.specs.Prelude.{◌≡◌, ◌==◌, ◌≤◌, ◌+◌, map, slice_set, slice_get, Some, true, IfOk, IfSome, OnOk};
 ghost use Rattle.std.specs.List.{position};
-ghost use Rattle.smil_model.specs.document.Document.{elements};
+ghost use Rattle.smil_model.specs.declared.document.Node.{Node as AnyNode};
+ghost use Rattle.smil_model.specs.document.Document.{elements, node_at};
+ghost use Rattle.smil_model.specs.document.Dependencies.{has_implicit_duration};
+ghost use Rattle.smil_model.specs.diary.Lawful.{has_element};
 ghost use Rattle.smil_laws.specs.Near.{IsIntervalNear};
+ghost use Rattle.smil_past.specs.Past.{IsPresent, history_of};
 ghost use Rattle.smil_cells.specs.declared.plain.known.Row.{Row as AnyRow};
+ghost use Rattle.smil_cells.specs.Round.{IsRowOf};
 ghost use Rattle.smil_cells.specs.Rows.{IsChosen, empty_row, row_without};
 
-use smil_element::{Coming, Comings, Container, Containers, Intervals, walked_duration};
+use smil_element::{
+    Coming, Comings, Container, Containers, Intervals, Present, Room, comings_of, evaluation_of,
+    walked_duration,
+};
 use smil_instances::elements::elements;
-use smil_model::{ChildEnd, Duplicate, HasSerial, Interval, Key, Time, first_places};
+use smil_model::{ChildEnd, Duplicate, HasSerial, Interval, Key, Steps, Time, first_places};
 use smil_tree::Tree;
 use std::alloc::{AllocError, Global};
 use std::collections::HashMap;
 use std::marker::Model;
+use std::sync::ledger::Ledger;
 
-/// An element with its interval, and what comes of it.
+/// An element with its interval, in milliseconds on the clock of its time parent, and what comes of
+/// it.
 #[derive(Clone, Copy, Debug)]
 pub struct Row {
     pub serial: u32,
@@ -58,8 +68,8 @@ impl Intervals for CurrentRows {
     ghost given = { interval_in };
 
     fn interval(&self, who: u32) -> Option<Interval> {
-        let place = self.places.get(&who)?;
-        self.rows.get(*place)?.interval
+        let index = self.places.get(&who)?;
+        self.rows.get(*index)?.interval
     }
 }
 
@@ -107,7 +117,7 @@ impl CurrentRows {
         &self.rows
     }
 
-    /// The place of the row of an element; None exactly where it has none. It takes no memory.
+    /// The index of the row of an element; None exactly where it has none. It takes no memory.
     pub fn place(&self, who: u32) -> Option<usize>
         ensures { result ≡ position (λ (r : AnyRow). r.serial == who) self.now }
     {
@@ -132,6 +142,44 @@ impl CurrentRows {
         let row = self.rows.get(key.position as usize)?;
         chosen(key, row.comings)
     }
+}
+
+/// The row of the element that has an index among the elements, at a moment, given the intervals of
+/// the others; one evaluation is counted. What is kept of the ends of its time children is right
+/// where its duration is implicit. Refused where memory runs out, and then at most one evaluation
+/// is counted.
+pub fn row_of<J: Containers, L: Ledger>(
+    present: &Present<'_>,
+    index: usize,
+    intervals: &J,
+    room: &mut Room,
+    steps: &mut Steps<L>,
+) -> Result<Row, AllocError>
+    requires element { has_element present.now.past.now.document.nodes present.now.who ≡ true }
+    requires index { slice_get (elements present.now.past.now.document.nodes) index
+        ≡ node_at (elements present.now.past.now.document.nodes) present.now.who }
+    requires moment { IsPresent present.now.past.now present.now.moment }
+    requires known { (e : AnyNode)
+        → node_at (elements present.now.past.now.document.nodes) present.now.who ≡ Some e
+        → has_implicit_duration e ≡ true
+        → J.knows_ends intervals.now (history_of present.now.past.now) present.now.who }
+    ensures row { (e : AnyNode)
+        → node_at (elements present.now.past.now.document.nodes) present.now.who ≡ Some e
+        → IfOk result (IsRowOf (history_of present.now.past.now) (J.given intervals.now)
+        present.now.moment index e) }
+    ensures near { IfOk result (λ row. IfSome row.interval IsIntervalNear) }
+    ensures steps { OnOk result (steps.new ≡ steps.old + 1) }
+    ensures most { steps.new ≤ steps.old + 1 }
+    ensures counted { steps.old ≤ steps.new }
+{
+    present.past.possible();
+    let made = evaluation_of(present, intervals, room, steps)?;
+    let comings = comings_of(present, index as u32, &made);
+    Ok(Row {
+        serial: present.who,
+        interval: made.interval,
+        comings,
+    })
 }
 
 // Of what comes of an element the begin or end where that has this key, else the repeat.

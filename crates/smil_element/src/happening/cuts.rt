@@ -9,7 +9,7 @@ use smil_model::{Entry, Step};
 use std::alloc::AllocError;
 
 /// Appends the cuts of the active descendants of a node, later ones first, and then a step of its
-/// own.
+/// own. Refused where memory runs out.
 pub fn stop(
     parts: &Parts<'_>,
     who: u32,
@@ -24,7 +24,7 @@ pub fn stop(
     put(parts, step, entries)
 }
 
-/// Appends a step at the moment of the parts.
+/// Appends a step at the moment of the parts. Refused where memory runs out.
 pub fn put(parts: &Parts<'_>, step: Step, entries: &mut Vec<Entry>) -> Result<(), AllocError>
     ensures { OnOk result (Appends parts.now entries.old entries.new (step ∷ [])) }
 {
@@ -39,21 +39,20 @@ fn cut_below(parts: &Parts<'_>, who: u32, entries: &mut Vec<Entry>) -> Result<()
     ensures { OnOk result (Appends parts.now entries.old entries.new (cuts_below parts.now who)) }
 {
     parts.tree.valid();
-    let (place, past) = parts.tree.span(who);
-    let mut at = past;
-    while place + 1 < at {
-        at -= 1;
-        cut(parts, at, entries)?;
+    let (start, past) = parts.tree.span(who);
+    let first = start + 1;
+    for position in (first..past).rev() {
+        cut(parts, position, entries)?;
     }
     Ok(())
 }
 
-// Appends the cut of the node at a place, where it is active.
-fn cut(parts: &Parts<'_>, at: usize, entries: &mut Vec<Entry>) -> Result<(), AllocError>
-    requires { at < length parts.now.tree.now.nodes }
-    ensures { OnOk result (Appends parts.now entries.old entries.new (cut_at parts.now at)) }
+// Appends the cut of the node at a position, where it is active.
+fn cut(parts: &Parts<'_>, position: usize, entries: &mut Vec<Entry>) -> Result<(), AllocError>
+    requires { position < length parts.now.tree.now.nodes }
+    ensures { OnOk result (Appends parts.now entries.old entries.new (cut_at parts.now position)) }
 {
-    let serial = parts.tree.serial_at(at).unwrap();
+    let serial = parts.tree.serial_at(position).unwrap();
     if parts.book.active(serial) {
         put(parts, Step::Cut { who: serial }, entries)
     } else {

@@ -5,8 +5,9 @@ use smil_past::Queues;
 use smil_stretch::Clocks;
 use smil_tree::Tree;
 
-/// The parts of a presentation by which the group of a happening is told, and the moment at which
-/// it happens: the document, the diary so far, and the clocks and the queues that these give.
+/// The parts of a presentation by which the group of a happening is told: the document, the diary
+/// so far, the clocks and the queues that these give, and the moment at which it happens, in
+/// milliseconds of document time.
 #[derive(Clone, Copy)]
 pub struct Parts<'a> {
     pub tree: &'a Tree,

@@ -1,9 +1,9 @@
-use Rattle.std.proofs.Common.{◌≡◌, ◌∙◌, ◌-◌, sym, ap, subst, inr, List, Some, true, ℕ, drop, get_or, length, take}
+use Rattle.std.proofs.Common.{◌≡◌, ◌∙◌, sym, ap, subst, inr, List, Some, true, drop, get_or}
 use Rattle.std.specs.Prelude.{slice_get, pos}
 use Rattle.smil_model.specs.declared.diary.Entry.{Entry}
 use Rattle.smil_model.specs.document.Document.{Document, elements, node_at}
 use Rattle.smil_laws.specs.Seen.{any_shows}
-use Rattle.smil_cells.proofs.Showing.{SameTouched, more_shown, all_shown}
+use Rattle.smil_cells.proofs.Showing.{SameTouched, entries_from, more_shown, all_shown}
 use Rattle.std.proofs.lemmas.List.{take_rest}
 use Rattle.std.proofs.lemmas.Option.{slice_get-get_or}
 use Rattle.std.proofs.lemmas.Result.{on_ok_weaker}
@@ -13,16 +13,12 @@ use Rattle.smil_cells.proofs.touched.touch.Goals as goal
 abbrev none : Entry
 none = record { moment = pos 0; step = Began 0 (pos 0) }
 
--- the entries from a place on, as the slice of them is
-abbrev rest : List Entry → ℕ → List Entry
-rest entries from = take (length entries - from) (drop from entries)
-
 pub loop-entry-init : goal.loop-entry-init
 loop-entry-init c = record { more = λ e here q. q; left = λ e here q. inr q }
 
 pub loop-entry-preserved : goal.loop-entry-preserved
 loop-entry-preserved c =
-    let entries = rest c.entries.result.now c.args.from in
+    let entries = entries_from c.entries.result.now c.args.from in
     let i = c.loop-entry.entry-index in
     let at : slice_get entries i ≡ Some (get_or entries i none) = slice_get-get_or entries i none c.loop-entry-test.true in
     record {
@@ -43,7 +39,7 @@ returns-clause-shown c =
     on_ok_weaker {P = SameTouched c.tree-tree.result.now c.loop-entry.touched c.shorten.new.touched} c.shorten.result
     (λ same e here q.
     same e (subst (λ (d : Document). node_at (elements d.nodes) e.serial ≡ Some e) (sym c.tree-tree.ensures) here)
-    ∙ all_shown c.args.past.now.document.nodes c.args.past.now.log (rest c.entries.result.now c.args.from) c.loop-entry.entry-index e.serial c.loop-entry.touched c.loop-entry-test.false
+    ∙ all_shown c.args.past.now.document.nodes c.args.past.now.log (entries_from c.entries.result.now c.args.from) c.loop-entry.entry-index e.serial c.loop-entry.touched c.loop-entry-test.false
     (c.loop-entry.invariant.left e here
     (ap (λ (es : List Entry). any_shows c.args.past.now.document.nodes c.args.past.now.log es e.serial)
     (take_rest c.entries.result.now c.args.from ∙ ap (λ (es : List Entry). drop c.args.from es) (c.entries.ensures ∙ c.book.ensures)) ∙ q)))

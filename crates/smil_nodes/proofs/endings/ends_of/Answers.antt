@@ -3,35 +3,36 @@ use Rattle.std.specs.Prelude.{is_some}
 use Rattle.std.proofs.lemmas.List.{length-map, take_all}
 use Rattle.smil_model.specs.declared.interval.ChildEnd.{ChildEnd}
 use Rattle.smil_model.specs.document.Document.{elements, time_children}
+use Rattle.smil_cells.specs.Rows.{row_without}
 use Rattle.smil_nodes.specs.Endings.{named_end, named_ends}
-use Rattle.smil_nodes.proofs.Housing.{ends_next, few_children, rowed, rows_count}
+use Rattle.smil_nodes.proofs.Housing.{ends_next, few_children, rowed_in, rows_count}
 use Rattle.smil_nodes.proofs.endings.ends_of.Goals as goal
 
 pub children_of-requires : goal.children_of-requires
 children_of-requires c =
-    ap is_some (rowed c.args.tree.now.nodes c.args.schedule.now c.loop-place.place c.row-who.result c.valid.ensures.numbered.distinct c.requires c.row-who.ensures.row).known
+    ap is_some (rowed_in c.args.tree.now.nodes c.args.schedule.now c.rows-row-items.result.now c.loop-row.row-index (row_without 0) c.valid.ensures.numbered.distinct c.requires c.rows-row-items.ensures c.loop-row-test.true).known
 
 pub of-requires : goal.of-requires
 of-requires c =
     let nodes = c.args.tree.now.nodes in
-    let is = rowed nodes c.args.schedule.now c.loop-place.place c.row-who.result c.valid.ensures.numbered.distinct c.requires c.row-who.ensures.row in
+    let is = rowed_in nodes c.args.schedule.now c.rows-row-items.result.now c.loop-row.row-index (row_without 0) c.valid.ensures.numbered.distinct c.requires c.rows-row-items.ensures c.loop-row-test.true in
     let made : length c.in_ok-children_of.field-0.items ≡ length (time_children nodes (is.element).serial) =
     ap (λ (cs : List ChildEnd). length cs) (c.in_ok-children_of.ensures is.element is.known) ∙ length-map (time_children nodes (is.element).serial) (named_end is.element) in
     let few : length (time_children nodes (is.element).serial) ≤ length nodes = few_children nodes (is.element).serial in
     let all : length nodes ≤ 8000 = c.valid.ensures.nodes in
     omega (arith, made, few, all)
 
-pub loop-place-preserved : goal.loop-place-preserved
-loop-place-preserved c =
+pub loop-row-preserved : goal.loop-row-preserved
+loop-row-preserved c =
     let nodes = c.args.tree.now.nodes in
-    let is = rowed nodes c.args.schedule.now c.loop-place.place c.row-who.result c.valid.ensures.numbered.distinct c.requires c.row-who.ensures.row in
-    ends_next nodes c.loop-place.ends.items c.push.new.self.items c.loop-place.place c.row-who.result.serial c.in_ok-of.field-0 is c.loop-place.invariant
+    let is = rowed_in nodes c.args.schedule.now c.rows-row-items.result.now c.loop-row.row-index (row_without 0) c.valid.ensures.numbered.distinct c.requires c.rows-row-items.ensures c.loop-row-test.true in
+    ends_next nodes c.loop-row.ends.items c.push.new.self.items c.loop-row.row-index _ c.in_ok-of.field-0 is c.loop-row.invariant
     (c.in_ok-of.ensures ∙ c.in_ok-children_of.ensures is.element is.known) c.in_ok-push.ensures.items
 
 pub returns : goal.returns
 returns c =
     let nodes = c.args.tree.now.nodes in
     let many : length c.args.schedule.now ≡ length (elements nodes) = rows_count nodes c.args.schedule.now c.requires in
-    let count : c.len-place-end.result ≡ length c.args.schedule.now = c.len-place-end.ensures in
-    let whole : length (elements nodes) ≤ c.loop-place.place = omega (arith, many, count, c.loop-place-test.false) in
-    c.loop-place.invariant ∙ ap (map (named_ends nodes)) (take_all c.loop-place.place (elements nodes) whole)
+    let count : length c.rows-row-items.result.now ≡ length c.args.schedule.now = ap length c.rows-row-items.ensures in
+    let whole : length (elements nodes) ≤ c.loop-row.row-index = omega (arith, many, count, c.loop-row-test.false) in
+    c.loop-row.invariant ∙ ap (map (named_ends nodes)) (take_all c.loop-row.row-index (elements nodes) whole)

@@ -4,5 +4,5 @@ use Rattle.smil_nodes.specs.Endings.{named_ends}
 use Rattle.smil_nodes.proofs.endings.ends_of.Given as goal
 
 -- the ends of the time children of the first elements
-abbrev pub invariant-loop-place : goal.invariant-loop-place
-invariant-loop-place l = l.ends.items ≡ map (named_ends l.tree.nodes) (take l.place (elements l.tree.nodes))
+abbrev pub invariant-loop-row : goal.invariant-loop-row
+invariant-loop-row l = l.ends.items ≡ map (named_ends l.tree.nodes) (take l.row-index (elements l.tree.nodes))

@@ -4,6 +4,6 @@ use Rattle.smil_nodes.specs.Endings.{HaveHomes}
 use Rattle.smil_nodes.proofs.endings.homes_of.Given as goal
 
 -- the homes of the first elements
-abbrev pub invariant-loop-place : goal.invariant-loop-place
-invariant-loop-place l =
-    HaveHomes l.tree.nodes (take l.place (elements l.tree.nodes)) l.homes.items × (length l.nexts.items ≡ length l.schedule)
+abbrev pub invariant-loop-row : goal.invariant-loop-row
+invariant-loop-row l =
+    HaveHomes l.tree.nodes (take l.row-index (elements l.tree.nodes)) l.homes.items × (length l.nexts.items ≡ length l.schedule)

@@ -16,8 +16,8 @@ returns-in_default-clause-ends c =
     let none : position (λ (r : Row). r.serial == c.args.noted.row.serial) c.args.schedule.now ≡ None = sym c.place.ensures ∙ c.in_default.is in
     ap (ending_put c.args.endings.now c.args.noted.ending) (sym none)
 
-pub put-requires-clause-place : goal.put-requires-clause-place
-put-requires-clause-place c = sym c.in-Some.ensures
+pub put-requires-clause-index : goal.put-requires-clause-index
+put-requires-clause-index c = sym c.in-Some.ensures
 
 pub returns-clause-rows : goal.returns-clause-rows
 returns-clause-rows c = c.put.ensures ∙ ap (row_put c.args.schedule.now c.args.noted.row) c.in-Some.ensures

@@ -1,23 +1,20 @@
-use Rattle.std.proofs.Common.{◌∙◌, ◌-◌, ap, subst, drop, length, take, ℕ, List}
+use Rattle.std.proofs.Common.{◌∙◌, ap, subst, drop, List}
 use Rattle.std.proofs.lemmas.List.{take_rest}
 use Rattle.smil_model.specs.declared.diary.Entry.{Entry}
+use Rattle.smil_cells.proofs.Showing.{entries_from}
 use Rattle.smil_nodes.specs.Noted.{AreNoted, is_noted_by}
 use Rattle.smil_nodes.proofs.Noting.{all_entries, more_entries, no_entries}
 use Rattle.smil_nodes.proofs.touched.note_touched.Goals as goal
 
--- the entries from a place on, as the slice of them is
-abbrev rest : List Entry → ℕ → List Entry
-rest entries from = take (length entries - from) (drop from entries)
-
 pub loop-entry-init : goal.loop-entry-init
 loop-entry-init c =
     let graph = c.args.network.now.graph.now in
-    no_entries graph.order graph.nodes c.args.network.now.past.now.log (rest c.entries.result.now c.args.from) c.args.agenda.now
+    no_entries graph.order graph.nodes c.args.network.now.past.now.log (entries_from c.entries.result.now c.args.from) c.args.agenda.now
 
 pub loop-entry-preserved : goal.loop-entry-preserved
 loop-entry-preserved c =
     let graph = c.args.network.now.graph.now in
-    more_entries graph.order graph.nodes c.args.network.now.past.now.log (rest c.entries.result.now c.args.from) c.loop-entry.entry-index _ c.args.agenda.now c.loop-entry.agenda c.note_step.new.agenda
+    more_entries graph.order graph.nodes c.args.network.now.past.now.log (entries_from c.entries.result.now c.args.from) c.loop-entry.entry-index _ c.args.agenda.now c.loop-entry.agenda c.note_step.new.agenda
     c.loop-entry-test.true c.loop-entry.invariant c.in_ok-note_step.ensures
 
 pub returns : goal.returns
@@ -27,4 +24,4 @@ returns c =
     let entries = c.entries.result.now in
     subst (λ (es : List Entry). AreNoted graph.order (is_noted_by graph.nodes log es) c.args.agenda.now c.loop-entry.agenda)
     (take_rest entries c.args.from ∙ ap (λ (es : List Entry). drop c.args.from es) (c.entries.ensures ∙ c.book.ensures))
-    (all_entries graph.order graph.nodes log (rest entries c.args.from) c.loop-entry.entry-index c.args.agenda.now c.loop-entry.agenda c.loop-entry-test.false c.loop-entry.invariant)
+    (all_entries graph.order graph.nodes log (entries_from entries c.args.from) c.loop-entry.entry-index c.args.agenda.now c.loop-entry.agenda c.loop-entry-test.false c.loop-entry.invariant)

@@ -12,23 +12,22 @@ use Rattle.std.proofs.lemmas.Int.{to_z-of_z}
 use Rattle.smil_past.specs.Past.{MarkedHistory}
 use Rattle.smil_cells.specs.Standings.{IsKept, standing_of}
 use Rattle.smil_cells.proofs.Refusals.{refused_by}
-use Rattle.smil_cells.proofs.Grown.{parts, known_in, made_now, all_now, some_now, many_now, positive, may, fronted, reached_after, stepped, grows_by, came_to, least_fresh, fits, present_with, grown, refusing, of_element}
+use Rattle.smil_cells.proofs.Grown.{made_now, all_now, some_now, many_now, positive, may, fronted, reached_after, stepped, grows_by, came_to, least_fresh, fits, present_with, grown, refusing, of_element}
 use Rattle.smil_cells.proofs.cells.Cells.happen.Goals as goal
 
-pub group_of-requires-clause-known : goal.group_of-requires-clause-known
-group_of-requires-clause-known g c =
+pub fill_group-requires-clause-element : goal.fill_group-requires-clause-element
+fill_group-requires-clause-element g c =
     let i = c.self.inside in
     let before = sym c.self.view_is in
     let was = c.self.invariant.sound (subst (λ (s : Standing). s.fault ≡ None) before c.requires.sound) in
-    known_in i.past c.tree.result.now c.args.coming.key.serial c.tree.ensures
-    (of_element c.first_is_of_element.ensures (past_of.history_of i.past) (pos (nat_abs i.moment)) (coming_meant c.args.coming) was.state.document.numbered.distinct
-    (subst (λ (s : Standing). first_at s ≡ Some (coming_meant c.args.coming)) before c.requires.first))
+    of_element c.first_is_of_element.ensures (past_of.history_of i.past) (pos (nat_abs i.moment)) (coming_meant c.args.coming) was.state.document.numbered.distinct
+    (subst (λ (s : Standing). first_at s ≡ Some (coming_meant c.args.coming)) before c.requires.first)
 
-pub group_of-requires-clause-parts : goal.group_of-requires-clause-parts
-group_of-requires-clause-parts g c =
+pub fill_group-requires-clause-moment : goal.fill_group-requires-clause-moment
+fill_group-requires-clause-moment g c =
     let i = c.self.inside in
     let whole = to_z-of_z w64 i.moment (fits i.moment c.self.invariant.present.from c.self.invariant.present.within) in
-    (past_of.history_of i.past, parts i.past i.moment (record { tree = c.tree.result; book = c.book-2.result; clocks = c.clocks.result; queues = c.queues.result; moment = to_z w64 (of_z w64 i.moment) }) whole c.self.invariant.present c.tree.ensures c.book-2.ensures c.clocks.ensures c.queues.ensures)
+    subst (λ (v : ℤ). past_of.IsPresent i.past v) (sym whole) c.self.invariant.present
 
 pub append_all-requires : goal.append_all-requires
 append_all-requires g c =
@@ -43,8 +42,7 @@ append_all-requires g c =
     let change = meant c.args.coming.change in
     let entries = c.deref.result.now in
     let steps = steps_of (past_of.history_of i.past) i.moment serial change in
-    let told = parts i.past i.moment (record { tree = c.tree.result; book = c.book-2.result; clocks = c.clocks.result; queues = c.queues.result; moment = to_z w64 (of_z w64 i.moment) }) whole c.self.invariant.present c.tree.ensures c.book-2.ensures c.clocks.ensures c.queues.ensures in
-    let made : entries ≡ group (past_of.history_of i.past) z serial change = c.deref.ensures.value ∙ c.in_ok-group_of.ensures (past_of.history_of i.past) told ∙ ap (λ (l : List AnyEntry). l ++ group (past_of.history_of i.past) z serial change) c.clear.ensures.items in
+    let made : entries ≡ group (past_of.history_of i.past) z serial change = c.deref.ensures.value ∙ c.in_ok-fill_group.ensures in
     subst (λ (l : List AnyEntry). MayAppendAll i.past l) (sym (made_now i.past i.moment z serial change entries whole made)) (may i.past i.moment steps (coming_meant c.args.coming) was.state.document c.self.invariant.present was.reached first due refl c.resolved_is_near.ensures c.reached_is_past.ensures)
 
 pub invariant_of-self-in-Err : goal.invariant_of-self-in-Err
@@ -56,8 +54,7 @@ invariant_of-self-in-Err g c =
     let change = meant c.args.coming.change in
     let entries = c.deref.result.now in
     let steps = steps_of (past_of.history_of i.past) i.moment serial change in
-    let told = parts i.past i.moment (record { tree = c.tree.result; book = c.book-2.result; clocks = c.clocks.result; queues = c.queues.result; moment = to_z w64 (of_z w64 i.moment) }) whole c.self.invariant.present c.tree.ensures c.book-2.ensures c.clocks.ensures c.queues.ensures in
-    let made : entries ≡ group (past_of.history_of i.past) z serial change = c.deref.ensures.value ∙ c.in_ok-group_of.ensures (past_of.history_of i.past) told ∙ ap (λ (l : List AnyEntry). l ++ group (past_of.history_of i.past) z serial change) c.clear.ensures.items in
+    let made : entries ≡ group (past_of.history_of i.past) z serial change = c.deref.ensures.value ∙ c.in_ok-fill_group.ensures in
     let e = c.in-Err.ensures.err in
     subst (λ (x : MarkedHistory). IsKept (g.T.Table.is_current i.table) (g.T.Table.is_marked i.table) (g.T.Table.has_mark i.table) x i.moment (Some c.in-Err.fault) i.mark i.touched)
     (sym (some_now i.past i.moment z serial change entries whole made c.append_all.new.past e.some e.new_is))
@@ -84,8 +81,7 @@ returns-in-Err-clause-full g c =
     let change = meant c.args.coming.change in
     let entries = c.deref.result.now in
     let steps = steps_of (past_of.history_of i.past) i.moment serial change in
-    let told = parts i.past i.moment (record { tree = c.tree.result; book = c.book-2.result; clocks = c.clocks.result; queues = c.queues.result; moment = to_z w64 (of_z w64 i.moment) }) whole c.self.invariant.present c.tree.ensures c.book-2.ensures c.clocks.ensures c.queues.ensures in
-    let made : entries ≡ group (past_of.history_of i.past) z serial change = c.deref.ensures.value ∙ c.in_ok-group_of.ensures (past_of.history_of i.past) told ∙ ap (λ (l : List AnyEntry). l ++ group (past_of.history_of i.past) z serial change) c.clear.ensures.items in
+    let made : entries ≡ group (past_of.history_of i.past) z serial change = c.deref.ensures.value ∙ c.in_ok-fill_group.ensures in
     let e = c.in-Err.ensures.err in
     λ f. subst (λ (s : Standing). IsFront (course_of s.presentation) c.append_all.new.past.diary) c.self.view_is
     (fronted i.past i.moment steps (coming_meant c.args.coming) was.state.document c.self.invariant.present was.reached first due refl c.append_all.new.past e.some (some_now i.past i.moment z serial change entries whole made c.append_all.new.past e.some e.new_is) (c.in-Err.ensures.full f).0 (many_now i.past i.moment z serial change entries whole made limits.DIARY_ENTRIES (c.in-Err.ensures.full f).1))
@@ -99,8 +95,7 @@ invariant_of-self-in_err-touch g c =
     let change = meant c.args.coming.change in
     let entries = c.deref.result.now in
     let steps = steps_of (past_of.history_of i.past) i.moment serial change in
-    let told = parts i.past i.moment (record { tree = c.tree.result; book = c.book-2.result; clocks = c.clocks.result; queues = c.queues.result; moment = to_z w64 (of_z w64 i.moment) }) whole c.self.invariant.present c.tree.ensures c.book-2.ensures c.clocks.ensures c.queues.ensures in
-    let made : entries ≡ group (past_of.history_of i.past) z serial change = c.deref.ensures.value ∙ c.in_ok-group_of.ensures (past_of.history_of i.past) told ∙ ap (λ (l : List AnyEntry). l ++ group (past_of.history_of i.past) z serial change) c.clear.ensures.items in
+    let made : entries ≡ group (past_of.history_of i.past) z serial change = c.deref.ensures.value ∙ c.in_ok-fill_group.ensures in
     subst (λ (x : MarkedHistory). IsKept (g.T.Table.is_current i.table) (g.T.Table.is_marked i.table) (g.T.Table.has_mark i.table) x i.moment (Some book_fault.Memory) i.mark c.touch.new.touched)
     (sym (all_now i.past i.moment z serial change entries whole made c.append_all.new.past c.in_default.ensures.ok))
     (grown i.past (at_moment i.moment steps) (g.T.Table.is_current i.table) (g.T.Table.is_marked i.table) (g.T.Table.is_current i.table) (g.T.Table.is_marked i.table) (g.T.Table.has_mark i.table) (g.T.Table.has_mark i.table) i.moment i.fault (Some book_fault.Memory) i.mark i.touched c.touch.new.touched
@@ -115,8 +110,7 @@ refresh-requires-clause-moment g c =
     let change = meant c.args.coming.change in
     let entries = c.deref.result.now in
     let steps = steps_of (past_of.history_of i.past) i.moment serial change in
-    let told = parts i.past i.moment (record { tree = c.tree.result; book = c.book-2.result; clocks = c.clocks.result; queues = c.queues.result; moment = to_z w64 (of_z w64 i.moment) }) whole c.self.invariant.present c.tree.ensures c.book-2.ensures c.clocks.ensures c.queues.ensures in
-    let made : entries ≡ group (past_of.history_of i.past) z serial change = c.deref.ensures.value ∙ c.in_ok-group_of.ensures (past_of.history_of i.past) told ∙ ap (λ (l : List AnyEntry). l ++ group (past_of.history_of i.past) z serial change) c.clear.ensures.items in
+    let made : entries ≡ group (past_of.history_of i.past) z serial change = c.deref.ensures.value ∙ c.in_ok-fill_group.ensures in
     subst (λ (x : MarkedHistory). past_of.IsPresent x z) (sym (all_now i.past i.moment z serial change entries whole made c.append_all.new.past c.in_default.ensures.ok))
     (subst (λ (v : ℤ). past_of.IsPresent (past_of.with_diary i.past (i.past.diary ++ at_moment i.moment steps)) v) (sym whole)
     (present_with i.past i.moment steps c.self.invariant.present))
@@ -130,8 +124,7 @@ invariant_of-self-in_err-refresh g c =
     let change = meant c.args.coming.change in
     let entries = c.deref.result.now in
     let steps = steps_of (past_of.history_of i.past) i.moment serial change in
-    let told = parts i.past i.moment (record { tree = c.tree.result; book = c.book-2.result; clocks = c.clocks.result; queues = c.queues.result; moment = to_z w64 (of_z w64 i.moment) }) whole c.self.invariant.present c.tree.ensures c.book-2.ensures c.clocks.ensures c.queues.ensures in
-    let made : entries ≡ group (past_of.history_of i.past) z serial change = c.deref.ensures.value ∙ c.in_ok-group_of.ensures (past_of.history_of i.past) told ∙ ap (λ (l : List AnyEntry). l ++ group (past_of.history_of i.past) z serial change) c.clear.ensures.items in
+    let made : entries ≡ group (past_of.history_of i.past) z serial change = c.deref.ensures.value ∙ c.in_ok-fill_group.ensures in
     subst (λ (x : MarkedHistory). IsKept (g.T.Table.is_current c.refresh.new.self) (g.T.Table.is_marked c.refresh.new.self) (g.T.Table.has_mark c.refresh.new.self) x i.moment (Some book_fault.Memory) i.mark c.refresh.new.changed)
     (sym (all_now i.past i.moment z serial change entries whole made c.append_all.new.past c.in_default.ensures.ok))
     (grown i.past (at_moment i.moment steps) (g.T.Table.is_current i.table) (g.T.Table.is_marked i.table) (g.T.Table.is_current c.refresh.new.self) (g.T.Table.is_marked c.refresh.new.self) (g.T.Table.has_mark i.table) (g.T.Table.has_mark c.refresh.new.self) i.moment i.fault (Some book_fault.Memory) i.mark i.touched c.refresh.new.changed
@@ -150,8 +143,7 @@ invariant_of-self-2 g c =
     let change = meant c.args.coming.change in
     let entries = c.deref.result.now in
     let steps = steps_of (past_of.history_of i.past) i.moment serial change in
-    let told = parts i.past i.moment (record { tree = c.tree.result; book = c.book-2.result; clocks = c.clocks.result; queues = c.queues.result; moment = to_z w64 (of_z w64 i.moment) }) whole c.self.invariant.present c.tree.ensures c.book-2.ensures c.clocks.ensures c.queues.ensures in
-    let made : entries ≡ group (past_of.history_of i.past) z serial change = c.deref.ensures.value ∙ c.in_ok-group_of.ensures (past_of.history_of i.past) told ∙ ap (λ (l : List AnyEntry). l ++ group (past_of.history_of i.past) z serial change) c.clear.ensures.items in
+    let made : entries ≡ group (past_of.history_of i.past) z serial change = c.deref.ensures.value ∙ c.in_ok-fill_group.ensures in
     let now = whole ∙ positive i.moment c.self.invariant.present.from in
     let ok = all_now i.past i.moment z serial change entries whole made c.append_all.new.past c.in_default.ensures.ok in
     subst (λ (x : MarkedHistory). IsKept (g.T.Table.is_current c.refresh.new.self) (g.T.Table.is_marked c.refresh.new.self) (g.T.Table.has_mark c.refresh.new.self) x i.moment None i.mark c.refresh.new.changed) (sym ok)
@@ -177,8 +169,7 @@ returns-clause-next g c =
     let change = meant c.args.coming.change in
     let entries = c.deref.result.now in
     let steps = steps_of (past_of.history_of i.past) i.moment serial change in
-    let told = parts i.past i.moment (record { tree = c.tree.result; book = c.book-2.result; clocks = c.clocks.result; queues = c.queues.result; moment = to_z w64 (of_z w64 i.moment) }) whole c.self.invariant.present c.tree.ensures c.book-2.ensures c.clocks.ensures c.queues.ensures in
-    let made : entries ≡ group (past_of.history_of i.past) z serial change = c.deref.ensures.value ∙ c.in_ok-group_of.ensures (past_of.history_of i.past) told ∙ ap (λ (l : List AnyEntry). l ++ group (past_of.history_of i.past) z serial change) c.clear.ensures.items in
+    let made : entries ≡ group (past_of.history_of i.past) z serial change = c.deref.ensures.value ∙ c.in_ok-fill_group.ensures in
     let now = whole ∙ positive i.moment c.self.invariant.present.from in
     let ok = all_now i.past i.moment z serial change entries whole made c.append_all.new.past c.in_default.ensures.ok in
     subst (λ (s : Standing). IsNext s (standing_of c.append_all.new.past i.moment None i.mark c.refresh.new.changed)) c.self.view_is
@@ -199,8 +190,7 @@ returns-clause-least g c =
     let change = meant c.args.coming.change in
     let entries = c.deref.result.now in
     let steps = steps_of (past_of.history_of i.past) i.moment serial change in
-    let told = parts i.past i.moment (record { tree = c.tree.result; book = c.book-2.result; clocks = c.clocks.result; queues = c.queues.result; moment = to_z w64 (of_z w64 i.moment) }) whole c.self.invariant.present c.tree.ensures c.book-2.ensures c.clocks.ensures c.queues.ensures in
-    let made : entries ≡ group (past_of.history_of i.past) z serial change = c.deref.ensures.value ∙ c.in_ok-group_of.ensures (past_of.history_of i.past) told ∙ ap (λ (l : List AnyEntry). l ++ group (past_of.history_of i.past) z serial change) c.clear.ensures.items in
+    let made : entries ≡ group (past_of.history_of i.past) z serial change = c.deref.ensures.value ∙ c.in_ok-fill_group.ensures in
     let now = whole ∙ positive i.moment c.self.invariant.present.from in
     let ok = all_now i.past i.moment z serial change entries whole made c.append_all.new.past c.in_default.ensures.ok in
     subst (λ (s : Standing). WhereTold g.T.Table.counts (fresh_since s (standing_of c.append_all.new.past i.moment None i.mark c.refresh.new.changed) ≤ c.refresh.new.steps - c.args.steps.now)) c.self.view_is

@@ -14,16 +14,16 @@ use Rattle.smil_graph.proofs.Nodes.{there}
 use Rattle.smil_element.proofs.happening.cuts.cut.Goals as goal
 use Rattle.smil_element.proofs.happening.cuts.cut.Goals.{After-active}
 
--- the node at the place
+-- the node at the position
 record Here (c : After-active) : Type 0 where
   node : Node
-  at : slice_get c.args.parts.now.tree.now.nodes c.args.at ≡ Some node
+  at : slice_get c.args.parts.now.tree.now.nodes c.args.position ≡ Some node
   serial : c.unwrap-serial.result ≡ node.serial
   active : is_active c.args.parts.now.book.now node.serial ≡ c.active.result
 
 here : (c : After-active) → Here c
 here c =
-    let found = there c.args.parts.now.tree.now.nodes c.args.at c.requires in
+    let found = there c.args.parts.now.tree.now.nodes c.args.position c.requires in
     let same : c.unwrap-serial.result ≡ found.0.serial = same_Some c.unwrap-serial.result found.0.serial (sym c.unwrap-serial.ensures ∙ c.serial_at.ensures ∙ ap serial_of found.1) in
     record {
       node = found.0;

@@ -10,6 +10,6 @@ use Rattle.smil_nodes.proofs.endings.Endings.implicit.Goals as goal
 pub returns : goal.returns
 returns c =
     let i = c.self.inside in
-    let within = subst (λ (kept : KeptEnds). c.args.place < length kept.ends) (sym c.self.view_is) c.requires in
-    let row = row_free i.ends.items c.args.place c.index.result.now c.index.ensures within ∙ ap (λ (kept : KeptEnds). slice_index_or kept.ends c.args.place []) c.self.view_is in
+    let within = subst (λ (kept : KeptEnds). c.args.index < length kept.ends) (sym c.self.view_is) c.requires in
+    let row = row_free i.ends.items c.args.index c.index.result.now c.index.ensures within ∙ ap (λ (kept : KeptEnds). slice_index_or kept.ends c.args.index []) c.self.view_is in
     c.end_by.ensures ∙ (λ j. container_duration c.args.kind (endsync_of c.args.attrs.now) (to_z-of_z w64 c.args.start c.ranges.start j) (row j))

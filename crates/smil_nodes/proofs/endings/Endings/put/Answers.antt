@@ -10,27 +10,27 @@ use Rattle.smil_nodes.proofs.endings.Endings.put.Goals as goal
 pub returns-in_default : goal.returns-in_default
 returns-in_default c =
     let i = c.self.inside in
-    let none : home_at i.homes.items c.args.place ≡ None = ap (λ (hs : List (Option Home)). home_at hs c.args.place) (sym c.deref.ensures.value) ∙ sym c.home_in.ensures ∙ c.in_default.is in
+    let none : home_at i.homes.items c.args.index ≡ None = ap (λ (hs : List (Option Home)). home_at hs c.args.index) (sym c.deref.ensures.value) ∙ sym c.home_in.ensures ∙ c.in_default.is in
     sym c.self.view_is
     ∙ (λ j. record { homes = i.homes.items; ends = put_home i.ends.items c.args.ending (sym none j) })
-    ∙ ap (λ (kept : KeptEnds). put_ending kept c.args.place c.args.ending) c.self.view_is
+    ∙ ap (λ (kept : KeptEnds). put_ending kept c.args.index c.args.ending) c.self.view_is
 
 pub index_mut-requires : goal.index_mut-requires
 index_mut-requires c =
     let i = c.self.inside in
-    let is = looked_up i.homes.items c.deref.result.now i.ends.items c.args.place c.in-Some.home c.self.invariant c.deref.ensures.value c.in-Some.ensures in
+    let is = looked_up i.homes.items c.deref.result.now i.ends.items c.args.index c.in-Some.home c.self.invariant c.deref.ensures.value c.in-Some.ensures in
     omega (arith, is.container, i.ends.ok.0)
 
 pub set-requires : goal.set-requires
 set-requires c =
     let i = c.self.inside in
-    let is = looked_up i.homes.items c.deref.result.now i.ends.items c.args.place c.in-Some.home c.self.invariant c.deref.ensures.value c.in-Some.ensures in
-    child_within i.homes.items i.ends.items c.args.place c.in-Some.home c.index_mut.result.now is c.index_mut.ensures.value
+    let is = looked_up i.homes.items c.deref.result.now i.ends.items c.args.index c.in-Some.home c.self.invariant c.deref.ensures.value c.in-Some.ensures in
+    child_within i.homes.items i.ends.items c.args.index c.in-Some.home c.index_mut.result.now is c.index_mut.ensures.value
 
 pub invariant_of-self : goal.invariant_of-self
 invariant_of-self c =
     let i = c.self.inside in
-    let is = looked_up i.homes.items c.deref.result.now i.ends.items c.args.place c.in-Some.home c.self.invariant c.deref.ensures.value c.in-Some.ensures in
+    let is = looked_up i.homes.items c.deref.result.now i.ends.items c.args.index c.in-Some.home c.self.invariant c.deref.ensures.value c.in-Some.ensures in
     let own = c.index_mut.result.now in
     housed_set i.homes.items i.ends.items c.in-Some.home.container own c.set.new.self c.self.invariant c.index_mut.ensures.value is.container
     (ap (λ (cs : List ChildEnd). length cs) c.set.ensures ∙ set_length own c.in-Some.home.child c.args.ending.first c.args.ending.latest)
@@ -38,7 +38,7 @@ invariant_of-self c =
 pub returns : goal.returns
 returns c =
     let i = c.self.inside in
-    let is = looked_up i.homes.items c.deref.result.now i.ends.items c.args.place c.in-Some.home c.self.invariant c.deref.ensures.value c.in-Some.ensures in
+    let is = looked_up i.homes.items c.deref.result.now i.ends.items c.args.index c.in-Some.home c.self.invariant c.deref.ensures.value c.in-Some.ensures in
     let ends = among_set i.ends.items c.in-Some.home.container c.in-Some.home.child c.args.ending c.index_mut.result.now c.set.new.self c.index_mut.ensures.value is.container c.set.ensures ∙ ap (put_home i.ends.items c.args.ending) (sym is.at) in
     (λ j. record { homes = i.homes.items; ends = ends j })
-    ∙ ap (λ (kept : KeptEnds). put_ending kept c.args.place c.args.ending) c.self.view_is
+    ∙ ap (λ (kept : KeptEnds). put_ending kept c.args.index c.args.ending) c.self.view_is

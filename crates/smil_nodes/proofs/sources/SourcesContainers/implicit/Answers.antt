@@ -10,8 +10,8 @@ use Rattle.smil_element.proofs.Told.{tree_attrs, tree_node}
 use Rattle.smil_cells.proofs.Taking.{found}
 use Rattle.smil_nodes.proofs.sources.SourcesContainers.implicit.Goals as goal
 
-pub unwrap-place-requires : goal.unwrap-place-requires
-unwrap-place-requires c =
+pub unwrap-index-requires : goal.unwrap-index-requires
+unwrap-index-requires c =
     let at = found c.args.container.now.past.now.document.nodes c.args.self.now.schedule.now c.args.container.now.who c.possible.ensures.valid.numbered.distinct c.requires.known.of_elements c.requires.element in
     ap is_some (c.place.ensures ∙ at.position_is)
 
@@ -19,7 +19,7 @@ pub implicit-requires : goal.implicit-requires
 implicit-requires c =
     let nodes = c.args.container.now.past.now.document.nodes in
     let at = found nodes c.args.self.now.schedule.now c.args.container.now.who c.possible.ensures.valid.numbered.distinct c.requires.known.of_elements c.requires.element in
-    let is : c.unwrap-place.result ≡ at.place = same_Some _ _ (sym c.unwrap-place.ensures ∙ c.place.ensures ∙ at.position_is) in
+    let is : c.unwrap-index.result ≡ at.place = same_Some _ _ (sym c.unwrap-index.ensures ∙ c.place.ensures ∙ at.position_is) in
     let many : length c.args.self.now.endings.now.ends ≡ length (elements nodes) = c.requires.known.as_many in
     let within : at.place < length (elements nodes) = at.within in
     omega (arith, is, many, within)
@@ -36,12 +36,12 @@ returns c = λ e here.
     let nodes = document.nodes in
     let distinct = c.possible.ensures.valid.numbered.distinct in
     let at = found nodes c.args.self.now.schedule.now c.args.container.now.who distinct c.requires.known.of_elements c.requires.element in
-    let is : c.unwrap-place.result ≡ at.place = same_Some _ _ (sym c.unwrap-place.ensures ∙ c.place.ensures ∙ at.position_is) in
+    let is : c.unwrap-index.result ≡ at.place = same_Some _ _ (sym c.unwrap-index.ensures ∙ c.place.ensures ∙ at.position_is) in
     let one : at.element ≡ e = same_Some _ _ (sym at.node ∙ here) in
-    let stands : slice_get (elements nodes) c.unwrap-place.result ≡ Some e = ap (slice_get (elements nodes)) is ∙ at.here ∙ ap Some one in
+    let stands : slice_get (elements nodes) c.unwrap-index.result ≡ Some e = ap (slice_get (elements nodes)) is ∙ at.here ∙ ap Some one in
     let known : node_at c.tree-tree.result.now.nodes c.args.container.now.who ≡ Some e = ap (λ (d : Document). node_at d.nodes c.args.container.now.who) c.tree-tree.ensures ∙ known_node document c.possible.ensures.valid.numbered c.args.container.now.who e here in
     let kind : c.kind-kind.result ≡ e.kind = kind_is c.tree-tree.result.now.nodes c.args.container.now.who e c.kind-kind.result c.kind-kind.ensures known in
     let attrs : c.attrs-attrs.result.now ≡ e.attrs = tree_attrs document c.tree-tree.result.now c.args.container.now.who e c.attrs-attrs.result.now distinct c.tree-tree.ensures here c.attrs-attrs.ensures in
-    let ends = c.requires.known.ends_are c.unwrap-place.result e stands (ap (λ n. n.serial) (sym one) ∙ at.is_who) in
+    let ends = c.requires.known.ends_are c.unwrap-index.result e stands (ap (λ n. n.serial) (sym one) ∙ at.is_who) in
     let fits : SFits w64 c.args.container.now.start = search rules in
     c.implicit.ensures ∙ (λ i. container_duration (kind i) (endsync_of (attrs i)) (to_z-of_z w64 c.args.container.now.start fits i) (ends i))
