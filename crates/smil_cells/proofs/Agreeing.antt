@@ -8,13 +8,13 @@ use Rattle.smil_model.specs.declared.document.Kind.TheVariants as kind
 use Rattle.smil_model.specs.document.Document.{elements, node_at, has_serial}
 use Rattle.smil_model.specs.diary.Diary.{History}
 use Rattle.smil_laws.proofs.Locality.{AgreeFor, same_interval, same_simple}
-use Rattle.smil_graph.specs.Graph.{follows_unlooped, IsOrder}
+use Rattle.smil_graph.specs.Graph.{follows_unlooped, IsGraphOrder}
 use Rattle.smil_element.specs.Element.{coming_by}
-use Rattle.smil_cells.specs.declared.plain.known.Row.{Row}
+use Rattle.smil_cells.specs.declared.plain.current_rows.CurrentRow.{CurrentRow}
 use Rattle.smil_cells.specs.Round.{IsRowOf}
 
 module _ (h : History) (J K : ℕ → Option Interval) (now : ℤ) (e : Node) where
-  pub row_stays : (place : ℕ) (row : Row) → AgreeFor h J K e → IsRowOf h J now place e row → IsRowOf h K now place e row
+  pub row_stays : (place : ℕ) (row : CurrentRow) → AgreeFor h J K e → IsRowOf h J now place e row → IsRowOf h K now place e row
   row_stays place row agree is = record {
     serial = is.serial;
     interval = is.interval ∙ same_interval h J K now e agree;
@@ -22,7 +22,7 @@ module _ (h : History) (J K : ℕ → Option Interval) (now : ℤ) (e : Node) wh
   }
 
   -- an element that stands in the order where another stands or before it does not follow from that one without a loop
-  pub agree_by_order : (order : List ℕ) (i j : ℕ) → IsOrder h.nodes order → node_at (elements h.nodes) e.serial ≡ Some e → i < length order → j ≤ i → get_or order j 0 ≡ e.serial → ((x : ℕ) → get_or order i 0 == x ≡ false → J x ≡ K x) → AgreeFor h J K e
+  pub agree_by_order : (order : List ℕ) (i j : ℕ) → IsGraphOrder h.nodes order → node_at (elements h.nodes) e.serial ≡ Some e → i < length order → j ≤ i → get_or order j 0 ≡ e.serial → ((x : ℕ) → get_or order i 0 == x ≡ false → J x ≡ K x) → AgreeFor h J K e
   agree_by_order order i j is here lt before at others = record {
     children = λ s t q. apart s (or_left _ _ (or_left _ _ (and_from _ _ t q)));
     before = λ b q. apart b.serial (or_left _ _ (or_right _ _ (ap (has_serial b.serial) q ∙ eq-eqb b.serial b.serial refl)));

@@ -22,9 +22,9 @@ use Rattle.smil_laws.proofs.ResolvedSteps.{resolved_lawful}
 use Rattle.smil_stretch.proofs.Moments.{timed_of}
 use Rattle.smil_past.specs.Past as past_of
 use Rattle.smil_past.specs.Past.{MarkedHistory, IsPossible, IsPresent}
-use Rattle.smil_cells.specs.Standing.{Standing, IsRebuilt, MayRebuild, cut_log}
+use Rattle.smil_cells.specs.CellsState.{CellsState, IsRebuilt, MayRebuild, cut_log}
 use Rattle.smil_diary.specs.declared.fault.BookFault.{BookFault}
-use Rattle.smil_cells.specs.Standings.{IsKept, MayBegin, begun, marked_by}
+use Rattle.smil_cells.specs.Standings.{IsSoundUnderMark, MayBegin, begun, marked_by}
 use Rattle.smil_cells.proofs.Heeded.{first_is_log, heeded}
 use Rattle.smil_cells.proofs.Grown.{positive}
 use Rattle.smil_model.proofs.Orders.{le_from}
@@ -39,7 +39,7 @@ module _ (past : MarkedHistory) (moment : ℤ) (may : MayBegin past moment) wher
   }
 
   module _ (is_current is_marked : History → ℤ → Type 0) (has_mark : Bool) where
-    pub kept : ReachedIsPast → has_mark ≡ false → is_current (past_of.history_of past) moment → IsKept is_current is_marked has_mark past moment None None []
+    pub kept : ReachedIsPast → has_mark ≡ false → is_current (past_of.history_of past) moment → IsSoundUnderMark is_current is_marked has_mark past moment None None []
     unfolding is_present
     kept law none current = record {
       present = is_present law;
@@ -77,7 +77,7 @@ may_first document valid = record {
 
 -- ---- rebuilt
 
-module _ (s : Standing) (document : Document) (len : ℕ) (may : MayRebuild s document len) where
+module _ (s : CellsState) (document : Document) (len : ℕ) (may : MayRebuild s document len) where
   abbrev part : List LogEntry
   part = cut_log s.presentation.log (take len s.diary)
 
@@ -149,13 +149,13 @@ module _ (s : Standing) (document : Document) (len : ℕ) (may : MayRebuild s do
         take_all (x ∷ xs) (suc n) e = ap (λ (l : List LogEntry). x ∷ l) (take_all xs n (omega (arith, e)))
 
 -- what is begun is the presentation rebuilt
-module _ (s : Standing) (document : Document) (len : ℕ) (may : MayRebuild s document len) where
+module _ (s : CellsState) (document : Document) (len : ℕ) (may : MayRebuild s document len) where
   abbrev rebuilt_past : MarkedHistory
   rebuilt_past = record { document = document; log = cut_log s.presentation.log (take len s.diary); diary = take len s.diary; marked = None }
 
-  pub rebuilt_is : (past : MarkedHistory) (z : ℤ) (cells : Standing) → past ≡ rebuilt_past → z ≡ pos may.at.moment → cells ≡ begun past z → IsRebuilt s document len cells
+  pub rebuilt_is : (past : MarkedHistory) (z : ℤ) (cells : CellsState) → past ≡ rebuilt_past → z ≡ pos may.at.moment → cells ≡ begun past z → IsRebuilt s document len cells
   rebuilt_is past z cells is at made =
-      subst (λ (x : Standing). IsRebuilt s document len x) (sym (made ∙ (ap (λ (p : MarkedHistory). begun p z) is ∙ ap (λ (v : ℤ). begun rebuilt_past v) at)))
+      subst (λ (x : CellsState). IsRebuilt s document len x) (sym (made ∙ (ap (λ (p : MarkedHistory). begun p z) is ∙ ap (λ (v : ℤ). begun rebuilt_past v) at)))
       (record { document_is = refl; diary_is = refl; log_is = refl; moment_is = moment_is s document len may; sound = refl; unmarked = refl })
 
 -- ---- a copy
@@ -168,10 +168,10 @@ no_mark past (Some m) (Some l) same none = cc
 
 pub copied : (is_current is_marked is_current' is_marked' : History → ℤ → Type 0) (has_mark has_mark' : Bool) (past past' : MarkedHistory) (moment z : ℤ) (fault : Option BookFault) (mark : Option ℤ) (touched touched' : List ℕ)
     → z ≡ moment → past' ≡ past → fault ≡ None → (mark ≡ None) × (past.marked ≡ None) → has_mark' ≡ false → ((h : History) (now : ℤ) → is_current h now → is_current' h now)
-    → IsKept is_current is_marked has_mark past moment fault mark touched → IsKept is_current' is_marked' has_mark' past' z None None touched'
+    → IsSoundUnderMark is_current is_marked has_mark past moment fault mark touched → IsSoundUnderMark is_current' is_marked' has_mark' past' z None None touched'
 copied is_current is_marked is_current' is_marked' has_mark has_mark' past past' moment z fault mark touched touched' same is sound none unmarked given kept =
-    subst (λ (p : MarkedHistory). IsKept is_current' is_marked' has_mark' p z None None touched') (sym is)
-    (subst (λ (v : ℤ). IsKept is_current' is_marked' has_mark' past v None None touched') (sym same)
+    subst (λ (p : MarkedHistory). IsSoundUnderMark is_current' is_marked' has_mark' p z None None touched') (sym is)
+    (subst (λ (v : ℤ). IsSoundUnderMark is_current' is_marked' has_mark' past v None None touched') (sym same)
     (record {
       present = kept.present;
       log = kept.log;

@@ -17,12 +17,12 @@ use Rattle.smil_laws.proofs.Members.{Differ, none_held}
 use Rattle.smil_laws.proofs.Reached.{from_serials}
 use Rattle.smil_laws.proofs.Settled.{agreeing_all}
 use Rattle.smil_due.specs.Order.{key_cmp}
-use Rattle.smil_graph.specs.Graph.{IsOrder}
+use Rattle.smil_graph.specs.Graph.{IsGraphOrder}
 use Rattle.smil_element.specs.Element.{both, coming_by}
-use Rattle.smil_element.specs.Comings.{HaveComings}
-use Rattle.smil_cells.specs.declared.plain.known.Row.{Row}
+use Rattle.smil_element.specs.Comings.{HaveDueChanges}
+use Rattle.smil_cells.specs.declared.plain.current_rows.CurrentRow.{CurrentRow}
 use Rattle.smil_cells.specs.Plain.{interval_in, IsCurrent}
-use Rattle.smil_cells.specs.Round.{AreTaken, IsRowOf, StayUnchanged, due_in}
+use Rattle.smil_cells.specs.Round.{AreRowsEvaluated, IsRowOf, StayUnchanged, due_in}
 use Rattle.smil_cells.proofs.Rows.{cons_interval}
 use Rattle.smil_cells.proofs.Paired.{serials_in, by_elements, first_at, interval_at, listed_at, place_of_member}
 use Rattle.smil_cells.proofs.Taking.{elements_differ}
@@ -33,18 +33,18 @@ use Rattle.smil_cells.proofs.Keyed.{due_come}
 abbrev Pair : Type 0
 Pair = ℕ × Option Interval
 
-abbrev pair_of : Row → Pair
+abbrev pair_of : CurrentRow → Pair
 pair_of r = (r.serial, r.interval)
 
 abbrev keys_in : List Pair → List ℕ
 keys_in xs = map (λ (x : Pair). x.0) xs
 
 -- what the rows have for a serial
-pub table_in : (rows : List Row) (s : ℕ) → in_table (map pair_of rows) s ≡ interval_in rows s
+pub table_in : (rows : List CurrentRow) (s : ℕ) → in_table (map pair_of rows) s ≡ interval_in rows s
 table_in [] s = refl
 table_in (r ∷ rs) s = ap (cond (r.serial == s) r.interval) (table_in rs s) ∙ sym (cons_interval s r rs)
 
-pair_keys : (rows : List Row) → keys_in (map pair_of rows) ≡ serials_in rows
+pair_keys : (rows : List CurrentRow) → keys_in (map pair_of rows) ≡ serials_in rows
 pair_keys [] = refl
 pair_keys (r ∷ rs) = ap (λ ks. r.serial ∷ ks) (pair_keys rs)
 
@@ -90,7 +90,7 @@ current_keys h now (e ∷ es) q = map_keys (interval_given h (in_table (table h 
 
 -- ---- comings
 
-comings_from : (h : History) (now : ℤ) (place : ℕ) (es : List Node) (rows : List Row) → serials_in rows ≡ serials es → ((k n : ℕ) (e : Node) (r : Row) → n ≡ place + k → slice_get es k ≡ Some e → slice_get rows k ≡ Some r → both r.comings.moved r.comings.repeat ≡ coming_of h (current_interval h now) now n e) → HaveComings h now place es (map (λ (r : Row). r.comings) rows)
+comings_from : (h : History) (now : ℤ) (place : ℕ) (es : List Node) (rows : List CurrentRow) → serials_in rows ≡ serials es → ((k n : ℕ) (e : Node) (r : CurrentRow) → n ≡ place + k → slice_get es k ≡ Some e → slice_get rows k ≡ Some r → both r.comings.moved r.comings.repeat ≡ coming_of h (current_interval h now) now n e) → HaveDueChanges h now place es (map (λ (r : CurrentRow). r.comings) rows)
 comings_from h now place [] [] same each = tt
 comings_from h now place [] (r ∷ rs) same each = absurd (cc)
 comings_from h now place (e ∷ es) [] same each = absurd (cc)
@@ -104,8 +104,8 @@ comings_from h now place (e ∷ es) (r ∷ rs) same each = (
 
 -- ---- the whole
 
-module _ (h : History) (now : ℤ) (order : List ℕ) (rows : List Row) (ordered : IsOrdered h.nodes) (is : IsOrder h.nodes order) (taken : AreTaken h now order (length order) rows) where
-  each_row : (k : ℕ) (e : Node) (r : Row) → slice_get (elements h.nodes) k ≡ Some e → slice_get rows k ≡ Some r → IsRowOf h (interval_in rows) now k e r
+module _ (h : History) (now : ℤ) (order : List ℕ) (rows : List CurrentRow) (ordered : IsOrdered h.nodes) (is : IsGraphOrder h.nodes order) (taken : AreRowsEvaluated h now order (length order) rows) where
+  each_row : (k : ℕ) (e : Node) (r : CurrentRow) → slice_get (elements h.nodes) k ≡ Some e → slice_get rows k ≡ Some r → IsRowOf h (interval_in rows) now k e r
   each_row k e r here got =
       let among : has order e.serial ≡ true = sym (list_any-IsPermutation (λ y. y == e.serial) (serials (elements h.nodes)) order is.all) ∙ listed_at (elements h.nodes) k e here in
       let at = place_of_member e.serial order among in
@@ -119,19 +119,19 @@ module _ (h : History) (now : ℤ) (order : List ℕ) (rows : List Row) (ordered
   same_interval : interval_in rows ≡ current_interval h now
   same_interval = λ i s. are_current s i
 
-  each_comings : (k : ℕ) (e : Node) (r : Row) → slice_get (elements h.nodes) k ≡ Some e → slice_get rows k ≡ Some r → both r.comings.moved r.comings.repeat ≡ coming_of h (current_interval h now) now k e
+  each_comings : (k : ℕ) (e : Node) (r : CurrentRow) → slice_get (elements h.nodes) k ≡ Some e → slice_get rows k ≡ Some r → both r.comings.moved r.comings.repeat ≡ coming_of h (current_interval h now) now k e
   each_comings k e r here got =
       let own : r.interval ≡ current_interval h now e.serial = sym (interval_at e.serial rows k r (first_at (elements h.nodes) rows k e (elements_differ h.nodes ordered.distinct) taken.of_elements here) got) ∙ are_current e.serial in
       (each_row k e r here got).comings
       ∙ ap (λ i. coming_by h i (simple_of h (interval_in rows) e) now k e) own
       ∙ ap (λ (J : ℕ → Option Interval). coming_by h (current_interval h now e.serial) (simple_of h J e) now k e) same_interval
 
-  comings_are : HaveComings h now 0 (elements h.nodes) (map (λ (r : Row). r.comings) rows)
+  comings_are : HaveDueChanges h now 0 (elements h.nodes) (map (λ (r : CurrentRow). r.comings) rows)
   comings_are =
       comings_from h now 0 (elements h.nodes) rows taken.of_elements
       each_at
     where
-      each_at : (k n : ℕ) (e : Node) (r : Row) → n ≡ 0 + k → slice_get (elements h.nodes) k ≡ Some e → slice_get rows k ≡ Some r → both r.comings.moved r.comings.repeat ≡ coming_of h (current_interval h now) now n e
+      each_at : (k n : ℕ) (e : Node) (r : CurrentRow) → n ≡ 0 + k → slice_get (elements h.nodes) k ≡ Some e → slice_get rows k ≡ Some r → both r.comings.moved r.comings.repeat ≡ coming_of h (current_interval h now) now n e
       each_at k n e r eq p q =
           let same : k ≡ n = omega (arith, eq) in
           each_comings k e r p q ∙ ap (λ m. coming_of h (current_interval h now) now m e) same
@@ -148,10 +148,10 @@ module _ (h : History) (now : ℤ) (order : List ℕ) (rows : List Row) (ordered
   }
 
 -- the rows of a current table are of the elements, and have the current intervals
-pub current_intervals : (h : History) (now : ℤ) (rows : List Row) (due : set.FinSet key_cmp) → IsCurrent rows due h now → (s : ℕ) → interval_in rows s ≡ current_interval h now s
+pub current_intervals : (h : History) (now : ℤ) (rows : List CurrentRow) (due : set.FinSet key_cmp) → IsCurrent rows due h now → (s : ℕ) → interval_in rows s ≡ current_interval h now s
 current_intervals h now rows due is s = sym (table_in rows s) ∙ ap (λ xs. in_table xs s) is.rows_are
 
-pub current_elements : (h : History) (now : ℤ) (rows : List Row) (due : set.FinSet key_cmp) → IsCurrent rows due h now → serials_in rows ≡ serials (elements h.nodes)
+pub current_elements : (h : History) (now : ℤ) (rows : List CurrentRow) (due : set.FinSet key_cmp) → IsCurrent rows due h now → serials_in rows ≡ serials (elements h.nodes)
 current_elements h now rows due is = sym (pair_keys rows) ∙ ap keys_in is.rows_are ∙ current_keys h now (elements h.nodes) refl
 
 -- ---- an order
@@ -170,12 +170,12 @@ node_of_member s (n ∷ ns) q = by_test (n.serial == s) q (node_of_member s ns)
     by_test false r later = later r
 
 -- what stands in an order of the elements is one
-pub ordered_element : (nodes : List Node) (order : List ℕ) (k : ℕ) → IsOrder nodes order → k < length order → is_some (node_at (elements nodes) (get_or order k 0)) ≡ true
+pub ordered_element : (nodes : List Node) (order : List ℕ) (k : ℕ) → IsGraphOrder nodes order → k < length order → is_some (node_at (elements nodes) (get_or order k 0)) ≡ true
 ordered_element nodes order k is lt =
     node_of_member (get_or order k 0) (elements nodes)
     (list_any-IsPermutation (λ y. y == get_or order k 0) (serials (elements nodes)) order is.all ∙ member_at order k lt)
 
-pub none_taken : (h : History) (now : ℤ) (order : List ℕ) (rows : List Row) → serials_in rows ≡ serials (elements h.nodes) → AreTaken h now order 0 rows
+pub none_taken : (h : History) (now : ℤ) (order : List ℕ) (rows : List CurrentRow) → serials_in rows ≡ serials (elements h.nodes) → AreRowsEvaluated h now order 0 rows
 none_taken h now order rows same = record { of_elements = same; rows_are = λ k place e row less. absurd (omega (arith, less)) }
 
 -- ---- what a refresh tells
@@ -185,7 +185,7 @@ where_both (Ok a) P Q R p q f = f p q
 where_both (Err e) P Q R p q f = tt
 
 -- the current interval of each element that is not told stays
-pub others_stay : (front h : History) (now : ℤ) (old : List Row) (old_due : set.FinSet key_cmp) (same new : List Row) (due : set.FinSet key_cmp) (told changed : List ℕ) → IsCurrent old old_due front now → same ≡ old → IsCurrent new due h now → StayUnchanged told changed same new → (s : ℕ) → has changed s ≡ false → current_interval h now s ≡ current_interval front now s
+pub others_stay : (front h : History) (now : ℤ) (old : List CurrentRow) (old_due : set.FinSet key_cmp) (same new : List CurrentRow) (due : set.FinSet key_cmp) (told changed : List ℕ) → IsCurrent old old_due front now → same ≡ old → IsCurrent new due h now → StayUnchanged told changed same new → (s : ℕ) → has changed s ≡ false → current_interval h now s ≡ current_interval front now s
 others_stay front h now old old_due same new due told changed before kept after unchanged s out =
     sym (current_intervals h now new due after s)
     ∙ unchanged.others s out

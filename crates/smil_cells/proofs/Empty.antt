@@ -2,14 +2,14 @@
 use Rattle.std.proofs.Common.{◌≡◌, refl, ap, List, [], ◌∷◌, map}
 use Rattle.smil_model.specs.declared.document.Node.{Node}
 use Rattle.smil_model.specs.document.Document.{serials}
-use Rattle.smil_cells.specs.declared.plain.known.Row.{Row}
+use Rattle.smil_cells.specs.declared.plain.current_rows.CurrentRow.{CurrentRow}
 use Rattle.smil_cells.specs.Rows.{AreNear, empty_row, row_without}
 
 pub empty_near : (es : List Node) → AreNear (map empty_row es)
 empty_near [] = tt
 empty_near (e ∷ es) = (tt, empty_near es)
 
-pub empty_serials : (es : List Node) → map (λ (r : Row). r.serial) (map empty_row es) ≡ serials es
+pub empty_serials : (es : List Node) → map (λ (r : CurrentRow). r.serial) (map empty_row es) ≡ serials es
 empty_serials [] = refl
 empty_serials (e ∷ es) = ap (λ ss. e.serial ∷ ss) (empty_serials es)
 

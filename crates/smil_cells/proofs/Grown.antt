@@ -17,7 +17,7 @@ use Rattle.smil_model.specs.document.Valid.{IsDistinct, IsNumberedTree, IsValid}
 use Rattle.smil_model.specs.diary.Diary.{History, last_moment}
 use Rattle.smil_model.specs.diary.Lawful.{IsLawful, has_element}
 use Rattle.smil_model.specs.diary.Clocks.{until}
-use Rattle.smil_model.specs.happening.Keys.{Change, Coming, coming, first_coming, is_due}
+use Rattle.smil_model.specs.happening.Keys.{Change, DueChange, coming, first_coming, is_due}
 use Rattle.smil_model.specs.happening.Groups.{at_moment, group, steps_of}
 use Rattle.smil_model.specs.happening.Resolution.{Progress, Reaches, next_step, after_coming, after_settling, history_at, outset}
 use Rattle.smil_model.specs.shown.Orders.{Presentation}
@@ -37,12 +37,12 @@ use Rattle.smil_past.specs.Past as past_of
 use Rattle.smil_cells.proofs.OnWay.{untouched}
 use Rattle.smil_laws.specs.Firsts.{FirstIsOfElement}
 use Rattle.smil_past.specs.Past.{MarkedHistory, IsPresent, with_diary}
-use Rattle.smil_cells.specs.Standing.{IsFront, IsNext, IsRefusing, WhereTold, fresh, fresh_since, MayAppendAll, history_of}
+use Rattle.smil_cells.specs.CellsState.{IsFront, IsNext, IsRefusing, WhereTold, fresh, fresh_since, MayAppendAll, history_of}
 use Rattle.smil_stretch.specs.Clocks.{AreClocksOf}
 use Rattle.smil_past.specs.Queues.{kept_queues}
 use Rattle.smil_element.specs.declared.happening.parts.Parts.{Parts}
 use Rattle.smil_element.specs.Parts.{ArePartsOf}
-use Rattle.smil_cells.specs.Standings.{IsKept, IsSound, WhereMarked, at_mark, marked_by, standing_of}
+use Rattle.smil_cells.specs.Standings.{IsSoundUnderMark, IsSound, WhereMarked, at_mark, marked_by, standing_of}
 use Rattle.smil_model.proofs.Orders.{le_self, is_le}
 use Rattle.smil_instances.proofs.Targets.{known_node}
 use Rattle.smil_laws.proofs.Cutting.{one_more}
@@ -81,8 +81,8 @@ module _ (past : MarkedHistory) (more : List Entry) where
   module _ (is_current is_marked is_current' is_marked' : History → ℤ → Type 0) (has_mark has_mark' : Bool) (m : ℤ) (fault fault' : Option BookFault) (mark : Option ℤ) (touched touched' : List ℕ) where
     pub grown : ((h : History) (now : ℤ) → is_marked h now → is_marked' h now) → has_mark' ≡ has_mark → IsPresent grown_past m
         → (fault' ≡ None → IsSound is_current' (standing_of grown_past m fault' mark touched'))
-        → IsKept is_current is_marked has_mark past m fault mark touched
-        → IsKept is_current' is_marked' has_mark' grown_past m fault' mark touched'
+        → IsSoundUnderMark is_current is_marked has_mark past m fault mark touched
+        → IsSoundUnderMark is_current' is_marked' has_mark' grown_past m fault' mark touched'
     grown given has present sound kept = record {
       present = present;
       log = kept.log;
@@ -107,12 +107,12 @@ refusing past new more m fault f mark touched touched' made in_it =
 
 -- ---- what comes first is of an element
 
-pub of_element : FirstIsOfElement → (h : History) (now : ℤ) (c : Coming) → IsDistinct h.nodes → first_coming (coming h now) ≡ Some c → has_element h.nodes c.key.serial ≡ true
+pub of_element : FirstIsOfElement → (h : History) (now : ℤ) (c : DueChange) → IsDistinct h.nodes → first_coming (coming h now) ≡ Some c → has_element h.nodes c.key.serial ≡ true
 of_element law h now c distinct first = ap (λ (x : Option Node). is_some x) (law h now c distinct first).here
 
 -- ---- one step further
 
-module _ (document : Document) (log : List LogEntry) (now : ℕ) (diary : List Entry) (next : Coming) where
+module _ (document : Document) (log : List LogEntry) (now : ℕ) (diary : List Entry) (next : DueChange) where
   abbrev h : History
   h = record { nodes = document.nodes; log = log; diary = diary }
 
@@ -123,7 +123,7 @@ module _ (document : Document) (log : List LogEntry) (now : ℕ) (diary : List E
   then = record { moment = now; heard = length log; diary = diary ++ group h (pos now) next.key.serial next.change }
 
   pub step_on : first_coming (coming h (pos now)) ≡ Some next → is_due (pos now) next.key ≡ true → next_step (course_on document.nodes log now) at ≡ Some then
-  step_on first due = ap (λ (x : Option Coming). after_coming (course_on document.nodes log now) at x) first ∙ by_test (is_due (pos now) next.key) due
+  step_on first due = ap (λ (x : Option DueChange). after_coming (course_on document.nodes log now) at x) first ∙ by_test (is_due (pos now) next.key) due
     where
       by_test : (b : Bool) → b ≡ true → cond b (Some then) (after_settling (course_on document.nodes log now) at (slice_get log (length log))) ≡ Some then
       by_test true e = refl
@@ -230,7 +230,7 @@ split_at m zero steps = (at_moment m steps, refl)
 split_at m (suc k) [] = ([], refl)
 split_at m (suc k) (x ∷ xs) = let r = split_at m k xs in (r.0, ap (λ (l : List Entry). record { moment = m; step = x } ∷ l) r.1)
 
-module _ (past : MarkedHistory) (m : ℤ) (steps : List Step) (next : Coming) (valid : IsValid past.document) (present : IsPresent past m) (reached : Reaches (course_on past.document.nodes past.log (nat_abs m)) (record { moment = nat_abs m; heard = length past.log; diary = past.diary })) (first : first_coming (coming (record { nodes = past.document.nodes; log = past.log; diary = past.diary }) (pos (nat_abs m))) ≡ Some next) (due : next.key.value ≤ℤ pos (nat_abs m)) (made : steps ≡ steps_of (record { nodes = past.document.nodes; log = past.log; diary = past.diary }) m next.key.serial next.change) where
+module _ (past : MarkedHistory) (m : ℤ) (steps : List Step) (next : DueChange) (valid : IsValid past.document) (present : IsPresent past m) (reached : Reaches (course_on past.document.nodes past.log (nat_abs m)) (record { moment = nat_abs m; heard = length past.log; diary = past.diary })) (first : first_coming (coming (record { nodes = past.document.nodes; log = past.log; diary = past.diary }) (pos (nat_abs m))) ≡ Some next) (due : next.key.value ≤ℤ pos (nat_abs m)) (made : steps ≡ steps_of (record { nodes = past.document.nodes; log = past.log; diary = past.diary }) m next.key.serial next.change) where
   is_due_now : is_due (pos (nat_abs m)) next.key ≡ true
   is_due_now = is_le next.key.value (pos (nat_abs m)) due
 

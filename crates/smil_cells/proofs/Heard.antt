@@ -6,7 +6,7 @@ use Rattle.smil_model.specs.declared.diary.LogEntry.{LogEntry}
 use Rattle.smil_model.specs.declared.diary.Step.TheVariants.{Logged}
 use Rattle.smil_model.specs.document.Document.{Document}
 use Rattle.smil_model.specs.document.Valid.{IsNumberedTree}
-use Rattle.smil_model.specs.happening.Keys.{Coming, coming, first_coming, is_due}
+use Rattle.smil_model.specs.happening.Keys.{DueChange, coming, first_coming, is_due}
 use Rattle.smil_model.specs.happening.Groups.{group}
 use Rattle.smil_model.specs.happening.Resolution.{Course, Progress, Reaches, after_coming, after_settling, after_quiet, history_at, outset}
 use Rattle.smil_laws.specs.Agreement.{course_on}
@@ -35,7 +35,7 @@ module _ (document : Document) (log : List LogEntry) (now : ℕ) (diary : List E
       by_test true e = refl
       by_test false e = cc
 
-  hears : (f : Option Coming) → ((x : Coming) → f ≡ Some x → is_due (pos now) x.key ≡ false) → after_coming course at f ≡ Some then
+  hears : (f : Option DueChange) → ((x : DueChange) → f ≡ Some x → is_due (pos now) x.key ≡ false) → after_coming course at f ≡ Some then
   hears None none = told
   hears (Some x) none = by_test (is_due (pos now) x.key) (none x refl) (Some (record { moment = now; heard = length log; diary = diary ++ group (history_at course at) (pos now) x.key.serial x.change }))
     where
@@ -44,7 +44,7 @@ module _ (document : Document) (log : List LogEntry) (now : ℕ) (diary : List E
       by_test false e y = told
 
   pub reached_heard : ReachesFurther → IsNumberedTree document → int_le (pos now) entry.moment ≡ true
-      → ((x : Coming) → first_coming (coming (history_at course at) (pos now)) ≡ Some x → is_due (pos now) x.key ≡ false)
+      → ((x : DueChange) → first_coming (coming (history_at course at) (pos now)) ≡ Some x → is_due (pos now) x.key ≡ false)
       → Reaches (course_on document.nodes log now) at → Reaches course then
   reached_heard further numbered late quiet reached =
       let on = further document log (entry ∷ []) now now at numbered reached (late, tt) (omega arith) in

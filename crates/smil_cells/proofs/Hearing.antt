@@ -18,7 +18,7 @@ use Rattle.smil_model.specs.diary.Clocks.{until}
 use Rattle.smil_model.specs.diary.Lawful.{IsLawful}
 use Rattle.smil_model.specs.diary.Logs.{is_log, is_logged_by, may_happen}
 use Rattle.smil_model.specs.interval.Current.{current_interval, in_table}
-use Rattle.smil_model.specs.happening.Keys.{Coming, coming, first_coming, is_due}
+use Rattle.smil_model.specs.happening.Keys.{DueChange, coming, first_coming, is_due}
 use Rattle.smil_model.specs.happening.Resolution.{Progress, Reaches, history_at}
 use Rattle.smil_model.specs.shown.Orders.{Presentation, IsState, course_of}
 use Rattle.smil_laws.specs.Courses.{ReachedIsPast, ReachesFurther}
@@ -31,8 +31,8 @@ use Rattle.smil_laws.proofs.ResolvedSteps.{resolved_lawful}
 use Rattle.smil_diary.specs.declared.fault.BookFault.{BookFault}
 use Rattle.smil_past.specs.Past as past_of
 use Rattle.smil_past.specs.Past.{MarkedHistory, IsPresent, MayHear, logged_entry, with_heard}
-use Rattle.smil_cells.specs.Standing.{Standing, IsFront, IsHeard, IsRefusing, NothingBefore, WhereTold, fresh, fresh_since, with_logged}
-use Rattle.smil_cells.specs.Standings.{IsKept, IsSound, WhereMarked, marked_by, standing_of}
+use Rattle.smil_cells.specs.CellsState.{CellsState, IsFront, IsHeard, IsRefusing, NothingBefore, WhereTold, fresh, fresh_since, with_logged}
+use Rattle.smil_cells.specs.Standings.{IsSoundUnderMark, IsSound, WhereMarked, marked_by, standing_of}
 use Rattle.smil_cells.proofs.Heard.{reached_heard}
 use Rattle.smil_cells.proofs.Heeded.{log_with, logged_one}
 use Rattle.smil_cells.proofs.OnWay.{untouched, is_fresh}
@@ -71,8 +71,8 @@ module _ (past : MarkedHistory) (entry : LogEntry) where
   module _ (is_current is_marked is_current' is_marked' : History → ℤ → Type 0) (has_mark has_mark' : Bool) (m : ℤ) (fault fault' : Option BookFault) (mark : Option ℤ) (touched touched' : List ℕ) where
     pub kept_heard : ((h : History) (now : ℤ) → is_marked h now → is_marked' h now) → has_mark' ≡ has_mark → IsPresent heard m → is_log heard.log ≡ true
         → (fault' ≡ None → IsSound is_current' (standing_of heard m fault' mark touched'))
-        → IsKept is_current is_marked has_mark past m fault mark touched
-        → IsKept is_current' is_marked' has_mark' heard m fault' mark touched'
+        → IsSoundUnderMark is_current is_marked has_mark past m fault mark touched
+        → IsSoundUnderMark is_current' is_marked' has_mark' heard m fault' mark touched'
     kept_heard given has present log sound kept = record {
       present = present;
       log = log;
@@ -109,7 +109,7 @@ module _ (past : MarkedHistory) (m : ℤ) (entry : LogEntry) (fault : Option Boo
   abbrev later : MarkedHistory
   later = with_heard past entry
 
-  abbrev was : Standing
+  abbrev was : CellsState
   was = standing_of past m fault mark touched
 
   pub present_heard : m ≡ pos now → IsPresent past m → entry.moment ≡ pos now → IsPresent later m
@@ -151,7 +151,7 @@ module _ (past : MarkedHistory) (m : ℤ) (entry : LogEntry) (fault : Option Boo
     }
 
     module _ (law : ReachedIsPast) (longer_law : LogMayBeLonger) (further : ReachesFurther) (quiet : NothingBefore was (pos now +ℤ pos 1)) where
-      still : (x : Coming) → first_coming (coming h' (pos now)) ≡ Some x → is_due (pos now) x.key ≡ false
+      still : (x : DueChange) → first_coming (coming h' (pos now)) ≡ Some x → is_due (pos now) x.key ≡ false
       still x e = not_due (pos now) x.key.value (quiet x (sym (ap first_coming (coming_stays h h' (pos now) (pos now) (same_heard law longer_law))) ∙ e))
 
       pub reached_with : Reaches (course_of (with_logged was.presentation entry)) (record { moment = now; heard = length (past.log ++ entry ∷ []); diary = later.diary })
@@ -264,9 +264,9 @@ refusing_heard past new entry m fault f mark touched touched' made in_it =
 
 -- and the cells are kept
 pub kept_still : (is_current is_marked : History → ℤ → Type 0) (has_mark : Bool) (past new : MarkedHistory) (moment : ℤ) (fault : Option BookFault) (f : BookFault) (mark : Option ℤ) (touched : List ℕ) → new ≡ past
-    → IsKept is_current is_marked has_mark past moment fault mark touched → IsKept is_current is_marked has_mark new moment (Some f) mark touched
+    → IsSoundUnderMark is_current is_marked has_mark past moment fault mark touched → IsSoundUnderMark is_current is_marked has_mark new moment (Some f) mark touched
 kept_still is_current is_marked has_mark past new moment fault f mark touched is kept =
-    subst (λ (x : MarkedHistory). IsKept is_current is_marked has_mark x moment (Some f) mark touched) (sym is)
+    subst (λ (x : MarkedHistory). IsSoundUnderMark is_current is_marked has_mark x moment (Some f) mark touched) (sym is)
     (record {
       present = kept.present;
       log = kept.log;

@@ -7,7 +7,7 @@ use Rattle.std.proofs.lemmas.Int.{ints}
 use Rattle.smil_model.specs.declared.diary.LogEntry.{LogEntry}
 use Rattle.smil_model.specs.declared.diary.Step.TheVariants.{Logged}
 use Rattle.smil_model.specs.diary.Logs.{is_log, is_logged_by, moments_rise, may_happen}
-use Rattle.smil_model.specs.happening.Keys.{Coming, coming, first_coming, is_due}
+use Rattle.smil_model.specs.happening.Keys.{DueChange, coming, first_coming, is_due}
 use Rattle.smil_model.specs.happening.Groups.{group}
 use Rattle.smil_model.specs.happening.Resolution.{Course, Progress, Reaches, next_step, after_steps, after_coming, after_settling, after_quiet, history_at, outset}
 use Rattle.std.proofs.lemmas.Bool.{and_from, and_parts}
@@ -72,7 +72,7 @@ module _ (c : Course) (p : Progress) (held : Heeds c p) where
           subst (λ (r : Progress). Heeds c r) one (record { within = more.within; by = more.by })
       by_test false t e = quiet q e
 
-  happening : (o : Option Coming) (q : Progress) → after_coming c p o ≡ Some q → Heeds c q
+  happening : (o : Option DueChange) (q : Progress) → after_coming c p o ≡ Some q → Heeds c q
   happening None q e = settling (slice_get c.log p.heard) refl q e
   happening (Some next) q e = by_test (is_due (pos p.moment) next.key) e
     where

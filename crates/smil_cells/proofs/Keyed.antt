@@ -11,20 +11,20 @@ use Rattle.smil_model.specs.happening.Keys as model
 use Rattle.smil_model.specs.happening.Keys.{coming_of, coming_from}
 use Rattle.smil_due.specs.Order.{key_cmp_total}
 use Rattle.smil_due.proofs.Before.{key_cmp_antisymmetric}
-use Rattle.smil_element.specs.declared.happening.change.Coming.{Coming}
+use Rattle.smil_element.specs.declared.happening.change.DueChange.{DueChange}
 use Rattle.smil_element.specs.Element.{both}
-use Rattle.smil_element.specs.Comings.{HaveComings}
-use Rattle.smil_cells.specs.declared.plain.known.Row.{Row}
+use Rattle.smil_element.specs.Comings.{HaveDueChanges}
+use Rattle.smil_cells.specs.declared.plain.current_rows.CurrentRow.{CurrentRow}
 use Rattle.smil_cells.specs.Round.{due_in, with_key, with_keys}
 
-abbrev pub key_of : model.Coming → Key
+abbrev pub key_of : model.DueChange → Key
 key_of c = c.key
 
-abbrev keys_of : Option Coming → List Key
+abbrev keys_of : Option DueChange → List Key
 keys_of None = []
 keys_of (Some c) = c.key ∷ []
 
-abbrev keys_in : List Row → List Key
+abbrev keys_in : List CurrentRow → List Key
 keys_in [] = []
 keys_in (r ∷ rs) = (keys_of r.comings.moved ++ keys_of r.comings.repeat) ++ keys_in rs
 
@@ -32,11 +32,11 @@ append_none : (ks : List Key) → ks ≡ ks ++ []
 append_none [] = refl
 append_none (k ∷ ks) = ap (λ xs. k ∷ xs) (append_none ks)
 
-with_one : (ks : List Key) (o : Option Coming) → with_key (set.from_list ks) o ≡ set.from_list (ks ++ keys_of o)
+with_one : (ks : List Key) (o : Option DueChange) → with_key (set.from_list ks) o ≡ set.from_list (ks ++ keys_of o)
 with_one ks None = ap set.from_list (append_none ks)
 with_one ks (Some c) = sym (set.from_list_push key_cmp_total key_cmp_antisymmetric ks c.key)
 
-with_all : (ks : List Key) (rows : List Row) → fold with_keys (set.from_list ks) rows ≡ set.from_list (ks ++ keys_in rows)
+with_all : (ks : List Key) (rows : List CurrentRow) → fold with_keys (set.from_list ks) rows ≡ set.from_list (ks ++ keys_in rows)
 with_all ks [] = ap set.from_list (append_none ks)
 with_all ks (r ∷ rs) =
     ap (λ due. fold with_keys due rs)
@@ -47,13 +47,13 @@ with_all ks (r ∷ rs) =
 
 -- ---- by what comes
 
-keys_of_both : (a b : Option Coming) → keys_of a ++ keys_of b ≡ map key_of (both a b)
+keys_of_both : (a b : Option DueChange) → keys_of a ++ keys_of b ≡ map key_of (both a b)
 keys_of_both None None = refl
 keys_of_both None (Some d) = refl
 keys_of_both (Some c) None = refl
 keys_of_both (Some c) (Some d) = refl
 
-keys_come : (h : History) (now : ℤ) (place : ℕ) (es : List Node) (rows : List Row) → HaveComings h now place es (map (λ (r : Row). r.comings) rows) → keys_in rows ≡ map key_of (coming_from h (current_interval h now) now place es)
+keys_come : (h : History) (now : ℤ) (place : ℕ) (es : List Node) (rows : List CurrentRow) → HaveDueChanges h now place es (map (λ (r : CurrentRow). r.comings) rows) → keys_in rows ≡ map key_of (coming_from h (current_interval h now) now place es)
 keys_come h now place [] [] is = refl
 keys_come h now place [] (r ∷ rs) is = elim is [ ]
 keys_come h now place (e ∷ es) [] is = elim is [ ]
@@ -63,5 +63,5 @@ keys_come h now place (e ∷ es) (r ∷ rs) is =
     ∙ sym (map-append key_of (coming_of h (current_interval h now) now place e) (coming_from h (current_interval h now) now (suc place) es))
 
 -- the queue of the rows has the keys of all that comes, and no other
-pub due_come : (h : History) (now : ℤ) (es : List Node) (rows : List Row) → HaveComings h now 0 es (map (λ (r : Row). r.comings) rows) → due_in rows ≡ set.from_list (map (λ (c : model.Coming). c.key) (coming_from h (current_interval h now) now 0 es))
+pub due_come : (h : History) (now : ℤ) (es : List Node) (rows : List CurrentRow) → HaveDueChanges h now 0 es (map (λ (r : CurrentRow). r.comings) rows) → due_in rows ≡ set.from_list (map (λ (c : model.DueChange). c.key) (coming_from h (current_interval h now) now 0 es))
 due_come h now es rows is = with_all [] rows ∙ ap set.from_list (keys_come h now 0 es rows is)

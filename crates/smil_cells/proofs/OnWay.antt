@@ -26,14 +26,14 @@ use Rattle.smil_laws.specs.Agreement.{course_on}
 use Rattle.smil_laws.specs.Courses.{ReachesFurther}
 use Rattle.smil_diary.specs.declared.fault.BookFault.{BookFault}
 use Rattle.smil_past.specs.Past.{MarkedHistory}
-use Rattle.smil_cells.specs.Standings.{IsKept, WhereMarked, marked_by, standing_of}
+use Rattle.smil_cells.specs.Standings.{IsSoundUnderMark, WhereMarked, marked_by, standing_of}
 use Rattle.smil_laws.specs.Same.{IsSame}
-use Rattle.smil_cells.specs.Standing.{Standing, is_same_interval, fresh, IsOnWay, IsPassed, IsNext, IsFront, GoesOn, StayTouched, WhereTold, history_of, reached_since, fresh_since, interval_at}
+use Rattle.smil_cells.specs.CellsState.{CellsState, is_same_interval, fresh, IsOnWay, IsPassed, IsNext, IsFront, GoesOn, StayTouched, WhereTold, history_of, reached_since, fresh_since, interval_at}
 use Rattle.std.proofs.lemmas.Bool.{and_parts}
 use Rattle.smil_model.proofs.Orders.{le_exact, le_self, time_exact, time_self}
 
 -- what was there at first
-pub begun : (s : Standing) (until : ℤ) → s.fault ≡ None → pos s.presentation.now ≤ℤ until → IsOnWay s s until
+pub begun : (s : CellsState) (until : ℤ) → s.fault ≡ None → pos s.presentation.now ≤ℤ until → IsOnWay s s until
 begun s until sound within = record {
   presentation_is = refl;
   from = omega arith;
@@ -138,7 +138,7 @@ reached_parts nodes log m n a b c whole first second =
     numbers : (x y z : ℕ) → a ≡ x → b ≡ y → c ≡ z → x ≡ y + z → a ≡ b + c
     numbers x y z e f g h = omega (arith, e, f, g, h)
 
-module _ (old mid new : Standing) (document : mid.presentation.document ≡ old.presentation.document) where
+module _ (old mid new : CellsState) (document : mid.presentation.document ≡ old.presentation.document) where
   -- the first entries reach as many elements by the new log
   pub reached_through : (m n : List Entry) → mid.diary ≡ old.diary ++ m → new.diary ≡ mid.diary ++ n → reached_since old mid ≡ reaches old.presentation.document.nodes new.presentation.log m → reached_since old new ≡ reached_since old mid + reached_since mid new
   reached_through m n first second by_mid =
@@ -155,7 +155,7 @@ module _ (old mid new : Standing) (document : mid.presentation.document ≡ old.
       subst (λ (d : Document). fresh_since old new ≤ fresh_since old mid + fresh d.nodes (interval_at mid) (interval_at new)) (sym document)
       (triangle (interval_at old) (interval_at mid) (interval_at mid) (interval_at new) (λ x. refl) (elements old.presentation.document.nodes))
 
-module _ (old s t u : Standing) (until : ℤ) (way : IsOnWay old s until) (passed : IsPassed s t) (within : pos t.presentation.now ≤ℤ until) (next : IsNext t u) where
+module _ (old s t u : CellsState) (until : ℤ) (way : IsOnWay old s until) (passed : IsPassed s t) (within : pos t.presentation.now ≤ℤ until) (next : IsNext t u) where
   same_document : u.presentation.document ≡ old.presentation.document
   same_document = ap (λ (p : Presentation). p.document) next.presentation_is ∙ ap (λ (p : Presentation). p.document) passed.presentation_is ∙ ap (λ (p : Presentation). p.document) way.presentation_is
 
@@ -250,7 +250,7 @@ front_later further p q last diary numbered d l from front =
 
 -- other elements are touched, and no refusal is answered
 pub touched_anew : (is_current is_marked : History → ℤ → Type 0) (has_mark : Bool) (past : MarkedHistory) (moment : ℤ) (fault : Option BookFault) (mark : Option ℤ) (touched others : List ℕ) → fault ≡ None
-    → IsKept is_current is_marked has_mark past moment fault mark touched → IsKept is_current is_marked has_mark past moment None mark others
+    → IsSoundUnderMark is_current is_marked has_mark past moment fault mark touched → IsSoundUnderMark is_current is_marked has_mark past moment None mark others
 touched_anew is_current is_marked has_mark past moment fault mark touched others sound kept = record {
   present = kept.present;
   log = kept.log;
@@ -267,7 +267,7 @@ touched_anew is_current is_marked has_mark past moment fault mark touched others
     by_mark (Some m) k = record { state = k.state; reached = k.reached; current = k.current }
 
 -- the standing at rest, later and with its elements in order
-pub record IsRest (s t : Standing) : Type 0 where
+pub record IsRest (s t : CellsState) : Type 0 where
   pub presentation_is : t.presentation ≡ as_of s.presentation t.presentation.now
   pub diary_is : t.diary ≡ s.diary
   pub sound : t.fault ≡ None
@@ -276,7 +276,7 @@ pub record IsRest (s t : Standing) : Type 0 where
   pub touched : (e : Node) → node_at (elements s.presentation.document.nodes) e.serial ≡ Some e → has t.touched e.serial ≡ has s.touched e.serial
   pub same : IsSame (history_of s) (pos s.presentation.now) (history_of t) (pos t.presentation.now)
 
-module _ (old s t : Standing) (until : ℤ) (way : IsOnWay old s until) (rest : IsRest s t) where
+module _ (old s t : CellsState) (until : ℤ) (way : IsOnWay old s until) (rest : IsRest s t) where
   at_rest : s.presentation.document ≡ old.presentation.document
   at_rest = ap (λ (p : Presentation). p.document) way.presentation_is
 
@@ -311,7 +311,7 @@ module _ (old s t : Standing) (until : ℤ) (way : IsOnWay old s until) (rest : 
 
 -- ---- at first
 
-pub nothing_reached : (s : Standing) (flag : Bool) (a : ℕ) → WhereTold flag (a - a ≤ reached_since s s)
+pub nothing_reached : (s : CellsState) (flag : Bool) (a : ℕ) → WhereTold flag (a - a ≤ reached_since s s)
 nothing_reached s false a = tt
 nothing_reached s true a = none a (reached_since s s)
   where
@@ -324,7 +324,7 @@ same_self (Some i) =
     let same : is_same_interval (Some i) (Some i) ≡ true = rw (le_self i.begin) (rw (time_self i.«end») refl) in
     ap not same
 
-pub nothing_fresh : (s : Standing) (flag : Bool) (a : ℕ) → WhereTold flag (fresh_since s s ≤ a - a)
+pub nothing_fresh : (s : CellsState) (flag : Bool) (a : ℕ) → WhereTold flag (fresh_since s s ≤ a - a)
 nothing_fresh s false a = tt
 nothing_fresh s true a = by_zero (fresh_since s s) (none (elements s.presentation.document.nodes))
   where
@@ -344,7 +344,7 @@ below n (negsuc k) l = absurd (omega (arith, ints, l))
 pub sooner : (v x : ℤ) → (v +ℤ pos 1) ≤ℤ x → v ≤ℤ x
 sooner v x l = grind (arith, ints)
 
-pub rested : (w s t : Standing) (others : List ℕ) (n : ℕ) (nodes : List Node) → w ≡ s
+pub rested : (w s t : CellsState) (others : List ℕ) (n : ℕ) (nodes : List Node) → w ≡ s
     → t ≡ record { presentation = as_of w.presentation n; diary = w.diary; fault = None; marked = w.marked; touched = others }
     → nodes ≡ w.presentation.document.nodes
     → others ≡ filter (has others) (serials (elements nodes))
@@ -352,8 +352,8 @@ pub rested : (w s t : Standing) (others : List ℕ) (n : ℕ) (nodes : List Node
     → IsSame (history_of w) (pos w.presentation.now) (history_of t) (pos t.presentation.now)
     → IsRest s t
 rested w s t others n nodes view moved here order kept same =
-    subst (λ (x : Standing). IsRest x t) view
-    (subst (λ (x : Standing). IsSame (history_of w) (pos w.presentation.now) (history_of x) (pos x.presentation.now) → IsRest w x) (sym moved)
+    subst (λ (x : CellsState). IsRest x t) view
+    (subst (λ (x : CellsState). IsSame (history_of w) (pos w.presentation.now) (history_of x) (pos x.presentation.now) → IsRest w x) (sym moved)
     (λ q. record {
       presentation_is = refl;
       diary_is = refl;
@@ -369,7 +369,7 @@ pub no_fewer : (a b c : ℕ) → a ≤ b → b ≤ c → a ≤ c
 no_fewer a b c p q = omega (arith, p, q)
 
 -- what was touched before is of no account
-pub goes_on_from : {A : Type 0} (past : MarkedHistory) (moment : ℤ) (fault : Option BookFault) (mark : Option ℤ) (touched others : List ℕ) (new : Standing) (r : Result A BookFault)
+pub goes_on_from : {A : Type 0} (past : MarkedHistory) (moment : ℤ) (fault : Option BookFault) (mark : Option ℤ) (touched others : List ℕ) (new : CellsState) (r : Result A BookFault)
     → OnOk r (GoesOn (standing_of past moment fault mark others) new) → OnOk r (GoesOn (standing_of past moment fault mark touched) new)
 goes_on_from past moment fault mark touched others new (Ok x) q = record { diary = q.diary; sound = q.sound; marked = q.marked; touched = q.touched; views = q.views }
 goes_on_from past moment fault mark touched others new (Err f) q = q

@@ -9,28 +9,28 @@ use Rattle.smil_model.specs.reach.Bounds.{reaches}
 use Rattle.smil_model.specs.shown.Orders.{Presentation, course_of, as_of}
 use Rattle.smil_diary.specs.declared.fault.BookFault.{BookFault}
 use Rattle.smil_past.specs.Past.{MarkedHistory, logged_entry}
-use Rattle.smil_cells.specs.Standing.{Standing, GoesOn, IsFront, IsHeard, IsRefusing, StayTouched, WhereTold, fresh_since, reached_since, with_logged}
+use Rattle.smil_cells.specs.CellsState.{CellsState, GoesOn, IsFront, IsHeard, IsRefusing, StayTouched, WhereTold, fresh_since, reached_since, with_logged}
 use Rattle.smil_cells.specs.Standings.{standing_of}
 use Rattle.smil_cells.proofs.OnWay.{drops, fresh_through, least_adds_up, most_adds_up, reached_through, untouched}
 
-module _ (old mid : Standing) (entry : LogEntry) (heard : IsHeard old entry mid) where
+module _ (old mid : CellsState) (entry : LogEntry) (heard : IsHeard old entry mid) where
   same_document : mid.presentation.document ≡ old.presentation.document
   same_document = ap (λ (p : Presentation). p.document) heard.presentation_is
 
-  pub refusing_on : (new : Standing) (f : BookFault) → IsRefusing mid new f → IsRefusing old new f
+  pub refusing_on : (new : CellsState) (f : BookFault) → IsRefusing mid new f → IsRefusing old new f
   refusing_on new f q = record { fault_is = q.fault_is; document = q.document ∙ same_document; marked = q.marked ∙ heard.marked }
 
   module _ (n : ℕ) (here : n ≡ mid.presentation.now) where
     moved_is : as_of mid.presentation n ≡ with_logged old.presentation entry
     moved_is = ap (λ (k : ℕ). as_of mid.presentation k) here ∙ heard.presentation_is
 
-    pub state_on : (new : Standing) → new.presentation ≡ as_of mid.presentation n → new.presentation ≡ with_logged old.presentation entry
+    pub state_on : (new : CellsState) → new.presentation ≡ as_of mid.presentation n → new.presentation ≡ with_logged old.presentation entry
     state_on new state = state ∙ moved_is
 
     pub front_on : (diary : List Entry) → IsFront (course_of (as_of mid.presentation n)) diary → IsFront (course_of (with_logged old.presentation entry)) diary
     front_on diary q = subst (λ (p : Presentation). IsFront (course_of p) diary) moved_is q
 
-    module _ (new : Standing) (state : new.presentation ≡ as_of mid.presentation n) (on : GoesOn mid new) where
+    module _ (new : CellsState) (state : new.presentation ≡ as_of mid.presentation n) (on : GoesOn mid new) where
       same_log : new.presentation.log ≡ mid.presentation.log
       same_log = ap (λ (p : Presentation). p.log) state
 
@@ -66,6 +66,6 @@ module _ (old mid : Standing) (entry : LogEntry) (heard : IsHeard old entry mid)
       fresh_heard_on a b c flag p q x y = least_adds_up flag a b c (fresh_since old mid) (fresh_since mid new) (fresh_since old new) p q (fresh_through old mid new same_document) x y
 
 -- what was touched before is of no account for a refusal either
-pub refusing_from : (past : MarkedHistory) (moment : ℤ) (fault : Option BookFault) (mark : Option ℤ) (touched others : List ℕ) (new : Standing) (f : BookFault)
+pub refusing_from : (past : MarkedHistory) (moment : ℤ) (fault : Option BookFault) (mark : Option ℤ) (touched others : List ℕ) (new : CellsState) (f : BookFault)
     → IsRefusing (standing_of past moment fault mark others) new f → IsRefusing (standing_of past moment fault mark touched) new f
 refusing_from past moment fault mark touched others new f q = record { fault_is = q.fault_is; document = q.document; marked = q.marked }

@@ -8,13 +8,13 @@ use Rattle.smil_model.specs.document.Document.{node_at, serials}
 use Rattle.smil_model.specs.document.Closure.{has}
 use Rattle.smil_laws.proofs.Lineages.{swap_eqb}
 use Rattle.smil_laws.proofs.Members.{Differ}
-use Rattle.smil_cells.specs.declared.plain.known.Row.{Row}
+use Rattle.smil_cells.specs.declared.plain.current_rows.CurrentRow.{CurrentRow}
 use Rattle.smil_cells.specs.Plain.{interval_in}
 use Rattle.smil_cells.proofs.Rows.{IsFirst, cons_interval}
 use Rattle.smil_laws.proofs.Lists.{each_at}
 
-abbrev pub serials_in : List Row → List ℕ
-serials_in rows = map (λ (r : Row). r.serial) rows
+abbrev pub serials_in : List CurrentRow → List ℕ
+serials_in rows = map (λ (r : CurrentRow). r.serial) rows
 
 -- ---- an element at its place
 
@@ -55,10 +55,10 @@ apart_at (n ∷ ns) (suc j) (suc k) d e differ p q same = ap suc (apart_at ns j 
 
 -- ---- the row at the place of an element
 
-head_same : (r : Row) (rs : List Row) (n : Node) (ns : List Node) → serials_in (r ∷ rs) ≡ serials (n ∷ ns) → (r.serial ≡ n.serial) × (serials_in rs ≡ serials ns)
+head_same : (r : CurrentRow) (rs : List CurrentRow) (n : Node) (ns : List Node) → serials_in (r ∷ rs) ≡ serials (n ∷ ns) → (r.serial ≡ n.serial) × (serials_in rs ≡ serials ns)
 head_same r rs n ns same = (cc, cc)
 
-pub first_at : (ns : List Node) (rows : List Row) (k : ℕ) (e : Node) → Differ ns → serials_in rows ≡ serials ns → slice_get ns k ≡ Some e → IsFirst e.serial rows k
+pub first_at : (ns : List Node) (rows : List CurrentRow) (k : ℕ) (e : Node) → Differ ns → serials_in rows ≡ serials ns → slice_get ns k ≡ Some e → IsFirst e.serial rows k
 first_at [] rows k e d same q = cc
 first_at (n ∷ ns) [] k e d same q = cc
 first_at (n ∷ ns) (r ∷ rs) zero e d same q =
@@ -70,35 +70,35 @@ first_at (n ∷ ns) (r ∷ rs) (suc k) e d same q =
     (ap (λ s. s == e.serial) parts.0 ∙ swap_eqb e.serial n.serial other, first_at ns rs k e d.1 parts.1 q)
 
 -- where there is a row there is an element
-pub element_at : (ns : List Node) (rows : List Row) (k : ℕ) (r : Row) → serials_in rows ≡ serials ns → slice_get rows k ≡ Some r → (e : Node) × (slice_get ns k ≡ Some e)
+pub element_at : (ns : List Node) (rows : List CurrentRow) (k : ℕ) (r : CurrentRow) → serials_in rows ≡ serials ns → slice_get rows k ≡ Some r → (e : Node) × (slice_get ns k ≡ Some e)
 element_at [] [] k r same q = cc
 element_at [] (x ∷ xs) k r same q = cc
 element_at (n ∷ ns) [] k r same q = cc
 element_at (n ∷ ns) (x ∷ xs) zero r same q = (n, refl)
 element_at (n ∷ ns) (x ∷ xs) (suc k) r same q = element_at ns xs k r (head_same x xs n ns same).1 q
 
-pub row_at : (ns : List Node) (rows : List Row) (k : ℕ) (e : Node) → serials_in rows ≡ serials ns → slice_get ns k ≡ Some e → (r : Row) × (slice_get rows k ≡ Some r)
+pub row_at : (ns : List Node) (rows : List CurrentRow) (k : ℕ) (e : Node) → serials_in rows ≡ serials ns → slice_get ns k ≡ Some e → (r : CurrentRow) × (slice_get rows k ≡ Some r)
 row_at [] rows k e same q = cc
 row_at (n ∷ ns) [] k e same q = cc
 row_at (n ∷ ns) (x ∷ xs) zero e same q = (x, refl)
 row_at (n ∷ ns) (x ∷ xs) (suc k) e same q = row_at ns xs k e (head_same x xs n ns same).1 q
 
-pub interval_at : (who : ℕ) (rows : List Row) (k : ℕ) (r : Row) → IsFirst who rows k → slice_get rows k ≡ Some r → interval_in rows who ≡ r.interval
+pub interval_at : (who : ℕ) (rows : List CurrentRow) (k : ℕ) (r : CurrentRow) → IsFirst who rows k → slice_get rows k ≡ Some r → interval_in rows who ≡ r.interval
 interval_at who [] k r is q = elim is [ ]
 interval_at who (x ∷ xs) zero r is q =
     let one : x ≡ r = cc in
-    cons_interval who x xs ∙ ap (λ t. cond t x.interval (interval_in xs who)) is ∙ ap (λ (y : Row). y.interval) one
+    cons_interval who x xs ∙ ap (λ t. cond t x.interval (interval_in xs who)) is ∙ ap (λ (y : CurrentRow). y.interval) one
 interval_at who (x ∷ xs) (suc k) r is q =
     cons_interval who x xs ∙ ap (λ t. cond t x.interval (interval_in xs who)) is.0 ∙ interval_at who xs k r is.1 q
 
 -- ---- a row put in its place
 
-pub set_at : (who : ℕ) (rows : List Row) (k : ℕ) (r : Row) → IsFirst who rows k → slice_get (set rows k r) k ≡ Some r
+pub set_at : (who : ℕ) (rows : List CurrentRow) (k : ℕ) (r : CurrentRow) → IsFirst who rows k → slice_get (set rows k r) k ≡ Some r
 set_at who [] k r is = elim is [ ]
 set_at who (x ∷ xs) zero r is = refl
 set_at who (x ∷ xs) (suc k) r is = set_at who xs k r is.1
 
-pub set_elsewhere : (rows : List Row) (j k : ℕ) (r : Row) → (j ≡ k → ⊥) → slice_get (set rows k r) j ≡ slice_get rows j
+pub set_elsewhere : (rows : List CurrentRow) (j k : ℕ) (r : CurrentRow) → (j ≡ k → ⊥) → slice_get (set rows k r) j ≡ slice_get rows j
 set_elsewhere [] j k r other = refl
 set_elsewhere (x ∷ xs) zero zero r other = absurd (other refl)
 set_elsewhere (x ∷ xs) zero (suc k) r other = refl
@@ -108,7 +108,7 @@ set_elsewhere (x ∷ xs) (suc j) (suc k) r other = set_elsewhere xs j k r (λ e.
 -- ---- intervals by elements
 
 -- where each row has the interval that f gives of its element, so it is for each serial
-pub by_elements : (f : Node → Option Interval) (ns : List Node) (rows : List Row) → serials_in rows ≡ serials ns → ((k : ℕ) (e : Node) (r : Row) → slice_get ns k ≡ Some e → slice_get rows k ≡ Some r → r.interval ≡ f e) → (s : ℕ) → interval_in rows s ≡ option_and_then f (node_at ns s)
+pub by_elements : (f : Node → Option Interval) (ns : List Node) (rows : List CurrentRow) → serials_in rows ≡ serials ns → ((k : ℕ) (e : Node) (r : CurrentRow) → slice_get ns k ≡ Some e → slice_get rows k ≡ Some r → r.interval ≡ f e) → (s : ℕ) → interval_in rows s ≡ option_and_then f (node_at ns s)
 by_elements f [] [] same each s = refl
 by_elements f [] (x ∷ xs) same each s = cc
 by_elements f (n ∷ ns) [] same each s = cc

@@ -6,7 +6,7 @@ use Rattle.smil_model.specs.declared.times.TheConstants.{HORIZON}
 use Rattle.smil_model.specs.declared.diary.LogEntry.{LogEntry}
 use Rattle.smil_model.specs.diary.Diary.{History}
 use Rattle.smil_model.specs.diary.Logs.{is_logged_by}
-use Rattle.smil_model.specs.happening.Keys.{Coming, first_coming, is_due}
+use Rattle.smil_model.specs.happening.Keys.{DueChange, first_coming, is_due}
 use Rattle.smil_model.specs.happening.Resolution.{Course, Progress, history_at, after_quiet, after_settling, after_coming}
 use Rattle.smil_model.specs.happening.Groups.{group}
 use Rattle.smil_laws.specs.Courses.{EndedIsDiary}
@@ -19,8 +19,8 @@ use Rattle.smil_laws.specs.Same.{IsSame, TimePassesQuietly}
 use Rattle.smil_laws.specs.Courses.{ReachedIsPast}
 use Rattle.smil_laws.specs.Courses.{ReachesOverQuiet}
 use Rattle.smil_past.specs.Past.{MarkedHistory}
-use Rattle.smil_cells.specs.Standing.{IsSettled, NothingBefore, first_at, history_of}
-use Rattle.smil_cells.specs.Standings.{IsKept, standing_of}
+use Rattle.smil_cells.specs.CellsState.{IsSettled, NothingBefore, first_at, history_of}
+use Rattle.smil_cells.specs.Standings.{IsSoundUnderMark, standing_of}
 use Rattle.std.proofs.lemmas.Bool.{and_from, and_parts}
 use Rattle.smil_model.proofs.Orders.{is_le}
 use Rattle.smil_element.specs.Comings.{coming_stays}
@@ -63,7 +63,7 @@ module _ (c : Course) (p : Progress) (heard : slice_get c.log p.heard ≡ None) 
   unheard : after_settling c p (slice_get c.log p.heard) ≡ None
   unheard = ap (λ (x : Option LogEntry). after_settling c p x) heard ∙ no_later
 
-  pub rests : (f : Option Coming) → ((x : Coming) → f ≡ Some x → is_due (pos p.moment) x.key ≡ false) → after_coming c p f ≡ None
+  pub rests : (f : Option DueChange) → ((x : DueChange) → f ≡ Some x → is_due (pos p.moment) x.key ≡ false) → after_coming c p f ≡ None
   rests None none = unheard
   rests (Some x) none = by_test (is_due (pos p.moment) x.key) (none x refl) (Some (record { moment = p.moment; heard = p.heard; diary = p.diary ++ group (history_at c p) (pos p.moment) x.key.serial x.change }))
     where
@@ -75,7 +75,7 @@ module _ (c : Course) (p : Progress) (heard : slice_get c.log p.heard ≡ None) 
 
 module _ (is_current is_marked : History → ℤ → Type 0) (has_mark : Bool) (past : MarkedHistory) (fault : Option BookFault) (mark : Option ℤ) (touched : List ℕ) where
   abbrev At : ℤ → Type 0
-  At m = IsKept is_current is_marked has_mark past m fault mark touched
+  At m = IsSoundUnderMark is_current is_marked has_mark past m fault mark touched
 
   module _ (quietly : TimePassesQuietly) (jump : ReachesOverQuiet) (is_past : ReachedIsPast) (stays : (h k : History) (m n : ℤ) → IsSame h m k n → is_current h m → is_current k n) (sound : fault ≡ None) where
     passed_by : (a n : ℕ) → pos (a + n) ≤ℤ HORIZON → NothingBefore (standing_of past (pos a) fault mark touched) (pos (a + n)) → At (pos a) → At (pos (a + n))

@@ -6,7 +6,7 @@ use Rattle.smil_model.specs.happening.Resolution.{Course, diary_of}
 use Rattle.smil_diary.specs.declared.fault.BookFault.{BookFault}
 use Rattle.smil_diary.specs.declared.fault.BookFault.TheVariants.{DiaryFull}
 use Rattle.smil_laws.specs.Courses.{TooLongIsFull}
-use Rattle.smil_cells.specs.Standing.{IsFront}
+use Rattle.smil_cells.specs.CellsState.{IsFront}
 
 module _ (c : Course) (d : List Entry) where
   abbrev Front : BookFault → Type 0

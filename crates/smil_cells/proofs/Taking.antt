@@ -14,12 +14,12 @@ use Rattle.smil_model.specs.diary.Diary.{History}
 use Rattle.smil_laws.specs.Near.{AllNear, IsIntervalNear}
 use Rattle.smil_laws.proofs.Members.{Differ, differ_all, differ_kept}
 use Rattle.smil_laws.proofs.NearIntervals.{interval_near}
-use Rattle.smil_graph.specs.Graph.{IsOrder}
+use Rattle.smil_graph.specs.Graph.{IsGraphOrder}
 use Rattle.smil_element.specs.declared.evaluation.Evaluation.{Evaluation}
 use Rattle.smil_element.specs.Element.{IsEvaluated}
-use Rattle.smil_cells.specs.declared.plain.known.Row.{Row}
+use Rattle.smil_cells.specs.declared.plain.current_rows.CurrentRow.{CurrentRow}
 use Rattle.smil_cells.specs.Plain.{interval_in}
-use Rattle.smil_cells.specs.Round.{AreTaken, IsRowOf, IsTaken, StayUnchanged}
+use Rattle.smil_cells.specs.Round.{AreRowsEvaluated, IsRowOf, IsRowEvaluated, StayUnchanged}
 use Rattle.smil_cells.proofs.Rows.{IsFirst, set_serials, set_others, set_own}
 use Rattle.smil_cells.proofs.Paired.{serials_in, there_at, apart_at, first_at, set_at, set_elsewhere}
 use Rattle.smil_cells.proofs.Agreeing.{row_stays, agree_by_order}
@@ -30,14 +30,14 @@ elements_differ nodes distinct = differ_kept is_element nodes (differ_all nodes 
 
 -- ---- where the row of an element is
 
-position_first : (who : ℕ) (rows : List Row) (k : ℕ) → IsFirst who rows k → (position_or_len (λ (r : Row). r.serial == who) rows ≡ k) × (k < length rows)
+position_first : (who : ℕ) (rows : List CurrentRow) (k : ℕ) → IsFirst who rows k → (position_or_len (λ (r : CurrentRow). r.serial == who) rows ≡ k) × (k < length rows)
 position_first who [] k is = elim is [ ]
-position_first who (x ∷ xs) zero is = (ap (λ t. cond (not t) (1 + position_or_len (λ (r : Row). r.serial == who) xs) 0) is, omega arith)
+position_first who (x ∷ xs) zero is = (ap (λ t. cond (not t) (1 + position_or_len (λ (r : CurrentRow). r.serial == who) xs) 0) is, omega arith)
 position_first who (x ∷ xs) (suc k) is =
     let later = position_first who xs k is.1 in
-    (ap (λ t. cond (not t) (1 + position_or_len (λ (r : Row). r.serial == who) xs) 0) is.0 ∙ omega (arith, later.0), omega (arith, later.1))
+    (ap (λ t. cond (not t) (1 + position_or_len (λ (r : CurrentRow). r.serial == who) xs) 0) is.0 ∙ omega (arith, later.0), omega (arith, later.1))
 
-pub placed : (who : ℕ) (rows : List Row) (k : ℕ) → IsFirst who rows k → position (λ (r : Row). r.serial == who) rows ≡ Some k
+pub placed : (who : ℕ) (rows : List CurrentRow) (k : ℕ) → IsFirst who rows k → position (λ (r : CurrentRow). r.serial == who) rows ≡ Some k
 placed who rows k is =
     let at = position_first who rows k is in
     ap (λ n. cond (nat_lt n (length rows)) (Some n) None) at.0 ∙ ap (λ t. cond t (Some k) None) (lt-ltb k (length rows) at.1)
@@ -51,17 +51,17 @@ node_place who (n ∷ ns) e q = by_test (n.serial == who) refl q (node_place who
     by_test false t r later = let found = later r in (suc found.0, found.1, found.2)
 
 -- an element of a document whose elements have these rows, and where its row stands
-pub record IsFound (nodes : List Node) (rows : List Row) (who : ℕ) : Type 0 where
+pub record IsFound (nodes : List Node) (rows : List CurrentRow) (who : ℕ) : Type 0 where
   pub element : Node
   pub place : ℕ
   pub node : node_at (elements nodes) who ≡ Some element
   pub here : slice_get (elements nodes) place ≡ Some element
   pub is_who : element.serial ≡ who
   pub first : IsFirst who rows place
-  pub position_is : position (λ (r : Row). r.serial == who) rows ≡ Some place
+  pub position_is : position (λ (r : CurrentRow). r.serial == who) rows ≡ Some place
   pub within : place < length (elements nodes)
 
-pub found : (nodes : List Node) (rows : List Row) (who : ℕ) → IsDistinct nodes → serials_in rows ≡ serials (elements nodes) → is_some (node_at (elements nodes) who) ≡ true → IsFound nodes rows who
+pub found : (nodes : List Node) (rows : List CurrentRow) (who : ℕ) → IsDistinct nodes → serials_in rows ≡ serials (elements nodes) → is_some (node_at (elements nodes) who) ≡ true → IsFound nodes rows who
 found nodes rows who distinct same has =
     let some = some_of (node_at (elements nodes) who) has in
     let at = node_place who (elements nodes) some.0 some.1 in
@@ -94,7 +94,7 @@ evaluated_near h intervals now e made near is = where_some made.interval (λ i q
     where_some (Some i) f = f i refl
 
 -- an element is taken where its row is that by the rows as they were
-pub taken_by : (h : History) (now : ℤ) (who place : ℕ) (before after : List Row) (row : Row) → (at : IsFound h.nodes before who) → place ≡ at.place → IsRowOf h (interval_in before) now place at.element row → after ≡ set before place row → IsTaken h now who before after
+pub taken_by : (h : History) (now : ℤ) (who place : ℕ) (before after : List CurrentRow) (row : CurrentRow) → (at : IsFound h.nodes before who) → place ≡ at.place → IsRowOf h (interval_in before) now place at.element row → after ≡ set before place row → IsRowEvaluated h now who before after
 taken_by h now who place before after row at is made after_is = record {
   place = place;
   element = at.element;
@@ -106,18 +106,18 @@ taken_by h now who place before after row at is made after_is = record {
 }
 
 -- its row is put in the place of its own
-pub own_first : (nodes : List Node) (rows : List Row) (who place : ℕ) (row : Row) → (at : IsFound nodes rows who) → place ≡ at.place → row.serial ≡ who → IsFirst row.serial rows place
+pub own_first : (nodes : List Node) (rows : List CurrentRow) (who place : ℕ) (row : CurrentRow) → (at : IsFound nodes rows who) → place ≡ at.place → row.serial ≡ who → IsFirst row.serial rows place
 own_first nodes rows who place row at is own = subst (λ s. IsFirst s rows place) (sym own) (subst (IsFirst who rows) (sym is) at.first)
 
 -- ---- what is told of an interval that changes
 
-pub unchanged_pushed : (old new : List ℕ) (rows : List Row) (k : ℕ) (row : Row) → IsFirst row.serial rows k → new ≡ old ++ row.serial ∷ [] → StayUnchanged old new rows (set rows k row)
+pub unchanged_pushed : (old new : List ℕ) (rows : List CurrentRow) (k : ℕ) (row : CurrentRow) → IsFirst row.serial rows k → new ≡ old ++ row.serial ∷ [] → StayUnchanged old new rows (set rows k row)
 unchanged_pushed old new rows k row is pushed = record {
   more = λ s among. ap (λ xs. has xs s) pushed ∙ list_any-append (λ y. y == s) old (row.serial ∷ []) ∙ or_left _ _ among;
   others = λ s out. set_others row rows k s is (or_parts _ _ ((or_parts _ _ (sym (list_any-append (λ y. y == s) old (row.serial ∷ [])) ∙ sym (ap (λ xs. has xs s) pushed) ∙ out)).1)).0;
 }
 
-pub unchanged_same : (old new : List ℕ) (rows : List Row) (k : ℕ) (row : Row) → IsFirst row.serial rows k → new ≡ old → interval_in rows row.serial ≡ row.interval → StayUnchanged old new rows (set rows k row)
+pub unchanged_same : (old new : List ℕ) (rows : List CurrentRow) (k : ℕ) (row : CurrentRow) → IsFirst row.serial rows k → new ≡ old → interval_in rows row.serial ≡ row.interval → StayUnchanged old new rows (set rows k row)
 unchanged_same old new rows k row is same interval = record {
   more = λ s among. ap (λ xs. has xs s) same ∙ among;
   others = λ s out. by_test s (row.serial == s) refl;
@@ -129,7 +129,7 @@ unchanged_same old new rows k row is same interval = record {
         ap (interval_in (set rows k row)) (sym one) ∙ set_own row rows k is ∙ sym interval ∙ ap (interval_in rows) one
     by_test s false q = set_others row rows k s is q
 
-pub unchanged_both : (a b c : List ℕ) (x y z : List Row) → StayUnchanged a b x y → StayUnchanged b c y z → StayUnchanged a c x z
+pub unchanged_both : (a b c : List ℕ) (x y z : List CurrentRow) → StayUnchanged a b x y → StayUnchanged b c y z → StayUnchanged a c x z
 unchanged_both a b c x y z first second = record {
   more = λ s among. second.more s (first.more s among);
   others = λ s out. second.others s out ∙ first.others s (before s (has b s) refl out);
@@ -139,12 +139,12 @@ unchanged_both a b c x y z first second = record {
     before s true q out = let never : true ≡ false = sym (second.more s q) ∙ out in cc
     before s false q out = q
 
-pub unchanged_none : (a : List ℕ) (x : List Row) → StayUnchanged a a x x
+pub unchanged_none : (a : List ℕ) (x : List CurrentRow) → StayUnchanged a a x x
 unchanged_none a x = record { more = λ s among. among; others = λ s out. refl }
 
 -- ---- the rows with one element more of the order
 
-pub take_next : (h : History) (now : ℤ) (order : List ℕ) (k who : ℕ) (before after : List Row) → IsDistinct h.nodes → IsOrder h.nodes order → k < length order → get_or order k 0 ≡ who → AreTaken h now order k before → IsTaken h now who before after → AreTaken h now order (k + 1) after
+pub take_next : (h : History) (now : ℤ) (order : List ℕ) (k who : ℕ) (before after : List CurrentRow) → IsDistinct h.nodes → IsGraphOrder h.nodes order → k < length order → get_or order k 0 ≡ who → AreRowsEvaluated h now order k before → IsRowEvaluated h now who before after → AreRowsEvaluated h now order (k + 1) after
 take_next h now order k who before after distinct is lt at so_far taken = record {
   of_elements = ap serials_in taken.after_is ∙ set_serials taken.row before taken.place row_first ∙ so_far.of_elements;
   rows_are = λ j p e row less at_e here got. by_place j p e row less at_e here (got ∙ refl) (nat_eq p taken.place) refl;
@@ -164,13 +164,13 @@ take_next h now order k who before after distinct is lt at so_far taken = record
         sym (ap (λ rows. interval_in rows x) taken.after_is
         ∙ set_others taken.row before taken.place x row_first (ap (λ s. s == x) ((taken.made).serial ∙ taken.is_who ∙ sym at) ∙ other))
 
-    stays : (j p : ℕ) (e : Node) (row : Row) → j ≤ k → get_or order j 0 ≡ e.serial → slice_get (elements h.nodes) p ≡ Some e → IsRowOf h (interval_in before) now p e row → IsRowOf h (interval_in after) now p e row
+    stays : (j p : ℕ) (e : Node) (row : CurrentRow) → j ≤ k → get_or order j 0 ≡ e.serial → slice_get (elements h.nodes) p ≡ Some e → IsRowOf h (interval_in before) now p e row → IsRowOf h (interval_in after) now p e row
     stays j p e row less at_e here row_is =
         row_stays h (interval_in before) (interval_in after) now e p row
         (agree_by_order h (interval_in before) (interval_in after) now e order k j is (there_at (elements h.nodes) p e differ here) lt less at_e others)
         row_is
 
-    by_place : (j p : ℕ) (e : Node) (row : Row) → j < k + 1 → get_or order j 0 ≡ e.serial → slice_get (elements h.nodes) p ≡ Some e → slice_get after p ≡ Some row → (t : Bool) → nat_eq p taken.place ≡ t → IsRowOf h (interval_in after) now p e row
+    by_place : (j p : ℕ) (e : Node) (row : CurrentRow) → j < k + 1 → get_or order j 0 ≡ e.serial → slice_get (elements h.nodes) p ≡ Some e → slice_get after p ≡ Some row → (t : Bool) → nat_eq p taken.place ≡ t → IsRowOf h (interval_in after) now p e row
     by_place j p e row less at_e here got true q =
         let same : p ≡ taken.place = eqb-true p taken.place q in
         let one : taken.element ≡ e = same_node (sym taken.here ∙ ap (slice_get (elements h.nodes)) (sym same) ∙ here) in

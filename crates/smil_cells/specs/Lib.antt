@@ -1,4 +1,4 @@
-pub mod Standing
+pub mod CellsState
 pub mod Standings
 pub mod Shown
 pub mod Plain

@@ -9,30 +9,30 @@ use Rattle.smil_model.specs.interval.Current.{current_table}
 use Rattle.smil_model.specs.happening.Keys.{keys}
 use Rattle.smil_due.specs.Order.{key_cmp}
 use Rattle.smil_laws.specs.Same.{IsSame}
-use Rattle.smil_element.specs.Comings.{HaveComings, comings_stay, keys_stay}
-use Rattle.smil_cells.specs.declared.plain.known.Row.{Row}
+use Rattle.smil_element.specs.Comings.{HaveDueChanges, comings_stay, keys_stay}
+use Rattle.smil_cells.specs.declared.plain.current_rows.CurrentRow.{CurrentRow}
 
-abbrev pub interval_in : List Row → ℕ → Option Interval
-interval_in rows serial = option_and_then (λ (r : Row). r.interval) (find (λ (r : Row). r.serial == serial) rows)
+abbrev pub interval_in : List CurrentRow → ℕ → Option Interval
+interval_in rows serial = option_and_then (λ (r : CurrentRow). r.interval) (find (λ (r : CurrentRow). r.serial == serial) rows)
 
 -- the rows are those of all elements by their current intervals, with what comes of them; and the queue has the keys of what
 -- comes, and no other
-pub record IsCurrent (rows : List Row) (due : set.FinSet key_cmp) (h : History) (now : ℤ) : Type 0 where
-  pub rows_are : map (λ (r : Row). (r.serial, r.interval)) rows ≡ current_table h now
-  pub comings_are : HaveComings h now 0 (elements h.nodes) (map (λ (r : Row). r.comings) rows)
+pub record IsCurrent (rows : List CurrentRow) (due : set.FinSet key_cmp) (h : History) (now : ℤ) : Type 0 where
+  pub rows_are : map (λ (r : CurrentRow). (r.serial, r.interval)) rows ≡ current_table h now
+  pub comings_are : HaveDueChanges h now 0 (elements h.nodes) (map (λ (r : CurrentRow). r.comings) rows)
   pub due_is : due ≡ set.from_list (keys h now)
 
 -- it is current by another history by which the same is
-pub stays_current : (rows : List Row) (due : set.FinSet key_cmp) (h k : History) (m n : ℤ)
+pub stays_current : (rows : List CurrentRow) (due : set.FinSet key_cmp) (h k : History) (m n : ℤ)
     → IsSame h m k n → IsCurrent rows due h m → IsCurrent rows due k n
 stays_current rows due h k m n same is = record {
   rows_are = is.rows_are ∙ sym same.table;
-  comings_are = comings_stay h k m n same (map (λ (r : Row). r.comings) rows) is.comings_are;
+  comings_are = comings_stay h k m n same (map (λ (r : CurrentRow). r.comings) rows) is.comings_are;
   due_is = is.due_is ∙ sym (ap set.from_list (keys_stay h k m n same));
 }
 
 -- what `back` gives where a mark stands: what was noted, or what is there where nothing changed since
-abbrev pub IsMarked : Bool → Option (List Row × set.FinSet key_cmp) → List Row → set.FinSet key_cmp
+abbrev pub IsMarked : Bool → Option (List CurrentRow × set.FinSet key_cmp) → List CurrentRow → set.FinSet key_cmp
     → History → ℤ → Type 0
 IsMarked false noted rows due h now = Unit {0}
 IsMarked true None rows due h now = IsCurrent rows due h now

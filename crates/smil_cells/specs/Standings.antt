@@ -6,7 +6,7 @@ use Rattle.smil_model.specs.diary.Logs.{is_log}
 use Rattle.smil_model.specs.shown.Orders.{Presentation, IsState}
 use Rattle.smil_diary.specs.declared.fault.BookFault.{BookFault}
 use Rattle.smil_past.specs.Past.{MarkedHistory, IsPresent}
-use Rattle.smil_cells.specs.Standing.{Standing, history_of, IsReached}
+use Rattle.smil_cells.specs.CellsState.{CellsState, history_of, IsReached}
 
 -- the moment of a mark, with the lengths of log and diary there
 abbrev pub marked_by : MarkedHistory → Option ℤ → Option (ℕ × ℕ) → Option (Presentation × List Entry)
@@ -15,7 +15,7 @@ marked_by past (Some moment) None = None
 marked_by past (Some moment) (Some lens) =
     Some (record { document = past.document; log = take lens.0 past.log; now = nat_abs moment }, take lens.1 past.diary)
 
-abbrev pub standing_of : MarkedHistory → ℤ → Option BookFault → Option ℤ → List ℕ → Standing
+abbrev pub standing_of : MarkedHistory → ℤ → Option BookFault → Option ℤ → List ℕ → CellsState
 standing_of past moment fault mark touched = record {
   presentation = record { document = past.document; log = past.log; now = nat_abs moment };
   diary = past.diary;
@@ -25,7 +25,7 @@ standing_of past moment fault mark touched = record {
 }
 
 -- what has happened, under way at a moment, with nothing marked or touched
-abbrev pub begun : MarkedHistory → ℤ → Standing
+abbrev pub begun : MarkedHistory → ℤ → CellsState
 begun past moment = standing_of past moment None None []
 
 -- a moment and what a resolution up to it comes to, with the whole log heard; no mark stands
@@ -36,12 +36,12 @@ pub record MayBegin (past : MarkedHistory) (moment : ℤ) : Type 0 where
   pub reached : IsReached (begun past moment)
 
 -- a standing that answers no refusal: it is a state, its diary is what the resolution comes to, and the table is current
-pub record IsSound (is_current : History → ℤ → Type 0) (s : Standing) : Type 0 where
+pub record IsSound (is_current : History → ℤ → Type 0) (s : CellsState) : Type 0 where
   pub state : IsState s.presentation
   pub reached : IsReached s
   pub current : is_current (history_of s) (pos s.presentation.now)
 
-abbrev pub at_mark : List ℕ → Presentation × List Entry → Standing
+abbrev pub at_mark : List ℕ → Presentation × List Entry → CellsState
 at_mark touched mark = record { presentation = mark.0; diary = mark.1; fault = None; marked = None; touched = touched }
 
 -- so it is where the mark was made, by the table that `back` gives
@@ -49,7 +49,7 @@ abbrev pub WhereMarked : (History → ℤ → Type 0) → List ℕ → Option (P
 WhereMarked is_marked touched None = Unit {0}
 WhereMarked is_marked touched (Some mark) = IsSound is_marked (at_mark touched mark)
 
-pub record IsKept (is_current is_marked : History → ℤ → Type 0) (has_mark : Bool) (past : MarkedHistory)
+pub record IsSoundUnderMark (is_current is_marked : History → ℤ → Type 0) (has_mark : Bool) (past : MarkedHistory)
     (moment : ℤ) (fault : Option BookFault) (mark : Option ℤ) (touched : List ℕ) : Type 0 where
   pub present : IsPresent past moment
   pub log : is_log past.log ≡ true

@@ -9,7 +9,7 @@ ghost use Rattle.smil_model.specs.document.Document.{elements};
 ghost use Rattle.smil_model.specs.diary.Lawful.{has_element};
 ghost use Rattle.smil_model.specs.diary.Logs.{may_happen};
 ghost use Rattle.smil_model.specs.happening.Groups.{group as group_at};
-ghost use Rattle.smil_model.specs.happening.Keys.{Coming as AnyComing, coming, first_coming};
+ghost use Rattle.smil_model.specs.happening.Keys.{DueChange as AnyDueChange, coming, first_coming};
 ghost use Rattle.smil_model.specs.happening.Resolution.{diary_of};
 ghost use Rattle.smil_model.specs.shown.Orders.{Presentation, course_of, as_of};
 ghost use Rattle.smil_diary.specs.declared.fault.BookFault.{BookFault as AnyFault};
@@ -18,7 +18,7 @@ ghost use Rattle.smil_stretch.specs.Clocks.{AreClocksOf};
 ghost use Rattle.smil_past.specs.Past as past_of;
 ghost use Rattle.smil_model.specs.declared.limits.TheConstants as limits;
 ghost use Rattle.smil_element.specs.Parts.{coming_meant, meant};
-ghost use Rattle.smil_cells.specs.Standing.{GoesOn, IsFront, IsHeard, IsNext, IsPassed, IsRebuilt, IsRefusing, IsSettled, NothingBefore, first_at, IsPart, MayAppendAll, MayRebuild, Standing, StayTouched, WhereTold, any_interval, fresh_since, history_of, interval_at, reached_since, with_logged};
+ghost use Rattle.smil_cells.specs.CellsState.{GoesOn, IsFront, IsHeard, IsNext, IsPassed, IsRebuilt, IsRefusing, IsSettled, NothingBefore, first_at, IsPart, MayAppendAll, MayRebuild, CellsState, StayTouched, WhereTold, any_interval, fresh_since, history_of, interval_at, reached_since, with_logged};
 ghost use Rattle.smil_cells.specs.Standings.{MayBegin, at_mark, begun};
 ghost use Rattle.smil_laws.specs.Same.{IsSame};
 
@@ -27,7 +27,7 @@ use super::order::in_order;
 use super::table::{Since, Table};
 use super::touched::touch;
 use smil_diary::{Book, BookFault};
-use smil_element::{Coming, Parts, group_of};
+use smil_element::{DueChange, Parts, group_of};
 use smil_laws::courses::{
     ended_is_diary, reached_is_past, reaches_further, reaches_over_quiet, too_long_is_full,
 };
@@ -58,7 +58,7 @@ pub struct Cells<T: Table> {
 }
 
 impl<T: Table> Drop for Cells<T> {
-    // Dropped by a call of its own, so that no function that lets one go drops it field by field.
+    // Dropped by a call of its own, not field by field in each function that drops one.
     fn drop(self) {
         let Cells {
             past: _past,
@@ -74,14 +74,14 @@ impl<T: Table> Drop for Cells<T> {
 }
 
 impl<T: Table> Model for Cells<T> {
-    ghost use Rattle.smil_cells.specs.Standing.{Standing};
-    ghost use Rattle.smil_cells.specs.Standings.{IsKept, standing_of};
+    ghost use Rattle.smil_cells.specs.CellsState.{CellsState};
+    ghost use Rattle.smil_cells.specs.Standings.{IsSoundUnderMark, standing_of};
 
-    ghost Value = { Standing };
+    ghost Value = { CellsState };
 
     ghost view = { λ c. standing_of c.past c.moment c.fault c.mark c.touched };
 
-    ghost invariant = { λ c. IsKept (T.is_current c.table) (T.is_marked c.table) (T.has_mark c.table) c.past c.moment c.fault c.mark c.touched };
+    ghost invariant = { λ c. IsSoundUnderMark (T.is_current c.table) (T.is_marked c.table) (T.has_mark c.table) c.past c.moment c.fault c.mark c.touched };
 }
 
 impl<T: Table> Cells<T> {
@@ -200,7 +200,7 @@ impl<T: Table> Cells<T> {
     /// comes. No refusal was answered. It takes no memory.
     pub fn next_due(&self) -> Option<i64>
         requires { self.now.fault ≡ None }
-        ensures { result ≡ option_map (λ (c : AnyComing). c.key.value)
+        ensures { result ≡ option_map (λ (c : AnyDueChange). c.key.value)
             (first_coming (coming (history_of self.now) (pos self.now.presentation.now))) }
     {
         match self.table.first() {
@@ -429,7 +429,7 @@ impl<T: Table> Cells<T> {
     }
 
     // What comes first, where it is due by a moment. It takes no memory.
-    fn due_by(&self, until: i64) -> Option<Coming>
+    fn due_by(&self, until: i64) -> Option<DueChange>
         requires { self.now.fault ≡ None }
         ensures first { IfSome result (λ c. first_at self.now ≡ Some (coming_meant c)) }
         ensures due { IfSome result (λ c. c.key.value ≤ℤ until) }
@@ -464,7 +464,7 @@ impl<T: Table> Cells<T> {
     }
 
     // Moves on to the moment of what comes first, where that is later.
-    fn come_to(&mut self, coming: Coming, until: i64)
+    fn come_to(&mut self, coming: DueChange, until: i64)
         requires sound { self.old.fault ≡ None }
         requires from { pos self.old.presentation.now ≤ℤ until }
         requires within { until ≤ℤ the_horizon }
@@ -551,7 +551,11 @@ impl<T: Table> Cells<T> {
     }
 
     // Appends the group of what comes first, which is due. A refusal is answered from then on.
-    fn happen<L: Ledger>(&mut self, coming: Coming, steps: &mut Steps<L>) -> Result<(), BookFault>
+    fn happen<L: Ledger>(
+        &mut self,
+        coming: DueChange,
+        steps: &mut Steps<L>,
+    ) -> Result<(), BookFault>
         requires sound { self.old.fault ≡ None }
         requires first { first_at self.old ≡ Some (coming_meant coming) }
         requires due { coming.key.value ≤ℤ pos self.old.presentation.now }
@@ -594,7 +598,7 @@ impl<T: Table> Cells<T> {
 fn fill_group(
     past: &Past,
     moment: i64,
-    coming: Coming,
+    coming: DueChange,
     entries: &mut Vec<Entry>,
 ) -> Result<(), AllocError>
     requires element { has_element past.now.document.nodes coming.key.serial ≡ true }

@@ -3,7 +3,7 @@
 ghost use Rattle.std.specs.Prelude.{◌≡◌, ◌≤◌, length, take, IfOk};
 ghost use Rattle.smil_model.specs.diary.Diary.{last_moment as model_last_moment};
 ghost use Rattle.smil_laws.specs.Cut.{is_logged as is_logged_step, logged};
-ghost use Rattle.smil_cells.specs.Standing.{cut_log};
+ghost use Rattle.smil_cells.specs.CellsState.{cut_log};
 
 use smil_diary::Book;
 use smil_model::{Duplicate, Log, Step};

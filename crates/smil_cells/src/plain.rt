@@ -4,15 +4,15 @@ ghost use Rattle.std.specs.Prelude.{◌≡◌, ◌≤◌, true, OnOk, OnErr, IfO
 ghost use Rattle.smil_model.specs.diary.Lawful.{has_element};
 ghost use Rattle.smil_past.specs.Past.{IsPresent, history_of};
 ghost use Rattle.smil_cells.specs.Plain.{IsCurrent};
-ghost use Rattle.smil_cells.specs.Round.{AreOfElements, IsNoted, IsTaken, StayUnchanged, due_in, with_key};
+ghost use Rattle.smil_cells.specs.Round.{AreOfElements, IsNoted, IsRowEvaluated, StayUnchanged, due_in, with_key};
 
-pub mod known;
+pub mod current_rows;
 
 use super::cells::Cells;
 use super::table::{Since, Table};
-use known::{CurrentRows, Row, row_of};
+use current_rows::{CurrentRow, CurrentRows, row_of};
 use smil_due::DueQueue;
-use smil_element::{Coming, Intervals, Present, Room};
+use smil_element::{DueChange, Intervals, Present, Room};
 use smil_model::{Duplicate, Interval, Serials, Steps};
 use smil_past::Past;
 use std::alloc::{AllocError, Global};
@@ -34,7 +34,7 @@ pub struct PlainTable {
 }
 
 impl Drop for PlainTable {
-    // Dropped by a call of its own, so that no function that lets one go drops it field by field.
+    // Dropped by a call of its own, not field by field in each function that drops one.
     fn drop(self) {
         let PlainTable {
             known: _known,
@@ -92,7 +92,7 @@ impl Table for PlainTable {
         self.known.interval(who)
     }
 
-    fn first(&self) -> Option<Coming> {
+    fn first(&self) -> Option<DueChange> {
         self.known.coming(self.due.least()?)
     }
 
@@ -188,7 +188,7 @@ impl PlainTable {
         requires element { has_element present.now.past.now.document.nodes present.now.who ≡ true }
         requires moment { IsPresent present.now.past.now present.now.moment }
         requires of_elements { AreOfElements present.now.past.now.document.nodes self.old.known }
-        ensures taken { OnOk result (IsTaken (history_of present.now.past.now) present.now.moment
+        ensures taken { OnOk result (IsRowEvaluated (history_of present.now.past.now) present.now.moment
             present.now.who self.old.known self.new.known) }
         ensures changed { OnOk result (StayUnchanged changed.old changed.new self.old.known
             self.new.known) }
@@ -216,7 +216,7 @@ fn is_same(a: Option<Interval>, b: Option<Interval>) -> bool
 }
 
 // The keys of what comes of the elements that have these rows.
-fn due_of(alloc: Global, rows: &[Row]) -> Result<DueQueue, AllocError>
+fn due_of(alloc: Global, rows: &[CurrentRow]) -> Result<DueQueue, AllocError>
     ensures { IfOk result (λ due. due ≡ due_in rows.now) }
 {
     let mut due = DueQueue::new(alloc);
@@ -228,7 +228,7 @@ fn due_of(alloc: Global, rows: &[Row]) -> Result<DueQueue, AllocError>
 }
 
 // Puts in the key of what comes, if something does.
-fn put_key(due: &mut DueQueue, coming: Option<Coming>) -> Result<(), AllocError>
+fn put_key(due: &mut DueQueue, coming: Option<DueChange>) -> Result<(), AllocError>
     ensures { OnOk result (due.new ≡ with_key due.old coming) }
 {
     if let Some(coming) = coming {

@@ -10,9 +10,9 @@ ghost use Rattle.smil_model.specs.reach.Bounds.{reaches};
 ghost use Rattle.smil_laws.specs.Same.{IsSame};
 ghost use Rattle.smil_element.specs.Parts.{coming_meant};
 ghost use Rattle.smil_past.specs.Past.{IsPresent, front, history_of};
-ghost use Rattle.smil_cells.specs.Standing.{WhereTold, any_interval, fresh};
+ghost use Rattle.smil_cells.specs.CellsState.{WhereTold, any_interval, fresh};
 
-use smil_element::Coming;
+use smil_element::DueChange;
 use smil_model::{Interval, Serials, Steps};
 use smil_past::Past;
 use std::alloc::{AllocError, Global};
@@ -95,7 +95,7 @@ pub trait Table: Drop {
             → result ≡ current_interval h now who };
 
     /// What comes first; None exactly where nothing comes. It takes no memory.
-    fn first(&self) -> Option<Coming>
+    fn first(&self) -> Option<DueChange>
         ensures { (h : History) (now : ℤ) → is_current self.now h now
             → option_map coming_meant result ≡ first_coming (coming h now) };
 

@@ -9,7 +9,7 @@ use Rattle.smil_model.specs.declared.diary.Step.TheVariants.{Began, Repeated, En
 use Rattle.smil_model.specs.declared.diary.StepKind.TheVariants as kind
 use Rattle.smil_model.specs.declared.document.Node.{Node}
 use Rattle.smil_model.specs.diary.Diary.{History, gives_birth, later_place, iteration_after, iteration_from, is_step, last_step}
-use Rattle.smil_model.specs.diary.Plays.{Plays, Mark, FinishedInterval, plays, play_after, is_birth_under, finish_with}
+use Rattle.smil_model.specs.diary.Plays.{Plays, PlayEdge, FinishedInterval, plays, play_after, is_birth_under, finish_with}
 use Rattle.smil_model.specs.diary.Clocks.{outer}
 use Rattle.smil_model.specs.document.Document.{time_parent, serial_of}
 use Rattle.smil_diary.proofs.LastPlaces.{fold-fusion, last-drop, drop_place}
@@ -56,7 +56,7 @@ births-same : (node : Option Node) (step : Step) → is_birth_under node step �
 births-same None step = refl
 births-same (Some p) step = refl
 
-finish-counts : (present : Option Mark) (finish : Mark) (was_cut : Bool) (done : List FinishedInterval)
+finish-counts : (present : Option PlayEdge) (finish : PlayEdge) (was_cut : Bool) (done : List FinishedInterval)
     → length (finish_with present finish was_cut done) ≡ length done + (if is_some present then 1 else 0)
 finish-counts None finish was_cut done = omega arith
 finish-counts (Some begin) finish was_cut done = grind (arith, length-append)
@@ -64,14 +64,14 @@ finish-counts (Some begin) finish was_cut done = grind (arith, length-append)
 abbrev made : Bool → ℕ → Tally
 made playing finished = record { playing = playing; finished = finished }
 
-began-by : (c : Bool) (begin : Mark) (so_far : Plays) →
+began-by : (c : Bool) (begin : PlayEdge) (so_far : Plays) →
     tally_of (if c then record { present = Some begin; finished = so_far.finished } else so_far)
     ≡ (if c then made true (length so_far.finished) else tally_of so_far)
 unfolding tally_of
 began-by true begin so_far = refl
 began-by false begin so_far = refl
 
-end-by : (c : Bool) (finish : Mark) (was_cut : Bool) (so_far : Plays) →
+end-by : (c : Bool) (finish : PlayEdge) (was_cut : Bool) (so_far : Plays) →
     tally_of (if c then record { present = None; finished = finish_with so_far.present finish was_cut so_far.finished } else so_far)
     ≡ (if c then play_ends (tally_of so_far) else tally_of so_far)
 unfolding tally_of

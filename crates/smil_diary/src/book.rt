@@ -29,7 +29,7 @@ pub struct Book {
 }
 
 impl Drop for Book {
-    // Dropped by a call of its own, so that no function that lets one go drops it field by field.
+    // Dropped by a call of its own, not field by field in each function that drops one.
     fn drop(self) {
         let Book {
             entries: _entries,

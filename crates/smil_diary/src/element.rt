@@ -28,7 +28,7 @@ pub(crate) struct ElementPlaces {
 }
 
 impl Drop for ElementPlaces {
-    // Dropped by a call of its own, so that no function that lets one go drops it field by field.
+    // Dropped by a call of its own, not field by field in each function that drops one.
     fn drop(self) {
         let ElementPlaces {
             began: _began,

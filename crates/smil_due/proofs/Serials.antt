@@ -13,7 +13,7 @@ use Rattle.smil_model.specs.diary.Diary.{History, is_active, iteration}
 use Rattle.smil_model.specs.diary.Clocks.{run, stands, outer_stands, play_start, iteration_start}
 use Rattle.smil_model.specs.interval.Durations.{bounds_of, intermediate_end}
 use Rattle.smil_model.specs.interval.Current.{simple_of, current_table, in_table}
-use Rattle.smil_model.specs.happening.Keys.{Change, repeats, Coming, coming_at, coming_begin, coming_end, coming_end_at, coming_repeat, coming_repeat_at, coming_of, coming_from, coming}
+use Rattle.smil_model.specs.happening.Keys.{Change, repeats, DueChange, coming_at, coming_begin, coming_end, coming_end_at, coming_repeat, coming_repeat_at, coming_of, coming_from, coming}
 use Rattle.smil_due.specs.Laws.{HasSerial, KeysHaveSerials}
 
 -- the serial of the element at a place
@@ -23,17 +23,17 @@ serial_at (e ∷ es) zero = e.serial
 serial_at (e ∷ es) (suc place) = serial_at es place
 
 module _ (f : ℕ → ℕ) where
-  abbrev Has : Coming → Type 0
+  abbrev Has : DueChange → Type 0
   Has c = HasSerial f c.key
 
-  choice : (t : Bool) (xs ys : List Coming) → All Has xs → All Has ys → All Has (cond t xs ys)
+  choice : (t : Bool) (xs ys : List DueChange) → All Has xs → All Has ys → All Has (cond t xs ys)
   choice true xs ys a b = a
   choice false xs ys a b = b
 
   none : All Has []
   none = All-nil Has
 
-  one : (c : Coming) → Has c → All Has (c ∷ [])
+  one : (c : DueChange) → Has c → All Has (c ∷ [])
   one c has = All-cons Has c [] has none
 
   module _ (h : History) (intervals : ℕ → Option Interval) (now : ℤ) (place : ℕ) (e : Node) (has : e.serial ≡ f place) where
@@ -56,7 +56,7 @@ module _ (f : ℕ → ℕ) where
         (not (time_le simple (At (pos 0))) && not (time_le (intermediate_end (bounds_of e.attrs) simple (play_start h e.serial) (iteration_start h e.serial) (iteration h e.serial)) (At v)))
         (comes (repeats v) ∷ []) [] (one (comes (repeats v)) has) none
       where
-        comes : Change → Coming
+        comes : Change → DueChange
         comes change = coming_at (now +ℤ (v -ℤ run h e.serial now)) 1 place e change
     repeat_at_has simple Indefinite = none
     repeat_at_has simple Unresolved = none
@@ -91,5 +91,5 @@ keys_have_serials h now =
     let es = elements h.nodes in
     let f = serial_at es in (
       f,
-      All-map (HasSerial f) (λ (c : Coming). c.key) (coming h now) (all_have f h (in_table (current_table h now)) now 0 es (λ k. ap f (omega arith))),
+      All-map (HasSerial f) (λ (c : DueChange). c.key) (coming h now) (all_have f h (in_table (current_table h now)) now 0 es (λ k. ap f (omega arith))),
     )

@@ -17,7 +17,7 @@ use Rattle.smil_element.proofs.Above.{parent_node}
 use Rattle.smil_instances.proofs.Sensitive.{serial_is}
 use Rattle.smil_model.specs.document.Defaults.{effective_fill}
 use Rattle.smil_model.specs.diary.Plays.{FinishedInterval, last_finished}
-use Rattle.smil_past.specs.declared.plays.played.PastInterval.{PastInterval}
+use Rattle.smil_past.specs.declared.plays.facts.PastInterval.{PastInterval}
 use Rattle.smil_past.specs.Played.{past_interval}
 use Rattle.smil_element.specs.Shown.{frozen_at, is_cut}
 

@@ -18,8 +18,8 @@ use Rattle.smil_model.specs.diary.Clocks.{iteration_start}
 use Rattle.smil_model.specs.diary.Plays.{FinishedInterval, first_of, plays}
 use Rattle.smil_model.specs.interval.Current.{child_end, container_implicit, finish_time, implicit_of, is_named_child, media_length}
 use Rattle.smil_model.specs.interval.Durations.{container_duration}
-use Rattle.smil_past.specs.declared.plays.played.PastInterval.{PastInterval}
-use Rattle.smil_past.specs.declared.plays.played.PlayFacts.{PlayFacts}
+use Rattle.smil_past.specs.declared.plays.facts.PastInterval.{PastInterval}
+use Rattle.smil_past.specs.declared.plays.facts.PlayFacts.{PlayFacts}
 use Rattle.smil_past.specs.Played.{past_interval, played}
 use Rattle.smil_element.specs.declared.endings.Ending.{Ending}
 use Rattle.smil_instance_rows.specs.Places.{last_alone}

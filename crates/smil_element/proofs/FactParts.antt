@@ -12,14 +12,14 @@ use Rattle.smil_model.specs.declared.document.Restart.{Restart}
 use Rattle.smil_model.specs.document.Defaults.{restart_of, min_of, max_of}
 use Rattle.smil_model.specs.diary.Diary.{History, is_active, is_alive, is_deferred, iteration}
 use Rattle.smil_model.specs.diary.Clocks.{play_start, iteration_start, parent_start}
-use Rattle.smil_model.specs.diary.Plays.{Mark, FinishedInterval, plays, last_finished, passed}
+use Rattle.smil_model.specs.diary.Plays.{PlayEdge, FinishedInterval, plays, last_finished, passed}
 use Rattle.smil_model.specs.interval.Current.{present_play, facts_of, finish_time, end_list_of, simple_of}
-use Rattle.smil_past.specs.declared.plays.played.PastInterval.{PastInterval}
+use Rattle.smil_past.specs.declared.plays.facts.PastInterval.{PastInterval}
 use Rattle.smil_past.specs.Played.{past_interval}
 use Rattle.smil_element.specs.Element.{interval_in, shift_of}
 
 -- the play of a begin
-abbrev pub play_of : History → ℕ → ℤ → Mark → Play
+abbrev pub play_of : History → ℕ → ℤ → PlayEdge → Play
 play_of h s now begin = record {
   begin = begin.value;
   first = play_start h s;
@@ -29,7 +29,7 @@ play_of h s now begin = record {
 }
 
 module _ (h : History) (who : ℕ) (now : ℤ) (e : Node) (same : e.serial ≡ who) where
-  abbrev told_play : ℕ → Bool → Option Mark → Option Play
+  abbrev told_play : ℕ → Bool → Option PlayEdge → Option Play
   told_play s active present = cond active (option_map (play_of h s now) present) None
 
   at_who : told_play who (is_active h.diary who) (plays h who).present ≡ present_play h now e
@@ -38,18 +38,18 @@ module _ (h : History) (who : ℕ) (now : ℤ) (e : Node) (same : e.serial ≡ w
   pub play_idle : (t : Bool) → t ≡ is_active h.diary who → t ≡ false → None ≡ present_play h now e
   play_idle t told off = sym (ap (λ b. told_play who b (plays h who).present) (sym told ∙ off)) ∙ at_who
 
-  pub play_unbegun : (o : Option ℤ) → o ≡ option_map (λ (m : Mark). m.value) (plays h who).present → o ≡ None → None ≡ present_play h now e
+  pub play_unbegun : (o : Option ℤ) → o ≡ option_map (λ (m : PlayEdge). m.value) (plays h who).present → o ≡ None → None ≡ present_play h now e
   play_unbegun o told none = by (plays h who).present refl told (is_active h.diary who) refl
     where
-      by : (p : Option Mark) → (plays h who).present ≡ p → o ≡ option_map (λ (m : Mark). m.value) p → (t : Bool) → is_active h.diary who ≡ t → None ≡ present_play h now e
+      by : (p : Option PlayEdge) → (plays h who).present ≡ p → o ≡ option_map (λ (m : PlayEdge). m.value) p → (t : Bool) → is_active h.diary who ≡ t → None ≡ present_play h now e
       by None is q true active = sym (ap (λ b. told_play who b (plays h who).present) active ∙ ap (told_play who true) is) ∙ at_who
       by None is q false active = sym (ap (λ b. told_play who b (plays h who).present) active) ∙ at_who
       by (Some m) is q t active = cc
 
-  pub play_begun : (t : Bool) (o : Option ℤ) (begin first start : ℤ) (number : ℕ) (shift : Option ℤ) → t ≡ is_active h.diary who → t ≡ true → o ≡ option_map (λ (m : Mark). m.value) (plays h who).present → o ≡ Some begin → first ≡ play_start h who → start ≡ iteration_start h who → number ≡ iteration h who → shift ≡ shift_of h who now → Some (record { begin = begin; first = first; start = start; iteration = number; shift = shift }) ≡ present_play h now e
+  pub play_begun : (t : Bool) (o : Option ℤ) (begin first start : ℤ) (number : ℕ) (shift : Option ℤ) → t ≡ is_active h.diary who → t ≡ true → o ≡ option_map (λ (m : PlayEdge). m.value) (plays h who).present → o ≡ Some begin → first ≡ play_start h who → start ≡ iteration_start h who → number ≡ iteration h who → shift ≡ shift_of h who now → Some (record { begin = begin; first = first; start = start; iteration = number; shift = shift }) ≡ present_play h now e
   play_begun t o begin first start number shift told on begun some first_is start_is number_is shift_is = by (plays h who).present refl begun
     where
-      by : (p : Option Mark) → (plays h who).present ≡ p → o ≡ option_map (λ (m : Mark). m.value) p → Some (record { begin = begin; first = first; start = start; iteration = number; shift = shift }) ≡ present_play h now e
+      by : (p : Option PlayEdge) → (plays h who).present ≡ p → o ≡ option_map (λ (m : PlayEdge). m.value) p → Some (record { begin = begin; first = first; start = start; iteration = number; shift = shift }) ≡ present_play h now e
       by None is q = cc
       by (Some m) is q =
           let value : begin ≡ m.value = cc in

@@ -11,11 +11,11 @@ use Rattle.smil_model.specs.Times.{later_time, time_le}
 use Rattle.smil_model.specs.interval.Durations.{Bounds, bounds_of, intermediate_end}
 use Rattle.smil_model.specs.diary.Diary.{History, is_active, iteration}
 use Rattle.smil_model.specs.diary.Clocks.{run, to_document, stands, outer_stands, iteration_start, play_start}
-use Rattle.smil_model.specs.happening.Keys.{Change, Coming, ends, repeats, is_repeating, coming_at, coming_begin, coming_end, coming_end_at, coming_repeat_at}
-use Rattle.smil_element.specs.declared.happening.change.Coming.{Coming as Moved}
+use Rattle.smil_model.specs.happening.Keys.{Change, DueChange, ends, repeats, is_repeating, coming_at, coming_begin, coming_end, coming_end_at, coming_repeat_at}
+use Rattle.smil_element.specs.declared.happening.change.DueChange.{DueChange as Moved}
 use Rattle.smil_element.specs.Element.{and_coming, both, coming_by, goes_on, moved_by, repeat_by}
 
-abbrev pub keyed : ℤ → ℕ → ℕ → ℕ → Change → Coming
+abbrev pub keyed : ℤ → ℕ → ℕ → ℕ → Change → DueChange
 keyed value class place s change = record {
   key = record { value = value; class = class; position = place; serial = s; repeat = is_repeating change };
   change = change;
@@ -34,13 +34,13 @@ module _ (h : History) (who : ℕ) (e : Node) (same : e.serial ≡ who) where
       ∙ ap (coming_end_at h now place e begin) (sym ends_at)
 
   -- the repeat, while the own clock runs
-  abbrev repeat_at : Time → ℤ → ℕ → ℕ → List Coming
+  abbrev repeat_at : Time → ℤ → ℕ → ℕ → List DueChange
   repeat_at simple now place k = coming_repeat_at h now place e simple (later_time simple (iteration_start h k))
 
   abbrev may : ℕ → Bool
   may k = (is_some e.attrs.repeat_count || is_some e.attrs.repeat_dur) && not (stands h k)
 
-  pub repeat_is : (simple : Time) (now : ℤ) (place : ℕ) (t : Bool) (cs : List Coming) → t ≡ may who → cs ≡ cond t (repeat_at simple now place who) [] → cs ≡ repeat_by h simple now place e
+  pub repeat_is : (simple : Time) (now : ℤ) (place : ℕ) (t : Bool) (cs : List DueChange) → t ≡ may who → cs ≡ cond t (repeat_at simple now place who) [] → cs ≡ repeat_by h simple now place e
   repeat_is simple now place t cs may_be told =
       told ∙ ap (λ b. cond b (repeat_at simple now place who) []) may_be
       ∙ ap (λ k. cond (may k) (repeat_at simple now place k) []) (sym same)
@@ -54,14 +54,14 @@ pub and_not : (a b r : Bool) → r ≡ a → r ≡ false → r ≡ (a && not b)
 and_not a b r p t = rw (← p, t)
 
 -- one after another
-pub one_then : (first : Option Moved) (cs : List Coming) → and_coming first cs ≡ and_coming first [] ++ cs
+pub one_then : (first : Option Moved) (cs : List DueChange) → and_coming first cs ≡ and_coming first [] ++ cs
 one_then None cs = refl
 one_then (Some c) cs = refl
 
-abbrev ends_or_none : History → Option Interval → ℤ → ℕ → Node → List Coming
+abbrev ends_or_none : History → Option Interval → ℤ → ℕ → Node → List DueChange
 ends_or_none h interval now place e = cond (outer_stands h e.serial) [] (coming_end h now place e interval)
 
-abbrev begins_or_none : History → Option Interval → ℤ → ℕ → Node → List Coming
+abbrev begins_or_none : History → Option Interval → ℤ → ℕ → Node → List DueChange
 begins_or_none h interval now place e = cond (outer_stands h e.serial) [] (coming_begin h now place e interval)
 
 -- what comes of an active element, and of another

@@ -15,7 +15,7 @@ use Rattle.smil_model.specs.document.Document.{time_parent}
 use Rattle.smil_model.specs.diary.Diary.{History, deferral, deferral_after, is_active, is_alive, since_birth}
 use Rattle.smil_model.specs.diary.Lawful.{is_rising_from, IsLawful}
 use Rattle.smil_model.specs.diary.Clocks.{run, outer, outer_under, to_document}
-use Rattle.smil_model.specs.diary.Plays.{Mark, FinishedInterval, Plays, finish_with, play_after, is_birth_under, plays, last_finished}
+use Rattle.smil_model.specs.diary.Plays.{PlayEdge, FinishedInterval, Plays, finish_with, play_after, is_birth_under, plays, last_finished}
 use Rattle.smil_model.specs.shown.Views.{document_value, deferred_begin, finished_values, present_begin}
 use Rattle.smil_laws.specs.Near.{AllNear, HasNear}
 use Rattle.smil_laws.proofs.Aside.{each_both, each_drop}
@@ -65,7 +65,7 @@ timed h lawful near = each_both (λ (x : Entry). IsMoment x.moment) (λ (x : Ent
 
 -- ---- marks
 
-pub record IsMarkNear (m : Mark) : Type 0 where
+pub record IsMarkNear (m : PlayEdge) : Type 0 where
   pub value : IsNear m.value
   pub moment : IsMoment m.moment
 
@@ -73,7 +73,7 @@ pub record IsFinishedNear (f : FinishedInterval) : Type 0 where
   pub begin : IsMarkNear f.begin
   pub finish : IsMarkNear f.finish
 
-abbrev IsPresentNear : Option Mark → Type 0
+abbrev IsPresentNear : Option PlayEdge → Type 0
 IsPresentNear None = Unit {0}
 IsPresentNear (Some m) = IsMarkNear m
 
@@ -85,7 +85,7 @@ one_more : (fs : List FinishedInterval) (f : FinishedInterval) → AllByRecursio
 one_more [] f each is = (is, tt)
 one_more (g ∷ gs) f each is = (each.0, one_more gs f each.1 is)
 
-finish_near : (o : Option Mark) (k : Mark) (cut : Bool) (fs : List FinishedInterval) → IsPresentNear o → IsMarkNear k → AllByRecursion IsFinishedNear fs → AllByRecursion IsFinishedNear (finish_with o k cut fs)
+finish_near : (o : Option PlayEdge) (k : PlayEdge) (cut : Bool) (fs : List FinishedInterval) → IsPresentNear o → IsMarkNear k → AllByRecursion IsFinishedNear fs → AllByRecursion IsFinishedNear (finish_with o k cut fs)
 finish_near None k cut fs is at each = each
 finish_near (Some b) k cut fs is at each = one_more fs _ each (record { begin = is; finish = at })
 
@@ -129,13 +129,13 @@ module _ (h : History) (s : ℕ) where
     plays_near = fold_near h.diary (record { present = None; finished = [] }) (timed h lawful near) (record { present = tt; finished = tt })
 
     -- the begin of the present play, the last finished interval and a deferred begin, in document time
-    mark_within : (m : Mark) → IsMarkNear m → IsCarried (document_value h s m)
+    mark_within : (m : PlayEdge) → IsMarkNear m → IsCarried (document_value h s m)
     mark_within m is = document_within h s m.value m.moment is.value is.moment
 
     pub begun_within : ForSome (present_begin h s) IsCarried
     begun_within = by (is_active h.diary s) (plays h s).present plays_near.present
       where
-        by : (t : Bool) (o : Option Mark) → IsPresentNear o → ForSome (cond t (option_map (document_value h s) o) None) IsCarried
+        by : (t : Bool) (o : Option PlayEdge) → IsPresentNear o → ForSome (cond t (option_map (document_value h s) o) None) IsCarried
         by true None is = none_for IsCarried
         by true (Some m) is = one_for IsCarried (document_value h s m) (mark_within m is)
         by false o is = none_for IsCarried

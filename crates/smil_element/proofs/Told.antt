@@ -15,7 +15,7 @@ use Rattle.smil_graph.proofs.Answered.{element_at, only_element}
 use Rattle.smil_element.proofs.Above.{parent_node}
 use Rattle.smil_instances.proofs.Targets.{element_in, known_node, attrs_of, restart_told}
 use Rattle.smil_instances.proofs.Sensitive.{serial_is}
-use Rattle.smil_past.specs.declared.plays.played.PlayFacts.{PlayFacts}
+use Rattle.smil_past.specs.declared.plays.facts.PlayFacts.{PlayFacts}
 use Rattle.smil_past.specs.Played.{played, played_at}
 
 -- the fill that the tree tells is the element's

@@ -22,7 +22,7 @@ use Rattle.smil_model.specs.diary.Plays.{FinishedInterval, plays, last_finished}
 use Rattle.smil_model.specs.shown.Views.{deferred_begin, finished_values, is_displaced, is_frozen_by, keeps, present_begin, shown_begin, shown_end, state_by, view_by, view_facts, was_cut}
 use Rattle.smil_fill.specs.Numbers.{IsTimeCarried}
 use Rattle.smil_laws.specs.Near.{IsIntervalNear, IsTimeNear}
-use Rattle.smil_past.specs.declared.plays.played.PastInterval.{PastInterval}
+use Rattle.smil_past.specs.declared.plays.facts.PastInterval.{PastInterval}
 use Rattle.smil_past.specs.Played.{past_interval}
 use Rattle.smil_element.specs.Shown.{is_cut, minds, shown_last}
 use Rattle.smil_element.proofs.Near.{none_for, one_for}

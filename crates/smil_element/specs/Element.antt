@@ -12,8 +12,8 @@ use Rattle.smil_model.specs.interval.Durations.{Bounds, intermediate_end}
 use Rattle.smil_model.specs.interval.Current.{interval_given, simple_of}
 use Rattle.smil_model.specs.happening.Keys as model
 use Rattle.smil_model.specs.happening.Keys.{coming_begin, coming_end, coming_repeat_at}
-use Rattle.smil_past.specs.declared.plays.played.PastInterval.{PastInterval}
-use Rattle.smil_element.specs.declared.happening.change.Coming.{Coming}
+use Rattle.smil_past.specs.declared.plays.facts.PastInterval.{PastInterval}
+use Rattle.smil_element.specs.declared.happening.change.DueChange.{DueChange}
 use Rattle.smil_element.specs.Parts.{coming_meant}
 use Rattle.smil_element.specs.declared.evaluation.Evaluation.{Evaluation}
 
@@ -38,28 +38,28 @@ goes_on bounds simple play over =
     && not (time_le (intermediate_end bounds simple play.first play.start play.iteration) (At over))
 
 -- what comes of an element by its own interval and simple duration
-abbrev pub repeat_by : History → Time → ℤ → ℕ → Node → List model.Coming
+abbrev pub repeat_by : History → Time → ℤ → ℕ → Node → List model.DueChange
 repeat_by h simple now place e =
     if (is_some e.attrs.repeat_count || is_some e.attrs.repeat_dur) && not (stands h e.serial)
     then coming_repeat_at h now place e simple (later_time simple (iteration_start h e.serial))
     else []
 
-abbrev pub moved_by : History → Option Interval → ℤ → ℕ → Node → List model.Coming
+abbrev pub moved_by : History → Option Interval → ℤ → ℕ → Node → List model.DueChange
 moved_by h interval now place e =
     if is_active h.diary e.serial
     then (if outer_stands h e.serial then [] else coming_end h now place e interval)
     else (if outer_stands h e.serial then [] else coming_begin h now place e interval)
 
-abbrev pub coming_by : History → Option Interval → Time → ℤ → ℕ → Node → List model.Coming
+abbrev pub coming_by : History → Option Interval → Time → ℤ → ℕ → Node → List model.DueChange
 coming_by h interval simple now place e =
     if is_active h.diary e.serial
     then (if outer_stands h e.serial then [] else coming_end h now place e interval) ++ repeat_by h simple now place e
     else (if outer_stands h e.serial then [] else coming_begin h now place e interval)
 
 -- at most one begin or end, and at most one repeat
-abbrev pub and_coming : Option Coming → List model.Coming → List model.Coming
+abbrev pub and_coming : Option DueChange → List model.DueChange → List model.DueChange
 and_coming None cs = cs
 and_coming (Some c) cs = coming_meant c ∷ cs
 
-abbrev pub both : Option Coming → Option Coming → List model.Coming
+abbrev pub both : Option DueChange → Option DueChange → List model.DueChange
 both first second = and_coming first (and_coming second [])

@@ -18,7 +18,7 @@ use Rattle.smil_stretch.specs.Clocks.{AreClocksOf}
 use Rattle.smil_past.specs.Queues.{AreQueuesOf}
 use Rattle.smil_element.specs.declared.happening.change.Change.{Change}
 use Rattle.smil_element.specs.declared.happening.change.Change.TheVariants.{Begins, Ends, Repeats}
-use Rattle.smil_element.specs.declared.happening.change.Coming.{Coming}
+use Rattle.smil_element.specs.declared.happening.change.DueChange.{DueChange}
 use Rattle.smil_element.specs.declared.happening.parts.Parts.{Parts}
 
 -- the change that a value of the program stands for
@@ -27,7 +27,7 @@ meant (Begins begin) = begins begin
 meant (Ends finish) = ends finish
 meant (Repeats start) = repeats start
 
-abbrev pub coming_meant : Coming → model.Coming
+abbrev pub coming_meant : DueChange → model.DueChange
 coming_meant c = record { key = c.key; change = meant c.change }
 
 -- the parts are those of a history, at a moment that is not before its last entry

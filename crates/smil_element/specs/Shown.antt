@@ -5,7 +5,7 @@ use Rattle.smil_model.specs.declared.document.Fill.TheVariants.{Freeze}
 use Rattle.smil_model.specs.document.Document.{is_element, lineage}
 use Rattle.smil_model.specs.diary.Diary.{History}
 use Rattle.smil_model.specs.shown.Views.{is_frozen_in}
-use Rattle.smil_past.specs.declared.plays.played.PastInterval.{PastInterval}
+use Rattle.smil_past.specs.declared.plays.facts.PastInterval.{PastInterval}
 
 -- whether the element with this serial is frozen; false where there is none
 abbrev pub frozen_at : History → Option ℕ → Bool

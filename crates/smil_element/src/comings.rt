@@ -17,7 +17,7 @@ ghost use Rattle.smil_element.specs.Parts.{coming_meant};
 
 use super::evaluation::Evaluation;
 use super::facts::{attrs_of, parent_of, played_of};
-use super::happening::{Change, Coming};
+use super::happening::{Change, DueChange};
 use super::present::Present;
 use smil_duration::Bounds;
 use smil_model::{Attrs, Interval, Key, Play, Time, later};
@@ -25,15 +25,15 @@ use smil_past::Past;
 
 /// What comes of an element: its begin or its end, and its repeat.
 #[derive(Clone, Copy, Debug)]
-pub struct Comings {
-    pub moved: Option<Coming>,
-    pub repeat: Option<Coming>,
+pub struct DueChanges {
+    pub moved: Option<DueChange>,
+    pub repeat: Option<DueChange>,
 }
 
 /// What comes of an element by its interval and its simple duration, at a moment: its begin, or its
 /// end and its repeat. `place` is its place among the elements in document order, from 0. The
 /// numbers of the interval are from -10^12 to 10^12. It takes no memory.
-pub fn comings_of(present: &Present<'_>, place: u32, made: &Evaluation) -> Comings
+pub fn comings_of(present: &Present<'_>, place: u32, made: &Evaluation) -> DueChanges
     requires element { has_element present.now.past.now.document.nodes present.now.who ≡ true }
     requires moment { IsPresent present.now.past.now present.now.moment }
     requires near { IfSome made.now.interval IsIntervalNear }
@@ -48,14 +48,14 @@ pub fn comings_of(present: &Present<'_>, place: u32, made: &Evaluation) -> Comin
     } else {
         None
     };
-    Comings {
+    DueChanges {
         moved: moved_of(present, place, made.interval),
         repeat,
     }
 }
 
 // The end of an active element, and the begin of another, while the time parent's clock runs.
-fn moved_of(present: &Present<'_>, place: u32, interval: Option<Interval>) -> Option<Coming>
+fn moved_of(present: &Present<'_>, place: u32, interval: Option<Interval>) -> Option<DueChange>
     requires moment { IsPresent present.now.past.now present.now.moment }
     requires near { IfSome interval IsIntervalNear }
     ensures { (e : AnyNode)
@@ -75,7 +75,7 @@ fn moved_of(present: &Present<'_>, place: u32, interval: Option<Interval>) -> Op
 }
 
 // The begin of an interval, in class 2.
-fn begin_of(present: &Present<'_>, place: u32, interval: Interval) -> Coming
+fn begin_of(present: &Present<'_>, place: u32, interval: Interval) -> DueChange
     requires moment { IsPresent present.now.past.now present.now.moment }
     requires near { IsIntervalNear interval }
     ensures { (e : AnyNode)
@@ -85,7 +85,7 @@ fn begin_of(present: &Present<'_>, place: u32, interval: Interval) -> Coming
         (Some interval) }
 {
     let clocks = present.past.clocks();
-    Coming {
+    DueChange {
         key: Key {
             value: clocks.to_document(present.who, interval.begin, present.moment),
             class: 2,
@@ -100,7 +100,7 @@ fn begin_of(present: &Present<'_>, place: u32, interval: Interval) -> Coming
 }
 
 // The end of an interval that is a number: in class 1, and in class 3 where the length is 0.
-fn end_of(present: &Present<'_>, place: u32, interval: Interval) -> Option<Coming>
+fn end_of(present: &Present<'_>, place: u32, interval: Interval) -> Option<DueChange>
     requires moment { IsPresent present.now.past.now present.now.moment }
     requires near { IsIntervalNear interval }
     ensures { (e : AnyNode)
@@ -113,7 +113,7 @@ fn end_of(present: &Present<'_>, place: u32, interval: Interval) -> Option<Comin
         return None;
     };
     let clocks = present.past.clocks();
-    Some(Coming {
+    Some(DueChange {
         key: Key {
             value: clocks.to_document(present.who, end, present.moment),
             class: if interval.begin < end { 1 } else { 3 },
@@ -126,7 +126,7 @@ fn end_of(present: &Present<'_>, place: u32, interval: Interval) -> Option<Comin
 }
 
 // The repeat of an active element, while its own clock runs.
-fn repeat_of(present: &Present<'_>, place: u32, simple: Time) -> Option<Coming>
+fn repeat_of(present: &Present<'_>, place: u32, simple: Time) -> Option<DueChange>
     requires element { has_element present.now.past.now.document.nodes present.now.who ≡ true }
     requires moment { IsPresent present.now.past.now present.now.moment }
     ensures { (e : AnyNode)
@@ -160,7 +160,7 @@ fn repeats(attrs: &Attrs) -> bool
 
 // The repeat of an element that may repeat, where its iteration ends at a number and another
 // follows.
-fn repeat_at(present: &Present<'_>, place: u32, simple: Time) -> Option<Coming>
+fn repeat_at(present: &Present<'_>, place: u32, simple: Time) -> Option<DueChange>
     requires element { has_element present.now.past.now.document.nodes present.now.who ≡ true }
     requires moment { IsPresent present.now.past.now present.now.moment }
     ensures { (e : AnyNode)
@@ -176,7 +176,7 @@ fn repeat_at(present: &Present<'_>, place: u32, simple: Time) -> Option<Coming>
     if !goes_on(bounds_of(present.past, present.who), simple, &play, over) {
         return None;
     }
-    Some(Coming {
+    Some(DueChange {
         key: Key {
             value: moment_of(present, over),
             class: 1,

@@ -10,7 +10,7 @@ ghost use Rattle.smil_model.specs.document.Defaults.{endsync_of};
 ghost use Rattle.smil_model.specs.diary.Lawful.{has_element};
 ghost use Rattle.smil_model.specs.interval.Current.{child_end, is_named_child};
 ghost use Rattle.smil_model.specs.interval.Durations.{container_duration};
-ghost use Rattle.smil_past.specs.declared.plays.played.PastInterval.{PastInterval as AnyPast};
+ghost use Rattle.smil_past.specs.declared.plays.facts.PastInterval.{PastInterval as AnyPast};
 ghost use Rattle.smil_past.specs.Past.{history_of};
 ghost use Rattle.smil_instance_rows.specs.Places.{last_alone};
 ghost use Rattle.smil_element.specs.Endings.{ending_by};

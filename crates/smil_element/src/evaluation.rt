@@ -14,7 +14,7 @@ ghost use Rattle.smil_past.specs.Syncs.{is_empty, syncs_of};
 ghost use Rattle.smil_past.specs.Past.{IsPresent, history_of};
 ghost use Rattle.smil_element.specs.Element.{IsEvaluated};
 
-use super::expected::{Reading, is_settled, pour_begins, pour_ends};
+use super::expected::{EvaluationInput, is_settled, pour_begins, pour_ends};
 use super::facts::{attrs_of, facts_of, kind_of, played_of};
 use super::intervals::{Container, Containers, Intervals};
 use super::present::Present;
@@ -78,7 +78,7 @@ pub fn evaluation_of<J: Containers, L: Ledger>(
     let past = present.past;
     let who = present.who;
     let simple = simple_duration(past, intervals, who, &mut room.children)?;
-    let reading = Reading {
+    let reading = EvaluationInput {
         past,
         intervals,
         moment: present.moment,
@@ -97,7 +97,7 @@ pub fn evaluation_of<J: Containers, L: Ledger>(
 // Fills a list with the begin instance times of an element; where the diary alone gives them the
 // list stays as it is.
 fn fill_begins<J: Intervals>(
-    reading: &Reading<J>,
+    reading: &EvaluationInput<J>,
     who: u32,
     times: &mut Vec<i64>,
 ) -> Result<(), AllocError>
@@ -117,7 +117,7 @@ fn fill_begins<J: Intervals>(
 // Fills a list with the end instance times of an element; where the diary alone gives them the
 // list stays as it is.
 fn fill_ends<J: Intervals>(
-    reading: &Reading<J>,
+    reading: &EvaluationInput<J>,
     who: u32,
     times: &mut Vec<Time>,
 ) -> Result<(), AllocError>

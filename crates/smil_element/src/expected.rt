@@ -22,7 +22,7 @@ use std::alloc::AllocError;
 /// What an evaluation reads: what has happened, the intervals of the elements, and the present
 /// moment, in milliseconds of document time.
 #[derive(Drop)]
-pub struct Reading<'a, J: Intervals> {
+pub struct EvaluationInput<'a, J: Intervals> {
     pub past: &'a Past,
     pub intervals: &'a J,
     pub moment: i64,
@@ -31,7 +31,11 @@ pub struct Reading<'a, J: Intervals> {
 /// The time that an item of an element gives by the interval of the element that it waits for; None
 /// where that has no interval, where its begin is meant and has happened, where its end is meant
 /// and is no number, and where one of the two clocks stands. It takes no memory.
-pub fn expected<J: Intervals>(reading: &Reading<J>, who: u32, sync: Syncbase) -> Option<Time>
+pub fn expected<J: Intervals>(
+    reading: &EvaluationInput<J>,
+    who: u32,
+    sync: Syncbase,
+) -> Option<Time>
     requires { IsPresent reading.now.past.now reading.now.moment }
     ensures { option_to_list result ≡ expected_times (history_of reading.now.past.now)
         (J.given reading.now.intervals.now) reading.now.moment who sync.of sync.offset sync.edge }
@@ -48,7 +52,7 @@ pub fn expected<J: Intervals>(reading: &Reading<J>, who: u32, sync: Syncbase) ->
 }
 
 // The begin of an interval before it has happened, or its end where that is a number.
-fn edge_value<J: Intervals>(reading: &Reading<J>, sync: Syncbase) -> Option<i64>
+fn edge_value<J: Intervals>(reading: &EvaluationInput<J>, sync: Syncbase) -> Option<i64>
     ensures value { result ≡ interval_edge sync.edge (is_active reading.now.past.now.diary sync.of)
         (J.given reading.now.intervals.now sync.of) }
     ensures near { IfSome result IsNear }
@@ -72,7 +76,7 @@ fn edge_value<J: Intervals>(reading: &Reading<J>, sync: Syncbase) -> Option<i64>
 /// The begin instance times of an element, in rising order: those that the diary gives, with the
 /// expected ones in their places. Refused where memory runs out.
 pub fn pour_begins<J: Intervals>(
-    reading: &Reading<J>,
+    reading: &EvaluationInput<J>,
     who: u32,
     times: &mut Vec<i64>,
 ) -> Result<(), AllocError>
@@ -91,7 +95,7 @@ pub fn pour_begins<J: Intervals>(
 /// The end instance times of an element, in rising order: those that the diary gives, with the
 /// expected ones in their places. Refused where memory runs out.
 pub fn pour_ends<J: Intervals>(
-    reading: &Reading<J>,
+    reading: &EvaluationInput<J>,
     who: u32,
     times: &mut Vec<Time>,
 ) -> Result<(), AllocError>
@@ -120,7 +124,7 @@ pub fn is_settled(past: &Past, who: u32, side: Edge) -> bool
 // Puts the expected times of an element by what its items wait for in their places among rising
 // ones.
 fn pour<T: Instant, J: Intervals>(
-    reading: &Reading<J>,
+    reading: &EvaluationInput<J>,
     who: u32,
     syncs: &[Syncbase],
     times: &mut Vec<T>,

@@ -9,7 +9,7 @@ use Rattle.smil_model.specs.declared.times.Time.{Time}
 use Rattle.smil_model.specs.declared.times.Time.TheVariants.{Unresolved}
 use Rattle.smil_model.specs.declared.interval.ChildEnd.{ChildEnd}
 use Rattle.smil_model.specs.interval.Durations.{named_end}
-use Rattle.smil_endsync.specs.declared.ends.Summary.{Summary}
+use Rattle.smil_endsync.specs.declared.ends.EndSummary.{EndSummary}
 use Rattle.smil_endsync.specs.Ends.{one_end, set_ends, AreSummed}
 
 abbrev is_named : ChildEnd → Bool
@@ -46,7 +46,7 @@ sums_set (c ∷ cs) zero end' = refl
 sums_set (c ∷ cs) (suc k) end' = ap (λ rest. one_end c ∷ rest) (sums_set cs k end')
 
 -- after the ends of a child are put
-pub summed_next : (children : List ChildEnd) (named : Option ℕ) (old : List Summary) (child : ℕ) (first latest : Option Time) (own : ChildEnd) → AreSummed children named old → own ≡ get_or children child own → child < length children → AreSummed (set children child (record { named = own.named; first = first; latest = latest })) named (set old child (one_end (record { named = own.named; first = first; latest = latest })))
+pub summed_next : (children : List ChildEnd) (named : Option ℕ) (old : List EndSummary) (child : ℕ) (first latest : Option Time) (own : ChildEnd) → AreSummed children named old → own ≡ get_or children child own → child < length children → AreSummed (set children child (record { named = own.named; first = first; latest = latest })) named (set old child (one_end (record { named = own.named; first = first; latest = latest })))
 summed_next children named old child first latest own was is within = record {
   own =
       ap (λ xs. set xs child (one_end (record { named = own.named; first = first; latest = latest }))) was.own

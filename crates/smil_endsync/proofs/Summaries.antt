@@ -7,13 +7,13 @@ use Rattle.smil_model.specs.declared.times.Time.TheVariants.{Unresolved}
 use Rattle.smil_model.specs.declared.interval.ChildEnd.{ChildEnd}
 use Rattle.smil_model.specs.Times.{least_time, greatest_time}
 use Rattle.smil_model.specs.interval.Durations.{first_end}
-use Rattle.smil_endsync.specs.declared.ends.Summary.{Summary}
+use Rattle.smil_endsync.specs.declared.ends.EndSummary.{EndSummary}
 use Rattle.smil_endsync.specs.Known.{greatest_known}
 use Rattle.smil_model.specs.Tournaments.{IsSum}
 use Rattle.smil_endsync.specs.Ends.{no_ends, one_end, both_ends}
 use Rattle.smil_endsync.proofs.Orders.{least_grouped, known_grouped, known_behind, least_before, least_behind, least_from, known_from, greatest_from}
 
-both_grouped : (a b c : Summary) → both_ends (both_ends a b) c ≡ both_ends a (both_ends b c)
+both_grouped : (a b c : EndSummary) → both_ends (both_ends a b) c ≡ both_ends a (both_ends b c)
 both_grouped a b c =
     λ i. record {
       first = least_grouped a.first b.first c.first i;
@@ -21,19 +21,19 @@ both_grouped a b c =
       all = known_grouped a.all b.all c.all i;
     }
 
-none_before : (a : Summary) → both_ends no_ends a ≡ a
+none_before : (a : EndSummary) → both_ends no_ends a ≡ a
 none_before a = λ i. record { first = least_before a.first i; latest = a.latest; all = a.all }
 
-none_behind : (a : Summary) → both_ends a no_ends ≡ a
+none_behind : (a : EndSummary) → both_ends a no_ends ≡ a
 none_behind a =
     λ i. record { first = least_behind a.first i; latest = known_behind a.latest i; all = known_behind a.all i }
 
 -- what groups come to, one behind the other
-abbrev pub sum_of : List Summary → Summary
+abbrev pub sum_of : List EndSummary → EndSummary
 sum_of [] = no_ends
 sum_of (s ∷ ss) = both_ends s (sum_of ss)
 
-sum_of_both : (xs ys : List Summary) → sum_of (xs ++ ys) ≡ both_ends (sum_of xs) (sum_of ys)
+sum_of_both : (xs ys : List EndSummary) → sum_of (xs ++ ys) ≡ both_ends (sum_of xs) (sum_of ys)
 sum_of_both [] ys = sym (none_before (sum_of ys))
 sum_of_both (x ∷ xs) ys = ap (both_ends x) (sum_of_both xs ys) ∙ sym (both_grouped x (sum_of xs) (sum_of ys))
 
@@ -42,7 +42,7 @@ sums = record { of_none = refl; of_one = none_behind; of_both = sum_of_both }
 
 -- ---- its parts are the ends by the rules
 
-abbrev all_of : List ChildEnd → Summary
+abbrev all_of : List ChildEnd → EndSummary
 all_of cs = sum_of (map one_end cs)
 
 pub first_is : (cs : List ChildEnd) → (all_of cs).first ≡ first_end cs

@@ -5,15 +5,15 @@ use Rattle.smil_model.specs.declared.times.Time.{Time}
 use Rattle.smil_model.specs.declared.times.Time.TheVariants.{Unresolved}
 use Rattle.smil_model.specs.declared.interval.ChildEnd.{ChildEnd}
 use Rattle.smil_model.specs.Times.{least_time}
-use Rattle.smil_endsync.specs.declared.ends.Summary.{Summary}
+use Rattle.smil_endsync.specs.declared.ends.EndSummary.{EndSummary}
 use Rattle.smil_endsync.specs.Known.{greatest_known}
 
 -- what no children come to
-abbrev pub no_ends : Summary
+abbrev pub no_ends : EndSummary
 no_ends = record { first = Unresolved; latest = None; all = None }
 
 -- what one child comes to
-abbrev pub one_end : ChildEnd → Summary
+abbrev pub one_end : ChildEnd → EndSummary
 one_end c = record {
   first = unwrap_or c.first Unresolved;
   latest = c.latest;
@@ -21,7 +21,7 @@ one_end c = record {
 }
 
 -- what two groups of children come to, one behind the other
-abbrev pub both_ends : Summary → Summary → Summary
+abbrev pub both_ends : EndSummary → EndSummary → EndSummary
 both_ends a b = record {
   first = least_time a.first b.first;
   latest = greatest_known a.latest b.latest;
@@ -35,6 +35,6 @@ set_ends (c ∷ cs) zero first latest = record { named = c.named; first = first;
 set_ends (c ∷ cs) (suc child) first latest = c ∷ set_ends cs child first latest
 
 -- what each child comes to, and which one is named
-pub record AreSummed (children : List ChildEnd) (named : Option ℕ) (summaries : List Summary) : Type 0 where
+pub record AreSummed (children : List ChildEnd) (named : Option ℕ) (summaries : List EndSummary) : Type 0 where
   pub own : summaries ≡ map one_end children
   pub named_is : named ≡ position (λ (c : ChildEnd). c.named) children

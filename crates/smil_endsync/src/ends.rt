@@ -16,7 +16,7 @@ use std::marker::Model;
 
 /// What the ends of children side by side come to.
 #[derive(Clone, Copy, Debug, PartialEq, Eq)]
-pub struct Summary {
+pub struct EndSummary {
     /// The least of the first ends, none counting as unresolved.
     pub first: Time,
     /// The greatest of the latest ends, where a child has one.
@@ -25,7 +25,7 @@ pub struct Summary {
     pub all: Option<Time>,
 }
 
-impl Contender for Summary {
+impl Contender for EndSummary {
     ghost use Rattle.smil_endsync.specs.Ends.{both_ends, no_ends};
 
     ghost none = { no_ends };
@@ -33,8 +33,8 @@ impl Contender for Summary {
     ghost both = { both_ends };
 
     // What no children come to.
-    fn none() -> Summary {
-        Summary {
+    fn none() -> EndSummary {
+        EndSummary {
             first: Time::Unresolved,
             latest: None,
             all: None,
@@ -42,8 +42,8 @@ impl Contender for Summary {
     }
 
     // What two groups of children come to, one behind the other.
-    fn with(self, behind: Summary) -> Summary {
-        Summary {
+    fn with(self, behind: EndSummary) -> EndSummary {
+        EndSummary {
             first: least(self.first, behind.first),
             latest: greatest_known(self.latest, behind.latest),
             all: greatest_known(self.all, behind.all),
@@ -59,7 +59,7 @@ pub struct Ends {
     /// Which child the container's `endsync` names.
     named: Option<usize>,
     /// What each child comes to.
-    summaries: Tournament<Summary>,
+    summaries: Tournament<EndSummary>,
 }
 
 impl Model for Ends {
@@ -200,10 +200,10 @@ fn named_place(children: &[ChildEnd]) -> Option<usize>
 }
 
 // What one child comes to.
-fn one(end: ChildEnd) -> Summary
+fn one(end: ChildEnd) -> EndSummary
     ensures { result ≡ one_end end }
 {
-    Summary {
+    EndSummary {
         first: end.first.unwrap_or(Time::Unresolved),
         latest: end.latest,
         all: Some(end.latest.unwrap_or(Time::Unresolved)),
@@ -211,7 +211,7 @@ fn one(end: ChildEnd) -> Summary
 }
 
 // What each child comes to.
-fn summaries(alloc: Global, children: &[ChildEnd]) -> Result<Vec<Summary>, AllocError>
+fn summaries(alloc: Global, children: &[ChildEnd]) -> Result<Vec<EndSummary>, AllocError>
     ensures { IfOk result (λ summaries. summaries.items ≡ map one_end children.now) }
 {
     let mut summaries = Vec::with_capacity(alloc, children.len())?;

@@ -9,8 +9,8 @@ use Rattle.smil_model.specs.declared.document.Node.{Node}
 use Rattle.smil_model.specs.diary.Diary.{History, with_entry}
 use Rattle.smil_model.specs.happening.Queue
 use Rattle.smil_model.specs.happening.Queue.{put_paused, put_deferred, is_child_of, queue_after, queue_of}
-use Rattle.smil_excl.specs.declared.held.QueuedChild.{QueuedChild}
-use Rattle.smil_excl.specs.Line.{paused_before, deferred_after, without, ranked}
+use Rattle.smil_excl.specs.declared.queued_child.QueuedChild.{QueuedChild}
+use Rattle.smil_excl.specs.QueueState.{paused_before, deferred_after, without, ranked}
 use Rattle.smil_excl.specs.Laws.{held_of, held_after}
 use Rattle.smil_excl.proofs.Line.{paused_is_put, deferred_is_put, without_is_without}
 

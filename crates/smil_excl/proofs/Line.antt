@@ -7,16 +7,16 @@ use Rattle.std.specs.List.{insert, position_or_len}
 use Rattle.smil_model.specs.declared.document.Node.{Node}
 use Rattle.smil_model.specs.happening.Queue
 use Rattle.smil_model.specs.happening.Queue.{rank, put_paused, put_deferred}
-use Rattle.smil_excl.specs.declared.held.QueuedChild.{QueuedChild}
-use Rattle.smil_excl.specs.Line.{Line, put_before, paused_before, deferred_after, without, ranked}
+use Rattle.smil_excl.specs.declared.queued_child.QueuedChild.{QueuedChild}
+use Rattle.smil_excl.specs.QueueState.{QueueState, put_before, paused_before, deferred_after, without, ranked}
 
-abbrev line : List QueuedChild → ℕ → Line
+abbrev line : List QueuedChild → ℕ → QueueState
 line held room = record { held = held; room = room }
 
 -- a change of what is held, seen from outside
-pub changed : (change : List QueuedChild → List QueuedChild) (now : Line) (inside after : List QueuedChild) (room : ℕ) → line inside room ≡ now → after ≡ change inside → line after room ≡ line (change now.held) now.room
+pub changed : (change : List QueuedChild → List QueuedChild) (now : QueueState) (inside after : List QueuedChild) (room : ℕ) → line inside room ≡ now → after ≡ change inside → line after room ≡ line (change now.held) now.room
 changed change now inside after room seen made =
-    ap (λ held. line held room) made ∙ ap (λ (now : Line). line (change now.held) now.room) seen
+    ap (λ held. line held room) made ∙ ap (λ (now : QueueState). line (change now.held) now.room) seen
 
 -- the place of what isn't there is the length
 pub or_length : (p : QueuedChild → Bool) (held : List QueuedChild) → unwrap_or (position p held) (length held) ≡ position_or_len p held

@@ -9,8 +9,8 @@ use Rattle.smil_model.specs.declared.document.Node.{Node}
 use Rattle.smil_model.specs.diary.Diary.{History}
 use Rattle.smil_model.specs.happening.Queue.{is_child_of, queue_after}
 use Rattle.smil_laws.proofs.Lineages.{swap_eqb}
-use Rattle.smil_excl.specs.declared.held.QueuedChild.{QueuedChild}
-use Rattle.smil_excl.specs.Line.{put_before, paused_before, deferred_after, without, holds, ranked}
+use Rattle.smil_excl.specs.declared.queued_child.QueuedChild.{QueuedChild}
+use Rattle.smil_excl.specs.QueueState.{put_before, paused_before, deferred_after, without, holds, ranked}
 use Rattle.smil_excl.specs.Laws.{IsHeldOnce, held_of, held_after}
 use Rattle.smil_excl.proofs.Following.{after_step}
 

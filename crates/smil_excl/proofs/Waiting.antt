@@ -17,8 +17,8 @@ use Rattle.smil_model.specs.happening.Queue.{without, is_child_of, queue_of}
 use Rattle.smil_laws.proofs.Lineages.{swap_eqb}
 use Rattle.smil_laws.proofs.LawfulSteps.{Follow, IsWaiting, all_waiting}
 use Rattle.smil_laws.proofs.Lists.{each_weaker, each_kept}
-use Rattle.smil_excl.specs.Line
-use Rattle.smil_excl.specs.Line.{holds, ranked}
+use Rattle.smil_excl.specs.QueueState
+use Rattle.smil_excl.specs.QueueState.{holds, ranked}
 use Rattle.smil_excl.specs.Laws.{IsHeldOnce, held_of}
 use Rattle.smil_excl.proofs.Line.{without_is_without}
 use Rattle.smil_excl.proofs.Once.{gone, once_waiting, once_without}
@@ -137,7 +137,7 @@ fits h e lawful =
     let most = queue_fits h e lawful in
     omega (arith, same, most)
 
-pub put_in_fits : (h : History) (e who : ℕ) → IsLawful h → has_element h.nodes who ≡ true → is_child_of h.nodes e who ≡ true → length (Line.without who (held_of h e)) < length (time_children h.nodes e)
+pub put_in_fits : (h : History) (e who : ℕ) → IsLawful h → has_element h.nodes who ≡ true → is_child_of h.nodes e who ≡ true → length (QueueState.without who (held_of h e)) < length (time_children h.nodes e)
 put_in_fits h e who lawful known child =
     let same = ap length (without_is_without h.nodes who (queue_of h e)) ∙ length-map (without who (queue_of h e)) (ranked h.nodes) in
     let room = has_room h e who lawful known child in

@@ -8,8 +8,8 @@ use Rattle.smil_model.specs.document.Document.{time_children}
 use Rattle.smil_model.specs.diary.Diary.{History, with_entry}
 use Rattle.smil_model.specs.diary.Lawful.{IsLawful, has_element}
 use Rattle.smil_model.specs.happening.Queue.{queue_of, is_child_of}
-use Rattle.smil_excl.specs.declared.held.QueuedChild.{QueuedChild}
-use Rattle.smil_excl.specs.Line.{paused_before, deferred_after, without, holds, ranked}
+use Rattle.smil_excl.specs.declared.queued_child.QueuedChild.{QueuedChild}
+use Rattle.smil_excl.specs.QueueState.{paused_before, deferred_after, without, holds, ranked}
 
 -- ---- the calls, and the entries of a diary
 

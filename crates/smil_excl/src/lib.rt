@@ -3,11 +3,11 @@
 #![tactic(auto)]
 
 mod decision;
-mod held;
 pub mod laws;
 mod queue;
+mod queued_child;
 
 pub use decision::decide;
-pub use held::QueuedChild;
 pub use queue::Queue;
+pub use queued_child::QueuedChild;
 pub use smil_model::{Act, Class};

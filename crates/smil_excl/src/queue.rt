@@ -2,9 +2,9 @@
 
 ghost use Rattle.std.specs.Prelude.{◌≡◌, ◌<◌, ◌≤◌, nat_le, nat_lt, [], drop, length, slice_get, option_map, IfOk, IfSome, vec_len, vec_capacity};
 ghost use Rattle.std.specs.List.{position};
-ghost use Rattle.smil_excl.specs.Line.{Line, paused_before, deferred_after, without, holds};
+ghost use Rattle.smil_excl.specs.QueueState.{QueueState, paused_before, deferred_after, without, holds};
 
-use super::held::QueuedChild;
+use super::queued_child::QueuedChild;
 use smil_model::Duplicate;
 use std::alloc::{AllocError, Global};
 use std::marker::Model;
@@ -18,7 +18,7 @@ pub struct Queue {
 }
 
 impl Model for Queue {
-    ghost Value = { Line };
+    ghost Value = { QueueState };
 
     ghost view = { λ q. record { held = q.held.items; room = q.room } };
 

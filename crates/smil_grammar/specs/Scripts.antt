@@ -66,9 +66,9 @@ event_of text =
     then Some text else None
 
 -- A reading gives an order, and a clock value that is its last word is looked at after all else.
-pub data Reading : Type 0 where
-  given : Order → Reading
-  timed : Piece → (ℤ → Order) → Reading
+pub data OrderReading : Type 0 where
+  given : Order → OrderReading
+  timed : Piece → (ℤ → Order) → OrderReading
 
 -- a clock value that has no reading is at fault at its first byte
 abbrev pub end_timed : Piece → (ℤ → Order) → Option ℤ → Result Order Refusal
@@ -76,7 +76,7 @@ end_timed word order (Some n) = Ok (order n)
 end_timed word order None = Err (BadValue (word.place + 1))
 
 -- the order of a reading
-abbrev pub finish : Option Reading → Result Order Refusal
+abbrev pub finish : Option OrderReading → Result Order Refusal
 finish None = Err NotACommand
 finish (Some (given order)) = Ok order
 finish (Some (timed word order)) = end_timed word order (option_map pos (clock_within word.text))
@@ -86,19 +86,19 @@ abbrev pub at_end : {A : Type 0} → Piece → A → Option A
 at_end rest x = if is_ended rest then Some x else None
 
 -- one word, the clock value, to the end
-abbrev pub with_clock : (ℤ → Order) → Piece → Option Reading
+abbrev pub with_clock : (ℤ → Order) → Piece → Option OrderReading
 with_clock order line =
     let cut : Piece × Piece = first_of line in
     if length cut.0.text == 0 then None else at_end cut.1 (timed cut.0 order)
 
 -- a word that names an element, and what goes on behind it
-abbrev pub with_who : (Who → Piece → Option Reading) → Piece → Option Reading
+abbrev pub with_who : (Who → Piece → Option OrderReading) → Piece → Option OrderReading
 with_who goes_on line =
     let cut : Piece × Piece = first_of line in
     who_of cut.0.text >>= λ who. goes_on who cut.1
 
 -- `event`: the event's name
-abbrev pub event_line : Who → Piece → Option Reading
+abbrev pub event_line : Who → Piece → Option OrderReading
 event_line who line =
     let cut : Piece × Piece = first_of line in
     event_of cut.0.text >>= λ name. at_end cut.1 (given (order.Event who name))
@@ -111,7 +111,7 @@ attribute_of text =
     else None
 
 -- `unset`: the attribute's name
-abbrev pub unset_line : Who → Piece → Option Reading
+abbrev pub unset_line : Who → Piece → Option OrderReading
 unset_line who line =
     let cut : Piece × Piece = first_of line in
     attribute_of cut.0.text >>= λ name. at_end cut.1 (given (order.Unset who name (cut.0.place + 1)))
@@ -126,14 +126,14 @@ quoted line =
     else None
 
 -- `set`: the attribute's name and the value between quotes
-abbrev pub set_line : Who → Piece → Option Reading
+abbrev pub set_line : Who → Piece → Option OrderReading
 set_line who line =
     let cut : Piece × Piece = first_of line in
     attribute_of cut.0.text >>= λ name. quoted cut.1 >>= λ value.
     Some (given (order.Set who name value.0 (cut.0.place + 1) (value.1.place + 1)))
 
 -- `insert`: a place of 1 to 9 digits, and the node line to the end of the line
-abbrev pub insert_line : Who → Piece → Option Reading
+abbrev pub insert_line : Who → Piece → Option OrderReading
 insert_line who line =
     let cut : Piece × Piece = first_of line in
     let node : Piece = skipped cut.1 in
@@ -146,19 +146,19 @@ abbrev pub key_in : List ℕ → Option ℕ
 key_in (b ∷ []) = if is_key b then Some b else None
 key_in _ = None
 
-abbrev pub key_line : Piece → Option Reading
+abbrev pub key_line : Piece → Option OrderReading
 key_line line =
     let cut : Piece × Piece = first_of line in
     key_in cut.0.text >>= λ key. at_end cut.1 (given (order.Key key))
 
 -- `stack`: the attribute's name
-abbrev pub stack_line : Who → Piece → Option Reading
+abbrev pub stack_line : Who → Piece → Option OrderReading
 stack_line who line =
     let cut : Piece × Piece = first_of line in
     attribute_of cut.0.text >>= λ name. at_end cut.1 (given (order.Stack who name))
 
 -- the order behind a presentation's name, by its first word
-abbrev pub order_line : List ℕ → Piece → Option Reading
+abbrev pub order_line : List ℕ → Piece → Option OrderReading
 order_line verb line =
     if bytes_eq verb (codes "advance") then with_clock order.Advance line
     else (if bytes_eq verb (codes "seek") then with_clock order.Seek line

@@ -3,8 +3,8 @@ use Rattle.std.proofs.Common.{◌≡◌, refl, sym, ◌∙◌, ap, subst, ℕ, �
 use Rattle.std.specs.Prelude.{◌⊎◌, slice_get}
 use Rattle.std.proofs.lemmas.Bool.{cases_lt, cases_eq, eqb-true, eq-eqb}
 use Rattle.std.proofs.lemmas.List.{length-set, length-take-le, length-drop, get_or-take, get_or-drop, get_or-set_same, get_or-set_other, get_or_past}
-use Rattle.smil_graph.specs.declared.components.Mark.{Mark}
-use Rattle.smil_graph.specs.declared.components.Mark.TheVariants.{New, Open, Done}
+use Rattle.smil_graph.specs.declared.components.Visit.{Visit}
+use Rattle.smil_graph.specs.declared.components.Visit.TheVariants.{New, Open, Done}
 use Rattle.smil_model.specs.document.Closure.{has}
 use Rattle.smil_graph.specs.Links.{row, links, LeadsTo, AreBelow}
 use Rattle.smil_graph.specs.Components.{Grouping, IsGrouping, IsFrom, IsMet, StayKnown, mark_at, is_unfinished, marked_all, closed_from, off_path, left}
@@ -15,11 +15,11 @@ use Rattle.smil_model.specs.reach.Reach.{is_option}
 
 -- ---- marks at many places
 
-pub marked_count : (m : Mark) (places : List ℕ) (marks : List Mark) → length (marked_all m places marks) ≡ length marks
+pub marked_count : (m : Visit) (places : List ℕ) (marks : List Visit) → length (marked_all m places marks) ≡ length marks
 marked_count m [] marks = refl
 marked_count m (x ∷ xs) marks = marked_count m xs (set marks x m) ∙ length-set marks x m
 
-marked_not : (m : Mark) (places : List ℕ) (marks : List Mark) (a : ℕ) → has places a ≡ false → mark_at (marked_all m places marks) a ≡ mark_at marks a
+marked_not : (m : Visit) (places : List ℕ) (marks : List Visit) (a : ℕ) → has places a ≡ false → mark_at (marked_all m places marks) a ≡ mark_at marks a
 marked_not m [] marks a q = refl
 marked_not m (x ∷ xs) marks a q = marked_not m xs (set marks x m) a (tail (has xs a) refl) ∙ get_or-set_other marks x a m New other
   where
@@ -30,7 +30,7 @@ marked_not m (x ∷ xs) marks a q = marked_not m xs (set marks x m) a (tail (has
     tail true r = let never : true ≡ false = sym (in_tail x xs a r) ∙ q in absurd (cc)
     tail false r = r
 
-marked_in : (m : Mark) (places : List ℕ) (marks : List Mark) (a : ℕ) → AreBelow (length marks) places → has places a ≡ true → mark_at (marked_all m places marks) a ≡ m
+marked_in : (m : Visit) (places : List ℕ) (marks : List Visit) (a : ℕ) → AreBelow (length marks) places → has places a ≡ true → mark_at (marked_all m places marks) a ≡ m
 marked_in m [] marks a low q = cc
 marked_in m (x ∷ xs) marks a low q = step (has xs a) refl (marked_in m xs (set marks x m) a (λ i r. omega (arith, low i (in_tail x xs i r), length-set marks x m)))
   where
@@ -42,12 +42,12 @@ marked_in m (x ∷ xs) marks a low q = step (has xs a) refl (marked_in m xs (set
     step true r later = later r
     step false r later = by_case r (head_or_tail x xs a q)
 
-all_fewer : (k : ℕ) (places : List ℕ) (marks : List Mark) → count_by is_unfinished (marked_all (Done k) places marks) ≤ count_by is_unfinished marks
+all_fewer : (k : ℕ) (places : List ℕ) (marks : List Visit) → count_by is_unfinished (marked_all (Done k) places marks) ≤ count_by is_unfinished marks
 all_fewer k [] marks = omega arith
 all_fewer k (x ∷ xs) marks = omega (arith, all_fewer k xs (set marks x (Done k)), done_few marks x k)
 
 -- where the first of the places was open, less are not done
-first_fewer : (k : ℕ) (places : List ℕ) (marks : List Mark) (q : ℕ) → 0 < length places → AreBelow (length marks) places → mark_at marks (get_or places 0 0) ≡ Open q → count_by is_unfinished (marked_all (Done k) places marks) < count_by is_unfinished marks
+first_fewer : (k : ℕ) (places : List ℕ) (marks : List Visit) (q : ℕ) → 0 < length places → AreBelow (length marks) places → mark_at marks (get_or places 0 0) ≡ Open q → count_by is_unfinished (marked_all (Done k) places marks) < count_by is_unfinished marks
 first_fewer k [] marks q l low e = absurd (omega (arith, l))
 first_fewer k (x ∷ xs) marks q l low e = omega (arith, all_fewer k xs (set marks x (Done k)), done_fewer marks x q k (low x (is_head x xs x refl)) e)
 
@@ -125,7 +125,7 @@ module _ (rows : List (List ℕ)) (g : Grouping) (s : IsGrouping rows g) where
       abbrev number : ℕ
       number = g.closed
 
-      abbrev marks : List Mark
+      abbrev marks : List Visit
       marks = marked_all (Done number) (drop p g.members) g.marks
 
       abbrev AreClosed : ℕ → Type 0
@@ -219,7 +219,7 @@ module _ (rows : List (List ℕ)) (g : Grouping) (s : IsGrouping rows g) where
       Follows a b m = (k : ℕ) × (mark_at marks b ≡ Done k) × (k ≤ m) × (k ≡ m → LeadsTo rows b a)
 
       -- a link that was met leads to the group, or to one that was done before
-      inside : (a b q m : ℕ) → m ≡ number → p ≤ q → mark_at g.marks a ≡ Open q → (t : Mark) → mark_at g.marks b ≡ t → IsMet g.starts q t → Follows a b m
+      inside : (a b q m : ℕ) → m ≡ number → p ≤ q → mark_at g.marks a ≡ Open q → (t : Visit) → mark_at g.marks b ≡ t → IsMet g.starts q t → Follows a b m
       inside a b q m same l e New f is = absurd is
       inside a b q m same l e (Open k) f is =
           (number, now_done b k f (is p (top_listed g.starts p start) l) (closed_or b), omega (arith, same), λ eq. s.leads b a k q f e (λ x r low. omega (arith, start_low x r, l)))

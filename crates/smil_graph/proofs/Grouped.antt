@@ -4,8 +4,8 @@ use Rattle.std.specs.Prelude.{◌⊎◌, slice_get}
 use Rattle.std.proofs.lemmas.Bool.{cases_lt, cases_eq}
 use Rattle.std.proofs.lemmas.List.Sums.{sum_by-set}
 use Rattle.std.proofs.lemmas.List.{length-set, length_push, get_or-set_same, get_or-set_other, get_or_past, set_past}
-use Rattle.smil_graph.specs.declared.components.Mark.{Mark}
-use Rattle.smil_graph.specs.declared.components.Mark.TheVariants.{New, Open, Done}
+use Rattle.smil_graph.specs.declared.components.Visit.{Visit}
+use Rattle.smil_graph.specs.declared.components.Visit.TheVariants.{New, Open, Done}
 use Rattle.smil_model.specs.document.Closure.{has}
 use Rattle.smil_graph.specs.Links.{row, links, LeadsTo}
 use Rattle.smil_graph.specs.Components.{Grouping, IsGrouping, IsFrom, IsMet, StayKnown, mark_at, is_unfinished, opened, merged, followed, without_above, links_left}
@@ -25,27 +25,27 @@ two_ways rows a b c f g = λ test at kept. g test (f test at kept) kept
 
 -- ---- groups
 
-pub met_within : (starts starts' : List ℕ) (p : ℕ) (m : Mark) → ((s : ℕ) → has starts' s ≡ true → s ≤ p → has starts s ≡ true) → IsMet starts p m → IsMet starts' p m
+pub met_within : (starts starts' : List ℕ) (p : ℕ) (m : Visit) → ((s : ℕ) → has starts' s ≡ true → s ≤ p → has starts s ≡ true) → IsMet starts p m → IsMet starts' p m
 met_within starts starts' p New within n = n
 met_within starts starts' p (Open q) within n = λ s r l. n s (within s r l) l
 met_within starts starts' p (Done k) within n = tt
 
 -- ---- how many places are not done
 
-abbrev weight : Mark → ℕ
+abbrev weight : Visit → ℕ
 weight m = cond (is_unfinished m) 1 0
 
-pub opened_few : (marks : List Mark) (a p : ℕ) → a < length marks → mark_at marks a ≡ New → count_by is_unfinished (set marks a (Open p)) ≡ count_by is_unfinished marks
+pub opened_few : (marks : List Visit) (a p : ℕ) → a < length marks → mark_at marks a ≡ New → count_by is_unfinished (set marks a (Open p)) ≡ count_by is_unfinished marks
 opened_few marks a p l e = omega (arith, sum_by-set weight marks a (Open p) New l, ap weight e)
 
-pub done_few : (marks : List Mark) (a k : ℕ) → count_by is_unfinished (set marks a (Done k)) ≤ count_by is_unfinished marks
+pub done_few : (marks : List Visit) (a k : ℕ) → count_by is_unfinished (set marks a (Done k)) ≤ count_by is_unfinished marks
 done_few marks a k = by_case (cases_lt a (length marks))
   where
     by_case : (a < length marks) ⊎ (length marks ≤ a) → count_by is_unfinished (set marks a (Done k)) ≤ count_by is_unfinished marks
     by_case (inl l) = omega (arith, sum_by-set weight marks a (Done k) New l)
     by_case (inr l) = rw (set_past marks a (Done k) l) (omega arith)
 
-pub done_fewer : (marks : List Mark) (a p k : ℕ) → a < length marks → mark_at marks a ≡ Open p → count_by is_unfinished (set marks a (Done k)) < count_by is_unfinished marks
+pub done_fewer : (marks : List Visit) (a p k : ℕ) → a < length marks → mark_at marks a ≡ Open p → count_by is_unfinished (set marks a (Done k)) < count_by is_unfinished marks
 done_fewer marks a p k l e = omega (arith, sum_by-set weight marks a (Done k) New l, ap weight e)
 
 module _ (rows : List (List ℕ)) (g : Grouping) (s : IsGrouping rows g) where
@@ -133,14 +133,14 @@ module _ (rows : List (List ℕ)) (g : Grouping) (s : IsGrouping rows g) where
         by_bool false r = r
 
     -- a place that is new or done was so before
-    unless_open : (a : ℕ) (m : Mark) → (Open n ≡ m → ⊥) → mark_at (opened g place).marks a ≡ m → mark_at g.marks a ≡ m
+    unless_open : (a : ℕ) (m : Visit) → (Open n ≡ m → ⊥) → mark_at (opened g place).marks a ≡ m → mark_at g.marks a ≡ m
     unless_open a m o q = by_mark (mark_of a)
       where
         by_mark : IsMarked a → mark_at g.marks a ≡ m
         by_mark (inl e) = absurd (o (sym e.1 ∙ q))
         by_mark (inr e) = sym e.1 ∙ q
 
-    pub still_marked : (m : Mark) (a : ℕ) → (New ≡ m → ⊥) → mark_at g.marks a ≡ m → mark_at (opened g place).marks a ≡ m
+    pub still_marked : (m : Visit) (a : ℕ) → (New ≡ m → ⊥) → mark_at g.marks a ≡ m → mark_at (opened g place).marks a ≡ m
     still_marked m a o q = by_mark (mark_of a)
       where
         by_mark : IsMarked a → mark_at (opened g place).marks a ≡ m

@@ -19,7 +19,7 @@ use Rattle.smil_model.specs.document.Dependencies.{feeds, feeds_node, has_implic
 use Rattle.smil_model.specs.document.Valid.{IsDistinct}
 use Rattle.smil_model.specs.reach.Reach.{is_option}
 use Rattle.smil_graph.specs.declared.ordered.Rank.{Rank}
-use Rattle.smil_graph.specs.Graph.{follows_unlooped, GoesForward, IsOrder}
+use Rattle.smil_graph.specs.Graph.{follows_unlooped, GoesForward, IsGraphOrder}
 use Rattle.smil_graph.specs.Tables.{AreElementLevels, with_serial, serials_of_places}
 use Rattle.smil_model.specs.document.Closure.{has}
 use Rattle.smil_graph.specs.Links.{row}
@@ -379,7 +379,7 @@ module _ (nodes : List Node) (distinct : IsDistinct nodes) (tps : List (Option �
             let never : true ≡ false = sym below ∙ above in
             absurd (cc)
 
-    pub order_is : IsOrder nodes (serials_of_places nodes (map (λ (r : Rank). r.place) sorted))
+    pub order_is : IsGraphOrder nodes (serials_of_places nodes (map (λ (r : Rank). r.place) sorted))
     order_is = record {
       all = rw (elements_map, order_map) (IsPermutation-map serial ranks sorted moved);
       forward = forward;

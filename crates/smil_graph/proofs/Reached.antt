@@ -6,7 +6,7 @@ use Rattle.std.proofs.lemmas.Bool.{or_left, or_right, or_cases}
 use Rattle.std.proofs.lemmas.Map.Steps.{length-le_from_distinct_below}
 use Rattle.indexmap.specs.IndexSet.{insert_all}
 use Rattle.smil_model.specs.document.Closure.{has}
-use Rattle.smil_graph.specs.Links.{row, links, AreBelow, StayBelow, IsKept, IsReached}
+use Rattle.smil_graph.specs.Links.{row, links, AreBelow, StayBelow, IsKeptAlongLinks, IsReached}
 use Rattle.smil_graph.proofs.Lists.{has_get, index_of, has_more, longer_more, front_more, distinct_more}
 
 -- the links of the first places of the set have been followed
@@ -15,7 +15,7 @@ pub record IsSearch (rows : List (List ℕ)) (starts places : List ℕ) (next : 
   pub distinct : IsDistinct nat_eq places
   pub below : AreBelow (length rows) places
   pub followed : (k j : ℕ) → k < next → has (row rows (get_or places k 0)) j ≡ true → has places j ≡ true
-  pub least : (test : ℕ → Bool) → ((i : ℕ) → has starts i ≡ true → test i ≡ true) → IsKept rows test → (i : ℕ) → has places i ≡ true → test i ≡ true
+  pub least : (test : ℕ → Bool) → ((i : ℕ) → has starts i ≡ true → test i ≡ true) → IsKeptAlongLinks rows test → (i : ℕ) → has places i ≡ true → test i ≡ true
   pub within : next ≤ length places
 
 module _ (rows : List (List ℕ)) (starts : List ℕ) where
@@ -62,7 +62,7 @@ module _ (rows : List (List ℕ)) (starts : List ℕ) where
           has_more places is j
           ∙ or_right _ _ (sym (ap (λ p. has (row rows p) j) (front_more places is k (omega (arith, same, l)) ∙ ap (λ m. get_or places m 0) same)) ∙ q)
 
-      by_least : (test : ℕ → Bool) → ((i : ℕ) → has starts i ≡ true → test i ≡ true) → IsKept rows test → (i : ℕ) → (has places i ≡ true) ⊎ (has is i ≡ true) → test i ≡ true
+      by_least : (test : ℕ → Bool) → ((i : ℕ) → has starts i ≡ true → test i ≡ true) → IsKeptAlongLinks rows test → (i : ℕ) → (has places i ≡ true) ⊎ (has is i ≡ true) → test i ≡ true
       by_least test at kept i (inl q) = s.least test at kept i q
       by_least test at kept i (inr q) = kept (get_or places next 0) i (s.least test at kept (get_or places next 0) (has_get places next l)) q
 

@@ -4,8 +4,8 @@ use Rattle.std.specs.Prelude.{◌⊎◌, slice_get, slice_index}
 use Rattle.std.proofs.lemmas.Bool.{cases_lt}
 use Rattle.std.proofs.lemmas.List.Sums.{count_by-le-length}
 use Rattle.std.proofs.lemmas.List.{get_or-set_same, get_or-replicate, length-replicate, get_or_past, nil_from_length, get_or-map, length-map}
-use Rattle.smil_graph.specs.declared.components.Mark.{Mark}
-use Rattle.smil_graph.specs.declared.components.Mark.TheVariants.{New, Open, Done}
+use Rattle.smil_graph.specs.declared.components.Visit.{Visit}
+use Rattle.smil_graph.specs.declared.components.Visit.TheVariants.{New, Open, Done}
 use Rattle.smil_model.specs.document.Closure.{has}
 use Rattle.smil_graph.specs.Links.{row, links, LeadsTo, StayBelow, AreLevels}
 use Rattle.smil_graph.specs.Components.{Grouping, IsGrouping, mark_at, opened, merged, met, followed, left, links_left, untouched, level_of, is_new, is_unfinished, IsStep}
@@ -47,7 +47,7 @@ module _ (rows : List (List ℕ)) (below : StayBelow (length rows) rows) (g : Gr
     from_last : (x : ℕ) → x ≤ p → x ≤ length g.members
     from_last x l = omega (arith, l, top_stands)
 
-    step : (m : Mark) → mark_at g.marks target ≡ m → IsStep rows g (followed (met g target m) place)
+    step : (m : Visit) → mark_at g.marks target ≡ m → IsStep rows g (followed (met g target m) place)
     step New e = record {
       grouping = followed_kept rows (opened g target) (opened_kept rows g s target target_below e led) p place (still_marked rows g s target target_below e led (Open p) place (λ c. cc) here) more
           (rw (get_or-set_same g.marks target (Open (length g.members)) New (omega (arith, target_below, s.marks_count))) (λ x r l. from_last x l));
@@ -140,7 +140,7 @@ module _ (count : ℕ) where
     first = λ l. absurd (omega (arith, l));
   }
 
-pub from_is_new : (m : Mark) → is_new m ≡ true → m ≡ New
+pub from_is_new : (m : Visit) → is_new m ≡ true → m ≡ New
 from_is_new New e = refl
 from_is_new (Open p) e = cc
 from_is_new (Done m) e = cc
@@ -157,7 +157,7 @@ module _ (rows : List (List ℕ)) (g : Grouping) (s : IsGrouping rows g) (closed
   all_done : (a : ℕ) → a < length rows → (m : ℕ) × (mark_at g.marks a ≡ Done m)
   all_done a l = by_mark (mark_at g.marks a) refl
     where
-      by_mark : (m : Mark) → mark_at g.marks a ≡ m → (k : ℕ) × (mark_at g.marks a ≡ Done k)
+      by_mark : (m : Visit) → mark_at g.marks a ≡ m → (k : ℕ) × (mark_at g.marks a ≡ Done k)
       by_mark New e = absurd (known a l e)
       by_mark (Open p) e = absurd (omega (arith, (s.stands a p e).0, ap length closed))
       by_mark (Done k) e = (k, e)

@@ -15,7 +15,7 @@ use Rattle.smil_laws.proofs.Closures.{is_closed, has_set, has_filter}
 use Rattle.smil_laws.proofs.Rounds.{find-serial}
 use Rattle.smil_laws.proofs.Ranks.{filter_has}
 use Rattle.smil_laws.proofs.Lists.{each_at}
-use Rattle.smil_graph.specs.Links.{links, IsKept, IsReached, IsRising}
+use Rattle.smil_graph.specs.Links.{links, IsKeptAlongLinks, IsReached, IsRising}
 use Rattle.smil_graph.specs.Places.{at_place, up, has_element, is_element_at, reads_place, reads_from, IsTable, IsIndex, AreTimeChildren}
 use Rattle.smil_graph.specs.Tables.{AreHeads, AreElements, AreNear, AreOf, reach_of, takes_turns, top_of, serials_of_places}
 use Rattle.smil_graph.proofs.Lists.{has_one}
@@ -120,7 +120,7 @@ module _ (document : Document) (tree : IsNumberedTree document) (index : ℕ →
     within_at (Some y) = is_element y && is_within nodes x.serial y.serial
 
     -- what x holds holds of all elements within it, if it is kept along the rows
-    spread : (test : ℕ → Bool) → test px ≡ true → IsKept children test → (k j : ℕ) → j < k → (y : Node) → slice_get nodes j ≡ Some y → is_element y ≡ true → is_within nodes x.serial y.serial ≡ true → test j ≡ true
+    spread : (test : ℕ → Bool) → test px ≡ true → IsKeptAlongLinks children test → (k j : ℕ) → j < k → (y : Node) → slice_get nodes j ≡ Some y → is_element y ≡ true → is_within nodes x.serial y.serial ≡ true → test j ≡ true
     spread test begun kept zero j l y at is q = absurd (omega (arith, l))
     spread test begun kept (suc k) j l y at is q =
         by_case (or_cases (y.serial == x.serial) (within_of x.serial (at_place nodes (up tps j))) (sym (within_time j y at) ∙ q)) (λ i less z at' is' r. spread test begun kept k i (omega (arith, less, l)) z at' is' r)
@@ -139,7 +139,7 @@ module _ (document : Document) (tree : IsNumberedTree document) (index : ℕ →
                     let parent : time_parent nodes y.serial ≡ Some z = table.node j y at ∙ ap (at_place nodes) u ∙ a in
                     kept i j (later i (table.before j i u) z a (find_true is_element (ancestors nodes y.serial) z parent) w) (is_linked i j y at is u)
 
-    within_kept : IsKept children (λ j. within_at (slice_get nodes j))
+    within_kept : IsKeptAlongLinks children (λ j. within_at (slice_get nodes j))
     within_kept i j t q = by_nodes (slice_get nodes i) (slice_get nodes j) refl refl t
       where
         by_nodes : (a b : Option Node) → slice_get nodes i ≡ a → slice_get nodes j ≡ b → within_at a ≡ true → within_at (slice_get nodes j) ≡ true
@@ -311,7 +311,7 @@ module _ (document : Document) (tree : IsNumberedTree document) (index : ℕ →
             let is_in : has set m.serial ≡ true = sym (begins.listed k m e is) ∙ q in
             ap reached_at e ∙ and_from _ _ is (has_set (reads nodes) every set m.serial known is_in)
 
-    kept : IsKept heads (λ k. reached_at (slice_get nodes k))
+    kept : IsKeptAlongLinks heads (λ k. reached_at (slice_get nodes k))
     kept k l t q = by_node (slice_get nodes k) refl t
       where
         by_node : (o : Option Node) → slice_get nodes k ≡ o → reached_at (slice_get nodes k) ≡ true → reached_at (slice_get nodes l) ≡ true

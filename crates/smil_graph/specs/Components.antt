@@ -1,7 +1,7 @@
 -- The search for the groups of places that lead to one another.
 use Rattle.std.specs.Prelude.{◌≡◌, ℕ, ◌+◌, ◌-◌, ◌*◌, ◌<◌, ◌≤◌, List, [], ◌∷◌, ◌++◌, length, take, drop, Bool, true, false, ⊤, if◌then◌else◌, nat_lt, count_by, slice_get, slice_set, slice_index, slice_index_or, replicate}
-use Rattle.smil_graph.specs.declared.components.Mark.{Mark}
-use Rattle.smil_graph.specs.declared.components.Mark.TheVariants.{New, Open, Done}
+use Rattle.smil_graph.specs.declared.components.Visit.{Visit}
+use Rattle.smil_graph.specs.declared.components.Visit.TheVariants.{New, Open, Done}
 use Rattle.smil_model.specs.document.Closure.{has}
 use Rattle.smil_graph.specs.Links.{row, links, LeadsTo}
 use Rattle.smil_model.specs.reach.Reach.{is_option}
@@ -9,7 +9,7 @@ use Rattle.smil_model.specs.reach.Reach.{is_option}
 -- how far a search has come
 pub record Grouping : Type 0 where
   -- of each place whether it is new, open (with its position among the members) or done (with the number of its group)
-  pub marks : List Mark
+  pub marks : List Visit
   -- of each place how many of its links were followed
   pub next : List ℕ
   -- the places of the open groups, group by group
@@ -21,14 +21,14 @@ pub record Grouping : Type 0 where
   -- how many groups are done
   pub closed : ℕ
 
-abbrev pub mark_at : List Mark → ℕ → Mark
+abbrev pub mark_at : List Visit → ℕ → Visit
 mark_at marks place = slice_index_or marks place New
 
-abbrev pub is_new : Mark → Bool
+abbrev pub is_new : Visit → Bool
 is_new New = true
 is_new _ = false
 
-abbrev pub is_unfinished : Mark → Bool
+abbrev pub is_unfinished : Visit → Bool
 is_unfinished (Done number) = false
 is_unfinished _ = true
 
@@ -65,7 +65,7 @@ abbrev pub merged : Grouping → ℕ → Grouping
 merged g position = record g { starts = without_above position g.starts }
 
 -- a link to a place with this mark is met
-abbrev pub met : Grouping → ℕ → Mark → Grouping
+abbrev pub met : Grouping → ℕ → Visit → Grouping
 met g place New = opened g place
 met g place (Open position) = merged g position
 met g place (Done number) = g
@@ -74,7 +74,7 @@ met g place (Done number) = g
 abbrev pub followed : Grouping → ℕ → Grouping
 followed g place = record g { next = slice_set g.next place (slice_index g.next place + 1) }
 
-abbrev pub marked_all : Mark → List ℕ → List Mark → List Mark
+abbrev pub marked_all : Visit → List ℕ → List Visit → List Visit
 marked_all mark [] marks = marks
 marked_all mark (place ∷ places) marks = marked_all mark places (slice_set marks place mark)
 
@@ -97,7 +97,7 @@ abbrev pub left : Grouping → ℕ → Grouping
 left g position = if is_option position (slice_get g.starts 0) then closed_from (off_path g) position else off_path g
 
 -- groups that were done later have lower levels
-abbrev pub level_of : ℕ → Mark → ℕ
+abbrev pub level_of : ℕ → Visit → ℕ
 level_of closed (Done number) = closed - number
 level_of closed _ = 0
 
@@ -108,7 +108,7 @@ abbrev pub IsFrom : List ℕ → ℕ → ℕ → Type 0
 IsFrom starts p q = (s : ℕ) → has starts s ≡ true → s ≤ p → s ≤ q
 
 -- a place that a followed link of an open one leads to is done, or in the group of that one, or in a later one
-abbrev pub IsMet : List ℕ → ℕ → Mark → Type 0
+abbrev pub IsMet : List ℕ → ℕ → Visit → Type 0
 IsMet starts p New = ⊥
 IsMet starts p (Open q) = IsFrom starts p q
 IsMet starts p (Done number) = ⊤
@@ -143,7 +143,7 @@ pub record IsGrouping (rows : List (List ℕ)) (g : Grouping) : Type 0 where
   pub first : 0 < length g.members → has g.starts 0 ≡ true
 
 -- no place becomes new again
-abbrev pub StayKnown : List Mark → List Mark → Type 0
+abbrev pub StayKnown : List Visit → List Visit → Type 0
 StayKnown old new = (a : ℕ) → mark_at new a ≡ New → mark_at old a ≡ New
 
 -- ---- the links that are still to be followed

@@ -54,6 +54,6 @@ GoesForward nodes order =
     → follows_unlooped nodes (slice_index_or order i 0) e ≡ true
     → i < j
 
-pub record IsOrder (nodes : List Node) (order : List ℕ) : Type 0 where
+pub record IsGraphOrder (nodes : List Node) (order : List ℕ) : Type 0 where
   pub all : IsPermutation (serials (elements nodes)) order
   pub forward : GoesForward nodes order

@@ -37,19 +37,19 @@ abbrev pub that_have : List (List ℕ) → ℕ → List ℕ
 that_have rows j = filter (λ i. links rows i j) (range_with_len 0 (length rows))
 
 -- along links a test does not become false
-abbrev pub IsKept : List (List ℕ) → (ℕ → Bool) → Type 0
-IsKept rows test = (i j : ℕ) → test i ≡ true → links rows i j ≡ true → test j ≡ true
+abbrev pub IsKeptAlongLinks : List (List ℕ) → (ℕ → Bool) → Type 0
+IsKeptAlongLinks rows test = (i j : ℕ) → test i ≡ true → links rows i j ≡ true → test j ≡ true
 
 -- the places are the starts and, with each place, those to which it is linked, and no others
 pub record IsReached (rows : List (List ℕ)) (starts places : List ℕ) : Type 0 where
   pub begun : (i : ℕ) → has starts i ≡ true → has places i ≡ true
-  pub kept : IsKept rows (has places)
-  pub least : (test : ℕ → Bool) → ((i : ℕ) → has starts i ≡ true → test i ≡ true) → IsKept rows test
+  pub kept : IsKeptAlongLinks rows (has places)
+  pub least : (test : ℕ → Bool) → ((i : ℕ) → has starts i ≡ true → test i ≡ true) → IsKeptAlongLinks rows test
       → (i : ℕ) → has places i ≡ true → test i ≡ true
 
 -- j is i, or links lead from i to j
 abbrev pub LeadsTo : List (List ℕ) → ℕ → ℕ → Type 0
-LeadsTo rows i j = (test : ℕ → Bool) → test i ≡ true → IsKept rows test → test j ≡ true
+LeadsTo rows i j = (test : ℕ → Bool) → test i ≡ true → IsKeptAlongLinks rows test → test j ≡ true
 
 -- no link falls in level, and one that stays on its level can be gone back along links
 pub record AreLevels (rows : List (List ℕ)) (levels : List ℕ) : Type 0 where

@@ -15,7 +15,7 @@ use Rattle.smil_model.specs.FirstPlaces.{AreFirstPlaces}
 use Rattle.smil_graph.specs.declared.tables.Tables.{Tables}
 use Rattle.smil_graph.specs.Links.{row, links, AreRows}
 use Rattle.smil_graph.specs.Places.{reads_place, is_element_at, IsIndex, IsTable, AreTimeChildren}
-use Rattle.smil_graph.specs.Graph.{is_looped_item, readers_of, IsOrder}
+use Rattle.smil_graph.specs.Graph.{is_looped_item, readers_of, IsGraphOrder}
 use Rattle.smil_graph.specs.declared.waiting.TheConstants.{KEYS}
 use Rattle.smil_model.specs.document.Defaults.{items_of, items_or}
 
@@ -141,5 +141,5 @@ pub record AreTables (document : Document) (t : Tables) : Type 0 where
   pub headed : AreHeads document.nodes t.heads.items
   pub read : AreReaders document.nodes t.readers.items
   pub waiting : AreWaiting document.nodes t.waiting.items
-  pub ordered : IsOrder document.nodes t.order
+  pub ordered : IsGraphOrder document.nodes t.order
   pub ranked : AreRanks t.order (get nat_eq t.ranks)

@@ -14,7 +14,7 @@ use std::marker::Model;
 
 /// What is known of a place.
 #[derive(Debug, Clone, Copy)]
-pub enum Mark {
+pub enum Visit {
     /// It was not met yet.
     New,
     /// Its group is open, and it stands at this position among the open places.
@@ -29,7 +29,7 @@ pub enum Mark {
 /// before.
 #[derive(Debug, Drop)]
 pub struct Components {
-    marks: Vec<Mark>,
+    marks: Vec<Visit>,
     /// Of each place how many of its links were followed.
     next: Vec<usize>,
     /// The places of the open groups, group by group.
@@ -56,7 +56,7 @@ impl Components {
         ensures { IfOk result (λ found. found ≡ untouched count) }
     {
         Ok(Components {
-            marks: Vec::from_elem(alloc, Mark::New, count)?,
+            marks: Vec::from_elem(alloc, Visit::New, count)?,
             next: Vec::from_elem(alloc, 0, count)?,
             members: Vec::new(alloc),
             starts: Stack::new(alloc),
@@ -70,7 +70,7 @@ impl Components {
         requires { place < length self.now.marks }
         ensures { result ≡ model.is_new (mark_at self.now.marks place) }
     {
-        matches!(self.marks[place], Mark::New)
+        matches!(self.marks[place], Visit::New)
     }
 
     /// Opens a place, in a group of its own. Where memory runs out the search cannot go on.
@@ -82,7 +82,7 @@ impl Components {
         self.members.push(place)?;
         self.starts.push(position)?;
         self.path.push(position)?;
-        self.marks[place] = Mark::Open(position);
+        self.marks[place] = Visit::Open(position);
         Ok(())
     }
 
@@ -150,9 +150,9 @@ impl Components {
             ≡ followed (met self.old target (mark_at self.old.marks target)) place) }
     {
         match self.marks[target] {
-            Mark::New => self.open_place(target)?,
-            Mark::Open(position) => self.merge_from(position),
-            Mark::Done(_) => (),
+            Visit::New => self.open_place(target)?,
+            Visit::Open(position) => self.merge_from(position),
+            Visit::Done(_) => (),
         }
         self.next[place] += 1;
         Ok(())
@@ -190,7 +190,7 @@ impl Components {
         mark_all(
             &mut self.marks,
             &self.members[start..],
-            Mark::Done(self.closed),
+            Visit::Done(self.closed),
         );
         self.members.truncate(start);
         self.starts.pop();
@@ -212,11 +212,11 @@ impl Components {
 }
 
 // The level of a place by its mark, where so many groups are done.
-fn level(closed: usize, mark: Mark) -> usize
+fn level(closed: usize, mark: Visit) -> usize
     ensures { result ≡ level_of closed mark }
 {
     match mark {
-        Mark::Done(number) => closed.saturating_sub(number),
+        Visit::Done(number) => closed.saturating_sub(number),
         _ => 0,
     }
 }
@@ -234,7 +234,7 @@ fn pop_above(starts: &mut Stack, position: usize)
 }
 
 // Puts the mark at each of the places.
-fn mark_all(marks: &mut Vec<Mark>, places: &[usize], mark: Mark)
+fn mark_all(marks: &mut Vec<Visit>, places: &[usize], mark: Visit)
     requires { AreBelow (length marks.old.items) places.now }
     ensures { marks.new.items ≡ marked_all mark places.now marks.old.items }
 {

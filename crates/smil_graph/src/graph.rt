@@ -5,7 +5,7 @@ ghost use Rattle.std.specs.HashMap.{get};
 ghost use Rattle.std.specs.List.{position};
 ghost use Rattle.smil_model.specs.document.Valid.{IsNumberedTree};
 ghost use Rattle.smil_model.specs.reach.Reach as model;
-ghost use Rattle.smil_graph.specs.Graph.{looped_at, readers_of, IsOrder};
+ghost use Rattle.smil_graph.specs.Graph.{looped_at, readers_of, IsGraphOrder};
 ghost use Rattle.smil_model.specs.declared.document.Node.{Node as AnyNode};
 ghost use Rattle.smil_graph.specs.Tables.{marked_at, row_of, element_place, reach_of, AreElements, AreOf, AreTables};
 ghost use Rattle.smil_graph.specs.Places.{is_element_at};
@@ -31,7 +31,7 @@ pub struct Graph {
 }
 
 impl Drop for Graph {
-    // Dropped by a call of its own, so that no function that lets one go drops it field by field.
+    // Dropped by a call of its own, not field by field in each function that drops one.
     fn drop(self) {
         let Graph {
             doc: _doc,
@@ -122,7 +122,7 @@ impl Graph {
     /// no memory.
     pub fn order(&self) -> &[u32]
         ensures kept { result.now ≡ self.now.order }
-        ensures order { IsOrder self.now.nodes result.now }
+        ensures order { IsGraphOrder self.now.nodes result.now }
     {
         self.tables.order.slice()
     }

@@ -4,7 +4,7 @@ ghost use Rattle.std.specs.Prelude.{◌≡◌, ◌<◌, ℕ, Some, length, map, 
 ghost use Rattle.std.specs.List.{range_with_len};
 ghost use Rattle.smil_model.specs.document.Document.{time_parent};
 ghost use Rattle.smil_model.specs.document.Valid.{IsDistinct};
-ghost use Rattle.smil_graph.specs.Graph.{IsOrder};
+ghost use Rattle.smil_graph.specs.Graph.{IsGraphOrder};
 ghost use Rattle.smil_graph.specs.Tables.{AreElementLevels};
 ghost use Rattle.smil_graph.specs.Places.{up, is_element_at, IsTable};
 ghost use Rattle.smil_graph.specs.Ranks.{rank_of, height_under, AreHeights};
@@ -36,7 +36,7 @@ pub fn ordered(
     requires levels { AreElementLevels doc.now.nodes levels.now }
     requires time_parents { IsTable doc.now.nodes (λ n. time_parent doc.now.nodes n.serial)
         time_parents.now }
-    ensures { IfOk result (λ order. IsOrder doc.now.nodes order) }
+    ensures { IfOk result (λ order. IsGraphOrder doc.now.nodes order) }
 {
     let heights = heights(alloc, time_parents)?;
     let mut ranks = ranks(alloc, doc, levels, heights.as_slice())?;

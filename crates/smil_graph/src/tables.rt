@@ -7,7 +7,7 @@ ghost use Rattle.smil_model.specs.document.Valid.{IsNumberedTree, IsDistinct};
 ghost use Rattle.smil_model.specs.declared.document.Node.{Node};
 ghost use Rattle.smil_graph.specs.Links.{AreRows, StayBelow};
 ghost use Rattle.smil_graph.specs.Places.{IsIndex, feeds_place};
-ghost use Rattle.smil_graph.specs.Graph.{IsOrder};
+ghost use Rattle.smil_graph.specs.Graph.{IsGraphOrder};
 ghost use Rattle.smil_graph.specs.Tables.{AreElementLevels, AreHeads, AreReaders, AreTables, serials_of_places};
 
 use super::feeders::{feeders, sources};
@@ -38,7 +38,7 @@ pub struct Tables {
 }
 
 impl Drop for Tables {
-    // Dropped by a call of its own, so that no function that lets one go drops it field by field.
+    // Dropped by a call of its own, not field by field in each function that drops one.
     fn drop(self) {
         let Tables {
             places: _places,
@@ -95,7 +95,7 @@ pub fn tables_of(alloc: Global, doc: &Doc) -> Result<Tables, AllocError>
 /// What the graph of a document keeps, with the order that other tables of it have.
 pub fn tables_like(alloc: Global, doc: &Doc, other: &Tables) -> Result<Tables, AllocError>
     requires tree { IsNumberedTree doc.now }
-    requires ordered { IsOrder doc.now.nodes other.now.order }
+    requires ordered { IsGraphOrder doc.now.nodes other.now.order }
     ensures tables { IfOk result (λ t. AreTables doc.now t) }
     ensures order { IfOk result (λ t. t.order ≡ other.now.order) }
 {

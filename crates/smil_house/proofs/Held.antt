@@ -6,7 +6,7 @@ use Rattle.std.proofs.lemmas.List.Quantifiers.{position-Some}
 use Rattle.smil_model.specs.declared.order.Order.{Order}
 use Rattle.smil_model.specs.shown.Orders.{Formats}
 use Rattle.smil_house.specs.declared.house.NamedPlayer.{NamedPlayer}
-use Rattle.smil_house.specs.House.{IsAt, IsTurned, place_of}
+use Rattle.smil_house.specs.House.{IsAt, IsReplaced, place_of}
 
 -- what stands at the place that was found
 pub at_found : {P : Type 0} (name : List ℕ) (items held : List (NamedPlayer P)) (found : Option ℕ) (place : ℕ) (h : NamedPlayer P)
@@ -22,7 +22,7 @@ at_found name items held found place h same is some here =
 pub turned_to : {P : Type 0} (formats : P → Formats) (takes : P → Order → Bool) (name : List ℕ) (items held : List (NamedPlayer P)) (found : Option ℕ) (place : ℕ) (h : NamedPlayer P) (player : P)
     → items ≡ held → found ≡ place_of name held → found ≡ Some place → h ≡ slice_index_or items place h
     → formats player ≡ formats h.player → takes player ≡ takes h.player
-    → IsTurned formats takes name held (slice_set items place (record { name = h.name; player = player })) place h (record { name = h.name; player = player })
+    → IsReplaced formats takes name held (slice_set items place (record { name = h.name; player = player })) place h (record { name = h.name; player = player })
 turned_to formats takes name items held found place h player same is some here told taken = record {
   at = at_found name items held found place h same is some here;
   new_is = ap (λ xs. slice_set xs place (record { name = h.name; player = player })) same;

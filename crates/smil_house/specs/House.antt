@@ -40,7 +40,7 @@ pub record IsAt {P : Type 0} (name : List ℕ) (held : List (NamedPlayer P)) (pl
   pub here : slice_get held place ≡ Some h
 
 -- the player at a place is another one, by this name and with these formats and orders; all others are as before
-pub record IsTurned {P : Type 0} (formats : P → Formats) (takes : P → Order → Bool) (name : List ℕ)
+pub record IsReplaced {P : Type 0} (formats : P → Formats) (takes : P → Order → Bool) (name : List ℕ)
     (old new : List (NamedPlayer P)) (place : ℕ) (before after : NamedPlayer P) : Type 0 where
   pub at : IsAt name old place before
   pub new_is : new ≡ slice_set old place after
@@ -55,7 +55,7 @@ pub record IsAnsweredBy {P : Type 0} (formats : P → Formats) (presentation : P
   pub place : ℕ
   pub before : NamedPlayer P
   pub after : NamedPlayer P
-  pub turned : IsTurned formats takes name old new place before after
+  pub turned : IsReplaced formats takes name old new place before after
   pub accepted : Accepts (formats before.player) (presentation before.player) (presentation after.player) given text
   pub moment_is : moment ≡ pos (presentation after.player).now
   pub least_is : AtLeast (least before.player given) rise
@@ -67,7 +67,7 @@ pub record IsKeptBy {P : Type 0} (formats : P → Formats) (presentation : P →
   pub place : ℕ
   pub before : NamedPlayer P
   pub after : NamedPlayer P
-  pub turned : IsTurned formats takes name old new place before after
+  pub turned : IsReplaced formats takes name old new place before after
   pub same : presentation after.player ≡ presentation before.player
 
 abbrev pub AreKept : {P : Type 0} → (P → Formats) → (P → Presentation) → (P → Order → Bool) → List ℕ

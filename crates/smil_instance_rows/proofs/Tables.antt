@@ -9,7 +9,7 @@ use Rattle.smil_model.specs.declared.times.Time.TheVariants as time
 use Rattle.smil_instance_rows.specs.declared.item_times.InstanceTime.{InstanceTime}
 use Rattle.smil_instance_rows.specs.declared.cell.Cell.{Cell}
 use Rattle.smil_instance_rows.specs.declared.cell.Add.{Add}
-use Rattle.smil_instance_rows.specs.Rows.{Row}
+use Rattle.smil_instance_rows.specs.Rows.{ElementTimes}
 use Rattle.smil_instance_rows.specs.Cells.{side_of, list_of, with_list}
 use Rattle.smil_instance_rows.specs.Places.{EndsWith, IsNotAfter}
 use Rattle.smil_instance_rows.specs.Changes.{row_at, no_row, HasCell, cell_of, with_cell, with_add, with_adds, Fits}
@@ -31,47 +31,47 @@ set_back (y ∷ ys) (suc i) d inside = ap (λ zs. y ∷ zs) (set_back ys i d (om
 
 -- ---- a row
 
-list_with : (row : Row) (side : Edge) (item : ℕ) (k : List InstanceTime) → item < length (side_of row side) → list_of (with_list row side item k) side item ≡ k
+list_with : (row : ElementTimes) (side : Edge) (item : ℕ) (k : List InstanceTime) → item < length (side_of row side) → list_of (with_list row side item k) side item ≡ k
 list_with row Begin item k inside = get_set row.begins item k [] inside
 list_with row End item k inside = get_set row.ends item k [] inside
 
-length_with : (row : Row) (side : Edge) (item : ℕ) (k : List InstanceTime) → length (side_of (with_list row side item k) side) ≡ length (side_of row side)
+length_with : (row : ElementTimes) (side : Edge) (item : ℕ) (k : List InstanceTime) → length (side_of (with_list row side item k) side) ≡ length (side_of row side)
 length_with row Begin item k = length-set row.begins item k
 length_with row End item k = length-set row.ends item k
 
-back_row : (row : Row) (side : Edge) (item : ℕ) (k : List InstanceTime) → item < length (side_of row side) → with_list (with_list row side item k) side item (list_of row side item) ≡ row
+back_row : (row : ElementTimes) (side : Edge) (item : ℕ) (k : List InstanceTime) → item < length (side_of row side) → with_list (with_list row side item k) side item (list_of row side item) ≡ row
 back_row row Begin item k inside = ap (λ bs. record { serial = row.serial; begins = bs; ends = row.ends }) (set_set row.begins item k (get_or row.begins item []) ∙ set_back row.begins item [] inside)
 back_row row End item k inside = ap (λ es. record { serial = row.serial; begins = row.begins; ends = es }) (set_set row.ends item k (get_or row.ends item []) ∙ set_back row.ends item [] inside)
 
-list_twice : (row : Row) (side : Edge) (item : ℕ) (k l : List InstanceTime) → with_list (with_list row side item k) side item l ≡ with_list row side item l
+list_twice : (row : ElementTimes) (side : Edge) (item : ℕ) (k l : List InstanceTime) → with_list (with_list row side item k) side item l ≡ with_list row side item l
 list_twice row Begin item k l = ap (λ bs. record { serial = row.serial; begins = bs; ends = row.ends }) (set_set row.begins item k l)
 list_twice row End item k l = ap (λ es. record { serial = row.serial; begins = row.begins; ends = es }) (set_set row.ends item k l)
 
 -- ---- a cell
 
-module _ (rows : List Row) (cell : Cell) (k : List InstanceTime) (has : HasCell rows cell) where
+module _ (rows : List ElementTimes) (cell : Cell) (k : List InstanceTime) (has : HasCell rows cell) where
   row_with : row_at (with_cell rows cell k) cell.row ≡ with_list (row_at rows cell.row) cell.side cell.item k
   row_with = get_set rows cell.row (with_list (row_at rows cell.row) cell.side cell.item k) no_row has.row
 
   pub still_has : HasCell (with_cell rows cell k) cell
   still_has = record {
     row = omega (arith, has.row, length-set rows cell.row (with_list (row_at rows cell.row) cell.side cell.item k));
-    item = omega (arith, has.item, ap (λ (r : Row). length (side_of r cell.side)) row_with, length_with (row_at rows cell.row) cell.side cell.item k);
+    item = omega (arith, has.item, ap (λ (r : ElementTimes). length (side_of r cell.side)) row_with, length_with (row_at rows cell.row) cell.side cell.item k);
   }
 
   pub cell_with : cell_of (with_cell rows cell k) cell ≡ k
-  cell_with = ap (λ (r : Row). list_of r cell.side cell.item) row_with ∙ list_with (row_at rows cell.row) cell.side cell.item k has.item
+  cell_with = ap (λ (r : ElementTimes). list_of r cell.side cell.item) row_with ∙ list_with (row_at rows cell.row) cell.side cell.item k has.item
 
   pub cell_twice : (l : List InstanceTime) → with_cell (with_cell rows cell k) cell l ≡ with_cell rows cell l
   cell_twice l =
-      ap (λ (r : Row). set (with_cell rows cell k) cell.row (with_list r cell.side cell.item l)) row_with
-      ∙ ap (λ (r : Row). set (with_cell rows cell k) cell.row r) (list_twice (row_at rows cell.row) cell.side cell.item k l)
+      ap (λ (r : ElementTimes). set (with_cell rows cell k) cell.row (with_list r cell.side cell.item l)) row_with
+      ∙ ap (λ (r : ElementTimes). set (with_cell rows cell k) cell.row r) (list_twice (row_at rows cell.row) cell.side cell.item k l)
       ∙ set_set rows cell.row (with_list (row_at rows cell.row) cell.side cell.item k) (with_list (row_at rows cell.row) cell.side cell.item l)
 
   pub cell_back : with_cell (with_cell rows cell k) cell (cell_of rows cell) ≡ rows
   cell_back =
-      ap (λ (r : Row). set (with_cell rows cell k) cell.row (with_list r cell.side cell.item (cell_of rows cell))) row_with
-      ∙ ap (λ (r : Row). set (with_cell rows cell k) cell.row r) (back_row (row_at rows cell.row) cell.side cell.item k has.item)
+      ap (λ (r : ElementTimes). set (with_cell rows cell k) cell.row (with_list r cell.side cell.item (cell_of rows cell))) row_with
+      ∙ ap (λ (r : ElementTimes). set (with_cell rows cell k) cell.row r) (back_row (row_at rows cell.row) cell.side cell.item k has.item)
       ∙ set_set rows cell.row (with_list (row_at rows cell.row) cell.side cell.item k) (row_at rows cell.row)
       ∙ set_back rows cell.row no_row has.row
 
@@ -82,10 +82,10 @@ take_more [] i d inside = absurd (omega (arith, inside))
 take_more (a ∷ rest) zero d inside = refl
 take_more (a ∷ rest) (suc i) d inside = ap (λ zs. a ∷ zs) (take_more rest i d (omega (arith, inside)))
 
-pub one_more_made : (before : List Row) (adds : List Add) (i : ℕ) (d : Add) → i < length adds → with_adds before (take (suc i) adds) ≡ with_add (with_adds before (take i adds)) (get_or adds i d)
+pub one_more_made : (before : List ElementTimes) (adds : List Add) (i : ℕ) (d : Add) → i < length adds → with_adds before (take (suc i) adds) ≡ with_add (with_adds before (take i adds)) (get_or adds i d)
 one_more_made before adds i d inside = ap (with_adds before) (take_more adds i d inside) ∙ fold_push with_add before (take i adds) (get_or adds i d)
 
-pub fits_at : (before : List Row) (adds : List Add) (i : ℕ) (d : Add) → Fits before adds → i < length adds → HasCell (with_adds before (take i adds)) (get_or adds i d).cell × IsNotAfter (get_or adds i d).kept.place (cell_of (with_adds before (take i adds)) (get_or adds i d).cell)
+pub fits_at : (before : List ElementTimes) (adds : List Add) (i : ℕ) (d : Add) → Fits before adds → i < length adds → HasCell (with_adds before (take i adds)) (get_or adds i d).cell × IsNotAfter (get_or adds i d).kept.place (cell_of (with_adds before (take i adds)) (get_or adds i d).cell)
 fits_at before [] i d fit inside = absurd (omega (arith, inside))
 fits_at before (a ∷ rest) zero d fit inside = (fit.0, fit.1)
 fits_at before (a ∷ rest) (suc i) d fit inside = fits_at (with_add before a) rest i d fit.2 (omega (arith, inside))
@@ -94,12 +94,12 @@ abbrev pub blank : Add
 blank = record { cell = record { row = 0; side = Begin; item = 0 }; kept = record { place = 0; time = time.At (pos 0) } }
 
 -- where the first adds are made, the last of them can be undone
-pub record Undoes (rows : List Row) (before : List Row) (adds : List Add) (i : ℕ) : Type 0 where
+pub record Undoes (rows : List ElementTimes) (before : List ElementTimes) (adds : List Add) (i : ℕ) : Type 0 where
   pub has : HasCell rows (get_or adds i blank).cell
   pub is : cell_of rows (get_or adds i blank).cell ≡ cell_of (with_adds before (take i adds)) (get_or adds i blank).cell ++ (get_or adds i blank).kept ∷ []
   pub back : with_cell rows (get_or adds i blank).cell (cell_of (with_adds before (take i adds)) (get_or adds i blank).cell) ≡ with_adds before (take i adds)
 
-pub undoes : (rows before : List Row) (adds : List Add) (i : ℕ) → i < length adds → Fits before adds → rows ≡ with_adds before (take (suc i) adds) → Undoes rows before adds i
+pub undoes : (rows before : List ElementTimes) (adds : List Add) (i : ℕ) → i < length adds → Fits before adds → rows ≡ with_adds before (take (suc i) adds) → Undoes rows before adds i
 undoes rows before adds i inside fit now =
     let at = fits_at before adds i blank fit inside in
     let made : rows ≡ with_add (with_adds before (take i adds)) (get_or adds i blank) = now ∙ one_more_made before adds i blank inside in
@@ -131,12 +131,12 @@ next_back adds made n a within at =
     )
 
 -- it can be undone, and is then no longer made
-pub record IsUndoneBy (rows before : List Row) (adds : List Add) (i : ℕ) (cell : Cell) : Type 0 where
+pub record IsUndoneBy (rows before : List ElementTimes) (adds : List Add) (i : ℕ) (cell : Cell) : Type 0 where
   pub has : HasCell rows cell
   pub some : 0 < length (cell_of rows cell)
-  pub back : (new : List Row) → EndsWith (cell_of rows cell) (λ first last. new ≡ with_cell rows cell first) → new ≡ with_adds before (take i adds)
+  pub back : (new : List ElementTimes) → EndsWith (cell_of rows cell) (λ first last. new ≡ with_cell rows cell first) → new ≡ with_adds before (take i adds)
 
-pub undone_by : (rows before : List Row) (adds : List Add) (i : ℕ) (a : Add) → a ≡ get_or adds i blank → i < length adds → Fits before adds → rows ≡ with_adds before (take (suc i) adds) → IsUndoneBy rows before adds i a.cell
+pub undone_by : (rows before : List ElementTimes) (adds : List Add) (i : ℕ) (a : Add) → a ≡ get_or adds i blank → i < length adds → Fits before adds → rows ≡ with_adds before (take (suc i) adds) → IsUndoneBy rows before adds i a.cell
 undone_by rows before adds i a is inside fit now =
     let ready = undoes rows before adds i inside fit now in
     subst (λ (b : Add). IsUndoneBy rows before adds i b.cell) (sym is)
@@ -148,13 +148,13 @@ undone_by rows before adds i a is inside fit now =
 
 -- ---- the shape is kept
 
-any_length : (row : Row) (side : Edge) (item : ℕ) (k : List InstanceTime) (s : Edge) → length (side_of (with_list row side item k) s) ≡ length (side_of row s)
+any_length : (row : ElementTimes) (side : Edge) (item : ℕ) (k : List InstanceTime) (s : Edge) → length (side_of (with_list row side item k) s) ≡ length (side_of row s)
 any_length row Begin item k Begin = length-set row.begins item k
 any_length row Begin item k End = refl
 any_length row End item k Begin = refl
 any_length row End item k End = length-set row.ends item k
 
-shape : (rows : List Row) (i j : ℕ) (side : Edge) (item : ℕ) (k : List InstanceTime) (s : Edge) → length (side_of (row_at (set rows i (with_list (row_at rows i) side item k)) j) s) ≡ length (side_of (row_at rows j) s)
+shape : (rows : List ElementTimes) (i j : ℕ) (side : Edge) (item : ℕ) (k : List InstanceTime) (s : Edge) → length (side_of (row_at (set rows i (with_list (row_at rows i) side item k)) j) s) ≡ length (side_of (row_at rows j) s)
 shape [] i j side item k s = refl
 shape (r ∷ rs) zero zero side item k s = any_length r side item k s
 shape (r ∷ rs) zero (suc j) side item k s = refl

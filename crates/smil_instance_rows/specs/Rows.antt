@@ -15,7 +15,7 @@ abbrev pub from_place : ℕ → List InstanceTime → List InstanceTime
 from_place place kept = filter (λ (k : InstanceTime). nat_le place k.place) kept
 
 -- of an element: for each item of its begin list and of its end list, what is kept
-pub record Row : Type 0 where
+pub record ElementTimes : Type 0 where
   pub serial : ℕ
   pub begins : List (List InstanceTime)
   pub ends : List (List InstanceTime)

@@ -25,9 +25,9 @@ pub struct InstanceRow {
 }
 
 impl Model for InstanceRow {
-    ghost use Rattle.smil_instance_rows.specs.Rows.{Row};
+    ghost use Rattle.smil_instance_rows.specs.Rows.{ElementTimes};
 
-    ghost Value = { Row };
+    ghost Value = { ElementTimes };
 
     ghost view = { λ a. record { serial = a.serial; begins = a.begins; ends = a.ends } };
 }

@@ -1,7 +1,7 @@
 //! The instance times of all elements.
 
 ghost use Rattle.std.specs.Prelude.{◌≡◌, List, [], ◌∷◌, ◌++◌, OnOk, OnErr, ◌<◌, length, None, option_copied, option_map, slice_get};
-ghost use Rattle.smil_instance_rows.specs.Rows.{from_place, Row};
+ghost use Rattle.smil_instance_rows.specs.Rows.{from_place, ElementTimes};
 ghost use Rattle.smil_instance_rows.specs.Places.{IsNotAfter, EndsWith, last_alone};
 ghost use Rattle.smil_instance_rows.specs.Changes.{HasCell, cell_of, with_cell};
 ghost use Rattle.smil_instance_rows.specs.Readings.{index_in, row_in, begins_in, ends_in, times_in, first_from, first_after};
@@ -24,7 +24,7 @@ pub struct Rows {
 }
 
 impl Drop for Rows {
-    // Dropped by a call of its own, so that no function that lets one go drops it field by field.
+    // Dropped by a call of its own, not field by field in each function that drops one.
     fn drop(self) {
         let Rows {
             rows: _rows,
@@ -36,10 +36,10 @@ impl Drop for Rows {
 impl Model for Rows {
     ghost use Rattle.std.specs.Prelude.{◌≡◌, ℕ, List, nat_eq};
     ghost use Rattle.std.specs.HashMap.{get};
-    ghost use Rattle.smil_instance_rows.specs.Rows.{Row};
+    ghost use Rattle.smil_instance_rows.specs.Rows.{ElementTimes};
     ghost use Rattle.smil_instance_rows.specs.Readings.{index_in};
 
-    ghost Value = { List Row };
+    ghost Value = { List ElementTimes };
 
     ghost view = { λ a. a.rows.items };
 
@@ -191,7 +191,7 @@ impl Rows {
     /// The serial of the element of a row, by the row's index; None exactly where the index is not
     /// below the number of rows. It takes no memory.
     pub fn serial_at(&self, index: usize) -> Option<u32>
-        ensures { result ≡ option_map (λ (r : Row). r.serial) (slice_get self.now index) }
+        ensures { result ≡ option_map (λ (r : ElementTimes). r.serial) (slice_get self.now index) }
     {
         Some(self.at(index)?.serial())
     }

@@ -16,7 +16,7 @@ use Rattle.smil_model.specs.reach.Reach.{is_option}
 use Rattle.smil_instances.specs.declared.source.Source.{Source}
 use Rattle.smil_instances.specs.declared.source.Source.TheVariants as source
 use Rattle.smil_instance_rows.specs.declared.cell.Cell.{Cell}
-use Rattle.smil_instance_rows.specs.Rows.{Row}
+use Rattle.smil_instance_rows.specs.Rows.{ElementTimes}
 use Rattle.smil_instance_rows.specs.Readings.{index_in}
 use Rattle.smil_instances.specs.Sources.{base_of, is_reset_with, item_under, source_by, source_under, source_at, is_keyed, concerns_under, concerns_cell, AreThose}
 use Rattle.smil_model.specs.document.Defaults.{items_of}
@@ -30,7 +30,7 @@ use Rattle.smil_laws.proofs.Lists.{each_kept, each_at}
 use Rattle.smil_laws.proofs.Members.{differ_each}
 use Rattle.smil_graph.proofs.Answered.{element_at, only_element}
 use Rattle.smil_instances.specs.Dependents.{DocumentDependents, AreDependentsOf, cells_in, keys_cell, source_in}
-use Rattle.smil_instances.specs.Intake.{Shape, shape_of, shape_in, AreRowsOf, IsCellOf, HasItem, is_concerned_cell, concerned_under, keyed_by, remaining_at, remaining_under}
+use Rattle.smil_instances.specs.Intake.{ItemCounts, shape_of, shape_in, AreRowsOf, IsCellOf, HasItem, is_concerned_cell, concerned_under, keyed_by, remaining_at, remaining_under}
 use Rattle.smil_instances.proofs.Extents.{item_cell, serial_there}
 
 -- ---- elements by their places
@@ -76,7 +76,7 @@ pub source_here : (nodes : List Node) (cell : Cell) (e : Node) → slice_get (el
 source_here nodes cell e here = ap (source_under nodes cell) here ∙ ap (λ o. source_by nodes e.serial (item_under nodes cell o)) here
 
 -- a cell with an item is a cell of the rows
-pub item_there : (nodes : List Node) (rows : List Row) (cell : Cell) → AreRowsOf nodes rows → HasItem nodes cell → HasCell rows cell
+pub item_there : (nodes : List Node) (rows : List ElementTimes) (cell : Cell) → AreRowsOf nodes rows → HasItem nodes cell → HasCell rows cell
 item_there nodes rows cell are has = by (slice_get (elements nodes) cell.row) refl has
   where
     by_item : (e : Node) → slice_get (elements nodes) cell.row ≡ Some e → (o : Option Item) → slice_get (items_of nodes cell.side e) cell.item ≡ o → is_some o ≡ true → HasCell rows cell
@@ -94,7 +94,7 @@ serial_of_some None who q = cc
 serial_of_some (Some e) who q = (e, refl, cc)
 
 module _ (nodes : List Node) (distinct : IsDistinct nodes) where
-  pub cell_known : (rows : List Row) (dependents : DocumentDependents) (cell : Cell) (who : ℕ) (s : Source) → AreRowsOf nodes rows → AreDependentsOf nodes dependents → option_map (λ (r : Row). r.serial) (slice_get rows cell.row) ≡ Some who → s ≡ source_in dependents.rows cell → IsCellOf nodes cell who s
+  pub cell_known : (rows : List ElementTimes) (dependents : DocumentDependents) (cell : Cell) (who : ℕ) (s : Source) → AreRowsOf nodes rows → AreDependentsOf nodes dependents → option_map (λ (r : ElementTimes). r.serial) (slice_get rows cell.row) ≡ Some who → s ≡ source_in dependents.rows cell → IsCellOf nodes cell who s
   cell_known rows dependents cell who s are known q is =
       let e = serial_of_some (slice_get (elements nodes) cell.row) who (sym (serial_there nodes rows (elements nodes) cell.row are) ∙ q) in
       record {
@@ -216,7 +216,7 @@ module _ (nodes : List Node) (distinct : IsDistinct nodes) where
 
   -- ---- rows by serials
 
-  placed_row : (rows : List Row) (es : List Node) (who place : ℕ) → map shape_of rows ≡ map (shape_in nodes) es → index_in rows who ≡ Some place → (e : Node) × (slice_get es place ≡ Some e) × (e.serial ≡ who)
+  placed_row : (rows : List ElementTimes) (es : List Node) (who place : ℕ) → map shape_of rows ≡ map (shape_in nodes) es → index_in rows who ≡ Some place → (e : Node) × (slice_get es place ≡ Some e) × (e.serial ≡ who)
   placed_row [] es who place q at = cc
   placed_row (r ∷ rs) [] who place q at = cc
   placed_row (r ∷ rs) (e ∷ es) who place q at = by (r.serial == who) refl (index_in rs who) refl at (λ k. placed_row rs es who k tail)
@@ -230,14 +230,14 @@ module _ (nodes : List Node) (distinct : IsDistinct nodes) where
       by : (t : Bool) → (r.serial == who) ≡ t → (o : Option ℕ) → index_in rs who ≡ o → cond t (Some 0) (option_map suc o) ≡ Some place → ((k : ℕ) → index_in rs who ≡ Some k → (f : Node) × (slice_get es k ≡ Some f) × (f.serial ≡ who)) → (f : Node) × (slice_get (e ∷ es) place ≡ Some f) × (f.serial ≡ who)
       by true p o k r' rest =
           let zeroth : 0 ≡ place = cc in
-          (e, ap (slice_get (e ∷ es)) (sym zeroth), sym (ap (λ (s : Shape). s.serial) head) ∙ eqb-true r.serial who p)
+          (e, ap (slice_get (e ∷ es)) (sym zeroth), sym (ap (λ (s : ItemCounts). s.serial) head) ∙ eqb-true r.serial who p)
       by false p None k r' rest = cc
       by false p (Some j) k r' rest =
           let next : suc j ≡ place = cc in
           let found = rest j k in
           (found.0, ap (slice_get (e ∷ es)) (sym next) ∙ found.1, found.2)
 
-  unplaced_row : (rows : List Row) (es : List Node) (who : ℕ) → map shape_of rows ≡ map (shape_in nodes) es → index_in rows who ≡ None → node_at es who ≡ None
+  unplaced_row : (rows : List ElementTimes) (es : List Node) (who : ℕ) → map shape_of rows ≡ map (shape_in nodes) es → index_in rows who ≡ None → node_at es who ≡ None
   unplaced_row [] [] who q at = refl
   unplaced_row [] (e ∷ es) who q at = cc
   unplaced_row (r ∷ rs) [] who q at = cc
@@ -253,12 +253,12 @@ module _ (nodes : List Node) (distinct : IsDistinct nodes) where
       by true p o k r' rest = cc
       by false p (Some j) k r' rest = cc
       by false p None k r' rest =
-          ap (λ t. cond t (Some e) (node_at es who)) (ap (λ s. s == who) (sym (ap (λ (s : Shape). s.serial) head)) ∙ p) ∙ rest k
+          ap (λ t. cond t (Some e) (node_at es who)) (ap (λ s. s == who) (sym (ap (λ (s : ItemCounts). s.serial) head)) ∙ p) ∙ rest k
 
   -- ---- the cells
 
   -- for an entry on the element of a row
-  pub those_of : (rows : List Row) (dependents : DocumentDependents) (birth : Bool) (who : ℕ) (key : Option ℕ) (place : ℕ) → AreRowsOf nodes rows → AreDependentsOf nodes dependents → index_in rows who ≡ Some place → AreThose (is_concerned_cell nodes birth (Some who) key) (cells_in dependents.rows place birth)
+  pub those_of : (rows : List ElementTimes) (dependents : DocumentDependents) (birth : Bool) (who : ℕ) (key : Option ℕ) (place : ℕ) → AreRowsOf nodes rows → AreDependentsOf nodes dependents → index_in rows who ≡ Some place → AreThose (is_concerned_cell nodes birth (Some who) key) (cells_in dependents.rows place birth)
   those_of rows dependents birth who key place are known at = λ cell.
       let e = placed_row rows (elements nodes) who place are at in
       known.cells place e.0 birth e.1 cell
@@ -266,7 +266,7 @@ module _ (nodes : List Node) (distinct : IsDistinct nodes) where
       ∙ ap (λ t. cond t 1 0) (sym (same_test birth who key cell))
 
   -- for an entry on no element
-  pub those_unplaced : BasesAreElements → (rows : List Row) (birth : Bool) (who : ℕ) (key : Option ℕ) → AreRowsOf nodes rows → index_in rows who ≡ None → AreThose (is_concerned_cell nodes birth (Some who) key) []
+  pub those_unplaced : BasesAreElements → (rows : List ElementTimes) (birth : Bool) (who : ℕ) (key : Option ℕ) → AreRowsOf nodes rows → index_in rows who ≡ None → AreThose (is_concerned_cell nodes birth (Some who) key) []
   those_unplaced law rows birth who key are at = λ cell.
       sym (ap (λ t. cond t 1 0) (unconcerned who (unplaced_row rows (elements nodes) who are at) law birth key cell))
 

@@ -14,25 +14,25 @@ use Rattle.smil_model.specs.diary.Diary.{History}
 use Rattle.smil_instance_rows.specs.declared.item_times.InstanceTime.{InstanceTime}
 use Rattle.smil_instance_rows.specs.declared.cell.Cell.{Cell}
 use Rattle.smil_instance_rows.specs.Cells.{side_of, list_of, with_list}
-use Rattle.smil_instance_rows.specs.Rows.{Row}
+use Rattle.smil_instance_rows.specs.Rows.{ElementTimes}
 use Rattle.smil_instances.specs.SettledTimes.{instances_of, row_of, settled_rows}
 use Rattle.smil_instances.specs.Sources.{is_cell, is_same_edge}
 use Rattle.smil_model.specs.document.Defaults.{items_of}
 use Rattle.smil_instance_rows.specs.Changes.{row_at, no_row, HasCell, cell_of, with_cell}
-use Rattle.smil_instances.specs.Intake.{Shape, shape_of, shape_in, AreRowsOf}
+use Rattle.smil_instances.specs.Intake.{ItemCounts, shape_of, shape_in, AreRowsOf}
 
 -- ---- the shape stays
 
-listed_shape : (row : Row) (side : Edge) (item : ℕ) (kept : List InstanceTime) → shape_of (with_list row side item kept) ≡ shape_of row
+listed_shape : (row : ElementTimes) (side : Edge) (item : ℕ) (kept : List InstanceTime) → shape_of (with_list row side item kept) ≡ shape_of row
 listed_shape row Begin item kept = ap (λ n. record { serial = row.serial; begins = n; ends = length row.ends }) (length-set row.begins item kept)
 listed_shape row End item kept = ap (λ n. record { serial = row.serial; begins = length row.begins; ends = n }) (length-set row.ends item kept)
 
-set_shape : (rows : List Row) (i : ℕ) (row : Row) → shape_of row ≡ shape_of (row_at rows i) → map shape_of (set rows i row) ≡ map shape_of rows
+set_shape : (rows : List ElementTimes) (i : ℕ) (row : ElementTimes) → shape_of row ≡ shape_of (row_at rows i) → map shape_of (set rows i row) ≡ map shape_of rows
 set_shape [] i row q = refl
 set_shape (r ∷ rs) zero row q = ap (λ s. s ∷ map shape_of rs) q
 set_shape (r ∷ rs) (suc i) row q = ap (λ ss. shape_of r ∷ ss) (set_shape rs i row q)
 
-pub cell_shape : (rows : List Row) (cell : Cell) (kept : List InstanceTime) → map shape_of (with_cell rows cell kept) ≡ map shape_of rows
+pub cell_shape : (rows : List ElementTimes) (cell : Cell) (kept : List InstanceTime) → map shape_of (with_cell rows cell kept) ≡ map shape_of rows
 cell_shape rows cell kept =
     set_shape rows cell.row (with_list (row_at rows cell.row) cell.side cell.item kept)
     (listed_shape (row_at rows cell.row) cell.side cell.item kept)
@@ -48,16 +48,16 @@ same_lists (x ∷ xs) (y ∷ ys) d long same =
     let rest : xs ≡ ys = same_lists xs ys d (omega (arith, long)) (λ i. same (suc i)) in
     cc
 
-same_row : (row other : Row) → shape_of row ≡ shape_of other → ((side : Edge) (item : ℕ) → list_of row side item ≡ list_of other side item) → row ≡ other
+same_row : (row other : ElementTimes) → shape_of row ≡ shape_of other → ((side : Edge) (item : ℕ) → list_of row side item ≡ list_of other side item) → row ≡ other
 same_row row other shape same =
-    let begins : row.begins ≡ other.begins = same_lists row.begins other.begins [] (ap (λ (s : Shape). s.begins) shape) (same Begin) in
-    let ends : row.ends ≡ other.ends = same_lists row.ends other.ends [] (ap (λ (s : Shape). s.ends) shape) (same End) in
-    ap (λ n. record { serial = n; begins = row.begins; ends = row.ends }) (ap (λ (s : Shape). s.serial) shape)
+    let begins : row.begins ≡ other.begins = same_lists row.begins other.begins [] (ap (λ (s : ItemCounts). s.begins) shape) (same Begin) in
+    let ends : row.ends ≡ other.ends = same_lists row.ends other.ends [] (ap (λ (s : ItemCounts). s.ends) shape) (same End) in
+    ap (λ n. record { serial = n; begins = row.begins; ends = row.ends }) (ap (λ (s : ItemCounts). s.serial) shape)
     ∙ ap (λ bs. record { serial = other.serial; begins = bs; ends = row.ends }) begins
     ∙ ap (λ es. record { serial = other.serial; begins = other.begins; ends = es }) ends
 
 -- rows of the same shape with the same in each cell are the same
-pub same_rows : (rows others : List Row) → map shape_of rows ≡ map shape_of others → ((cell : Cell) → cell_of rows cell ≡ cell_of others cell) → rows ≡ others
+pub same_rows : (rows others : List ElementTimes) → map shape_of rows ≡ map shape_of others → ((cell : Cell) → cell_of rows cell ≡ cell_of others cell) → rows ≡ others
 same_rows [] [] shape same = refl
 same_rows [] (o ∷ os) shape same = cc
 same_rows (r ∷ rs) [] shape same = cc
@@ -66,7 +66,7 @@ same_rows (r ∷ rs) (o ∷ os) shape same =
     let tail : map shape_of rs ≡ map shape_of os = cc in
     let first : r ≡ o = same_row r o head (λ side item. same (record { row = 0; side = side; item = item })) in
     let rest : rs ≡ os = same_rows rs os tail (λ cell. same (record { row = suc cell.row; side = cell.side; item = cell.item })) in
-    ap (λ (x : Row). x ∷ rs) first ∙ ap (λ xs. o ∷ xs) rest
+    ap (λ (x : ElementTimes). x ∷ rs) first ∙ ap (λ xs. o ∷ xs) rest
 
 -- ---- one cell and another
 
@@ -113,13 +113,13 @@ set_other (y ∷ ys) zero (suc j) x d ne = refl
 set_other (y ∷ ys) (suc i) zero x d ne = refl
 set_other (y ∷ ys) (suc i) (suc j) x d ne = set_other ys i j x d (λ q. ne (ap suc q))
 
-other_list : (row : Row) (s t : Edge) (m n : ℕ) (kept : List InstanceTime) → (t ≡ s → n ≡ m → ⊥) → list_of (with_list row s m kept) t n ≡ list_of row t n
+other_list : (row : ElementTimes) (s t : Edge) (m n : ℕ) (kept : List InstanceTime) → (t ≡ s → n ≡ m → ⊥) → list_of (with_list row s m kept) t n ≡ list_of row t n
 other_list row Begin Begin m n kept ne = set_other row.begins m n kept [] (ne refl)
 other_list row End End m n kept ne = set_other row.ends m n kept [] (ne refl)
 other_list row Begin End m n kept ne = refl
 other_list row End Begin m n kept ne = refl
 
-other_at : (rows : List Row) (i j : ℕ) (s t : Edge) (m n : ℕ) (kept : List InstanceTime) → Apart i j s t m n → list_of (row_at (set rows i (with_list (row_at rows i) s m kept)) j) t n ≡ list_of (row_at rows j) t n
+other_at : (rows : List ElementTimes) (i j : ℕ) (s t : Edge) (m n : ℕ) (kept : List InstanceTime) → Apart i j s t m n → list_of (row_at (set rows i (with_list (row_at rows i) s m kept)) j) t n ≡ list_of (row_at rows j) t n
 other_at [] i j s t m n kept ne = refl
 other_at (r ∷ rs) zero zero s t m n kept ne = other_list r s t m n kept (ne refl)
 other_at (r ∷ rs) zero (suc j) s t m n kept ne = refl
@@ -127,26 +127,26 @@ other_at (r ∷ rs) (suc i) zero s t m n kept ne = refl
 other_at (r ∷ rs) (suc i) (suc j) s t m n kept ne = other_at rs i j s t m n kept (λ q. ne (ap suc q))
 
 -- another cell is as before
-pub other_cell : (rows : List Row) (c d : Cell) (kept : List InstanceTime) → is_cell d c ≡ false → cell_of (with_cell rows c kept) d ≡ cell_of rows d
+pub other_cell : (rows : List ElementTimes) (c d : Cell) (kept : List InstanceTime) → is_cell d c ≡ false → cell_of (with_cell rows c kept) d ≡ cell_of rows d
 other_cell rows c d kept q = other_at rows c.row d.row c.side d.side c.item d.item kept (apart c d q)
 
 -- ---- which cells there are
 
-abbrev count_on : Shape → Edge → ℕ
+abbrev count_on : ItemCounts → Edge → ℕ
 count_on shape Begin = shape.begins
 count_on shape End = shape.ends
 
-counted : (row : Row) (side : Edge) → length (side_of row side) ≡ count_on (shape_of row) side
+counted : (row : ElementTimes) (side : Edge) → length (side_of row side) ≡ count_on (shape_of row) side
 counted row Begin = refl
 counted row End = refl
 
-shapes_length : (rows others : List Row) → map shape_of rows ≡ map shape_of others → length rows ≡ length others
+shapes_length : (rows others : List ElementTimes) → map shape_of rows ≡ map shape_of others → length rows ≡ length others
 shapes_length [] [] q = refl
 shapes_length [] (o ∷ os) q = cc
 shapes_length (r ∷ rs) [] q = cc
 shapes_length (r ∷ rs) (o ∷ os) q = let tail : map shape_of rs ≡ map shape_of os = cc in ap suc (shapes_length rs os tail)
 
-shape_at : (rows others : List Row) (i : ℕ) → map shape_of rows ≡ map shape_of others → shape_of (row_at rows i) ≡ shape_of (row_at others i)
+shape_at : (rows others : List ElementTimes) (i : ℕ) → map shape_of rows ≡ map shape_of others → shape_of (row_at rows i) ≡ shape_of (row_at others i)
 shape_at [] [] i q = refl
 shape_at [] (o ∷ os) i q = cc
 shape_at (r ∷ rs) [] i q = cc
@@ -154,7 +154,7 @@ shape_at (r ∷ rs) (o ∷ os) zero q = cc
 shape_at (r ∷ rs) (o ∷ os) (suc i) q = let tail : map shape_of rs ≡ map shape_of os = cc in shape_at rs os i tail
 
 -- rows of the same shape have the same cells
-pub has_too : (rows others : List Row) (cell : Cell) → map shape_of rows ≡ map shape_of others → HasCell rows cell → HasCell others cell
+pub has_too : (rows others : List ElementTimes) (cell : Cell) → map shape_of rows ≡ map shape_of others → HasCell rows cell → HasCell others cell
 has_too rows others cell q has = record {
   row = omega (arith, has.row, shapes_length rows others q);
   item =
@@ -170,7 +170,7 @@ module _ (nodes : List Node) where
   listed e Begin = refl
   listed e End = refl
 
-  shape_there : (rows : List Row) (es : List Node) (i : ℕ) (e : Node) → map shape_of rows ≡ map (shape_in nodes) es → slice_get es i ≡ Some e → (i < length rows) × (shape_of (row_at rows i) ≡ shape_in nodes e)
+  shape_there : (rows : List ElementTimes) (es : List Node) (i : ℕ) (e : Node) → map shape_of rows ≡ map (shape_in nodes) es → slice_get es i ≡ Some e → (i < length rows) × (shape_of (row_at rows i) ≡ shape_in nodes e)
   shape_there rows [] i e q at = cc
   shape_there [] (x ∷ xs) i e q at = cc
   shape_there (r ∷ rs) (x ∷ xs) zero e q at =
@@ -183,7 +183,7 @@ module _ (nodes : List Node) where
       (omega (arith, rest.0), rest.1)
 
   -- the cell of an item of an element
-  pub item_cell : (rows : List Row) (cell : Cell) (e : Node) (item : Item) → AreRowsOf nodes rows → slice_get (elements nodes) cell.row ≡ Some e → slice_get (items_of nodes cell.side e) cell.item ≡ Some item → HasCell rows cell
+  pub item_cell : (rows : List ElementTimes) (cell : Cell) (e : Node) (item : Item) → AreRowsOf nodes rows → slice_get (elements nodes) cell.row ≡ Some e → slice_get (items_of nodes cell.side e) cell.item ≡ Some item → HasCell rows cell
   item_cell rows cell e item are here at =
       let there = shape_there rows (elements nodes) cell.row e are here in
       let long : length (side_of (row_at rows cell.row) cell.side) ≡ length (items_of nodes cell.side e) =
@@ -191,13 +191,13 @@ module _ (nodes : List Node) where
       let inside : cell.item < length (items_of nodes cell.side e) = slice_get_within (items_of nodes cell.side e) cell.item item at in
       record { row = there.0; item = omega (arith, inside, long) }
 
-  pub serial_there : (rows : List Row) (es : List Node) (i : ℕ) → map shape_of rows ≡ map (shape_in nodes) es → option_map (λ (r : Row). r.serial) (slice_get rows i) ≡ option_map (λ (n : Node). n.serial) (slice_get es i)
+  pub serial_there : (rows : List ElementTimes) (es : List Node) (i : ℕ) → map shape_of rows ≡ map (shape_in nodes) es → option_map (λ (r : ElementTimes). r.serial) (slice_get rows i) ≡ option_map (λ (n : Node). n.serial) (slice_get es i)
   serial_there [] [] i q = refl
   serial_there [] (x ∷ xs) i q = cc
   serial_there (r ∷ rs) [] i q = cc
   serial_there (r ∷ rs) (x ∷ xs) zero q =
       let head : shape_of r ≡ shape_in nodes x = cc in
-      ap (λ (s : Shape). Some s.serial) head
+      ap (λ (s : ItemCounts). Some s.serial) head
   serial_there (r ∷ rs) (x ∷ xs) (suc i) q = let tail : map shape_of rs ≡ map (shape_in nodes) xs = cc in serial_there rs xs i tail
 
 -- ---- rows of a history
@@ -233,7 +233,7 @@ module _ (h : History) where
   -- the rows of a history have in each cell what is kept for its item
   pub settled_cell : (cell : Cell) → cell_of (settled_rows h) cell ≡ kept_in cell
   settled_cell cell =
-      ap (λ (r : Row). list_of r cell.side cell.item) (sym (unwrap_or-slice_get (settled_rows h) cell.row no_row) ∙ ap (λ o. unwrap_or o no_row) (slice_get-map (row_of h) (elements h.nodes) cell.row))
+      ap (λ (r : ElementTimes). list_of r cell.side cell.item) (sym (unwrap_or-slice_get (settled_rows h) cell.row no_row) ∙ ap (λ o. unwrap_or o no_row) (slice_get-map (row_of h) (elements h.nodes) cell.row))
       ∙ of_row cell.side cell.item (slice_get (elements h.nodes) cell.row)
 
   row_shape : (e : Node) → shape_of (row_of h e) ≡ shape_in h.nodes e

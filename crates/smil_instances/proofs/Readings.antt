@@ -14,11 +14,11 @@ use Rattle.smil_laws.proofs.Aside.{find_true}
 use Rattle.smil_instance_rows.specs.Readings.{begins_in, ends_in, row_in, row_times, times_in}
 use Rattle.smil_instances.specs.Laws.{RowsTell, RowsTellInstances}
 use Rattle.smil_instance_rows.specs.Values.{begins_of}
-use Rattle.smil_instance_rows.specs.Rows.{Row}
+use Rattle.smil_instance_rows.specs.Rows.{ElementTimes}
 use Rattle.smil_instances.specs.SettledTimes.{settled_rows}
 use Rattle.smil_instances.specs.Instances.{IsElementOf, SettledInstances, settled_times}
 
-begin_times : (o : Option Row) → option_map_or (λ (r : Row). row_times r Begin) o [] ≡ map At (option_map_or (λ (r : Row). begins_of r.begins) o [])
+begin_times : (o : Option ElementTimes) → option_map_or (λ (r : ElementTimes). row_times r Begin) o [] ≡ map At (option_map_or (λ (r : ElementTimes). begins_of r.begins) o [])
 begin_times None = refl
 begin_times (Some r) = refl
 

@@ -17,7 +17,7 @@ use Rattle.smil_instances.specs.declared.source.Source.{Source}
 use Rattle.smil_instances.specs.declared.source.Source.TheVariants.{Nothing}
 use Rattle.smil_instance_rows.specs.declared.cell.Cell.{Cell}
 use Rattle.smil_instance_rows.specs.Cells.{list_of, side_of, with_item, with_list}
-use Rattle.smil_instance_rows.specs.Rows.{Row}
+use Rattle.smil_instance_rows.specs.Rows.{ElementTimes}
 use Rattle.smil_instances.specs.SettledTimes.{instances_of, row_of}
 use Rattle.smil_instances.specs.Sources.{item_under, source_by, source_of, source_under}
 use Rattle.smil_instances.specs.Dependents.{DocumentDependents, AreDependentsOf, source_in}
@@ -30,7 +30,7 @@ last_set : (xs : List (List InstanceTime)) (k : InstanceTime) → set (xs ++ [] 
 last_set [] k = refl
 last_set (x ∷ xs) k = ap (λ ys. x ∷ ys) (last_set xs k)
 
-pub item_added : (row : Row) (side : Edge) (item : ℕ) (k : InstanceTime) → item ≡ length (side_of row side) → with_list (with_item row side) side item (list_of (with_item row side) side item ++ k ∷ []) ≡ with_items row side ((k ∷ []) ∷ [])
+pub item_added : (row : ElementTimes) (side : Edge) (item : ℕ) (k : InstanceTime) → item ≡ length (side_of row side) → with_list (with_item row side) side item (list_of (with_item row side) side item ++ k ∷ []) ≡ with_items row side ((k ∷ []) ∷ [])
 item_added row Begin item k q =
     ap (λ i. with_list (with_item row Begin) Begin i (list_of (with_item row Begin) Begin i ++ k ∷ [])) q
     ∙ ap (λ xs. record row { begins = xs }) (last_set row.begins k)
@@ -38,15 +38,15 @@ item_added row End item k q =
     ap (λ i. with_list (with_item row End) End i (list_of (with_item row End) End i ++ k ∷ [])) q
     ∙ ap (λ xs. record row { ends = xs }) (last_set row.ends k)
 
-pub more_items : (row : Row) (side : Edge) (xs ys : List (List InstanceTime)) → with_items (with_items row side xs) side ys ≡ with_items row side (xs ++ ys)
+pub more_items : (row : ElementTimes) (side : Edge) (xs ys : List (List InstanceTime)) → with_items (with_items row side xs) side ys ≡ with_items row side (xs ++ ys)
 more_items row Begin xs ys = ap (λ zs. record row { begins = zs }) (append_assoc row.begins xs ys)
 more_items row End xs ys = ap (λ zs. record row { ends = zs }) (append_assoc row.ends xs ys)
 
-pub no_items : (row : Row) (side : Edge) → side_of row side ≡ [] → row ≡ with_items row side []
+pub no_items : (row : ElementTimes) (side : Edge) → side_of row side ≡ [] → row ≡ with_items row side []
 no_items row Begin q = ap (λ zs. record row { begins = zs }) (q ∙ ap (λ zs. zs ++ []) (sym q))
 no_items row End q = ap (λ zs. record row { ends = zs }) (q ∙ ap (λ zs. zs ++ []) (sym q))
 
-pub items_grow : (row : Row) (side : Edge) (x : List InstanceTime) → length (side_of (with_items row side (x ∷ [])) side) ≡ length (side_of row side) + 1
+pub items_grow : (row : ElementTimes) (side : Edge) (x : List InstanceTime) → length (side_of (with_items row side (x ∷ [])) side) ≡ length (side_of row side) + 1
 items_grow row Begin x = length-append row.begins (x ∷ [])
 items_grow row End x = length-append row.ends (x ∷ [])
 
@@ -88,7 +88,7 @@ begin_items nodes e items q = sym (ap (items_or (cond (is_in_excl nodes e.serial
 pub end_items : (e : Node) (o : Option (List Item)) → e.attrs.«end» ≡ o → items_or [] o ≡ end_list e
 end_items e o q = sym (ap (items_or []) q)
 
-pub row_made : (document : Document) (log : List LogEntry) (place serial : ℕ) (e x : Node) (none begun made : Row) → slice_get (elements document.nodes) place ≡ Some e → slice_get (elements document.nodes) place ≡ Some x → e.serial ≡ serial → none ≡ record { serial = serial; begins = []; ends = [] } → begun ≡ with_items none Begin (map (instances_of (history_of document log []) e Begin) (begin_list document.nodes e)) → made ≡ with_items begun End (map (instances_of (history_of document log []) e End) (end_list e)) → made ≡ row_of (history_of document log []) x
+pub row_made : (document : Document) (log : List LogEntry) (place serial : ℕ) (e x : Node) (none begun made : ElementTimes) → slice_get (elements document.nodes) place ≡ Some e → slice_get (elements document.nodes) place ≡ Some x → e.serial ≡ serial → none ≡ record { serial = serial; begins = []; ends = [] } → begun ≡ with_items none Begin (map (instances_of (history_of document log []) e Begin) (begin_list document.nodes e)) → made ≡ with_items begun End (map (instances_of (history_of document log []) e End) (end_list e)) → made ≡ row_of (history_of document log []) x
 row_made document log place serial e x none begun made here there same is_none is_begun is_made =
     is_made
     ∙ ap (λ r. with_items r End (map (instances_of (history_of document log []) e End) (end_list e))) (is_begun ∙ ap (λ r. with_items r Begin (map (instances_of (history_of document log []) e Begin) (begin_list document.nodes e))) is_none)

@@ -22,7 +22,7 @@ use Rattle.smil_instance_rows.specs.declared.cell.Cell.{Cell}
 use Rattle.smil_instances.specs.Laws.{IsUpTo}
 use Rattle.smil_instance_rows.specs.Places.{IsNotAfter}
 use Rattle.smil_instances.specs.Contribution.{given_edge, given_by, given_at, offset_given}
-use Rattle.smil_instance_rows.specs.Rows.{Row, at_place, from_place, instance_at}
+use Rattle.smil_instance_rows.specs.Rows.{ElementTimes, at_place, from_place, instance_at}
 use Rattle.smil_instances.specs.SettledTimes.{all_edges, all_heard, heard_time, at_start, instances_of, offset_instances, named_instances, event_instances, repeat_instances, settled_rows, occurs_event, occurs_key, occurs_repeat}
 use Rattle.smil_instances.specs.Sources.{is_concerned, is_keyed, item_under, source_at, source_by, source_of, AreThose, is_cell}
 use Rattle.smil_model.specs.document.Defaults.{items_of}
@@ -209,7 +209,7 @@ module _ (nodes : List Node) (log : List LogEntry) (before : List Entry) (y : En
         ∙ sym (ap (concerned_under nodes (is_opening y.step) (subject_of log y.step) (key_of log y.step) cell) here) ∙ q)
         ∙ sym kept_past
 
-    ready_order : (rows : List Row) → rows ≡ settled_rows past → (kept : InstanceTime) → given_to past y cell ≡ Some kept → IsNotAfter kept.place (cell_of rows cell)
+    ready_order : (rows : List ElementTimes) → rows ≡ settled_rows past → (kept : InstanceTime) → given_to past y cell ≡ Some kept → IsNotAfter kept.place (cell_of rows cell)
     ready_order rows are kept q =
         subst (IsNotAfter kept.place) (sym (ap (λ rs. cell_of rs cell) are ∙ settled_cell past cell ∙ kept_past))
         (not_after past y e cell.side item kept (sym given_here ∙ q))
@@ -227,7 +227,7 @@ module _ (nodes : List Node) (log : List LogEntry) (before : List Entry) (y : En
       by None here = ap (kept_under now cell.side cell.item) here ∙ sym (ap (kept_under past cell.side cell.item) here)
       by (Some e) here = by_item e here (slice_get (items_of nodes cell.side e) cell.item) refl
 
-  module _ (cells : List Cell) (those : AreThose test cells) (rows : List Row) (are : rows ≡ settled_rows past) where
+  module _ (cells : List Cell) (those : AreThose test cells) (rows : List ElementTimes) (are : rows ≡ settled_rows past) where
     rows_of : AreRowsOf nodes rows
     rows_of = ap (map shape_of) are ∙ settled_shape past
 

@@ -11,7 +11,7 @@ use Rattle.smil_model.specs.document.Document.{elements, node_at}
 use Rattle.smil_model.specs.document.Defaults.{begin_list, end_list}
 use Rattle.smil_model.specs.diary.Diary.{History}
 use Rattle.smil_model.specs.interval.Instances.{item_times}
-use Rattle.smil_instance_rows.specs.Rows.{Row}
+use Rattle.smil_instance_rows.specs.Rows.{ElementTimes}
 use Rattle.smil_instances.specs.SettledTimes.{row_of, instances_of}
 use Rattle.smil_instance_rows.specs.Values.{times_of, begins_of, ends_of}
 use Rattle.smil_instance_rows.specs.Readings.{row_in}
@@ -36,9 +36,9 @@ module _ (h : History) where
   pub rows_tell : (now : ℤ) (e : Node) → node_at (elements h.nodes) e.serial ≡ Some e → RowsTell h now e
   rows_tell now e here = record {
     begins =
-        ap (λ (o : Option Row). option_map_or (λ (r : Row). begins_of r.begins) o []) (found_row e.serial (elements h.nodes) ∙ ap (option_map (row_of h)) here)
+        ap (λ (o : Option ElementTimes). option_map_or (λ (r : ElementTimes). begins_of r.begins) o []) (found_row e.serial (elements h.nodes) ∙ ap (option_map (row_of h)) here)
         ∙ ap (λ ts. rising (numbers ts)) (items_kept now e Begin (begin_list h.nodes e));
     ends =
-        ap (λ (o : Option Row). option_map_or (λ (r : Row). ends_of r.ends) o []) (found_row e.serial (elements h.nodes) ∙ ap (option_map (row_of h)) here)
+        ap (λ (o : Option ElementTimes). option_map_or (λ (r : ElementTimes). ends_of r.ends) o []) (found_row e.serial (elements h.nodes) ∙ ap (option_map (row_of h)) here)
         ∙ ap rising_times (items_kept now e End (end_list e));
   }

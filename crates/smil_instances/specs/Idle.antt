@@ -7,7 +7,7 @@ use Rattle.smil_model.specs.declared.document.Edge.TheVariants.{Begin, End}
 use Rattle.smil_model.specs.declared.document.Item.{Item}
 use Rattle.smil_model.specs.document.Document.{elements, node_at}
 use Rattle.smil_instance_rows.specs.declared.item_times.InstanceTime.{InstanceTime}
-use Rattle.smil_instance_rows.specs.Rows.{Row, instance_at}
+use Rattle.smil_instance_rows.specs.Rows.{ElementTimes, instance_at}
 use Rattle.smil_model.specs.document.Defaults.{items_of}
 
 -- what is kept where a time is known before the first entry
@@ -16,7 +16,7 @@ idle_kept None = []
 idle_kept (Some t) = instance_at 0 t ∷ []
 
 -- the row with the instance times of more items
-abbrev pub with_items : Row → Edge → List (List InstanceTime) → Row
+abbrev pub with_items : ElementTimes → Edge → List (List InstanceTime) → ElementTimes
 with_items row Begin items = record { serial = row.serial; begins = row.begins ++ items; ends = row.ends }
 with_items row End items = record { serial = row.serial; begins = row.begins; ends = row.ends ++ items }
 

@@ -10,7 +10,7 @@ use Rattle.smil_model.specs.declared.document.Edge.TheVariants.{Begin, End}
 use Rattle.smil_model.specs.document.Document.{Document, elements, node_at}
 use Rattle.smil_model.specs.diary.Diary.{History}
 use Rattle.smil_model.specs.interval.Instances.{settled_begins, settled_ends}
-use Rattle.smil_instance_rows.specs.Rows.{Row}
+use Rattle.smil_instance_rows.specs.Rows.{ElementTimes}
 use Rattle.smil_instances.specs.SettledTimes.{settled_rows}
 use Rattle.smil_instances.specs.Dependents.{DocumentDependents, AreDependentsOf}
 use Rattle.smil_instances.specs.Intake.{history_of}
@@ -18,7 +18,7 @@ use Rattle.smil_instances.specs.Intake.{history_of}
 -- a row of instance times for each element, with the sources and the readers of each, and the items
 -- that wait for each key
 pub record SettledInstances : Type 0 where
-  pub rows : List Row
+  pub rows : List ElementTimes
   pub dependents : DocumentDependents
 
 -- these are the instance times of a document after the entries of its diary

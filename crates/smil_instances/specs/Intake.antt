@@ -14,7 +14,7 @@ use Rattle.smil_instances.specs.declared.source.Source.{Source}
 use Rattle.smil_instances.specs.declared.source.Source.TheVariants as source
 use Rattle.smil_instance_rows.specs.declared.cell.Add.{Add}
 use Rattle.smil_instance_rows.specs.declared.cell.Cell.{Cell}
-use Rattle.smil_instance_rows.specs.Rows.{Row}
+use Rattle.smil_instance_rows.specs.Rows.{ElementTimes}
 use Rattle.smil_instances.specs.Sources.{item_at, source_at}
 use Rattle.smil_instance_rows.specs.Changes.{cell_of, with_cell}
 use Rattle.smil_instances.specs.Updates.{concerned_by, remaining}
@@ -107,25 +107,25 @@ remaining_under h cell (Some e) kept = remaining h e.serial (source_at h.nodes c
 abbrev pub remaining_at : History → Cell → List InstanceTime → List InstanceTime
 remaining_at h cell kept = remaining_under h cell (slice_get (elements h.nodes) cell.row) kept
 
-abbrev pub with_remainder : History → List Row → Cell → List Row
+abbrev pub with_remainder : History → List ElementTimes → Cell → List ElementTimes
 with_remainder h rows cell = with_cell rows cell (remaining_at h cell (cell_of rows cell))
 
 -- the rows with each of these cells trimmed in turn
-abbrev pub with_remainders : History → List Row → List Cell → List Row
+abbrev pub with_remainders : History → List ElementTimes → List Cell → List ElementTimes
 with_remainders h rows cells = fold (with_remainder h) rows cells
 
 -- ---- rows of a document
 
 -- an element's serial, and how many items its lists have
-pub record Shape : Type 0 where
+pub record ItemCounts : Type 0 where
   pub serial : ℕ
   pub begins : ℕ
   pub ends : ℕ
 
-abbrev pub shape_of : Row → Shape
+abbrev pub shape_of : ElementTimes → ItemCounts
 shape_of row = record { serial = row.serial; begins = length row.begins; ends = length row.ends }
 
-abbrev pub shape_in : List Node → Node → Shape
+abbrev pub shape_in : List Node → Node → ItemCounts
 shape_in nodes e = record {
   serial = e.serial;
   begins = length (begin_list nodes e);
@@ -133,5 +133,5 @@ shape_in nodes e = record {
 }
 
 -- there is a row for each element, with a list for each of its items
-abbrev pub AreRowsOf : List Node → List Row → Type 0
+abbrev pub AreRowsOf : List Node → List ElementTimes → Type 0
 AreRowsOf nodes rows = map shape_of rows ≡ map (shape_in nodes) (elements nodes)

@@ -16,7 +16,7 @@ use Rattle.smil_model.specs.document.Defaults.{begin_list, end_list}
 use Rattle.smil_model.specs.diary.Diary.{History, birth, with_past, up_to}
 use Rattle.smil_model.specs.diary.Clocks.{outer, parent_start}
 use Rattle.smil_model.specs.interval.Instances.{edge_time, hears, is_event, is_press, is_repeat}
-use Rattle.smil_instance_rows.specs.Rows.{Row, at_place, from_place, instance_at}
+use Rattle.smil_instance_rows.specs.Rows.{ElementTimes, at_place, from_place, instance_at}
 
 -- each with its place in the list
 abbrev pub numbered : {A : Type 0} → ℕ → List A → List (ℕ × A)
@@ -98,12 +98,12 @@ instances_of h e End Indefinite = instance_at 0 time.Indefinite ∷ []
 
 -- ---- all that is kept
 
-abbrev pub row_of : History → Node → Row
+abbrev pub row_of : History → Node → ElementTimes
 row_of h e = record {
   serial = e.serial;
   begins = map (instances_of h e Begin) (begin_list h.nodes e);
   ends = map (instances_of h e End) (end_list e);
 }
 
-abbrev pub settled_rows : History → List Row
+abbrev pub settled_rows : History → List ElementTimes
 settled_rows h = map (row_of h) (elements h.nodes)

@@ -26,7 +26,7 @@ pub struct Dependents {
 }
 
 impl Drop for Dependents {
-    // Dropped by a call of its own, so that no function that lets one go drops it field by field.
+    // Dropped by a call of its own, not field by field in each function that drops one.
     fn drop(self) {
         let Dependents {
             rows: _rows,

@@ -39,7 +39,7 @@ pub struct Instances {
 }
 
 impl Drop for Instances {
-    // Dropped by a call of its own, so that no function that lets one go drops it field by field.
+    // Dropped by a call of its own, not field by field in each function that drops one.
     fn drop(self) {
         let Instances {
             rows: _rows,

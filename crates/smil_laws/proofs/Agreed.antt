@@ -9,7 +9,7 @@ use Rattle.smil_model.specs.declared.diary.Entry.{Entry}
 use Rattle.smil_model.specs.declared.diary.LogEntry.{LogEntry}
 use Rattle.smil_model.specs.declared.diary.Step.TheVariants.{Logged}
 use Rattle.smil_model.specs.declared.document.Node.{Node}
-use Rattle.smil_model.specs.happening.Keys.{Coming, coming, first_coming, is_due}
+use Rattle.smil_model.specs.happening.Keys.{DueChange, coming, first_coming, is_due}
 use Rattle.smil_model.specs.happening.Groups.{group}
 use Rattle.smil_model.specs.happening.Resolution.{Course, Progress, outset, history_at, after_quiet, after_settling, after_coming, next_step, after_steps}
 use Rattle.smil_laws.specs.Agreement.{DifferBelow, SparesAll, is_on, course_on}
@@ -44,7 +44,7 @@ module _ (P : List Entry → Type 0) (c : Course) (q : Progress) (nothing : P []
           (record { moment = pos q.moment; step = Logged q.heard } ∷ [], sym (ap (λ (x : Progress). x.diary) one), hears)
       by_test false e = quiet_extends r e
 
-  key_extends : (o : Option Coming) → ((next : Coming) → o ≡ Some next → P (group (history_at c q) (pos q.moment) next.key.serial next.change)) → Extends P q (after_coming c q o)
+  key_extends : (o : Option DueChange) → ((next : DueChange) → o ≡ Some next → P (group (history_at c q) (pos q.moment) next.key.serial next.change)) → Extends P q (after_coming c q o)
   key_extends None happens r e = settling_extends (slice_get c.log q.heard) r e
   key_extends (Some next) happens r e = by_test (is_due (pos q.moment) next.key) e
     where
@@ -54,7 +54,7 @@ module _ (P : List Entry → Type 0) (c : Course) (q : Progress) (nothing : P []
           (group (history_at c q) (pos q.moment) next.key.serial next.change, sym (ap (λ (x : Progress). x.diary) one), happens next refl)
       by_test false e = settling_extends (slice_get c.log q.heard) r e
 
-  pub next_extends : ((next : Coming) → first_coming (coming (history_at c q) (pos q.moment)) ≡ Some next → P (group (history_at c q) (pos q.moment) next.key.serial next.change)) → Extends P q (next_step c q)
+  pub next_extends : ((next : DueChange) → first_coming (coming (history_at c q) (pos q.moment)) ≡ Some next → P (group (history_at c q) (pos q.moment) next.key.serial next.change)) → Extends P q (next_step c q)
   next_extends happens = key_extends (first_coming (coming (history_at c q) (pos q.moment))) happens
 
 -- ---- what has begun stays so
@@ -77,7 +77,7 @@ begun_before c p (suc k) q never = by_next (next_step c q) refl never (begun_bef
 
 -- ---- two documents
 
-after_bare : (c : Course) (q : Progress) (o : Option Coming) → after_coming c q o ≡ after_coming c q (bare o)
+after_bare : (c : Course) (q : Progress) (o : Option DueChange) → after_coming c q o ≡ after_coming c q (bare o)
 after_bare c q None = refl
 after_bare c q (Some next) = refl
 
@@ -88,10 +88,10 @@ module _ (aside : ℕ → Bool) (p : ℕ) (n1 n2 : List Node) (differ : DifferBe
   abbrev c2 : Course
   c2 = course_on n2 log2 last2
 
-  abbrev due : Option Coming
+  abbrev due : Option DueChange
   due = first_coming (coming (history_at c1 q) (pos q.moment))
 
-  key_alike : (next_step c1 q ≡ after_settling c1 q (slice_get log1 q.heard) → after_settling c1 q (slice_get log1 q.heard) ≡ after_settling c2 q (slice_get log2 q.heard)) → (o : Option Coming) → due ≡ o → ((next : Coming) → o ≡ Some next → aside next.key.serial ≡ false) → after_coming c1 q o ≡ after_coming c2 q o
+  key_alike : (next_step c1 q ≡ after_settling c1 q (slice_get log1 q.heard) → after_settling c1 q (slice_get log1 q.heard) ≡ after_settling c2 q (slice_get log2 q.heard)) → (o : Option DueChange) → due ≡ o → ((next : DueChange) → o ≡ Some next → aside next.key.serial ≡ false) → after_coming c1 q o ≡ after_coming c2 q o
   key_alike settles None d f = settles (ap (after_coming c1 q) d)
   key_alike settles (Some next) d f =
       ap (λ (g : List Entry). cond (is_due (pos q.moment) next.key) (Some (record { moment = q.moment; heard = q.heard; diary = q.diary ++ g })) (after_settling c1 q (slice_get log1 q.heard)))

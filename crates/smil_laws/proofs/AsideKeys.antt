@@ -14,7 +14,7 @@ use Rattle.smil_model.specs.diary.Diary.{History, is_active}
 use Rattle.smil_model.specs.Times.{later_time}
 use Rattle.smil_model.specs.diary.Clocks.{stands, outer_stands, iteration_start}
 use Rattle.smil_model.specs.interval.Current.{simple_of, table, in_table}
-use Rattle.smil_model.specs.happening.Keys.{Coming, coming_begin, coming_end_at, coming_end, coming_repeat_at, coming_repeat, coming_of, coming_from, coming, comes_before, earlier_coming, first_coming}
+use Rattle.smil_model.specs.happening.Keys.{DueChange, coming_begin, coming_end_at, coming_end, coming_repeat_at, coming_repeat, coming_of, coming_from, coming, comes_before, earlier_coming, first_coming}
 use Rattle.smil_laws.specs.Agreement.{DifferBelow, SparesAll}
 use Rattle.smil_model.specs.reach.Bounds.{has_begun}
 use Rattle.smil_laws.proofs.Kept.{held_same, parent_held_same, parent_time_same, own_same, play_start_same, iteration_start_same, iteration_same}
@@ -25,14 +25,14 @@ use Rattle.std.specs.List.{AllByRecursion}
 
 -- ---- keys at another place
 
-abbrev pub put : ℕ → Coming → Coming
+abbrev pub put : ℕ → DueChange → DueChange
 put place next = record next { key = record (next.key) { position = place } }
 
-map_append : (f : Coming → Coming) (xs ys : List Coming) → map f (xs ++ ys) ≡ map f xs ++ map f ys
+map_append : (f : DueChange → DueChange) (xs ys : List DueChange) → map f (xs ++ ys) ≡ map f xs ++ map f ys
 map_append f [] ys = refl
 map_append f (x ∷ xs) ys = ap (λ zs. f x ∷ zs) (map_append f xs ys)
 
-cond_map : (f : Coming → Coming) (t : Bool) (a b : List Coming) (c d : List Coming) → a ≡ map f c → b ≡ map f d → cond t a b ≡ map f (cond t c d)
+cond_map : (f : DueChange → DueChange) (t : Bool) (a b : List DueChange) (c d : List DueChange) → a ≡ map f c → b ≡ map f d → cond t a b ≡ map f (cond t c d)
 cond_map f true a b c d p q = p
 cond_map f false a b c d p q = q
 
@@ -72,13 +72,13 @@ keys_place h J now q e =
 
 -- ---- two first changes that are the same but for their places
 
-record Twins (P : ℕ → ℕ → Type 0) (o1 o2 : Option Coming) : Type 0 where
-  core : Option Coming
+record Twins (P : ℕ → ℕ → Type 0) (o1 o2 : Option DueChange) : Type 0 where
+  core : Option DueChange
   x1 : ℕ
   x2 : ℕ
   left : o1 ≡ option_map (put x1) core
   right : o2 ≡ option_map (put x2) core
-  places : (l : Coming) → core ≡ Some l → P x1 x2
+  places : (l : DueChange) → core ≡ Some l → P x1 x2
 
 abbrev Before : ℕ → ℕ → ℕ → ℕ → Type 0
 Before p1 p2 x1 x2 = (x1 < p1) × (x2 < p2)
@@ -86,7 +86,7 @@ Before p1 p2 x1 x2 = (x1 < p1) × (x2 < p2)
 abbrev UpTo : ℕ → ℕ → ℕ → ℕ → Type 0
 UpTo p1 p2 x1 x2 = ((x1 < p1) × (x2 < p2)) ⊎ ((x1 ≡ p1) × (x2 ≡ p2))
 
-placed : {P Q : ℕ → ℕ → Type 0} {o1 o2 : Option Coming} → ((x1 x2 : ℕ) → P x1 x2 → Q x1 x2) → Twins P o1 o2 → Twins Q o1 o2
+placed : {P Q : ℕ → ℕ → Type 0} {o1 o2 : Option DueChange} → ((x1 x2 : ℕ) → P x1 x2 → Q x1 x2) → Twins P o1 o2 → Twins Q o1 o2
 placed f t = record { core = t.core; x1 = t.x1; x2 = t.x2; left = t.left; right = t.right; places = λ l q. f t.x1 t.x2 (t.places l q) }
 
 abbrev order_at : Bool → Bool → ℕ → ℕ → Bool
@@ -106,15 +106,15 @@ order_same : (late same : Bool) (p1 p2 x1 x2 : ℕ) → UpTo p1 p2 x1 x2 → ord
 order_same late same p1 p2 x1 x2 (inl l) = order_lt late same p1 x1 l.0 ∙ sym (order_lt late same p2 x2 l.1)
 order_same late same p1 p2 x1 x2 (inr e) = order_eq late same p1 x1 e.0 ∙ sym (order_eq late same p2 x2 e.1)
 
-comes_same : (next l : Coming) (p1 p2 x1 x2 : ℕ) → UpTo p1 p2 x1 x2 → comes_before (put p1 next).key (put x1 l).key ≡ comes_before (put p2 next).key (put x2 l).key
+comes_same : (next l : DueChange) (p1 p2 x1 x2 : ℕ) → UpTo p1 p2 x1 x2 → comes_before (put p1 next).key (put x1 l).key ≡ comes_before (put p2 next).key (put x2 l).key
 comes_same next l p1 p2 x1 x2 u =
     ap (λ t. int_lt next.key.value l.key.value || (int_le next.key.value l.key.value && (nat_lt next.key.class l.key.class || ((next.key.class == l.key.class) && t))))
     (order_same (next.key.class == 2) (not (next.key.repeat) && l.key.repeat) p1 p2 x1 x2 u)
 
-twin_step : (next : Coming) (p1 p2 : ℕ) (o1 o2 : Option Coming) → Twins (UpTo p1 p2) o1 o2 → Twins (UpTo p1 p2) (earlier_coming o1 (put p1 next)) (earlier_coming o2 (put p2 next))
+twin_step : (next : DueChange) (p1 p2 : ℕ) (o1 o2 : Option DueChange) → Twins (UpTo p1 p2) o1 o2 → Twins (UpTo p1 p2) (earlier_coming o1 (put p1 next)) (earlier_coming o2 (put p2 next))
 twin_step next p1 p2 o1 o2 t = by_core t.core t.left t.right t.places
   where
-    by_core : (c : Option Coming) → o1 ≡ option_map (put t.x1) c → o2 ≡ option_map (put t.x2) c → ((l : Coming) → c ≡ Some l → UpTo p1 p2 t.x1 t.x2) → Twins (UpTo p1 p2) (earlier_coming o1 (put p1 next)) (earlier_coming o2 (put p2 next))
+    by_core : (c : Option DueChange) → o1 ≡ option_map (put t.x1) c → o2 ≡ option_map (put t.x2) c → ((l : DueChange) → c ≡ Some l → UpTo p1 p2 t.x1 t.x2) → Twins (UpTo p1 p2) (earlier_coming o1 (put p1 next)) (earlier_coming o2 (put p2 next))
     by_core None q r s =
         record { core = Some next; x1 = p1; x2 = p2; left = ap (λ o. earlier_coming o (put p1 next)) q; right = ap (λ o. earlier_coming o (put p2 next)) r; places = λ _ _. inr (refl, refl) }
     by_core (Some l) q r s =
@@ -126,17 +126,17 @@ twin_step next p1 p2 o1 o2 t = by_core t.core t.left t.right t.places
         by_order true f g = record { core = Some next; x1 = p1; x2 = p2; left = f; right = g; places = λ _ _. inr (refl, refl) }
         by_order false f g = record { core = Some l; x1 = t.x1; x2 = t.x2; left = f; right = g; places = λ _ _. s l refl }
 
-twin_fold : (ks : List Coming) (p1 p2 : ℕ) (o1 o2 : Option Coming) → Twins (UpTo p1 p2) o1 o2 → Twins (UpTo p1 p2) (fold earlier_coming o1 (map (put p1) ks)) (fold earlier_coming o2 (map (put p2) ks))
+twin_fold : (ks : List DueChange) (p1 p2 : ℕ) (o1 o2 : Option DueChange) → Twins (UpTo p1 p2) o1 o2 → Twins (UpTo p1 p2) (fold earlier_coming o1 (map (put p1) ks)) (fold earlier_coming o2 (map (put p2) ks))
 twin_fold [] p1 p2 o1 o2 t = t
 twin_fold (next ∷ ks) p1 p2 o1 o2 t = twin_fold ks p1 p2 (earlier_coming o1 (put p1 next)) (earlier_coming o2 (put p2 next)) (twin_step next p1 p2 o1 o2 t)
 
 module _ (aside : ℕ → Bool) (h : History) (J : ℕ → Option Interval) (now : ℤ) (empty : (e : Node) (q : ℕ) → aside e.serial ≡ true → coming_of h J now q e ≡ []) where
   -- elements of which nothing comes can be left out
-  sifted : (ns : List Node) (p1 p2 : ℕ) (o1 o2 : Option Coming) → Twins (Before p1 p2) o1 o2 → Twins (λ x1 x2. Unit {0}) (fold earlier_coming o1 (coming_from h J now p1 ns)) (fold earlier_coming o2 (coming_from h J now p2 (filter (λ (n : Node). not (aside n.serial)) ns)))
+  sifted : (ns : List Node) (p1 p2 : ℕ) (o1 o2 : Option DueChange) → Twins (Before p1 p2) o1 o2 → Twins (λ x1 x2. Unit {0}) (fold earlier_coming o1 (coming_from h J now p1 ns)) (fold earlier_coming o2 (coming_from h J now p2 (filter (λ (n : Node). not (aside n.serial)) ns)))
   sifted [] p1 p2 o1 o2 t = placed (λ x1 x2 l. tt) t
   sifted (n ∷ ns) p1 p2 o1 o2 t = step (aside n.serial) refl (sifted ns)
     where
-      step : (b : Bool) → aside n.serial ≡ b → ((q1 q2 : ℕ) (a1 a2 : Option Coming) → Twins (Before q1 q2) a1 a2 → Twins (λ x1 x2. Unit {0}) (fold earlier_coming a1 (coming_from h J now q1 ns)) (fold earlier_coming a2 (coming_from h J now q2 (filter (λ (n : Node). not (aside n.serial)) ns)))) → Twins (λ x1 x2. Unit {0}) (fold earlier_coming o1 (coming_of h J now p1 n ++ coming_from h J now (suc p1) ns)) (fold earlier_coming o2 (coming_from h J now p2 (cond (not b) (n ∷ filter (λ (n : Node). not (aside n.serial)) ns) (filter (λ (n : Node). not (aside n.serial)) ns))))
+      step : (b : Bool) → aside n.serial ≡ b → ((q1 q2 : ℕ) (a1 a2 : Option DueChange) → Twins (Before q1 q2) a1 a2 → Twins (λ x1 x2. Unit {0}) (fold earlier_coming a1 (coming_from h J now q1 ns)) (fold earlier_coming a2 (coming_from h J now q2 (filter (λ (n : Node). not (aside n.serial)) ns)))) → Twins (λ x1 x2. Unit {0}) (fold earlier_coming o1 (coming_of h J now p1 n ++ coming_from h J now (suc p1) ns)) (fold earlier_coming o2 (coming_from h J now p2 (cond (not b) (n ∷ filter (λ (n : Node). not (aside n.serial)) ns) (filter (λ (n : Node). not (aside n.serial)) ns))))
       step true a rest =
           let r = rest (suc p1) p2 o1 o2 (placed (λ x1 x2 l. (omega (arith, l.0), l.1)) t) in
           record { core = r.core; x1 = r.x1; x2 = r.x2; left = ap (λ ks. fold earlier_coming o1 (ks ++ coming_from h J now (suc p1) ns)) (empty n p1 a) ∙ r.left; right = r.right; places = λ _ _. tt }
@@ -156,55 +156,55 @@ module _ (aside : ℕ → Bool) (h : History) (J : ℕ → Option Interval) (now
           later x1 x2 (inl l) = (omega (arith, l.0), omega (arith, l.1))
           later x1 x2 (inr e) = (omega (arith, e.0), omega (arith, e.1))
 
-abbrev pub bare : Option Coming → Option Coming
+abbrev pub bare : Option DueChange → Option DueChange
 bare o = option_map (put 0) o
 
-bare_put : (x : ℕ) (c : Option Coming) → bare (option_map (put x) c) ≡ bare c
+bare_put : (x : ℕ) (c : Option DueChange) → bare (option_map (put x) c) ≡ bare c
 bare_put x None = refl
 bare_put x (Some next) = refl
 
-twins_bare : {o1 o2 : Option Coming} → Twins (λ x1 x2. Unit {0}) o1 o2 → bare o1 ≡ bare o2
+twins_bare : {o1 o2 : Option DueChange} → Twins (λ x1 x2. Unit {0}) o1 o2 → bare o1 ≡ bare o2
 twins_bare t = ap bare t.left ∙ bare_put t.x1 t.core ∙ sym (bare_put t.x2 t.core) ∙ sym (ap bare t.right)
 
 -- ---- the element of a next
 
-keys_serial : (h : History) (J : ℕ → Option Interval) (now : ℤ) (q : ℕ) (e : Node) → AllByRecursion (λ (next : Coming). next.key.serial ≡ e.serial) (coming_of h J now q e)
+keys_serial : (h : History) (J : ℕ → Option Interval) (now : ℤ) (q : ℕ) (e : Node) → AllByRecursion (λ (next : DueChange). next.key.serial ≡ e.serial) (coming_of h J now q e)
 keys_serial h J now q e =
     either (is_active h.diary e.serial) _ _
-    (each_append (λ (next : Coming). next.key.serial ≡ e.serial) (cond (outer_stands h e.serial) [] (coming_end h now q e (J e.serial))) (coming_repeat h J now q e)
+    (each_append (λ (next : DueChange). next.key.serial ≡ e.serial) (cond (outer_stands h e.serial) [] (coming_end h now q e (J e.serial))) (coming_repeat h J now q e)
     (either (outer_stands h e.serial) [] (coming_end h now q e (J e.serial)) tt (ends (J e.serial)))
     (either ((is_some e.attrs.repeat_count || is_some e.attrs.repeat_dur) && not (stands h e.serial)) (coming_repeat_at h now q e (simple_of h J e) (later_time (simple_of h J e) (iteration_start h e.serial))) [] (repeats (simple_of h J e) (later_time (simple_of h J e) (iteration_start h e.serial))) tt))
     (either (outer_stands h e.serial) [] (coming_begin h now q e (J e.serial)) tt (begins (J e.serial)))
   where
-    either : (t : Bool) (a b : List Coming) → AllByRecursion (λ (next : Coming). next.key.serial ≡ e.serial) a → AllByRecursion (λ (next : Coming). next.key.serial ≡ e.serial) b → AllByRecursion (λ (next : Coming). next.key.serial ≡ e.serial) (cond t a b)
+    either : (t : Bool) (a b : List DueChange) → AllByRecursion (λ (next : DueChange). next.key.serial ≡ e.serial) a → AllByRecursion (λ (next : DueChange). next.key.serial ≡ e.serial) b → AllByRecursion (λ (next : DueChange). next.key.serial ≡ e.serial) (cond t a b)
     either true a b x y = x
     either false a b x y = y
 
-    row : (t : Bool) (next : Coming) → next.key.serial ≡ e.serial → AllByRecursion (λ (next : Coming). next.key.serial ≡ e.serial) (cond t (next ∷ []) [])
+    row : (t : Bool) (next : DueChange) → next.key.serial ≡ e.serial → AllByRecursion (λ (next : DueChange). next.key.serial ≡ e.serial) (cond t (next ∷ []) [])
     row true next r = (r, tt)
     row false next r = tt
 
-    at_end : (b : ℤ) (t : Time) → AllByRecursion (λ (next : Coming). next.key.serial ≡ e.serial) (coming_end_at h now q e b t)
+    at_end : (b : ℤ) (t : Time) → AllByRecursion (λ (next : DueChange). next.key.serial ≡ e.serial) (coming_end_at h now q e b t)
     at_end b (At v) = (refl, tt)
     at_end b _ = tt
 
-    ends : (o : Option Interval) → AllByRecursion (λ (next : Coming). next.key.serial ≡ e.serial) (coming_end h now q e o)
+    ends : (o : Option Interval) → AllByRecursion (λ (next : DueChange). next.key.serial ≡ e.serial) (coming_end h now q e o)
     ends None = tt
     ends (Some i) = at_end i.begin i.«end»
 
-    begins : (o : Option Interval) → AllByRecursion (λ (next : Coming). next.key.serial ≡ e.serial) (coming_begin h now q e o)
+    begins : (o : Option Interval) → AllByRecursion (λ (next : DueChange). next.key.serial ≡ e.serial) (coming_begin h now q e o)
     begins None = tt
     begins (Some i) = (refl, tt)
 
-    repeats : (d t : Time) → AllByRecursion (λ (next : Coming). next.key.serial ≡ e.serial) (coming_repeat_at h now q e d t)
+    repeats : (d t : Time) → AllByRecursion (λ (next : DueChange). next.key.serial ≡ e.serial) (coming_repeat_at h now q e d t)
     repeats d (At over) = row _ _ refl
     repeats d _ = tt
 
-least_each : (P : Coming → Type 0) (ks : List Coming) (o : Option Coming) (next : Coming) → AllByRecursion P ks → ((l : Coming) → o ≡ Some l → P l) → fold earlier_coming o ks ≡ Some next → P next
+least_each : (P : DueChange → Type 0) (ks : List DueChange) (o : Option DueChange) (next : DueChange) → AllByRecursion P ks → ((l : DueChange) → o ≡ Some l → P l) → fold earlier_coming o ks ≡ Some next → P next
 least_each P [] o next each start q = start next q
 least_each P (l ∷ ks) o next each start q = least_each P ks (earlier_coming o l) next each.1 (λ m r. by_option o m start r) q
   where
-    by_option : (o : Option Coming) (m : Coming) → ((l : Coming) → o ≡ Some l → P l) → earlier_coming o l ≡ Some m → P m
+    by_option : (o : Option DueChange) (m : DueChange) → ((l : DueChange) → o ≡ Some l → P l) → earlier_coming o l ≡ Some m → P m
     by_option None m s r = let one : l ≡ m = cc in rw (← one) each.0
     by_option (Some k) m s r = by_test (comes_before l.key k.key) r
       where
@@ -240,7 +240,7 @@ module _ (aside : ℕ → Bool) (p : ℕ) (n1 n2 : List Node) (differ : DifferBe
       ∙ ap (λ o. cond (outer_stands h e.serial) [] (coming_begin h now q e o)) (none e.serial a)
       ∙ both (outer_stands h e.serial)
     where
-      both : (t : Bool) → cond {A = List Coming} t [] [] ≡ []
+      both : (t : Bool) → cond {A = List DueChange} t [] [] ≡ []
       both true = refl
       both false = refl
 
@@ -282,11 +282,11 @@ module _ (aside : ℕ → Bool) (p : ℕ) (n1 n2 : List Node) (differ : DifferBe
   all_same [] q each = refl
   all_same (n ∷ ns) q each = ap (λ ks. ks ++ coming_from h1 J1 now (suc q) ns) (keys_same q n each.0) ∙ ap (λ ks. coming_of h2 J2 now q n ++ ks) (all_same ns (suc q) each.1)
 
-  kept_keys : (h : History) (J : ℕ → Option Interval) (ns : List Node) (q : ℕ) → AllByRecursion (λ (n : Node). aside n.serial ≡ false) ns → AllByRecursion (λ (next : Coming). aside next.key.serial ≡ false) (coming_from h J now q ns)
+  kept_keys : (h : History) (J : ℕ → Option Interval) (ns : List Node) (q : ℕ) → AllByRecursion (λ (n : Node). aside n.serial ≡ false) ns → AllByRecursion (λ (next : DueChange). aside next.key.serial ≡ false) (coming_from h J now q ns)
   kept_keys h J [] q each = tt
   kept_keys h J (n ∷ ns) q each =
-      each_append (λ (next : Coming). aside next.key.serial ≡ false) (coming_of h J now q n) (coming_from h J now (suc q) ns)
-      (each_weaker (λ (next : Coming). next.key.serial ≡ n.serial) (λ (next : Coming). aside next.key.serial ≡ false) (coming_of h J now q n) (keys_serial h J now q n) (λ next r. ap aside r ∙ each.0))
+      each_append (λ (next : DueChange). aside next.key.serial ≡ false) (coming_of h J now q n) (coming_from h J now (suc q) ns)
+      (each_weaker (λ (next : DueChange). next.key.serial ≡ n.serial) (λ (next : DueChange). aside next.key.serial ≡ false) (coming_of h J now q n) (keys_serial h J now q n) (λ next r. ap aside r ∙ each.0))
       (kept_keys h J ns (suc q) each.1)
 
   start : Twins (Before 0 0) None None
@@ -316,12 +316,12 @@ module _ (aside : ℕ → Bool) (p : ℕ) (n1 n2 : List Node) (differ : DifferBe
       sift1 ∙ ap (λ ks. bare (first_coming ks)) (all_same rest1 0 rest_kept ∙ ap (coming_from h2 J2 now 0) elements_same) ∙ sym sift2
 
   -- and none of them is of an element that is set aside
-  pub least_kept : (next : Coming) → first_coming (coming h1 now) ≡ Some next → aside next.key.serial ≡ false
+  pub least_kept : (next : DueChange) → first_coming (coming h1 now) ≡ Some next → aside next.key.serial ≡ false
   least_kept next q = by_option (first_coming (coming_from h1 J1 now 0 rest1)) refl (sym (ap bare q) ∙ sift1)
     where
-      by_option : (o : Option Coming) → first_coming (coming_from h1 J1 now 0 rest1) ≡ o → Some (put 0 next) ≡ bare o → aside next.key.serial ≡ false
+      by_option : (o : Option DueChange) → first_coming (coming_from h1 J1 now 0 rest1) ≡ o → Some (put 0 next) ≡ bare o → aside next.key.serial ≡ false
       by_option None r e = cc
       by_option (Some l) r e =
           let one : put 0 next ≡ put 0 l = cc in
-          ap (λ (y : Coming). aside y.key.serial) one
-          ∙ least_each (λ (y : Coming). aside y.key.serial ≡ false) (coming_from h1 J1 now 0 rest1) None l (kept_keys h1 J1 rest1 0 rest_kept) (λ y d. cc) r
+          ap (λ (y : DueChange). aside y.key.serial) one
+          ∙ least_each (λ (y : DueChange). aside y.key.serial ≡ false) (coming_from h1 J1 now 0 rest1) None l (kept_keys h1 J1 rest1 0 rest_kept) (λ y d. cc) r

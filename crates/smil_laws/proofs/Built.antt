@@ -16,8 +16,8 @@ use Rattle.std.specs.Option.{option_or, option_map_or}
 use Rattle.smil_model.specs.interval.Instances.{begin_times}
 use Rattle.smil_model.specs.interval.Durations.{bounds_of, active_duration, active_end, container_duration}
 use Rattle.smil_model.specs.declared.document.Endsync.TheVariants.{Last}
-use Rattle.smil_model.specs.happening.Keys.{Coming}
-use Rattle.smil_model.specs.happening.Keys.{Change, is_repeating, Coming, ends, begins as begins_at, coming_begin, coming_end, coming, first_coming}
+use Rattle.smil_model.specs.happening.Keys.{DueChange}
+use Rattle.smil_model.specs.happening.Keys.{Change, is_repeating, DueChange, ends, begins as begins_at, coming_begin, coming_end, coming, first_coming}
 use Rattle.smil_model.specs.happening.Resolution.{Course, Progress, next_step, after_coming, after_quiet, after_steps, resolved}
 use Rattle.smil_model.specs.happening.Groups.{group}
 use Rattle.smil_model.specs.diary.Clocks.{to_document, run, outer, parent_start, play_start, iteration_start}
@@ -212,20 +212,20 @@ module _ (b d : ℕ) (id : List ℕ) (fits : b + d ≤ 1_000_000_000_000) (long 
 
   -- ---- what comes first
 
-  abbrev came : ℕ → ℕ → ℤ → ℕ → Change → Coming
+  abbrev came : ℕ → ℕ → ℤ → ℕ → Change → DueChange
   came serial place moment class change = record {
     key = record { value = moment; class = class; position = place; serial = serial; repeat = is_repeating change };
     change = change;
   }
 
-  two_keys : ℤ → ℕ → ℤ → ℕ → Change → Option Coming
+  two_keys : ℤ → ℕ → ℤ → ℕ → Change → Option DueChange
   two_keys m c n e due =
       first_coming (came 1 0 (m) (c) (ends (pos whole)) ∷ came 2 1 (n) (e) (due) ∷ [])
 
   moment_at : (ds : List Entry) → none_paused ds ≡ true → (m : ℕ) (v : ℤ) → to_document (with ds) 2 v (pos m) ≡ v
   moment_at ds free m v = ap (λ a. pos m +ℤ (v -ℤ a)) (parent_all (with ds) free 2 m) ∙ put_back (pos m) v
 
-  begin_key_of : Coming
+  begin_key_of : DueChange
   begin_key_of = came 2 1 (pos b) (2) (begins_at (pos b))
 
   least-1 : (m : ℕ) → first_coming (coming (with ds1) (pos m)) ≡ Some begin_key_of
@@ -239,10 +239,10 @@ module _ (b d : ℕ) (id : List ℕ) (fits : b + d ≤ 1_000_000_000_000) (long 
       ∙ ap (λ z. two_keys (pos whole) (cond (ltb 0 whole) 1 3) z 2 (begins_at (pos b))) (moment_at ds1 refl m (pos b))
       ∙ ap (λ t. cond (t || (leb b whole && (ltb 2 (cond (ltb 0 whole) 1 3) || ((2 == cond (ltb 0 whole) 1 3) && ltb 1 0)))) (Some begin_key_of) (Some (came 1 0 (pos whole) (cond (ltb 0 whole) 1 3) (ends (pos whole))))) (lt-ltb b whole (omega arith))
 
-  end_key_of : Coming
+  end_key_of : DueChange
   end_key_of = came 2 1 (pos whole) (1) (ends (pos whole))
 
-  root_key_of : ℕ → Coming
+  root_key_of : ℕ → DueChange
   root_key_of class = came 1 0 (pos whole) (class) (ends (pos whole))
 
   least-2 : (m : ℕ) → first_coming (coming (with ds2) (pos m)) ≡ Some end_key_of
@@ -285,20 +285,20 @@ module _ (b d : ℕ) (id : List ℕ) (fits : b + d ≤ 1_000_000_000_000) (long 
     starts : next_step course (at 0 []) ≡ Some (at 0 ds1)
     starts = refl
 
-    quiet : (m : ℕ) (ds : List Entry) (k : Coming) (due : ℕ) → first_coming (coming (with ds) (pos m)) ≡ Some k → k.key.value ≡ pos due → m < due → m < last → next_step course (at m ds) ≡ Some (at (suc m) ds)
+    quiet : (m : ℕ) (ds : List Entry) (k : DueChange) (due : ℕ) → first_coming (coming (with ds) (pos m)) ≡ Some k → k.key.value ≡ pos due → m < due → m < last → next_step course (at m ds) ≡ Some (at (suc m) ds)
     quiet m ds k due p q before more =
         ap (after_coming course (at m ds)) p
         ∙ ap (λ z. cond (int_le z (pos m)) (Some (record { moment = m; heard = 0; diary = ds ++ group (with ds) (pos m) k.key.serial k.change })) (after_quiet course (at m ds))) q
         ∙ ap (λ t. cond t (Some (record { moment = m; heard = 0; diary = ds ++ group (with ds) (pos m) k.key.serial k.change })) (after_quiet course (at m ds))) (lt-leb due m before)
         ∙ ap (λ t. cond t (Some (at (suc m) ds)) None) (lt-ltb m last more)
 
-    happens : (m : ℕ) (ds : List Entry) (k : Coming) (due : ℕ) → first_coming (coming (with ds) (pos m)) ≡ Some k → k.key.value ≡ pos due → due ≤ m → next_step course (at m ds) ≡ Some (at m (ds ++ group (with ds) (pos m) k.key.serial k.change))
+    happens : (m : ℕ) (ds : List Entry) (k : DueChange) (due : ℕ) → first_coming (coming (with ds) (pos m)) ≡ Some k → k.key.value ≡ pos due → due ≤ m → next_step course (at m ds) ≡ Some (at m (ds ++ group (with ds) (pos m) k.key.serial k.change))
     happens m ds k due p q now =
         ap (after_coming course (at m ds)) p
         ∙ ap (λ z. cond (int_le z (pos m)) (Some (record { moment = m; heard = 0; diary = ds ++ group (with ds) (pos m) k.key.serial k.change })) (after_quiet course (at m ds))) q
         ∙ ap (λ t. cond t (Some (record { moment = m; heard = 0; diary = ds ++ group (with ds) (pos m) k.key.serial k.change })) (after_quiet course (at m ds))) (le-leb due m now)
 
-    halts : (ds : List Entry) (k : Coming) (due : ℕ) → first_coming (coming (with ds) (pos last)) ≡ Some k → k.key.value ≡ pos due → last < due → next_step course (at last ds) ≡ None
+    halts : (ds : List Entry) (k : DueChange) (due : ℕ) → first_coming (coming (with ds) (pos last)) ≡ Some k → k.key.value ≡ pos due → last < due → next_step course (at last ds) ≡ None
     halts ds k due p q before =
         ap (after_coming course (at last ds)) p
         ∙ ap (λ z. cond (int_le z (pos last)) (Some (record { moment = last; heard = 0; diary = ds ++ group (with ds) (pos last) k.key.serial k.change })) (after_quiet course (at last ds))) q

@@ -19,7 +19,7 @@ use Rattle.smil_model.specs.interval.Durations.{bounds_of, intermediate_end}
 use Rattle.smil_model.specs.interval.Intervals.{coming_interval, interval_by}
 use Rattle.smil_model.specs.interval.Instances.{begin_times, end_times}
 use Rattle.smil_model.specs.interval.Current.{present_play, facts_of, interval_given, simple_of, in_table, table, current_table}
-use Rattle.smil_model.specs.happening.Keys.{Coming, coming_begin, coming_end_at, coming_end, coming_repeat_at, coming_repeat, coming_of, coming_from, coming, earlier_coming, first_coming, comes_before}
+use Rattle.smil_model.specs.happening.Keys.{DueChange, coming_begin, coming_end_at, coming_end, coming_repeat_at, coming_repeat, coming_of, coming_from, coming, earlier_coming, first_coming, comes_before}
 use Rattle.smil_laws.specs.Edited.{IsOrdered}
 use Rattle.smil_laws.proofs.Aside.{each_append}
 use Rattle.smil_laws.proofs.Members.{holds}
@@ -84,10 +84,10 @@ module _ (nodes : List Node) (o : IsOrdered nodes) (log : List LogEntry) (now : 
   abbrev h : History
   h = by nodes log ds
 
-  abbrev May : Coming → Type 0
+  abbrev May : DueChange → Type 0
   May c = MayHappen nodes o log now ds c.key.serial c.change
 
-  each_choice : (t : Bool) (xs ys : List Coming) → (t ≡ true → AllByRecursion May xs) → (t ≡ false → AllByRecursion May ys) → AllByRecursion May (cond t xs ys)
+  each_choice : (t : Bool) (xs ys : List DueChange) → (t ≡ true → AllByRecursion May xs) → (t ≡ false → AllByRecursion May ys) → AllByRecursion May (cond t xs ys)
   each_choice true xs ys a b = a refl
   each_choice false xs ys a b = b refl
 
@@ -135,11 +135,11 @@ module _ (nodes : List Node) (o : IsOrdered nodes) (log : List LogEntry) (now : 
     all_may place (e ∷ es) known =
         each_append May (coming_of h J now place e) (coming_from h J now (suc place) es) (element_may place e known.0) (all_may (suc place) es known.1)
 
-  least_may : (before : Option Coming) (cs : List Coming) (c : Coming) → ((b : Coming) → before ≡ Some b → May b) → AllByRecursion May cs → fold earlier_coming before cs ≡ Some c → May c
+  least_may : (before : Option DueChange) (cs : List DueChange) (c : DueChange) → ((b : DueChange) → before ≡ Some b → May b) → AllByRecursion May cs → fold earlier_coming before cs ≡ Some c → May c
   least_may before [] c first each q = first c q
   least_may before (k ∷ ks) c first each q = least_may (earlier_coming before k) ks c (next before first) each.1 q
     where
-      next : (r : Option Coming) → ((b : Coming) → r ≡ Some b → May b) → (b : Coming) → earlier_coming r k ≡ Some b → May b
+      next : (r : Option DueChange) → ((b : DueChange) → r ≡ Some b → May b) → (b : DueChange) → earlier_coming r k ≡ Some b → May b
       next None f b e = let one : k ≡ b = cc in rw (← one) each.0
       next (Some a) f b e = choose (comes_before k.key a.key) e
         where
@@ -148,7 +148,7 @@ module _ (nodes : List Node) (o : IsOrdered nodes) (log : List LogEntry) (now : 
           choose false d = f b d
 
   -- what comes first may happen
-  pub first_may : (c : Coming) → first_coming (coming h now) ≡ Some c → MayHappen nodes o log now ds c.key.serial c.change
+  pub first_may : (c : DueChange) → first_coming (coming h now) ≡ Some c → MayHappen nodes o log now ds c.key.serial c.change
   first_may c q =
       least_may None (coming h now) c (λ b e. cc)
       (all_may (in_table (current_table h now)) (λ s i e idle. table_alive h now s i (length (elements nodes)) idle e) 0 (elements nodes) (each_element nodes)) q

@@ -354,18 +354,18 @@ one_more c (suc i) x q r e n = by_next (next_step c x) refl e (λ y. one_more c 
     by_next (Some y) d f later = later y f n
 
 -- where the last entry was appended
-record Trimmed (c : Course) (q : Progress) : Type 0 where
+record IsTrimmed (c : Course) (q : Progress) : Type 0 where
   at : Progress
   reached : Reaches c at
   same : at.diary ≡ q.diary
   last : pos at.moment ≡ last_moment at.diary
   count : logged at.diary ≡ at.heard
 
-trim : (c : Course) (k i : ℕ) (q : Progress) → after_steps c i outset ≡ q → logged q.diary ≡ q.heard → Trimmed c q → Trimmed c (after_steps c k q)
+trim : (c : Course) (k i : ℕ) (q : Progress) → after_steps c i outset ≡ q → logged q.diary ≡ q.heard → IsTrimmed c q → IsTrimmed c (after_steps c k q)
 trim c zero i q e count t = t
 trim c (suc k) i q e count t = by_next (next_step c q) refl (trim c k (suc i))
   where
-    by_next : (o : Option Progress) → next_step c q ≡ o → ((r : Progress) → after_steps c (suc i) outset ≡ r → logged r.diary ≡ r.heard → Trimmed c r → Trimmed c (after_steps c k r)) → Trimmed c (option_map_or (λ r. after_steps c k r) o q)
+    by_next : (o : Option Progress) → next_step c q ≡ o → ((r : Progress) → after_steps c (suc i) outset ≡ r → logged r.diary ≡ r.heard → IsTrimmed c r → IsTrimmed c (after_steps c k r)) → IsTrimmed c (option_map_or (λ r. after_steps c k r) o q)
     by_next None d later = t
     by_next (Some r) d later = later r on counted (by_adds (next_adds c q r d))
       where
@@ -375,7 +375,7 @@ trim c (suc k) i q e count t = by_next (next_step c q) refl (trim c k (suc i))
         counted : logged r.diary ≡ r.heard
         counted = (next_on c q r d).count count
 
-        by_adds : Adds q r → Trimmed c r
+        by_adds : Adds q r → IsTrimmed c r
         by_adds (inl s) = record { at = t.at; reached = t.reached; same = t.same ∙ sym s; last = t.last; count = t.count }
         by_adds (inr l) = record { at = r; reached = (suc i, on); same = refl; last = l; count = counted }
 

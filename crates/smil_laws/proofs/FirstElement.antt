@@ -15,7 +15,7 @@ use Rattle.smil_model.specs.diary.Clocks.{stands, outer_stands, play_start, iter
 use Rattle.smil_model.specs.interval.Durations.{bounds_of, intermediate_end}
 use Rattle.smil_model.specs.interval.Instances.{number_of}
 use Rattle.smil_model.specs.interval.Current.{simple_of, current_interval}
-use Rattle.smil_model.specs.happening.Keys.{Coming, ends, repeats, coming_begin, coming_end_at, coming_end, coming_repeat_at, coming_repeat, coming_of, coming_from, coming, earlier_coming, first_coming, comes_before}
+use Rattle.smil_model.specs.happening.Keys.{DueChange, ends, repeats, coming_begin, coming_end_at, coming_end, coming_repeat_at, coming_repeat, coming_of, coming_from, coming, earlier_coming, first_coming, comes_before}
 use Rattle.smil_laws.proofs.Aside.{each_append, each_both}
 use Rattle.smil_laws.proofs.Lineages.{swap_eqb}
 use Rattle.smil_laws.proofs.Members.{Differ, differ_all, differ_kept}
@@ -36,10 +36,10 @@ each_there (n ∷ ns) d = (
 )
 
 module _ (h : History) (now : ℤ) (J : ℕ → Option Interval) where
-  abbrev Of : Coming → Type 0
+  abbrev Of : DueChange → Type 0
   Of c = IsOfElement h J c
 
-  each_choice : (t : Bool) (xs ys : List Coming) → (t ≡ true → AllByRecursion Of xs) → (t ≡ false → AllByRecursion Of ys) → AllByRecursion Of (cond t xs ys)
+  each_choice : (t : Bool) (xs ys : List DueChange) → (t ≡ true → AllByRecursion Of xs) → (t ≡ false → AllByRecursion Of ys) → AllByRecursion Of (cond t xs ys)
   each_choice true xs ys a b = a refl
   each_choice false xs ys a b = b refl
 
@@ -95,11 +95,11 @@ module _ (h : History) (now : ℤ) (J : ℕ → Option Interval) where
   all_of place (e ∷ es) there =
       each_append Of (coming_of h J now place e) (coming_from h J now (suc place) es) (element_of place e there.0) (all_of (suc place) es there.1)
 
-  least_of : (before : Option Coming) (cs : List Coming) (c : Coming) → ((b : Coming) → before ≡ Some b → Of b) → AllByRecursion Of cs → fold earlier_coming before cs ≡ Some c → Of c
+  least_of : (before : Option DueChange) (cs : List DueChange) (c : DueChange) → ((b : DueChange) → before ≡ Some b → Of b) → AllByRecursion Of cs → fold earlier_coming before cs ≡ Some c → Of c
   least_of before [] c first each q = first c q
   least_of before (k ∷ ks) c first each q = least_of (earlier_coming before k) ks c (next before first) each.1 q
     where
-      next : (r : Option Coming) → ((b : Coming) → r ≡ Some b → Of b) → (b : Coming) → earlier_coming r k ≡ Some b → Of b
+      next : (r : Option DueChange) → ((b : DueChange) → r ≡ Some b → Of b) → (b : DueChange) → earlier_coming r k ≡ Some b → Of b
       next None f b e = let one : k ≡ b = cc in rw (← one) each.0
       next (Some a) f b e = choose (comes_before k.key a.key) e
         where
@@ -107,7 +107,7 @@ module _ (h : History) (now : ℤ) (J : ℕ → Option Interval) where
           choose true d = let one : k ≡ b = cc in rw (← one) each.0
           choose false d = f b d
 
-pub first_of_element : (h : History) (now : ℤ) (c : Coming) → IsDistinct h.nodes → first_coming (coming h now) ≡ Some c → IsOfElement h (current_interval h now) c
+pub first_of_element : (h : History) (now : ℤ) (c : DueChange) → IsDistinct h.nodes → first_coming (coming h now) ≡ Some c → IsOfElement h (current_interval h now) c
 first_of_element h now c distinct q =
     least_of h now (current_interval h now) None (coming h now) c (λ b e. cc)
     (all_of h now (current_interval h now) 0 (elements h.nodes) (each_there (elements h.nodes) (differ_kept is_element h.nodes (differ_all h.nodes distinct)))) q

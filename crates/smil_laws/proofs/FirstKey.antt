@@ -3,12 +3,12 @@ use Rattle.std.proofs.Common.{◌≡◌, refl, ◌∙◌, ap, List, [], ◌∷�
 use Rattle.std.specs.Prelude.{map, fold, cond, option_map}
 use Rattle.smil_model.specs.declared.happening.Key.{Key}
 use Rattle.smil_model.specs.diary.Diary.{History}
-use Rattle.smil_model.specs.happening.Keys.{Coming, comes_before, earlier_key, earlier_coming, least_key, first_coming, coming, keys}
+use Rattle.smil_model.specs.happening.Keys.{DueChange, comes_before, earlier_key, earlier_coming, least_key, first_coming, coming, keys}
 
-abbrev key_in : Option Coming → Option Key
-key_in o = option_map (λ (c : Coming). c.key) o
+abbrev key_in : Option DueChange → Option Key
+key_in o = option_map (λ (c : DueChange). c.key) o
 
-one : (o : Option Coming) (c : Coming) → key_in (earlier_coming o c) ≡ earlier_key (key_in o) c.key
+one : (o : Option DueChange) (c : DueChange) → key_in (earlier_coming o c) ≡ earlier_key (key_in o) c.key
 one None c = refl
 one (Some b) c = by_test (comes_before c.key b.key)
   where
@@ -16,9 +16,9 @@ one (Some b) c = by_test (comes_before c.key b.key)
     by_test true = refl
     by_test false = refl
 
-all : (cs : List Coming) (o : Option Coming) → key_in (fold earlier_coming o cs) ≡ fold earlier_key (key_in o) (map (λ (c : Coming). c.key) cs)
+all : (cs : List DueChange) (o : Option DueChange) → key_in (fold earlier_coming o cs) ≡ fold earlier_key (key_in o) (map (λ (c : DueChange). c.key) cs)
 all [] o = refl
-all (c ∷ cs) o = all cs (earlier_coming o c) ∙ ap (λ k. fold earlier_key k (map (λ (x : Coming). x.key) cs)) (one o c)
+all (c ∷ cs) o = all cs (earlier_coming o c) ∙ ap (λ k. fold earlier_key k (map (λ (x : DueChange). x.key) cs)) (one o c)
 
 pub first_key : (h : History) (now : ℤ) → key_in (first_coming (coming h now)) ≡ least_key (keys h now)
 first_key h now = all (coming h now) None

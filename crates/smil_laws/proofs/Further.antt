@@ -13,7 +13,7 @@ use Rattle.smil_model.specs.declared.document.Node.{Node}
 use Rattle.smil_model.specs.document.Document.{Document}
 use Rattle.smil_model.specs.document.Valid.{IsNumberedTree}
 use Rattle.smil_model.specs.diary.Clocks.{until}
-use Rattle.smil_model.specs.happening.Keys.{Coming, coming, first_coming, is_due}
+use Rattle.smil_model.specs.happening.Keys.{DueChange, coming, first_coming, is_due}
 use Rattle.smil_model.specs.happening.Groups.{steps_of, at_moment, group}
 use Rattle.smil_model.specs.happening.Resolution.{Course, Progress, outset, history_at, after_quiet, after_settling, after_coming, next_step, after_steps, Reaches}
 use Rattle.smil_model.specs.reach.Bounds.{has_begun}
@@ -69,7 +69,7 @@ module _ (c : Course) (q : Progress) where
           rw (← one) (each_append (λ (x : Entry). int_le x.moment (pos q.moment) ≡ true) q.diary (record { moment = pos q.moment; step = Logged q.heard } ∷ []) p (le_same q.moment, tt))
       by_test false e = quiet_past r e p
 
-  key_past : (o : Option Coming) (r : Progress) → after_coming c q o ≡ Some r → NoLater q.moment q.diary → NoLater r.moment r.diary
+  key_past : (o : Option DueChange) (r : Progress) → after_coming c q o ≡ Some r → NoLater q.moment q.diary → NoLater r.moment r.diary
   key_past None r e p = settling_past (slice_get c.log q.heard) r e p
   key_past (Some next) r e p = by_test (is_due (pos q.moment) next.key) e
     where
@@ -248,7 +248,7 @@ module _ (nodes : List Node) (first : ParentsBefore (reverse nodes)) (fresh : �
               omega (arith, same, room)
           by_test false e = by_quiet e
 
-      by_key : (o : Option Coming) → after_coming short q o ≡ Some r → r.heard ≤ length log
+      by_key : (o : Option DueChange) → after_coming short q o ≡ Some r → r.heard ≤ length log
       by_key None e = by_entry (slice_get log q.heard) refl e
       by_key (Some next) e = by_test (is_due (pos q.moment) next.key) e
         where

@@ -12,7 +12,7 @@ use Rattle.smil_model.specs.diary.Diary.{History, is_active, iteration}
 use Rattle.smil_model.specs.diary.Clocks.{stands, outer_stands, play_start, iteration_start}
 use Rattle.smil_model.specs.interval.Durations.{bounds_of, intermediate_end}
 use Rattle.smil_model.specs.interval.Current.{simple_of, interval_given, in_table, table, current_table}
-use Rattle.smil_model.specs.happening.Keys.{Coming, coming_begin, coming_end_at, coming_end, coming_repeat_at, coming_repeat, coming_of, coming_from, coming, earlier_coming, comes_before}
+use Rattle.smil_model.specs.happening.Keys.{DueChange, coming_begin, coming_end_at, coming_end, coming_repeat_at, coming_repeat, coming_of, coming_from, coming, earlier_coming, comes_before}
 use Rattle.smil_laws.proofs.Aside.{each_append}
 use Rattle.smil_laws.specs.Near.{AllNear, IsTimeNear, ComingIsNear, value_in}
 use Rattle.smil_laws.proofs.NearIntervals.{IntervalNear, given_near_all, later_near}
@@ -34,10 +34,10 @@ module _ (h : History) (now : ℤ) (a : AllNear h.diary) where
 
   -- ---- what comes
 
-  abbrev Near : Coming → Type 0
+  abbrev Near : DueChange → Type 0
   Near c = IsNear (value_in c.change)
 
-  each_choice : (t : Bool) (xs ys : List Coming) → AllByRecursion Near xs → AllByRecursion Near ys → AllByRecursion Near (cond t xs ys)
+  each_choice : (t : Bool) (xs ys : List DueChange) → AllByRecursion Near xs → AllByRecursion Near ys → AllByRecursion Near (cond t xs ys)
   each_choice true xs ys p q = p
   each_choice false xs ys p q = q
 
@@ -85,11 +85,11 @@ module _ (h : History) (now : ℤ) (a : AllNear h.diary) where
     all_near place [] = tt
     all_near place (e ∷ es) = each_append Near (coming_of h J now place e) (coming_from h J now (suc place) es) (element_near place e) (all_near (suc place) es)
 
-  abbrev NearOption : Option Coming → Type 0
+  abbrev NearOption : Option DueChange → Type 0
   NearOption None = Unit {0}
   NearOption (Some c) = Near c
 
-  earlier_near : (o : Option Coming) (c : Coming) → NearOption o → Near c → NearOption (earlier_coming o c)
+  earlier_near : (o : Option DueChange) (c : DueChange) → NearOption o → Near c → NearOption (earlier_coming o c)
   earlier_near None c p q = q
   earlier_near (Some b) c p q = choose (comes_before c.key b.key)
     where
@@ -97,11 +97,11 @@ module _ (h : History) (now : ℤ) (a : AllNear h.diary) where
       choose true = q
       choose false = p
 
-  least_near : (o : Option Coming) (cs : List Coming) → NearOption o → AllByRecursion Near cs → NearOption (fold earlier_coming o cs)
+  least_near : (o : Option DueChange) (cs : List DueChange) → NearOption o → AllByRecursion Near cs → NearOption (fold earlier_coming o cs)
   least_near o [] p q = p
   least_near o (c ∷ cs) p q = least_near (earlier_coming o c) cs (earlier_near o c p q.0) q.1
 
-  same_coming : (o p : Option Coming) → o ≡ p → NearOption o → NearOption p
+  same_coming : (o p : Option DueChange) → o ≡ p → NearOption o → NearOption p
   same_coming o p e n = rw (sym e) n
 
 pub coming_is_near : ComingIsNear

@@ -32,7 +32,7 @@ use Rattle.smil_model.specs.document.Defaults.{begin_list, end_list}
 use Rattle.smil_model.specs.document.Dependencies.{leads_to}
 use Rattle.smil_model.specs.diary.Diary.{History, birth, is_active, is_paused, iteration, up_to, with_past}
 use Rattle.smil_model.specs.diary.Clocks.{outer, between, parent_start, outer_stands, play_start, iteration_start, run}
-use Rattle.smil_model.specs.diary.Plays.{Mark, Plays, finish_with, is_birth_under, play_after, plays}
+use Rattle.smil_model.specs.diary.Plays.{PlayEdge, Plays, finish_with, is_birth_under, play_after, plays}
 use Rattle.smil_laws.specs.Near.{AllNear, HasNear, IsTimeNear, IsIntervalNear, IntervalsAreNear}
 
 abbrev AreNear : List ℤ → Type 0
@@ -324,7 +324,7 @@ ends_near_by h intervals now e =
 
 -- ---- the present play
 
-abbrev PresentNear : Option Mark → Type 0
+abbrev PresentNear : Option PlayEdge → Type 0
 PresentNear None = Unit {0}
 PresentNear (Some m) = IsNear m.value
 
@@ -365,7 +365,7 @@ PlayNear (Some play) = IsNear play.begin
 play_near : (h : History) (now : ℤ) (e : Node) → AllNear h.diary → PlayNear (present_play h now e)
 play_near h now e a = by_active (is_active h.diary e.serial) (plays h e.serial).present (plays_near h e.serial h.diary (record { present = None; finished = [] }) a tt)
   where
-    by_active : (b : Bool) (o : Option Mark) → PresentNear o → PlayNear (cond b (option_map (λ (begin : Mark). record {
+    by_active : (b : Bool) (o : Option PlayEdge) → PresentNear o → PlayNear (cond b (option_map (λ (begin : PlayEdge). record {
       begin = begin.value;
       first = play_start h e.serial;
       start = iteration_start h e.serial;

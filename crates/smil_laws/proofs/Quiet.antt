@@ -11,7 +11,7 @@ use Rattle.smil_model.specs.diary.Diary.{History}
 use Rattle.smil_model.specs.diary.Clocks.{until}
 use Rattle.smil_model.specs.interval.Current.{in_table}
 use Rattle.smil_model.specs.document.Document.{elements}
-use Rattle.smil_model.specs.happening.Keys.{Coming, coming, first_coming}
+use Rattle.smil_model.specs.happening.Keys.{DueChange, coming, first_coming}
 use Rattle.smil_model.specs.happening.Groups.{group}
 use Rattle.smil_model.specs.happening.Resolution.{Course, Progress, history_at, next_step, after_coming, after_settling, after_quiet, after_steps}
 use Rattle.smil_laws.specs.Locality.{ParentsBefore}
@@ -59,7 +59,7 @@ module _ (c : Course) (p : Progress) (n : ℕ) (quiet : IsQuietFor c p (suc n)) 
   settling_step (Some entry) q =
       ap (λ t. cond t (Some (record { moment = p.moment; heard = suc p.heard; diary = p.diary ++ record { moment = pos p.moment; step = Logged p.heard } ∷ [] })) (after_quiet c p)) (not_due entry.moment p.moment (p.moment + suc n) (omega arith) (quiet.log entry q))
 
-  coming_step : (o : Option Coming) → first_coming (coming (history_at c p) (pos p.moment)) ≡ o → after_coming c p o ≡ after_quiet c p
+  coming_step : (o : Option DueChange) → first_coming (coming (history_at c p) (pos p.moment)) ≡ o → after_coming c p o ≡ after_quiet c p
   coming_step None q = settling_step (slice_get c.log p.heard) refl
   coming_step (Some next) q =
       ap (λ t. cond t (Some (record { moment = p.moment; heard = p.heard; diary = p.diary ++ group (history_at c p) (pos p.moment) next.key.serial next.change })) (after_settling c p (slice_get c.log p.heard))) (not_due next.key.value p.moment (p.moment + suc n) (omega arith) (quiet.coming next q))

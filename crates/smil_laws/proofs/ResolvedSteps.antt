@@ -13,7 +13,7 @@ use Rattle.smil_model.specs.document.Document.{Document}
 use Rattle.smil_model.specs.document.Valid.{IsNumberedTree}
 use Rattle.smil_model.specs.diary.Diary.{is_active, is_alive}
 use Rattle.smil_model.specs.diary.Lawful.{is_rising_from, IsLawful}
-use Rattle.smil_model.specs.happening.Keys.{Coming, coming, first_coming, is_due}
+use Rattle.smil_model.specs.happening.Keys.{DueChange, coming, first_coming, is_due}
 use Rattle.smil_model.specs.happening.Groups.{steps_of, at_moment, group}
 use Rattle.smil_model.specs.happening.Resolution.{Course, Progress, outset, history_at, after_quiet, after_settling, after_coming, next_step, after_steps}
 use Rattle.smil_model.proofs.Orders.{le_self, le_both}
@@ -65,7 +65,7 @@ module _ (c : Course) (P : Progress → Type 0) where
   pub record Keeps : Type 0 where
     pub quiet : (p : Progress) → P p → nat_lt p.moment c.last ≡ true → P (record { moment = suc p.moment; heard = p.heard; diary = p.diary })
     pub hears : (p : Progress) → P p → P (record { moment = p.moment; heard = suc p.heard; diary = p.diary ++ record { moment = pos p.moment; step = Logged p.heard } ∷ [] })
-    pub happens : (p : Progress) (next : Coming) → P p → first_coming (coming (history_at c p) (pos p.moment)) ≡ Some next → P (record { moment = p.moment; heard = p.heard; diary = p.diary ++ group (history_at c p) (pos p.moment) next.key.serial next.change })
+    pub happens : (p : Progress) (next : DueChange) → P p → first_coming (coming (history_at c p) (pos p.moment)) ≡ Some next → P (record { moment = p.moment; heard = p.heard; diary = p.diary ++ group (history_at c p) (pos p.moment) next.key.serial next.change })
 
   module _ (keeps : Keeps) where
     quiet_keeps : (p q : Progress) → P p → after_quiet c p ≡ Some q → P q
@@ -90,7 +90,7 @@ module _ (c : Course) (P : Progress → Type 0) where
     step_keeps : (p q : Progress) → P p → next_step c p ≡ Some q → P q
     step_keeps p q held e = by_coming (first_coming (coming (history_at c p) (pos p.moment))) refl e
       where
-        by_coming : (r : Option Coming) → first_coming (coming (history_at c p) (pos p.moment)) ≡ r → after_coming c p r ≡ Some q → P q
+        by_coming : (r : Option DueChange) → first_coming (coming (history_at c p) (pos p.moment)) ≡ r → after_coming c p r ≡ Some q → P q
         by_coming None f d = settling_keeps p q held (slice_get c.log p.heard) d
         by_coming (Some next) f d = by_due (is_due (pos p.moment) next.key) d
           where
@@ -110,14 +110,14 @@ module _ (c : Course) (P : Progress → Type 0) where
 
 -- ---- the moments of a resolution
 
-record Timed (c : Course) (p : Progress) : Type 0 where
+record IsTimed (c : Course) (p : Progress) : Type 0 where
   rises : Rises (pos 0) p.diary (pos p.moment)
   within : p.moment ≤ c.last
 
-timed : (c : Course) (k : ℕ) → Timed c (after_steps c k outset)
-timed c k = steps_keep c (Timed c) keeps k outset (record { rises = refl; within = omega arith })
+timed : (c : Course) (k : ℕ) → IsTimed c (after_steps c k outset)
+timed c k = steps_keep c (IsTimed c) keeps k outset (record { rises = refl; within = omega arith })
   where
-    keeps : Keeps c (Timed c)
+    keeps : Keeps c (IsTimed c)
     keeps = record {
       quiet = λ p t l. record {
         rises = rises_later (pos 0) p.diary (pos p.moment) (pos (suc p.moment)) t.rises (grind (arith, ints));

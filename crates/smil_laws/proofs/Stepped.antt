@@ -3,7 +3,7 @@ use Rattle.std.proofs.Common.{◌≡◌, refl, suc, [], ◌∷◌, ◌++◌, Opt
 use Rattle.std.specs.Prelude.{◌⊎◌, cond, pos, int_le, nat_lt, slice_get}
 use Rattle.smil_model.specs.declared.diary.LogEntry.{LogEntry}
 use Rattle.smil_model.specs.declared.diary.Step.TheVariants.{Logged}
-use Rattle.smil_model.specs.happening.Keys.{Coming, coming, first_coming, is_due}
+use Rattle.smil_model.specs.happening.Keys.{DueChange, coming, first_coming, is_due}
 use Rattle.smil_model.specs.happening.Groups.{group}
 use Rattle.smil_model.specs.happening.Resolution.{Course, Progress, history_at, after_quiet, after_settling, after_coming, next_step}
 
@@ -18,7 +18,7 @@ module _ (c : Course) (q : Progress) where
     pub is : record { moment = q.moment; heard = suc q.heard; diary = q.diary ++ record { moment = pos q.moment; step = Logged q.heard } ∷ [] } ≡ r
 
   pub record Happens (r : Progress) : Type 0 where
-    pub next : Coming
+    pub next : DueChange
     pub is : record { moment = q.moment; heard = q.heard; diary = q.diary ++ group (history_at c q) (pos q.moment) next.key.serial next.change } ≡ r
 
   abbrev pub Steps : Progress → Type 0
@@ -41,7 +41,7 @@ module _ (c : Course) (q : Progress) where
           inr (inl (record { entry = entry; there = f; is = one }))
       by_test false e = quiet_steps r e
 
-  coming_steps : (o : Option Coming) (r : Progress) → after_coming c q o ≡ Some r → Steps r
+  coming_steps : (o : Option DueChange) (r : Progress) → after_coming c q o ≡ Some r → Steps r
   coming_steps None r e = settling_steps (slice_get c.log q.heard) r refl e
   coming_steps (Some next) r e = by_test (is_due (pos q.moment) next.key) e
     where

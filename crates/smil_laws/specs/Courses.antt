@@ -11,7 +11,7 @@ use Rattle.smil_model.specs.diary.Diary.{History}
 use Rattle.smil_laws.specs.Agreement.{course_on}
 use Rattle.smil_laws.specs.Cut.{NamesBelow, logged}
 use Rattle.smil_model.specs.declared.diary.Entry.{Entry}
-use Rattle.smil_model.specs.happening.Keys.{Coming, coming, first_coming}
+use Rattle.smil_model.specs.happening.Keys.{DueChange, coming, first_coming}
 
 -- a resolution that has ended with no more entries than may be has given the diary
 abbrev pub EndedIsDiary : Type 0
@@ -63,7 +63,7 @@ heard_by log diary moment = record { moment = moment; heard = length log; diary 
 -- nothing comes before a later moment
 abbrev pub IsQuietUntil : History → ℕ → ℕ → Type 0
 IsQuietUntil h now later =
-    (c : Coming) → first_coming (coming h (pos now)) ≡ Some c → int_le (pos later) c.key.value ≡ true
+    (c : DueChange) → first_coming (coming h (pos now)) ≡ Some c → int_le (pos later) c.key.value ≡ true
 
 -- then the course up to that moment comes to it with the same diary
 abbrev pub ReachesOverQuiet : Type 0

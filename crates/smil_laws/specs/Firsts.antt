@@ -9,13 +9,13 @@ use Rattle.smil_model.specs.diary.Diary.{History, is_active}
 use Rattle.smil_model.specs.diary.Clocks.{iteration_start}
 use Rattle.smil_model.specs.interval.Instances.{number_of}
 use Rattle.smil_model.specs.interval.Current.{simple_of, current_interval}
-use Rattle.smil_model.specs.happening.Keys.{Change, Coming, begins, ends, repeats, coming, first_coming, least_key, keys}
+use Rattle.smil_model.specs.happening.Keys.{Change, DueChange, begins, ends, repeats, coming, first_coming, least_key, keys}
 
 -- what comes first has the least key
 abbrev pub FirstHasLeastKey : Type 0
 FirstHasLeastKey =
     (h : History) (now : ℤ)
-    → option_map (λ (c : Coming). c.key) (first_coming (coming h now)) ≡ least_key (keys h now)
+    → option_map (λ (c : DueChange). c.key) (first_coming (coming h now)) ≡ least_key (keys h now)
 
 -- what a begin or an end of an element stands for, and what a repeat does
 abbrev pub moved_by : Bool → Option Interval → Option Change
@@ -30,12 +30,12 @@ change_by h intervals e true =
 change_by h intervals e false = moved_by (is_active h.diary e.serial) (intervals e.serial)
 
 -- it is of an element of the document, and is what its key stands for
-pub record IsOfElement (h : History) (intervals : ℕ → Option Interval) (c : Coming) : Type 0 where
+pub record IsOfElement (h : History) (intervals : ℕ → Option Interval) (c : DueChange) : Type 0 where
   pub element : Node
   pub here : node_at (elements h.nodes) c.key.serial ≡ Some element
   pub change : change_by h intervals element c.key.repeat ≡ Some c.change
 
 abbrev pub FirstIsOfElement : Type 0
 FirstIsOfElement =
-    (h : History) (now : ℤ) (c : Coming) → IsDistinct h.nodes → first_coming (coming h now) ≡ Some c
+    (h : History) (now : ℤ) (c : DueChange) → IsDistinct h.nodes → first_coming (coming h now) ≡ Some c
     → IsOfElement h (current_interval h now) c

@@ -14,7 +14,7 @@ use Rattle.smil_model.specs.declared.document.Node.{Node}
 use Rattle.smil_model.specs.document.Document.{Document}
 use Rattle.smil_model.specs.diary.Diary.{History}
 use Rattle.smil_model.specs.interval.Current.{interval_given}
-use Rattle.smil_model.specs.happening.Keys.{Change, Coming, begins, ends, repeats, coming, first_coming}
+use Rattle.smil_model.specs.happening.Keys.{Change, DueChange, begins, ends, repeats, coming, first_coming}
 use Rattle.smil_laws.specs.Resolved.{history_after}
 
 abbrev pub IsTimeNear : Time → Type 0
@@ -60,5 +60,5 @@ value_in (repeats start) = start
 
 abbrev pub ComingIsNear : Type 0
 ComingIsNear =
-    (h : History) (now : ℤ) (c : Coming) → AllNear h.diary → first_coming (coming h now) ≡ Some c
+    (h : History) (now : ℤ) (c : DueChange) → AllNear h.diary → first_coming (coming h now) ≡ Some c
     → IsNear (value_in c.change)

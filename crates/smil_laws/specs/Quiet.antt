@@ -4,7 +4,7 @@ use Rattle.smil_model.specs.declared.diary.LogEntry.{LogEntry}
 use Rattle.smil_model.specs.diary.Diary.{History}
 use Rattle.smil_model.specs.diary.Clocks.{until}
 use Rattle.smil_model.specs.interval.Current.{current_interval}
-use Rattle.smil_model.specs.happening.Keys.{Coming, coming, first_coming}
+use Rattle.smil_model.specs.happening.Keys.{DueChange, coming, first_coming}
 use Rattle.smil_model.specs.happening.Resolution.{Course, Progress, history_at, after_steps}
 use Rattle.smil_model.specs.shown.Views.{views}
 use Rattle.smil_laws.specs.Locality.{ParentsBefore}
@@ -23,7 +23,7 @@ QuietChangesNothing =
 -- nothing comes, and nothing is logged, before so many milliseconds have passed
 pub record IsQuietFor (c : Course) (p : Progress) (n : ℕ) : Type 0 where
   pub past : until (pos p.moment) p.diary ≡ p.diary
-  pub coming : (next : Coming) → first_coming (coming (history_at c p) (pos p.moment)) ≡ Some next
+  pub coming : (next : DueChange) → first_coming (coming (history_at c p) (pos p.moment)) ≡ Some next
       → int_le (pos (p.moment + n)) next.key.value ≡ true
   pub log : (entry : LogEntry) → slice_get c.log p.heard ≡ Some entry → int_le (pos (p.moment + n)) entry.moment ≡ true
   pub last : p.moment + n ≤ c.last

@@ -6,13 +6,13 @@ use Rattle.smil_model.specs.declared.view.View.{View}
 use Rattle.smil_model.specs.diary.Diary.{History}
 use Rattle.smil_model.specs.diary.Clocks.{until}
 use Rattle.smil_model.specs.interval.Current.{current_table, current_interval}
-use Rattle.smil_model.specs.happening.Keys.{Coming, coming_of}
+use Rattle.smil_model.specs.happening.Keys.{DueChange, coming_of}
 use Rattle.smil_model.specs.shown.Views.{view_of}
 use Rattle.smil_laws.specs.Locality.{ParentsBefore}
 use Rattle.smil_laws.specs.Cut.{NamesBelow}
 
 -- what comes of an element, and how it is shown
-abbrev pub comings_at : History → ℤ → ℕ → Node → List Coming
+abbrev pub comings_at : History → ℤ → ℕ → Node → List DueChange
 comings_at h now place e = coming_of h (current_interval h now) now place e
 
 abbrev pub view_at : History → ℤ → Node → View

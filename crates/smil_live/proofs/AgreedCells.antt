@@ -17,13 +17,13 @@ use Rattle.smil_model.specs.document.Values.{is_clock}
 use Rattle.smil_model.specs.shown.Answers.{Accepts}
 use Rattle.smil_model.specs.shown.Orders.{IsState, Presentation, course_of}
 use Rattle.smil_grammar.specs.Formats.{formats}
-use Rattle.smil_cells.specs.Standing.{IsRebuilt, MayRebuild, Standing, WhereTold}
+use Rattle.smil_cells.specs.CellsState.{IsRebuilt, MayRebuild, CellsState, WhereTold}
 use Rattle.smil_live.specs.Counted.{IsAtLeast, IsAtMost, KeepsToCounts, IsFree}
 use Rattle.smil_live.specs.Counts.{diary_at, least_between, least_seeking, most_between, most_number, most_seeking, reached_behind, told_where}
 use Rattle.smil_live.specs.Editing.{IsEdited, edit_of}
 use Rattle.smil_shown.specs.ShownViews.{IsPlaying}
 use Rattle.smil_live.specs.Moves.{IsReplayed, IsTooFull, IsUnderWay, edited_to, sought_of}
-use Rattle.smil_shown.specs.ViewTable.{Shown}
+use Rattle.smil_shown.specs.ViewTable.{ViewLists}
 use Rattle.smil_live.specs.Sites.{IsMade, most_resolving, site_of, staying}
 use Rattle.smil_live.specs.Telling.{is_edit}
 use Rattle.smil_live.specs.declared.edits.Site.{Site}
@@ -36,12 +36,12 @@ use Rattle.smil_live.proofs.RebuiltCells.{may_rebuild, rebuilt_way}
 use Rattle.smil_live.proofs.RebuiltParts.{IsPart, front_until}
 
 -- settled cells are those of their own presentation
-pub own_replayed : (s : Standing) (shown : Shown) → IsPlaying s shown → IsReplayed s.presentation s
+pub own_replayed : (s : CellsState) (shown : ViewLists) → IsPlaying s shown → IsReplayed s.presentation s
 own_replayed s shown is = record { presentation_is = refl; sound = is.shown_is.sound; unmarked = is.unmarked; settled = is.shown_is.settled }
 
 -- ---- an edit
 
-module _ (s : Standing) (shown : Shown) (is : IsPlaying s shown) (p : Presentation) (view : s.presentation ≡ p) (d e : Document) (same : d ≡ e) (valid : IsValid d) (at : Site) (made : IsMade p.document at e) (len : ℕ) (count : len ≡ staying p e at) where
+module _ (s : CellsState) (shown : ViewLists) (is : IsPlaying s shown) (p : Presentation) (view : s.presentation ≡ p) (d e : Document) (same : d ≡ e) (valid : IsValid d) (at : Site) (made : IsMade p.document at e) (len : ℕ) (count : len ≡ staying p e at) where
   pub edited_is : edited_to s.presentation d ≡ edited_to p e
   edited_is = ap (λ (q : Presentation). edited_to q d) view ∙ ap (edited_to p) same
 
@@ -67,7 +67,7 @@ module _ (s : Standing) (shown : Shown) (is : IsPlaying s shown) (p : Presentati
   pub edited_rebuild : MayRebuild s d len
   edited_rebuild = may_rebuild s d len s.presentation.now valid within is.unmarked part
 
-  pub edited_way : (t : Standing) → IsRebuilt s d len t → IsUnderWay (edited_to s.presentation d) (length t.presentation.log) t
+  pub edited_way : (t : CellsState) → IsRebuilt s d len t → IsUnderWay (edited_to s.presentation d) (length t.presentation.log) t
   edited_way t rebuilt = rebuilt_way s t d len s.presentation.now rebuilt part (edited_to s.presentation d) refl refl refl
 
   pub edited_count : length (elements d.nodes) + reached_behind len (edited_to s.presentation d) ≡ most_resolving p at e
@@ -129,7 +129,7 @@ below : (to : ℤ) (n : ℕ) → pos 0 ≤ℤ to → to <ℤ pos n → nat_lt (n
 below (pos k) n from back = lt-ltb k n (omega (arith, ints, back))
 below (negsuc k) n from back = absurd (omega (arith, ints, from))
 
-pub sought_most : (r : Result (Unit {0}) Refusal) (counts : Bool) (p q : Presentation) (s : Standing) (to : ℤ) (text : List ℕ) (rise : ℕ) → is_clock to ≡ true → to <ℤ pos p.now → IsReplayed (sought_of p to) s
+pub sought_most : (r : Result (Unit {0}) Refusal) (counts : Bool) (p q : Presentation) (s : CellsState) (to : ℤ) (text : List ℕ) (rise : ℕ) → is_clock to ≡ true → to <ℤ pos p.now → IsReplayed (sought_of p to) s
     → OnOk r (q ≡ s.presentation) → OnOk r (Accepts formats p q (order.Seek to) text) → WhereTold counts (rise ≤ length (elements p.document.nodes)) → OnOk r (IsAtMost counts p (order.Seek to) rise)
 sought_most (Err e) counts p q s to text rise clock back is here accepted most = tt
 sought_most (Ok x) counts p q s to text rise clock back is here accepted most =
@@ -150,5 +150,5 @@ sought_least (Ok x) counts p q to text rise clock back accepted =
 
 -- ---- the diary that is kept
 
-pub diary_kept : (s : Standing) (shown : Shown) (p : Presentation) → IsPlaying s shown → s.presentation ≡ p → s.diary ≡ diary_at p
+pub diary_kept : (s : CellsState) (shown : ViewLists) (p : Presentation) → IsPlaying s shown → s.presentation ≡ p → s.diary ≡ diary_at p
 diary_kept s shown p is view = sym (diary_is (course_of s.presentation) s.diary is.shown_is.settled) ∙ ap diary_at view

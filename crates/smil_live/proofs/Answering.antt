@@ -27,10 +27,10 @@ use Rattle.smil_laws.proofs.Members.{Differ, differ_all}
 use Rattle.smil_laws.proofs.Lists.{each_kept}
 use Rattle.smil_model.specs.document.Words.{Begins}
 use Rattle.smil_past.proofs.References.{kept_known as kept_found}
-use Rattle.smil_cells.specs.Standing.{IsSettled, Standing, history_of}
+use Rattle.smil_cells.specs.CellsState.{IsSettled, CellsState, history_of}
 use Rattle.smil_shown.specs.Histories.{told_line}
 use Rattle.smil_shown.specs.ShownViews.{IsPlaying, views_at}
-use Rattle.smil_shown.specs.ViewTable.{AreOf, Shown}
+use Rattle.smil_shown.specs.ViewTable.{AreOf, ViewLists}
 use Rattle.smil_shown.specs.Sets.{AreOfElements}
 use Rattle.smil_live.specs.Telling.{element_named, layers_text}
 use Rattle.smil_shown.proofs.Apart.{found_each, views_known}
@@ -44,13 +44,13 @@ views_serials f own [] = refl
 views_serials f own (e ∷ es) =
     ap (λ (s : ℕ). s ∷ map (λ (v : View). v.serial) (map f es)) (own e) ∙ ap (λ ss. e.serial ∷ ss) (views_serials f own es)
 
-shown_elements : (s : Standing) → AreOfElements s.presentation.document.nodes (views_at s)
+shown_elements : (s : CellsState) → AreOfElements s.presentation.document.nodes (views_at s)
 shown_elements s =
     views_serials (view_of (history_of s) (pos s.presentation.now) (in_table (current_table (history_of s) (pos s.presentation.now)))) (λ e. refl)
     (elements s.presentation.document.nodes)
 
 -- the views that are kept are those of the elements of the document
-pub kept_elements : (s : Standing) (shown : Shown) (d : Document) (vs : List View) → IsPlaying s shown → d ≡ s.presentation.document → vs ≡ shown.views → AreOfElements d.nodes vs
+pub kept_elements : (s : CellsState) (shown : ViewLists) (d : Document) (vs : List View) → IsPlaying s shown → d ≡ s.presentation.document → vs ≡ shown.views → AreOfElements d.nodes vs
 kept_elements s shown d vs playing same is =
     let P : List View → Type 0 = λ (ws : List View). AreOfElements s.presentation.document.nodes ws in
     let Q : Document → Type 0 = λ (x : Document). AreOfElements x.nodes vs in
@@ -60,12 +60,12 @@ each_of : {A : Type 0} (P : A → Type 0) (xs : List A) → AllByRecursion P xs 
 each_of P [] each = All-nil P
 each_of P (x ∷ xs) each = All-cons P x xs each.0 (each_of P xs each.1)
 
-pub kept_known : (s : Standing) (shown : Shown) (d : Document) (vs : List View) → IsPlaying s shown → d ≡ s.presentation.document → vs ≡ shown.views → AreOf d.nodes vs
+pub kept_known : (s : CellsState) (shown : ViewLists) (d : Document) (vs : List View) → IsPlaying s shown → d ≡ s.presentation.document → vs ≡ shown.views → AreOf d.nodes vs
 kept_known s shown d vs playing same is =
     each_of (λ (v : View). IsSome (node_at d.nodes v.serial)) vs (views_known d.nodes vs (kept_elements s shown d vs playing same is))
 
 -- and they are those of the presentation
-pub kept_views : (s : Standing) (shown : Shown) (p : Presentation) (vs : List View) → IsPlaying s shown → s.presentation ≡ p → vs ≡ shown.views → vs ≡ views_of p
+pub kept_views : (s : CellsState) (shown : ViewLists) (p : Presentation) (vs : List View) → IsPlaying s shown → s.presentation ≡ p → vs ≡ shown.views → vs ≡ views_of p
 kept_views s shown p vs playing same is =
     is ∙ playing.shown_is.views_are ∙ sym (views_are s.presentation s.diary playing.shown_is.settled) ∙ ap views_of same
 
@@ -139,7 +139,7 @@ diary_told formats p log book m a b c e new logs books at one two three four =
     ∙ ap (λ (z : ℤ). a ++ formats.saved p.document ++ outline_end ++ flat_map (entry_line p.log) (resolved_history p).diary ++ now_line z) at
     ∙ four_parts a (formats.saved p.document) outline_end (flat_map (entry_line p.log) (resolved_history p).diary) (now_line (pos p.now))
 
-pub kept_diary : (s : Standing) (p : Presentation) → IsSettled s → s.presentation ≡ p → s.diary ≡ (resolved_history p).diary
+pub kept_diary : (s : CellsState) (p : Presentation) → IsSettled s → s.presentation ≡ p → s.diary ≡ (resolved_history p).diary
 kept_diary s p settled same = sym (ap (λ (h : History). h.diary) (resolved_is s.presentation s.diary settled)) ∙ ap (λ (q : Presentation). (resolved_history q).diary) same
 
 -- ---- the element that an order names
@@ -192,13 +192,13 @@ named_element p d w n serial distinct same q own =
       name = ap (λ (o : Option Node). option_map_or name_of o (who.Serial serial)) here;
     }
 
-history_told : (s : Standing) (p : Presentation) (n : Node) (name : Who) → s.presentation ≡ p → IsSettled s → name ≡ name_of n
+history_told : (s : CellsState) (p : Presentation) (n : Node) (name : Who) → s.presentation ≡ p → IsSettled s → name ≡ name_of n
     → flat_map (told_line name) (intervals_of (history_of s) (pos s.presentation.now) n) ≡ history_text p (Some n)
 history_told s p n name same settled is =
     ap (λ (w : Who). flat_map (told_line w) (intervals_of (history_of s) (pos s.presentation.now) n)) is
     ∙ ap (λ (h : History). flat_map (told_line (name_of n)) (intervals_of h (pos s.presentation.now) n)) (sym (resolved_is s.presentation s.diary settled))
     ∙ ap (λ (q : Presentation). flat_map (told_line (name_of n)) (intervals_of (resolved_history q) (pos q.now) n)) same
 
-pub history_answer : (s : Standing) (p : Presentation) (n : Node) (name : Who) (out new : List ℕ) → s.presentation ≡ p → IsSettled s → name ≡ name_of n
+pub history_answer : (s : CellsState) (p : Presentation) (n : Node) (name : Who) (out new : List ℕ) → s.presentation ≡ p → IsSettled s → name ≡ name_of n
     → new ≡ out ++ flat_map (told_line name) (intervals_of (history_of s) (pos s.presentation.now) n) → new ≡ out ++ history_text p (Some n)
 history_answer s p n name out new same settled is told = told ∙ ap (λ (t : List ℕ). out ++ t) (history_told s p n name same settled is)

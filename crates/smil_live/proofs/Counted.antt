@@ -9,11 +9,11 @@ use Rattle.smil_model.specs.diary.Diary.{History}
 use Rattle.smil_model.specs.interval.Current.{current_interval}
 use Rattle.smil_model.specs.reach.Bounds.{reaches}
 use Rattle.smil_model.specs.shown.Orders.{Presentation, course_of, as_of}
-use Rattle.smil_cells.specs.Standing.{GoesOn, IsSettled, Standing, WhereTold, fresh, fresh_since, interval_at, reached_since}
+use Rattle.smil_cells.specs.CellsState.{GoesOn, IsSettled, CellsState, WhereTold, fresh, fresh_since, interval_at, reached_since}
 use Rattle.smil_cells.proofs.OnWay.{drops, fresh_through, joined, least_adds_up, most_adds_up, nothing_fresh, nothing_reached, reached_through}
 use Rattle.smil_live.specs.Counts.{diary_at, interval_by, least_onward, most_onward}
 use Rattle.smil_live.specs.Moves.{IsShownAt, made}
-use Rattle.smil_shown.specs.ViewTable.{Shown}
+use Rattle.smil_shown.specs.ViewTable.{ViewLists}
 use Rattle.smil_live.specs.declared.moves.Move.{Move}
 use Rattle.smil_live.specs.declared.moves.Move.TheVariants as move
 use Rattle.smil_shown.proofs.Ended.{diary_is}
@@ -22,13 +22,13 @@ use Rattle.smil_live.proofs.Resolved.{resolved_is}
 -- ---- one standing after another
 
 -- a standing goes on from another, and so often were intervals evaluated by then
-pub record IsCounted (counts : Bool) (old new : Standing) (before after : ℕ) : Type 0 where
+pub record IsCounted (counts : Bool) (old new : CellsState) (before after : ℕ) : Type 0 where
   pub diary : (more : List Entry) × (new.diary ≡ old.diary ++ more)
   pub from : before ≤ after
   pub most : WhereTold counts (after - before ≤ reached_since old new)
   pub least : WhereTold counts (fresh_since old new ≤ after - before)
 
-pub counted_first : (counts : Bool) (s : Standing) (steps : ℕ) → IsCounted counts s s steps steps
+pub counted_first : (counts : Bool) (s : CellsState) (steps : ℕ) → IsCounted counts s s steps steps
 counted_first counts s steps = record {
   diary = ([], sym (append-nil s.diary));
   from = omega arith;
@@ -38,7 +38,7 @@ counted_first counts s steps = record {
 
 -- two standings, one after the other, with the same document; the first entries reach as many
 -- elements by the new log
-module _ (old mid new : Standing) (document : mid.presentation.document ≡ old.presentation.document)
+module _ (old mid new : CellsState) (document : mid.presentation.document ≡ old.presentation.document)
     (m n : List Entry) (first : mid.diary ≡ old.diary ++ m) (second : new.diary ≡ mid.diary ++ n)
     (by_mid : reached_since old mid ≡ reaches old.presentation.document.nodes new.presentation.log m) (a b c : ℕ) (later : b ≤ c) where
   pub counted_by : (counts : Bool) → IsCounted counts old mid a b → WhereTold counts (c - b ≤ reached_since mid new) → WhereTold counts (fresh_since mid new ≤ c - b) → IsCounted counts old new a c
@@ -50,7 +50,7 @@ module _ (old mid new : Standing) (document : mid.presentation.document ≡ old.
   }
 
 -- a standing at a later moment that goes on from the one before
-pub counted_then : (counts : Bool) (old mid new : Standing) (moment : ℕ) (shown : Shown) (a b c : ℕ) → mid.presentation ≡ as_of old.presentation mid.presentation.now → IsCounted counts old mid a b
+pub counted_then : (counts : Bool) (old mid new : CellsState) (moment : ℕ) (shown : ViewLists) (a b c : ℕ) → mid.presentation ≡ as_of old.presentation mid.presentation.now → IsCounted counts old mid a b
     → b ≤ c → IsShownAt (as_of mid.presentation moment) new shown → GoesOn mid new → WhereTold counts (c - b ≤ reached_since mid new) → WhereTold counts (fresh_since mid new ≤ c - b)
     → IsCounted counts old new a c
 counted_then counts old mid new moment shown a b c moved is later at on most least =
@@ -60,7 +60,7 @@ counted_then counts old mid new moment shown a b c moved is later at on most lea
     ap (λ (l : List LogEntry). reaches nodes l (drop (length old.diary) mid.diary)) (sym log) ∙ ap (reaches nodes new.presentation.log) (drops old.diary is.diary.0 mid.diary is.diary.1) in
     counted_by old mid new (ap (λ (p : Presentation). p.document) moved) is.diary.0 on.diary.0 is.diary.1 on.diary.1 by_mid a b c later counts is most least
 
-pub counted_last : {A E : Type 0} (r : Result A E) (counts : Bool) (old mid new : Standing) (moment : ℕ) (shown : Shown) (a b c : ℕ) → mid.presentation ≡ as_of old.presentation mid.presentation.now
+pub counted_last : {A E : Type 0} (r : Result A E) (counts : Bool) (old mid new : CellsState) (moment : ℕ) (shown : ViewLists) (a b c : ℕ) → mid.presentation ≡ as_of old.presentation mid.presentation.now
     → IsCounted counts old mid a b → b ≤ c → OnOk r (IsShownAt (as_of mid.presentation moment) new shown) → OnOk r (GoesOn mid new) → OnOk r (WhereTold counts (c - b ≤ reached_since mid new))
     → OnOk r (WhereTold counts (fresh_since mid new ≤ c - b)) → OnOk r (IsCounted counts old new a c)
 counted_last (Err e) counts old mid new moment shown a b c moved is later at on most least = tt
@@ -69,14 +69,14 @@ counted_last (Ok x) counts old mid new moment shown a b c moved is later at on m
 
 -- ---- by the presentations
 
-reached_is : (old new : Standing) → IsSettled old → IsSettled new → new.presentation.document ≡ old.presentation.document
+reached_is : (old new : CellsState) → IsSettled old → IsSettled new → new.presentation.document ≡ old.presentation.document
     → reached_since old new ≡ most_onward old.presentation new.presentation
 reached_is old new was settled document =
     ap (λ (d : List Entry). reaches old.presentation.document.nodes new.presentation.log (drop (length d) new.diary)) (sym (diary_is (course_of old.presentation) old.diary was))
     ∙ ap (λ (d : List Entry). reaches old.presentation.document.nodes new.presentation.log (drop (length (diary_at old.presentation)) d)) (sym (diary_is (course_of new.presentation) new.diary settled))
     ∙ ap (λ (d : Document). reaches d.nodes new.presentation.log (drop (length (diary_at old.presentation)) (diary_at new.presentation))) (sym document)
 
-fresh_is : (old new : Standing) → IsSettled old → IsSettled new → fresh_since old new ≡ least_onward old.presentation new.presentation
+fresh_is : (old new : CellsState) → IsSettled old → IsSettled new → fresh_since old new ≡ least_onward old.presentation new.presentation
 fresh_is old new was settled =
     ap (λ (h : History). fresh old.presentation.document.nodes (current_interval h (pos old.presentation.now)) (interval_at new)) (sym (resolved_is old.presentation old.diary was))
     ∙ ap (λ (h : History). fresh old.presentation.document.nodes (interval_by old.presentation) (current_interval h (pos new.presentation.now))) (sym (resolved_is new.presentation new.diary settled))
@@ -87,7 +87,7 @@ made_document p (move.Pass to) = refl
 made_document p (move.Settle to) = refl
 made_document p (move.Hear entry) = refl
 
-pub most_made : {A E : Type 0} (r : Result A E) (counts : Bool) (old new : Standing) (p : Presentation) (step : Move) (shown : Shown) (rise : ℕ) → IsSettled old → old.presentation ≡ p
+pub most_made : {A E : Type 0} (r : Result A E) (counts : Bool) (old new : CellsState) (p : Presentation) (step : Move) (shown : ViewLists) (rise : ℕ) → IsSettled old → old.presentation ≡ p
     → OnOk r (IsShownAt (made old.presentation step) new shown) → OnOk r (WhereTold counts (rise ≤ reached_since old new)) → OnOk r (WhereTold counts (rise ≤ most_onward p (made p step)))
 most_made (Err e) counts old new p step shown rise was here at most = tt
 most_made (Ok x) counts old new p step shown rise was here at most =
@@ -96,7 +96,7 @@ most_made (Ok x) counts old new p step shown rise was here at most =
     (subst (λ (n : ℕ). WhereTold counts (rise ≤ n))
     (reached_is old new was at.shown_is.settled (ap (λ (q : Presentation). q.document) at.presentation_is ∙ made_document old.presentation step)) most))
 
-pub least_made : {A E : Type 0} (r : Result A E) (counts : Bool) (old new : Standing) (p : Presentation) (step : Move) (shown : Shown) (rise : ℕ) → IsSettled old → old.presentation ≡ p
+pub least_made : {A E : Type 0} (r : Result A E) (counts : Bool) (old new : CellsState) (p : Presentation) (step : Move) (shown : ViewLists) (rise : ℕ) → IsSettled old → old.presentation ≡ p
     → OnOk r (IsShownAt (made old.presentation step) new shown) → OnOk r (WhereTold counts (fresh_since old new ≤ rise)) → OnOk r (WhereTold counts (least_onward p (made p step) ≤ rise))
 least_made (Err e) counts old new p step shown rise was here at least = tt
 least_made (Ok x) counts old new p step shown rise was here at least =

@@ -9,7 +9,7 @@ use Rattle.smil_model.specs.declared.order.Refusal.{Refusal}
 use Rattle.smil_model.specs.shown.Answers.{Accepts, MayEvaluate}
 use Rattle.smil_model.specs.shown.Orders.{Presentation, outcome}
 use Rattle.smil_grammar.specs.Formats.{formats}
-use Rattle.smil_cells.specs.Standing.{WhereTold}
+use Rattle.smil_cells.specs.CellsState.{WhereTold}
 use Rattle.smil_live.specs.Counted.{IsAtLeast, IsAtMost, KeepsToCounts, IsFree}
 use Rattle.smil_live.specs.Counts.{least_between, least_onward, least_seeking, most_between, most_number, most_onward, most_seeking, told_where, when_accepted}
 use Rattle.smil_live.specs.Moves.{IsTooFull}

@@ -22,12 +22,12 @@ use Rattle.smil_model.specs.shown.Orders.{IsState, Presentation, at_moment, chan
 use Rattle.smil_model.specs.shown.Views.{view_of}
 use Rattle.smil_grammar.specs.Formats.{formats}
 use Rattle.smil_tree.proofs.Spans.{all_known}
-use Rattle.smil_cells.specs.Standing.{Standing, history_of}
+use Rattle.smil_cells.specs.CellsState.{CellsState, history_of}
 use Rattle.smil_live.specs.Editing.{IsEdited, edit_of}
 use Rattle.smil_revision.specs.Editing.{IsRefusedBy, at_node}
 use Rattle.smil_shown.specs.ShownViews.{IsPlaying, views_at}
 use Rattle.smil_live.specs.Moves.{IsReplayed, IsTooFull, edited_to, text_of}
-use Rattle.smil_shown.specs.ViewTable.{AreOf, Shown}
+use Rattle.smil_shown.specs.ViewTable.{AreOf, ViewLists}
 use Rattle.smil_live.specs.Telling.{is_edit}
 use Rattle.smil_revision.proofs.Copying.{at_there, some_from}
 use Rattle.smil_live.proofs.Editing.{edit_accepted, is_found, known, state_refused}
@@ -98,23 +98,23 @@ pub on_err_always : {T E P : Type 0} (r : Result T E) → P → OnErr r P
 on_err_always (Ok x) h = tt
 on_err_always (Err e) h = h
 
-pub plays : (q : Presentation) (s : Standing) (shown : Shown) → IsState q → IsReplayed q s → shown ≡ record { views = views_at s; before = views_at s } → IsPlaying s shown
+pub plays : (q : Presentation) (s : CellsState) (shown : ViewLists) → IsState q → IsReplayed q s → shown ≡ record { views = views_at s; before = views_at s } → IsPlaying s shown
 plays q s shown state is seen = record {
   shown_is = record {
     state = subst IsState (sym is.presentation_is) state;
     sound = is.sound;
     settled = is.settled;
-    views_are = ap (λ (x : Shown). x.views) seen;
+    views_are = ap (λ (x : ViewLists). x.views) seen;
   };
   unmarked = is.unmarked;
-  before = ap (λ (x : Shown). x.before) seen ∙ sym (ap (λ (x : Shown). x.views) seen);
+  before = ap (λ (x : ViewLists). x.before) seen ∙ sym (ap (λ (x : ViewLists). x.views) seen);
 }
 
 -- cells of a presentation are replayed ones of their own
-pub replayed_own : (q : Presentation) (s : Standing) → IsReplayed q s → IsReplayed s.presentation s
+pub replayed_own : (q : Presentation) (s : CellsState) → IsReplayed q s → IsReplayed s.presentation s
 replayed_own q s is = record { presentation_is = refl; sound = is.sound; unmarked = is.unmarked; settled = is.settled }
 
-pub edited_on_ok : (r : Result (Unit {0}) Refusal) (p q : Presentation) (d : Document) (s : Standing) (old new : List ℕ) → IsReplayed (edited_to p d) s → OnOk r (q ≡ s.presentation) → OnOk r (new ≡ old ++ gone_text p s.presentation ++ text_of s.presentation (changes_between p s.presentation)) → OnOk r (IsEdited p d q old new)
+pub edited_on_ok : (r : Result (Unit {0}) Refusal) (p q : Presentation) (d : Document) (s : CellsState) (old new : List ℕ) → IsReplayed (edited_to p d) s → OnOk r (q ≡ s.presentation) → OnOk r (new ≡ old ++ gone_text p s.presentation ++ text_of s.presentation (changes_between p s.presentation)) → OnOk r (IsEdited p d q old new)
 edited_on_ok (Err e) p q d s old new is same said = tt
 edited_on_ok (Ok x) p q d s old new is same said = record {
   state = same ∙ is.presentation_is;
@@ -146,7 +146,7 @@ each_view nodes f same (n ∷ ns) h = by_test (is_element n) (each_view nodes f 
     by_test true rest = (some_from (node_at nodes (f n).serial) n (ap (λ s. node_at nodes s) (same n) ∙ h.0), rest)
     by_test false rest = rest
 
-pub are_of : (s : Standing) (shown : Shown) (d : Document) → IsPlaying s shown → d ≡ s.presentation.document → AreOf d.nodes shown.views
+pub are_of : (s : CellsState) (shown : ViewLists) (d : Document) → IsPlaying s shown → d ≡ s.presentation.document → AreOf d.nodes shown.views
 are_of s shown d is same =
     let doc : Document = s.presentation.document in
     let each : AreOf s.presentation.document.nodes (views_at s) =

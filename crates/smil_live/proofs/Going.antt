@@ -7,16 +7,16 @@ use Rattle.smil_model.specs.declared.view.View.{View}
 use Rattle.smil_model.specs.document.Document.{Document}
 use Rattle.smil_model.specs.shown.Orders.{IsState, Presentation, changes_between, views_of}
 use Rattle.smil_cells.specs.Standings.{at_mark}
-use Rattle.smil_cells.specs.Standing.{IsSettled, Standing}
+use Rattle.smil_cells.specs.CellsState.{IsSettled, CellsState}
 use Rattle.smil_shown.specs.ShownViews.{IsPlaying, IsShown, views_at}
 use Rattle.smil_live.specs.Moves.{IsShownAt, text_of}
-use Rattle.smil_shown.specs.ViewTable.{Shown}
+use Rattle.smil_shown.specs.ViewTable.{ViewLists}
 use Rattle.smil_shown.specs.Told.{lines_between}
 use Rattle.smil_live.proofs.Standings.{views_settled}
 
 -- ---- behind a move
 
-pub shown_behind : {A E : Type 0} (r : Result A E) (p : Presentation) (s : Standing) (shown : Shown) → s.presentation ≡ p → IsState s.presentation → s.fault ≡ None → IsSettled s
+pub shown_behind : {A E : Type 0} (r : Result A E) (p : Presentation) (s : CellsState) (shown : ViewLists) → s.presentation ≡ p → IsState s.presentation → s.fault ≡ None → IsSettled s
     → OnOk r (shown.views ≡ views_at s) → OnOk r (IsShownAt p s shown)
 shown_behind (Err e) p s shown is state sound settled views = tt
 shown_behind (Ok x) p s shown is state sound settled views = record {
@@ -24,7 +24,7 @@ shown_behind (Ok x) p s shown is state sound settled views = record {
   shown_is = record { state = state; sound = sound; settled = settled; views_are = views };
 }
 
-same_text : (old new : Standing) (p : Presentation) (first : List View) → new.presentation ≡ p → p.document ≡ old.presentation.document → first ≡ views_at old → IsSettled old → IsSettled new
+same_text : (old new : CellsState) (p : Presentation) (first : List View) → new.presentation ≡ p → p.document ≡ old.presentation.document → first ≡ views_at old → IsSettled old → IsSettled new
     → lines_between new.presentation.document.nodes new.presentation.now first (views_at new) ≡ text_of old.presentation (changes_between old.presentation p)
 same_text old new p first is document views was settled =
     ap (λ (vs : List View). lines_between new.presentation.document.nodes new.presentation.now vs (views_at new)) (views ∙ views_settled old was)
@@ -32,7 +32,7 @@ same_text old new p first is document views was settled =
     ∙ (ap (λ (q : Presentation). lines_between q.document.nodes q.now (views_of old.presentation) (views_of q)) is
     ∙ ap (λ (d : Document). lines_between d.nodes p.now (views_of old.presentation) (views_of p)) document))
 
-pub told_behind : {A E : Type 0} (r : Result A E) (old new : Standing) (p : Presentation) (first : List View) (out out' : List ℕ) → new.presentation ≡ p → p.document ≡ old.presentation.document
+pub told_behind : {A E : Type 0} (r : Result A E) (old new : CellsState) (p : Presentation) (first : List View) (out out' : List ℕ) → new.presentation ≡ p → p.document ≡ old.presentation.document
     → first ≡ views_at old → IsSettled old → IsSettled new
     → OnOk r (out' ≡ out ++ lines_between new.presentation.document.nodes new.presentation.now first (views_at new))
     → OnOk r (out' ≡ out ++ text_of old.presentation (changes_between old.presentation p))
@@ -42,20 +42,20 @@ told_behind (Ok x) old new p first out out' is document views was settled told =
 
 -- ---- marks
 
-abbrev pub marked_here : Standing → Standing
+abbrev pub marked_here : CellsState → CellsState
 marked_here s = record s { marked = Some (s.presentation, s.diary) }
 
-pub shown_marked : (old marked : Standing) (shown : Shown) → IsShown old shown → marked ≡ marked_here old → IsShown marked shown
+pub shown_marked : (old marked : CellsState) (shown : ViewLists) → IsShown old shown → marked ≡ marked_here old → IsShown marked shown
 shown_marked old marked shown is made =
-    subst (λ (s : Standing). IsShown s shown) (sym made)
+    subst (λ (s : CellsState). IsShown s shown) (sym made)
     (record { state = is.state; sound = is.sound; settled = is.settled; views_are = is.views_are })
 
 -- a move that was made
-pub plays_on : (p : Presentation) (s after : Standing) (shown let_stand : Shown) → IsShownAt p s shown → after ≡ record s { marked = None }
+pub plays_on : (p : Presentation) (s after : CellsState) (shown let_stand : ViewLists) → IsShownAt p s shown → after ≡ record s { marked = None }
     → let_stand ≡ record { views = shown.views; before = shown.views } → IsPlaying after let_stand
 plays_on p s after shown let_stand is forgotten stands =
-    subst (λ (t : Standing). IsPlaying t let_stand) (sym forgotten)
-    (subst (λ (v : Shown). IsPlaying (record s { marked = None }) v) (sym stands)
+    subst (λ (t : CellsState). IsPlaying t let_stand) (sym forgotten)
+    (subst (λ (v : ViewLists). IsPlaying (record s { marked = None }) v) (sym stands)
     (record {
       shown_is = record {
         state = (is.shown_is).state;
@@ -68,12 +68,12 @@ plays_on p s after shown let_stand is forgotten stands =
     }))
 
 -- a move that was refused
-pub plays_again : (old marked gone back : Standing) (shown seen again : Shown) → IsPlaying old shown → marked ≡ marked_here old → gone.marked ≡ marked.marked
+pub plays_again : (old marked gone back : CellsState) (shown seen again : ViewLists) → IsPlaying old shown → marked ≡ marked_here old → gone.marked ≡ marked.marked
     → ((mark : Presentation × List Entry) → gone.marked ≡ Some mark → back ≡ at_mark gone.touched mark)
     → seen.before ≡ shown.before → again ≡ record { views = seen.before; before = seen.before } → IsPlaying back again
 plays_again old marked gone back shown seen again was made kept undone before is =
-    subst (λ (t : Standing). IsPlaying t again) (sym (undone (old.presentation, old.diary) (kept ∙ ap (λ (s : Standing). s.marked) made)))
-    (subst (λ (v : Shown). IsPlaying (at_mark gone.touched (old.presentation, old.diary)) v) (sym is)
+    subst (λ (t : CellsState). IsPlaying t again) (sym (undone (old.presentation, old.diary) (kept ∙ ap (λ (s : CellsState). s.marked) made)))
+    (subst (λ (v : ViewLists). IsPlaying (at_mark gone.touched (old.presentation, old.diary)) v) (sym is)
     (record {
       shown_is = record {
         state = (was.shown_is).state;

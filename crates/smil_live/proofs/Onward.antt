@@ -9,16 +9,16 @@ use Rattle.smil_model.specs.declared.order.Refusal.{Refusal}
 use Rattle.smil_model.specs.declared.view.View.{View}
 use Rattle.smil_model.specs.document.Document.{Document}
 use Rattle.smil_model.specs.document.Valid.{IsNumberedTree}
-use Rattle.smil_model.specs.happening.Keys.{Coming}
+use Rattle.smil_model.specs.happening.Keys.{DueChange}
 use Rattle.smil_model.specs.happening.Resolution.{diary_of}
 use Rattle.smil_model.specs.shown.Answers.{change_text}
 use Rattle.smil_model.specs.shown.Orders.{Presentation, as_of, course_of, changes_between, changes_through}
-use Rattle.smil_cells.specs.Standing.{NothingBefore, Standing}
+use Rattle.smil_cells.specs.CellsState.{NothingBefore, CellsState}
 use Rattle.smil_cells.proofs.OnWay.{sooner}
 use Rattle.smil_cells.proofs.Passing.{over}
 use Rattle.smil_shown.specs.ShownViews.{IsShown}
 use Rattle.smil_live.specs.Moves.{IsFirstDue, IsShownAt, IsTooFull, text_of}
-use Rattle.smil_shown.specs.ViewTable.{Shown}
+use Rattle.smil_shown.specs.ViewTable.{ViewLists}
 use Rattle.smil_live.proofs.Full.{full_later}
 use Rattle.smil_live.proofs.Quiet.{HasDiary, IsQuiet}
 use Rattle.smil_live.proofs.Standings.{has_diary, nothing_before}
@@ -56,14 +56,14 @@ told_from p q a n d front text text' is there =
 
 -- a presentation was passed through up to the moment of a standing, and this is what is shown there
 -- and was told by then
-pub record IsPassing (p : Presentation) (front : List ℕ) (to : ℤ) (s : Standing) (shown : Shown) (text : List ℕ) : Type 0 where
+pub record IsPassing (p : Presentation) (front : List ℕ) (to : ℤ) (s : CellsState) (shown : ViewLists) (text : List ℕ) : Type 0 where
   pub presentation_is : s.presentation ≡ as_of p s.presentation.now
   pub from : p.now ≤ s.presentation.now
   pub within : pos s.presentation.now ≤ℤ to
   pub shown_is : IsShown s shown
   pub told : text ≡ front ++ text_of p (changes_through p (s.presentation.now - p.now))
 
-pub sets_out : (s : Standing) (shown : Shown) (text : List ℕ) (to : ℤ) → IsShown s shown → pos s.presentation.now ≤ℤ to → IsPassing s.presentation text to s shown text
+pub sets_out : (s : CellsState) (shown : ViewLists) (text : List ℕ) (to : ℤ) → IsShown s shown → pos s.presentation.now ≤ℤ to → IsPassing s.presentation text to s shown text
 sets_out s shown text to is within = record {
   presentation_is = refl;
   from = omega arith;
@@ -75,12 +75,12 @@ sets_out s shown text to is within = record {
     none : s.presentation.now - s.presentation.now ≡ 0
     none = omega arith
 
-module _ (p : Presentation) (front : List ℕ) (to : ℤ) (s : Standing) (shown : Shown) (text : List ℕ) (way : IsPassing p front to s shown text) where
+module _ (p : Presentation) (front : List ℕ) (to : ℤ) (s : CellsState) (shown : ViewLists) (text : List ℕ) (way : IsPassing p front to s shown text) where
   -- the moved presentation
   pub moved_is : (m : ℕ) → as_of s.presentation m ≡ as_of p m
   moved_is m = ap (λ (q : Presentation). as_of q m) way.presentation_is
 
-  module _ (next : Standing) (shown' : Shown) (text' : List ℕ) (v : ℤ) (from : pos s.presentation.now ≤ℤ v) (quiet : NothingBefore s v)
+  module _ (next : CellsState) (shown' : ViewLists) (text' : List ℕ) (v : ℤ) (from : pos s.presentation.now ≤ℤ v) (quiet : NothingBefore s v)
       (new : text' ≡ text ++ text_of s.presentation (changes_between s.presentation (as_of s.presentation (nat_abs v)))) where
     pub told_then : text' ≡ front ++ text_of p (changes_through p (nat_abs v - p.now))
     told_then = by_number (over s.presentation.now v from)
@@ -107,12 +107,12 @@ module _ (p : Presentation) (front : List ℕ) (to : ℤ) (s : Standing) (shown 
     quiet_until c e =
         let same : Some first.coming ≡ Some c = sym first.first ∙ e in
         let one : first.coming ≡ c = cc in
-        subst (λ (x : Coming). due ≤ℤ x.key.value) one (no_less due first.coming.key.value first.due_is)
+        subst (λ (x : DueChange). due ≤ℤ x.key.value) one (no_less due first.coming.key.value first.due_is)
       where
         no_less : (x y : ℤ) → y ≡ x → x ≤ℤ y
         no_less x y e = omega (arith, ints, e)
 
-    module _ (within : due ≤ℤ to) (next : Standing) (shown' : Shown) (text' : List ℕ) (is : IsShownAt (as_of s.presentation (nat_abs due)) next shown')
+    module _ (within : due ≤ℤ to) (next : CellsState) (shown' : ViewLists) (text' : List ℕ) (is : IsShownAt (as_of s.presentation (nat_abs due)) next shown')
         (new : text' ≡ text ++ text_of s.presentation (changes_between s.presentation (as_of s.presentation (nat_abs due)))) where
       at_due : next.presentation ≡ as_of p (nat_abs due)
       at_due = is.presentation_is ∙ moved_is (nat_abs due)
@@ -171,10 +171,10 @@ module _ (p : Presentation) (front : List ℕ) (to : ℤ) (s : Standing) (shown 
     quiet_to : NothingBefore s to
     quiet_to c e = sooner to c.key.value (silence c e)
 
-    pub arrives : (next : Standing) (shown' : Shown) (text' : List ℕ) → text' ≡ text ++ text_of s.presentation (changes_between s.presentation (as_of s.presentation (nat_abs to))) → text' ≡ front ++ text_of p (changes_through p (nat_abs to - p.now))
+    pub arrives : (next : CellsState) (shown' : ViewLists) (text' : List ℕ) → text' ≡ text ++ text_of s.presentation (changes_between s.presentation (as_of s.presentation (nat_abs to))) → text' ≡ front ++ text_of p (changes_through p (nat_abs to - p.now))
     arrives next shown' text' new = told_then next shown' text' to way.within quiet_to new
 
-  pub shown_there : (next : Standing) (shown' : Shown) → IsShownAt (as_of s.presentation (nat_abs to)) next shown' → IsShownAt (as_of p (nat_abs to)) next shown'
+  pub shown_there : (next : CellsState) (shown' : ViewLists) → IsShownAt (as_of s.presentation (nat_abs to)) next shown' → IsShownAt (as_of p (nat_abs to)) next shown'
   shown_there next shown' is = record { presentation_is = is.presentation_is ∙ moved_is (nat_abs to); shown_is = is.shown_is }
 
   pub too_full_there : (given : Refusal) → IsTooFull (as_of s.presentation (nat_abs to)) given → IsTooFull (as_of p (nat_abs to)) given

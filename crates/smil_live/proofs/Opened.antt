@@ -9,14 +9,14 @@ use Rattle.smil_model.specs.document.Limits.{limits}
 use Rattle.smil_model.specs.happening.Resolution.{diary_of}
 use Rattle.smil_model.specs.shown.Answers.{load_text}
 use Rattle.smil_model.specs.shown.Orders.{Presentation, course_of, kept_where, opened, unless_too_full, views_of}
-use Rattle.smil_cells.specs.Standing.{IsSettled, Standing}
+use Rattle.smil_cells.specs.CellsState.{IsSettled, CellsState}
 use Rattle.smil_shown.specs.ShownViews.{views_at}
 use Rattle.smil_live.specs.Moves.{IsReplayed, IsTooFull}
 use Rattle.smil_shown.specs.Told.{lines_between}
 use Rattle.smil_live.proofs.Standings.{views_settled}
 
 -- the lines of what is shown first
-pub told_load : (s : Standing) (d : Document) (before after : List View) (m : ℕ) (old new : List ℕ) → IsSettled s → d ≡ s.presentation.document → before ≡ [] → after ≡ views_at s → m ≡ s.presentation.now → new ≡ old ++ lines_between d.nodes m before after → new ≡ old ++ load_text s.presentation
+pub told_load : (s : CellsState) (d : Document) (before after : List View) (m : ℕ) (old new : List ℕ) → IsSettled s → d ≡ s.presentation.document → before ≡ [] → after ≡ views_at s → m ≡ s.presentation.now → new ≡ old ++ lines_between d.nodes m before after → new ≡ old ++ load_text s.presentation
 told_load s d before after m old new settled same none seen moment told =
     told
     ∙ ap (λ (e : Document). old ++ lines_between e.nodes m before after) same
@@ -29,7 +29,7 @@ abbrev pub first_of : Document → Presentation
 first_of d = record { document = d; log = []; now = 0 }
 
 -- a presentation that has its diary
-pub has_room : (p q : Presentation) (s : Standing) → q ≡ s.presentation → IsReplayed p s → unless_too_full limits p ≡ Ok q
+pub has_room : (p q : Presentation) (s : CellsState) → q ≡ s.presentation → IsReplayed p s → unless_too_full limits p ≡ Ok q
 has_room p q s same is =
     let settled : diary_of (course_of p) ≡ Some s.diary = subst (λ (r : Presentation). diary_of (course_of r) ≡ Some s.diary) is.presentation_is is.settled in
     ap (kept_where p) settled ∙ ap Ok (sym (same ∙ is.presentation_is))
@@ -38,7 +38,7 @@ pub no_room : (p : Presentation) (e : Refusal) → IsTooFull p e → (e ≡ refu
 no_room p e (inl memory) = inl memory
 no_room p e (inr full) = inr (ap (kept_where p) full.1 ∙ ap Err (sym full.0))
 
-pub opens : (d : Document) (q : Presentation) (s : Standing) → q ≡ s.presentation → IsReplayed (first_of d) s → opened d ≡ Ok q
+pub opens : (d : Document) (q : Presentation) (s : CellsState) → q ≡ s.presentation → IsReplayed (first_of d) s → opened d ≡ Ok q
 opens d q s same is = has_room (first_of d) q s same is
 
 pub not_opened : (d : Document) (e : Refusal) → IsTooFull (first_of d) e → (e ≡ refusal.Memory) ⊎ (opened d ≡ Err e)

@@ -33,7 +33,7 @@ use Rattle.smil_model.specs.shown.Orders.{IsState, Presentation, and_then, at_mo
 use Rattle.smil_grammar.specs.Formats.{formats}
 use Rattle.smil_laws.proofs.Aside.{find_each}
 use Rattle.smil_tree.proofs.Spans.{all_known}
-use Rattle.smil_cells.specs.Standing.{Standing, with_logged}
+use Rattle.smil_cells.specs.CellsState.{CellsState, with_logged}
 use Rattle.smil_cells.proofs.Heeded.{first_is_log}
 use Rattle.smil_live.specs.Moves.{IsHeardBy, IsNotHeard, IsReplayed, IsTooFull, entry_of, sought_of, text_of}
 use Rattle.smil_live.specs.Telling.{element_named}
@@ -243,7 +243,7 @@ not_sought p q to given is within (inl memory) = inl memory
 not_sought p q to given is within (inr (full, none)) =
     inr (at_moment_full p (nat_abs to) (filter (λ (x : LogEntry). int_le x.moment (pos (nat_abs to))) p.log) within (subst (λ (r : Presentation). diary_of (course_of r) ≡ None) is none) ∙ ap Err (sym full))
 
-pub sought_anew : (p q : Presentation) (s : Standing) (to : ℤ) (old new : List ℕ) → IsState p → IsState (sought_of p to) → IsReplayed (sought_of p to) s → q ≡ s.presentation → new ≡ old ++ gone_text p s.presentation ++ text_of s.presentation (changes_between p s.presentation) → Accepts formats p q (order.Seek to) (drop (length old) new)
+pub sought_anew : (p q : Presentation) (s : CellsState) (to : ℤ) (old new : List ℕ) → IsState p → IsState (sought_of p to) → IsReplayed (sought_of p to) s → q ≡ s.presentation → new ≡ old ++ gone_text p s.presentation ++ text_of s.presentation (changes_between p s.presentation) → Accepts formats p q (order.Seek to) (drop (length old) new)
 sought_anew p q s to old new state there is e told =
     let at = is.presentation_is in
     let here : q ≡ sought_of p to = e ∙ at in

@@ -9,7 +9,7 @@ use Rattle.smil_model.specs.document.Valid.{IsNumberedTree}
 use Rattle.smil_model.specs.diary.Clocks.{until}
 use Rattle.smil_model.specs.diary.Diary.{History}
 use Rattle.smil_model.specs.diary.Logs.{is_logged_by}
-use Rattle.smil_model.specs.happening.Keys.{Coming, coming, first_coming}
+use Rattle.smil_model.specs.happening.Keys.{DueChange, coming, first_coming}
 use Rattle.smil_model.specs.happening.Resolution.{diary_of, Reaches}
 use Rattle.smil_model.specs.shown.Orders.{Presentation, as_of, course_of, views_of}
 use Rattle.smil_model.specs.shown.Views.{views}
@@ -77,7 +77,7 @@ logged_later a b (x ∷ xs) l q =
 
 -- nothing comes before a moment
 abbrev pub IsQuiet : Presentation → List Entry → ℤ → Type 0
-IsQuiet p d moment = (c : Coming) → first_coming (coming (history_with p d) (pos p.now)) ≡ Some c → moment ≤ℤ c.key.value
+IsQuiet p d moment = (c : DueChange) → first_coming (coming (history_with p d) (pos p.now)) ≡ Some c → moment ≤ℤ c.key.value
 
 no_less : (m : ℕ) (x : ℤ) → (pos m +ℤ pos 1) ≤ℤ x → int_le (pos m) x ≡ true
 no_less m x l = grind (arith, ints)

@@ -12,12 +12,12 @@ use Rattle.smil_model.specs.document.Valid.{IsValid}
 use Rattle.smil_model.specs.shown.Orders.{IsState, Presentation}
 use Rattle.smil_model.proofs.Orders.{le_from}
 use Rattle.smil_laws.specs.Cut.{logged}
-use Rattle.smil_cells.specs.Standing.{IsRebuilt, MayRebuild, Standing}
+use Rattle.smil_cells.specs.CellsState.{IsRebuilt, MayRebuild, CellsState}
 use Rattle.smil_live.specs.Moves.{IsReplayed, IsUnderWay, edited_to, replay_of}
 use Rattle.smil_live.proofs.RebuiltParts.{IsPart}
 use Rattle.smil_live.proofs.Replays.{fits, under_way}
 
-pub may_rebuild : (s : Standing) (d : Document) (len bound : ℕ) → IsValid d → len ≤ length s.diary → s.marked ≡ None → IsPart d.nodes s.presentation.log (take len s.diary) bound → MayRebuild s d len
+pub may_rebuild : (s : CellsState) (d : Document) (len bound : ℕ) → IsValid d → len ≤ length s.diary → s.marked ≡ None → IsPart d.nodes s.presentation.log (take len s.diary) bound → MayRebuild s d len
 may_rebuild s d len bound valid within unmarked part = record {
   valid = valid;
   within = within;
@@ -45,7 +45,7 @@ at_most a b m e l = grind (arith, ints)
 
 -- ---- the cells
 
-module _ (s t : Standing) (d : Document) (len : ℕ) (bound : ℕ) (rebuilt : IsRebuilt s d len t) (part : IsPart d.nodes s.presentation.log (take len s.diary) bound) where
+module _ (s t : CellsState) (d : Document) (len : ℕ) (bound : ℕ) (rebuilt : IsRebuilt s d len t) (part : IsPart d.nodes s.presentation.log (take len s.diary) bound) where
   entries : List Entry
   entries = take len s.diary
 
@@ -91,11 +91,11 @@ moment_kept p m state is =
     to_z-of_z w64 m (subst (λ (z : ℤ). FitsSigned w64 z) (sym is) (fits 0 (pos p.now) (omega (arith, ints)) (le_from (pos p.now) HORIZON state.now))) ∙ is
 
 -- new cells of a document are under way
-pub new_way : (d : Document) (log : List LogEntry) (to : ℤ) (s : Standing) → IsState (replay_of d log to) → s.presentation ≡ record { document = d; log = []; now = 0 } → s.fault ≡ None → s.marked ≡ None
+pub new_way : (d : Document) (log : List LogEntry) (to : ℤ) (s : CellsState) → IsState (replay_of d log to) → s.presentation ≡ record { document = d; log = []; now = 0 } → s.fault ≡ None → s.marked ≡ None
     → IsUnderWay (replay_of s.presentation.document log to) (length s.presentation.log) s
 new_way d log to s state is sound unmarked =
     subst (λ (e : Document). IsUnderWay (replay_of e log to) (length s.presentation.log) s) (sym (ap (λ (p : Presentation). p.document) is))
     (subst (λ (n : ℕ). IsUnderWay (replay_of d log to) n s) (sym (ap (λ (p : Presentation). length p.log) is)) (under_way (replay_of d log to) state s is sound unmarked))
 
-pub made_of : (d : Document) (log : List LogEntry) (to : ℤ) (s t : Standing) → s.presentation ≡ record { document = d; log = []; now = 0 } → IsReplayed (replay_of s.presentation.document log to) t → IsReplayed (replay_of d log to) t
+pub made_of : (d : Document) (log : List LogEntry) (to : ℤ) (s t : CellsState) → s.presentation ≡ record { document = d; log = []; now = 0 } → IsReplayed (replay_of s.presentation.document log to) t → IsReplayed (replay_of d log to) t
 made_of d log to s t is replayed = subst (λ (e : Document). IsReplayed (replay_of e log to) t) (ap (λ (p : Presentation). p.document) is) replayed

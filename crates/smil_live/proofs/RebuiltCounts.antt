@@ -21,7 +21,7 @@ use Rattle.smil_laws.specs.Cut.{IsNamedBelow, NamesBelow}
 use Rattle.smil_laws.proofs.Further.{is_past}
 use Rattle.smil_laws.proofs.Cutting.{names_weaker}
 use Rattle.smil_laws.proofs.Longer.{get_longer}
-use Rattle.smil_cells.specs.Standing.{GoesOn, IsSettled, Standing, WhereTold, any_interval, fresh, fresh_since, interval_at, is_same_interval, reached_since}
+use Rattle.smil_cells.specs.CellsState.{GoesOn, IsSettled, CellsState, WhereTold, any_interval, fresh, fresh_since, interval_at, is_same_interval, reached_since}
 use Rattle.smil_cells.proofs.OnWay.{drops}
 use Rattle.smil_live.specs.Counts.{interval_by, least_loading, reached_behind}
 use Rattle.smil_live.specs.Moves.{IsReplayed}
@@ -67,16 +67,16 @@ settled_names c d settled =
     subst (λ (l : List Entry). NamesBelow (length c.log) l) end.diary_is (names_weaker end.at.heard (length c.log) end.at.diary end.heard (is_past c end.at end.reached).named)
 
 -- so do the entries that were appended to another one
-pub named_since : (old mid : Standing) → IsSettled mid → NamesBelow (length mid.presentation.log) (drop (length old.diary) mid.diary)
+pub named_since : (old mid : CellsState) → IsSettled mid → NamesBelow (length mid.presentation.log) (drop (length old.diary) mid.diary)
 named_since old mid settled = names_behind (length mid.presentation.log) (length old.diary) mid.diary (settled_names (course_of mid.presentation) mid.diary settled)
 
-pub none_since : (n : ℕ) (s : Standing) → NamesBelow n (drop (length s.diary) s.diary)
+pub none_since : (n : ℕ) (s : CellsState) → NamesBelow n (drop (length s.diary) s.diary)
 none_since n s = subst (λ (l : List Entry). NamesBelow n l) (sym (drop-length s.diary)) tt
 
 -- ---- one standing after another, with a longer log
 
 -- a standing with a longer log that goes on from the one before
-pub counted_more : (counts : Bool) (old mid new : Standing) (rest : List LogEntry) (a b c : ℕ) → mid.presentation.document ≡ old.presentation.document → new.presentation.log ≡ mid.presentation.log ++ rest
+pub counted_more : (counts : Bool) (old mid new : CellsState) (rest : List LogEntry) (a b c : ℕ) → mid.presentation.document ≡ old.presentation.document → new.presentation.log ≡ mid.presentation.log ++ rest
     → NamesBelow (length mid.presentation.log) (drop (length old.diary) mid.diary) → IsCounted counts old mid a b → (n : List Entry) × (new.diary ≡ mid.diary ++ n) → b ≤ c
     → WhereTold counts (c - b ≤ reached_since mid new) → WhereTold counts (fresh_since mid new ≤ c - b) → IsCounted counts old new a c
 counted_more counts old mid new rest a b c document log named is grown later most least =
@@ -87,7 +87,7 @@ counted_more counts old mid new rest a b c document log named is grown later mos
     counted_by old mid new document is.diary.0 grown.0 is.diary.1 grown.1 by_mid a b c later counts is most least
 
 -- two steps onward, the first of them with the same log
-pub counted_twice : (counts : Bool) (old mid new : Standing) (rest : List LogEntry) (a b c : ℕ) → mid.presentation.document ≡ old.presentation.document → new.presentation.log ≡ mid.presentation.log ++ rest
+pub counted_twice : (counts : Bool) (old mid new : CellsState) (rest : List LogEntry) (a b c : ℕ) → mid.presentation.document ≡ old.presentation.document → new.presentation.log ≡ mid.presentation.log ++ rest
     → IsSettled mid → GoesOn old mid → GoesOn mid new → a ≤ b → b ≤ c → WhereTold counts (b - a ≤ reached_since old mid) → WhereTold counts (fresh_since old mid ≤ b - a)
     → WhereTold counts (c - b ≤ reached_since mid new) → WhereTold counts (fresh_since mid new ≤ c - b) → IsCounted counts old new a c
 counted_twice counts old mid new rest a b c document log settled first second before later most least then_most then_least =
@@ -114,7 +114,7 @@ any_more before after (e ∷ es) =
     one (Some i) (Some j) xs ys zs l = let more = at_least (not (is_same_interval (Some i) (Some j))) zs in omega (arith, l, more)
 
 -- the entries that were appended behind so many
-pub reached_is : (p : Presentation) (old new : Standing) (len : ℕ) → IsReplayed p new → old.presentation.document ≡ p.document → length old.diary ≡ len → reached_since old new ≡ reached_behind len p
+pub reached_is : (p : Presentation) (old new : CellsState) (len : ℕ) → IsReplayed p new → old.presentation.document ≡ p.document → length old.diary ≡ len → reached_since old new ≡ reached_behind len p
 reached_is p old new len is document count =
     let settled : diary_of (course_of p) ≡ Some new.diary = subst (λ (q : Presentation). diary_of (course_of q) ≡ Some new.diary) is.presentation_is is.settled in
     ap (λ (d : Document). reaches d.nodes new.presentation.log (drop (length old.diary) new.diary)) document
@@ -123,14 +123,14 @@ reached_is p old new len is document count =
     ∙ ap (λ (l : List Entry). reaches p.document.nodes p.log (drop len l)) (sym (diary_is (course_of p) new.diary settled))))
 
 -- each element once, and the reaches behind so many entries
-pub most_rebuilt : (counts : Bool) (p : Presentation) (old new : Standing) (len elements_count a b c : ℕ) → IsReplayed p new → old.presentation.document ≡ p.document → length old.diary ≡ len → elements_count ≡ length (elements p.document.nodes) → a ≤ b → b ≤ c
+pub most_rebuilt : (counts : Bool) (p : Presentation) (old new : CellsState) (len elements_count a b c : ℕ) → IsReplayed p new → old.presentation.document ≡ p.document → length old.diary ≡ len → elements_count ≡ length (elements p.document.nodes) → a ≤ b → b ≤ c
     → WhereTold counts (b - a ≤ elements_count) → WhereTold counts (c - b ≤ reached_since old new) → WhereTold counts (c - a ≤ length (elements p.document.nodes) + reached_behind len p)
 most_rebuilt false p old new len elements_count a b c is document count all before later first second = tt
 most_rebuilt true p old new len elements_count a b c is document count all before later first second =
     let same = reached_is p old new len is document count in
     omega (arith, same, all, before, later, first, second)
 
-interval_is : (p : Presentation) (new : Standing) → IsReplayed p new → (s : ℕ) → interval_at new s ≡ interval_by p s
+interval_is : (p : Presentation) (new : CellsState) → IsReplayed p new → (s : ℕ) → interval_at new s ≡ interval_by p s
 interval_is p new is s =
     ap (λ (h : History). current_interval h (pos new.presentation.now) s) (sym (resolved_is new.presentation new.diary is.settled))
     ∙ ap (λ (q : Presentation). interval_by q s) is.presentation_is
@@ -146,7 +146,7 @@ same_count f g same (e ∷ es) =
     by_test false q = q
 
 -- the elements that have an interval
-pub least_anew : (counts : Bool) (p : Presentation) (d : Document) (old new : Standing) (a b c : ℕ) → IsReplayed p new → old.presentation.document ≡ p.document → d ≡ p.document → a ≤ b → b ≤ c
+pub least_anew : (counts : Bool) (p : Presentation) (d : Document) (old new : CellsState) (a b c : ℕ) → IsReplayed p new → old.presentation.document ≡ p.document → d ≡ p.document → a ≤ b → b ≤ c
     → WhereTold counts (any_interval d.nodes (interval_at old) ≤ b - a) → WhereTold counts (fresh_since old new ≤ c - b) → WhereTold counts (least_loading p ≤ c - a)
 least_anew false p d old new a b c is document same before later first second = tt
 least_anew true p d old new a b c is document same before later first second =

@@ -10,7 +10,7 @@ use Rattle.smil_model.specs.declared.diary.Entry.{Entry}
 use Rattle.smil_model.specs.declared.diary.LogEntry.{LogEntry}
 use Rattle.smil_model.specs.declared.diary.Step.TheVariants.{Logged}
 use Rattle.smil_model.specs.diary.Logs.{moments_rise}
-use Rattle.smil_model.specs.happening.Keys.{Coming, coming, first_coming, is_due}
+use Rattle.smil_model.specs.happening.Keys.{DueChange, coming, first_coming, is_due}
 use Rattle.smil_model.specs.happening.Groups.{group}
 use Rattle.smil_model.specs.happening.Resolution.{Course, Progress, outset, history_at, after_quiet, after_settling, after_coming, next_step, after_steps, Reaches}
 use Rattle.smil_model.proofs.Orders.{le_exact}
@@ -91,7 +91,7 @@ module _ (c : Course) (rise : moments_rise (pos 0) c.log ≡ true) (q : Progress
           subst (λ (p : Progress). HasHeard c.log p) one (heard_one entry f t)
       by_test false t e = quiet_heard r e (λ later g. let same : Some entry ≡ Some later = sym f ∙ g in let one : entry ≡ later = cc in rw (← one) t)
 
-  coming_heard : (o : Option Coming) (r : Progress) → next_step c q ≡ Some r → after_coming c q o ≡ Some r → HasHeard c.log r
+  coming_heard : (o : Option DueChange) (r : Progress) → next_step c q ≡ Some r → after_coming c q o ≡ Some r → HasHeard c.log r
   coming_heard None r whole e = settling_heard (slice_get c.log q.heard) r refl e
   coming_heard (Some next) r whole e = by_test (is_due (pos q.moment) next.key) e
     where

@@ -14,7 +14,7 @@ use Rattle.smil_model.specs.document.Document.{Document}
 use Rattle.smil_model.specs.document.Valid.{IsNumberedTree}
 use Rattle.smil_model.specs.diary.Clocks.{until}
 use Rattle.smil_model.specs.diary.Logs.{is_log, may_happen, moments_rise}
-use Rattle.smil_model.specs.happening.Keys.{Coming, is_due}
+use Rattle.smil_model.specs.happening.Keys.{DueChange, is_due}
 use Rattle.smil_model.specs.happening.Groups.{group}
 use Rattle.smil_model.specs.happening.Resolution.{Course, Progress, outset, history_at, after_quiet, after_settling, after_coming, next_step, after_steps, Reaches, diary_of}
 use Rattle.smil_model.proofs.Orders.{le_total}
@@ -45,7 +45,7 @@ module _ (c : Course) (q : Progress) where
           (record { moment = pos q.moment; step = Logged q.heard } ∷ [], ap (λ (p : Progress). p.diary) (sym one))
       by_test false e = quiet_adds r e
 
-  coming_adds : (o : Option Coming) (r : Progress) → after_coming c q o ≡ Some r → (added : List Entry) × (r.diary ≡ q.diary ++ added)
+  coming_adds : (o : Option DueChange) (r : Progress) → after_coming c q o ≡ Some r → (added : List Entry) × (r.diary ≡ q.diary ++ added)
   coming_adds None r e = settling_adds (slice_get c.log q.heard) r e
   coming_adds (Some next) r e = by_test (is_due (pos q.moment) next.key) e
     where

@@ -21,7 +21,7 @@ use Rattle.smil_diary.specs.declared.fault.BookFault.{BookFault}
 use Rattle.smil_diary.specs.Refusals.{of_book}
 use Rattle.smil_diary.specs.declared.fault.BookFault.TheVariants as book_fault
 use Rattle.smil_laws.specs.Cut.{logged}
-use Rattle.smil_cells.specs.Standing.{GoesOn, IsRebuilt, IsSettled, MayRebuild, Standing, WhereTold, reached_since}
+use Rattle.smil_cells.specs.CellsState.{GoesOn, IsRebuilt, IsSettled, MayRebuild, CellsState, WhereTold, reached_since}
 use Rattle.smil_live.specs.Moves.{IsReplayed, IsTooFull, sought_of}
 use Rattle.smil_live.proofs.RebuiltCells.{may_rebuild, not_later}
 use Rattle.smil_live.proofs.RebuiltParts.{IsPart, front_until, log_until, part_until}
@@ -48,7 +48,7 @@ within_horizon p to m state back there = subst (λ (z : ℤ). z ≤ℤ HORIZON) 
     through : (a b c : ℤ) → a ≤ℤ b → b ≤ℤ c → a ≤ℤ c
     through a b c l m = omega (arith, ints, l, m)
 
-module _ (s : Standing) (d : Document) (to : ℤ) (len : ℕ) (state : IsState s.presentation) (replayed : IsReplayed s.presentation s) (same : d ≡ s.presentation.document)
+module _ (s : CellsState) (d : Document) (to : ℤ) (len : ℕ) (state : IsState s.presentation) (replayed : IsReplayed s.presentation s) (same : d ≡ s.presentation.document)
     (before : nat_abs to ≤ s.presentation.now) (within : len ≤ length s.diary) (first : take len s.diary ≡ until (pos (nat_abs to)) s.diary) where
   part : IsPart d.nodes s.presentation.log (take len s.diary) (nat_abs to)
   part =
@@ -59,7 +59,7 @@ module _ (s : Standing) (d : Document) (to : ℤ) (len : ℕ) (state : IsState s
   pub may_go_back : MayRebuild s d len
   may_go_back = may_rebuild s d len (nat_abs to) (subst (λ (e : Document). IsValid e) (sym same) state.document) within replayed.unmarked part
 
-  module _ (t : Standing) (rebuilt : IsRebuilt s d len t) where
+  module _ (t : CellsState) (rebuilt : IsRebuilt s d len t) where
     pub not_after : t.presentation.now ≤ nat_abs to
     not_after = not_later s t d len (nat_abs to) rebuilt part
 
@@ -80,7 +80,7 @@ module _ (s : Standing) (d : Document) (to : ℤ) (len : ℕ) (state : IsState s
     refused_back fault full =
         refused_as (sought_of s.presentation to) (as_of t.presentation (nat_abs to)) t fault rebuilt.sound full (subst (λ (q : Presentation). diary_of (course_of q) ≡ None) moved_back)
 
-    module _ (u : Standing) (there : u.presentation ≡ as_of t.presentation (nat_abs to)) (settled : IsSettled u) (on : GoesOn t u) where
+    module _ (u : CellsState) (there : u.presentation ≡ as_of t.presentation (nat_abs to)) (settled : IsSettled u) (on : GoesOn t u) where
       pub arrived_back : IsReplayed (sought_of s.presentation to) u
       arrived_back = record {
         presentation_is = there ∙ moved_back;

@@ -19,7 +19,7 @@ use Rattle.smil_diary.specs.Refusals.{of_book}
 use Rattle.smil_diary.specs.declared.fault.BookFault.TheVariants as book_fault
 use Rattle.smil_laws.specs.Agreement.{course_on}
 use Rattle.smil_laws.proofs.Further.{le_same}
-use Rattle.smil_cells.specs.Standing.{GoesOn, IsSettled, Standing, with_logged}
+use Rattle.smil_cells.specs.CellsState.{GoesOn, IsSettled, CellsState, with_logged}
 use Rattle.smil_live.specs.Moves.{IsReplayed, IsTooFull, IsUnderWay, heard_at}
 use Rattle.smil_live.proofs.Full.{full_further, full_by_first}
 use Rattle.smil_live.proofs.Logs.{IsAt, at, all_at, none_before}
@@ -45,7 +45,7 @@ not_below n (negsuc k) from = absurd (omega (arith, ints, from))
 -- ---- what a refusal tells
 
 -- a fault of cells that answered none, where what they were to come to has too many entries
-pub refused_as : (p q : Presentation) (s : Standing) (fault : BookFault) → s.fault ≡ None → (fault ≡ book_fault.DiaryFull → (s.fault ≡ Some fault) ⊎ (diary_of (course_of q) ≡ None)) → (diary_of (course_of q) ≡ None → diary_of (course_of p) ≡ None) → IsTooFull p (of_book fault)
+pub refused_as : (p q : Presentation) (s : CellsState) (fault : BookFault) → s.fault ≡ None → (fault ≡ book_fault.DiaryFull → (s.fault ≡ Some fault) ⊎ (diary_of (course_of q) ≡ None)) → (diary_of (course_of q) ≡ None → diary_of (course_of p) ≡ None) → IsTooFull p (of_book fault)
 refused_as p q s book_fault.Memory sound full more = inl refl
 refused_as p q s book_fault.DiaryFull sound full more = by_cause (full refl)
   where
@@ -61,7 +61,7 @@ full_heard p x numbered here none =
 -- ---- under way to a presentation
 
 -- the next entry, at which they may settle
-pub record IsNextOf (p : Presentation) (place : ℕ) (s : Standing) (x : LogEntry) : Type 0 where
+pub record IsNextOf (p : Presentation) (place : ℕ) (s : CellsState) (x : LogEntry) : Type 0 where
   pub from : pos s.presentation.now ≤ℤ x.moment
   pub within : x.moment ≤ℤ HORIZON
   pub may : may_happen x.what ≡ true
@@ -71,7 +71,7 @@ pub record IsNextOf (p : Presentation) (place : ℕ) (s : Standing) (x : LogEntr
   pub here : IsAt (pos s.presentation.now) p.log place x
 
 -- no more was heard than there is
-pub heard_within : (p : Presentation) (place : ℕ) (s : Standing) → IsUnderWay p place s → length s.presentation.log ≤ length p.log
+pub heard_within : (p : Presentation) (place : ℕ) (s : CellsState) → IsUnderWay p place s → length s.presentation.log ≤ length p.log
 heard_within p place s way =
     let same : length s.presentation.log ≡ min place (length p.log) = ap (λ (l : List LogEntry). length l) way.log_is ∙ length-take place p.log in
     omega (arith, same)
@@ -83,7 +83,7 @@ module _ (p : Presentation) (state : IsState p) where
   happening : list_all (λ (x : LogEntry). may_happen x.what) p.log ≡ true
   happening = (and_parts (moments_rise (pos 0) p.log) (list_all (λ (x : LogEntry). may_happen x.what) p.log) state.log).1
 
-  pub under_way : (s : Standing) → s.presentation ≡ record { document = p.document; log = []; now = 0 } → s.fault ≡ None → s.marked ≡ None → IsUnderWay p 0 s
+  pub under_way : (s : CellsState) → s.presentation ≡ record { document = p.document; log = []; now = 0 } → s.fault ≡ None → s.marked ≡ None → IsUnderWay p 0 s
   under_way s is sound unmarked = record {
     document_is = ap (λ (q : Presentation). q.document) is;
     log_is = ap (λ (q : Presentation). q.log) is;
@@ -93,7 +93,7 @@ module _ (p : Presentation) (state : IsState p) where
     unmarked = unmarked;
   }
 
-  module _ (place : ℕ) (s : Standing) (way : IsUnderWay p place s) (x : LogEntry) (is : slice_get p.log place ≡ Some x) where
+  module _ (place : ℕ) (s : CellsState) (way : IsUnderWay p place s) (x : LogEntry) (is : slice_get p.log place ≡ Some x) where
     pub next_of : IsNextOf p place s x
     next_of =
         let here = at (pos s.presentation.now) p.log place x way.rise is in
@@ -113,7 +113,7 @@ module _ (p : Presentation) (state : IsState p) where
     abbrev heard : Presentation
     heard = heard_at s.presentation x
 
-    pub goes_on : (t : Standing) → t.presentation ≡ heard → t.fault ≡ None → t.marked ≡ s.marked → IsUnderWay p (place + 1) t
+    pub goes_on : (t : CellsState) → t.presentation ≡ heard → t.fault ≡ None → t.marked ≡ s.marked → IsUnderWay p (place + 1) t
     goes_on t is' sound marked =
         let next = next_of in
         let now_is : pos t.presentation.now ≡ x.moment = ap (λ (q : Presentation). pos q.now) is' ∙ next.natural in
@@ -152,7 +152,7 @@ module _ (p : Presentation) (state : IsState p) where
 
   -- ---- at the end
 
-  module _ (place : ℕ) (s : Standing) (way : IsUnderWay p place s) (past : length p.log ≤ place) where
+  module _ (place : ℕ) (s : CellsState) (way : IsUnderWay p place s) (past : length p.log ≤ place) where
     pub at_end : as_of s.presentation p.now ≡ p
     at_end = made s.presentation p way.document_is (way.log_is ∙ take_all place p.log past)
       where
@@ -162,7 +162,7 @@ module _ (p : Presentation) (state : IsState p) where
         made : (a b : Presentation) → a.document ≡ b.document → a.log ≡ b.log → as_of a b.now ≡ b
         made a b d l = by_parts a.document b.document a.log b.log b.now d l
 
-    pub arrived : (t : Standing) → t.presentation ≡ as_of s.presentation p.now → IsSettled t → GoesOn s t → IsReplayed p t
+    pub arrived : (t : CellsState) → t.presentation ≡ as_of s.presentation p.now → IsSettled t → GoesOn s t → IsReplayed p t
     arrived t is settled on = record {
       presentation_is = is ∙ at_end;
       sound = on.sound;

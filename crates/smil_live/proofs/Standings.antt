@@ -3,11 +3,11 @@ use Rattle.std.proofs.Common.{◌≡◌, sym, ap, subst, ℕ, ◌+◌, ℤ, arit
 use Rattle.std.specs.Prelude.{pos, nat_abs, ◌≤ℤ◌, ◌+ℤ◌}
 use Rattle.smil_model.specs.declared.times.TheConstants.{HORIZON}
 use Rattle.smil_model.specs.shown.Orders.{IsState, Presentation, course_of, views_of, as_of}
-use Rattle.smil_cells.specs.Standing.{IsSettled, NothingBefore, Standing}
+use Rattle.smil_cells.specs.CellsState.{IsSettled, NothingBefore, CellsState}
 use Rattle.smil_cells.proofs.Passing.{over}
 use Rattle.smil_shown.specs.ShownViews.{IsShown, views_at}
 use Rattle.smil_live.specs.Moves.{MayMove, made}
-use Rattle.smil_shown.specs.ViewTable.{Shown}
+use Rattle.smil_shown.specs.ViewTable.{ViewLists}
 use Rattle.smil_live.specs.declared.moves.Move.{Move}
 use Rattle.smil_live.specs.declared.moves.Move.TheVariants as move
 use Rattle.smil_shown.proofs.Ended.{nothing_due}
@@ -16,15 +16,15 @@ use Rattle.smil_live.proofs.Resolved.{views_are}
 use Rattle.smil_live.proofs.States.{state_logged, state_moved}
 
 -- nothing comes up to the moment at which cells are settled
-pub nothing_before : (s : Standing) → IsSettled s → NothingBefore s (pos s.presentation.now +ℤ pos 1)
+pub nothing_before : (s : CellsState) → IsSettled s → NothingBefore s (pos s.presentation.now +ℤ pos 1)
 nothing_before s settled c e = nothing_due (course_of s.presentation) s.diary settled c e
 
 -- their views are those that are resolved from scratch
-pub views_settled : (s : Standing) → IsSettled s → views_at s ≡ views_of s.presentation
+pub views_settled : (s : CellsState) → IsSettled s → views_at s ≡ views_of s.presentation
 views_settled s settled = sym (views_are s.presentation s.diary settled)
 
 -- the document and the log are as they may be, and the diary is that of the presentation
-pub has_diary : (s : Standing) (shown : Shown) → IsShown s shown → HasDiary s.presentation s.diary
+pub has_diary : (s : CellsState) (shown : ViewLists) → IsShown s shown → HasDiary s.presentation s.diary
 has_diary s shown is = record { numbered = is.state.document.numbered; logged = is.state.logged; settled = is.settled }
 
 -- ---- moves

@@ -17,9 +17,9 @@ use Rattle.smil_model.specs.shown.Orders.{IsState, changed, view_eq}
 use Rattle.smil_model.specs.document.Words.{Begins}
 use Rattle.smil_instances.proofs.Siblings.{distinct_elements}
 use Rattle.smil_model.proofs.Growing.{begins_by, begins_itself}
-use Rattle.smil_cells.specs.Standing.{GoesOn, Standing}
+use Rattle.smil_cells.specs.CellsState.{GoesOn, CellsState}
 use Rattle.smil_shown.specs.ShownViews.{views_at}
-use Rattle.smil_shown.specs.ViewTable.{Shown, differs, has_view, view_in, view_now, with_view}
+use Rattle.smil_shown.specs.ViewTable.{ViewLists, differs, has_view, view_in, view_now, with_view}
 use Rattle.smil_shown.specs.Told.{lines_between, lines_of}
 use Rattle.smil_shown.proofs.LinesTold.{difference_on, next_view}
 use Rattle.smil_live.proofs.Touching.{AreLeft, IsTurn, OwnsIn, Stays, all_left, all_put, own_all, put_all, put_next, told_same, touched_of, touched_serials, turn_of}
@@ -42,14 +42,14 @@ no_line nodes m before v w out is differ =
 -- ---- turns
 
 -- some of the views are put in place, and told
-pub record IsUnderWay (nodes : List Node) (m : ℕ) (first all : List View) (front : List ℕ) (before : List View) (shown : Shown) (i : ℕ) (out : List ℕ) : Type 0 where
+pub record IsUnderWay (nodes : List Node) (m : ℕ) (first all : List View) (front : List ℕ) (before : List View) (shown : ViewLists) (i : ℕ) (out : List ℕ) : Type 0 where
   pub left : AreLeft first all shown.views (drop i all)
   pub told : out ++ lines_between nodes m first (drop i all) ≡ front ++ lines_between nodes m first all
   pub before_is : shown.before ≡ before
   pub begins : Begins front out
 
 module _ (nodes : List Node) (m : ℕ) (first all : List View) (front : List ℕ) (before : List View) where
-  pub way_begins : (shown : Shown) → shown.views ≡ first → shown.before ≡ before → AreLeft first all first all → IsUnderWay nodes m first all front before shown 0 front
+  pub way_begins : (shown : ViewLists) → shown.views ≡ first → shown.before ≡ before → AreLeft first all first all → IsUnderWay nodes m first all front before shown 0 front
   way_begins shown views is left = record {
     left = subst (λ (vs : List View). AreLeft first all vs (drop 0 all)) (sym views) (subst (λ (vs : List View). AreLeft first all first vs) (sym (none_off all)) left);
     told = ap (λ (vs : List View). front ++ lines_between nodes m first vs) (none_off all);
@@ -65,39 +65,39 @@ module _ (nodes : List Node) (m : ℕ) (first all : List View) (front : List ℕ
   same_lines views v same = ap (λ (w : View). lines_of nodes m (cond (not (view_eq v w)) (v ∷ []) [])) same
 
   -- the next view is put in place
-  pub way_on : (shown shown' : Shown) (i : ℕ) (d v : View) (out out' : List ℕ) → IsUnderWay nodes m first all front before shown i out → i < length all → get_or all i d ≡ v
+  pub way_on : (shown shown' : ViewLists) (i : ℕ) (d v : View) (out out' : List ℕ) → IsUnderWay nodes m first all front before shown i out → i < length all → get_or all i d ≡ v
       → shown' ≡ with_view shown v → out' ≡ out ++ lines_between nodes m shown.views (v ∷ []) → Begins out out' → IsUnderWay nodes m first all front before shown' (i + 1) out'
   way_on shown shown' i d v out out' way l is put told more = record {
-    left = subst (λ (vs : List View). AreLeft first all vs (drop (i + 1) all)) (sym (ap (λ (s : Shown). s.views) put)) (put_next first all shown.views (drop (i + 1) all) v left);
+    left = subst (λ (vs : List View). AreLeft first all vs (drop (i + 1) all)) (sym (ap (λ (s : ViewLists). s.views) put)) (put_next first all shown.views (drop (i + 1) all) v left);
     told = difference_on nodes m first all i d (front ++ lines_between nodes m first all) out out' l way.told
         (told ∙ (ap (λ x. out ++ x) (same_lines shown.views v left.stand.0.0) ∙ ap (λ x. out ++ lines_between nodes m first (x ∷ [])) (sym is)));
-    before_is = ap (λ (s : Shown). s.before) put ∙ way.before_is;
+    before_is = ap (λ (s : ViewLists). s.before) put ∙ way.before_is;
     begins = begins_by front out out' way.begins more;
   }
     where
       left : AreLeft first all shown.views (v ∷ drop (i + 1) all)
       left = subst (λ (vs : List View). AreLeft first all shown.views vs) (next_view all i d l ∙ ap (λ x. x ∷ drop (i + 1) all) is) way.left
 
-  pub views_end : (shown : Shown) (i : ℕ) (out : List ℕ) → IsUnderWay nodes m first all front before shown i out → length all ≤ i → shown.views ≡ put_all first all
+  pub views_end : (shown : ViewLists) (i : ℕ) (out : List ℕ) → IsUnderWay nodes m first all front before shown i out → length all ≤ i → shown.views ≡ put_all first all
   views_end shown i out way l = ap (put_all shown.views) (sym (drop_of_length-le all l)) ∙ (way.left).put
 
-  pub told_end : (shown : Shown) (i : ℕ) (out : List ℕ) → IsUnderWay nodes m first all front before shown i out → length all ≤ i → out ≡ front ++ lines_between nodes m first all
+  pub told_end : (shown : ViewLists) (i : ℕ) (out : List ℕ) → IsUnderWay nodes m first all front before shown i out → length all ≤ i → out ≡ front ++ lines_between nodes m first all
   told_end shown i out way l = sym (append-nil out) ∙ (ap (λ (vs : List View). out ++ lines_between nodes m first vs) (sym (drop_of_length-le all l)) ∙ way.told)
 
 -- ---- from an earlier standing
 
-abbrev pub touched_views : Standing → List View
+abbrev pub touched_views : CellsState → List View
 touched_views s = map (view_now s) (touched_of (has s.touched) (elements s.presentation.document.nodes))
 
 -- the views of an earlier standing, from which those of elements that are not touched are left
-pub record IsFrom (new : Standing) (first : List View) : Type 0 where
-  pub old : Standing
+pub record IsFrom (new : CellsState) (first : List View) : Type 0 where
+  pub old : CellsState
   pub first_is : first ≡ map (view_now old) (elements new.presentation.document.nodes)
   pub distinct : IsDistinct (elements new.presentation.document.nodes)
   pub stay : AllByRecursion (Stays (has new.touched) (view_now old) (view_now new)) (elements new.presentation.document.nodes)
   pub touched : new.touched ≡ filter (has new.touched) (serials (elements new.presentation.document.nodes))
 
-pub is_from : (old new : Standing) (first : List View) → GoesOn old new → first ≡ views_at old → new.presentation.document ≡ old.presentation.document → IsState new.presentation → IsFrom new first
+pub is_from : (old new : CellsState) (first : List View) → GoesOn old new → first ≡ views_at old → new.presentation.document ≡ old.presentation.document → IsState new.presentation → IsFrom new first
 is_from old new first goes views same state = record {
   old = old;
   first_is = views ∙ ap (λ (d : Document). map (view_now old) (elements d.nodes)) (sym same);
@@ -113,7 +113,7 @@ is_from old new first goes views same state = record {
     each [] own = tt
     each (e ∷ es) own = (λ q. goes.views e (ap (λ (d : Document). node_at (elements d.nodes) e.serial) (sym same) ∙ own.0) q, each es own.1)
 
-module _ (new : Standing) (first : List View) (from : IsFrom new first) where
+module _ (new : CellsState) (first : List View) (from : IsFrom new first) where
   abbrev es : List Node
   es = elements new.presentation.document.nodes
 
@@ -159,7 +159,7 @@ pub where_not_err : {A E : Type 0} (r : Result A E) (P : Type 0) → is_err r �
 where_not_err (Ok x) P q p = p
 where_not_err (Err x) P q p = cc
 
-pub known_next : (nodes : List Node) (m : ℕ) (first all : List View) (front : List ℕ) (before : List View) (shown : Shown) (i : ℕ) (d : View) (out : List ℕ)
+pub known_next : (nodes : List Node) (m : ℕ) (first all : List View) (front : List ℕ) (before : List View) (shown : ViewLists) (i : ℕ) (d : View) (out : List ℕ)
     → IsUnderWay nodes m first all front before shown i out → i < length all → has_view shown.views (get_or all i d).serial ≡ true
 known_next nodes m first all front before shown i d out way l = (left.stand.0).1
   where

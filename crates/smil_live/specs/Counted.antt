@@ -4,7 +4,7 @@ use Rattle.smil_model.specs.declared.order.Order.{Order}
 use Rattle.smil_model.specs.declared.order.Refusal.{Refusal}
 use Rattle.smil_model.specs.shown.Answers.{MayEvaluate}
 use Rattle.smil_model.specs.shown.Orders.{Presentation}
-use Rattle.smil_cells.specs.Standing.{WhereTold}
+use Rattle.smil_cells.specs.CellsState.{WhereTold}
 use Rattle.smil_live.specs.Counts.{least_number, most_number, told_where}
 
 -- no more often than its greatest number, where that is told

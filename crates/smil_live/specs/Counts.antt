@@ -11,7 +11,7 @@ use Rattle.smil_model.specs.interval.Current.{current_interval}
 use Rattle.smil_model.specs.reach.Bounds.{reaches, through_begin}
 use Rattle.smil_model.specs.shown.Orders.{Presentation, node_of, outcome, resolved_history}
 use Rattle.smil_grammar.specs.Formats.{formats}
-use Rattle.smil_cells.specs.Standing.{any_interval, fresh}
+use Rattle.smil_cells.specs.CellsState.{any_interval, fresh}
 use Rattle.smil_revision.specs.References.{keeps_references}
 
 -- ---- what a state has

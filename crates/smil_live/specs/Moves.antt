@@ -10,13 +10,13 @@ use Rattle.smil_model.specs.declared.view.View.{View}
 use Rattle.smil_model.specs.document.Document.{Document}
 use Rattle.smil_model.specs.document.Limits.{limits}
 use Rattle.smil_model.specs.diary.Logs.{may_happen, moments_rise}
-use Rattle.smil_model.specs.happening.Keys.{Coming}
+use Rattle.smil_model.specs.happening.Keys.{DueChange}
 use Rattle.smil_model.specs.happening.Resolution.{diary_of}
 use Rattle.smil_model.specs.shown.Answers.{change_text}
 use Rattle.smil_model.specs.shown.Orders.{Presentation, course_of, changes_between, changes_through, with_logged as logged_within, as_of}
-use Rattle.smil_cells.specs.Standing.{Standing, IsSettled, first_at, with_logged}
+use Rattle.smil_cells.specs.CellsState.{CellsState, IsSettled, first_at, with_logged}
 use Rattle.smil_shown.specs.ShownViews.{IsShown}
-use Rattle.smil_shown.specs.ViewTable.{Shown}
+use Rattle.smil_shown.specs.ViewTable.{ViewLists}
 use Rattle.smil_live.specs.declared.moves.Move.{Move}
 use Rattle.smil_live.specs.declared.moves.Move.TheVariants as move
 
@@ -50,8 +50,8 @@ IsTooFull p given =
     (given ≡ refusal.Memory) ⊎ ((given ≡ refusal.DiaryFull) × (diary_of (course_of p) ≡ None))
 
 -- what comes first in a standing comes at this moment
-pub record IsFirstDue (s : Standing) (due : ℤ) : Type 0 where
-  pub coming : Coming
+pub record IsFirstDue (s : CellsState) (due : ℤ) : Type 0 where
+  pub coming : DueChange
   pub first : first_at s ≡ Some coming
   pub due_is : coming.key.value ≡ due
 
@@ -75,7 +75,7 @@ sought_of p to = record {
 
 -- cells that are under way to a presentation: they have heard the entries before a place of its
 -- log, and none of the others is before their moment
-pub record IsUnderWay (p : Presentation) (place : ℕ) (s : Standing) : Type 0 where
+pub record IsUnderWay (p : Presentation) (place : ℕ) (s : CellsState) : Type 0 where
   pub document_is : s.presentation.document ≡ p.document
   pub log_is : s.presentation.log ≡ take place p.log
   pub rise : moments_rise (pos s.presentation.now) (drop place p.log) ≡ true
@@ -84,7 +84,7 @@ pub record IsUnderWay (p : Presentation) (place : ℕ) (s : Standing) : Type 0 w
   pub unmarked : s.marked ≡ None
 
 -- settled cells of a presentation
-pub record IsReplayed (p : Presentation) (s : Standing) : Type 0 where
+pub record IsReplayed (p : Presentation) (s : CellsState) : Type 0 where
   pub presentation_is : s.presentation ≡ p
   pub sound : s.fault ≡ None
   pub unmarked : s.marked ≡ None
@@ -97,7 +97,7 @@ edited_to p document = record { document = document; log = p.log; now = p.now }
 -- ---- what calls give
 
 -- settled cells of a presentation, with the views that they give
-pub record IsShownAt (p : Presentation) (s : Standing) (shown : Shown) : Type 0 where
+pub record IsShownAt (p : Presentation) (s : CellsState) (shown : ViewLists) : Type 0 where
   pub presentation_is : s.presentation ≡ p
   pub shown_is : IsShown s shown
 

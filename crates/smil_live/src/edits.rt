@@ -8,7 +8,7 @@ ghost use Rattle.smil_model.specs.shown.Answers.{Accepts, IsGiven, Refuses, gone
 ghost use Rattle.smil_model.specs.shown.Orders.{IsState, changes_between, node_of};
 ghost use Rattle.smil_grammar.specs.Formats.{formats};
 ghost use Rattle.smil_model.specs.document.Words.{Begins};
-ghost use Rattle.smil_cells.specs.Standing.{WhereTold};
+ghost use Rattle.smil_cells.specs.CellsState.{WhereTold};
 ghost use Rattle.smil_live.specs.Counted.{KeepsToCounts};
 ghost use Rattle.smil_live.specs.Counts.{agreed_under, serial_or_0};
 ghost use Rattle.smil_live.specs.Editing.{IsEdited, edit_of};
@@ -18,7 +18,7 @@ ghost use Rattle.smil_live.specs.Moves.{IsReplayed, IsTooFull, edited_to, text_o
 ghost use Rattle.smil_revision.specs.References.{keeps_references};
 ghost use Rattle.smil_live.specs.Sites.{IsMade, most_resolving, site_nodes, site_serial, staying};
 
-use super::playing::Playing;
+use super::presentation::PresentationOver;
 use super::replay::{cells_with, diary_through};
 use smil_cells::{Cells, Table};
 use smil_diary::Book;
@@ -42,7 +42,7 @@ pub(crate) enum Site {
     New,
 }
 
-impl<T: Table> Playing<T> {
+impl<T: Table> PresentationOver<T> {
     /// Gives an attribute of a node a value. The refusals are those of the node, of name and value,
     /// of the edit, and that of a diary without room.
     pub fn set<L: Ledger>(

@@ -3,11 +3,11 @@
 
 mod edits;
 mod moves;
-mod playing;
+mod presentation;
 mod replay;
 mod tells;
 mod viewer;
 mod worked;
 
-pub use playing::{Playing, Presentation};
+pub use presentation::{Presentation, PresentationOver};
 pub use worked::worked_counts;

@@ -8,12 +8,12 @@ ghost use Rattle.smil_model.specs.diary.Logs.{may_happen};
 ghost use Rattle.smil_model.specs.shown.Answers.{Accepts, IsGiven, MayEvaluate, Refuses};
 ghost use Rattle.smil_model.specs.shown.Orders.{IsState};
 ghost use Rattle.smil_grammar.specs.Formats.{formats};
-ghost use Rattle.smil_cells.specs.Standing.{WhereTold};
+ghost use Rattle.smil_cells.specs.CellsState.{WhereTold};
 ghost use Rattle.smil_live.specs.Counted.{KeepsToCounts};
 ghost use Rattle.smil_live.specs.Counts.{least_onward, most_onward};
 ghost use Rattle.smil_live.specs.Moves.{IsHeardBy, IsNotHeard, IsReplayed, IsTooFull, MayMove, changes_by, made, sought_of, text_of};
 
-use super::playing::Playing;
+use super::presentation::PresentationOver;
 use super::replay::cells_at;
 use smil_cells::{Cells, Table};
 use smil_model::{
@@ -32,7 +32,7 @@ pub enum Move {
     Hear(LogEntry),
 }
 
-impl<T: Table> Playing<T> {
+impl<T: Table> PresentationOver<T> {
     /// Moves on by so many milliseconds of document time, and tells the changes of each moment on
     /// the way. `BeyondHorizon` where the new moment would be above 10^12, then `DiaryFull` where
     /// the diary would have too many entries, or `Memory`.

@@ -10,7 +10,7 @@ ghost use Rattle.smil_model.specs.document.Document.{elements};
 ghost use Rattle.smil_model.specs.document.Valid.{IsNumberedTree};
 ghost use Rattle.smil_model.specs.reach.Bounds.{through_begin};
 ghost use Rattle.smil_model.specs.shown.Orders.{IsState};
-ghost use Rattle.smil_cells.specs.Standing.{IsRebuilt, IsSettled, MayRebuild, Standing, WhereTold, fresh_since, reached_since};
+ghost use Rattle.smil_cells.specs.CellsState.{IsRebuilt, IsSettled, MayRebuild, CellsState, WhereTold, fresh_since, reached_since};
 ghost use Rattle.smil_live.specs.Counts.{least_loading, most_loading, reached_behind};
 ghost use Rattle.smil_live.specs.Moves.{IsReplayed, IsTooFull, IsUnderWay, edited_to, heard_at, replay_of, sought_of};
 
@@ -95,7 +95,7 @@ pub fn cells_with<T: Table, L: Ledger>(
     requires state { IsState (edited_to cells.now.presentation graphed.tree) }
     requires rebuild { MayRebuild cells.now graphed.tree len }
     requires graph { graphed.graph.nodes ≡ graphed.tree.nodes }
-    requires way { (rebuilt : Standing) → IsRebuilt cells.now graphed.tree len rebuilt
+    requires way { (rebuilt : CellsState) → IsRebuilt cells.now graphed.tree len rebuilt
         → IsUnderWay (edited_to cells.now.presentation graphed.tree)
         (length rebuilt.presentation.log) rebuilt }
     ensures ok { IfOk result (IsReplayed (edited_to cells.now.presentation graphed.tree)) }

@@ -15,7 +15,7 @@ ghost use Rattle.smil_model.specs.document.Words.{Begins};
 ghost use Rattle.smil_shown.specs.Sets.{AreSetsAmong, AreSetsOf};
 ghost use Rattle.smil_live.specs.Telling.{element_named, is_plain_telling, is_telling, layers_text, setter_text};
 
-use super::playing::Playing;
+use super::presentation::PresentationOver;
 use smil_cells::Table;
 use smil_diary::Book;
 use smil_model::{Bytes, Log, Order, Refusal, Who};
@@ -32,7 +32,7 @@ struct LayeredDocument<'a> {
     sets: &'a Sets,
 }
 
-impl<T: Table> Playing<T> {
+impl<T: Table> PresentationOver<T> {
     /// Tells what an order asks for. After a refusal `out` is as before.
     pub fn tell(&self, order: &Order, out: &mut Bytes) -> Result<(), Refusal>
         requires given { IsGiven order.now }

@@ -5,7 +5,7 @@ ghost use Rattle.smil_model.specs.declared.document.Node.{Node as AnyNode};
 ghost use Rattle.smil_model.specs.document.Document.{elements, node_at};
 ghost use Rattle.smil_model.specs.shown.Orders.{IsState};
 ghost use Rattle.smil_model.specs.document.Words.{Begins};
-ghost use Rattle.smil_cells.specs.Standing.{GoesOn, NothingBefore, Standing, IsSettled, WhereTold, fresh_since, reached_since};
+ghost use Rattle.smil_cells.specs.CellsState.{GoesOn, NothingBefore, CellsState, IsSettled, WhereTold, fresh_since, reached_since};
 ghost use Rattle.smil_shown.specs.ShownViews.{IsShown, views_at};
 ghost use Rattle.smil_live.specs.Moves.{IsFirstDue, IsShownAt, IsTooFull, MayMove, changes_by, made, text_of};
 ghost use Rattle.smil_shown.specs.ViewTable.{has_view, view_now, with_view};
@@ -25,7 +25,7 @@ pub struct Viewer<T: Table> {
 }
 
 impl<T: Table> Drop for Viewer<T> {
-    // Dropped by a call of its own, so that no function that lets one go drops it field by field.
+    // Dropped by a call of its own, not field by field in each function that drops one.
     fn drop(self) {
         let Viewer {
             cells: _cells,
@@ -177,7 +177,7 @@ fn put_touched<T: Table>(
     requires sound { cells.now.fault ≡ None }
     requires state { IsState cells.now.presentation }
     requires settled { IsSettled cells.now }
-    requires from { (old : Standing) × GoesOn old cells.now × (seen.old.views ≡ views_at old)
+    requires from { (old : CellsState) × GoesOn old cells.now × (seen.old.views ≡ views_at old)
         × (cells.now.presentation.document ≡ old.presentation.document) }
     ensures views { OnOk result (seen.new.views ≡ views_at cells.now) }
     ensures told { OnOk result (out.new ≡ out.old

@@ -1,7 +1,7 @@
 //! The log of what came from outside, and the diary of what happened.
 
 use super::duplicate::Duplicate;
-use super::listed::{Bytes, GrowingList};
+use super::growing_list::{Bytes, GrowingList};
 use std::alloc::AllocError;
 use std::mem::size_of;
 

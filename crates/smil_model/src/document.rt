@@ -3,8 +3,8 @@
 ghost use Rattle.std.specs.Prelude.{◌≡◌, ℕ, ◌<◌, List, [], ◌∷◌, ◌++◌, length, OnOk, OnErr, IfOk, slice_get, option_copied};
 
 use super::duplicate::{Duplicate, copy_of};
+use super::growing_list::{Bytes, GrowingList};
 use super::limits::ITEMS;
-use super::listed::{Bytes, GrowingList};
 use super::places::HasSerial;
 use super::times::Time;
 use std::alloc::{AllocError, Global};
@@ -494,7 +494,7 @@ pub struct Doc {
 }
 
 impl Drop for Doc {
-    // Dropped by a call of its own, so that no function that lets one go drops it field by field.
+    // Dropped by a call of its own, not field by field in each function that drops one.
     fn drop(self) {
         let Doc {
             nodes: _nodes,

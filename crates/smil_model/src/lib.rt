@@ -6,10 +6,10 @@ pub mod attributes;
 pub mod diary;
 pub mod document;
 pub mod duplicate;
+pub mod growing_list;
 pub mod happening;
 pub mod interval;
 pub mod limits;
-pub mod listed;
 pub mod order;
 pub mod places;
 pub mod player;
@@ -26,6 +26,7 @@ pub use document::{
     Kind, Node, Restart, RestartDefault,
 };
 pub use duplicate::{Duplicate, copy_of};
+pub use growing_list::{Bytes, GrowingList, Serials, WordList};
 pub use happening::{Class, Key};
 pub use interval::{ChildEnd, EndList, Facts, Interval, Play};
 pub use limits::{
@@ -33,7 +34,6 @@ pub use limits::{
     ITERATIONS, LINE_BYTES, LOG_ENTRIES, NAME_BYTES, NODES, PRESENTATIONS, REFERENCES, SERIALS,
     TEXT_BYTES,
 };
-pub use listed::{Bytes, GrowingList, Serials, WordList};
 pub use order::{Order, Refusal, Who};
 pub use places::{HasSerial, first_places};
 pub use player::Player;

@@ -3,7 +3,7 @@
 ghost use Rattle.std.specs.Prelude.{◌≡◌};
 
 use super::duplicate::Duplicate;
-use super::listed::Bytes;
+use super::growing_list::Bytes;
 use std::alloc::AllocError;
 
 /// A node, by its id or its serial.

@@ -5,7 +5,7 @@ ghost use Rattle.smil_model.specs.shown.Orders.{Formats, Presentation};
 ghost use Rattle.smil_model.specs.shown.Answers.{IsGiven, Accepts, Refuses, AtLeast, AtMost, MayEvaluate};
 ghost use Rattle.smil_model.specs.declared.order.Order.{Order as GivenOrder};
 
-use super::listed::Bytes;
+use super::growing_list::Bytes;
 use super::order::{Order, Refusal};
 use super::steps::Steps;
 use std::sync::ledger::Ledger;

@@ -2,8 +2,8 @@
 
 use super::document::Fill;
 use super::duplicate::Duplicate;
+use super::growing_list::Bytes;
 use super::interval::Interval;
-use super::listed::Bytes;
 use std::alloc::AllocError;
 
 /// The state of an element.

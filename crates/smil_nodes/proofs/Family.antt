@@ -11,7 +11,7 @@ use Rattle.smil_model.specs.document.Valid.{IsDistinct}
 use Rattle.smil_model.specs.document.Closure.{has}
 use Rattle.smil_laws.proofs.Members.{differ_all, differ_kept}
 use Rattle.smil_laws.proofs.Reached.{own_is_all}
-use Rattle.smil_graph.specs.Graph.{IsOrder, follows_unlooped}
+use Rattle.smil_graph.specs.Graph.{IsGraphOrder, follows_unlooped}
 use Rattle.smil_cells.proofs.Paired.{apart_at, place_of_member, there_at}
 use Rattle.smil_cells.proofs.Taking.{elements_differ}
 use Rattle.smil_nodes.specs.Work.{IsBelow}
@@ -69,13 +69,13 @@ one_child nodes parent j k c d distinct p q same =
 
 -- ---- ranks
 
-pub rank_of : (nodes : List Node) (order : List ℕ) (c : Node) → IsOrder nodes order → node_at (elements nodes) c.serial ≡ Some c → (k : ℕ) × (k < length order) × (get_or order k 0 ≡ c.serial)
+pub rank_of : (nodes : List Node) (order : List ℕ) (c : Node) → IsGraphOrder nodes order → node_at (elements nodes) c.serial ≡ Some c → (k : ℕ) × (k < length order) × (get_or order k 0 ≡ c.serial)
 rank_of nodes order c is here =
     let among : has order c.serial ≡ true = sym (list_any-IsPermutation (λ y. y == c.serial) (serials (elements nodes)) order is.all) ∙ own_is_all nodes 0 c here in
     place_of_member c.serial order among
 
 -- the time children of a container whose duration is implicit stand before it in an order
-pub child_below : (nodes : List Node) (order : List ℕ) (rank k : ℕ) (e c : Node) → IsDistinct nodes → IsOrder nodes order → rank < length order → get_or order rank 0 ≡ e.serial → node_at (elements nodes) e.serial ≡ Some e → has_implicit_duration e ≡ true → slice_get (time_children nodes e.serial) k ≡ Some c → IsBelow order rank c.serial
+pub child_below : (nodes : List Node) (order : List ℕ) (rank k : ℕ) (e c : Node) → IsDistinct nodes → IsGraphOrder nodes order → rank < length order → get_or order rank 0 ≡ e.serial → node_at (elements nodes) e.serial ≡ Some e → has_implicit_duration e ≡ true → slice_get (time_children nodes e.serial) k ≡ Some c → IsBelow order rank c.serial
 child_below nodes order rank k e c distinct is lt at here implicit child =
     let of = family nodes e.serial k c distinct child in
     let j = rank_of nodes order c is of.known in

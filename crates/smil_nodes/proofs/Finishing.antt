@@ -14,11 +14,11 @@ use Rattle.smil_model.specs.diary.Diary.{History}
 use Rattle.smil_model.specs.interval.Current.{current_interval}
 use Rattle.smil_model.specs.reach.Bounds.{reaches}
 use Rattle.smil_laws.specs.Edited.{IsOrdered}
-use Rattle.smil_graph.specs.Graph.{IsOrder}
-use Rattle.smil_cells.specs.declared.plain.known.Row.{Row}
+use Rattle.smil_graph.specs.Graph.{IsGraphOrder}
+use Rattle.smil_cells.specs.declared.plain.current_rows.CurrentRow.{CurrentRow}
 use Rattle.smil_cells.specs.Plain.{interval_in}
-use Rattle.smil_cells.specs.Round.{AreTaken, StayUnchanged}
-use Rattle.smil_cells.specs.Standing.{any_interval, fresh, is_same_interval}
+use Rattle.smil_cells.specs.Round.{AreRowsEvaluated, StayUnchanged}
+use Rattle.smil_cells.specs.CellsState.{any_interval, fresh, is_same_interval}
 use Rattle.smil_cells.proofs.Current.{all_current}
 use Rattle.smil_cells.proofs.OnWay.{same_self}
 use Rattle.smil_nodes.specs.Schedule.{AreCurrent}
@@ -28,12 +28,12 @@ use Rattle.smil_nodes.proofs.Fixed.{current_intervals}
 use Rattle.smil_laws.proofs.Lists.{filter_shorter}
 
 -- rows that are as the intervals of all give them are current
-pub taken_current : (h : History) (now : ℤ) (order : List ℕ) (rows : List Row) → IsOrdered h.nodes → IsOrder h.nodes order → AreTaken h now order (length order) rows → AreCurrent rows h now
+pub taken_current : (h : History) (now : ℤ) (order : List ℕ) (rows : List CurrentRow) → IsOrdered h.nodes → IsGraphOrder h.nodes order → AreRowsEvaluated h now order (length order) rows → AreCurrent rows h now
 taken_current h now order rows ordered is taken =
     let all = all_current h now order rows ordered is taken in
     record { rows_are = all.rows_are; comings_are = all.comings_are }
 
-pub settled_current : (h : History) (now : ℤ) (order : List ℕ) (listed : ℕ → Bool) (rows : List Row) → IsOrdered h.nodes → IsOrder h.nodes order → AreSettled h now order listed rows → ((r : ℕ) → listed r ≡ false) → AreCurrent rows h now
+pub settled_current : (h : History) (now : ℤ) (order : List ℕ) (listed : ℕ → Bool) (rows : List CurrentRow) → IsOrdered h.nodes → IsGraphOrder h.nodes order → AreSettled h now order listed rows → ((r : ℕ) → listed r ≡ false) → AreCurrent rows h now
 settled_current h now order listed rows ordered is settled none =
     taken_current h now order rows ordered is
     (record {
@@ -43,13 +43,13 @@ settled_current h now order listed rows ordered is settled none =
 
 -- ---- what is told of intervals that change
 
-pub told_pushed : (old new : List ℕ) (who : ℕ) (before after : List Row) → ((s : ℕ) → who == s ≡ false → interval_in after s ≡ interval_in before s) → new ≡ old ++ who ∷ [] → StayUnchanged old new before after
+pub told_pushed : (old new : List ℕ) (who : ℕ) (before after : List CurrentRow) → ((s : ℕ) → who == s ≡ false → interval_in after s ≡ interval_in before s) → new ≡ old ++ who ∷ [] → StayUnchanged old new before after
 told_pushed old new who before after others pushed = record {
   more = λ s among. ap (λ xs. has xs s) pushed ∙ list_any-append (λ y. y == s) old (who ∷ []) ∙ or_left _ _ among;
   others = λ s out. others s (or_parts _ _ ((or_parts _ _ (sym (list_any-append (λ y. y == s) old (who ∷ [])) ∙ sym (ap (λ xs. has xs s) pushed) ∙ out)).1)).0;
 }
 
-pub told_same : (old new : List ℕ) (who : ℕ) (before after : List Row) → ((s : ℕ) → who == s ≡ false → interval_in after s ≡ interval_in before s) → new ≡ old → interval_in after who ≡ interval_in before who → StayUnchanged old new before after
+pub told_same : (old new : List ℕ) (who : ℕ) (before after : List CurrentRow) → ((s : ℕ) → who == s ≡ false → interval_in after s ≡ interval_in before s) → new ≡ old → interval_in after who ≡ interval_in before who → StayUnchanged old new before after
 told_same old new who before after others same stays = record {
   more = λ s among. ap (λ xs. has xs s) same ∙ among;
   others = λ s out. by_test s (who == s) refl;
@@ -60,13 +60,13 @@ told_same old new who before after others same stays = record {
     by_test s false q = others s q
 
 -- the current interval of each element that is not told stays
-pub untold_stay : (front h : History) (now : ℤ) (old new : List Row) (told changed : List ℕ) → AreCurrent old front now → AreCurrent new h now → StayUnchanged told changed old new → (s : ℕ) → has changed s ≡ false → current_interval h now s ≡ current_interval front now s
+pub untold_stay : (front h : History) (now : ℤ) (old new : List CurrentRow) (told changed : List ℕ) → AreCurrent old front now → AreCurrent new h now → StayUnchanged told changed old new → (s : ℕ) → has changed s ≡ false → current_interval h now s ≡ current_interval front now s
 untold_stay front h now old new told changed before after unchanged s out =
     sym (current_intervals new h now after s) ∙ unchanged.others s out ∙ current_intervals old front now before s
 
 -- ---- how many were evaluated
 
-module _ (nodes : List Node) (log : List LogEntry) (entries : List Entry) (order : List ℕ) (listed : ℕ → Bool) (first rows : List Row) (start steps : ℕ) (counted : IsCounted nodes log entries order listed first rows start steps) where
+module _ (nodes : List Node) (log : List LogEntry) (entries : List Entry) (order : List ℕ) (listed : ℕ → Bool) (first rows : List CurrentRow) (start steps : ℕ) (counted : IsCounted nodes log entries order listed first rows start steps) where
   -- at most as many as the entries reach
   pub counted_most : steps - start ≤ reaches nodes log entries
   counted_most =

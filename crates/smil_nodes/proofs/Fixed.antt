@@ -12,7 +12,7 @@ use Rattle.smil_laws.specs.Locality.{ParentsBefore}
 use Rattle.smil_laws.proofs.Rounds.{after_rounds, after_rounds-suc}
 use Rattle.smil_laws.proofs.Settled.{come_to_rest}
 use Rattle.smil_element.specs.Element.{coming_by}
-use Rattle.smil_cells.specs.declared.plain.known.Row.{Row}
+use Rattle.smil_cells.specs.declared.plain.current_rows.CurrentRow.{CurrentRow}
 use Rattle.smil_cells.specs.Plain as plain
 use Rattle.smil_cells.specs.Plain.{interval_in}
 use Rattle.smil_cells.specs.Round.{IsRowOf}
@@ -27,15 +27,15 @@ use Rattle.smil_cells.proofs.First.{comings_at}
 
 -- ---- current rows
 
-pub plain_current : (rows : List Row) (h : History) (now : ℤ) → AreCurrent rows h now → plain.IsCurrent rows (set.from_list (keys h now)) h now
+pub plain_current : (rows : List CurrentRow) (h : History) (now : ℤ) → AreCurrent rows h now → plain.IsCurrent rows (set.from_list (keys h now)) h now
 plain_current rows h now are = record { rows_are = are.rows_are; comings_are = are.comings_are; due_is = refl }
 
 -- they have the current intervals
-pub current_intervals : (rows : List Row) (h : History) (now : ℤ) → AreCurrent rows h now → (s : ℕ) → interval_in rows s ≡ current_interval h now s
+pub current_intervals : (rows : List CurrentRow) (h : History) (now : ℤ) → AreCurrent rows h now → (s : ℕ) → interval_in rows s ≡ current_interval h now s
 current_intervals rows h now are s = current.current_intervals h now rows (set.from_list (keys h now)) (plain_current rows h now are) s
 
 -- and are of the elements
-pub current_elements : (rows : List Row) (h : History) (now : ℤ) → AreCurrent rows h now → map (λ (r : Row). r.serial) rows ≡ serials (elements h.nodes)
+pub current_elements : (rows : List CurrentRow) (h : History) (now : ℤ) → AreCurrent rows h now → map (λ (r : CurrentRow). r.serial) rows ≡ serials (elements h.nodes)
 current_elements rows h now are = current.current_elements h now rows (set.from_list (keys h now)) (plain_current rows h now are)
 
 -- ---- the current interval of an element is given by those of all
@@ -51,15 +51,15 @@ fixed h now e first here =
 
 -- ---- the row at a place
 
-pub first_serial : (who : ℕ) (rows : List Row) (k : ℕ) (row : Row) → IsFirst who rows k → slice_get rows k ≡ Some row → row.serial ≡ who
+pub first_serial : (who : ℕ) (rows : List CurrentRow) (k : ℕ) (row : CurrentRow) → IsFirst who rows k → slice_get rows k ≡ Some row → row.serial ≡ who
 first_serial who [] k row is got = elim is [ ]
 first_serial who (x ∷ xs) zero row is got =
     let one : x ≡ row = cc in
-    ap (λ (r : Row). r.serial) (sym one) ∙ eqb-true x.serial who is
+    ap (λ (r : CurrentRow). r.serial) (sym one) ∙ eqb-true x.serial who is
 first_serial who (x ∷ xs) (suc k) row is got = first_serial who xs k row is.1 got
 
 -- it is as the intervals of all rows give it
-pub row_of_current : (rows : List Row) (h : History) (now : ℤ) (place : ℕ) (e : Node) (row : Row) → IsOrdered h.nodes → AreCurrent rows h now → slice_get (elements h.nodes) place ≡ Some e → slice_get rows place ≡ Some row → IsRowOf h (interval_in rows) now place e row
+pub row_of_current : (rows : List CurrentRow) (h : History) (now : ℤ) (place : ℕ) (e : Node) (row : CurrentRow) → IsOrdered h.nodes → AreCurrent rows h now → slice_get (elements h.nodes) place ≡ Some e → slice_get rows place ≡ Some row → IsRowOf h (interval_in rows) now place e row
 row_of_current rows h now place e row ordered are here got = record {
   serial = first_serial e.serial rows place row first got;
   interval = own ∙ fixed h now e ordered.first there ∙ ap (λ J. interval_given h J now e) (sym same);

@@ -14,7 +14,7 @@ use Rattle.smil_model.specs.document.Closure.{has}
 use Rattle.smil_laws.proofs.Rounds.{find-serial}
 use Rattle.smil_past.proofs.References.{stands}
 use Rattle.smil_element.proofs.Known.{IsChild, child_at, known_node, passes}
-use Rattle.smil_cells.specs.declared.plain.known.Row.{Row}
+use Rattle.smil_cells.specs.declared.plain.current_rows.CurrentRow.{CurrentRow}
 use Rattle.smil_cells.specs.Round.{AreOfElements}
 use Rattle.smil_cells.proofs.Paired.{element_at, first_at, serials_in, there_at}
 use Rattle.smil_cells.proofs.Taking.{IsFound, elements_differ}
@@ -73,7 +73,7 @@ pub record IsRowed (nodes : List Node) (place who : ℕ) : Type 0 where
   pub own : element.serial ≡ who
   pub known : node_at (elements nodes) who ≡ Some element
 
-rowed : (nodes : List Node) (rows : List Row) (place : ℕ) (row : Row) → IsDistinct nodes → AreOfElements nodes rows → slice_get rows place ≡ Some row → IsRowed nodes place row.serial
+rowed : (nodes : List Node) (rows : List CurrentRow) (place : ℕ) (row : CurrentRow) → IsDistinct nodes → AreOfElements nodes rows → slice_get rows place ≡ Some row → IsRowed nodes place row.serial
 rowed nodes rows place row distinct same got =
     let at = element_at (elements nodes) rows place row same got in
     let differ = elements_differ nodes distinct in
@@ -86,13 +86,13 @@ rowed nodes rows place row distinct same got =
     }
 
 -- the same in a list that has the rows
-pub rowed_in : (nodes : List Node) (rows read : List Row) (place : ℕ) (d : Row) → IsDistinct nodes → AreOfElements nodes rows → read ≡ rows → place < length read → IsRowed nodes place (get_or read place d).serial
+pub rowed_in : (nodes : List Node) (rows read : List CurrentRow) (place : ℕ) (d : CurrentRow) → IsDistinct nodes → AreOfElements nodes rows → read ≡ rows → place < length read → IsRowed nodes place (get_or read place d).serial
 rowed_in nodes rows read place d distinct same is within =
     rowed nodes read place (get_or read place d) distinct (ap serials_in is ∙ same) (slice_get-get_or read place d within)
 
-pub rows_count : (nodes : List Node) (rows : List Row) → AreOfElements nodes rows → length rows ≡ length (elements nodes)
+pub rows_count : (nodes : List Node) (rows : List CurrentRow) → AreOfElements nodes rows → length rows ≡ length (elements nodes)
 rows_count nodes rows same =
-    sym (length-map rows (λ (r : Row). r.serial)) ∙ ap (λ (ss : List ℕ). length ss) same ∙ length-map (elements nodes) (λ (n : Node). n.serial)
+    sym (length-map rows (λ (r : CurrentRow). r.serial)) ∙ ap (λ (ss : List ℕ). length ss) same ∙ length-map (elements nodes) (λ (n : Node). n.serial)
 
 -- the homes with that of one element more
 pub homes_next : (nodes : List Node) (homes new : List (Option Home)) (place who : ℕ) (o : Option Home) → IsRowed nodes place who → HaveHomes nodes (take place (elements nodes)) homes → HasHome nodes who o → new ≡ homes ++ o ∷ [] → HaveHomes nodes (take (place + 1) (elements nodes)) new
@@ -146,7 +146,7 @@ among_children document numbered who parent e whos known under are =
     ∙ kept_has (is_time_child nodes parent) nodes at.place e at.at child
 
 -- its ending stands there
-pub is_home : (document : Document) → IsNumberedTree document → (rows : List Row) (who parent container child : ℕ) (e : Node) (whos : List ℕ) → node_at (elements document.nodes) who ≡ Some e → (above : IsFound document.nodes rows parent) → container ≡ above.place → whos ≡ serials (time_children document.nodes parent) → slice_get whos child ≡ Some who → IsHome document.nodes who (record { container = container; child = child })
+pub is_home : (document : Document) → IsNumberedTree document → (rows : List CurrentRow) (who parent container child : ℕ) (e : Node) (whos : List ℕ) → node_at (elements document.nodes) who ≡ Some e → (above : IsFound document.nodes rows parent) → container ≡ above.place → whos ≡ serials (time_children document.nodes parent) → slice_get whos child ≡ Some who → IsHome document.nodes who (record { container = container; child = child })
 is_home document numbered rows who parent container child e whos known above place are at =
     let nodes = document.nodes in
     let there : IsChild nodes parent child who = subst (IsChild nodes parent child) (get_or_from_slice_get whos child who 0 at) (child_at document numbered parent child whos are (slice_get_within whos child who at)) in

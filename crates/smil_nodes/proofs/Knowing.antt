@@ -15,17 +15,17 @@ use Rattle.smil_model.specs.diary.Diary.{History, up_to}
 use Rattle.smil_model.specs.interval.Current.{child_end}
 use Rattle.smil_laws.specs.Edited.{IsOrdered}
 use Rattle.smil_laws.proofs.Rounds.{find-serial}
-use Rattle.smil_graph.specs.Graph.{IsOrder}
+use Rattle.smil_graph.specs.Graph.{IsGraphOrder}
 use Rattle.smil_element.specs.declared.endings.Ending.{Ending}
 use Rattle.smil_element.specs.Endings.{ending_by}
 use Rattle.smil_past.specs.Past.{MarkedHistory, front, history_of}
-use Rattle.smil_cells.specs.declared.plain.known.Row.{Row}
+use Rattle.smil_cells.specs.declared.plain.current_rows.CurrentRow.{CurrentRow}
 use Rattle.smil_cells.specs.Plain.{interval_in}
 use Rattle.smil_cells.specs.Round.{AreOfElements}
 use Rattle.smil_cells.proofs.Paired.{apart_at, there_at}
 use Rattle.smil_cells.proofs.Taking.{elements_differ}
 use Rattle.smil_nodes.specs.declared.endings.Home.{Home}
-use Rattle.smil_nodes.specs.Agenda.{IsTaken}
+use Rattle.smil_nodes.specs.Agenda.{IsLeastTaken}
 use Rattle.smil_nodes.specs.Endings.{KeptEnds, AreHomes, AreKnown, HasHome, IsEnded, KnowsEnds, anyone, home_at, named_end, named_ends, names_of, nobody, put_among, put_ending, put_home}
 use Rattle.smil_nodes.specs.Noted.{is_noted_by}
 use Rattle.smil_nodes.specs.Work.{IsBelow, IsUnlisted}
@@ -88,7 +88,7 @@ module _ (h : History) (kept : KeptEnds) (names : names_of kept.ends ≡ names_o
       ∙ length-map (elements h.nodes) (named_ends h.nodes)
 
 -- the ends of one element's time children, where each of these passes the test
-pub knows : (h : History) (rows : List Row) (kept : KeptEnds) (test : ℕ → Type 0) (who : ℕ) (e : Node) → IsDistinct h.nodes → AreOfElements h.nodes rows → AreKnown h (interval_in rows) test kept → node_at (elements h.nodes) who ≡ Some e → ((k : ℕ) (c : Node) → slice_get (time_children h.nodes e.serial) k ≡ Some c → test c.serial) → KnowsEnds rows kept h who
+pub knows : (h : History) (rows : List CurrentRow) (kept : KeptEnds) (test : ℕ → Type 0) (who : ℕ) (e : Node) → IsDistinct h.nodes → AreOfElements h.nodes rows → AreKnown h (interval_in rows) test kept → node_at (elements h.nodes) who ≡ Some e → ((k : ℕ) (c : Node) → slice_get (time_children h.nodes e.serial) k ≡ Some c → test c.serial) → KnowsEnds rows kept h who
 knows h rows kept test who e distinct of_elements are known each = record {
   of_elements = of_elements;
   as_many = as_many h kept are.names;
@@ -167,7 +167,7 @@ module _ (h : History) (who : ℕ) (before after : ℕ → Option Interval) (kep
           (are.right p k e c at_e at_c (was c.serial q passes))
 
 -- an element was evaluated, and its ending put
-pub known_ended : (h : History) (who : ℕ) (before after : List Row) (kept new : KeptEnds) (old test : ℕ → Type 0) → IsDistinct h.nodes → ((s : ℕ) → who == s ≡ false → interval_in after s ≡ interval_in before s) → IsEnded h who after kept new → ((s : ℕ) → who == s ≡ false → test s → old s) → AreKnown h (interval_in before) old kept → AreKnown h (interval_in after) test new
+pub known_ended : (h : History) (who : ℕ) (before after : List CurrentRow) (kept new : KeptEnds) (old test : ℕ → Type 0) → IsDistinct h.nodes → ((s : ℕ) → who == s ≡ false → interval_in after s ≡ interval_in before s) → IsEnded h who after kept new → ((s : ℕ) → who == s ≡ false → test s → old s) → AreKnown h (interval_in before) old kept → AreKnown h (interval_in after) test new
 known_ended h who before after kept new old test distinct others put was are =
     subst (AreKnown h (interval_in after) test) (sym put.after_is)
     (known_next h who (interval_in before) (interval_in after) kept put.place put.element distinct put.here put.is_who others old test was are)
@@ -190,7 +190,7 @@ none_known h given kept homes ends = record {
   right = λ p k e c at_e at_c never. absurd never;
 }
 
-module _ (h : History) (given : ℕ → Option Interval) (order : List ℕ) (kept : KeptEnds) (distinct : IsDistinct h.nodes) (is : IsOrder h.nodes order) where
+module _ (h : History) (given : ℕ → Option Interval) (order : List ℕ) (kept : KeptEnds) (distinct : IsDistinct h.nodes) (is : IsGraphOrder h.nodes order) where
   -- those of the elements that were evaluated, where none was
   pub none_below : AreKnown h given nobody kept → AreKnown h given (IsBelow order 0) kept
   none_below are = known_weaker h given nobody (IsBelow order 0) kept distinct (λ c here below. let less : below.rank < 0 = below.below in absurd (omega (arith, less))) are
@@ -240,7 +240,7 @@ unlisted_next order rank who s old new at left other is = by_rank (left is.rank 
 -- ---- the time children of a container whose duration is implicit
 
 -- are not listed, where the container is the first that is
-pub children_unlisted : (nodes : List Node) (order old mid : List ℕ) (rank : ℕ) (e : Node) → IsDistinct nodes → IsOrder nodes order → rank < length order → get_or order rank 0 ≡ e.serial → node_at (elements nodes) e.serial ≡ Some e → has_implicit_duration e ≡ true → IsTaken old rank mid → (k : ℕ) (c : Node) → slice_get (time_children nodes e.serial) k ≡ Some c → IsUnlisted order (has old) c.serial
+pub children_unlisted : (nodes : List Node) (order old mid : List ℕ) (rank : ℕ) (e : Node) → IsDistinct nodes → IsGraphOrder nodes order → rank < length order → get_or order rank 0 ≡ e.serial → node_at (elements nodes) e.serial ≡ Some e → has_implicit_duration e ≡ true → IsLeastTaken old rank mid → (k : ℕ) (c : Node) → slice_get (time_children nodes e.serial) k ≡ Some c → IsUnlisted order (has old) c.serial
 children_unlisted nodes order old mid rank e distinct is lt at here implicit off k c child = record {
   rank = below.rank;
   within = below.within;

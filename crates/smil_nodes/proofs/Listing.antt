@@ -7,7 +7,7 @@ use Rattle.std.specs.BTreeSet.{BTreeSet, contains, IsLowerBound, Updates}
 use Rattle.std.proofs.lemmas.Bool.Decides.{nat_tests}
 use Rattle.std.proofs.lemmas.Map.Keys.{le_from_not_gt}
 use Rattle.smil_model.specs.document.Closure.{has}
-use Rattle.smil_nodes.specs.Agenda.{IsTaken}
+use Rattle.smil_nodes.specs.Agenda.{IsLeastTaken}
 use Rattle.smil_due.proofs.Sets.{or_cond, and_cond}
 
 same_rank : (a b : ℕ) → is_eq (nat_cmp a b) ≡ (b == a)
@@ -29,7 +29,7 @@ no_keys [] first none some = refl
 no_keys (k ∷ ks) first none some = let found : IsSome first = some (omega arith) in let never : true ≡ false = sym found ∙ ap is_some none in cc
 
 -- the least rank is taken out
-pub taken_out : (old new : BTreeSet ℕ) (first : Option ℕ) → (0 < length old.keys → IsSome first) → IfSome first (λ k. IsTrue (contains nat_cmp old k)) → IfSome first (IsLowerBound nat_cmp old) → IfSome first (λ k. Updates nat_cmp old new k false) → MatchOption first (old.keys ≡ []) (λ k. IsTaken old.keys k new.keys)
+pub taken_out : (old new : BTreeSet ℕ) (first : Option ℕ) → (0 < length old.keys → IsSome first) → IfSome first (λ k. IsTrue (contains nat_cmp old k)) → IfSome first (IsLowerBound nat_cmp old) → IfSome first (λ k. Updates nat_cmp old new k false) → MatchOption first (old.keys ≡ []) (λ k. IsLeastTaken old.keys k new.keys)
 taken_out old new None some member least updates = no_keys old.keys None refl some
 taken_out old new (Some rank) some member least updates = record {
   member = sym (listed old.keys rank) ∙ member;

@@ -1,7 +1,7 @@
 -- What `back` gives stays where a table changes.
 use Rattle.std.proofs.Common.{◌≡◌, refl, sym, ◌∙◌, subst, List, Bool, true, false, ℤ}
 use Rattle.smil_model.specs.diary.Diary.{History}
-use Rattle.smil_cells.specs.declared.plain.known.Row.{Row}
+use Rattle.smil_cells.specs.declared.plain.current_rows.CurrentRow.{CurrentRow}
 use Rattle.smil_nodes.specs.declared.live.LiveTable.{LiveTable}
 use Rattle.smil_nodes.specs.Endings.{KeptEnds}
 use Rattle.smil_nodes.specs.Marked.{GoesBack, IsMarked, IsUpToDate}
@@ -13,5 +13,5 @@ marked_kept old new h now goes same marked = by_mark old.has_mark refl marked
     by_mark true q is =
         let both = goes q in
         subst (λ (t : Bool). IsMarked t new.undo new.schedule new.endings h now) (sym (same ∙ q))
-        (subst (λ (x : List Row × KeptEnds). IsUpToDate x.0 x.1 h now) (λ i. (sym both.0 i, sym both.1 i)) is)
+        (subst (λ (x : List CurrentRow × KeptEnds). IsUpToDate x.0 x.1 h now) (λ i. (sym both.0 i, sym both.1 i)) is)
     by_mark false q is = subst (λ (t : Bool). IsMarked t new.undo new.schedule new.endings h now) (sym (same ∙ q)) tt

@@ -16,7 +16,7 @@ use Rattle.smil_model.specs.document.Closure.{has}
 use Rattle.smil_model.specs.document.Valid.{IsDistinct}
 use Rattle.smil_model.specs.reach.Reach.{key_of, reads, subject_of}
 use Rattle.smil_laws.specs.Touched.{is_touched, is_touched_from}
-use Rattle.smil_graph.specs.Graph.{IsOrder, readers_of}
+use Rattle.smil_graph.specs.Graph.{IsGraphOrder, readers_of}
 use Rattle.smil_graph.proofs.Answered.{element_at, only_element}
 use Rattle.smil_graph.proofs.Fed.{any_filter, any_there, there_any_item}
 use Rattle.smil_stretch.proofs.Above.{known_element}
@@ -57,7 +57,7 @@ known_serial s (n ∷ ns) = step (n.serial == s) (known_serial s ns)
     step false q = q
 
 -- the elements are those that have a rank
-pub ranked : (nodes : List Node) (order : List ℕ) (s : ℕ) → IsOrder nodes order → is_some (position (λ t. t == s) order) ≡ is_some (node_at (elements nodes) s)
+pub ranked : (nodes : List Node) (order : List ℕ) (s : ℕ) → IsGraphOrder nodes order → is_some (position (λ t. t == s) order) ≡ is_some (node_at (elements nodes) s)
 ranked nodes order s is =
     has_rank order s
     ∙ sym (list_any-IsPermutation (λ t. t == s) (serials (elements nodes)) order is.all)
@@ -155,7 +155,7 @@ has_kept p (x ∷ xs) s = step (p x) refl (x == s) refl (has_kept p xs s)
         none false f = sym f
     step false e false q rest = rest
 
-module _ (nodes : List Node) (order : List ℕ) (is : IsOrder nodes order) where
+module _ (nodes : List Node) (order : List ℕ) (is : IsGraphOrder nodes order) where
   is_known : (s : ℕ) (b : Bool) → is_some (position (λ t. t == s) order) ≡ b → is_some (node_at (elements nodes) s) ≡ b
   is_known s b at = sym (ranked nodes order s is) ∙ at
 
@@ -281,7 +281,7 @@ module _ (nodes : List Node) (order : List ℕ) where
       ∙ sym (any_part_more (λ (n : Node). is_self_or_reader nodes n.serial s) nodes first at found.node le found.at))
       (noted_then order (part_test first at) (is_self_or_reader nodes serial) old now new so_far one)
 
-  pub whole_part : IsOrder nodes order → (tree : List Node) → nodes ≡ tree → IsDistinct tree → (x first past at : ℕ) (old new : List ℕ) → is_some (position (λ t. t == x) order) ≡ true → slice_range tree first past ≡ filter (λ (n : Node). is_within tree x n.serial) tree → at ≡ past → AreNoted order (part_test first at) old new → AreNoted order (is_touched_from nodes (Some x)) old new
+  pub whole_part : IsGraphOrder nodes order → (tree : List Node) → nodes ≡ tree → IsDistinct tree → (x first past at : ℕ) (old new : List ℕ) → is_some (position (λ t. t == x) order) ≡ true → slice_range tree first past ≡ filter (λ (n : Node). is_within tree x n.serial) tree → at ≡ past → AreNoted order (part_test first at) old new → AreNoted order (is_touched_from nodes (Some x)) old new
   whole_part is tree same distinct x first past at old new at_x within end noted =
       noted_by order (part_test first at) (is_touched_from nodes (Some x)) old new
       (λ s r at_s.

@@ -10,7 +10,7 @@ use Rattle.std.proofs.lemmas.List.Sorted.{length_permutation}
 use Rattle.smil_model.specs.declared.document.Node.{Node}
 use Rattle.smil_model.specs.document.Document.{elements, node_at, serials}
 use Rattle.smil_laws.proofs.Rounds.{find-serial}
-use Rattle.smil_graph.specs.Graph.{IsOrder}
+use Rattle.smil_graph.specs.Graph.{IsGraphOrder}
 use Rattle.smil_cells.proofs.Current.{ordered_element}
 use Rattle.smil_instances.proofs.Targets.{some_of}
 
@@ -52,17 +52,17 @@ found_place s xs j distinct lt at =
     ∙ ap (λ t. cond t (Some j) None) (lt-ltb j (length xs) lt)
 
 -- an order of different elements
-pub order_distinct : (nodes : List Node) (order : List ℕ) → IsDistinct nat_eq (serials (elements nodes)) → IsOrder nodes order → IsDistinct nat_eq order
+pub order_distinct : (nodes : List Node) (order : List ℕ) → IsDistinct nat_eq (serials (elements nodes)) → IsGraphOrder nodes order → IsDistinct nat_eq order
 order_distinct nodes order distinct is =
     IsDistinct-IsPermutation nat_eq nat_eq_equiv.symm (serials (elements nodes)) order is.all distinct
 
 -- of as many as there are
-pub order_length : (nodes : List Node) (order : List ℕ) → IsOrder nodes order → length order ≡ length (elements nodes)
+pub order_length : (nodes : List Node) (order : List ℕ) → IsGraphOrder nodes order → length order ≡ length (elements nodes)
 order_length nodes order is =
     length_permutation (serials (elements nodes)) order is.all ∙ length-map (elements nodes) (λ (n : Node). n.serial)
 
 -- each rank is that of an element
-pub element_of : (nodes : List Node) (order : List ℕ) (rank : ℕ) → IsOrder nodes order → rank < length order → (e : Node) × (e.serial ≡ get_or order rank 0) × (node_at (elements nodes) e.serial ≡ Some e)
+pub element_of : (nodes : List Node) (order : List ℕ) (rank : ℕ) → IsGraphOrder nodes order → rank < length order → (e : Node) × (e.serial ≡ get_or order rank 0) × (node_at (elements nodes) e.serial ≡ Some e)
 element_of nodes order rank is within =
     let some = some_of (node_at (elements nodes) (get_or order rank 0)) (ordered_element nodes order rank is within) in
     let same : (some.0).serial ≡ get_or order rank 0 = find-serial (get_or order rank 0) (elements nodes) some.0 some.1 in

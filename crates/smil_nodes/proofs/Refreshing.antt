@@ -6,19 +6,19 @@ use Rattle.std.proofs.lemmas.Bool.{or_cases}
 use Rattle.smil_model.specs.declared.document.Node.{Node}
 use Rattle.smil_model.specs.document.Closure.{has}
 use Rattle.smil_model.specs.document.Valid as valid
-use Rattle.smil_graph.specs.Graph.{IsOrder, OrderedNodes}
+use Rattle.smil_graph.specs.Graph.{IsGraphOrder, OrderedNodes}
 use Rattle.smil_past.specs.Past.{MarkedHistory}
-use Rattle.smil_nodes.specs.Agenda.{IsTaken}
+use Rattle.smil_nodes.specs.Agenda.{IsLeastTaken}
 use Rattle.smil_nodes.specs.Noted.{AreNoted, NotesEntries, is_noted_by}
 use Rattle.smil_nodes.specs.Work.{is_later_reader}
 use Rattle.smil_nodes.proofs.Counting.{elements_distinct}
 use Rattle.smil_nodes.proofs.Ranked.{order_distinct}
 
 -- the order of a graph of these nodes
-pub is_order : (graph : OrderedNodes) (nodes : List Node) (order : List ℕ) → graph.nodes ≡ nodes → IsOrder graph.nodes order → IsOrder nodes order
-is_order graph nodes order same is = subst (λ ns. IsOrder ns order) same is
+pub is_order : (graph : OrderedNodes) (nodes : List Node) (order : List ℕ) → graph.nodes ≡ nodes → IsGraphOrder graph.nodes order → IsGraphOrder nodes order
+is_order graph nodes order same is = subst (λ ns. IsGraphOrder ns order) same is
 
-pub differ_in : (nodes : List Node) (order : List ℕ) → valid.IsDistinct nodes → IsOrder nodes order → IsDistinct nat_eq order
+pub differ_in : (nodes : List Node) (order : List ℕ) → valid.IsDistinct nodes → IsGraphOrder nodes order → IsDistinct nat_eq order
 differ_in nodes order distinct is = order_distinct nodes order (elements_distinct nodes distinct) is
 
 -- what the entries have listed
@@ -54,5 +54,5 @@ module _ (graph : OrderedNodes) (nodes : List Node) (order taken mid new : List 
 pub from_taken : (nodes : List Node) (order taken mid : List ℕ) (rank who : ℕ) → mid ≡ taken → (r : ℕ) → has mid r ≡ true → (has taken r ≡ true) ⊎ (is_later_reader nodes order rank who r ≡ true)
 from_taken nodes order taken mid rank who stays r on = inl (sym (ap (λ l. has l r) stays) ∙ on)
 
-pub rest_of : (old taken mid : List ℕ) (rank : ℕ) → mid ≡ taken → IsTaken old rank taken → (r : ℕ) → has mid r ≡ (not (r == rank) && has old r)
+pub rest_of : (old taken mid : List ℕ) (rank : ℕ) → mid ≡ taken → IsLeastTaken old rank taken → (r : ℕ) → has mid r ≡ (not (r == rank) && has old r)
 rest_of old taken mid rank stays off r = ap (λ l. has l r) stays ∙ off.rest r

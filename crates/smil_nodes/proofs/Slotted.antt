@@ -11,11 +11,11 @@ use Rattle.smil_model.specs.diary.Diary.{History}
 use Rattle.smil_model.specs.interval.Current.{current_interval}
 use Rattle.smil_model.specs.happening.Keys as model
 use Rattle.smil_model.specs.happening.Keys.{coming, coming_of, coming_from, first_coming, keys, least_key}
-use Rattle.smil_element.specs.declared.happening.change.Coming.{Coming}
+use Rattle.smil_element.specs.declared.happening.change.DueChange.{DueChange}
 use Rattle.smil_element.specs.Parts.{coming_meant}
 use Rattle.smil_element.specs.Element.{both}
-use Rattle.smil_element.specs.Comings.{HaveComings}
-use Rattle.smil_cells.specs.declared.plain.known.Row.{Row}
+use Rattle.smil_element.specs.Comings.{HaveDueChanges}
+use Rattle.smil_cells.specs.declared.plain.current_rows.CurrentRow.{CurrentRow}
 use Rattle.smil_cells.specs.Rows.{IsChosen, empty_row}
 use Rattle.smil_cells.proofs.First.{first_by_key, none_first}
 use Rattle.smil_cells.proofs.Keyed.{key_of}
@@ -24,12 +24,12 @@ use Rattle.smil_nodes.specs.Slots.{keys_in}
 use Rattle.smil_nodes.specs.Schedule.{AreCurrent, slot_of, slots_of}
 use Rattle.smil_nodes.proofs.Fixed.{plain_current}
 
-pub slots_length : (rows : List Row) → length (slots_of rows) ≡ length rows + length rows
+pub slots_length : (rows : List CurrentRow) → length (slots_of rows) ≡ length rows + length rows
 slots_length [] = omega arith
 slots_length (r ∷ rs) = omega (arith, slots_length rs)
 
 -- a row put in its place, and its two slots
-pub slots_set : (rows : List Row) (k a b : ℕ) (row : Row) → a ≡ k + k → b ≡ suc a → set (set (slots_of rows) a (slot_of row.comings.moved)) b (slot_of row.comings.repeat) ≡ slots_of (set rows k row)
+pub slots_set : (rows : List CurrentRow) (k a b : ℕ) (row : CurrentRow) → a ≡ k + k → b ≡ suc a → set (set (slots_of rows) a (slot_of row.comings.moved)) b (slot_of row.comings.repeat) ≡ slots_of (set rows k row)
 slots_set [] k a b row p q = refl
 slots_set (r ∷ rs) zero zero zero row p q = absurd (omega (arith, q))
 slots_set (r ∷ rs) zero zero (suc zero) row p q = refl
@@ -51,7 +51,7 @@ slots_empty (e ∷ es) (suc zero) q = absurd (omega (arith, q))
 slots_empty (e ∷ es) (suc (suc n)) q = ap (λ slots. None ∷ (None ∷ slots)) (slots_empty es n (omega (arith, q)))
 
 -- there are as few rows as elements
-pub rows_few : (nodes : List Node) (rows : List Row) → rows ≡ map empty_row (elements nodes) → length nodes ≤ NODES → length rows ≤ NODES
+pub rows_few : (nodes : List Node) (rows : List CurrentRow) → rows ≡ map empty_row (elements nodes) → length nodes ≤ NODES → length rows ≤ NODES
 rows_few nodes rows are all =
     let whole : length rows ≡ length (elements nodes) = ap length are ∙ length-map (elements nodes) empty_row in
     let some : length (elements nodes) ≤ length nodes = elements_few nodes in
@@ -59,14 +59,14 @@ rows_few nodes rows are all =
 
 -- ---- the keys of what comes
 
-keys_of_two : (a b : Option Coming) (slots : List (Option Key)) → keys_in (slot_of a ∷ (slot_of b ∷ slots)) ≡ map key_of (both a b) ++ keys_in slots
+keys_of_two : (a b : Option DueChange) (slots : List (Option Key)) → keys_in (slot_of a ∷ (slot_of b ∷ slots)) ≡ map key_of (both a b) ++ keys_in slots
 keys_of_two None None slots = refl
 keys_of_two None (Some d) slots = refl
 keys_of_two (Some c) None slots = refl
 keys_of_two (Some c) (Some d) slots = refl
 
 -- the slots of rows have the keys of all that comes, in document order
-pub keys_come : (h : History) (now : ℤ) (place : ℕ) (es : List Node) (rows : List Row) → HaveComings h now place es (map (λ (r : Row). r.comings) rows) → keys_in (slots_of rows) ≡ map key_of (coming_from h (current_interval h now) now place es)
+pub keys_come : (h : History) (now : ℤ) (place : ℕ) (es : List Node) (rows : List CurrentRow) → HaveDueChanges h now place es (map (λ (r : CurrentRow). r.comings) rows) → keys_in (slots_of rows) ≡ map key_of (coming_from h (current_interval h now) now place es)
 keys_come h now place [] [] is = refl
 keys_come h now place [] (r ∷ rs) is = elim is [ ]
 keys_come h now place (e ∷ es) [] is = elim is [ ]
@@ -78,13 +78,13 @@ keys_come h now place (e ∷ es) (r ∷ rs) is =
 
 -- ---- what comes first
 
-module _ (h : History) (now : ℤ) (rows : List Row) (slots : List (Option Key)) (are : AreCurrent rows h now) (slots_are : slots ≡ slots_of rows) where
+module _ (h : History) (now : ℤ) (rows : List CurrentRow) (slots : List (Option Key)) (are : AreCurrent rows h now) (slots_are : slots ≡ slots_of rows) where
   least_is : least_key (keys_in slots) ≡ least_key (keys h now)
   least_is = ap (λ ks. least_key (keys_in ks)) slots_are ∙ ap least_key (keys_come h now 0 (elements h.nodes) rows are.comings_are)
 
   pub nothing_comes : None ≡ least_key (keys_in slots) → None ≡ first_coming (coming h now)
   nothing_comes none = sym (none_first h now None (none ∙ least_is) refl)
 
-  pub first_comes : (key : Key) (chosen : Option Coming) → Some key ≡ least_key (keys_in slots) → ((r : Row) → slice_get rows key.position ≡ Some r → IsChosen key r.comings.moved r.comings.repeat chosen) → option_map coming_meant chosen ≡ first_coming (coming h now)
+  pub first_comes : (key : Key) (chosen : Option DueChange) → Some key ≡ least_key (keys_in slots) → ((r : CurrentRow) → slice_get rows key.position ≡ Some r → IsChosen key r.comings.moved r.comings.repeat chosen) → option_map coming_meant chosen ≡ first_coming (coming h now)
   first_comes key chosen least by_row =
       first_by_key h now rows (set_of.from_list (keys h now)) key chosen (plain_current rows h now are) (least ∙ least_is) by_row

@@ -8,10 +8,10 @@ use Rattle.smil_model.specs.interval.Current.{simple_of}
 use Rattle.smil_laws.specs.Edited.{IsOrdered}
 use Rattle.smil_laws.specs.Touched.{GivesSame, in_reaches, is_touched_by}
 use Rattle.smil_laws.proofs.TouchedStay.{leaves_untouched}
-use Rattle.smil_graph.specs.Graph.{IsOrder}
+use Rattle.smil_graph.specs.Graph.{IsGraphOrder}
 use Rattle.smil_element.specs.Element.{coming_by}
 use Rattle.smil_past.specs.Past.{MarkedHistory, front, history_of}
-use Rattle.smil_cells.specs.declared.plain.known.Row.{Row}
+use Rattle.smil_cells.specs.declared.plain.current_rows.CurrentRow.{CurrentRow}
 use Rattle.smil_cells.specs.Plain.{interval_in}
 use Rattle.smil_cells.specs.Round.{IsRowOf}
 use Rattle.smil_cells.proofs.Paired.{first_at, interval_at, there_at}
@@ -23,14 +23,14 @@ use Rattle.smil_nodes.proofs.Fixed.{current_elements, row_of_current}
 use Rattle.smil_nodes.proofs.Noted.{noted_reached, untouched, front_whole}
 use Rattle.smil_nodes.proofs.Ranked.{element_of, found_place}
 
-module _ (past : MarkedHistory) (from : ℕ) (now : ℤ) (order : List ℕ) (rows : List Row) (listed : ℕ → Bool) (ordered : IsOrdered past.document.nodes) (is : IsOrder past.document.nodes order) (distinct : IsDistinct nat_eq order) (told : (s r : ℕ) → position (λ t. t == s) order ≡ Some r → listed r ≡ is_noted_by past.document.nodes past.log (drop from past.diary) s) where
+module _ (past : MarkedHistory) (from : ℕ) (now : ℤ) (order : List ℕ) (rows : List CurrentRow) (listed : ℕ → Bool) (ordered : IsOrdered past.document.nodes) (is : IsGraphOrder past.document.nodes order) (distinct : IsDistinct nat_eq order) (told : (s r : ℕ) → position (λ t. t == s) order ≡ Some r → listed r ≡ is_noted_by past.document.nodes past.log (drop from past.diary) s) where
   given_same : (e : Node) → node_at (elements past.document.nodes) e.serial ≡ Some e → is_touched_by past.document.nodes past.log (drop from past.diary) e.serial ≡ false → GivesSame (front past from) (history_of past) (interval_in rows) now e
   given_same e here free =
       subst (λ k. GivesSame (front past from) k (interval_in rows) now e) (front_whole past from)
       (leaves_untouched (front past from) (drop from past.diary) (interval_in rows) now e ordered.first here free)
 
   -- the row of an element that is not touched
-  row_given : (place : ℕ) (e : Node) (row : Row) → GivesSame (front past from) (history_of past) (interval_in rows) now e → interval_in rows e.serial ≡ row.interval → IsRowOf (front past from) (interval_in rows) now place e row → IsRowOf (history_of past) (interval_in rows) now place e row
+  row_given : (place : ℕ) (e : Node) (row : CurrentRow) → GivesSame (front past from) (history_of past) (interval_in rows) now e → interval_in rows e.serial ≡ row.interval → IsRowOf (front past from) (interval_in rows) now place e row → IsRowOf (history_of past) (interval_in rows) now place e row
   row_given place e row gives own was = record {
     serial = was.serial;
     interval = was.interval ∙ sym gives.interval;

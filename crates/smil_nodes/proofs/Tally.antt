@@ -10,11 +10,11 @@ use Rattle.smil_model.specs.document.Closure.{has}
 use Rattle.smil_model.specs.reach.Reach.{reads}
 use Rattle.smil_laws.specs.Touched.{in_reaches}
 use Rattle.smil_laws.proofs.TouchedReached.{reaches_hold}
-use Rattle.smil_graph.specs.Graph.{IsOrder}
-use Rattle.smil_cells.specs.declared.plain.known.Row.{Row}
+use Rattle.smil_graph.specs.Graph.{IsGraphOrder}
+use Rattle.smil_cells.specs.declared.plain.current_rows.CurrentRow.{CurrentRow}
 use Rattle.smil_cells.specs.Plain.{interval_in}
 use Rattle.smil_nodes.specs.Work.{IsBelow, IsCounted, is_later_reader}
-use Rattle.smil_nodes.specs.Agenda.{IsTaken}
+use Rattle.smil_nodes.specs.Agenda.{IsLeastTaken}
 use Rattle.smil_nodes.proofs.Ranked.{element_of, one_place}
 use Rattle.smil_nodes.proofs.Apart.{is_reader}
 
@@ -22,7 +22,7 @@ each_has : (P : ℕ → Type 0) (xs : List ℕ) → ((x : ℕ) → has xs x ≡ 
 each_has P [] f = tt
 each_has P (x ∷ xs) f = (f x (or_left _ _ (eq-eqb x x refl)), each_has P xs (λ y q. f y (or_right _ _ q)))
 
-module _ (nodes : List Node) (log : List LogEntry) (entries : List Entry) (order : List ℕ) (first : List Row) (start : ℕ) where
+module _ (nodes : List Node) (log : List LogEntry) (entries : List Entry) (order : List ℕ) (first : List CurrentRow) (start : ℕ) where
   -- nothing is evaluated yet
   pub none_counted : (listed : ℕ → Bool) → ((r : ℕ) → listed r ≡ true → r < length order) → ((r : ℕ) → listed r ≡ true → in_reaches nodes log entries (get_or order r 0) ≡ true) → IsCounted nodes log entries order listed first first start start
   unfolding IsDistinct
@@ -38,7 +38,7 @@ module _ (nodes : List Node) (log : List LogEntry) (entries : List Entry) (order
     listed_reached = reached;
   }
 
-  module _ (old : List ℕ) (before after : List Row) (steps rank who : ℕ) (is : IsOrder nodes order) (apart : IsDistinct nat_eq order) (mid : List ℕ) (lt : rank < length order) (at : get_or order rank 0 ≡ who) (off : IsTaken old rank mid) (others : (s : ℕ) → who == s ≡ false → interval_in after s ≡ interval_in before s) (so_far : IsCounted nodes log entries order (has old) first before start steps) where
+  module _ (old : List ℕ) (before after : List CurrentRow) (steps rank who : ℕ) (is : IsGraphOrder nodes order) (apart : IsDistinct nat_eq order) (mid : List ℕ) (lt : rank < length order) (at : get_or order rank 0 ≡ who) (off : IsLeastTaken old rank mid) (others : (s : ℕ) → who == s ≡ false → interval_in after s ≡ interval_in before s) (so_far : IsCounted nodes log entries order (has old) first before start steps) where
     who_reached : in_reaches nodes log entries who ≡ true
     who_reached = ap (in_reaches nodes log entries) (sym at) ∙ so_far.listed_reached rank off.member
 

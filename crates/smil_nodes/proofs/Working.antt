@@ -9,10 +9,10 @@ use Rattle.smil_model.specs.document.Valid.{IsDistinct}
 use Rattle.smil_model.specs.diary.Diary.{History}
 use Rattle.smil_laws.proofs.Locality.{AgreeFor}
 use Rattle.smil_laws.proofs.Members.{Differ}
-use Rattle.smil_graph.specs.Graph.{IsOrder}
-use Rattle.smil_cells.specs.declared.plain.known.Row.{Row}
+use Rattle.smil_graph.specs.Graph.{IsGraphOrder}
+use Rattle.smil_cells.specs.declared.plain.current_rows.CurrentRow.{CurrentRow}
 use Rattle.smil_cells.specs.Plain.{interval_in}
-use Rattle.smil_cells.specs.Round.{AreOfElements, IsRowOf, IsTaken}
+use Rattle.smil_cells.specs.Round.{AreOfElements, IsRowOf, IsRowEvaluated}
 use Rattle.smil_cells.proofs.Rows.{IsFirst, set_serials, set_others}
 use Rattle.smil_cells.proofs.Paired.{serials_in, there_at, apart_at, first_at, set_at, set_elsewhere}
 use Rattle.smil_cells.proofs.Agreeing.{row_stays, agree_by_order}
@@ -27,7 +27,7 @@ left_out old rank r q = by_test (r == rank) refl q
     by_test true e p = inl (eqb-true r rank e)
     by_test false e p = inr p
 
-module _ (h : History) (now : ℤ) (who : ℕ) (before after : List Row) (distinct : IsDistinct h.nodes) (of_elements : AreOfElements h.nodes before) (taken : IsTaken h now who before after) where
+module _ (h : History) (now : ℤ) (who : ℕ) (before after : List CurrentRow) (distinct : IsDistinct h.nodes) (of_elements : AreOfElements h.nodes before) (taken : IsRowEvaluated h now who before after) where
   differ : Differ (elements h.nodes)
   differ = elements_differ h.nodes distinct
 
@@ -45,14 +45,14 @@ module _ (h : History) (now : ℤ) (who : ℕ) (before after : List Row) (distin
       ap (λ rows. interval_in rows x) taken.after_is
       ∙ set_others taken.row before taken.place x row_first (ap (λ s. s == x) ((taken.made).serial ∙ taken.is_who) ∙ other)
 
-  module _ (order : List ℕ) (rank : ℕ) (is : IsOrder h.nodes order) (lt : rank < length order) (at : get_or order rank 0 ≡ who) where
+  module _ (order : List ℕ) (rank : ℕ) (is : IsGraphOrder h.nodes order) (lt : rank < length order) (at : get_or order rank 0 ≡ who) where
     agree_before : (j : ℕ) (e : Node) → j ≤ rank → get_or order j 0 ≡ e.serial → node_at (elements h.nodes) e.serial ≡ Some e → AgreeFor h (interval_in before) (interval_in after) e
     agree_before j e le at_e there =
         agree_by_order h (interval_in before) (interval_in after) now e order rank j is there lt le at_e
         (λ x other. sym (others_stay x (ap (λ s. s == x) (sym at) ∙ other)))
 
     module _ (old new : ℕ → Bool) (so_far : AreSettled h now order old before) (left : (r : ℕ) → new r ≡ false → (r ≡ rank) ⊎ (old r ≡ false)) (free : (j : ℕ) (e : Node) → rank < j → j < length order → get_or order j 0 ≡ e.serial → node_at (elements h.nodes) e.serial ≡ Some e → new j ≡ false → AgreeFor h (interval_in before) (interval_in after) e) where
-      at_any : (j p : ℕ) (e : Node) (row : Row) → j < length order → get_or order j 0 ≡ e.serial → new j ≡ false → slice_get (elements h.nodes) p ≡ Some e → IsRowOf h (interval_in before) now p e row → IsRowOf h (interval_in after) now p e row
+      at_any : (j p : ℕ) (e : Node) (row : CurrentRow) → j < length order → get_or order j 0 ≡ e.serial → new j ≡ false → slice_get (elements h.nodes) p ≡ Some e → IsRowOf h (interval_in before) now p e row → IsRowOf h (interval_in after) now p e row
       at_any j p e row within at_e off here row_is =
           row_stays h (interval_in before) (interval_in after) now e p row (agree (nat_lt rank j) refl) row_is
         where
@@ -63,7 +63,7 @@ module _ (h : History) (now : ℤ) (who : ℕ) (before after : List Row) (distin
           agree true q = free j e (ltb-true rank j q) within at_e there off
           agree false q = agree_before j e (ltb-false rank j q) at_e there
 
-      by_place : (j p : ℕ) (e : Node) (row : Row) → j < length order → get_or order j 0 ≡ e.serial → new j ≡ false → slice_get (elements h.nodes) p ≡ Some e → slice_get after p ≡ Some row → (t : Bool) → nat_eq p taken.place ≡ t → IsRowOf h (interval_in after) now p e row
+      by_place : (j p : ℕ) (e : Node) (row : CurrentRow) → j < length order → get_or order j 0 ≡ e.serial → new j ≡ false → slice_get (elements h.nodes) p ≡ Some e → slice_get after p ≡ Some row → (t : Bool) → nat_eq p taken.place ≡ t → IsRowOf h (interval_in after) now p e row
       by_place j p e row within at_e off here got true q =
           let same : p ≡ taken.place = eqb-true p taken.place q in
           let one : taken.element ≡ e = same_node (sym taken.here ∙ ap (slice_get (elements h.nodes)) (sym same) ∙ here) in

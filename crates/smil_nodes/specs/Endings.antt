@@ -11,7 +11,7 @@ use Rattle.smil_model.specs.interval.Current.{child_end, is_named_child}
 use Rattle.smil_endsync.specs.Ends.{set_ends}
 use Rattle.smil_element.specs.declared.endings.Ending.{Ending}
 use Rattle.smil_element.specs.Endings.{ending_by}
-use Rattle.smil_cells.specs.declared.plain.known.Row.{Row}
+use Rattle.smil_cells.specs.declared.plain.current_rows.CurrentRow.{CurrentRow}
 use Rattle.smil_cells.specs.Plain.{interval_in}
 use Rattle.smil_cells.specs.Round.{AreOfElements}
 use Rattle.smil_nodes.specs.declared.endings.Home.{Home}
@@ -128,7 +128,7 @@ stay_known h k given test kept nodes diary are =
     (record { homes = are.homes; names = are.names; right = are.right })
 
 -- the ends of the time children of one element are right
-pub record KnowsEnds (rows : List Row) (kept : KeptEnds) (h : History) (who : ℕ) : Type 0 where
+pub record KnowsEnds (rows : List CurrentRow) (kept : KeptEnds) (h : History) (who : ℕ) : Type 0 where
   pub of_elements : AreOfElements h.nodes rows
   pub as_many : length kept.ends ≡ length (elements h.nodes)
   pub ends_are :
@@ -137,7 +137,7 @@ pub record KnowsEnds (rows : List Row) (kept : KeptEnds) (h : History) (who : �
       ≡ map (child_end h (interval_in rows) e) (time_children h.nodes who)
 
 -- the ending of one element was put, by its present interval
-pub record IsEnded (h : History) (who : ℕ) (rows : List Row)
+pub record IsEnded (h : History) (who : ℕ) (rows : List CurrentRow)
     (before after : KeptEnds) : Type 0 where
   pub place : ℕ
   pub element : Node

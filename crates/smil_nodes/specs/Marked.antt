@@ -2,7 +2,7 @@
 use Rattle.std.specs.Prelude.{◌≡◌, ℤ, List, Bool, true, false}
 use Rattle.smil_model.specs.diary.Diary.{History}
 use Rattle.smil_laws.specs.Same.{IsSame}
-use Rattle.smil_cells.specs.declared.plain.known.Row.{Row}
+use Rattle.smil_cells.specs.declared.plain.current_rows.CurrentRow.{CurrentRow}
 use Rattle.smil_cells.specs.Plain.{interval_in}
 use Rattle.smil_nodes.specs.declared.live.LiveTable.{LiveTable}
 use Rattle.smil_nodes.specs.declared.undo.Note.{Note}
@@ -11,12 +11,12 @@ use Rattle.smil_nodes.specs.Schedule.{AreCurrent, stay_current}
 use Rattle.smil_nodes.specs.Undo.{ends_back, rows_back}
 
 -- the rows are current, and all ends are right by their intervals
-pub record IsUpToDate (rows : List Row) (kept : KeptEnds) (h : History) (now : ℤ) : Type 0 where
+pub record IsUpToDate (rows : List CurrentRow) (kept : KeptEnds) (h : History) (now : ℤ) : Type 0 where
   pub rows_are : AreCurrent rows h now
   pub ends_are : AreKnown h (interval_in rows) anyone kept
 
 -- they are so by another history by which the same is
-pub stay_up_to_date : (rows : List Row) (kept : KeptEnds) (h k : History) (m n : ℤ)
+pub stay_up_to_date : (rows : List CurrentRow) (kept : KeptEnds) (h k : History) (m n : ℤ)
     → IsSame h m k n → IsUpToDate rows kept h m → IsUpToDate rows kept k n
 stay_up_to_date rows kept h k m n same is = record {
   rows_are = stay_current rows h k m n same is.rows_are;
@@ -24,7 +24,7 @@ stay_up_to_date rows kept h k m n same is = record {
 }
 
 -- what `back` gives where a mark stands
-abbrev pub IsMarked : Bool → List Note → List Row → KeptEnds → History → ℤ → Type 0
+abbrev pub IsMarked : Bool → List Note → List CurrentRow → KeptEnds → History → ℤ → Type 0
 IsMarked false notes rows kept h now = Unit {0}
 IsMarked true notes rows kept h now =
     IsUpToDate (rows_back rows notes) (ends_back rows kept notes) h now

@@ -4,21 +4,21 @@ use Rattle.std.specs.List.{AllByRecursion, list_any, position}
 use Rattle.smil_model.specs.document.Closure.{has}
 use Rattle.smil_laws.specs.Near.{IsIntervalNear}
 use Rattle.smil_element.specs.declared.endings.Ending.{Ending}
-use Rattle.smil_cells.specs.declared.plain.known.Row.{Row}
+use Rattle.smil_cells.specs.declared.plain.current_rows.CurrentRow.{CurrentRow}
 use Rattle.smil_nodes.specs.declared.undo.Note.{Note}
 use Rattle.smil_nodes.specs.Endings.{KeptEnds, put_ending}
 
 -- a row in the place of another; nothing where there is none
-abbrev pub row_put : List Row → Row → Option ℕ → List Row
+abbrev pub row_put : List CurrentRow → CurrentRow → Option ℕ → List CurrentRow
 row_put rows row None = rows
 row_put rows row (Some place) = slice_set rows place row
 
 -- a row in the place of that of its element
-abbrev pub row_back : List Row → Row → List Row
-row_back rows row = row_put rows row (position (λ (r : Row). r.serial == row.serial) rows)
+abbrev pub row_back : List CurrentRow → CurrentRow → List CurrentRow
+row_back rows row = row_put rows row (position (λ (r : CurrentRow). r.serial == row.serial) rows)
 
 -- the rows put back from the last to the first
-abbrev pub rows_back : List Row → List Note → List Row
+abbrev pub rows_back : List CurrentRow → List Note → List CurrentRow
 rows_back rows [] = rows
 rows_back rows (noted ∷ later) = row_back (rows_back rows later) noted.row
 
@@ -28,12 +28,12 @@ ending_put kept ending None = kept
 ending_put kept ending (Some place) = put_ending kept place ending
 
 -- an ending put for the element of its row
-abbrev pub ending_back : List Row → KeptEnds → Note → KeptEnds
+abbrev pub ending_back : List CurrentRow → KeptEnds → Note → KeptEnds
 ending_back rows kept noted =
-    ending_put kept noted.ending (position (λ (r : Row). r.serial == noted.row.serial) rows)
+    ending_put kept noted.ending (position (λ (r : CurrentRow). r.serial == noted.row.serial) rows)
 
 -- the endings put back from the last to the first, by the places of the elements' rows
-abbrev pub ends_back : List Row → KeptEnds → List Note → KeptEnds
+abbrev pub ends_back : List CurrentRow → KeptEnds → List Note → KeptEnds
 ends_back rows kept [] = kept
 ends_back rows kept (noted ∷ later) = ending_back rows (ends_back rows kept later) noted
 

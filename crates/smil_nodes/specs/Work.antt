@@ -10,7 +10,7 @@ use Rattle.smil_model.specs.diary.Diary.{History}
 use Rattle.smil_model.specs.reach.Reach.{is_option}
 use Rattle.smil_laws.specs.Touched.{in_reaches}
 use Rattle.smil_graph.specs.Graph.{OrderedNodes, readers_of}
-use Rattle.smil_cells.specs.declared.plain.known.Row.{Row}
+use Rattle.smil_cells.specs.declared.plain.current_rows.CurrentRow.{CurrentRow}
 use Rattle.smil_cells.specs.Plain.{interval_in}
 use Rattle.smil_cells.specs.Round.{AreOfElements, IsRowOf}
 
@@ -36,15 +36,15 @@ ListsReaders graph least serial old new =
     → has new rank ≡ (has old rank || is_later_reader graph.nodes graph.order least serial rank)
 
 -- the interval of an element is the same
-abbrev pub HasSame : ℕ → List Row → List Row → Type 0
+abbrev pub HasSame : ℕ → List CurrentRow → List CurrentRow → Type 0
 HasSame serial before after = interval_in after serial ≡ interval_in before serial
 
 -- the rows of the elements whose ranks are not listed are as the intervals of all rows give them
 pub record AreSettled (h : History) (now : ℤ) (order : List ℕ) (listed : ℕ → Bool)
-    (rows : List Row) : Type 0 where
+    (rows : List CurrentRow) : Type 0 where
   pub of_elements : AreOfElements h.nodes rows
   pub rows_are :
-      (rank place : ℕ) (e : Node) (row : Row)
+      (rank place : ℕ) (e : Node) (row : CurrentRow)
       → rank < length order → slice_index order rank ≡ e.serial → listed rank ≡ false
       → slice_get (elements h.nodes) place ≡ Some e → slice_get rows place ≡ Some row
       → IsRowOf h (interval_in rows) now place e row
@@ -66,7 +66,7 @@ pub record IsUnlisted (order : List ℕ) (listed : ℕ → Bool) (serial : ℕ) 
 -- each evaluation is a step, and no element is evaluated twice; those that were, and those that
 -- are listed, are in the reaches of entries; the listed ranks are above those of the former
 pub record IsCounted (nodes : List Node) (log : List LogEntry) (entries : List Entry)
-    (order : List ℕ) (listed : ℕ → Bool) (before rows : List Row) (start steps : ℕ) : Type 0 where
+    (order : List ℕ) (listed : ℕ → Bool) (before rows : List CurrentRow) (start steps : ℕ) : Type 0 where
   pub next : ℕ
   pub taken : List ℕ
   pub steps_are : steps ≡ start + length taken

@@ -2,7 +2,7 @@
 
 ghost use Rattle.std.specs.Prelude.{◌≡◌, ℕ, ◌||◌, ◌==◌, [], true, false, OnOk, OnErr, MatchOption};
 ghost use Rattle.smil_model.specs.document.Closure.{has};
-ghost use Rattle.smil_nodes.specs.Agenda.{IsTaken};
+ghost use Rattle.smil_nodes.specs.Agenda.{IsLeastTaken};
 
 use std::alloc::{AllocError, Global};
 use std::collections::BTreeSet;
@@ -52,7 +52,7 @@ impl Agenda {
     /// Takes the least rank, which is then listed no longer; None exactly where none is listed. It
     /// takes log n steps for n ranks, and no memory.
     pub fn take_first(&mut self) -> Option<usize>
-        ensures { MatchOption result (self.old ≡ []) (λ rank. IsTaken self.old rank self.new) }
+        ensures { MatchOption result (self.old ≡ []) (λ rank. IsLeastTaken self.old rank self.new) }
     {
         self.ranks.pop_first()
     }

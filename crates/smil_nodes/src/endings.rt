@@ -36,7 +36,7 @@ pub struct Endings {
 }
 
 impl Drop for Endings {
-    // Dropped by a call of its own, so that no function that lets one go drops it field by field.
+    // Dropped by a call of its own, not field by field in each function that drops one.
     fn drop(self) {
         let Endings {
             homes: _homes,

@@ -8,8 +8,8 @@ ghost use Rattle.smil_model.specs.document.Dependencies.{has_implicit_duration};
 ghost use Rattle.smil_model.specs.diary.Lawful.{has_element};
 ghost use Rattle.smil_laws.specs.Near.{IsIntervalNear};
 ghost use Rattle.smil_past.specs.Past.{IsPresent, history_of};
-ghost use Rattle.smil_cells.specs.declared.plain.known.Row.{Row as AnyRow};
-ghost use Rattle.smil_cells.specs.Round.{AreOfElements, IsTaken};
+ghost use Rattle.smil_cells.specs.declared.plain.current_rows.CurrentRow.{CurrentRow as AnyRow};
+ghost use Rattle.smil_cells.specs.Round.{AreOfElements, IsRowEvaluated};
 ghost use Rattle.smil_cells.specs.Plain.{interval_in};
 ghost use Rattle.smil_nodes.specs.Endings.{AreKnown, IsEnded, KnowsEnds, nobody, put_ending};
 ghost use Rattle.smil_nodes.specs.Marked.{GoesBack, IsUpToDate};
@@ -23,9 +23,9 @@ use super::schedule::Schedule;
 use super::sources::Sources;
 use super::touched::{Network, note_touched};
 use super::undo::{Note, Undo};
-use smil_cells::plain::known::{Row, row_of};
+use smil_cells::plain::current_rows::{CurrentRow, row_of};
 use smil_cells::{Cells, Since, Table};
-use smil_element::{Coming, Ending, Intervals, Present, Room, ending_of};
+use smil_element::{DueChange, Ending, Intervals, Present, Room, ending_of};
 use smil_model::{Duplicate, Interval, Serials, Steps};
 use smil_past::Past;
 use std::alloc::{AllocError, Global};
@@ -51,7 +51,7 @@ pub struct LiveTable {
 }
 
 impl Drop for LiveTable {
-    // Dropped by a call of its own, so that no function that lets one go drops it field by field.
+    // Dropped by a call of its own, not field by field in each function that drops one.
     fn drop(self) {
         let LiveTable {
             schedule: _schedule,
@@ -126,7 +126,7 @@ impl Table for LiveTable {
         self.schedule.interval(who)
     }
 
-    fn first(&self) -> Option<Coming> {
+    fn first(&self) -> Option<DueChange> {
         self.schedule.first()
     }
 
@@ -210,7 +210,7 @@ impl LiveTable {
             → has_implicit_duration e ≡ true
             → KnowsEnds self.old.schedule self.old.endings (history_of present.now.past.now)
             present.now.who }
-        ensures taken { OnOk result (IsTaken (history_of present.now.past.now) present.now.moment
+        ensures taken { OnOk result (IsRowEvaluated (history_of present.now.past.now) present.now.moment
             present.now.who self.old.schedule self.new.schedule) }
         ensures ended { OnOk result (IsEnded (history_of present.now.past.now) present.now.who
             self.new.schedule self.old.endings self.new.endings) }
@@ -238,7 +238,7 @@ impl LiveTable {
 
     // Puts a row in the place of the one that its element has, and the ending of the element; what
     // was there is noted where a mark stands.
-    fn replace(&mut self, index: usize, row: Row, ending: Ending) -> Result<(), AllocError>
+    fn replace(&mut self, index: usize, row: CurrentRow, ending: Ending) -> Result<(), AllocError>
         requires index { position (λ (r : AnyRow). r.serial == row.serial) self.old.schedule
             ≡ Some index }
         requires near { IfSome row.interval IsIntervalNear }

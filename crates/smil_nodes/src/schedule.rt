@@ -4,13 +4,13 @@ ghost use Rattle.std.specs.Prelude.{◌≡◌, ◌==◌, ◌<◌, Some, map, len
 ghost use Rattle.std.specs.List.{position};
 ghost use Rattle.smil_model.specs.document.Document.{elements};
 ghost use Rattle.smil_laws.specs.Near.{IsIntervalNear};
-ghost use Rattle.smil_cells.specs.declared.plain.known.Row.{Row as AnyRow};
+ghost use Rattle.smil_cells.specs.declared.plain.current_rows.CurrentRow.{CurrentRow as AnyRow};
 ghost use Rattle.smil_cells.specs.Rows.{empty_row};
 ghost use Rattle.smil_nodes.specs.Schedule.{ComesFirst, slot_of};
 
 use super::due_tree::DueTree;
-use smil_cells::plain::known::{CurrentRows, Row};
-use smil_element::{Coming, Intervals};
+use smil_cells::plain::current_rows::{CurrentRow, CurrentRows};
+use smil_element::{DueChange, Intervals};
 use smil_model::{Duplicate, Interval, Key};
 use smil_tree::Tree;
 use std::alloc::{AllocError, Global};
@@ -26,7 +26,7 @@ pub struct Schedule {
 }
 
 impl Drop for Schedule {
-    // Dropped by a call of its own, so that no function that lets one go drops it field by field.
+    // Dropped by a call of its own, not field by field in each function that drops one.
     fn drop(self) {
         let Schedule {
             known: _known,
@@ -37,7 +37,7 @@ impl Drop for Schedule {
 
 impl Model for Schedule {
     ghost use Rattle.std.specs.Prelude.{List};
-    ghost use Rattle.smil_cells.specs.declared.plain.known.Row.{Row as AnyRow};
+    ghost use Rattle.smil_cells.specs.declared.plain.current_rows.CurrentRow.{CurrentRow as AnyRow};
     ghost use Rattle.smil_nodes.specs.Schedule.{IsScheduled};
 
     ghost Value = { List AnyRow };
@@ -79,7 +79,7 @@ impl Schedule {
     }
 
     /// The rows. It takes no memory.
-    pub fn rows(&self) -> &[Row]
+    pub fn rows(&self) -> &[CurrentRow]
         ensures { result.now ≡ self.now }
     {
         self.known.rows()
@@ -93,7 +93,7 @@ impl Schedule {
     }
 
     /// The row at an index. It takes no memory.
-    pub fn row(&self, index: usize) -> Row
+    pub fn row(&self, index: usize) -> CurrentRow
         requires { index < length self.now }
         ensures row { slice_get self.now index ≡ Some result }
         ensures near { IfSome result.interval IsIntervalNear }
@@ -103,7 +103,7 @@ impl Schedule {
 
     /// Puts a row in the place of the one that its element has. It takes no memory, and log n steps
     /// for n elements.
-    pub fn put(&mut self, index: usize, row: Row)
+    pub fn put(&mut self, index: usize, row: CurrentRow)
         requires index { position (λ (r : AnyRow). r.serial == row.serial) self.old ≡ Some index }
         requires near { IfSome row.interval IsIntervalNear }
         ensures { self.new ≡ slice_set self.old index row }
@@ -115,7 +115,7 @@ impl Schedule {
 
     /// What comes first by the rows; where they are current, None exactly where nothing comes. It
     /// takes no memory.
-    pub fn first(&self) -> Option<Coming>
+    pub fn first(&self) -> Option<DueChange>
         ensures { ComesFirst self.now result }
     {
         self.known.coming(self.due.least()?)
@@ -123,7 +123,7 @@ impl Schedule {
 }
 
 // The key of what comes, if something does.
-fn key_of(coming: Option<Coming>) -> Option<Key>
+fn key_of(coming: Option<DueChange>) -> Option<Key>
     ensures { result ≡ slot_of coming }
 {
     coming.map(|coming| coming.key)

@@ -4,7 +4,7 @@ ghost use Rattle.std.specs.Prelude.{◌≡◌, ◌==◌, ◌≤◌, ℕ, Some, O
 ghost use Rattle.smil_model.specs.document.Closure.{has};
 ghost use Rattle.smil_model.specs.reach.Reach.{down_key};
 ghost use Rattle.smil_laws.specs.Touched.{is_touched_from};
-ghost use Rattle.smil_graph.specs.Graph.{IsOrder};
+ghost use Rattle.smil_graph.specs.Graph.{IsGraphOrder};
 ghost use Rattle.smil_nodes.specs.Noted.{AreNoted, NotesEntries, NotesStep, is_self_or_reader};
 
 use super::agenda::Agenda;
@@ -128,7 +128,7 @@ fn note(graph: &Graph, serial: u32, agenda: &mut Agenda) -> Result<(), AllocErro
 
 // The order of a graph is one of the elements: a law for proofs, which costs nothing.
 fn order_is_kept(graph: &Graph)
-    ensures { IsOrder graph.now.nodes graph.now.order }
+    ensures { IsGraphOrder graph.now.nodes graph.now.order }
 {
     let _order = graph.order();
 }

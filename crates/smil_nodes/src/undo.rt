@@ -4,7 +4,7 @@ ghost use Rattle.std.specs.Prelude.{◌≡◌, [], ◌∷◌, ◌++◌, true, On
 ghost use Rattle.smil_laws.specs.Near.{IsIntervalNear};
 ghost use Rattle.smil_nodes.specs.Undo.{MayGrow, has_row};
 
-use smil_cells::plain::known::Row;
+use smil_cells::plain::current_rows::CurrentRow;
 use smil_element::Ending;
 use std::alloc::{AllocError, Global};
 use std::collections::BTreeSet;
@@ -13,7 +13,7 @@ use std::marker::Model;
 /// The row of an element, and its ending, as they were before they changed.
 #[derive(Clone, Copy, Debug)]
 pub struct Note {
-    pub row: Row,
+    pub row: CurrentRow,
     pub ending: Ending,
 }
 

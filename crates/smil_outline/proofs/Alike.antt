@@ -12,7 +12,7 @@ use Rattle.smil_grammar.specs.Results.{◌>>=◌}
 use Rattle.smil_grammar.specs.Outlines.{Outline, no_lines, last_of, mixes, with_line, with_lines, with_node}
 use Rattle.smil_model.specs.declared.limits.TheConstants.{NODES}
 use Rattle.smil_laws.proofs.Lineages.{swap_eqb}
-use Rattle.smil_outline.specs.Branches.{differs, serial_of, is_known, AreAlike, AreKnown, IsKept, IsPlaced}
+use Rattle.smil_outline.specs.Branches.{differs, serial_of, is_known, AreAlike, AreKnown, IsOfBuilder, IsPlaced}
 use Rattle.smil_model.specs.declared.order.Refusal.{Refusal}
 use Rattle.smil_model.specs.document.Document.{is_class_kind}
 use Rattle.smil_model.specs.document.Valid.{same_test}
@@ -207,7 +207,7 @@ read_on [] line start before after h e =
 read_on (first ∷ lines) line start before after h e = on_ok (with_line start first) lines (lines ++ line ∷ []) before after (λ o k. read_on lines line o before after k e) h
 
 -- one more node keeps what is true of a builder
-pub kept_with : (now : Outline) (d : ℕ) (n : Node) (line : List ℕ) → IsKept now → d ≤ length now.branch → IsPlaced now d n → length now.nodes < NODES → with_line now line ≡ Ok (with_node now d n) → IsKept (with_node now d n)
+pub kept_with : (now : Outline) (d : ℕ) (n : Node) (line : List ℕ) → IsOfBuilder now → d ≤ length now.branch → IsPlaced now d n → length now.nodes < NODES → with_line now line ≡ Ok (with_node now d n) → IsOfBuilder (with_node now d n)
 kept_with now d n line h near placed few reads =
     let known : is_known now.nodes n.parent ≡ true = ap (is_known now.nodes) placed.parent ∙ parent_known now.nodes now.branch d h.alike in
     record {
@@ -218,17 +218,17 @@ kept_with now d n line h near placed few reads =
     }
 
 -- the same of the parts of a builder that a node was put into
-pub kept_put : (inside now : Outline) (d : ℕ) (n : Node) (nodes : List Node) (branch : List (ℕ × Kind)) → inside ≡ now → nodes ≡ inside.nodes ++ n ∷ [] → branch ≡ take d inside.branch ++ (n.serial, n.kind) ∷ [] → IsKept (with_node now d n)
-    → IsKept (record { nodes = nodes; branch = branch; next = inside.next })
+pub kept_put : (inside now : Outline) (d : ℕ) (n : Node) (nodes : List Node) (branch : List (ℕ × Kind)) → inside ≡ now → nodes ≡ inside.nodes ++ n ∷ [] → branch ≡ take d inside.branch ++ (n.serial, n.kind) ∷ [] → IsOfBuilder (with_node now d n)
+    → IsOfBuilder (record { nodes = nodes; branch = branch; next = inside.next })
 kept_put inside now d n nodes branch same more longer h =
     let all : with_node now d n ≡ record { nodes = nodes; branch = branch; next = inside.next } =
     ap (λ (o : Outline). with_node o d n) (sym same)
     ∙ ap (λ (ns : List Node). record { nodes = ns; branch = take d inside.branch ++ (n.serial, n.kind) ∷ []; next = inside.next }) (sym more)
     ∙ ap (λ (b : List (ℕ × Kind)). record { nodes = nodes; branch = b; next = inside.next }) (sym longer) in
-    subst IsKept all h
+    subst IsOfBuilder all h
 
 -- and so does a header
-pub kept_headed : (now : Outline) (next : ℕ) (line : List ℕ) → IsKept now → with_line now line ≡ Ok (record now { next = Some next }) → IsKept (record now { next = Some next })
+pub kept_headed : (now : Outline) (next : ℕ) (line : List ℕ) → IsOfBuilder now → with_line now line ≡ Ok (record now { next = Some next }) → IsOfBuilder (record now { next = Some next })
 kept_headed now next line h reads = record {
   few = h.few;
   read = (h.read.0 ++ line ∷ [], read_on h.read.0 line no_lines now (record now { next = Some next }) h.read.1 reads);

@@ -418,7 +418,7 @@ class_fits in_seq k attrs class id none higher lower name.Lower = present attr.L
 
 -- an element
 
-record Valued (in_seq : Bool) (attrs : Attrs) : Type 0 where
+record HasValues (in_seq : Bool) (attrs : Attrs) : Type 0 where
   begin : absent_or (is_begin in_seq) attrs.begin ≡ true
   dur : absent_or is_dur attrs.dur ≡ true
   end_list : absent_or is_list attrs.«end» ≡ true
@@ -435,7 +435,7 @@ record Valued (in_seq : Bool) (attrs : Attrs) : Type 0 where
   attribute_name : absent_or is_attribute_name attrs.attribute_name ≡ true
   to : absent_or is_kept_text attrs.to ≡ true
 
-valued : (in_seq : Bool) (attrs : Attrs) → are_element_values in_seq attrs ≡ true → Valued in_seq attrs
+valued : (in_seq : Bool) (attrs : Attrs) → are_element_values in_seq attrs ≡ true → HasValues in_seq attrs
 valued in_seq attrs h =
     let p_to = and_parts _ (absent_or is_kept_text attrs.to) h in
     let p_name = and_parts _ (absent_or is_attribute_name attrs.attribute_name) p_to.0 in
@@ -471,7 +471,7 @@ had_endsync false true h e = absurd cc
 had_endsync false false h e = absurd cc
 
 -- a set has no media, and what a set has no other element has
-record Parted (k : Kind) (attrs : Attrs) : Type 0 where
+record IsParted (k : Kind) (attrs : Attrs) : Type 0 where
   src : is_some attrs.src ≡ true → (not (is_class_kind k) && not (is_set_kind k)) ≡ true
   region : is_some attrs.region ≡ true → (not (is_class_kind k) && not (is_set_kind k)) ≡ true
   alt : is_some attrs.alt ≡ true → (not (is_class_kind k) && not (is_set_kind k)) ≡ true
@@ -483,9 +483,9 @@ never : {P : Type 0} (t : Bool) → t ≡ false → t ≡ true → P
 never true f e = absurd cc
 never false f e = absurd cc
 
-parted : (k : Kind) (attrs : Attrs) → is_class_kind k ≡ false → not (cond (is_set_kind k) (has_media_attrs attrs) (has_set_attrs attrs)) ≡ true → Parted k attrs
+parted : (k : Kind) (attrs : Attrs) → is_class_kind k ≡ false → not (cond (is_set_kind k) (has_media_attrs attrs) (has_set_attrs attrs)) ≡ true → IsParted k attrs
 parted k attrs class h =
-    cond_both (is_set_kind k) (has_media_attrs attrs) (has_set_attrs attrs) (λ t. not t ≡ true → Parted k attrs)
+    cond_both (is_set_kind k) (has_media_attrs attrs) (has_set_attrs attrs) (λ t. not t ≡ true → IsParted k attrs)
     (λ set e.
     let p_alt = or_parts _ (is_some attrs.alt) (not-true _ e) in
     let p_src = or_parts (is_some attrs.src) (is_some attrs.region) p_alt.0 in
@@ -497,7 +497,7 @@ parted k attrs class h =
     record { src = λ t. media; region = λ t. media; alt = λ t. media; target_element = never _ p_target.0; attribute_name = never _ p_target.1; to = never _ p_to.1 })
     h
 
-element_fits : (in_seq : Bool) (k : Kind) (attrs : Attrs) → is_class_kind k ≡ false → absent_or is_id attrs.id ≡ true → Classless attrs → Valued in_seq attrs → (has_endsync k || not (is_some attrs.endsync)) ≡ true → Parted k attrs → AreInRange in_seq k attrs
+element_fits : (in_seq : Bool) (k : Kind) (attrs : Attrs) → is_class_kind k ≡ false → absent_or is_id attrs.id ≡ true → Classless attrs → HasValues in_seq attrs → (has_endsync k || not (is_some attrs.endsync)) ≡ true → IsParted k attrs → AreInRange in_seq k attrs
 element_fits in_seq k attrs class id none values endsync apart name.Id = present attr.Id is_id in_seq true (λ x h. h) attrs.id id (λ e. refl)
 element_fits in_seq k attrs class id none values endsync apart name.Begin = present attr.Begin (is_begin in_seq) in_seq (not (is_class_kind k)) (λ x h. h) attrs.begin values.begin (λ e. not_from_false _ class)
 element_fits in_seq k attrs class id none values endsync apart name.Dur = present attr.Dur is_dur in_seq (not (is_class_kind k)) (λ x h. h) attrs.dur values.dur (λ e. not_from_false _ class)

@@ -48,21 +48,21 @@ goes : {A : Type 0} (t : Bool) (e : Refusal) (r : Result A Refusal) (x : A) → 
 goes true e r x h = absurd cc
 goes false e r x h = (refl, h)
 
-record Given {A : Type 0} (B : Type 0) (r : Result B NodeFault) (f : B → Result A Refusal) (x : A) : Type 0 where
+record GivesOk {A : Type 0} (B : Type 0) (r : Result B NodeFault) (f : B → Result A Refusal) (x : A) : Type 0 where
   value : B
   is : r ≡ Ok value
   rest : f value ≡ Ok x
 
-given : {A B : Type 0} (spaces : ℕ) (r : Result B NodeFault) (f : B → Result A Refusal) (x : A) → (in_line spaces r >>= f) ≡ Ok x → Given B r f x
+given : {A B : Type 0} (spaces : ℕ) (r : Result B NodeFault) (f : B → Result A Refusal) (x : A) → (in_line spaces r >>= f) ≡ Ok x → GivesOk B r f x
 given spaces (Ok y) f x h = record { value = y; is = refl; rest = h }
 given spaces (Err e) f x h = absurd cc
 
-record Made {A B : Type 0} (r : Result B Refusal) (f : B → Result A Refusal) (x : A) : Type 0 where
+record MakesOk {A B : Type 0} (r : Result B Refusal) (f : B → Result A Refusal) (x : A) : Type 0 where
   value : B
   is : r ≡ Ok value
   rest : f value ≡ Ok x
 
-ok_of : {A B : Type 0} (r : Result B Refusal) (f : B → Result A Refusal) (x : A) → (r >>= f) ≡ Ok x → Made r f x
+ok_of : {A B : Type 0} (r : Result B Refusal) (f : B → Result A Refusal) (x : A) → (r >>= f) ≡ Ok x → MakesOk r f x
 ok_of (Ok y) f x h = record { value = y; is = refl; rest = h }
 ok_of (Err e) f x h = absurd cc
 

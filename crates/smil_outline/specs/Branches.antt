@@ -54,7 +54,7 @@ abbrev pub IsRead : Outline → Type 0
 IsRead outline = (lines : List (List ℕ)) × (with_lines no_lines lines ≡ Ok outline)
 
 -- what is true of the outline of a builder
-pub record IsKept (outline : Outline) : Type 0 where
+pub record IsOfBuilder (outline : Outline) : Type 0 where
   pub few : length outline.nodes ≤ NODES
   pub read : IsRead outline
   pub parents : AreKnown outline.nodes

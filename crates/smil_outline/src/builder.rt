@@ -31,7 +31,7 @@ pub struct Builder {
 }
 
 impl Drop for Builder {
-    // Dropped by a call of its own, so that no function that lets one go drops it field by field.
+    // Dropped by a call of its own, not field by field in each function that drops one.
     fn drop(self) {
         let Builder {
             alloc: _alloc,
@@ -44,13 +44,13 @@ impl Drop for Builder {
 
 impl Model for Builder {
     ghost use Rattle.smil_grammar.specs.Outlines.{Outline};
-    ghost use Rattle.smil_outline.specs.Branches.{IsKept};
+    ghost use Rattle.smil_outline.specs.Branches.{IsOfBuilder};
 
     ghost Value = { Outline };
 
     ghost view = { λ a. record { nodes = a.nodes; branch = a.branch; next = a.next } };
 
-    ghost invariant = { λ a. IsKept (record { nodes = a.nodes; branch = a.branch; next = a.next }) };
+    ghost invariant = { λ a. IsOfBuilder (record { nodes = a.nodes; branch = a.branch; next = a.next }) };
 }
 
 // The kind of a node line of this shape behind so many spaces.

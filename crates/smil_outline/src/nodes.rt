@@ -8,7 +8,7 @@ ghost use Rattle.smil_grammar.specs.Outlines.{has_id as has_id_among};
 
 use super::ids::Ids;
 use super::serials::SerialSet;
-use smil_model::listed::GrowingList;
+use smil_model::growing_list::GrowingList;
 use smil_model::{Attrs, Bytes, Node, REFERENCES, references_in, references_in_list};
 use std::alloc::{AllocError, Global};
 use std::marker::Model;

@@ -9,7 +9,7 @@ use Rattle.smil_outside.specs.declared.line.TheConstants.{INPUT_BYTES}
 use Rattle.smil_outside.specs.declared.line.Line.{Line}
 use Rattle.smil_outside.specs.declared.line.Line.TheVariants.{Bytes, LongLine, End, InputTooLong, ReadFault}
 use Rattle.smil_outside.specs.Lines.{whole_lines, HasNoLineFeed}
-use Rattle.smil_outside.specs.Reading.{Reading, Reads, fresh_reading, within_limit, IsNextLine, Answers, line_count}
+use Rattle.smil_outside.specs.ReaderState.{ReaderState, Reads, fresh_reading, within_limit, IsNextLine, Answers, line_count}
 use Rattle.smil_outside.specs.History.{AreLines, HasAnswered, IsAnswerFor}
 use Rattle.smil_outside.proofs.LineLemmas.{lines-starts, whole_lines-starts, whole_lines-uncut, lines-unended}
 
@@ -33,7 +33,7 @@ take-append n xs ys =
 within_limit-two : (came more : List ℕ) (taken : ℕ) → taken ≡ length came → within_limit 0 (came ++ more) ≡ within_limit 0 came ++ within_limit taken more
 within_limit-two came more taken is = take-append (INPUT_BYTES - 0) came more ∙ ap (λ n. within_limit 0 came ++ take (INPUT_BYTES - n) more) (sym is)
 
-module _ (old new : Reading) (came came' : List ℕ) (answered : List (List ℕ)) (open_before : AreLines None came old.pending answered) (taken : old.taken ≡ length came) where
+module _ (old new : ReaderState) (came came' : List ℕ) (answered : List (List ℕ)) (open_before : AreLines None came old.pending answered) (taken : old.taken ≡ length came) where
   -- the lines of all that came, by those of what isn't answered
   lines_further : (more : List ℕ) → lines (within_limit 0 (came ++ came') ++ more) ≡ answered ++ lines ((old.pending ++ within_limit old.taken came') ++ more)
   lines_further more =
@@ -50,7 +50,7 @@ module _ (old new : Reading) (came came' : List ℕ) (answered : List (List ℕ)
       ∙ ap (λ zs. answered ++ whole_lines zs) (sym (append_assoc old.pending (within_limit old.taken came') more))
 
 -- one call of `next`, before the input's end: the lines that it is for follow those answered before
-pub HasAnswered-next : (old new : Reading) (answer : Line) (before after : Option (List ℕ)) (came : List ℕ) (answered : List (List ℕ)) →
+pub HasAnswered-next : (old new : ReaderState) (answer : Line) (before after : Option (List ℕ)) (came : List ℕ) (answered : List (List ℕ)) →
     HasAnswered old came answered → old.closed ≡ None → (reads : Reads old new answer before after) →
     (these : List (List ℕ)) × IsAnswerFor answer new these × HasAnswered new (came ++ reads.came) (answered ++ these)
 HasAnswered-next old new answer before after came answered has open_before reads = (

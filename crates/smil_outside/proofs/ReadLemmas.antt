@@ -13,7 +13,7 @@ use Rattle.smil_outside.specs.declared.scan.Scan.{Scan}
 use Rattle.smil_outside.specs.declared.scan.Stop.TheVariants.{LineFeed, InputEnd}
 use Rattle.smil_outside.specs.Lines.{HasNoLineFeed, StartsWithLine, IsUnendedLine}
 use Rattle.smil_model.specs.document.Words.{line_feed}
-use Rattle.smil_outside.specs.Reading.{Reading, Reads, within_limit}
+use Rattle.smil_outside.specs.ReaderState.{ReaderState, Reads, within_limit}
 use Rattle.smil_outside.specs.Scan.{Scans, Stops, IsCutFront}
 use Rattle.smil_outside.proofs.ScanLemmas.{HasNoLineFeed-append}
 
@@ -58,13 +58,13 @@ long_line dropped bytes at long inside here =
     omega (arith, long.many, strip_length (dropped ++ take at bytes), length-append dropped (take at bytes), length-take at bytes)
 
 -- what `answer_line` does to a reading
-pub record Counts (old new : Reading) (covers : ℕ) : Type 0 where
+pub record Counts (old new : ReaderState) (covers : ℕ) : Type 0 where
   pub pending : new.pending ≡ drop covers old.pending
   pub taken : new.taken ≡ old.taken
   pub number : new.number ≡ old.number + 1
   pub closed : new.closed ≡ old.closed
 
-pub Counts-from : (old new : Reading) (covers : ℕ) (line : List ℕ) → new ≡ record old { pending = drop covers old.pending; line = line; number = old.number + 1 } → Counts old new covers
+pub Counts-from : (old new : ReaderState) (covers : ℕ) (line : List ℕ) → new ≡ record old { pending = drop covers old.pending; line = line; number = old.number + 1 } → Counts old new covers
 Counts-from old new covers line is = record {
   pending = ap (λ r. r.pending) is;
   taken = ap (λ r. r.taken) is;
@@ -73,7 +73,7 @@ Counts-from old new covers line is = record {
 }
 
 -- a line that ends at a line feed
-pub line_feed_reads : (old mid new : Reading) (answer : Line) (scan : Scan) (rest after : Option (List ℕ)) (at len : ℕ) →
+pub line_feed_reads : (old mid new : ReaderState) (answer : Line) (scan : Scan) (rest after : Option (List ℕ)) (at len : ℕ) →
     Scans old.pending mid.pending old.taken mid.taken scan rest after → Stops (LineFeed at) mid.pending mid.taken after →
     mid.number ≡ old.number → mid.closed ≡ None →
     len ≤ length (take at mid.pending) → take len (take at mid.pending) ≡ strip_carriage_return (take at mid.pending) →
@@ -123,7 +123,7 @@ line_feed_reads old mid new answer scan rest after at len s stops number closed 
         })
 
 -- a last line, which no line feed ends
-pub end_reads : (old mid new : Reading) (answer : Line) (scan : Scan) (rest after : Option (List ℕ)) →
+pub end_reads : (old mid new : ReaderState) (answer : Line) (scan : Scan) (rest after : Option (List ℕ)) →
     Scans old.pending mid.pending old.taken mid.taken scan rest after → Stops InputEnd mid.pending mid.taken after →
     mid.number ≡ old.number → mid.closed ≡ Some ending.End → 0 < length mid.pending →
     (IsTrue scan.is_long ⊎ (LINE_BYTES < length mid.pending) → (answer ≡ LongLine) × (new.line ≡ []) × Counts mid new (length mid.pending)) →

@@ -8,7 +8,7 @@ use Rattle.smil_outside.specs.declared.line.TheConstants.{INPUT_BYTES}
 use Rattle.smil_model.specs.declared.limits.TheConstants.{LINE_BYTES}
 use Rattle.smil_outside.specs.Lines.{HasNoLineFeed}
 use Rattle.smil_model.specs.document.Words.{line_feed}
-use Rattle.smil_outside.specs.Reading.{within_limit}
+use Rattle.smil_outside.specs.ReaderState.{within_limit}
 use Rattle.smil_outside.specs.Scan.{Scans, Stops, IsCutFront}
 use Rattle.smil_outside.specs.Window.{HeldBytes}
 use Rattle.smil_outside.specs.declared.scan.Stop.{Stop}
@@ -31,7 +31,7 @@ HasNoLineFeed-drop n xs h = λ i inside is.
     h (n + i) (omega (arith, length-drop n xs)) (sym (get_or-drop n xs i 0) ∙ is)
 
 -- how far a scan has come: what `Scans` says, before it stops
-pub record Scanning (old bytes : List ℕ) (before taken : ℕ) (is_long : Bool) (scanned : ℕ) (rest now : Option (List ℕ)) : Type 0 where
+pub record ScanState (old bytes : List ℕ) (before taken : ℕ) (is_long : Bool) (scanned : ℕ) (rest now : Option (List ℕ)) : Type 0 where
   pub came : List ℕ
   pub dropped : List ℕ
   pub took : Consumes rest now came
@@ -42,7 +42,7 @@ pub record Scanning (old bytes : List ℕ) (before taken : ℕ) (is_long : Bool)
   pub within : scanned ≤ length bytes
   pub searched : (k : ℕ) → k < scanned → slice_index bytes k ≢ line_feed
 
-pub Scanning-start : (old : List ℕ) (before : ℕ) (rest : Option (List ℕ)) → Scanning old old before before false 0 rest rest
+pub Scanning-start : (old : List ℕ) (before : ℕ) (rest : Option (List ℕ)) → ScanState old old before before false 0 rest rest
 Scanning-start old before rest = record {
   came = [];
   dropped = [];
@@ -74,8 +74,8 @@ long_grows false dropped xs ys more is h = h
 
 -- a read
 pub Scanning-read : (old bytes : List ℕ) (before taken : ℕ) (is_long : Bool) (scanned : ℕ) (rest now after : Option (List ℕ)) (new more : List ℕ) (taken' : ℕ) →
-    Scanning old bytes before taken is_long scanned rest now → taken ≤ INPUT_BYTES → taken' ≡ taken + length more → Consumes now after more →
-    new ≡ bytes ++ take (INPUT_BYTES - taken) more → Scanning old new before taken' is_long scanned rest after
+    ScanState old bytes before taken is_long scanned rest now → taken ≤ INPUT_BYTES → taken' ≡ taken + length more → Consumes now after more →
+    new ≡ bytes ++ take (INPUT_BYTES - taken) more → ScanState old new before taken' is_long scanned rest after
 Scanning-read old bytes before taken is_long scanned rest now after new more taken' s fits counted took is =
     let e : before + length s.came ≡ taken = sym s.counted in
     record {
@@ -98,7 +98,7 @@ Scanning-read old bytes before taken is_long scanned rest now after new more tak
 
 -- a failed read
 pub Scanning-keeps : (old bytes : List ℕ) (before taken : ℕ) (is_long : Bool) (scanned : ℕ) (rest now after : Option (List ℕ)) →
-    Scanning old bytes before taken is_long scanned rest now → Keeps now after → Scanning old bytes before taken is_long scanned rest after
+    ScanState old bytes before taken is_long scanned rest now → Keeps now after → ScanState old bytes before taken is_long scanned rest after
 Scanning-keeps old bytes before taken is_long scanned rest now after s keeps = record {
   came = s.came;
   dropped = s.dropped;
@@ -113,8 +113,8 @@ Scanning-keeps old bytes before taken is_long scanned rest now after s keeps = r
 
 -- the front of a line that is too long is dropped
 drop_front_front : (old bytes new : List ℕ) (before taken : ℕ) (is_long : Bool) (scanned : ℕ) (rest now : Option (List ℕ)) →
-    Scanning old bytes before taken is_long scanned rest now → HasNoLineFeed bytes →
-    LINE_BYTES + 1 < length bytes → new ≡ drop (length bytes - 1) bytes → Scanning old new before taken true (length new) rest now
+    ScanState old bytes before taken is_long scanned rest now → HasNoLineFeed bytes →
+    LINE_BYTES + 1 < length bytes → new ≡ drop (length bytes - 1) bytes → ScanState old new before taken true (length new) rest now
 drop_front_front old bytes new before taken is_long scanned rest now s none long is =
     let n = length bytes - 1 in
     let size : length new ≡ 1 = ap length is ∙ length-drop n bytes ∙ omega arith in
@@ -140,7 +140,7 @@ drop_front_front old bytes new before taken is_long scanned rest now s none long
 
 -- nothing is dropped
 drop_front_nothing : (old bytes new : List ℕ) (before taken : ℕ) (is_long : Bool) (scanned : ℕ) (rest now : Option (List ℕ)) →
-    Scanning old bytes before taken is_long scanned rest now → HasNoLineFeed bytes → new ≡ bytes → Scanning old new before taken is_long (length new) rest now
+    ScanState old bytes before taken is_long scanned rest now → HasNoLineFeed bytes → new ≡ bytes → ScanState old new before taken is_long (length new) rest now
 drop_front_nothing old bytes new before taken is_long scanned rest now s none is = record {
   came = s.came;
   dropped = s.dropped;
@@ -154,9 +154,9 @@ drop_front_nothing old bytes new before taken is_long scanned rest now s none is
 }
 
 pub Scanning-drop_front : (old : List ℕ) (held new : HeldBytes) (before taken : ℕ) (is_long went : Bool) (scanned : ℕ) (rest now : Option (List ℕ)) →
-    Scanning old held.bytes before taken is_long scanned rest now → HasNoLineFeed held.bytes →
+    ScanState old held.bytes before taken is_long scanned rest now → HasNoLineFeed held.bytes →
     MatchBool went ((LINE_BYTES + 1 < length held.bytes) × (new ≡ record { line = []; bytes = drop (length held.bytes - 1) held.bytes })) ((length held.bytes ≤ LINE_BYTES + 1) × (new ≡ held)) →
-    Scanning old new.bytes before taken (is_long || went) (length new.bytes) rest now
+    ScanState old new.bytes before taken (is_long || went) (length new.bytes) rest now
 Scanning-drop_front old held new before taken true false scanned rest now s none is =
     drop_front_nothing old held.bytes new.bytes before taken true scanned rest now s none (ap (λ h. h.bytes) is.1)
 Scanning-drop_front old held new before taken false false scanned rest now s none is =
@@ -168,7 +168,7 @@ Scanning-drop_front old held new before taken false true scanned rest now s none
 
 -- where a scan stops
 pub Scanning-stops : (old bytes : List ℕ) (before taken : ℕ) (is_long : Bool) (scanned : ℕ) (rest now : Option (List ℕ)) (stop : Stop) →
-    Scanning old bytes before taken is_long scanned rest now → Stops stop bytes taken now →
+    ScanState old bytes before taken is_long scanned rest now → Stops stop bytes taken now →
     Scans old bytes before taken (record { stop = stop; is_long = is_long }) rest now
 Scanning-stops old bytes before taken is_long scanned rest now stop s stops = record {
   came = s.came;

@@ -8,7 +8,7 @@ use Rattle.smil_outside.specs.declared.line.Line.TheVariants.{Bytes, LongLine, E
 use Rattle.smil_outside.specs.declared.line.Ending.{Ending}
 use Rattle.smil_outside.specs.declared.line.Ending.TheVariants as ending
 use Rattle.smil_outside.specs.Lines.{whole_lines}
-use Rattle.smil_outside.specs.Reading.{Reading, within_limit}
+use Rattle.smil_outside.specs.ReaderState.{ReaderState, within_limit}
 
 -- `answered` are the lines of the bytes that came, by how the input ended; before its end, they are
 -- the first lines of what came, whatever comes next
@@ -23,13 +23,13 @@ AreLines (Some ending.ReadFault) came pending answered =
     (whole_lines (within_limit 0 came) ≡ answered) × (length came ≤ INPUT_BYTES)
 
 -- the reader has taken `came` in all, and answered these lines
-pub record HasAnswered (reader : Reading) (came : List ℕ) (answered : List (List ℕ)) : Type 0 where
+pub record HasAnswered (reader : ReaderState) (came : List ℕ) (answered : List (List ℕ)) : Type 0 where
   pub taken : reader.taken ≡ length came
   pub numbered : reader.number ≡ length answered
   pub lines : AreLines reader.closed came reader.pending answered
 
 -- the lines that one answer is for: the one that the reader shows, one that is too long to be shown, or none
-abbrev pub IsAnswerFor : Line → Reading → List (List ℕ) → Type 0
+abbrev pub IsAnswerFor : Line → ReaderState → List (List ℕ) → Type 0
 IsAnswerFor Bytes reader answered = (answered ≡ reader.line ∷ []) × (length reader.line ≤ LINE_BYTES)
 IsAnswerFor LongLine reader answered = (line : List ℕ) × (answered ≡ line ∷ []) × (LINE_BYTES < length line)
 IsAnswerFor End reader answered = answered ≡ []

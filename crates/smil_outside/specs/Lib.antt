@@ -1,7 +1,7 @@
 pub mod Faults
 pub mod Memory
 pub mod Lines
-pub mod Reading
+pub mod ReaderState
 pub mod Reader
 pub mod History
 pub mod Scan

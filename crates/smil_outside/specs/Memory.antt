@@ -21,22 +21,22 @@ abbrev pub faulted : Plan → Plan
 faulted plan = record plan { faults = min (plan.faults + 1) last_count }
 
 -- the bytes left, the most that a read gives, and which reads fail
-pub record Giving : Type 0 where
+pub record SourceState : Type 0 where
   pub rest : List ℕ
   pub chunk : ℕ
   pub plan : Plan
 
 -- no read is to fail, and none has failed
-pub record SurelyGives (source : Giving) : Type 0 where
+pub record SurelyGives (source : SourceState) : Type 0 where
   pub told : source.plan.fail_at ≡ []
   pub counted : source.plan.faults ≡ 0
 
 -- the bytes taken, the most that fit, and which writes fail
-pub record Taking : Type 0 where
+pub record SinkState : Type 0 where
   pub taken : List ℕ
   pub room : ℕ
   pub plan : Plan
 
 -- the room that is left, where no write is to fail
-abbrev pub sure_room_of : Taking → ℕ
+abbrev pub sure_room_of : SinkState → ℕ
 sure_room_of sink = if length sink.plan.fail_at == 0 then sink.room - length sink.taken else 0

@@ -3,10 +3,10 @@ use Rattle.std.specs.Prelude.{◌+◌, ◌-◌, ◌≤◌, length}
 use Rattle.smil_outside.specs.declared.line.TheConstants.{INPUT_BYTES}
 use Rattle.smil_outside.specs.declared.window.TheConstants.{WINDOW_BYTES}
 use Rattle.smil_outside.specs.declared.line_reader.LineReader.TheInside.{Inside}
-use Rattle.smil_outside.specs.Reading.{Reading}
+use Rattle.smil_outside.specs.ReaderState.{ReaderState}
 
 -- what is known of it between calls
-abbrev pub reading_in : Inside → Reading
+abbrev pub reading_in : Inside → ReaderState
 reading_in r = record {
   pending = r.window.bytes;
   taken = r.taken;

@@ -8,7 +8,7 @@ use Rattle.smil_outside.specs.declared.scan.Stop.{Stop}
 use Rattle.smil_outside.specs.declared.scan.Stop.TheVariants.{LineFeed, InputEnd, InputTooLong, Fault}
 use Rattle.smil_outside.specs.Lines.{HasNoLineFeed}
 use Rattle.smil_model.specs.document.Words.{line_feed}
-use Rattle.smil_outside.specs.Reading.{within_limit}
+use Rattle.smil_outside.specs.ReaderState.{within_limit}
 
 -- where a scan stopped
 abbrev pub Stops : Stop → List ℕ → ℕ → Option (List ℕ) → Type 0

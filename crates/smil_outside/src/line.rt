@@ -30,7 +30,7 @@ pub(crate) enum Ending {
 }
 
 impl Ending {
-    ghost use Rattle.smil_outside.specs.Reading.{answer_of};
+    ghost use Rattle.smil_outside.specs.ReaderState.{answer_of};
 
     /// The answer once the input has ended so.
     pub(crate) fn answer(self) -> Line

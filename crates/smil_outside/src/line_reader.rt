@@ -27,9 +27,9 @@ pub struct LineReader {
 
 impl Model for LineReader {
     ghost use Rattle.smil_outside.specs.Reader.{reading_in, IsReader};
-    ghost use Rattle.smil_outside.specs.Reading.{Reading};
+    ghost use Rattle.smil_outside.specs.ReaderState.{ReaderState};
 
-    ghost Value = { Reading };
+    ghost Value = { ReaderState };
 
     ghost view = { reading_in };
 
@@ -37,7 +37,7 @@ impl Model for LineReader {
 }
 
 impl LineReader {
-    ghost use Rattle.smil_outside.specs.Reading.{Reads, answer_of, fresh_reading};
+    ghost use Rattle.smil_outside.specs.ReaderState.{Reads, answer_of, fresh_reading};
 
     /// A reader that has read nothing. It takes the memory for its buffer.
     pub fn new(alloc: Global) -> Result<LineReader, AllocError>

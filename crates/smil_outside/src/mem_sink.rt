@@ -20,9 +20,9 @@ pub struct MemSink {
 
 impl Model for MemSink {
     ghost use Rattle.std.specs.Prelude.{◌≤◌, take, vec_len};
-    ghost use Rattle.smil_outside.specs.Memory.{Taking};
+    ghost use Rattle.smil_outside.specs.Memory.{SinkState};
 
-    ghost Value = { Taking };
+    ghost Value = { SinkState };
 
     ghost view = { λ s. record { taken = take s.len s.buffer.items; room = vec_len s.buffer; plan = s.plan } };
 

@@ -24,9 +24,9 @@ pub struct MemSource {
 
 impl Model for MemSource {
     ghost use Rattle.std.specs.Prelude.{◌<◌, ◌≤◌, drop, vec_len};
-    ghost use Rattle.smil_outside.specs.Memory.{Giving};
+    ghost use Rattle.smil_outside.specs.Memory.{SourceState};
 
-    ghost Value = { Giving };
+    ghost Value = { SourceState };
 
     ghost view = { λ s. record { rest = drop s.at s.bytes.items; chunk = s.chunk; plan = s.plan } };
 

@@ -9,8 +9,8 @@ use Rattle.smil_model.specs.document.Document.{elements, is_element, has_serial,
 use Rattle.smil_model.specs.diary.Lawful.{has_element}
 use Rattle.smil_model.specs.diary.Plays.{is_birth_under}
 use Rattle.smil_laws.proofs.Lineages.{swap_eqb}
-use Rattle.smil_past.specs.declared.plays.played.PlayFacts.{PlayFacts}
-use Rattle.smil_past.specs.Rows.{row_of, AreTurned, AreChildrenTaken}
+use Rattle.smil_past.specs.declared.plays.facts.PlayFacts.{PlayFacts}
+use Rattle.smil_past.specs.Rows.{row_of, AreAfterParent, AreChildrenTaken}
 use Rattle.smil_past.specs.Followed.{is_death_under, child_after}
 use Rattle.smil_past.proofs.Rows.{found_any}
 
@@ -48,7 +48,7 @@ same_map None = refl
 same_map (Some r) = refl
 
 -- a step of `who` by which its time children are born, or are left
-pub children_taken : (nodes : List Node) (step : Step) (who : ℕ) (birth : Bool) (old new : List (ℕ × PlayFacts)) → ((p : Node) → is_birth_under (Some p) step ≡ (birth && (who == p.serial))) → ((p : Node) → is_death_under (Some p) step ≡ (not birth && (who == p.serial))) → AreTurned (time_children nodes who) birth old new → AreChildrenTaken nodes step old new
+pub children_taken : (nodes : List Node) (step : Step) (who : ℕ) (birth : Bool) (old new : List (ℕ × PlayFacts)) → ((p : Node) → is_birth_under (Some p) step ≡ (birth && (who == p.serial))) → ((p : Node) → is_death_under (Some p) step ≡ (not birth && (who == p.serial))) → AreAfterParent (time_children nodes who) birth old new → AreChildrenTaken nodes step old new
 children_taken nodes step who birth old new born left are = record {
   same_keys = are.same_keys;
   rows = λ s known.

@@ -18,7 +18,7 @@ use Rattle.smil_laws.specs.Cut.{IsNamedBelow, NamesBelow}
 use Rattle.smil_laws.proofs.Aside.{media_same}
 use Rattle.smil_laws.proofs.Longer.{get_longer, longer_alike}
 use Rattle.smil_laws.proofs.Cutting.{names_weaker}
-use Rattle.smil_past.specs.declared.plays.played.PlayFacts.{PlayFacts}
+use Rattle.smil_past.specs.declared.plays.facts.PlayFacts.{PlayFacts}
 use Rattle.smil_past.specs.Played.{played, all_played}
 use Rattle.smil_instances.specs.SettledTimes.{instances_of, row_of, settled_rows}
 use Rattle.smil_instances.proofs.Logs.{IsSameHeard, kept_grown}

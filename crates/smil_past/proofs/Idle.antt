@@ -9,7 +9,7 @@ use Rattle.smil_model.specs.document.Document.{elements, serials}
 use Rattle.smil_model.specs.diary.Diary.{History, up_to, birth, since_birth, is_alive, deferral, deferral_after}
 use Rattle.smil_model.specs.diary.Plays.{passed, passed_after}
 use Rattle.smil_model.specs.shown.Views.{deferred_begin}
-use Rattle.smil_past.specs.declared.plays.played.PlayFacts.{PlayFacts}
+use Rattle.smil_past.specs.declared.plays.facts.PlayFacts.{PlayFacts}
 use Rattle.smil_past.specs.declared.plays.TheConstants.{IDLE}
 use Rattle.smil_past.specs.Played.{all_played, played}
 use Rattle.smil_past.specs.Rows.{idle_row, keys_of}

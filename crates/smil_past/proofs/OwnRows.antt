@@ -16,8 +16,8 @@ use Rattle.smil_model.specs.diary.Clocks.{outer, to_document, start_of}
 use Rattle.smil_model.specs.diary.Plays.{greater_begin}
 use Rattle.smil_model.specs.interval.Current.{logged_length}
 use Rattle.smil_instances.specs.Contribution.{AreClocksAt}
-use Rattle.smil_past.specs.declared.plays.played.PastInterval.{PastInterval}
-use Rattle.smil_past.specs.declared.plays.played.PlayFacts.{PlayFacts}
+use Rattle.smil_past.specs.declared.plays.facts.PastInterval.{PastInterval}
+use Rattle.smil_past.specs.declared.plays.facts.PlayFacts.{PlayFacts}
 use Rattle.smil_model.specs.reach.Reach.{subject, logged_subject, subject_of}
 use Rattle.smil_past.specs.Rows.{row_of, IsPut, IsOwnTaken}
 use Rattle.smil_past.specs.Followed.{began_row, deferred_row, finished_row, finished_interval, told_by, own_after}

@@ -14,13 +14,13 @@ use Rattle.smil_laws.proofs.Lineages.{swap_eqb}
 use Rattle.smil_laws.proofs.Aside.{map_all}
 use Rattle.smil_laws.proofs.Members.{differ_each}
 use Rattle.smil_laws.proofs.Lists.{each_at}
-use Rattle.smil_excl.specs.declared.held.QueuedChild.{QueuedChild}
-use Rattle.smil_excl.specs.Line.{Line, line_in, ranked}
+use Rattle.smil_excl.specs.declared.queued_child.QueuedChild.{QueuedChild}
+use Rattle.smil_excl.specs.QueueState.{QueueState, line_in, ranked}
 use Rattle.smil_stretch.specs.Clocks.{parent_place}
 use Rattle.smil_stretch.proofs.Placed.{place, IsFound, found_at}
 use Rattle.smil_past.specs.Queues.{HasRoom, lines}
 
-module _ (f g : ℕ → Line) where
+module _ (f g : ℕ → QueueState) where
   changed_there : (ns : List Node) (k : ℕ) (n : Node) → IsDistinct ns → slice_get ns k ≡ Some n → ((e : ℕ) → n.serial == e ≡ false → f e ≡ g e) → set (map (λ (m : Node). f m.serial) ns) k (g n.serial) ≡ map (λ (m : Node). g m.serial) ns
   changed_there [] k n d at same = cc
   changed_there (m ∷ ns) zero n d at same =
@@ -57,7 +57,7 @@ none_there ns s q = by_test (nat_lt (place s ns) (length ns)) refl q
     by_test false e r = none_from s ns e
 
 module _ (nodes : List Node) (queue after : ℕ → List ℕ) where
-  abbrev line : (ℕ → List ℕ) → ℕ → Line
+  abbrev line : (ℕ → List ℕ) → ℕ → QueueState
   line held s = line_in nodes s (held s)
 
   pub lines_same : ((e : ℕ) → queue e ≡ after e) → lines nodes queue ≡ lines nodes after
@@ -74,7 +74,7 @@ module _ (nodes : List Node) (queue after : ℕ → List ℕ) where
       (λ (n : Node) r. ap (line_in nodes n.serial) (same n.serial (swap_eqb n.serial s r)))
 
   -- the queue of the node with this serial is another
-  pub queue_changed : (kept : List Line) (k s : ℕ) (now : Line) → IsDistinct nodes → kept ≡ lines nodes queue → Some k ≡ position (λ (n : Node). n.serial == s) nodes → now ≡ line_in nodes s (after s) → ((e : ℕ) → s == e ≡ false → queue e ≡ after e) → set kept k now ≡ lines nodes after
+  pub queue_changed : (kept : List QueueState) (k s : ℕ) (now : QueueState) → IsDistinct nodes → kept ≡ lines nodes queue → Some k ≡ position (λ (n : Node). n.serial == s) nodes → now ≡ line_in nodes s (after s) → ((e : ℕ) → s == e ≡ false → queue e ≡ after e) → set kept k now ≡ lines nodes after
   queue_changed kept k s now d is q value same =
       let found = node_there nodes k s q in
       ap (λ ls. set ls k now) is
@@ -82,7 +82,7 @@ module _ (nodes : List Node) (queue after : ℕ → List ℕ) where
       ∙ changed_there (line queue) (line after) nodes k found.node d found.at (λ e r. ap (line_in nodes e) (same e (ap (λ x. x == e) (sym found.serial) ∙ r)))
 
 -- the queue of a node
-pub line_there : (nodes : List Node) (queue : ℕ → List ℕ) (kept : List Line) (k s : ℕ) (d : Line) → kept ≡ lines nodes queue → Some k ≡ position (λ (n : Node). n.serial == s) nodes → get_or kept k d ≡ line_in nodes s (queue s)
+pub line_there : (nodes : List Node) (queue : ℕ → List ℕ) (kept : List QueueState) (k s : ℕ) (d : QueueState) → kept ≡ lines nodes queue → Some k ≡ position (λ (n : Node). n.serial == s) nodes → get_or kept k d ≡ line_in nodes s (queue s)
 line_there nodes queue kept k s d is q =
     let found = node_there nodes k s q in
     get_or_from_slice_get kept k (line_in nodes s (queue s)) d
@@ -118,7 +118,7 @@ module _ (nodes : List Node) (who : ℕ) (change : List ℕ → List ℕ) (queue
       by_parent None e r = lines_same nodes queue (joined nodes who change queue) (λ x. others_same x (ap (has_serial x) e))
       by_parent (Some p) e r = queue_absent nodes queue (joined nodes who change queue) p.serial r (λ x s. others_same x (ap (has_serial x) e ∙ s))
 
-  pub child_changed : (kept : List Line) (k : ℕ) (now : Line) (of : IsParent nodes who k) → IsDistinct nodes → kept ≡ lines nodes queue → now ≡ line_in nodes of.parent (change (queue of.parent)) → set kept k now ≡ lines nodes (joined nodes who change queue)
+  pub child_changed : (kept : List QueueState) (k : ℕ) (now : QueueState) (of : IsParent nodes who k) → IsDistinct nodes → kept ≡ lines nodes queue → now ≡ line_in nodes of.parent (change (queue of.parent)) → set kept k now ≡ lines nodes (joined nodes who change queue)
   child_changed kept k now of d is value =
       queue_changed nodes queue (joined nodes who change queue) kept k of.parent now d is of.at
       (value ∙ ap (λ t. line_in nodes of.parent (cond t (change (queue of.parent)) (queue of.parent))) (sym (of.children of.parent ∙ itself of.parent)))
@@ -129,21 +129,21 @@ module _ (nodes : List Node) (who : ℕ) (change : List ℕ → List ℕ) (queue
 
 -- ---- a child is put in
 
-module _ (nodes : List Node) (who k : ℕ) (kept : List Line) (d : Line) (q : Some k ≡ parent_place nodes who) where
+module _ (nodes : List Node) (who k : ℕ) (kept : List QueueState) (d : QueueState) (q : Some k ≡ parent_place nodes who) where
   -- the queue of the time parent has room
   pub room_there : HasRoom kept nodes who → length (get_or kept k d).held < (get_or kept k d).room
   room_there room =
       let of = parent_there nodes who k q in
-      subst (λ (l : Line). length l.held < l.room) (sym (line_there nodes room.queue kept k of.parent d room.value of.at))
+      subst (λ (l : QueueState). length l.held < l.room) (sym (line_there nodes room.queue kept k of.parent d room.value of.at))
       (subst (λ n. n < (line_in nodes of.parent (room.queue of.parent)).room) (sym (length-map (room.queue of.parent) (ranked nodes)))
       (room.room of.parent (of.children of.parent ∙ eq-eqb of.parent of.parent refl)))
 
   -- and what is put in it with its rank is what the model puts in
-  pub put_there : (put : QueuedChild → List QueuedChild → List QueuedChild) (change : List ℕ → List ℕ) → ((queue : List ℕ) → put (ranked nodes who) (map (ranked nodes) queue) ≡ map (ranked nodes) (change queue)) → (r : ℕ) (now : Line) (queue : ℕ → List ℕ) → IsDistinct nodes → kept ≡ lines nodes queue → r ≡ rank nodes who → now ≡ record { held = put (record { who = who; rank = r }) (get_or kept k d).held; room = (get_or kept k d).room } → set kept k now ≡ lines nodes (joined nodes who change queue)
+  pub put_there : (put : QueuedChild → List QueuedChild → List QueuedChild) (change : List ℕ → List ℕ) → ((queue : List ℕ) → put (ranked nodes who) (map (ranked nodes) queue) ≡ map (ranked nodes) (change queue)) → (r : ℕ) (now : QueueState) (queue : ℕ → List ℕ) → IsDistinct nodes → kept ≡ lines nodes queue → r ≡ rank nodes who → now ≡ record { held = put (record { who = who; rank = r }) (get_or kept k d).held; room = (get_or kept k d).room } → set kept k now ≡ lines nodes (joined nodes who change queue)
   put_there put change same r now queue distinct is ranks made =
       let of = parent_there nodes who k q in
       child_changed nodes who change queue kept k now of distinct is
       (made
       ∙ ap (λ r. record { held = put (record { who = who; rank = r }) (get_or kept k d).held; room = (get_or kept k d).room }) ranks
-      ∙ ap (λ (l : Line). record { held = put (ranked nodes who) l.held; room = l.room }) (line_there nodes queue kept k of.parent d is of.at)
+      ∙ ap (λ (l : QueueState). record { held = put (ranked nodes who) l.held; room = l.room }) (line_there nodes queue kept k of.parent d is of.at)
       ∙ ap (λ held. record (line_in nodes of.parent (queue of.parent)) { held = held }) (same (queue of.parent)))

@@ -9,7 +9,7 @@ use Rattle.smil_model.specs.document.Valid.{IsDistinct}
 use Rattle.smil_model.specs.reach.Reach.{is_option}
 use Rattle.smil_laws.proofs.Lineages.{same_eqb}
 use Rattle.smil_instances.specs.Spread.{IsIndex}
-use Rattle.smil_past.specs.declared.plays.played.PlayFacts.{PlayFacts}
+use Rattle.smil_past.specs.declared.plays.facts.PlayFacts.{PlayFacts}
 use Rattle.smil_past.specs.Rows.{row_of, keys_of, IsPut}
 
 abbrev pub Row : Type 0

@@ -12,7 +12,7 @@ use Rattle.smil_model.specs.document.Document.{time_parent}
 use Rattle.smil_model.specs.diary.Diary.{History, active_after, is_active, with_entry}
 use Rattle.smil_model.specs.diary.Lawful.{IsLawful}
 use Rattle.smil_model.specs.diary.Clocks.{outer}
-use Rattle.smil_model.specs.diary.Plays.{Mark, FinishedInterval, Plays, finish_with, play_after, is_birth_under, plays, first_of}
+use Rattle.smil_model.specs.diary.Plays.{PlayEdge, FinishedInterval, Plays, finish_with, play_after, is_birth_under, plays, first_of}
 use Rattle.smil_model.specs.shown.Views.{document_value}
 use Rattle.smil_stretch.proofs.Moments.{EachUntil}
 use Rattle.smil_past.specs.Played.{past_interval}
@@ -115,7 +115,7 @@ module _ (h : History) (s : ℕ) (apart : (p : Node) → time_parent h.nodes s �
 
 -- ---- no mark is later than a moment
 
-abbrev pub IsMarked : ℤ → Option Mark → Type 0
+abbrev pub IsMarked : ℤ → Option PlayEdge → Type 0
 IsMarked m None = Unit {0}
 IsMarked m (Some k) = int_le k.moment m ≡ true
 
@@ -131,7 +131,7 @@ each_more : (m : ℤ) (fs : List FinishedInterval) (f : FinishedInterval) → Al
 each_more m [] f each is = (is, tt)
 each_more m (g ∷ gs) f each is = (each.0, each_more m gs f each.1 is)
 
-finish_until : (m : ℤ) (o : Option Mark) (k : Mark) (cut : Bool) (fs : List FinishedInterval) → IsMarked m o → int_le k.moment m ≡ true → AllByRecursion (IsUntil m) fs → AllByRecursion (IsUntil m) (finish_with o k cut fs)
+finish_until : (m : ℤ) (o : Option PlayEdge) (k : PlayEdge) (cut : Bool) (fs : List FinishedInterval) → IsMarked m o → int_le k.moment m ≡ true → AllByRecursion (IsUntil m) fs → AllByRecursion (IsUntil m) (finish_with o k cut fs)
 finish_until m None k cut fs is le each = each
 finish_until m (Some b) k cut fs is le each = each_more m fs _ each (record { begin = is; finish = le })
 
@@ -176,7 +176,7 @@ plays_until h y s lawful = until_fold h s y.moment no_plays h.diary (each_until 
 -- ---- so what is shown of them stays
 
 module _ (h : History) (y : Entry) (s : ℕ) where
-  pub mark_with : (k : Mark) → int_le k.moment y.moment ≡ true → document_value (with_entry h y) s k ≡ document_value h s k
+  pub mark_with : (k : PlayEdge) → int_le k.moment y.moment ≡ true → document_value (with_entry h y) s k ≡ document_value h s k
   mark_with k le = document_with h y s k.value k.moment le
 
   pub past_with : (f : FinishedInterval) → IsUntil y.moment f → past_interval (with_entry h y) s f ≡ past_interval h s f

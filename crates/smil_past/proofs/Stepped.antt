@@ -17,21 +17,21 @@ use Rattle.smil_model.specs.document.Document.{time_parent}
 use Rattle.smil_model.specs.diary.Diary.{History, active_after, is_active, lives_under, is_alive, since_birth, birth, deferral, deferral_after, with_entry}
 use Rattle.smil_model.specs.diary.Lawful.{IsLawful, has_element, may_begin, is_lawful_step}
 use Rattle.smil_model.specs.diary.Clocks.{outer, to_document, play_start, play_start_after, iteration_start, iteration_start_after}
-use Rattle.smil_model.specs.diary.Plays.{Mark, FinishedInterval, Plays, finish_with, play_after, is_birth_under, plays, first_of, passed, passed_after}
+use Rattle.smil_model.specs.diary.Plays.{PlayEdge, FinishedInterval, Plays, finish_with, play_after, is_birth_under, plays, first_of, passed, passed_after}
 use Rattle.smil_model.specs.interval.Current.{logged_length, length_of, length_after, media_length}
 use Rattle.smil_model.specs.shown.Views.{document_value, deferred_begin, present_begin}
 use Rattle.smil_model.proofs.Orders.{le_self}
 use Rattle.smil_laws.proofs.LawfulSteps.{active_push}
 use Rattle.smil_stretch.proofs.Moments.{EachUntil}
 use Rattle.smil_stretch.proofs.Diaries.{lawful_last}
-use Rattle.smil_past.specs.declared.plays.played.PastInterval.{PastInterval}
+use Rattle.smil_past.specs.declared.plays.facts.PastInterval.{PastInterval}
 use Rattle.smil_past.specs.Played.{past_interval, played}
 use Rattle.smil_past.specs.Followed.{is_death_under, begun_after, shown_begun_after, finished_interval, interval_finished_by, shown_deferred_after, told_by, told_after, none_if, row_after}
 use Rattle.smil_past.proofs.Clocked.{document_with, start_with, each_until, each_drop, fold_with}
 use Rattle.smil_past.proofs.Since.{since_hit, since_miss}
 use Rattle.smil_past.proofs.Shown.{plays_with, present_then, finished_then, active_is, plays_until, IsMarked, IsUntil, AreUntil, mark_with, past_with, first_with, last_with, last_more}
 
-abbrev value_of : Mark → ℤ
+abbrev value_of : PlayEdge → ℤ
 value_of m = m.value
 
 module _ (h : History) (y : Entry) (s : ℕ) (lawful : IsLawful (with_entry h y)) (apart : (p : Node) → time_parent h.nodes s ≡ Some p → p.serial == s ≡ false) where
@@ -79,7 +79,7 @@ module _ (h : History) (y : Entry) (s : ℕ) (lawful : IsLawful (with_entry h y)
   shown_of : (k : History) → ((p : Node) → time_parent k.nodes s ≡ Some p → p.serial == s ≡ false) → present_begin k s ≡ option_map (document_value k s) (plays k s).present
   shown_of k far = by_present (plays k s).present (is_active k.diary s) (active_is k s far)
     where
-      by_present : (o : Option Mark) (a : Bool) → is_some o ≡ a → cond a (option_map (document_value k s) o) None ≡ option_map (document_value k s) o
+      by_present : (o : Option PlayEdge) (a : Bool) → is_some o ≡ a → cond a (option_map (document_value k s) o) None ≡ option_map (document_value k s) o
       by_present None true q = refl
       by_present None false q = refl
       by_present (Some m) true q = refl
@@ -91,7 +91,7 @@ module _ (h : History) (y : Entry) (s : ℕ) (lawful : IsLawful (with_entry h y)
       same : option_map (document_value (with_entry h y) s) b.present ≡ option_map (document_value h s) b.present
       same = by_mark b.present is
         where
-          by_mark : (o : Option Mark) → IsMarked y.moment o → option_map (document_value (with_entry h y) s) o ≡ option_map (document_value h s) o
+          by_mark : (o : Option PlayEdge) → IsMarked y.moment o → option_map (document_value (with_entry h y) s) o ≡ option_map (document_value h s) o
           by_mark None i = refl
           by_mark (Some k) i = ap Some (mark_with h y s k i)
 
@@ -181,12 +181,12 @@ module _ (h : History) (y : Entry) (s : ℕ) (lawful : IsLawful (with_entry h y)
   abbrev past_then : FinishedInterval → PastInterval
   past_then = past_interval (with_entry h y) s
 
-  close_first : (o : Option Mark) → IsMarked y.moment o → (v : ℤ) (cut : Bool) (fs : List FinishedInterval) → AllByRecursion (IsUntil y.moment) fs → option_map past_then (first_of (finish_with o (record { value = v; moment = y.moment }) cut fs)) ≡ option_or (option_map past_now (first_of fs)) (finished_interval h s y.moment v cut (option_map value_of o) (option_map (document_value h s) o))
+  close_first : (o : Option PlayEdge) → IsMarked y.moment o → (v : ℤ) (cut : Bool) (fs : List FinishedInterval) → AllByRecursion (IsUntil y.moment) fs → option_map past_then (first_of (finish_with o (record { value = v; moment = y.moment }) cut fs)) ≡ option_or (option_map past_now (first_of fs)) (finished_interval h s y.moment v cut (option_map value_of o) (option_map (document_value h s) o))
   close_first None is v cut fs each = first_with h y s fs each ∙ sym (or_none (option_map past_now (first_of fs)))
   close_first (Some k) is v cut [] each = ap Some (past_with h y s (record { begin = k; finish = record { value = v; moment = y.moment }; was_cut = cut }) (record { begin = is; finish = le_self y.moment }))
   close_first (Some k) is v cut (f ∷ fs) each = ap Some (past_with h y s f each.0)
 
-  close_last : (o : Option Mark) → IsMarked y.moment o → (v : ℤ) (cut : Bool) (fs : List FinishedInterval) → AllByRecursion (IsUntil y.moment) fs → option_map past_then (last_or None (finish_with o (record { value = v; moment = y.moment }) cut fs)) ≡ option_or (finished_interval h s y.moment v cut (option_map value_of o) (option_map (document_value h s) o)) (option_map past_now (last_or None fs))
+  close_last : (o : Option PlayEdge) → IsMarked y.moment o → (v : ℤ) (cut : Bool) (fs : List FinishedInterval) → AllByRecursion (IsUntil y.moment) fs → option_map past_then (last_or None (finish_with o (record { value = v; moment = y.moment }) cut fs)) ≡ option_or (finished_interval h s y.moment v cut (option_map value_of o) (option_map (document_value h s) o)) (option_map past_now (last_or None fs))
   close_last None is v cut fs each = last_with h y s fs each
   close_last (Some k) is v cut fs each =
       ap (option_map past_then) (last_more None fs (record { begin = k; finish = record { value = v; moment = y.moment }; was_cut = cut }))

@@ -9,7 +9,7 @@ use Rattle.smil_model.specs.diary.Diary.{History, with_entry}
 use Rattle.smil_laws.proofs.Ancestry.{below_none, parent_apart}
 use Rattle.smil_laws.proofs.Numbered.{ordered}
 use Rattle.smil_stretch.specs.declared.clock.NodeClock.{NodeClock}
-use Rattle.smil_past.specs.declared.plays.played.PlayFacts.{PlayFacts}
+use Rattle.smil_past.specs.declared.plays.facts.PlayFacts.{PlayFacts}
 use Rattle.smil_past.specs.Played.{played, all_played}
 use Rattle.smil_past.specs.Rows.{row_of, keys_of, IsOwnTaken, AreChildrenTaken}
 use Rattle.smil_past.specs.Followed.{own_after, child_step, IsEntryAfter}

@@ -12,14 +12,14 @@ use Rattle.smil_model.specs.document.Document.{node_at, time_children}
 use Rattle.smil_model.specs.diary.Diary.{History, is_active, is_paused}
 use Rattle.smil_model.specs.diary.Lawful.{has_element, is_lawful_step, may_begin}
 use Rattle.smil_model.specs.happening.Queue.{is_child_of, put_paused, put_deferred, queue_after, queue_of, without}
-use Rattle.smil_excl.specs.Line.{Line}
+use Rattle.smil_excl.specs.QueueState.{QueueState}
 use Rattle.smil_excl.proofs.Waiting.{left_is, has_room}
 use Rattle.smil_model.specs.diary.Diary.{with_entry}
 use Rattle.smil_past.specs.Queues.{HasRoom, MayTakeIn, with_deferred, without_children, without_child, lines, with_paused, queues_after}
 use Rattle.smil_past.proofs.Listing.{known_node}
 use Rattle.smil_past.proofs.Placing.{lines_same}
 
-pub lines_long : (nodes : List Node) (queue : ℕ → List ℕ) (kept : List Line) → kept ≡ lines nodes queue → length kept ≡ length nodes
+pub lines_long : (nodes : List Node) (queue : ℕ → List ℕ) (kept : List QueueState) → kept ≡ lines nodes queue → length kept ≡ length nodes
 lines_long nodes queue kept is = ap length is ∙ length-map nodes _
 
 -- ---- the element of a step
@@ -30,7 +30,7 @@ Leaves who step = (step ≡ Resumed who) ⊎ (((x : ℤ) × (step ≡ Ended who 
 abbrev pub Stays : Step → Type 0
 Stays step = ((who : ℕ) × (begin : ℤ) × (step ≡ Passed who begin)) ⊎ ((place : ℕ) × (step ≡ Logged place))
 
-module _ (kept : List Line) (nodes : List Node) (step : Step) (h : History) (may : MayTakeIn kept nodes step h) where
+module _ (kept : List QueueState) (nodes : List Node) (step : Step) (h : History) (may : MayTakeIn kept nodes step h) where
   lawful_as : (other : Step) → step ≡ other → is_lawful_step h other ≡ true
   lawful_as other is = ap (is_lawful_step h) (sym is) ∙ may.step_lawful
 
@@ -70,10 +70,10 @@ module _ (kept : List Line) (nodes : List Node) (step : Step) (h : History) (may
       subst (λ q. length q < length (time_children nodes e)) (sym (all_left who e))
       (subst (λ (ns : List Node). is_child_of ns e who ≡ true → length (without who (queue_of h e)) < length (time_children ns e)) may.same_nodes (has_room h e who may.lawful known) child)
 
-  pub paused_room : (who : ℕ) (now : List Line) → step ≡ Paused who → now ≡ lines nodes (without_child nodes who (queue_of h)) → HasRoom now nodes who
+  pub paused_room : (who : ℕ) (now : List QueueState) → step ≡ Paused who → now ≡ lines nodes (without_child nodes who (queue_of h)) → HasRoom now nodes who
   paused_room who now is value = record { queue = without_child nodes who (queue_of h); value = value; room = room_for who (paused_element who is) }
 
-  pub deferred_room : (who : ℕ) (begin : ℤ) (now : List Line) → step ≡ Deferred who begin → now ≡ lines nodes (without_child nodes who (queue_of h)) → HasRoom now nodes who
+  pub deferred_room : (who : ℕ) (begin : ℤ) (now : List QueueState) → step ≡ Deferred who begin → now ≡ lines nodes (without_child nodes who (queue_of h)) → HasRoom now nodes who
   deferred_room who begin now is value = record { queue = without_child nodes who (queue_of h); value = value; room = room_for who (deferred_element who begin is) }
 
   -- ---- what each step makes

@@ -5,8 +5,8 @@ use Rattle.std.specs.List.{list_any}
 use Rattle.std.proofs.lemmas.List.Folds.{list_any_more}
 use Rattle.std.proofs.lemmas.Option.{get_or_from_slice_get}
 use Rattle.smil_model.specs.declared.document.Node.{Node}
-use Rattle.smil_past.specs.declared.plays.played.PlayFacts.{PlayFacts}
-use Rattle.smil_past.specs.Rows.{row_of, IsTurned, AreTurned}
+use Rattle.smil_past.specs.declared.plays.facts.PlayFacts.{PlayFacts}
+use Rattle.smil_past.specs.Rows.{row_of, IsAfterParent, AreAfterParent}
 use Rattle.smil_past.specs.Followed.{child_after}
 
 twice : (b : Bool) (o : Option PlayFacts) → option_map (child_after b (not b)) (option_map (child_after b (not b)) o) ≡ option_map (child_after b (not b)) o
@@ -15,7 +15,7 @@ twice false None = refl
 twice true (Some r) = refl
 twice false (Some r) = refl
 
-pub turned_more : (kids : List Node) (k serial : ℕ) (b : Bool) (old cur new : List (ℕ × PlayFacts)) (n : Node) → slice_get kids k ≡ Some n → n.serial ≡ serial → k < length kids → AreTurned (take k kids) b old cur → IsTurned serial b cur new → AreTurned (take (k + 1) kids) b old new
+pub turned_more : (kids : List Node) (k serial : ℕ) (b : Bool) (old cur new : List (ℕ × PlayFacts)) (n : Node) → slice_get kids k ≡ Some n → n.serial ≡ serial → k < length kids → AreAfterParent (take k kids) b old cur → IsAfterParent serial b cur new → AreAfterParent (take (k + 1) kids) b old new
 turned_more kids k serial b old cur new n at is less are turn = record {
   same_keys = turn.same_keys ∙ are.same_keys;
   rows = λ s.

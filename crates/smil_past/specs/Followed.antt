@@ -16,8 +16,8 @@ use Rattle.smil_model.specs.diary.Plays.{is_birth_under, passed_after}
 use Rattle.smil_model.specs.interval.Current.{length_of, length_after}
 use Rattle.smil_stretch.specs.declared.clock.NodeClock.{NodeClock}
 use Rattle.smil_stretch.specs.Clocks.{AreClocksOf}
-use Rattle.smil_past.specs.declared.plays.played.PastInterval.{PastInterval}
-use Rattle.smil_past.specs.declared.plays.played.PlayFacts.{PlayFacts}
+use Rattle.smil_past.specs.declared.plays.facts.PastInterval.{PastInterval}
+use Rattle.smil_past.specs.declared.plays.facts.PlayFacts.{PlayFacts}
 
 -- an end or a cut of the time parent
 abbrev pub is_death_under : Option Node → Step → Bool

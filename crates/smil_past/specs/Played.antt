@@ -5,11 +5,11 @@ use Rattle.smil_model.specs.declared.document.Node.{Node}
 use Rattle.smil_model.specs.document.Document.{elements, node_at}
 use Rattle.smil_model.specs.diary.Diary.{History, deferral, with_entry}
 use Rattle.smil_model.specs.diary.Clocks.{play_start, iteration_start}
-use Rattle.smil_model.specs.diary.Plays.{Mark, FinishedInterval, plays, first_of, last_finished, passed}
+use Rattle.smil_model.specs.diary.Plays.{PlayEdge, FinishedInterval, plays, first_of, last_finished, passed}
 use Rattle.smil_model.specs.interval.Current.{media_length}
 use Rattle.smil_model.specs.shown.Views.{document_value, deferred_begin, present_begin}
-use Rattle.smil_past.specs.declared.plays.played.PastInterval.{PastInterval}
-use Rattle.smil_past.specs.declared.plays.played.PlayFacts.{PlayFacts}
+use Rattle.smil_past.specs.declared.plays.facts.PastInterval.{PastInterval}
+use Rattle.smil_past.specs.declared.plays.facts.PlayFacts.{PlayFacts}
 
 -- a finished interval: its begin and its finish on the time parent's clock, both in document time, and whether it was cut
 abbrev pub past_interval : History → ℕ → FinishedInterval → PastInterval
@@ -24,7 +24,7 @@ past_interval h serial f = record {
 -- what is kept of an element
 abbrev pub played : History → ℕ → PlayFacts
 played h serial = record {
-  begun = option_map (λ (m : Mark). m.value) (plays h serial).present;
+  begun = option_map (λ (m : PlayEdge). m.value) (plays h serial).present;
   shown_begun = present_begin h serial;
   first = play_start h serial;
   start = iteration_start h serial;

@@ -9,11 +9,11 @@ use Rattle.smil_model.specs.document.Document.{Document, time_children}
 use Rattle.smil_model.specs.diary.Diary.{History}
 use Rattle.smil_model.specs.diary.Lawful.{IsLawful, is_lawful_step}
 use Rattle.smil_model.specs.happening.Queue.{queue_of, queue_after, class_facts, is_child_of, without, put_paused, put_deferred}
-use Rattle.smil_excl.specs.Line.{Line, line_in}
+use Rattle.smil_excl.specs.QueueState.{QueueState, line_in}
 use Rattle.smil_model.specs.diary.Diary.{with_entry}
 
 -- the queues of all nodes, in document order; only those of excls are ever filled in a resolved diary
-abbrev pub lines : List Node → (ℕ → List ℕ) → List Line
+abbrev pub lines : List Node → (ℕ → List ℕ) → List QueueState
 lines nodes queue = map (λ (n : Node). line_in nodes n.serial (queue n.serial)) nodes
 
 -- the classes of all nodes, in document order
@@ -22,7 +22,7 @@ classes_in nodes = map (λ (n : Node). class_facts nodes n.serial) nodes
 
 -- what is kept of a document
 pub record KeptQueues : Type 0 where
-  pub queues : List Line
+  pub queues : List QueueState
   pub classes : List Class
 
 abbrev pub kept_queues : History → KeptQueues
@@ -45,7 +45,7 @@ unplayed nodes log = record { nodes = nodes; log = log; diary = [] }
 -- ---- the queue of each element, by its serial, after a part of a step
 
 -- whatever the queues were, they are what the change makes of them
-abbrev pub AreTurned : List Line → List Line → List Node → ((ℕ → List ℕ) → ℕ → List ℕ) → Type 0
+abbrev pub AreTurned : List QueueState → List QueueState → List Node → ((ℕ → List ℕ) → ℕ → List ℕ) → Type 0
 AreTurned old new nodes change = (queue : ℕ → List ℕ) → old ≡ lines nodes queue → new ≡ lines nodes (change queue)
 
 -- the queue of this element is emptied
@@ -66,7 +66,7 @@ with_deferred nodes who queue serial = if is_child_of nodes serial who then put_
     (queue serial) else queue serial
 
 -- the queues of a document in which there is room for the element
-pub record HasRoom (kept : List Line) (nodes : List Node) (who : ℕ) : Type 0 where
+pub record HasRoom (kept : List QueueState) (nodes : List Node) (who : ℕ) : Type 0 where
   pub queue : ℕ → List ℕ
   pub value : kept ≡ lines nodes queue
   pub room : (serial : ℕ) → is_child_of nodes serial who ≡ true
@@ -77,7 +77,7 @@ abbrev pub queues_after : List Node → (ℕ → List ℕ) → Step → ℕ → 
 queues_after nodes queue step serial = queue_after nodes serial (queue serial) step
 
 -- the queues of a lawful history of these nodes, in which this step is lawful
-pub record MayTakeIn (kept : List Line) (nodes : List Node) (step : Step) (h : History) : Type 0 where
+pub record MayTakeIn (kept : List QueueState) (nodes : List Node) (step : Step) (h : History) : Type 0 where
   pub same_nodes : h.nodes ≡ nodes
   pub value : kept ≡ lines nodes (queue_of h)
   pub lawful : IsLawful h

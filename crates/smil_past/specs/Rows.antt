@@ -6,7 +6,7 @@ use Rattle.smil_model.specs.declared.diary.Step.{Step}
 use Rattle.smil_model.specs.declared.document.Node.{Node}
 use Rattle.smil_model.specs.diary.Diary.{History}
 use Rattle.smil_model.specs.diary.Lawful.{has_element}
-use Rattle.smil_past.specs.declared.plays.played.PlayFacts.{PlayFacts}
+use Rattle.smil_past.specs.declared.plays.facts.PlayFacts.{PlayFacts}
 use Rattle.smil_past.specs.declared.plays.TheConstants.{IDLE}
 use Rattle.smil_past.specs.Followed.{own_after, child_after, child_step}
 
@@ -37,12 +37,12 @@ abbrev pub turned : Bool → Bool → Option PlayFacts → Option PlayFacts
 turned turns birth row = if turns then option_map (child_after birth (not birth)) row else row
 
 -- the row of one element after a birth, or else an end, of its time parent
-pub record IsTurned (who : ℕ) (birth : Bool) (before after : List (ℕ × PlayFacts)) : Type 0 where
+pub record IsAfterParent (who : ℕ) (birth : Bool) (before after : List (ℕ × PlayFacts)) : Type 0 where
   pub same_keys : keys_of after ≡ keys_of before
   pub rows : (s : ℕ) → row_of after s ≡ turned (who == s) birth (row_of before s)
 
 -- each row of one of these nodes after a birth, or else an end, of their time parent
-pub record AreTurned (nodes : List Node) (birth : Bool) (before after : List (ℕ × PlayFacts)) : Type 0 where
+pub record AreAfterParent (nodes : List Node) (birth : Bool) (before after : List (ℕ × PlayFacts)) : Type 0 where
   pub same_keys : keys_of after ≡ keys_of before
   pub rows : (s : ℕ) → row_of after s
       ≡ turned (list_any (λ (n : Node). n.serial == s) nodes) birth (row_of before s)

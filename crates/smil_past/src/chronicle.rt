@@ -22,7 +22,7 @@ pub struct Chronicle {
 }
 
 impl Drop for Chronicle {
-    // Dropped by a call of its own, so that no function that lets one go drops it field by field.
+    // Dropped by a call of its own, not field by field in each function that drops one.
     fn drop(self) {
         let Chronicle {
             book: _book,

@@ -40,7 +40,7 @@ pub struct Past {
 }
 
 impl Drop for Past {
-    // Dropped by a call of its own, so that no function that lets one go drops it field by field.
+    // Dropped by a call of its own, not field by field in each function that drops one.
     fn drop(self) {
         let Past {
             tree: _tree,

@@ -8,14 +8,14 @@ ghost use Rattle.smil_past.specs.declared.plays.TheConstants.{IDLE};
 ghost use Rattle.smil_model.specs.Times.{IsMoment};
 ghost use Rattle.smil_laws.specs.Near.{HasNear};
 ghost use Rattle.smil_past.specs.Played.{TakesIn, all_played, played_at};
-ghost use Rattle.smil_past.specs.Rows.{AreChildrenTaken, AreTurned, IsOwnTaken, IsPut, IsTurned, idle_row, row_of};
+ghost use Rattle.smil_past.specs.Rows.{AreChildrenTaken, AreAfterParent, IsOwnTaken, IsPut, IsAfterParent, idle_row, row_of};
 ghost use Rattle.smil_instances.specs.Contribution.{AreClocksAt};
 ghost use Rattle.smil_past.specs.Followed.{IsEntryAfter, MayBeTaken};
 
-pub mod played;
+pub mod facts;
 mod row;
 
-pub use played::{PastInterval, PlayFacts};
+pub use facts::{PastInterval, PlayFacts};
 use row::{OwnEntry, child, own_row};
 use smil_instances::elements::{elements, places_of};
 use smil_instances::{DocumentHistory, subject};
@@ -46,7 +46,7 @@ pub struct Plays {
 }
 
 impl Drop for Plays {
-    // Dropped by a call of its own, so that no function that lets one go drops it field by field.
+    // Dropped by a call of its own, not field by field in each function that drops one.
     fn drop(self) {
         let Plays {
             places: _places,
@@ -60,7 +60,7 @@ impl Model for Plays {
     ghost use Rattle.std.specs.HashMap.{get};
     ghost use Rattle.smil_instances.specs.Spread.{IsIndex};
     ghost use Rattle.smil_past.specs.Rows.{keys_of};
-    ghost use Rattle.smil_past.specs.declared.plays.played.PlayFacts.{PlayFacts as AnyPlayed};
+    ghost use Rattle.smil_past.specs.declared.plays.facts.PlayFacts.{PlayFacts as AnyPlayed};
 
     ghost Value = { List (ℕ × AnyPlayed) };
 
@@ -173,7 +173,7 @@ impl Plays {
 
     // Takes in a birth, or else an end, of the time children of an element.
     fn turn_children(&mut self, tree: &Tree, who: u32, birth: bool)
-        ensures { AreTurned (time_children tree.now.nodes who) birth self.old self.new }
+        ensures { AreAfterParent (time_children tree.now.nodes who) birth self.old self.new }
     {
         for child in tree.time_children(who) {
             self.turn(*child, birth);
@@ -182,7 +182,7 @@ impl Plays {
 
     // Takes in a birth, or else an end, of the time parent of an element.
     fn turn(&mut self, who: u32, birth: bool)
-        ensures { IsTurned who birth self.old self.new }
+        ensures { IsAfterParent who birth self.old self.new }
     {
         let Some(row) = self.row(who) else {
             return;

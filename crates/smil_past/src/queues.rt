@@ -29,7 +29,7 @@ pub struct Queues {
 }
 
 impl Drop for Queues {
-    // Dropped by a call of its own, so that no function that lets one go drops it field by field.
+    // Dropped by a call of its own, not field by field in each function that drops one.
     fn drop(self) {
         let Queues {
             queues: _queues,

@@ -24,7 +24,7 @@ pub struct Readings {
 }
 
 impl Drop for Readings {
-    // Dropped by a call of its own, so that no function that lets one go drops it field by field.
+    // Dropped by a call of its own, not field by field in each function that drops one.
     fn drop(self) {
         let Readings {
             clocks: _clocks,

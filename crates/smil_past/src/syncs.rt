@@ -12,7 +12,7 @@ mod lists;
 pub mod row;
 
 use lists::Reader;
-use row::Row;
+use row::SyncbaseRow;
 use smil_graph::Graph;
 use smil_instances::Dependents;
 pub use smil_instances::Syncbase;
@@ -26,11 +26,11 @@ use std::marker::Model;
 /// What the items of each element of a document wait for, in document order.
 pub struct Syncs {
     places: HashMap<u32, usize>,
-    rows: Vec<Row>,
+    rows: Vec<SyncbaseRow>,
 }
 
 impl Drop for Syncs {
-    // Dropped by a call of its own, so that no function that lets one go drops it field by field.
+    // Dropped by a call of its own, not field by field in each function that drops one.
     fn drop(self) {
         let Syncs {
             places: _places,
@@ -91,7 +91,7 @@ fn place_of(places: &HashMap<u32, usize>, who: u32) -> Option<usize>
 }
 
 // A side of the row at a place; it is empty where there is none.
-fn side_at(rows: &[Row], place: usize, side: Edge) -> &[Syncbase]
+fn side_at(rows: &[SyncbaseRow], place: usize, side: Edge) -> &[Syncbase]
     ensures { result.now ≡ side_in side (slice_get rows.now place) }
 {
     match rows.get(place) {
@@ -101,7 +101,7 @@ fn side_at(rows: &[Row], place: usize, side: Edge) -> &[Syncbase]
 }
 
 // The rows of the elements.
-fn rows_of(reader: &Reader, tree: &Tree, whos: &[u32]) -> Result<Vec<Row>, AllocError>
+fn rows_of(reader: &Reader, tree: &Tree, whos: &[u32]) -> Result<Vec<SyncbaseRow>, AllocError>
     requires graph { reader.now.graph.now.nodes ≡ tree.now.nodes }
     requires dependents { AreDependentsOf tree.now.nodes reader.now.dependents.now }
     requires whos { whos.now ≡ serials (elements tree.now.nodes) }
@@ -116,7 +116,7 @@ fn rows_of(reader: &Reader, tree: &Tree, whos: &[u32]) -> Result<Vec<Row>, Alloc
 }
 
 // The row of the element at a place, by its serial.
-fn row_of(reader: &Reader, tree: &Tree, place: usize, who: u32) -> Result<Row, AllocError>
+fn row_of(reader: &Reader, tree: &Tree, place: usize, who: u32) -> Result<SyncbaseRow, AllocError>
     requires graph { reader.now.graph.now.nodes ≡ tree.now.nodes }
     requires dependents { AreDependentsOf tree.now.nodes reader.now.dependents.now }
     requires known { IsSome (node_at tree.now.nodes who) }
@@ -124,7 +124,7 @@ fn row_of(reader: &Reader, tree: &Tree, place: usize, who: u32) -> Result<Row, A
         → node_at tree.now.nodes who ≡ Some e → row ≡ sync_row tree.now.nodes e) }
 {
     let attrs = tree.attrs(who);
-    Ok(Row {
+    Ok(SyncbaseRow {
         serial: who,
         begins: reader.begin_syncs(place, who, &attrs.begin)?,
         ends: reader.end_syncs(place, who, &attrs.end)?,

@@ -10,13 +10,13 @@ use std::alloc::AllocError;
 
 /// A moment, and the clocks of the elements that stand or run at it.
 #[derive(Clone, Copy)]
-pub struct Present<'a> {
+pub struct PlayMoment<'a> {
     pub clocks: &'a Clocks,
     pub moment: i64,
 }
 
 /// The clocks of elements.
-pub fn put_clocks(out: &mut Bytes, present: &Present<'_>, whos: &[u32]) -> Result<(), AllocError>
+pub fn put_clocks(out: &mut Bytes, present: &PlayMoment<'_>, whos: &[u32]) -> Result<(), AllocError>
     requires { IsMoment present.now.moment }
 {
     let mut before = whos.first().copied().unwrap_or(0);
@@ -31,13 +31,13 @@ pub fn put_clocks(out: &mut Bytes, present: &Present<'_>, whos: &[u32]) -> Resul
 // latter in document time, and what that clock shows where that of the element before shows 7.
 fn put_clock(
     out: &mut Bytes,
-    present: &Present<'_>,
+    present: &PlayMoment<'_>,
     who: u32,
     before: u32,
 ) -> Result<(), AllocError>
     requires { IsMoment present.now.moment }
 {
-    let Present { clocks, moment } = *present;
+    let PlayMoment { clocks, moment } = *present;
     put_number(out, who)?;
     put_number(out, clocks.run(who, moment))?;
     put_number(out, clocks.outer(who, moment))?;
@@ -52,7 +52,7 @@ fn put_clock(
 pub fn put_instances(
     out: &mut Bytes,
     instances: &Instances,
-    present: &Present<'_>,
+    present: &PlayMoment<'_>,
     whos: &[u32],
 ) -> Result<(), AllocError>
     requires { IsMoment present.now.moment }

@@ -1,14 +1,14 @@
 //! Presentations that are played, whose clocks and instance times are told.
 
 ghost use Rattle.std.specs.Prelude.{◌≡◌, ◌<◌, ◌+ℤ◌, pos, true, false, None, IfOk, OnOk};
-ghost use Rattle.smil_cells.specs.Standing.{NothingBefore};
+ghost use Rattle.smil_cells.specs.CellsState.{NothingBefore};
 ghost use Rattle.smil_model.specs.Times.{IsMoment};
 ghost use Rattle.smil_model.specs.diary.Logs.{is_serial, may_happen};
 ghost use Rattle.smil_model.specs.document.Valid.{IsValid};
 ghost use Rattle.smil_model.specs.shown.Answers.{IsGiven};
 
 use super::documents::document;
-use super::moments::{Present, put_clocks, put_instances};
+use super::moments::{PlayMoment, put_clocks, put_instances};
 use super::orders::{lines_of, order_of, outline_and_orders};
 use smil_cases::{Fault, Words, put_bytes, put_flag, put_number};
 use smil_cells::PlainCells;
@@ -162,14 +162,14 @@ fn tell_clocks(alloc: Global, out: &mut Bytes, cells: &PlainCells) -> Result<(),
     let moment = moment_of(cells)?;
     let whos = elements(alloc, cells.tree())?;
     let mut shown = Bytes::new(alloc);
-    let kept = Present {
+    let kept = PlayMoment {
         clocks: cells.clocks(),
         moment,
     };
     put_clocks(&mut shown, &kept, &whos)?;
     let mut again = Bytes::new(alloc);
     let clocks = clocks_anew(alloc, cells.past())?;
-    let anew = Present {
+    let anew = PlayMoment {
         clocks: &clocks,
         moment,
     };
@@ -203,7 +203,7 @@ fn tell_times(alloc: Global, out: &mut Bytes, cells: &PlainCells) -> Result<(), 
     let moment = moment_of(cells)?;
     let whos = elements(alloc, cells.tree())?;
     let past = cells.past();
-    let present = Present {
+    let present = PlayMoment {
         clocks: past.clocks(),
         moment,
     };

@@ -2,8 +2,8 @@
 use Rattle.std.proofs.Common.{◌≡◌, refl, ap, ℕ, suc, ◌≤◌, List, [], ◌∷◌, length, Bool, true, false}
 use Rattle.std.specs.Prelude.{nat_lt, nat_le, not, ◌==◌, if◌then◌else◌}
 use Rattle.smil_interval.proofs.Ordered.{shorter}
-use Rattle.smil_excl.specs.declared.held.QueuedChild.{QueuedChild}
-use Rattle.smil_excl.specs.Line.{paused_before, deferred_after, without}
+use Rattle.smil_excl.specs.declared.queued_child.QueuedChild.{QueuedChild}
+use Rattle.smil_excl.specs.QueueState.{paused_before, deferred_after, without}
 
 pub paused_longer : (child : QueuedChild) (held : List QueuedChild) → length (paused_before child held) ≡ suc (length held)
 paused_longer child [] = refl

@@ -34,7 +34,7 @@ pub struct Revision<'a> {
 
 /// The begin or the end list of an element in a graph, with the number of its items.
 #[derive(Clone, Copy)]
-struct Side<'a> {
+struct ItemList<'a> {
     graph: &'a Graph,
     serial: u32,
     edge: Edge,
@@ -139,14 +139,14 @@ fn loops(alloc: Global, document: GraphedDocument<'_>, serial: u32) -> Result<Ve
     let Some((begins, ends)) = item_counts(document.tree, serial) else {
         return Ok(marks);
     };
-    let begin = Side {
+    let begin = ItemList {
         graph: document.graph,
         serial,
         edge: Edge::Begin,
         count: begins,
     };
     push_marks(begin, &mut marks)?;
-    let end = Side {
+    let end = ItemList {
         graph: document.graph,
         serial,
         edge: Edge::End,
@@ -157,7 +157,7 @@ fn loops(alloc: Global, document: GraphedDocument<'_>, serial: u32) -> Result<Ve
 }
 
 // Appends which items of one side of an element are looped references.
-fn push_marks(side: Side<'_>, marks: &mut Vec<bool>) -> Result<(), AllocError>
+fn push_marks(side: ItemList<'_>, marks: &mut Vec<bool>) -> Result<(), AllocError>
     requires counted { (e : AnyNode)
         × (node_at (elements side.graph.now.nodes) side.serial ≡ Some e)
         × (side.count ≡ length (items_of side.graph.now.nodes side.edge e)) }

@@ -34,11 +34,11 @@
 mod listing;
 mod numbers;
 mod pieces;
+mod reporting_sink;
 mod serving;
 mod session;
-mod telling;
 mod turns;
-mod waiting;
+mod waiting_source;
 
 use listing::Listing;
 use smil_model::Bytes;

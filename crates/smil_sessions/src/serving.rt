@@ -3,10 +3,10 @@
 ghost use Rattle.std.specs.Prelude.{◌≡◌, ◌<◌};
 
 use super::pieces::{Pieces, ROOM};
+use super::reporting_sink::ReportingSink;
 use super::session::{Input, Session};
-use super::telling::Telling;
 use super::turns::Turns;
-use super::waiting::Waiting;
+use super::waiting_source::WaitingSource;
 use smil_model::{Bytes, Steps, WordList};
 use smil_outside::{MemSink, MemSource, Sink, Source};
 use smil_top::{Call, Status, serve};
@@ -50,8 +50,8 @@ fn serve_turns(
     told: &mut Bytes,
 ) -> Result<Status, AllocError> {
     let taken = Cell::new(0);
-    let mut source = Waiting::new(turns, &taken);
-    let mut sink = Telling {
+    let mut source = WaitingSource::new(turns, &taken);
+    let mut sink = ReportingSink {
         sink: MemSink::new(alloc, ROOM, &[])?,
         taken: &taken,
     };

@@ -9,7 +9,7 @@ use Rattle.smil_model.specs.declared.diary.LogEntry.{LogEntry}
 use Rattle.smil_model.specs.declared.diary.Step.TheVariants.{Logged}
 use Rattle.smil_model.specs.declared.limits.TheConstants.{DIARY_ENTRIES}
 use Rattle.smil_model.specs.diary.Logs.{is_logged_by}
-use Rattle.smil_model.specs.happening.Keys.{Coming, coming, first_coming, is_due}
+use Rattle.smil_model.specs.happening.Keys.{DueChange, coming, first_coming, is_due}
 use Rattle.smil_model.specs.happening.Groups.{group}
 use Rattle.smil_model.specs.happening.Resolution.{Course, Progress, outset, history_at, after_quiet, after_settling, after_coming, next_step, after_steps, Reaches, resolved, diary_of}
 use Rattle.smil_laws.specs.Courses.{heard_by}
@@ -44,7 +44,7 @@ module _ (c : Course) (p : Progress) where
   abbrev hears : Progress
   hears = record { moment = p.moment; heard = suc p.heard; diary = p.diary ++ record { moment = pos p.moment; step = Logged p.heard } ∷ [] }
 
-  abbrev happens : Coming → Progress
+  abbrev happens : DueChange → Progress
   happens x = record { moment = p.moment; heard = p.heard; diary = p.diary ++ group (history_at c p) (pos p.moment) x.key.serial x.change }
 
   record Silent : Type 0 where
@@ -71,12 +71,12 @@ module _ (c : Course) (p : Progress) where
 
   record Still : Type 0 where
     silent : Silent
-    coming : (next : Coming) → first_coming (coming (history_at c p) (pos p.moment)) ≡ Some next → is_due (pos p.moment) next.key ≡ false
+    coming : (next : DueChange) → first_coming (coming (history_at c p) (pos p.moment)) ≡ Some next → is_due (pos p.moment) next.key ≡ false
 
   still : next_step c p ≡ None → Still
   still ended = by_coming (first_coming (coming (history_at c p) (pos p.moment))) refl ended
     where
-      by_coming : (o : Option Coming) → first_coming (coming (history_at c p) (pos p.moment)) ≡ o → after_coming c p o ≡ None → Still
+      by_coming : (o : Option DueChange) → first_coming (coming (history_at c p) (pos p.moment)) ≡ o → after_coming c p o ≡ None → Still
       by_coming None f e = record { silent = silent_log (slice_get c.log p.heard) refl e; coming = λ next g. let never : None ≡ Some next = sym f ∙ g in cc }
       by_coming (Some x) f e = by_test (is_due (pos p.moment) x.key) refl e
         where
@@ -115,7 +115,7 @@ pub record IsEnded (c : Course) (d : List Entry) : Type 0 where
   pub ended : next_step c at ≡ None
   pub heard : at.heard ≤ length c.log
   pub unheard : (entry : LogEntry) → slice_get c.log at.heard ≡ Some entry → int_le entry.moment (pos c.last) ≡ false
-  pub coming : (next : Coming) → first_coming (coming (history_at c at) (pos c.last)) ≡ Some next → is_due (pos c.last) next.key ≡ false
+  pub coming : (next : DueChange) → first_coming (coming (history_at c at) (pos c.last)) ≡ Some next → is_due (pos c.last) next.key ≡ false
 
 made : (c : Course) (p : Progress) (d : List Entry) → Reaches c p → Rests c p → p.diary ≡ d → length p.diary ≤ DIARY_ENTRIES → IsEnded c d
 made c p d reached rest same few =
@@ -130,7 +130,7 @@ made c p d reached rest same few =
       ended = rest.ended;
       heard = rest.heard;
       unheard = subst (λ (m : ℕ). (entry : LogEntry) → slice_get c.log p.heard ≡ Some entry → int_le entry.moment (pos m) ≡ false) there quiet.silent.log;
-      coming = subst (λ (m : ℕ). (next : Coming) → first_coming (coming (history_at c p) (pos m)) ≡ Some next → is_due (pos m) next.key ≡ false) there quiet.coming;
+      coming = subst (λ (m : ℕ). (next : DueChange) → first_coming (coming (history_at c p) (pos m)) ≡ Some next → is_due (pos m) next.key ≡ false) there quiet.coming;
     }
 
 pub has_ended : (c : Course) (d : List Entry) → diary_of c ≡ Some d → IsEnded c d
@@ -140,7 +140,7 @@ has_ended c d e =
     (rests c (resolved c) DIARY_ENTRIES (suc (DIARY_ENTRIES + c.last)) (omega arith) refl both.1) both.0 both.1
 
 -- nothing comes up to the last moment
-pub nothing_due : (c : Course) (d : List Entry) → diary_of c ≡ Some d → (next : Coming) → first_coming (coming (record { nodes = c.nodes; log = c.log; diary = d }) (pos c.last)) ≡ Some next → (pos c.last +ℤ pos 1) ≤ℤ next.key.value
+pub nothing_due : (c : Course) (d : List Entry) → diary_of c ≡ Some d → (next : DueChange) → first_coming (coming (record { nodes = c.nodes; log = c.log; diary = d }) (pos c.last)) ≡ Some next → (pos c.last +ℤ pos 1) ≤ℤ next.key.value
 nothing_due c d e next f =
     let end = has_ended c d e in
     after (pos c.last) next.key.value

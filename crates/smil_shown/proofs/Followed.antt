@@ -14,7 +14,7 @@ use Rattle.smil_model.specs.declared.view.Shown.TheVariants as shown
 use Rattle.smil_model.specs.diary.Clocks.{outer, to_document}
 use Rattle.smil_model.specs.diary.Diary.{History, last_moment, with_entry}
 use Rattle.smil_model.specs.diary.Lawful.{IsLawful}
-use Rattle.smil_model.specs.diary.Plays.{FinishedInterval, Mark, Plays, finish_with, play_after}
+use Rattle.smil_model.specs.diary.Plays.{FinishedInterval, PlayEdge, Plays, finish_with, play_after}
 use Rattle.smil_model.specs.shown.Histories.{ShownInterval as ToldInterval, all_plays, told_finished}
 use Rattle.smil_model.specs.shown.Views.{document_value}
 use Rattle.smil_model.proofs.Orders.{le_self, le_from}
@@ -52,7 +52,7 @@ all_until h y s lawful = until_fold h s y.moment (record { present = None; finis
 abbrev lines : History → ℕ → Who → List FinishedInterval → List ℕ
 lines h s name fs = flat_map (told_line name) (map (told_finished h s) fs)
 
-abbrev shown_mark : History → ℕ → Option Mark → Option ℤ
+abbrev shown_mark : History → ℕ → Option PlayEdge → Option ℤ
 shown_mark h s o = option_map (document_value h s) o
 
 module _ (h : History) (y : Entry) (s : ℕ) (name : Who) where
@@ -67,7 +67,7 @@ module _ (h : History) (y : Entry) (s : ℕ) (name : Who) where
       ap (λ (t : ToldInterval). told_line name t ++ lines (with_entry h y) s name fs) (told_with f each.0)
       ∙ ap (λ l. told_line name (told_finished h s f) ++ l) (lines_with fs each.1)
 
-mark_kept : (h : History) (y : Entry) (s : ℕ) (o : Option Mark) → IsMarked y.moment o → shown_mark (with_entry h y) s o ≡ shown_mark h s o
+mark_kept : (h : History) (y : Entry) (s : ℕ) (o : Option PlayEdge) → IsMarked y.moment o → shown_mark (with_entry h y) s o ≡ shown_mark h s o
 mark_kept h y s None is = refl
 mark_kept h y s (Some k) is = ap Some (mark_with h y s k is)
 
@@ -97,7 +97,7 @@ module _ (h : History) (s : ℕ) (m : ℤ) where
   begin_step b (Passed who begin) = refl
   begin_step b (Logged place) = refl
 
-finish_lines : (h : History) (s : ℕ) (name : Who) (o : Option Mark) (k : Mark) (cut : Bool) (fs : List FinishedInterval) → lines h s name (finish_with o k cut fs) ≡ lines h s name fs ++ finish_line name (shown_mark h s o) (document_value h s k) (if cut then how.Cut else how.Ended)
+finish_lines : (h : History) (s : ℕ) (name : Who) (o : Option PlayEdge) (k : PlayEdge) (cut : Bool) (fs : List FinishedInterval) → lines h s name (finish_with o k cut fs) ≡ lines h s name fs ++ finish_line name (shown_mark h s o) (document_value h s k) (if cut then how.Cut else how.Ended)
 finish_lines h s name None k cut fs = sym (append-nil (lines h s name fs))
 finish_lines h s name (Some b) k cut fs =
     let f : FinishedInterval = record { begin = b; finish = k; was_cut = cut } in

@@ -16,7 +16,7 @@ use Rattle.smil_laws.specs.Courses.{ReachedIsPast}
 use Rattle.smil_laws.specs.Near.{AllNear, IntervalsAreNear, IsIntervalNear}
 use Rattle.smil_past.specs.Past.{MarkedHistory, IsPresent}
 use Rattle.smil_past.specs.Past as past_of
-use Rattle.smil_cells.specs.Standing.{Standing, IsSettled, history_of}
+use Rattle.smil_cells.specs.CellsState.{CellsState, IsSettled, history_of}
 use Rattle.smil_shown.proofs.Ended.{IsEnded, has_ended}
 
 from_first : (n : ℕ) → pos 0 ≤ℤ pos n
@@ -27,7 +27,7 @@ pub within_horizon : (p : Presentation) → IsState p → pos p.now ≤ℤ HORIZ
 within_horizon p state = le_from (pos p.now) HORIZON state.now
 
 -- no entry is later than the present moment
-pub present_is : (s : Standing) (past : MarkedHistory) → ReachedIsPast → IsState s.presentation → IsSettled s → past_of.history_of past ≡ history_of s → IsPresent past (pos s.presentation.now)
+pub present_is : (s : CellsState) (past : MarkedHistory) → ReachedIsPast → IsState s.presentation → IsSettled s → past_of.history_of past ≡ history_of s → IsPresent past (pos s.presentation.now)
 present_is s past law state settled same = record {
   past_is =
       subst (λ (l : List Entry). until (pos s.presentation.now) l ≡ l) (sym (ap (λ (h : History). h.diary) same))

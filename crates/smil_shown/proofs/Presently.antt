@@ -14,7 +14,7 @@ use Rattle.smil_model.specs.declared.view.Shown.TheVariants as shown
 use Rattle.smil_model.specs.document.Document.{Document, elements}
 use Rattle.smil_model.specs.diary.Clocks.{outer, outer_stands, until}
 use Rattle.smil_model.specs.diary.Diary.{History, last_moment, up_to}
-use Rattle.smil_model.specs.diary.Plays.{Mark}
+use Rattle.smil_model.specs.diary.Plays.{PlayEdge}
 use Rattle.smil_model.specs.interval.Current.{current_interval, in_table, interval_given, table}
 use Rattle.smil_model.specs.happening.Resolution.{diary_of}
 use Rattle.smil_model.specs.shown.Histories.{all_plays, intervals_of, told_finished, told_present}
@@ -70,7 +70,7 @@ intervals_text h now e name =
     flat_map-append (told_line name) (map (told_finished h e.serial) (all_plays h e.serial).finished) (option_to_list (option_map (told_present h now e) (all_plays h e.serial).present))
     ∙ ap (λ t. finished_text h e.serial name ++ t) (by (all_plays h e.serial).present)
   where
-    by : (o : Option Mark) → flat_map (told_line name) (option_to_list (option_map (told_present h now e) o)) ≡ present_line name (option_map (document_value h e.serial) o) (end_at h now e)
+    by : (o : Option PlayEdge) → flat_map (told_line name) (option_to_list (option_map (told_present h now e) o)) ≡ present_line name (option_map (document_value h e.serial) o) (end_at h now e)
     by None = refl
     by (Some b) = append-nil (told_line name (told_present h now e b))
 

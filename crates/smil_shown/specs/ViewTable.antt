@@ -7,15 +7,15 @@ use Rattle.smil_model.specs.document.Document.{node_at}
 use Rattle.smil_model.specs.shown.Orders.{view_eq, view_before}
 use Rattle.smil_model.specs.shown.Views.{blank}
 use Rattle.smil_laws.specs.Same.{view_at}
-use Rattle.smil_cells.specs.Standing.{Standing, history_of}
+use Rattle.smil_cells.specs.CellsState.{CellsState, history_of}
 
 -- the views in document order, and those that `back` gives, with each noted view in its place
-pub record Shown : Type 0 where
+pub record ViewLists : Type 0 where
   pub views : List View
   pub before : List View
 
 -- the view of an element by the diary so far
-abbrev pub view_now : Standing → Node → View
+abbrev pub view_now : CellsState → Node → View
 view_now s e = view_at (history_of s) (pos s.presentation.now) e
 
 -- a view in the place of that of the same element
@@ -50,7 +50,7 @@ abbrev pub AreOf : List Node → List View → Type 0
 AreOf nodes views = All (λ (v : View). IsSome (node_at nodes v.serial)) views
 
 -- the views with one put in its place
-abbrev pub with_view : Shown → View → Shown
+abbrev pub with_view : ViewLists → View → ViewLists
 with_view shown view = record { views = put_in shown.views view; before = shown.before }
 
 -- whether a view differs from that of the same element

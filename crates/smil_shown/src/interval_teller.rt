@@ -25,7 +25,7 @@ pub struct IntervalTeller {
 }
 
 impl Drop for IntervalTeller {
-    // Dropped by a call of its own, so that no function that lets one go drops it field by field.
+    // Dropped by a call of its own, not field by field in each function that drops one.
     fn drop(self) {
         let IntervalTeller {
             who: _who,

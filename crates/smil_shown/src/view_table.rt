@@ -5,7 +5,7 @@ ghost use Rattle.smil_model.specs.declared.document.Node.{Node as AnyNode};
 ghost use Rattle.smil_model.specs.document.Document.{elements, node_at};
 ghost use Rattle.smil_model.specs.shown.Orders.{IsState};
 ghost use Rattle.smil_model.specs.shown.Views.{blank};
-ghost use Rattle.smil_cells.specs.Standing.{IsSettled};
+ghost use Rattle.smil_cells.specs.CellsState.{IsSettled};
 ghost use Rattle.smil_shown.specs.ShownViews.{views_at};
 ghost use Rattle.smil_shown.specs.ViewTable.{differs, has_view, view_in as view_among, view_now, with_view};
 
@@ -28,7 +28,7 @@ pub struct ViewTable {
 }
 
 impl Drop for ViewTable {
-    // Dropped by a call of its own, so that no function that lets one go drops it field by field.
+    // Dropped by a call of its own, not field by field in each function that drops one.
     fn drop(self) {
         let ViewTable {
             rows: _rows,
@@ -41,7 +41,7 @@ impl Drop for ViewTable {
 impl Model for ViewTable {
     ghost use Rattle.std.specs.Prelude.{nat_eq};
     ghost use Rattle.std.specs.HashMap.{get};
-    ghost use Rattle.smil_shown.specs.ViewTable.{Shown as AnyShown, AreAt, put_back};
+    ghost use Rattle.smil_shown.specs.ViewTable.{ViewLists as AnyShown, AreAt, put_back};
 
     ghost Value = { AnyShown };
 

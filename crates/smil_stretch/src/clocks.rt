@@ -33,7 +33,7 @@ pub struct Clocks {
 }
 
 impl Drop for Clocks {
-    // Dropped by a call of its own, so that no function that lets one go drops it field by field.
+    // Dropped by a call of its own, not field by field in each function that drops one.
     fn drop(self) {
         let Clocks {
             places: _places,

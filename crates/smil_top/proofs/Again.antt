@@ -3,7 +3,7 @@ use Rattle.std.proofs.Common.{◌≡◌, ◌<◌, ◌≤◌, ℕ, suc, Bool, tru
 use Rattle.std.specs.Prelude.{map, filter, flat_map, codes, nat_le, if◌then◌else◌}
 use Rattle.std.proofs.lemmas.Bool.{le-leb, lt-leb}
 use Rattle.std.proofs.lemmas.List.{append-nil}
-use Rattle.smil_top.specs.Cut.{NumberedLine, LoadLines, OrderLines, single, load, Cut, opens, ends, is_silent, cut_by, with_line, cut_further, cut_of, unended, orders}
+use Rattle.smil_top.specs.Cut.{NumberedLine, LoadLines, OrderLines, single, load, CutLines, opens, ends, is_silent, cut_by, with_line, cut_further, cut_of, unended, orders}
 use Rattle.smil_top.specs.Laws.{numbered_by, renumbered, lines_of}
 
 -- ---- lines that rise
@@ -14,7 +14,7 @@ Nodes low [] high = low ≤ high
 Nodes low (line ∷ lines) high = (ends line.text ≡ false) × (is_silent line.text ≡ false) × (low < line.number) × Nodes line.number lines high
 
 -- the lines of a load
-record Opened (low : ℕ) (lines : LoadLines) (high : ℕ) : Type 0 where
+record IsOpened (low : ℕ) (lines : LoadLines) (high : ℕ) : Type 0 where
   head : opens lines.head.text ≡ true
   above : low < lines.head.number
   nodes : Nodes lines.head.number lines.nodes high
@@ -23,18 +23,18 @@ record Opened (low : ℕ) (lines : LoadLines) (high : ℕ) : Type 0 where
 abbrev Chain : ℕ → List OrderLines → ℕ → Type 0
 Chain low [] high = low ≤ high
 Chain low (single line ∷ others) high = (opens line.text ≡ false) × (is_silent line.text ≡ false) × (low < line.number) × Chain line.number others high
-Chain low (load lines (Some end_line) ∷ others) high = ((last : ℕ) × Opened low lines last × (last < end_line)) × Chain end_line others high
-Chain low (load lines None ∷ []) high = Opened low lines high
+Chain low (load lines (Some end_line) ∷ others) high = ((last : ℕ) × IsOpened low lines last × (last < end_line)) × Chain end_line others high
+Chain low (load lines None ∷ []) high = IsOpened low lines high
 Chain low (load lines None ∷ next ∷ others) high = ⊥
 
 nodes_le : (low : ℕ) (lines : List NumberedLine) (high : ℕ) → Nodes low lines high → low ≤ high
 nodes_le low [] high h = h
 nodes_le low (line ∷ lines) high h = omega (arith, h.2, nodes_le line.number lines high h.3)
 
-opened_le : (low : ℕ) (lines : LoadLines) (high : ℕ) → Opened low lines high → low ≤ high
+opened_le : (low : ℕ) (lines : LoadLines) (high : ℕ) → IsOpened low lines high → low ≤ high
 opened_le low lines high h = omega (arith, h.above, nodes_le lines.head.number lines.nodes high h.nodes)
 
-opened_lower : (lower low : ℕ) (lines : LoadLines) (high : ℕ) → lower ≤ low → Opened low lines high → Opened lower lines high
+opened_lower : (lower low : ℕ) (lines : LoadLines) (high : ℕ) → lower ≤ low → IsOpened low lines high → IsOpened lower lines high
 opened_lower lower low lines high le h = record { head = h.head; above = omega (arith, le, h.above); nodes = h.nodes }
 
 chain_lower : (lower low : ℕ) (all : List OrderLines) (high : ℕ) → lower ≤ low → Chain low all high → Chain lower all high
@@ -82,7 +82,7 @@ nodes_higher low (line ∷ lines) high higher le h = (h.0, h.1, h.2, nodes_highe
 abbrev Whole : ℕ → List OrderLines → ℕ → Type 0
 Whole low [] high = low ≤ high
 Whole low (single line ∷ others) high = (opens line.text ≡ false) × (is_silent line.text ≡ false) × (low < line.number) × Whole line.number others high
-Whole low (load lines (Some end_line) ∷ others) high = ((last : ℕ) × Opened low lines last × (last < end_line)) × Whole end_line others high
+Whole low (load lines (Some end_line) ∷ others) high = ((last : ℕ) × IsOpened low lines last × (last < end_line)) × Whole end_line others high
 Whole low (load lines None ∷ others) high = ⊥
 
 whole_then : (low : ℕ) (all : List OrderLines) (high : ℕ) (more : List OrderLines) (higher : ℕ) → Whole low all high → Chain high more higher → Chain low (all ++ more) higher
@@ -104,7 +104,7 @@ whole_single low (single first ∷ others) high line h o s more = (h.0, h.1, h.2
 whole_single low (load lines (Some end_line) ∷ others) high line h o s more = (h.0, whole_single end_line others high line h.1 o s more)
 whole_single low (load lines None ∷ others) high line h o s more = elim h [ ]
 
-whole_load : (low : ℕ) (all : List OrderLines) (high : ℕ) (lines : LoadLines) (last end_line : ℕ) → Whole low all high → Opened high lines last → last < end_line
+whole_load : (low : ℕ) (all : List OrderLines) (high : ℕ) (lines : LoadLines) (last end_line : ℕ) → Whole low all high → IsOpened high lines last → last < end_line
     → Whole low (all ++ load lines (Some end_line) ∷ []) end_line
 whole_load low [] high lines last end_line h k more = ((last, opened_lower low high lines last h k, more), omega arith)
 whole_load low (single first ∷ others) high lines last end_line h k more = (h.0, h.1, h.2, whole_load first.number others high lines last end_line h.3 k more)
@@ -114,10 +114,10 @@ whole_load low (load first None ∷ others) high lines last end_line h k more = 
 -- a cut, by the load that hasn't ended
 abbrev Fine : Option LoadLines → List OrderLines → ℕ → Type 0
 Fine None whole count = Whole 0 whole count
-Fine (Some lines) whole count = (high : ℕ) × Whole 0 whole high × Opened high lines count
+Fine (Some lines) whole count = (high : ℕ) × Whole 0 whole high × IsOpened high lines count
 
 outside_fine : (whole : List OrderLines) (count : ℕ) (line : NumberedLine) → Whole 0 whole count → count < line.number → (o s : Bool) → opens line.text ≡ o → is_silent line.text ≡ s
-    → let cut : Cut = if o then record { count = line.number; whole = whole; «open» = Some (record { head = line; nodes = [] }) }
+    → let cut : CutLines = if o then record { count = line.number; whole = whole; «open» = Some (record { head = line; nodes = [] }) }
     else (if s then record { count = line.number; whole = whole; «open» = None } else record { count = line.number; whole = whole ++ single line ∷ []; «open» = None }) in
     Fine cut.«open» cut.whole cut.count
 outside_fine whole count line h more true s e d = (count, h, record { head = e; above = more; nodes = omega arith })
@@ -125,7 +125,7 @@ outside_fine whole count line h more false true e d = whole_higher 0 whole count
 outside_fine whole count line h more false false e d = whole_single 0 whole count line h e d more
 
 inside_fine : (whole : List OrderLines) (lines : LoadLines) (count : ℕ) (line : NumberedLine) → Fine (Some lines) whole count → count < line.number → (t s : Bool) → ends line.text ≡ t → is_silent line.text ≡ s
-    → let cut : Cut = if t then record { count = line.number; whole = whole ++ load lines (Some line.number) ∷ []; «open» = None }
+    → let cut : CutLines = if t then record { count = line.number; whole = whole ++ load lines (Some line.number) ∷ []; «open» = None }
     else (if s then record { count = line.number; whole = whole; «open» = Some lines } else record { count = line.number; whole = whole; «open» = Some (record lines { nodes = lines.nodes ++ line ∷ [] }) }) in
     Fine cut.«open» cut.whole cut.count
 inside_fine whole lines count line h more true s e d = whole_load 0 whole h.0 lines count line.number h.1 h.2 more
@@ -139,7 +139,7 @@ fine_by : (at : Option LoadLines) (whole : List OrderLines) (count : ℕ) (line 
 fine_by None whole count line h more = outside_fine whole count line h more (opens line.text) (is_silent line.text) refl refl
 fine_by (Some lines) whole count line h more = inside_fine whole lines count line h more (ends line.text) (is_silent line.text) refl refl
 
-fine_further : (cut : Cut) (lines : List (List ℕ)) → Fine cut.«open» cut.whole cut.count
+fine_further : (cut : CutLines) (lines : List (List ℕ)) → Fine cut.«open» cut.whole cut.count
     → Fine (cut_further cut lines).«open» (cut_further cut lines).whole (cut_further cut lines).count
 fine_further cut [] h = h
 fine_further cut (line ∷ lines) h =
@@ -173,10 +173,10 @@ orders_from n (load lines (Some end_line) ∷ others) =
     load (load_from n lines) (Some (suc (count_after (suc n) lines.nodes))) ∷ orders_from (suc (count_after (suc n) lines.nodes)) others
 orders_from n (load lines None ∷ others) = load (load_from n lines) None ∷ []
 
-abbrev outside : ℕ → List OrderLines → Cut
+abbrev outside : ℕ → List OrderLines → CutLines
 outside n whole = record { count = n; whole = whole; «open» = None }
 
-abbrev inside : ℕ → List OrderLines → LoadLines → Cut
+abbrev inside : ℕ → List OrderLines → LoadLines → CutLines
 inside n whole lines = record { count = n; whole = whole; «open» = Some lines }
 
 cut_single : (n : ℕ) (whole : List OrderLines) (text : List ℕ) → opens text ≡ false → is_silent text ≡ false
@@ -196,7 +196,7 @@ cut_node : (n : ℕ) (whole : List OrderLines) (lines : LoadLines) (text : List 
     → with_line (inside n whole lines) text ≡ inside (suc n) whole (record { head = lines.head; nodes = lines.nodes ++ record { number = suc n; text = text } ∷ [] })
 cut_node n whole lines text e s =
     let line : NumberedLine = record { number = suc n; text = text } in
-    let more : Cut = inside (suc n) whole (record { head = lines.head; nodes = lines.nodes ++ line ∷ [] }) in
+    let more : CutLines = inside (suc n) whole (record { head = lines.head; nodes = lines.nodes ++ line ∷ [] }) in
     ap (λ (b : Bool). if b then outside (suc n) (whole ++ load lines (Some (suc n)) ∷ []) else (if is_silent text then inside (suc n) whole lines else more)) e
     ∙ ap (λ (b : Bool). if b then inside (suc n) whole lines else more) s
 
@@ -209,18 +209,18 @@ cut_nodes : (n : ℕ) (whole : List OrderLines) (head : NumberedLine) (before : 
 cut_nodes n whole head before low [] high h more = ap (λ (zs : List NumberedLine). cut_further (inside n whole (record { head = head; nodes = zs })) more) (sym (append-nil before))
 cut_nodes n whole head before low (line ∷ nodes) high h more =
     let new : NumberedLine = record { number = suc n; text = line.text } in
-    ap (λ (cut : Cut). cut_further cut (map (λ (line : NumberedLine). line.text) nodes ++ more)) (cut_node n whole (record { head = head; nodes = before }) line.text h.0 h.1)
+    ap (λ (cut : CutLines). cut_further cut (map (λ (line : NumberedLine). line.text) nodes ++ more)) (cut_node n whole (record { head = head; nodes = before }) line.text h.0 h.1)
     ∙ cut_nodes (suc n) whole head (before ++ new ∷ []) line.number nodes high h.3 more
     ∙ ap (λ (zs : List NumberedLine). cut_further (inside (count_after (suc n) nodes) whole (record { head = head; nodes = zs })) more) (append_assoc before (new ∷ []) (numbered_from (suc n) nodes))
 
-cut_load : (n : ℕ) (whole : List OrderLines) (low : ℕ) (lines : LoadLines) (high : ℕ) → Opened low lines high → (more : List (List ℕ))
+cut_load : (n : ℕ) (whole : List OrderLines) (low : ℕ) (lines : LoadLines) (high : ℕ) → IsOpened low lines high → (more : List (List ℕ))
     → cut_further (outside n whole) (lines.head.text ∷ map (λ (line : NumberedLine). line.text) lines.nodes ++ more)
     ≡ cut_further (inside (count_after (suc n) lines.nodes) whole (load_from n lines)) more
 cut_load n whole low lines high h more =
-    ap (λ (cut : Cut). cut_further cut (map (λ (line : NumberedLine). line.text) lines.nodes ++ more)) (cut_head n whole lines.head.text h.head)
+    ap (λ (cut : CutLines). cut_further cut (map (λ (line : NumberedLine). line.text) lines.nodes ++ more)) (cut_head n whole lines.head.text h.head)
     ∙ cut_nodes (suc n) whole (record { number = suc n; text = lines.head.text }) [] lines.head.number lines.nodes high h.nodes more
 
-abbrev all_of : Cut → List OrderLines
+abbrev all_of : CutLines → List OrderLines
 all_of cut = cut.whole ++ unended cut.«open»
 
 cut_chain : (n : ℕ) (whole : List OrderLines) (low : ℕ) (all : List OrderLines) (high : ℕ) → Chain low all high
@@ -228,7 +228,7 @@ cut_chain : (n : ℕ) (whole : List OrderLines) (low : ℕ) (all : List OrderLin
 cut_chain n whole low [] high h = refl
 cut_chain n whole low (single line ∷ others) high h =
     let new : OrderLines = single (record { number = suc n; text = line.text }) in
-    ap (λ (cut : Cut). all_of (cut_further cut (flat_map lines_of others))) (cut_single n whole line.text h.0 h.1)
+    ap (λ (cut : CutLines). all_of (cut_further cut (flat_map lines_of others))) (cut_single n whole line.text h.0 h.1)
     ∙ cut_chain (suc n) (whole ++ new ∷ []) line.number others high h.3
     ∙ append_assoc whole (new ∷ []) (orders_from (suc n) others)
 cut_chain n whole low (load lines (Some end_line) ∷ others) high h =
@@ -286,12 +286,12 @@ nodes_given n low (line ∷ lines) high h =
 abbrev load_by : (ℕ → ℕ) → LoadLines → LoadLines
 load_by given lines = record { head = numbered_by given lines.head; nodes = map (numbered_by given) lines.nodes }
 
-load_same : (f g : ℕ → ℕ) (low : ℕ) (lines : LoadLines) (high : ℕ) → Opened low lines high → Agree f g low high → load_by f lines ≡ load_by g lines
+load_same : (f g : ℕ → ℕ) (low : ℕ) (lines : LoadLines) (high : ℕ) → IsOpened low lines high → Agree f g low high → load_by f lines ≡ load_by g lines
 load_same f g low lines high h same =
     ap (λ (k : ℕ). record { head = record { number = k; text = lines.head.text }; nodes = map (numbered_by f) lines.nodes }) (same lines.head.number h.above (nodes_le lines.head.number lines.nodes high h.nodes))
     ∙ ap (λ (zs : List NumberedLine). record { head = numbered_by g lines.head; nodes = zs }) (nodes_same f g lines.head.number lines.nodes high h.nodes (λ k more less. same k (omega (arith, h.above, more)) less))
 
-load_given : (n low : ℕ) (lines : LoadLines) (high : ℕ) → Opened low lines high → load_by (in_load n lines) lines ≡ load_from n lines
+load_given : (n low : ℕ) (lines : LoadLines) (high : ℕ) → IsOpened low lines high → load_by (in_load n lines) lines ≡ load_from n lines
 load_given n low lines high h =
     ap (λ (k : ℕ). record { head = record { number = k; text = lines.head.text }; nodes = map (numbered_by (in_load n lines)) lines.nodes })
     (first-if lines.head.number lines.head.number (suc n) (in_nodes (suc n) lines.nodes lines.head.number) (omega arith))
@@ -305,7 +305,7 @@ past_nodes n low [] high k h more = refl
 past_nodes n low (line ∷ lines) high k h more =
     second-if k line.number (suc n) (in_nodes (suc n) lines k) (omega (arith, more, nodes_le line.number lines high h.3)) ∙ past_nodes (suc n) line.number lines high k h.3 more
 
-past_load : (n low : ℕ) (lines : LoadLines) (high k : ℕ) → Opened low lines high → high < k → in_load n lines k ≡ suc (count_after (suc n) lines.nodes)
+past_load : (n low : ℕ) (lines : LoadLines) (high k : ℕ) → IsOpened low lines high → high < k → in_load n lines k ≡ suc (count_after (suc n) lines.nodes)
 past_load n low lines high k h more =
     second-if k lines.head.number (suc n) (in_nodes (suc n) lines.nodes k) (omega (arith, more, nodes_le lines.head.number lines.nodes high h.nodes)) ∙ past_nodes (suc n) lines.head.number lines.nodes high k h.nodes more
 

@@ -7,7 +7,7 @@ use Rattle.smil_outside.specs.Faults.{last_count}
 use Rattle.smil_top.specs.declared.counts.Counts.{Counts}
 use Rattle.smil_top.specs.declared.status.Status.TheVariants as status
 use Rattle.smil_top.specs.Cut.{OrderLines}
-use Rattle.smil_top.specs.Transcript.{Progress}
+use Rattle.smil_top.specs.Transcript.{TranscriptState}
 use Rattle.smil_top.specs.Serving.{status_by, status_of}
 use Rattle.smil_top.specs.Running.{AreCounted}
 
@@ -24,7 +24,7 @@ lt-min n =
     (λ h. min-some n (ltb-true 0 (min n last_count) h), λ h. lt-ltb 0 (min n last_count) (some-min n h))
     (λ h. ltb-true 0 n h, λ h. lt-ltb 0 n h)
 
-pub ended-status : (counts : Counts) (orders : List OrderLines) (told : Progress) → AreCounted counts orders told →
+pub ended-status : (counts : Counts) (orders : List OrderLines) (told : TranscriptState) → AreCounted counts orders told →
     status_by (nat_lt 0 counts.refused) counts.memory ≡ status_of told
 ended-status counts orders told are =
     ap (λ n. status_by (nat_lt 0 n) counts.memory) are.refused_is

@@ -4,7 +4,7 @@ use Rattle.std.specs.Prelude.{if◌then◌else◌, ◌&&◌}
 use Rattle.smil_model.specs.declared.limits.TheConstants.{LINE_BYTES}
 use Rattle.smil_grammar.specs.Scripts.{is_blank, opens_load}
 use Rattle.smil_script.specs.Loads.{ends_load}
-use Rattle.smil_top.specs.Cut.{NumberedLine, LoadLines, single, load, Cut, is_short, cut_by, with_line}
+use Rattle.smil_top.specs.Cut.{NumberedLine, LoadLines, single, load, CutLines, is_short, cut_by, with_line}
 
 pub is_short-true : (line : List ℕ) → length line ≤ LINE_BYTES → is_short line ≡ true
 is_short-true line h = grind arith
@@ -13,12 +13,12 @@ pub is_short-false : (line : List ℕ) → LINE_BYTES < length line → is_short
 is_short-false line h = grind arith
 
 -- the cut, with the place where it stands and the line's number written out
-at_place : (cut : Cut) (at : Option LoadLines) (number : ℕ) (line : List ℕ) → cut.«open» ≡ at → number ≡ suc cut.count →
+at_place : (cut : CutLines) (at : Option LoadLines) (number : ℕ) (line : List ℕ) → cut.«open» ≡ at → number ≡ suc cut.count →
     with_line cut line ≡ cut_by at cut.whole (record { number = number; text = line })
 at_place cut at number line e n =
     ap (λ o. cut_by o cut.whole (record { number = suc cut.count; text = line })) e ∙ ap (λ k. cut_by at cut.whole (record { number = k; text = line })) (sym n)
 
-module _ (cut : Cut) (number : ℕ) (line : List ℕ) (n : number ≡ suc cut.count) where
+module _ (cut : CutLines) (number : ℕ) (line : List ℕ) (n : number ≡ suc cut.count) where
   abbrev numbered : NumberedLine
   numbered = record { number = number; text = line }
 

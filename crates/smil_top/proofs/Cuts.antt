@@ -2,10 +2,10 @@
 use Rattle.std.proofs.Common.{◌≡◌, ℕ, ◌+◌, suc, Bool, true, false, List, [], ◌∷◌, ◌++◌, length, Option, Some, None, refl, ap, sym, ◌∙◌, arith, append_assoc}
 use Rattle.std.specs.Prelude.{if◌then◌else◌}
 use Rattle.std.proofs.lemmas.List.{append-nil}
-use Rattle.smil_top.specs.Cut.{NumberedLine, LoadLines, OrderLines, single, load, Cut, opens, ends, is_silent, cut_by, with_line, cut_further, cut_of, unended, orders}
+use Rattle.smil_top.specs.Cut.{NumberedLine, LoadLines, OrderLines, single, load, CutLines, opens, ends, is_silent, cut_by, with_line, cut_further, cut_of, unended, orders}
 
 -- one line more
-cut_further-append : (cut : Cut) (lines more : List (List ℕ)) → cut_further cut (lines ++ more) ≡ cut_further (cut_further cut lines) more
+cut_further-append : (cut : CutLines) (lines more : List (List ℕ)) → cut_further cut (lines ++ more) ≡ cut_further (cut_further cut lines) more
 cut_further-append cut [] more = refl
 cut_further-append cut (line ∷ lines) more = cut_further-append (with_line cut line) lines more
 
@@ -13,18 +13,18 @@ pub cut_of-one_more : (lines : List (List ℕ)) (line : List ℕ) → cut_of (li
 cut_of-one_more lines line = cut_further-append _ lines (line ∷ [])
 
 -- what a line does to a cut
-pub if_either : (b : Bool) (x y : Cut) (P : Cut → Type 0) → P x → P y → P (if b then x else y)
+pub if_either : (b : Bool) (x y : CutLines) (P : CutLines → Type 0) → P x → P y → P (if b then x else y)
 if_either true x y P h k = h
 if_either false x y P h k = k
 
 -- lines are counted
 count_by : (at : Option LoadLines) (whole : List OrderLines) (line : NumberedLine) → (cut_by at whole line).count ≡ line.number
 count_by None whole line =
-    if_either (opens line.text) _ _ (λ (cut : Cut). cut.count ≡ line.number) refl (if_either (is_silent line.text) _ _ (λ (cut : Cut). cut.count ≡ line.number) refl refl)
+    if_either (opens line.text) _ _ (λ (cut : CutLines). cut.count ≡ line.number) refl (if_either (is_silent line.text) _ _ (λ (cut : CutLines). cut.count ≡ line.number) refl refl)
 count_by (Some lines) whole line =
-    if_either (ends line.text) _ _ (λ (cut : Cut). cut.count ≡ line.number) refl (if_either (is_silent line.text) _ _ (λ (cut : Cut). cut.count ≡ line.number) refl refl)
+    if_either (ends line.text) _ _ (λ (cut : CutLines). cut.count ≡ line.number) refl (if_either (is_silent line.text) _ _ (λ (cut : CutLines). cut.count ≡ line.number) refl refl)
 
-count_further : (cut : Cut) (lines : List (List ℕ)) → (cut_further cut lines).count ≡ cut.count + length lines
+count_further : (cut : CutLines) (lines : List (List ℕ)) → (cut_further cut lines).count ≡ cut.count + length lines
 count_further cut [] = omega arith
 count_further cut (line ∷ lines) =
     let first : (with_line cut line).count ≡ suc cut.count = count_by cut.«open» cut.whole (record { number = suc cut.count; text = line }) in
@@ -36,7 +36,7 @@ count-cut_of lines = omega (arith, count_further (record { count = 0; whole = []
 
 -- whole orders stay
 
-abbrev pub IsLater : List OrderLines → Cut → Type 0
+abbrev pub IsLater : List OrderLines → CutLines → Type 0
 IsLater whole cut = (later : List OrderLines) × (cut.whole ≡ whole ++ later)
 
 later_by : (at : Option LoadLines) (whole : List OrderLines) (line : NumberedLine) → IsLater whole (cut_by at whole line)
@@ -45,7 +45,7 @@ later_by None whole line =
 later_by (Some lines) whole line =
     if_either (ends line.text) _ _ (IsLater whole) (load lines (Some line.number) ∷ [], refl) (if_either (is_silent line.text) _ _ (IsLater whole) ([], sym (append-nil whole)) ([], sym (append-nil whole)))
 
-later_further : (cut : Cut) (lines : List (List ℕ)) → IsLater cut.whole (cut_further cut lines)
+later_further : (cut : CutLines) (lines : List (List ℕ)) → IsLater cut.whole (cut_further cut lines)
 later_further cut [] = ([], sym (append-nil cut.whole))
 later_further cut (line ∷ lines) =
     let first = later_by cut.«open» cut.whole (record { number = suc cut.count; text = line }) in
@@ -56,7 +56,7 @@ later_further cut (line ∷ lines) =
 pub whole-first : (lines more : List (List ℕ)) → IsLater (cut_of lines).whole (cut_of (lines ++ more))
 whole-first lines more =
     let rest = later_further (cut_of lines) more in
-    (rest.0, ap (λ (cut : Cut). cut.whole) (cut_further-append (record { count = 0; whole = []; «open» = None }) lines more) ∙ rest.1)
+    (rest.0, ap (λ (cut : CutLines). cut.whole) (cut_further-append (record { count = 0; whole = []; «open» = None }) lines more) ∙ rest.1)
 
 -- and the first of all orders
 pub orders-first : (lines more : List (List ℕ)) → (later : List OrderLines) × (orders (lines ++ more) ≡ (cut_of lines).whole ++ later)

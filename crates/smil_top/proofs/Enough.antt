@@ -28,7 +28,7 @@ use Rattle.smil_grammar.specs.declared.fault.NodeFault.{NodeFault}
 use Rattle.smil_grammar.specs.declared.fault.NodeFault.TheVariants as fault
 use Rattle.smil_grammar.specs.Results.{◌>>=◌}
 use Rattle.smil_grammar.specs.Positions.{Piece}
-use Rattle.smil_grammar.specs.Scripts.{Reading, given, timed, end_timed, finish, or_refused, to, named, is_title, order_line, command, first_of, line_of}
+use Rattle.smil_grammar.specs.Scripts.{OrderReading, given, timed, end_timed, finish, or_refused, to, named, is_title, order_line, command, first_of, line_of}
 use Rattle.smil_grammar.specs.Formats.{formats, written_at}
 use Rattle.smil_grammar.specs.Nodes.{Shape, is_space, shape_of, kind_of_shape}
 use Rattle.smil_grammar.specs.Outlines.{Outline, no_lines, unless, is_misplaced, is_bad_serial, has_id, in_line, attrs_in, last_of, node_within, opens_saved, shape_in, with_header, header_of, shape_within, read_within, line_within, ended, with_node}
@@ -140,7 +140,7 @@ end_sure : (word : Piece) (order : ℤ → Order) (o : Option ℤ) → Fine (end
 end_sure word order (Some n) = made is_memory _
 end_sure word order None = no _ refl
 
-finish_sure : (reading : Option Reading) → Fine (finish reading)
+finish_sure : (reading : Option OrderReading) → Fine (finish reading)
 finish_sure None = no refusal.NotACommand refl
 finish_sure (Some (given order)) = made is_memory order
 finish_sure (Some (timed word order)) = end_sure word order _

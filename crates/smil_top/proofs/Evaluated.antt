@@ -21,12 +21,12 @@ use Rattle.smil_live.specs.Counts.{least_loading, most_loading}
 use Rattle.smil_top.specs.declared.answer.Answer.{Answer as AnswerText}
 use Rattle.smil_top.specs.declared.counts.Counts.{Counts}
 use Rattle.smil_top.specs.declared.fault.Fault.{Fault}
-use Rattle.smil_top.specs.declared.given.LoadedDoc.{LoadedDoc as GivenDoc}
+use Rattle.smil_top.specs.declared.loaded.LoadedDoc.{LoadedDoc as GivenDoc}
 use Rattle.smil_top.specs.declared.run.Run.{Run}
-use Rattle.smil_top.specs.Cut.{Cut, LoadLines, OrderLines, cut_of, load, unended, with_line}
+use Rattle.smil_top.specs.Cut.{CutLines, LoadLines, OrderLines, cut_of, load, unended, with_line}
 use Rattle.smil_top.specs.Session.{Session, presentation_of, may_load}
 use Rattle.smil_top.specs.Answers.{Answer, LoadedDocument, at_line, found_presentation, given_within, answer_of}
-use Rattle.smil_top.specs.Transcript.{Progress, MayAnswer, is_memory, transcript_by, untold}
+use Rattle.smil_top.specs.Transcript.{TranscriptState, MayAnswer, is_memory, transcript_by, untold}
 use Rattle.smil_top.specs.Serving.{status_by}
 use Rattle.smil_top.specs.Laws.{heard, refuses_as}
 use Rattle.smil_top.specs.Evaluations.{Bound, most, least, ordered_number, said_number, line_number, loaded_number, number_of, least_of, most_of, sum_of, is_diary_full, IsBounded, AreEvaluated}
@@ -178,7 +178,7 @@ within-bounds (Err fault) text counts house session order rise made counted enou
         let least_is : number_of least session order ≡ 0 = refused-0 least least_spares session order fault (sym is) in
         (omega arith, omega arith)
 
-pub evaluated-more : (run : Run) (new : Counts) (orders : List OrderLines) (told : Progress) (order : OrderLines) (answered : Result (Unit {0}) Fault) (text : AnswerText) (house : Presentations) (before after : ℕ) →
+pub evaluated-more : (run : Run) (new : Counts) (orders : List OrderLines) (told : TranscriptState) (order : OrderLines) (answered : Result (Unit {0}) Fault) (text : AnswerText) (house : Presentations) (before after : ℕ) →
     Tells false run orders told → MakesAnswer answered text house told.session answer_of order →
     IsOrderCounted answered (λ bound. number_of bound told.session order) (after - before) → before ≤ after →
     new ≡ counted_as answered text run.counts → EvaluatesOn run.counts new orders (orders ++ order ∷ []) before after
@@ -189,11 +189,11 @@ evaluated-more run new orders told order answered text house before after tells 
       let enough_before : run.counts.memory ≡ false = was_enough answered text run.counts enough_now in
       let one : told ≡ transcript_by answer_of orders = is_one answer_of tells.transcript (sym tells.counted.memory_is ∙ enough_before) in
       let parts = full-snoc untold orders order none in
-      let not_full : refuses_as is_diary_full (heard (answer_of told.session order)) ≡ false = ap (λ (t : Progress). refuses_as is_diary_full (heard (answer_of t.session order))) one ∙ parts.1 in
+      let not_full : refuses_as is_diary_full (heard (answer_of told.session order)) ≡ false = ap (λ (t : TranscriptState). refuses_as is_diary_full (heard (answer_of t.session order))) one ∙ parts.1 in
       let was : IsBounded orders (before - start) = evaluated.bounded enough_before parts.0 in
       let here = within-bounds answered text run.counts house told.session order (after - before) made counted enough_now not_full in
       let sum_is : (number : Session → OrderLines → ℕ) → sum_of number (orders ++ order ∷ []) ≡ sum_of number orders + number told.session order =
-      λ number. sum-snoc number untold orders order ∙ ap (λ (t : Progress). sum_of number orders + number t.session order) (sym one)
+      λ number. sum-snoc number untold orders order ∙ ap (λ (t : TranscriptState). sum_of number orders + number t.session order) (sym one)
       in
       record {
         at_least = omega (arith, was.at_least, here.0, sum_is least_of, evaluated.risen, le);
@@ -215,15 +215,15 @@ evaluated-none old new orders steps same start evaluated = record {
 }
 
 -- by the orders that are whole with it
-pub evaluated-cut : (old new : Counts) (orders whole : List OrderLines) (cut : Cut) (count : ℕ) (loading : Option LoadLines) (before after : ℕ) →
+pub evaluated-cut : (old new : Counts) (orders whole : List OrderLines) (cut : CutLines) (count : ℕ) (loading : Option LoadLines) (before after : ℕ) →
     cut ≡ record { count = count; whole = whole; «open» = loading } → EvaluatesOn old new orders whole before after → EvaluatesOn old new orders cut.whole before after
 evaluated-cut old new orders whole cut count loading before after is on start evaluated =
-    subst (λ (c : Cut). HasEvaluated new c.whole start after) (sym is) (on start evaluated)
+    subst (λ (c : CutLines). HasEvaluated new c.whole start after) (sym is) (on start evaluated)
 
 -- behind one more line
 pub evaluated-next : (new : Counts) (answered : List (List ℕ)) (line : List ℕ) (start after : ℕ) → HasEvaluated new (with_line (cut_of answered) line).whole start after →
     HasEvaluated new (cut_of (answered ++ line ∷ [])).whole start after
-evaluated-next new answered line start after evaluated = subst (λ (c : Cut). HasEvaluated new c.whole start after) (sym (cut_of-one_more answered line)) evaluated
+evaluated-next new answered line start after evaluated = subst (λ (c : CutLines). HasEvaluated new c.whole start after) (sym (cut_of-one_more answered line)) evaluated
 
 -- ---- the end
 

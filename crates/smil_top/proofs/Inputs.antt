@@ -5,7 +5,7 @@ use Rattle.smil_model.specs.document.Limits.{Limits}
 use Rattle.smil_grammar.specs.Scripts.{is_title}
 use Rattle.smil_top.specs.Cut.{OrderLines, orders}
 use Rattle.smil_top.specs.Answers.{answer_within}
-use Rattle.smil_top.specs.Transcript.{Answering, Progress}
+use Rattle.smil_top.specs.Transcript.{Answering, TranscriptState}
 use Rattle.smil_top.specs.Laws.{OrderAttempt, with_ease, told_by, answered_by, any_refused_as, is_of, part_of, is_too_many, renumbered, renumbered_try, lines_of, own_tried, own_answered, AllSameBut, IsAloneInInput}
 use Rattle.smil_top.proofs.Again.{cut_again}
 use Rattle.smil_top.proofs.Alone.{is_alone}
@@ -41,7 +41,7 @@ alone_in_input allowed name lines title few =
       own_is = refl;
       given = cut.0;
       answers = subst (λ (zs : List OrderAttempt). AllSameBut cut.0 (own_answered name (answered_by answering tried)) (answered_by answering zs)) same (alone.aside cut.0);
-      session = ap (λ (t : Progress). part_of name t.session) (sym (with_ease_told answering (orders lines))) ∙ alone.session
+      session = ap (λ (t : TranscriptState). part_of name t.session) (sym (with_ease_told answering (orders lines))) ∙ alone.session
           ∙ sym (are_aside allowed cut.0 (own_tried name tried)).session ∙ ap (λ (zs : List OrderAttempt). (told_by answering zs).session) same
-          ∙ ap (λ (t : Progress). t.session) (with_ease_told answering (orders own));
+          ∙ ap (λ (t : TranscriptState). t.session) (with_ease_told answering (orders own));
     }

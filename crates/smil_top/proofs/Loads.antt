@@ -7,9 +7,9 @@ use Rattle.smil_grammar.specs.Results.{◌>>=◌}
 use Rattle.smil_grammar.specs.Scripts.{line_of}
 use Rattle.smil_grammar.specs.Outlines.{Outline, no_lines, line_within}
 use Rattle.smil_top.specs.declared.fault.Fault.{Fault}
-use Rattle.smil_top.specs.declared.given.LoadedDoc.{LoadedDoc as GivenDoc}
+use Rattle.smil_top.specs.declared.loaded.LoadedDoc.{LoadedDoc as GivenDoc}
 use Rattle.smil_top.specs.declared.load.Load.{Load}
-use Rattle.smil_top.specs.declared.given.NamedOutline.{NamedOutline}
+use Rattle.smil_top.specs.declared.loaded.NamedOutline.{NamedOutline}
 use Rattle.smil_top.specs.Cut.{NumberedLine, LoadLines}
 use Rattle.smil_top.specs.Answers.{at_line, name_of, outline_from, given_within}
 use Rattle.smil_top.specs.Running.{Gives, IsRead, Reads, ReadsTitle, given_at, reading_of, with_node}

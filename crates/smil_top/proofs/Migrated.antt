@@ -21,7 +21,7 @@ use Rattle.smil_top.specs.declared.fault.Fault.{Fault}
 use Rattle.smil_top.specs.Cut.{NumberedLine, LoadLines, OrderLines, single, load}
 use Rattle.smil_top.specs.Session.{Session, presentation_of, with_state, may_load}
 use Rattle.smil_top.specs.Answers.{AcceptedOrder, Answer, LoadedDocument, at_line, read_of, found_presentation, ordered_within, said_within, name_of, outline_from, given_within, loaded_within, checked, answer_within, check_within}
-use Rattle.smil_top.specs.Transcript.{Answering, Progress, with_answer, untold}
+use Rattle.smil_top.specs.Transcript.{Answering, TranscriptState, with_answer, untold}
 use Rattle.smil_top.specs.Laws.{OrderAttempt, answer_to, told_by, heard, session_after, answered_from, answered_by, refuses_as, any_refused_as}
 use Rattle.smil_top.proofs.Retold.{told_further, session_with}
 
@@ -120,7 +120,7 @@ module _ (small large : Limits) (below : AreBelow small large) where
     tried_same session order true m = refl
     tried_same session order false m = each session order (unlimited (within small session order) m)
 
-    further_same : (told : Progress) (tried : List OrderAttempt) → any_refused_as is_for_limit (answered_from (within small) told.session tried) ≡ false
+    further_same : (told : TranscriptState) (tried : List OrderAttempt) → any_refused_as is_for_limit (answered_from (within small) told.session tried) ≡ false
         → told_further (within large) told tried ≡ told_further (within small) told tried
     further_same told [] m = refl
     further_same told (one ∷ others) m =

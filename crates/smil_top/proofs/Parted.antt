@@ -9,9 +9,9 @@ use Rattle.std.proofs.lemmas.List.Splits.{slice_split-cons_yes, slice_split-cons
 use Rattle.smil_outside.specs.Lines.{parts, whole_lines, whole_lines_of_parts}
 use Rattle.smil_model.specs.document.Words.{line_feed}
 use Rattle.smil_outside.proofs.LineLemmas.{lines_of_parts-cons, some_part}
-use Rattle.smil_top.specs.Cut.{NumberedLine, LoadLines, OrderLines, single, load, Cut, opens, ends, is_silent, cut_by, cut_of, unended, orders, whole_orders}
+use Rattle.smil_top.specs.Cut.{NumberedLine, LoadLines, OrderLines, single, load, CutLines, opens, ends, is_silent, cut_by, cut_of, unended, orders, whole_orders}
 use Rattle.smil_top.specs.Answers.{Answer}
-use Rattle.smil_top.specs.Transcript.{Answering, Progress, untold, with_answer, IsTranscriptBy, and_then, transcript_by}
+use Rattle.smil_top.specs.Transcript.{Answering, TranscriptState, untold, with_answer, IsTranscriptBy, and_then, transcript_by}
 use Rattle.smil_top.specs.Laws.{OrderAttempt, answer_to, told_by, heard, answer_lines, AtMostOne, SharesFirstOrders, HasFront, IsFrontAndOne}
 use Rattle.smil_top.proofs.Cuts.{cut_of-one_more, if_either, orders-first}
 use Rattle.smil_top.proofs.Retold.{text_with, is_told, each_is_told, is_some}
@@ -92,7 +92,7 @@ lines-few came = ap lines (sym (append-nil came)) ∙ lines-append came []
 -- ---- orders
 
 -- the orders of a cut are these and at most one more
-abbrev IsFew : List OrderLines → Cut → Type 0
+abbrev IsFew : List OrderLines → CutLines → Type 0
 IsFew whole cut = (last : List OrderLines) × (cut.whole ++ unended cut.«open» ≡ whole ++ last) × AtMostOne last
 
 few_by : (at : Option LoadLines) (whole : List OrderLines) (line : NumberedLine) → IsFew whole (cut_by at whole line)
@@ -113,7 +113,7 @@ few_orders front [] few =
     (same.0, ap orders (append-nil front) ∙ same.1, same.2)
 few_orders front (line ∷ []) few =
     let one = few_by (cut_of front).«open» (cut_of front).whole (record { number = suc (cut_of front).count; text = line }) in
-    (one.0, ap (λ (cut : Cut). cut.whole ++ unended cut.«open») (cut_of-one_more front line) ∙ one.1, one.2)
+    (one.0, ap (λ (cut : CutLines). cut.whole ++ unended cut.«open») (cut_of-one_more front line) ∙ one.1, one.2)
 few_orders front (line ∷ next ∷ more) few = elim few [ ]
 
 pub inputs_cut : (came more : List ℕ) → SharesFirstOrders came more
@@ -132,7 +132,7 @@ inputs_cut came more =
 
 module _ (answering : Answering) where
   -- a text only grows
-  grows : (told : Progress) (tried : List OrderAttempt) → (rest : List ℕ) × ((fold (λ (told : Progress) (one : OrderAttempt). with_answer told (answer_to answering told.session one)) told tried).text ≡ told.text ++ rest)
+  grows : (told : TranscriptState) (tried : List OrderAttempt) → (rest : List ℕ) × ((fold (λ (told : TranscriptState) (one : OrderAttempt). with_answer told (answer_to answering told.session one)) told tried).text ≡ told.text ++ rest)
   grows told [] = ([], sym (append-nil told.text))
   grows told (one ∷ others) =
       let answer : Answer = answer_to answering told.session one in
@@ -151,7 +151,7 @@ module _ (answering : Answering) where
       let rest = split_tried tried first later tail in
       (one ∷ rest.0, rest.1, ap (λ (zs : List OrderAttempt). one ∷ zs) rest.2, cc)
 
-  pub has_front : (first later : List OrderLines) (told : Progress) → IsTranscriptBy answering (first ++ later) told → HasFront answering first told
+  pub has_front : (first later : List OrderLines) (told : TranscriptState) → IsTranscriptBy answering (first ++ later) told → HasFront answering first told
   has_front first later told h =
       let all = is_told answering h in
       let cut = split_tried all.0 first later all.1 in
@@ -160,15 +160,15 @@ module _ (answering : Answering) where
         front = told_by answering cut.0;
         rest = more.0;
         transcript = subst (λ (zs : List OrderLines). IsTranscriptBy answering zs (told_by answering cut.0)) cut.3 (each_is_told answering cut.0);
-        text = ap (λ (t : Progress). t.text) (sym all.2) ∙ ap (λ (zs : List OrderAttempt). (told_by answering zs).text) cut.2
-            ∙ ap (λ (t : Progress). t.text) (fold-append (λ (told : Progress) (one : OrderAttempt). with_answer told (answer_to answering told.session one)) untold cut.0 cut.1) ∙ more.1;
+        text = ap (λ (t : TranscriptState). t.text) (sym all.2) ∙ ap (λ (zs : List OrderAttempt). (told_by answering zs).text) cut.2
+            ∙ ap (λ (t : TranscriptState). t.text) (fold-append (λ (told : TranscriptState) (one : OrderAttempt). with_answer told (answer_to answering told.session one)) untold cut.0 cut.1) ∙ more.1;
       }
 
   -- the front, and the answers behind it
-  abbrev of_orders : Progress → List OrderLines → Progress
-  of_orders told orders = fold (λ (told : Progress) (order : OrderLines). with_answer told (answering told.session order)) told orders
+  abbrev of_orders : TranscriptState → List OrderLines → TranscriptState
+  of_orders told orders = fold (λ (told : TranscriptState) (order : OrderLines). with_answer told (answering told.session order)) told orders
 
-  grows_easily : (told : Progress) (orders : List OrderLines) → (rest : List ℕ) × ((of_orders told orders).text ≡ told.text ++ rest)
+  grows_easily : (told : TranscriptState) (orders : List OrderLines) → (rest : List ℕ) × ((of_orders told orders).text ≡ told.text ++ rest)
   grows_easily told [] = ([], sym (append-nil told.text))
   grows_easily told (order ∷ others) =
       let answer : Answer = answering told.session order in
@@ -176,12 +176,12 @@ module _ (answering : Answering) where
       (answer_lines (heard answer) ++ rest.0, rest.1 ∙ ap (λ (zs : List ℕ). zs ++ rest.0) (text_with told answer) ∙ append_assoc told.text (answer_lines (heard answer)) rest.0)
 
   of_more : (first later : List OrderLines) → transcript_by answering (first ++ later) ≡ of_orders (transcript_by answering first) later
-  of_more first later = fold-append (λ (told : Progress) (order : OrderLines). with_answer told (answering told.session order)) untold first later
+  of_more first later = fold-append (λ (told : TranscriptState) (order : OrderLines). with_answer told (answering told.session order)) untold first later
 
-  abbrev IsOne : Progress → Progress → Type 0
+  abbrev IsOne : TranscriptState → TranscriptState → Type 0
   IsOne front part = (part ≡ front) ⊎ ((order : OrderLines) × (part ≡ with_answer front (answering front.session order)))
 
-  one_more : (front : Progress) (last : List OrderLines) → AtMostOne last → IsOne front (of_orders front last)
+  one_more : (front : TranscriptState) (last : List OrderLines) → AtMostOne last → IsOne front (of_orders front last)
   one_more front [] few = inl refl
   one_more front (order ∷ []) few = inr (order, refl)
   one_more front (order ∷ next ∷ last) few = elim few [ ]
@@ -196,14 +196,14 @@ module _ (answering : Answering) where
         front = transcript_by answering first;
         rest = grown.0;
         transcript = is_some answering first;
-        text = ap (λ (zs : List OrderLines). (transcript_by answering zs).text) cut.whole ∙ ap (λ (t : Progress). t.text) (of_more first cut.later) ∙ grown.1;
+        text = ap (λ (zs : List OrderLines). (transcript_by answering zs).text) cut.whole ∙ ap (λ (t : TranscriptState). t.text) (of_more first cut.later) ∙ grown.1;
         one = subst (IsOne (transcript_by answering first)) (sym part) (one_more (transcript_by answering first) cut.last cut.few);
       }
 
-  abbrev AnyPart : List ℕ → Progress → List OrderLines → Type 0
-  AnyPart came whole all = (part : Progress) × IsTranscriptBy answering all part × IsFrontAndOne answering came part whole
+  abbrev AnyPart : List ℕ → TranscriptState → List OrderLines → Type 0
+  AnyPart came whole all = (part : TranscriptState) × IsTranscriptBy answering all part × IsFrontAndOne answering came part whole
 
-  with_last : (came : List ℕ) (whole : Progress) (front : HasFront answering (whole_orders (whole_lines came)) whole) (last : List OrderLines) → AtMostOne last
+  with_last : (came : List ℕ) (whole : TranscriptState) (front : HasFront answering (whole_orders (whole_lines came)) whole) (last : List OrderLines) → AtMostOne last
       → AnyPart came whole (whole_orders (whole_lines came) ++ last)
   with_last came whole front [] few = (
     front.front,
@@ -217,7 +217,7 @@ module _ (answering : Answering) where
   )
   with_last came whole front (order ∷ next ∷ last) few = elim few [ ]
 
-  pub any_part : (came more : List ℕ) (whole : Progress) → IsTranscriptBy answering (orders (lines (came ++ more))) whole → AnyPart came whole (orders (lines came))
+  pub any_part : (came more : List ℕ) (whole : TranscriptState) → IsTranscriptBy answering (orders (lines (came ++ more))) whole → AnyPart came whole (orders (lines came))
   any_part came more whole h =
       let cut = inputs_cut came more in
       let front = has_front (whole_orders (whole_lines came)) cut.later whole (subst (λ (zs : List OrderLines). IsTranscriptBy answering zs whole) cut.whole h) in

@@ -10,7 +10,7 @@ use Rattle.smil_outside.specs.declared.line.Ending.{Ending}
 use Rattle.smil_outside.specs.declared.line.Ending.TheVariants as ending
 use Rattle.smil_outside.specs.declared.failed.Failed.{Failed}
 use Rattle.smil_outside.specs.Lines.{whole_lines}
-use Rattle.smil_outside.specs.Reading.{Reading, Reads, fresh_reading, within_limit, answer_of, IsNextLine}
+use Rattle.smil_outside.specs.ReaderState.{ReaderState, Reads, fresh_reading, within_limit, answer_of, IsNextLine}
 use Rattle.smil_outside.specs.History.{AreLines, HasAnswered}
 use Rattle.smil_outside.proofs.HistoryLemmas.{HasAnswered-fresh, HasAnswered-next}
 use Rattle.std.proofs.KnownBytes.{Appends-nil, Appends-trans, Consumes-nil, Consumes-trans}
@@ -20,8 +20,8 @@ use Rattle.smil_top.specs.declared.status.Status.{Status}
 use Rattle.smil_top.specs.declared.status.Status.TheVariants as status
 use Rattle.smil_words.specs.declared.mode.Mode.{Mode}
 use Rattle.smil_words.specs.declared.mode.Mode.TheVariants as mode
-use Rattle.smil_top.specs.Cut.{Cut, OrderLines, cut_of, with_line, orders, unended, whole_orders}
-use Rattle.smil_top.specs.Transcript.{Progress, IsTranscriptBy, untold}
+use Rattle.smil_top.specs.Cut.{CutLines, OrderLines, cut_of, with_line, orders, unended, whole_orders}
+use Rattle.smil_top.specs.Transcript.{TranscriptState, IsTranscriptBy, untold}
 use Rattle.smil_top.specs.Words.{is_told}
 use Rattle.smil_top.specs.Serving.{counted_bytes, status_by, status_of, IsWholeTranscript, IsCutShort, IsPart, AreFirst, IsBroken, Runs, Explains, Generates, Serves, ServesBy, reads}
 use Rattle.smil_top.specs.Evaluations.{AreEvaluated, Evaluates, EvaluatesBy}
@@ -29,37 +29,37 @@ use Rattle.smil_top.specs.Running.{answering, asked_by, ended_by, IsAll, IsRunni
 use Rattle.smil_top.proofs.Cuts.{cut_of-one_more, count-cut_of, whole-first, orders-first}
 
 -- the reader has not ended, or only at the end of the input
-abbrev pub IsUnbroken : Reading → Option (List ℕ) → Type 0
+abbrev pub IsUnbroken : ReaderState → Option (List ℕ) → Type 0
 IsUnbroken reader rest = (reader.closed ≡ None) ⊎ ((reader.closed ≡ Some ending.End) × IsAtEnd rest)
 
 -- these bytes came, and these lines of them were answered
-pub record HasRead (reader : Reading) (before rest : Option (List ℕ)) (came : List ℕ) (answered : List (List ℕ)) : Type 0 where
+pub record HasRead (reader : ReaderState) (before rest : Option (List ℕ)) (came : List ℕ) (answered : List (List ℕ)) : Type 0 where
   pub has : HasAnswered reader came answered
   pub read : Consumes before rest came
   pub unbroken : IsUnbroken reader rest
 
 -- this was told and written, and answers the orders that are whole in these lines
-pub record HasWritten (checks : Bool) (run : Run) (before taken : Option (List ℕ)) (room left : ℕ) (answered : List (List ℕ)) (told : Progress) : Type 0 where
+pub record HasWritten (checks : Bool) (run : Run) (before taken : Option (List ℕ)) (room left : ℕ) (answered : List (List ℕ)) (told : TranscriptState) : Type 0 where
   pub running : IsRunning checks run (cut_of answered) told
   pub written : WritesAll before taken room left told.text
 
 -- a part of the input was read so
-pub record IsReading (reader : Reading) (before rest : Option (List ℕ)) : Type 0 where
+pub record IsReading (reader : ReaderState) (before rest : Option (List ℕ)) : Type 0 where
   pub came : List ℕ
   pub answered : List (List ℕ)
   pub has : HasRead reader before rest came answered
 
 abbrev pub Wrote : Bool → Run → Option (List ℕ) → Option (List ℕ) → ℕ → ℕ → List (List ℕ) → Type 0
-Wrote checks run before taken room left answered = (told : Progress) × HasWritten checks run before taken room left answered told
+Wrote checks run before taken room left answered = (told : TranscriptState) × HasWritten checks run before taken room left answered told
 
-pub record IsServing (checks : Bool) (reader : Reading) (run : Run) (before rest taken_before taken : Option (List ℕ)) (room left : ℕ) : Type 0 where
+pub record IsServing (checks : Bool) (reader : ReaderState) (run : Run) (before rest taken_before taken : Option (List ℕ)) (room left : ℕ) : Type 0 where
   pub came : List ℕ
   pub answered : List (List ℕ)
-  pub told : Progress
+  pub told : TranscriptState
   pub reading : HasRead reader before rest came answered
   pub writing : HasWritten checks run taken_before taken room left answered told
 
-abbrev pub IsServing-of : (checks : Bool) (reader : Reading) (run : Run) (before rest taken_before taken : Option (List ℕ)) (room left : ℕ) (read : IsReading reader before rest) →
+abbrev pub IsServing-of : (checks : Bool) (reader : ReaderState) (run : Run) (before rest taken_before taken : Option (List ℕ)) (room left : ℕ) (read : IsReading reader before rest) →
     Wrote checks run taken_before taken room left read.answered → IsServing checks reader run before rest taken_before taken room left
 IsServing-of checks reader run before rest taken_before taken room left read wrote = record {
   came = read.came;
@@ -70,13 +70,13 @@ IsServing-of checks reader run before rest taken_before taken room left read wro
 }
 
 -- what a call answered: once the input has ended nothing is read
-abbrev pub Nexts : Reading → Reading → Line → Option (List ℕ) → Option (List ℕ) → Type 0
+abbrev pub Nexts : ReaderState → ReaderState → Line → Option (List ℕ) → Option (List ℕ) → Type 0
 Nexts old new answer before after =
     ((old.closed ≡ None) × Reads old new answer before after)
     ⊎ ((old.closed ≡ Some ending.End) × (answer ≡ End) × (new ≡ record old { line = [] }) × (after ≡ before))
 
 -- a read that failed was made before the end
-pub fault-open : (old new : Reading) (rest after : Option (List ℕ)) → Nexts old new ReadFault rest after → IsNone old.closed
+pub fault-open : (old new : ReaderState) (rest after : Option (List ℕ)) → Nexts old new ReadFault rest after → IsNone old.closed
 fault-open old new rest after (inl open_reads) = subst IsNone (sym open_reads.0) refl
 fault-open old new rest after (inr ended) = absurd cc
 
@@ -87,7 +87,7 @@ HasRead-fresh rest = record { has = HasAnswered-fresh; read = Consumes-nil rest;
 -- ---- one call of `next`
 
 -- what `next` ensures
-pub Nexts-of : {S : Type 0} (rest_of : S → Option (List ℕ)) (source source' : S) (old new : Reading) (answer : Line) → IsUnbroken old (rest_of source) →
+pub Nexts-of : {S : Type 0} (rest_of : S → Option (List ℕ)) (source source' : S) (old new : ReaderState) (answer : Line) → IsUnbroken old (rest_of source) →
     IfSome old.closed (λ ending. (answer ≡ answer_of ending) × (new ≡ record old { line = [] }) × (source' ≡ source)) →
     (IsNone old.closed → Reads old new answer (rest_of source) (rest_of source')) → Nexts old new answer (rest_of source) (rest_of source')
 Nexts-of rest_of source source' old new answer (inl is_open) again reads = inl (is_open, reads (subst IsNone (sym is_open) refl))
@@ -95,11 +95,11 @@ Nexts-of rest_of source source' old new answer (inr ended) again reads =
     let same = subst (λ (e : Option Ending). IfSome e (λ ending. (answer ≡ answer_of ending) × (new ≡ record old { line = [] }) × (source' ≡ source))) ended.0 again in
     inr (ended.0, same.0, same.1, ap rest_of same.2)
 
-unbroken_by : (text line : List ℕ) (new : Reading) (after : Option (List ℕ)) → IsNextLine text line new (IsAtEnd after × (new.taken ≤ INPUT_BYTES)) → IsUnbroken new after
+unbroken_by : (text line : List ℕ) (new : ReaderState) (after : Option (List ℕ)) → IsNextLine text line new (IsAtEnd after × (new.taken ≤ INPUT_BYTES)) → IsUnbroken new after
 unbroken_by text line new after (inl starts) = inl starts.1
 unbroken_by text line new after (inr last) = inr (last.3, last.1.0)
 
-module _ (old new : Reading) (before rest after : Option (List ℕ)) (came : List ℕ) (answered : List (List ℕ)) (has : HasRead old before rest came answered) where
+module _ (old new : ReaderState) (before rest after : Option (List ℕ)) (came : List ℕ) (answered : List (List ℕ)) (has : HasRead old before rest came answered) where
   -- a line that the reader shows
   pub next-bytes : Nexts old new Bytes rest after → (came' : List ℕ) × HasRead new before after came' (answered ++ new.line ∷ []) × IsLine (Some new.line) new.line × (new.number ≡ suc (cut_of answered).count)
   next-bytes (inr h) = cc
@@ -189,7 +189,7 @@ module _ (old new : Reading) (before rest after : Option (List ℕ)) (came : Lis
       )
 
 -- the orders that are whole in the lines answered were read first
-pub orders-read : (reader : Reading) (before rest : Option (List ℕ)) (came : List ℕ) (answered : List (List ℕ)) → HasRead reader before rest came answered →
+pub orders-read : (reader : ReaderState) (before rest : Option (List ℕ)) (came : List ℕ) (answered : List (List ℕ)) → HasRead reader before rest came answered →
     AreFirst (cut_of answered).whole rest came
 orders-read reader before rest came answered has = elim has.unbroken [
   | inl is_open ↦
@@ -223,12 +223,12 @@ all-of told text before taken after room left left' one two =
     (Appends-trans before taken after told text one.0 two.0, omega (arith, one.1, two.1, length-append told text))
 
 -- more was told
-all-told : (told more : Progress) (before taken after : Option (List ℕ)) (room left left' : ℕ) (goes : Goes (Ok tt) told more taken after left left') →
+all-told : (told more : TranscriptState) (before taken after : Option (List ℕ)) (room left left' : ℕ) (goes : Goes (Ok tt) told more taken after left left') →
     WritesAll before taken room left told.text → WritesAll before after room left' more.text
 all-told told more before taken after room left left' goes one =
     subst (λ zs. WritesAll before after room left' zs) (sym goes.text_is) (all-of told.text goes.text before taken after room left left' one goes.writes)
 
-part-told : (e : Failed) (told more : Progress) (before taken after : Option (List ℕ)) (room left left' : ℕ) (goes : Goes (Err e) told more taken after left left') →
+part-told : (e : Failed) (told more : TranscriptState) (before taken after : Option (List ℕ)) (room left left' : ℕ) (goes : Goes (Err e) told more taken after left left') →
     WritesAll before taken room left told.text → (said : List ℕ) × Appends before after said × IsPart said more.text room
 part-told e told more before taken after room left left' goes one =
     let p = part-of told.text goes.text before taken after room left one goes.writes in
@@ -259,8 +259,8 @@ RanCounted-untold {checks} {ended} {run} {before} {after} {taken_before} {taken_
   bounded = EvaluatesBy-of checks ended ran.came rise (λ runs. not_told ended (orders (lines ran.came)) rise not);
 }
 
-module _ (checks : Bool) (old new : Reading) (run after_run : Run) (before rest after taken_before taken taken_after : Option (List ℕ)) (room left left' : ℕ) (serving : IsServing checks old run before rest taken_before taken room left) where
-  abbrev cut : Cut
+module _ (checks : Bool) (old new : ReaderState) (run after_run : Run) (before rest after taken_before taken taken_after : Option (List ℕ)) (room left left' : ℕ) (serving : IsServing checks old run before rest taken_before taken room left) where
+  abbrev cut : CutLines
   cut = cut_of serving.answered
 
   -- the source has ended, and the load that hasn't is answered
@@ -268,7 +268,7 @@ module _ (checks : Bool) (old new : Reading) (run after_run : Run) (before rest 
       (answers : AnswersOrders checks result after_run (cut.whole ++ unended cut.«open») serving.told taken taken_after left left') →
       ended ≡ ended_by result answers.more → Ran checks ended after_run before after taken_before taken_after room
   ended-by came (Ok done) ended read at_end lines_are within answers is =
-      let more : Progress = answers.more in
+      let more : TranscriptState = answers.more in
       let same_orders : cut.whole ++ unended cut.«open» ≡ orders (lines came) = ap orders (sym lines_are) in
       let tells : Tells checks after_run (orders (lines came)) more = subst (λ os. Tells checks after_run os more) same_orders answers.tells in
       let all : IsAll checks (status_of more) after_run came more.text = record { told = more; tells = tells; text_is = refl; ended_is = refl; within = within } in
@@ -280,7 +280,7 @@ module _ (checks : Bool) (old new : Reading) (run after_run : Run) (before rest 
         runs = subst (λ s. RunsBy checks s after_run after came more.text room) (sym is) (runs_all checks (nat_lt 0 more.refused) more.memory after_run after came more.text room at_end all);
       }
   ended-by came (Err e) ended read at_end lines_are within answers is =
-      let more : Progress = answers.more in
+      let more : TranscriptState = answers.more in
       let same_orders : cut.whole ++ unended cut.«open» ≡ orders (lines came) = ap orders (sym lines_are) in
       let tells : Tells checks after_run (orders (lines came)) more = subst (λ os. Tells checks after_run os more) same_orders answers.tells in
       let p = part-told e serving.told more taken_before taken taken_after room left left' answers.goes serving.writing.written in
@@ -295,7 +295,7 @@ module _ (checks : Bool) (old new : Reading) (run after_run : Run) (before rest 
       }
 
   pub Ran-end : (ended : Status) → Nexts old new End rest after →
-      ((checks : Bool) (cut : Cut) (told : Progress) → IsRunning checks run cut told → Ends checks ended after_run cut told taken taken_after left left') →
+      ((checks : Bool) (cut : CutLines) (told : TranscriptState) → IsRunning checks run cut told → Ends checks ended after_run cut told taken taken_after left left') →
       Ran checks ended after_run before after taken_before taken_after room
   Ran-end ended nexts ends =
       let e : Ends checks ended after_run cut serving.told taken taken_after left left' = ends checks cut serving.told serving.writing.running in
@@ -311,7 +311,7 @@ module _ (checks : Bool) (old new : Reading) (run after_run : Run) (before rest 
   ended-came came (Err e) ended read at_end lines_are within answers is = refl
 
   lines-came : (ended : Status) (nexts : Nexts old new End rest after)
-      (ends : (checks : Bool) (cut : Cut) (told : Progress) → IsRunning checks run cut told → Ends checks ended after_run cut told taken taken_after left left') →
+      (ends : (checks : Bool) (cut : CutLines) (told : TranscriptState) → IsRunning checks run cut told → Ends checks ended after_run cut told taken taken_after left left') →
       lines (Ran-end ended nexts ends).came ≡ serving.answered
   unfolding Ran-end
   lines-came ended nexts ends =
@@ -321,7 +321,7 @@ module _ (checks : Bool) (old new : Reading) (run after_run : Run) (before rest 
 
   -- with the evaluations of its orders
   pub RanCounted-end : (ended : Status) → Nexts old new End rest after →
-      ((checks : Bool) (cut : Cut) (told : Progress) → IsRunning checks run cut told → Ends checks ended after_run cut told taken taken_after left left') →
+      ((checks : Bool) (cut : CutLines) (told : TranscriptState) → IsRunning checks run cut told → Ends checks ended after_run cut told taken taken_after left left') →
       (rise : ℕ) → (checks ≡ false → AreEvaluated ended (cut.whole ++ unended cut.«open») rise) → RanCounted checks ended after_run before after taken_before taken_after room rise
   RanCounted-end ended nexts ends rise evaluated = record {
     ran = Ran-end ended nexts ends;
@@ -357,13 +357,13 @@ module _ (checks : Bool) (old new : Reading) (run after_run : Run) (before rest 
       }
 
 -- a line was read behind those answered, and the session went on
-module _ (checks : Bool) (new : Reading) (run : Run) (before after taken_before taken taken_after : Option (List ℕ)) (room left left' : ℕ) (came line : List ℕ) (told : Progress) (answered : List (List ℕ))
+module _ (checks : Bool) (new : ReaderState) (run : Run) (before after taken_before taken taken_after : Option (List ℕ)) (room left left' : ℕ) (came line : List ℕ) (told : TranscriptState) (answered : List (List ℕ))
     (has : HasRead new before after came (answered ++ line ∷ [])) (said : WritesAll taken_before taken room left told.text) where
   abbrev Goes_on : Result (Unit {0}) Failed → Type 0
   Goes_on r = Answers checks r run (with_line (cut_of answered) line) told taken taken_after left left'
 
   running_now : (r : Result (Unit {0}) Failed) (answers : Goes_on r) → IsRunning checks run (cut_of (answered ++ line ∷ [])) answers.more
-  running_now r answers = subst (λ (c : Cut). IsRunning checks run c answers.more) (sym (cut_of-one_more answered line)) answers.running
+  running_now r answers = subst (λ (c : CutLines). IsRunning checks run c answers.more) (sym (cut_of-one_more answered line)) answers.running
 
   -- its answer was written
   pub Wrote-next : (r : Result (Unit {0}) Failed) → is_err r ≡ false → Goes_on r → Wrote checks run taken_before taken_after room left' (answered ++ line ∷ [])

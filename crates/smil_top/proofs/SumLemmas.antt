@@ -18,7 +18,7 @@ use Rattle.smil_top.specs.declared.fault.Fault.{Fault}
 use Rattle.smil_top.specs.Cut.{OrderLines, single, load}
 use Rattle.smil_top.specs.Session.{Session, presentation_of, with_state, may_load}
 use Rattle.smil_top.specs.Answers.{AcceptedOrder, Answer, LoadedDocument, at_line, read_of, found_presentation, said_within, given_within, loaded_within, answer_of}
-use Rattle.smil_top.specs.Transcript.{Progress, with_answer}
+use Rattle.smil_top.specs.Transcript.{TranscriptState, with_answer}
 use Rattle.smil_top.specs.Laws.{with_ease, heard, session_after, answered_from, refuses_as, any_refused_as}
 use Rattle.smil_top.specs.Evaluations.{Bound, least, number_of, loaded_number, said_number, sum_from, is_diary_full}
 use Rattle.smil_top.proofs.Retold.{session_with}
@@ -26,16 +26,16 @@ use Rattle.smil_top.proofs.Retold.{session_with}
 -- ---- one order more
 
 -- what is told once these orders were answered too
-abbrev pub told_on : Progress → List OrderLines → Progress
-told_on told orders = fold (λ (t : Progress) (order : OrderLines). with_answer t (answer_of t.session order)) told orders
+abbrev pub told_on : TranscriptState → List OrderLines → TranscriptState
+told_on told orders = fold (λ (t : TranscriptState) (order : OrderLines). with_answer t (answer_of t.session order)) told orders
 
 -- its bound is added, in the session that the orders before it left
-pub sum-snoc : (number : Session → OrderLines → ℕ) (told : Progress) (orders : List OrderLines) (order : OrderLines) →
+pub sum-snoc : (number : Session → OrderLines → ℕ) (told : TranscriptState) (orders : List OrderLines) (order : OrderLines) →
     sum_from number told.session (orders ++ order ∷ []) ≡ sum_from number told.session orders + number (told_on told orders).session order
 sum-snoc number told [] order = omega arith
 sum-snoc number told (first ∷ others) order =
     let answer : Answer = answer_of told.session first in
-    let next : Progress = with_answer told answer in
+    let next : TranscriptState = with_answer told answer in
     let last : ℕ = number (told_on next others).session order in
     let behind : sum_from number (session_after told.session answer) (others ++ order ∷ []) ≡ sum_from number (session_after told.session answer) others + last =
     subst (λ (s : Session). sum_from number s (others ++ order ∷ []) ≡ sum_from number s others + last) (session_with told answer) (sum-snoc number next others order)
@@ -47,12 +47,12 @@ abbrev is_full_from : Session → List OrderLines → Bool
 is_full_from session orders = any_refused_as is_diary_full (answered_from answer_of session (map with_ease orders))
 
 -- where none is refused so, none before it is, nor is it
-pub full-snoc : (told : Progress) (orders : List OrderLines) (order : OrderLines) → is_full_from told.session (orders ++ order ∷ []) ≡ false →
+pub full-snoc : (told : TranscriptState) (orders : List OrderLines) (order : OrderLines) → is_full_from told.session (orders ++ order ∷ []) ≡ false →
     (is_full_from told.session orders ≡ false) × (refuses_as is_diary_full (heard (answer_of (told_on told orders).session order)) ≡ false)
 full-snoc told [] order none = (refl, (or_parts (refuses_as is_diary_full (heard (answer_of told.session order))) false none).0)
 full-snoc told (first ∷ others) order none =
     let answer : Answer = answer_of told.session first in
-    let next : Progress = with_answer told answer in
+    let next : TranscriptState = with_answer told answer in
     let here : Bool = refuses_as is_diary_full (heard answer) in
     let parts = or_parts here (is_full_from (session_after told.session answer) (others ++ order ∷ [])) none in
     let behind = full-snoc next others order (ap (λ (s : Session). is_full_from s (others ++ order ∷ [])) (session_with told answer) ∙ parts.1) in

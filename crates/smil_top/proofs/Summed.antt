@@ -11,7 +11,7 @@ use Rattle.smil_house.specs.House.{place_of, moment_of}
 use Rattle.smil_top.specs.Cut.{OrderLines, first_line}
 use Rattle.smil_top.specs.Session.{Session}
 use Rattle.smil_top.specs.Answers.{Answer, at_line}
-use Rattle.smil_top.specs.Transcript.{Answering, Progress, untold, with_answer, is_memory, IsTranscriptBy, of_nothing, and_then, transcript_by}
+use Rattle.smil_top.specs.Transcript.{Answering, TranscriptState, untold, with_answer, is_memory, IsTranscriptBy, of_nothing, and_then, transcript_by}
 use Rattle.smil_top.specs.Summary.{moment_in}
 use Rattle.smil_top.specs.Houses.{Presentations, Holds}
 use Rattle.smil_top.proofs.HouseLemmas.{presentation-held}
@@ -23,15 +23,15 @@ fold-snoc : {A B : Type 0} (f : B → A → B) (z : B) (xs : List A) (x : A) →
 fold-snoc f z [] x = refl
 fold-snoc f z (y ∷ ys) x = fold-snoc f (f z y) ys x
 
-before-memory : (told : Progress) (answer : Answer) → (with_answer told answer).memory ≡ false → told.memory ≡ false
+before-memory : (told : TranscriptState) (answer : Answer) → (with_answer told answer).memory ≡ false → told.memory ≡ false
 before-memory told (Ok accepted) h = h
 before-memory told (Err fault) h = (or_parts told.memory (is_memory fault.refusal) h).0
 
-memory-told : (told : Progress) (line : ℕ) → (with_answer told (at_line line (Err Memory))).memory ≡ false → ⊥
+memory-told : (told : TranscriptState) (line : ℕ) → (with_answer told (at_line line (Err Memory))).memory ≡ false → ⊥
 memory-told told line h = let e = (or_parts told.memory true h).1 in cc
 
 -- where no order was refused since memory ran out there is one transcript
-pub one-transcript : (answering : Answering) (orders : List OrderLines) (told : Progress) → IsTranscriptBy answering orders told → told.memory ≡ false →
+pub one-transcript : (answering : Answering) (orders : List OrderLines) (told : TranscriptState) → IsTranscriptBy answering orders told → told.memory ≡ false →
     told ≡ transcript_by answering orders
 one-transcript answering _ _ of_nothing h = refl
 one-transcript answering _ _ (and_then {orders = orders} {told = told} so_far order answer may) h =
@@ -41,7 +41,7 @@ one-transcript answering _ _ (and_then {orders = orders} {told = told} so_far or
       | inr memory ↦ absurd (memory-told told (first_line order) (ap (λ a. (with_answer told a).memory) (sym memory) ∙ h))
     ] in
     last
-    ∙ ap (λ (t : Progress). with_answer t (answering t.session order)) was
+    ∙ ap (λ (t : TranscriptState). with_answer t (answering t.session order)) was
     ∙ sym (fold-snoc (λ t o. with_answer t (answering t.session o)) untold orders order)
 
 -- ---- the moment

@@ -10,7 +10,7 @@ use Rattle.smil_top.specs.declared.status.Status.{Status}
 use Rattle.smil_top.specs.declared.status.Status.TheVariants as status
 use Rattle.smil_top.specs.Cut.{OrderLines, orders}
 use Rattle.smil_top.specs.Answers.{answer_of}
-use Rattle.smil_top.specs.Transcript.{Progress, transcript_by}
+use Rattle.smil_top.specs.Transcript.{TranscriptState, transcript_by}
 use Rattle.smil_top.specs.Summary.{session_told, session_orders, told_of}
 use Rattle.smil_top.specs.Words.{is_told}
 use Rattle.smil_top.specs.Serving.{status_by}
@@ -40,12 +40,12 @@ all-came bytes came (Some left) took at_end = sym (took ∙ ap (λ zs. came ++ z
 
 pub summed : (number : ℕ) (bytes text written : List ℕ) (ended : Status) (run : Run) (after taken_before taken_after : Option (List ℕ)) (room : ℕ) → bytes ≡ session_text number →
     Ran false ended run (Some bytes) after taken_before taken_after room → is_told ended ≡ true →
-    ((os : List OrderLines) (told : Progress) → Tells false run os told → text ≡ told_of number os told) →
+    ((os : List OrderLines) (told : TranscriptState) → Tells false run os told → text ≡ told_of number os told) →
     IsSummary number (record { text = text; status = ended })
 summed number bytes text written ended run after taken_before taken_after room made ran is tells =
     let whole = told-all ended run after ran.came ran.text room is ran.runs in
     let all = whole.1 in
-    let told : Progress = all.told in
+    let told : TranscriptState = all.told in
     let came : ran.came ≡ session_text number = all-came bytes ran.came after ran.read whole.0 ∙ made in
     let memory : told.memory ≡ false = no-memory (nat_lt 0 told.refused) told.memory (ap is_told (sym all.ended_is) ∙ is) in
     let one : told ≡ session_told number =
@@ -56,9 +56,9 @@ summed number bytes text written ended run after taken_before taken_after room m
       text_is =
           tells (orders (lines ran.came)) told all.tells
           ∙ ap (λ zs. told_of number (orders (lines zs)) told) came
-          ∙ ap (λ (t : Progress). told_of number (session_orders number) t) one;
+          ∙ ap (λ (t : TranscriptState). told_of number (session_orders number) t) one;
       ended_is =
           all.ended_is
           ∙ ap (λ m. status_by (nat_lt 0 told.refused) m) memory
-          ∙ ap (λ (t : Progress). status_by (nat_lt 0 t.refused) false) one;
+          ∙ ap (λ (t : TranscriptState). status_by (nat_lt 0 t.refused) false) one;
     }

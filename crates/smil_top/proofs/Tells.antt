@@ -17,14 +17,14 @@ use Rattle.smil_grammar.specs.Scripts.{line_of}
 use Rattle.smil_top.specs.declared.answer.Answer.{Answer as AnswerText}
 use Rattle.smil_top.specs.declared.counts.Counts.{Counts}
 use Rattle.smil_top.specs.declared.fault.Fault.{Fault}
-use Rattle.smil_top.specs.declared.given.LoadedDoc.{LoadedDoc as GivenDoc}
+use Rattle.smil_top.specs.declared.loaded.LoadedDoc.{LoadedDoc as GivenDoc}
 use Rattle.smil_top.specs.declared.load.Load.{Load}
 use Rattle.smil_top.specs.declared.run.Run.{Run}
 use Rattle.smil_top.specs.declared.session.Session.{Session as KeptSession}
-use Rattle.smil_top.specs.Cut.{OrderLines, single, load as load_order, LoadLines, Cut}
+use Rattle.smil_top.specs.Cut.{OrderLines, single, load as load_order, LoadLines, CutLines}
 use Rattle.smil_top.specs.Session.{Session}
 use Rattle.smil_top.specs.Answers.{Answer, LoadedDocument, at_line, said_within, silent, given_within, loaded_within, checked}
-use Rattle.smil_top.specs.Transcript.{Progress, and_then, is_memory, with_answer}
+use Rattle.smil_top.specs.Transcript.{TranscriptState, and_then, is_memory, with_answer}
 use Rattle.smil_top.specs.Summary.{line_count}
 use Rattle.smil_top.specs.Houses.{Presentations, Holds}
 use Rattle.smil_top.specs.Running.{answering, with_order, counted_on, given_of, line_by, load_by, said, text_of, AreCounted, Answers, AnswersOrders, Gives, Goes, IsOpen, IsRead, IsRunning, IsLine, Makes, MakesAnswer, Tells, Writes, WritesAll}
@@ -64,7 +64,7 @@ refused-counted true count refused is = is
 refused-counted false count refused is = ap (λ n. min (n + 1) last_count) is ∙ one-more last_count refused ∙ ap (λ n. min n last_count) (omega arith)
 
 -- the counts of an order that was answered so
-told-counted : (answered : Result (Unit {0}) Fault) (text : AnswerText) (counts : Counts) (orders : List OrderLines) (told : Progress) (order : OrderLines) (after : Session) →
+told-counted : (answered : Result (Unit {0}) Fault) (text : AnswerText) (counts : Counts) (orders : List OrderLines) (told : TranscriptState) (order : OrderLines) (after : Session) →
     AreCounted counts orders told →
     AreCounted (with_order answered (min (line_count (said answered text)) last_count) counts) (orders ++ order ∷ []) (with_answer told (answer_as answered text after))
 told-counted (Ok done) text counts orders told order after were = record {
@@ -83,10 +83,10 @@ told-counted (Err fault) text counts orders told order after were = record {
 -- ---- one order more
 
 -- what is told with an order that was answered so
-pub told-more : (checks : Bool) (run new : Run) (whole : List OrderLines) (told : Progress) (order : OrderLines) (answered : Result (Unit {0}) Fault) (text : AnswerText) →
+pub told-more : (checks : Bool) (run new : Run) (whole : List OrderLines) (told : TranscriptState) (order : OrderLines) (answered : Result (Unit {0}) Fault) (text : AnswerText) →
     Tells checks run whole told → MakesAnswer answered text new.session.house told.session (answering checks) order →
     new.session.checks ≡ run.session.checks → new.counts ≡ with_order answered (min (line_count (said answered text)) last_count) run.counts →
-    (more : Progress) × Tells checks new (whole ++ order ∷ []) more × (more.text ≡ told.text ++ said answered text)
+    (more : TranscriptState) × Tells checks new (whole ++ order ∷ []) more × (more.text ≡ told.text ++ said answered text)
 told-more checks run new whole told order (Ok done) text tells made same counts = (
   with_answer told (answer_as (Ok done) text made.0),
   record {
@@ -109,7 +109,7 @@ told-more checks run new whole told order (Err fault) text tells made same count
 )
 
 -- the same, where its text was written, and what is kept stayed meanwhile
-pub told-order : (checks : Bool) (run new : Run) (kept : KeptSession) (whole : List OrderLines) (told : Progress) (order : OrderLines) (answered : Result (Unit {0}) Fault) (text : AnswerText)
+pub told-order : (checks : Bool) (run new : Run) (kept : KeptSession) (whole : List OrderLines) (told : TranscriptState) (order : OrderLines) (answered : Result (Unit {0}) Fault) (text : AnswerText)
     (result : Result (Unit {0}) Failed) (before after : Option (List ℕ)) (room left : ℕ) →
     Tells checks run whole told → MakesAnswer answered text kept.house told.session (answering checks) order →
     new.session ≡ kept → kept.checks ≡ run.session.checks → new.counts ≡ with_order answered (min (line_count (said answered text)) last_count) run.counts →
@@ -230,31 +230,31 @@ no_load-of at lines stands is = open-none lines (subst (λ o. IsOpen o lines) is
 -- ---- a line
 
 -- an order was whole with this line, and was answered
-pub running-order : (checks : Bool) (result : Result (Unit {0}) Failed) (run : Run) (cut : Cut) (count : ℕ) (whole : List OrderLines) (told : Progress) (before after : Option (List ℕ)) (room left : ℕ) →
+pub running-order : (checks : Bool) (result : Result (Unit {0}) Failed) (run : Run) (cut : CutLines) (count : ℕ) (whole : List OrderLines) (told : TranscriptState) (before after : Option (List ℕ)) (room left : ℕ) →
     cut ≡ record { count = count; whole = whole; «open» = None } → run.load ≡ None →
     AnswersOrders checks result run whole told before after room left → Answers checks result run cut told before after room left
 running-order checks result run cut count whole told before after room left is no_load answers = record {
   more = answers.more;
   goes = answers.goes;
-  running = subst (λ (c : Cut). IsRunning checks run c answers.more) (sym is) (record { tells = answers.tells; load = subst (λ o. IsOpen o None) (sym no_load) tt });
+  running = subst (λ (c : CutLines). IsRunning checks run c answers.more) (sym is) (record { tells = answers.tells; load = subst (λ o. IsOpen o None) (sym no_load) tt });
 }
 
 -- nothing is told
-pub Goes-nothing : (told : Progress) (before : Option (List ℕ)) (room : ℕ) → WritesAll before before room room [] → Goes (Ok tt) told told before before room room
+pub Goes-nothing : (told : TranscriptState) (before : Option (List ℕ)) (room : ℕ) → WritesAll before before room room [] → Goes (Ok tt) told told before before room room
 Goes-nothing told before room nothing = record { text = []; text_is = sym (append-nil told.text); writes = nothing }
 
 -- nothing is told, and a load hasn't ended
-pub running-load : (checks : Bool) (run : Run) (load : Load) (cut : Cut) (count : ℕ) (whole : List OrderLines) (lines : LoadLines) (told : Progress) (before : Option (List ℕ)) (room : ℕ) →
+pub running-load : (checks : Bool) (run : Run) (load : Load) (cut : CutLines) (count : ℕ) (whole : List OrderLines) (lines : LoadLines) (told : TranscriptState) (before : Option (List ℕ)) (room : ℕ) →
     cut ≡ record { count = count; whole = whole; «open» = Some lines } → run.load ≡ Some load → IsRead load lines → Tells checks run whole told →
     WritesAll before before room room [] → Answers checks (Ok tt) run cut told before before room room
 running-load checks run load cut count whole lines told before room is loaded read tells nothing = record {
   more = told;
   goes = Goes-nothing told before room nothing;
-  running = subst (λ (c : Cut). IsRunning checks run c told) (sym is) (record { tells = tells; load = subst (λ o. IsOpen o (Some lines)) (sym loaded) read });
+  running = subst (λ (c : CutLines). IsRunning checks run c told) (sym is) (record { tells = tells; load = subst (λ o. IsOpen o (Some lines)) (sym loaded) read });
 }
 
 -- nothing is told, and each load has ended
-pub running-silent : (checks : Bool) (run : Run) (cut : Cut) (count : ℕ) (whole : List OrderLines) (told : Progress) (before : Option (List ℕ)) (room : ℕ) →
+pub running-silent : (checks : Bool) (run : Run) (cut : CutLines) (count : ℕ) (whole : List OrderLines) (told : TranscriptState) (before : Option (List ℕ)) (room : ℕ) →
     cut ≡ record { count = count; whole = whole; «open» = None } → run.load ≡ None → Tells checks run whole told →
     WritesAll before before room room [] → Answers checks (Ok tt) run cut told before before room room
 running-silent checks run cut count whole told before room is no_load tells nothing =
@@ -262,7 +262,7 @@ running-silent checks run cut count whole told before room is no_load tells noth
     (record { more = told; goes = Goes-nothing told before room nothing; tells = tells })
 
 -- what is told stays where the run differs in its load alone
-pub tells-on : (checks : Bool) (run new : Run) (whole : List OrderLines) (told : Progress) → new.session ≡ run.session → new.counts ≡ run.counts →
+pub tells-on : (checks : Bool) (run new : Run) (whole : List OrderLines) (told : TranscriptState) → new.session ≡ run.session → new.counts ≡ run.counts →
     Tells checks run whole told → Tells checks new whole told
 tells-on checks run new whole told session counts tells = record {
   checks_is = ap (λ s. s.checks) session ∙ tells.checks_is;

@@ -41,13 +41,13 @@ first_line (single line) = line.number
 first_line (load lines ended) = lines.head.number
 
 -- how many lines there were, the orders that are whole, and the load that hasn't ended
-pub record Cut : Type 0 where
+pub record CutLines : Type 0 where
   pub count : ℕ
   pub whole : List OrderLines
   pub «open» : Option LoadLines
 
 -- with a line outside loads
-abbrev pub cut_outside : List OrderLines → NumberedLine → Cut
+abbrev pub cut_outside : List OrderLines → NumberedLine → CutLines
 cut_outside whole line =
     if opens line.text then record {
       count = line.number;
@@ -59,7 +59,7 @@ cut_outside whole line =
     else record { count = line.number; whole = whole ++ single line ∷ []; «open» = None })
 
 -- with a line inside a load
-abbrev pub cut_inside : List OrderLines → LoadLines → NumberedLine → Cut
+abbrev pub cut_inside : List OrderLines → LoadLines → NumberedLine → CutLines
 cut_inside whole lines line =
     if ends line.text then record {
       count = line.number;
@@ -75,20 +75,20 @@ cut_inside whole lines line =
           (record lines { nodes = lines.nodes ++ line ∷ [] });
     })
 
-abbrev pub cut_by : Option LoadLines → List OrderLines → NumberedLine → Cut
+abbrev pub cut_by : Option LoadLines → List OrderLines → NumberedLine → CutLines
 cut_by None whole line = cut_outside whole line
 cut_by (Some lines) whole line = cut_inside whole lines line
 
 -- one more line
-abbrev pub with_line : Cut → List ℕ → Cut
+abbrev pub with_line : CutLines → List ℕ → CutLines
 with_line cut text = cut_by cut.«open» cut.whole (record { number = suc cut.count; text = text })
 
 -- line by line
-abbrev pub cut_further : Cut → List (List ℕ) → Cut
+abbrev pub cut_further : CutLines → List (List ℕ) → CutLines
 cut_further cut [] = cut
 cut_further cut (line ∷ lines) = cut_further (with_line cut line) lines
 
-abbrev pub cut_of : List (List ℕ) → Cut
+abbrev pub cut_of : List (List ℕ) → CutLines
 cut_of lines = cut_further (record { count = 0; whole = []; «open» = None }) lines
 
 -- the orders that are whole in these lines

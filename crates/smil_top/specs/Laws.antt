@@ -15,7 +15,7 @@ use Rattle.smil_top.specs.declared.fault.Fault.{Fault}
 use Rattle.smil_top.specs.Cut.{NumberedLine, OrderLines, single, load, first_line, whole_orders, orders}
 use Rattle.smil_top.specs.Session.{Session, is_named, presentation_of}
 use Rattle.smil_top.specs.Answers.{Answer, at_line, answer_within, check_within}
-use Rattle.smil_top.specs.Transcript.{Answering, Progress, untold, with_answer, is_memory, IsTranscriptBy, transcript_by}
+use Rattle.smil_top.specs.Transcript.{Answering, TranscriptState, untold, with_answer, is_memory, IsTranscriptBy, transcript_by}
 
 -- ---- transcripts, answer by answer
 
@@ -38,7 +38,7 @@ answer_to answering session tried =
     if tried.lacks then at_line (first_line tried.order) (Err Memory) else answering session tried.order
 
 -- what orders are told in turn
-abbrev pub told_by : Answering → List OrderAttempt → Progress
+abbrev pub told_by : Answering → List OrderAttempt → TranscriptState
 told_by answering tried = fold (λ told one. with_answer told (answer_to answering told.session one)) untold tried
 
 -- what is heard of an answer: its text, or the refusal and its line
@@ -89,7 +89,7 @@ any_refused_as kind answered = list_any (λ (one : AnsweredOrder). refuses_as ki
 -- every transcript is what its orders are told, memory running out at some of them
 abbrev pub TranscriptsAreTold : Type 0
 TranscriptsAreTold =
-    (answering : Answering) (orders : List OrderLines) (told : Progress) → IsTranscriptBy answering orders told
+    (answering : Answering) (orders : List OrderLines) (told : TranscriptState) → IsTranscriptBy answering orders told
     → (tried : List OrderAttempt) × (orders_of tried ≡ orders) × (told_by answering tried ≡ told)
 
 -- and memory may run out at any of them
@@ -135,7 +135,7 @@ HasTranscript = (allowed : Limits) → HasEase (answer_within allowed) × HasEas
 -- and no other such transcript
 abbrev pub HasOneTranscript : Type 0
 HasOneTranscript =
-    (answering : Answering) (orders : List OrderLines) (told : Progress) → IsTranscriptBy answering orders told
+    (answering : Answering) (orders : List OrderLines) (told : TranscriptState) → IsTranscriptBy answering orders told
     → told.memory ≡ false
     → told ≡ transcript_by answering orders
 
@@ -340,8 +340,8 @@ abbrev pub InputsAreCut : Type 0
 InputsAreCut = (came more : List ℕ) → SharesFirstOrders came more
 
 -- the transcript of the first orders is the front of the transcript of more
-pub record HasFront (answering : Answering) (first : List OrderLines) (told : Progress) : Type 0 where
-  pub front : Progress
+pub record HasFront (answering : Answering) (first : List OrderLines) (told : TranscriptState) : Type 0 where
+  pub front : TranscriptState
   pub rest : List ℕ
   pub transcript : IsTranscriptBy answering first front
   pub text : told.text ≡ front.text ++ rest
@@ -349,14 +349,14 @@ pub record HasFront (answering : Answering) (first : List OrderLines) (told : Pr
 -- for all transcripts
 abbrev pub TranscriptsHaveFronts : Type 0
 TranscriptsHaveFronts =
-    (answering : Answering) (first later : List OrderLines) (told : Progress)
+    (answering : Answering) (first later : List OrderLines) (told : TranscriptState)
     → IsTranscriptBy answering (first ++ later) told
     → HasFront answering first told
 
 -- so the transcript of a part of an input from its front is a front of the whole one, which ends where an order ends,
 -- and the answer of at most one order more
-pub record IsFrontAndOne (answering : Answering) (came : List ℕ) (part whole : Progress) : Type 0 where
-  pub front : Progress
+pub record IsFrontAndOne (answering : Answering) (came : List ℕ) (part whole : TranscriptState) : Type 0 where
+  pub front : TranscriptState
   pub rest : List ℕ
   pub transcript : IsTranscriptBy answering (whole_orders (whole_lines came)) front
   pub text : whole.text ≡ front.text ++ rest
@@ -373,9 +373,9 @@ TranscriptsAreCut =
 -- and where memory ran out at some orders, the part has a transcript in which it ran out at the same ones
 abbrev pub AllTranscriptsAreCut : Type 0
 AllTranscriptsAreCut =
-    (answering : Answering) (came more : List ℕ) (whole : Progress)
+    (answering : Answering) (came more : List ℕ) (whole : TranscriptState)
     → IsTranscriptBy answering (orders (lines (came ++ more))) whole
-    → (part : Progress) × IsTranscriptBy answering (orders (lines came)) part × IsFrontAndOne answering came part whole
+    → (part : TranscriptState) × IsTranscriptBy answering (orders (lines came)) part × IsFrontAndOne answering came part whole
 
 -- ---- migration
 

@@ -23,17 +23,17 @@ use Rattle.smil_words.specs.declared.mode.Mode.TheVariants as mode
 use Rattle.smil_top.specs.declared.answer.Answer.{Answer as AnswerText}
 use Rattle.smil_top.specs.declared.counts.Counts.{Counts}
 use Rattle.smil_top.specs.declared.fault.Fault.{Fault}
-use Rattle.smil_top.specs.declared.given.LoadedDoc.{LoadedDoc as GivenDoc}
+use Rattle.smil_top.specs.declared.loaded.LoadedDoc.{LoadedDoc as GivenDoc}
 use Rattle.smil_top.specs.declared.load.Load.{Load as LoadSoFar}
-use Rattle.smil_top.specs.declared.given.NamedOutline.{NamedOutline}
+use Rattle.smil_top.specs.declared.loaded.NamedOutline.{NamedOutline}
 use Rattle.smil_top.specs.declared.run.Run.{Run}
 use Rattle.smil_top.specs.declared.status.Status.{Status}
 use Rattle.smil_top.specs.declared.status.Status.TheVariants as status
-use Rattle.smil_top.specs.Cut.{NumberedLine, LoadLines, OrderLines, Cut, unended, orders}
+use Rattle.smil_top.specs.Cut.{NumberedLine, LoadLines, OrderLines, CutLines, unended, orders}
 use Rattle.smil_top.specs.Session.{Session}
 use Rattle.smil_top.specs.Houses.{Presentations, Holds}
 use Rattle.smil_top.specs.Answers.{AcceptedOrder, LoadedDocument, at_line, name_of, outline_from, said_within, silent, loaded_within, checked, outline_in, answer_of, check_of}
-use Rattle.smil_top.specs.Transcript.{Answering, MayAnswer, Progress, IsTranscriptBy, is_memory}
+use Rattle.smil_top.specs.Transcript.{Answering, MayAnswer, TranscriptState, IsTranscriptBy, is_memory}
 use Rattle.smil_top.specs.declared.generated.Summary.{Summary}
 use Rattle.smil_top.specs.Summary.{line_count, session_told, summary}
 use Rattle.smil_top.specs.Serving.{Runs, status_of, status_by}
@@ -184,7 +184,7 @@ with_order (Err fault) lines counts = record counts {
 }
 
 -- what is counted of these orders, told so
-pub record AreCounted (counts : Counts) (orders : List OrderLines) (told : Progress) : Type 0 where
+pub record AreCounted (counts : Counts) (orders : List OrderLines) (told : TranscriptState) : Type 0 where
   pub orders_are : counts.orders ≡ min (length orders) last_count
   pub refused_is : counts.refused ≡ min told.refused last_count
   pub lines_are : counts.lines ≡ min (line_count told.text) last_count
@@ -199,14 +199,14 @@ pub record AreExact (counts : Counts) : Type 0 where
 -- ---- a run
 
 -- these orders were answered, and this was told
-pub record Tells (checks : Bool) (run : Run) (orders : List OrderLines) (told : Progress) : Type 0 where
+pub record Tells (checks : Bool) (run : Run) (orders : List OrderLines) (told : TranscriptState) : Type 0 where
   pub checks_is : run.session.checks ≡ checks
   pub transcript : IsTranscriptBy (answering checks) orders told
   pub holds : Holds run.session.house told.session
   pub counted : AreCounted run.counts orders told
 
 -- a session whose whole orders were answered, and this was told
-pub record IsRunning (checks : Bool) (run : Run) (cut : Cut) (told : Progress) : Type 0 where
+pub record IsRunning (checks : Bool) (run : Run) (cut : CutLines) (told : TranscriptState) : Type 0 where
   pub tells : Tells checks run cut.whole told
   pub load : IsOpen run.load cut.«open»
 
@@ -229,34 +229,34 @@ Writes (Ok done) before after room left text = WritesAll before after room left 
 Writes (Err e) before after room left text = WritesPart before after room text
 
 -- more was told, and it or a part of it was written
-pub record Goes (result : Result (Unit {0}) Failed) (told more : Progress)
+pub record Goes (result : Result (Unit {0}) Failed) (told more : TranscriptState)
     (before after : Option (List ℕ)) (room left : ℕ) : Type 0 where
   pub text : List ℕ
   pub text_is : more.text ≡ told.text ++ text
   pub writes : Writes result before after room left text
 
 -- more was told, and with it the orders are answered that are whole now
-pub record Answers (checks : Bool) (result : Result (Unit {0}) Failed) (run : Run) (cut : Cut)
-    (told : Progress) (before after : Option (List ℕ)) (room left : ℕ) : Type 0 where
-  pub more : Progress
+pub record Answers (checks : Bool) (result : Result (Unit {0}) Failed) (run : Run) (cut : CutLines)
+    (told : TranscriptState) (before after : Option (List ℕ)) (room left : ℕ) : Type 0 where
+  pub more : TranscriptState
   pub goes : Goes result told more before after room left
   pub running : IsRunning checks run cut more
 
 -- the same for one order more, or for the end of the input
 pub record AnswersOrders (checks : Bool) (result : Result (Unit {0}) Failed) (run : Run)
-    (orders : List OrderLines) (told : Progress) (before after : Option (List ℕ)) (room left : ℕ) : Type
+    (orders : List OrderLines) (told : TranscriptState) (before after : Option (List ℕ)) (room left : ℕ) : Type
     0 where
-  pub more : Progress
+  pub more : TranscriptState
   pub goes : Goes result told more before after room left
   pub tells : Tells checks run orders more
 
 -- how the call ends
-abbrev pub ended_by : Result (Unit {0}) Failed → Progress → Status
+abbrev pub ended_by : Result (Unit {0}) Failed → TranscriptState → Status
 ended_by (Ok done) told = status_of told
 ended_by (Err e) told = status.WriteFault
 
 -- the input has ended, all of it is answered, and the status says how; or the write failed
-pub record Ends (checks : Bool) (ended : Status) (run : Run) (cut : Cut) (told : Progress)
+pub record Ends (checks : Bool) (ended : Status) (run : Run) (cut : CutLines) (told : TranscriptState)
     (before after : Option (List ℕ)) (room left : ℕ) : Type 0 where
   pub result : Result (Unit {0}) Failed
   pub answers : AnswersOrders checks result run (cut.whole ++ unended cut.«open») told before after room left
@@ -298,7 +298,7 @@ asked_by false = mode.Run
 
 -- the input was read to its end, and all of it was answered
 pub record IsAll (checks : Bool) (ended : Status) (run : Run) (came text : List ℕ) : Type 0 where
-  pub told : Progress
+  pub told : TranscriptState
   pub tells : Tells checks run (orders (lines came)) told
   pub text_is : text ≡ told.text
   pub ended_is : ended ≡ status_of told

@@ -10,7 +10,7 @@ use Rattle.smil_top.specs.declared.status.Status.{Status}
 use Rattle.smil_top.specs.declared.status.Status.TheVariants as status
 use Rattle.smil_top.specs.Cut.{OrderLines, orders, whole_orders}
 use Rattle.smil_top.specs.Answers.{answer_of, check_of}
-use Rattle.smil_top.specs.Transcript.{Answering, Progress, IsTranscriptBy}
+use Rattle.smil_top.specs.Transcript.{Answering, TranscriptState, IsTranscriptBy}
 use Rattle.smil_top.specs.Summary.{session_told, summary}
 use Rattle.smil_top.specs.Words.{usage_line}
 
@@ -21,7 +21,7 @@ status_by true false = status.Refused
 status_by false false = status.Clean
 
 -- how a call ends that has told all
-abbrev pub status_of : Progress → Status
+abbrev pub status_of : TranscriptState → Status
 status_of told = status_by (nat_lt 0 told.refused) told.memory
 
 -- ---- a session is read
@@ -32,7 +32,7 @@ counted_bytes came = take INPUT_BYTES came
 
 -- the whole transcript of a whole input, with which a call ends so
 pub record IsWholeTranscript (answering : Answering) (ended : Status) (came text : List ℕ) : Type 0 where
-  pub told : Progress
+  pub told : TranscriptState
   pub transcript : IsTranscriptBy answering (orders (lines came)) told
   pub text_is : text ≡ told.text
   pub ended_is : ended ≡ status_of told
@@ -41,7 +41,7 @@ pub record IsWholeTranscript (answering : Answering) (ended : Status) (came text
 -- the transcript of the orders that are whole in the whole lines of what counts
 abbrev pub IsCutShort : Answering → List ℕ → List ℕ → Type 0
 IsCutShort answering came text =
-    (told : Progress) × IsTranscriptBy answering (whole_orders (whole_lines (counted_bytes came))) told × (text ≡ told.text)
+    (told : TranscriptState) × IsTranscriptBy answering (whole_orders (whole_lines (counted_bytes came))) told × (text ≡ told.text)
 
 -- a part of the text from its front, and not all of it; the sink had no sure room for all of it
 pub record IsPart (text whole : List ℕ) (room : ℕ) : Type 0 where
@@ -60,7 +60,7 @@ AreFirst first rest came =
 -- a part of the transcript of the orders that were read first
 abbrev pub IsBroken : Answering → Option (List ℕ) → List ℕ → List ℕ → ℕ → Type 0
 IsBroken answering rest came text room =
-    (first : List OrderLines) × (told : Progress) × AreFirst first rest came × IsTranscriptBy answering first told
+    (first : List OrderLines) × (told : TranscriptState) × AreFirst first rest came × IsTranscriptBy answering first told
     × IsPart text told.text room
 
 -- these bytes came, and this text was written to a sink with so much sure room

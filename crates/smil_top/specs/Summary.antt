@@ -10,14 +10,14 @@ use Rattle.smil_gen.specs.Session.{session_text}
 use Rattle.smil_top.specs.Cut.{OrderLines, orders}
 use Rattle.smil_top.specs.Session.{Session, presentation_of}
 use Rattle.smil_top.specs.Answers.{answer_of}
-use Rattle.smil_top.specs.Transcript.{Progress, transcript_by}
+use Rattle.smil_top.specs.Transcript.{TranscriptState, transcript_by}
 
 -- the orders of the session that a number makes
 abbrev pub session_orders : ℕ → List OrderLines
 session_orders number = orders (lines (session_text number))
 
 -- and its transcript without a memory answer
-abbrev pub session_told : ℕ → Progress
+abbrev pub session_told : ℕ → TranscriptState
 session_told number = transcript_by answer_of (session_orders number)
 
 -- how many lines a transcript has
@@ -42,7 +42,7 @@ count_lines number orders refused lines moment =
     ++ count_line (codes "moment") moment
 
 -- of these orders, told so: their number, those that were refused, the lines of the transcript, and the moment of `g`
-abbrev pub told_of : ℕ → List OrderLines → Progress → List ℕ
+abbrev pub told_of : ℕ → List OrderLines → TranscriptState → List ℕ
 told_of number orders told =
     count_lines number (length orders) told.refused (line_count told.text) (moment_in (codes "g") told.session)
 

@@ -18,14 +18,14 @@ MayAnswer answering session order answer =
     (answer ≡ answering session order) ⊎ (answer ≡ at_line (first_line order) (Err Memory))
 
 -- the text so far, the session, how many orders were refused for a fault, and whether one was since memory ran out
-pub record Progress : Type 0 where
+pub record TranscriptState : Type 0 where
   pub text : List ℕ
   pub session : Session
   pub refused : ℕ
   pub memory : Bool
 
 -- before the first order
-abbrev pub untold : Progress
+abbrev pub untold : TranscriptState
 untold = record { text = []; session = []; refused = 0; memory = false }
 
 -- memory ran out
@@ -34,7 +34,7 @@ is_memory Memory = true
 is_memory _ = false
 
 -- with one more answer; a refused order leaves the session as it was
-abbrev pub with_answer : Progress → Answer → Progress
+abbrev pub with_answer : TranscriptState → Answer → TranscriptState
 with_answer told (Ok accepted) = record told { text = told.text ++ accepted.text; session = accepted.session }
 with_answer told (Err fault) = record told {
   text = told.text ++ refusal_line fault.line fault.refusal;
@@ -43,24 +43,24 @@ with_answer told (Err fault) = record told {
 }
 
 -- the orders were answered in turn, each in the session that the orders before it left
-pub data IsTranscriptBy (answering : Answering) : List OrderLines → Progress → Type 0 where
+pub data IsTranscriptBy (answering : Answering) : List OrderLines → TranscriptState → Type 0 where
   of_nothing : IsTranscriptBy answering [] untold
-  and_then : {orders : List OrderLines} {told : Progress} → IsTranscriptBy answering orders told
+  and_then : {orders : List OrderLines} {told : TranscriptState} → IsTranscriptBy answering orders told
       → (order : OrderLines) → (answer : Answer) → MayAnswer answering told.session order answer
       → IsTranscriptBy answering (orders ++ order ∷ []) (with_answer told answer)
 
 -- of a session that is run, within limits
-abbrev pub IsTranscriptWithin : Limits → List OrderLines → Progress → Type 0
+abbrev pub IsTranscriptWithin : Limits → List OrderLines → TranscriptState → Type 0
 IsTranscriptWithin allowed orders told = IsTranscriptBy (answer_within allowed) orders told
 
 -- and within those that hold
-abbrev pub IsTranscript : List OrderLines → Progress → Type 0
+abbrev pub IsTranscript : List OrderLines → TranscriptState → Type 0
 IsTranscript orders told = IsTranscriptBy answer_of orders told
 
 -- of a session that is checked
-abbrev pub IsChecked : List OrderLines → Progress → Type 0
+abbrev pub IsChecked : List OrderLines → TranscriptState → Type 0
 IsChecked orders told = IsTranscriptBy check_of orders told
 
 -- the one transcript in which no order was refused since memory ran out
-abbrev pub transcript_by : Answering → List OrderLines → Progress
+abbrev pub transcript_by : Answering → List OrderLines → TranscriptState
 transcript_by answering orders = fold (λ told order. with_answer told (answering told.session order)) untold orders

@@ -3,7 +3,7 @@
 ghost use Rattle.std.specs.Prelude.{◌≡◌, ◌≤◌, ◌++◌, ℕ, List, false, IfOk, OnOk};
 ghost use Rattle.smil_top.specs.Cut.{OrderLines};
 ghost use Rattle.smil_top.specs.Summary.{count_line, count_lines, told_of};
-ghost use Rattle.smil_top.specs.Transcript.{Progress};
+ghost use Rattle.smil_top.specs.Transcript.{TranscriptState};
 ghost use Rattle.smil_top.specs.Running.{IsSummary, Tells};
 
 use super::counts::Counts;
@@ -55,7 +55,7 @@ pub(crate) fn summary_of<L: Ledger>(
 // The lines that tell of a session that was answered; unless memory runs out, or a count stands at
 // its end.
 fn summary_text(alloc: Global, number: u32, run: &Run) -> Result<Bytes, AllocError>
-    ensures { (orders : List OrderLines) (told : Progress) → Tells false run.now orders told
+    ensures { (orders : List OrderLines) (told : TranscriptState) → Tells false run.now orders told
         → IfOk result (λ text. text ≡ told_of number orders told) }
 {
     if !run.counts.are_exact() {

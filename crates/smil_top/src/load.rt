@@ -8,7 +8,7 @@ ghost use Rattle.smil_top.specs.Answers.{given_within};
 ghost use Rattle.smil_top.specs.Running.{Gives, IsRead, IsLine, Reads, ReadsTitle, given_at, with_node};
 
 use super::fault::Fault;
-use super::given::{LoadedDoc, NamedOutline};
+use super::loaded::{LoadedDoc, NamedOutline};
 use smil_grammar::Read;
 use smil_model::Refusal;
 use smil_outline::Builder;

@@ -2,9 +2,9 @@
 
 ghost use Rattle.std.specs.Prelude.{◌≡◌, ◌≢◌, ◌≤◌, ◌-◌, ℕ, Bool, false, [], ◌++◌, IfOk};
 ghost use Rattle.smil_outside.specs.Faults.{HasRisen};
-ghost use Rattle.smil_outside.specs.Reading.{fresh_reading};
-ghost use Rattle.smil_top.specs.Cut.{Cut, cut_of, unended};
-ghost use Rattle.smil_top.specs.Transcript.{Progress, untold};
+ghost use Rattle.smil_outside.specs.ReaderState.{fresh_reading};
+ghost use Rattle.smil_top.specs.Cut.{CutLines, cut_of, unended};
+ghost use Rattle.smil_top.specs.Transcript.{TranscriptState, untold};
 ghost use Rattle.smil_top.specs.Evaluations.{AreEvaluated};
 ghost use Rattle.smil_top.specs.Running.{Ends, HasEvaluated, IsRunning, Ran, RanCounted};
 
@@ -80,13 +80,13 @@ impl Run {
 
 // Answers a load that hasn't ended, and gives the status.
 fn end<K: Sink>(run: &mut Run, sink: &mut K) -> Status
-    ensures ends { (checks : Bool) (cut : Cut) (told : Progress) → IsRunning checks run.old cut told
+    ensures ends { (checks : Bool) (cut : CutLines) (told : TranscriptState) → IsRunning checks run.old cut told
         → Ends checks result run.new cut told (K.taken sink.old) (K.taken sink.new)
         (K.sure_room sink.old) (K.sure_room sink.new) }
     ensures cause { result ≡ Status.WriteFault → HasRisen (K.faults sink.old) (K.faults sink.new) }
     ensures count { K.faults sink.old ≤ K.faults sink.new }
     ensures read { result ≢ Status.ReadFault }
-    ensures evaluated { (cut : Cut) (told : Progress) (start now : ℕ)
+    ensures evaluated { (cut : CutLines) (told : TranscriptState) (start now : ℕ)
         → IsRunning false run.old cut told
         → HasEvaluated run.old.counts cut.whole start now
         → AreEvaluated result (cut.whole ++ unended cut.«open») (now - start) }

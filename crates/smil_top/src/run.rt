@@ -2,10 +2,10 @@
 
 ghost use Rattle.std.specs.Prelude.{◌≡◌, ◌≤◌, ◌-◌, ℕ, Bool, false, suc, List, ◌∷◌, ◌++◌, [], length, min, option_map, None, Some, IfOk, IfSome, OnErr};
 ghost use Rattle.smil_outside.specs.Faults.{HasRisen, last_count};
-ghost use Rattle.smil_top.specs.Cut.{Cut, LoadLines, OrderLines, single, load as load_order, cut_of, unended, with_line};
+ghost use Rattle.smil_top.specs.Cut.{CutLines, LoadLines, OrderLines, single, load as load_order, cut_of, unended, with_line};
 ghost use Rattle.smil_top.specs.Session.{Session as Presentations};
 ghost use Rattle.smil_top.specs.Summary.{line_count};
-ghost use Rattle.smil_top.specs.Transcript.{Progress, untold};
+ghost use Rattle.smil_top.specs.Transcript.{TranscriptState, untold};
 ghost use Rattle.smil_top.specs.Houses.{Holds};
 ghost use Rattle.smil_top.specs.Evaluations.{Bound, number_of};
 ghost use Rattle.smil_top.specs.Running.{answering, with_order, said, Answers, AnswersOrders, EvaluatesOn, IsOrderCounted, IsRead, IsRunning, IsLine, MakesAnswer, Tells, Writes};
@@ -60,7 +60,7 @@ impl Run {
         steps: &mut Steps<L>,
     ) -> Result<(), Failed>
         requires short { IfSome next.now.text (λ t. length t.now ≤ LINE_BYTES) }
-        ensures answers { (checks : Bool) (cut : Cut) (told : Progress) (line : List ℕ)
+        ensures answers { (checks : Bool) (cut : CutLines) (told : TranscriptState) (line : List ℕ)
             → IsRunning checks self.old cut told
             → next.now.number ≡ suc cut.count → IsLine (option_map (λ t. t.now) next.now.text) line
             → Answers checks result self.new (with_line cut line) told (K.taken sink.old)
@@ -68,7 +68,7 @@ impl Run {
         ensures cause { OnErr result (HasRisen (K.faults sink.old) (K.faults sink.new)) }
         ensures count { K.faults sink.old ≤ K.faults sink.new }
         ensures counted { steps.old ≤ steps.new }
-        ensures evaluated { (cut : Cut) (told : Progress) (line : List ℕ)
+        ensures evaluated { (cut : CutLines) (told : TranscriptState) (line : List ℕ)
             → IsRunning false self.old cut told
             → next.now.number ≡ suc cut.count → IsLine (option_map (λ t. t.now) next.now.text) line
             → EvaluatesOn self.old.counts self.new.counts cut.whole (with_line cut line).whole
@@ -90,7 +90,7 @@ impl Run {
     ) -> Result<(), Failed>
         requires short { IfSome next.now.text (λ t. length t.now ≤ LINE_BYTES) }
         requires outside { self.old.load ≡ None }
-        ensures answers { (checks : Bool) (cut : Cut) (lines : LoadLines) (told : Progress)
+        ensures answers { (checks : Bool) (cut : CutLines) (lines : LoadLines) (told : TranscriptState)
             (line : List ℕ) → cut.«open» ≡ Some lines → IsRead load lines
             → Tells checks self.old cut.whole told → next.now.number ≡ suc cut.count
             → IsLine (option_map (λ t. t.now) next.now.text) line
@@ -99,7 +99,7 @@ impl Run {
         ensures cause { OnErr result (HasRisen (K.faults sink.old) (K.faults sink.new)) }
         ensures count { K.faults sink.old ≤ K.faults sink.new }
         ensures counted { steps.old ≤ steps.new }
-        ensures evaluated { (cut : Cut) (lines : LoadLines) (told : Progress) (line : List ℕ)
+        ensures evaluated { (cut : CutLines) (lines : LoadLines) (told : TranscriptState) (line : List ℕ)
             → cut.«open» ≡ Some lines
             → IsRead load lines → Tells false self.old cut.whole told
             → next.now.number ≡ suc cut.count → IsLine (option_map (λ t. t.now) next.now.text) line
@@ -128,7 +128,7 @@ impl Run {
     ) -> Result<(), Failed>
         requires short { IfSome next.now.text (λ t. length t.now ≤ LINE_BYTES) }
         requires outside { self.old.load ≡ None }
-        ensures answers { (checks : Bool) (cut : Cut) (told : Progress) (line : List ℕ)
+        ensures answers { (checks : Bool) (cut : CutLines) (told : TranscriptState) (line : List ℕ)
             → cut.«open» ≡ None
             → Tells checks self.old cut.whole told → next.now.number ≡ suc cut.count
             → IsLine (option_map (λ t. t.now) next.now.text) line
@@ -137,7 +137,7 @@ impl Run {
         ensures cause { OnErr result (HasRisen (K.faults sink.old) (K.faults sink.new)) }
         ensures count { K.faults sink.old ≤ K.faults sink.new }
         ensures counted { steps.old ≤ steps.new }
-        ensures evaluated { (cut : Cut) (told : Progress) (line : List ℕ) → cut.«open» ≡ None
+        ensures evaluated { (cut : CutLines) (told : TranscriptState) (line : List ℕ) → cut.«open» ≡ None
             → Tells false self.old cut.whole told
             → next.now.number ≡ suc cut.count → IsLine (option_map (λ t. t.now) next.now.text) line
             → EvaluatesOn self.old.counts self.new.counts cut.whole (with_line cut line).whole
@@ -169,7 +169,7 @@ impl Run {
         steps: &mut Steps<L>,
     ) -> Result<(), Failed>
         requires short { length text.now ≤ LINE_BYTES }
-        ensures answers { (checks : Bool) (whole : List OrderLines) (told : Progress)
+        ensures answers { (checks : Bool) (whole : List OrderLines) (told : TranscriptState)
             → Tells checks self.old whole told
             → AnswersOrders checks result self.new
             (whole ++ single (record { number = number; text = text.now }) ∷ []) told
@@ -178,7 +178,7 @@ impl Run {
         ensures cause { OnErr result (HasRisen (K.faults sink.old) (K.faults sink.new)) }
         ensures count { K.faults sink.old ≤ K.faults sink.new }
         ensures counted { steps.old ≤ steps.new }
-        ensures evaluated { (whole : List OrderLines) (told : Progress)
+        ensures evaluated { (whole : List OrderLines) (told : TranscriptState)
             → Tells false self.old whole told
             → EvaluatesOn self.old.counts self.new.counts
             whole (whole ++ single (record { number = number; text = text.now }) ∷ []) steps.old
@@ -200,7 +200,7 @@ impl Run {
         steps: &mut Steps<L>,
     ) -> Result<(), Failed>
         ensures answers { (checks : Bool) (whole : List OrderLines) (lines : LoadLines)
-            (told : Progress) → IsRead load lines → Tells checks self.old whole told
+            (told : TranscriptState) → IsRead load lines → Tells checks self.old whole told
             → AnswersOrders checks result self.new (whole ++ load_order lines (Some number) ∷ [])
             told
             (K.taken sink.old) (K.taken sink.new) (K.sure_room sink.old) (K.sure_room sink.new) }
@@ -208,7 +208,7 @@ impl Run {
         ensures cause { OnErr result (HasRisen (K.faults sink.old) (K.faults sink.new)) }
         ensures count { K.faults sink.old ≤ K.faults sink.new }
         ensures counted { steps.old ≤ steps.new }
-        ensures evaluated { (whole : List OrderLines) (lines : LoadLines) (told : Progress)
+        ensures evaluated { (whole : List OrderLines) (lines : LoadLines) (told : TranscriptState)
             → IsRead load lines
             → Tells false self.old whole told
             → EvaluatesOn self.old.counts self.new.counts
@@ -251,13 +251,13 @@ impl Run {
 
     /// The end of the input, at which a load that hasn't ended is refused.
     pub fn end<K: Sink>(&mut self, sink: &mut K) -> Result<(), Failed>
-        ensures answers { (checks : Bool) (cut : Cut) (told : Progress)
+        ensures answers { (checks : Bool) (cut : CutLines) (told : TranscriptState)
             → IsRunning checks self.old cut told
             → AnswersOrders checks result self.new (cut.whole ++ unended cut.«open») told
             (K.taken sink.old) (K.taken sink.new) (K.sure_room sink.old) (K.sure_room sink.new) }
         ensures cause { OnErr result (HasRisen (K.faults sink.old) (K.faults sink.new)) }
         ensures count { K.faults sink.old ≤ K.faults sink.new }
-        ensures evaluated { (cut : Cut) (told : Progress) (steps : ℕ)
+        ensures evaluated { (cut : CutLines) (told : TranscriptState) (steps : ℕ)
             → IsRunning false self.old cut told
             → EvaluatesOn self.old.counts self.new.counts cut.whole
             (cut.whole ++ unended cut.«open») steps steps }

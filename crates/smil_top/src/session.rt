@@ -13,8 +13,8 @@ ghost use Rattle.smil_top.specs.Houses.{Holds};
 ghost use Rattle.smil_top.specs.Running.{given_of, line_by, load_by, no_text, single_by, Checks, HoldsTitle, IsCounted, Makes};
 
 use super::answer::Answer;
-use super::given::LoadedDoc;
 use super::last_line::LastLine;
+use super::loaded::LoadedDoc;
 use smil_grammar::Read;
 use smil_house::House;
 use smil_live::Presentation;

@@ -26,24 +26,24 @@ use Rattle.smil_tree.proofs.Spans.{spot, first_place, place_is, end_is, span_is,
 -- ---- those that pass
 
 -- one that passes, and what stands before and behind it
-pub record Passing (t : Node → Bool) (ns : List Node) (c : Node) : Type 0 where
+pub record PassesTest (t : Node → Bool) (ns : List Node) (c : Node) : Type 0 where
   pub front : List Node
   pub back : List Node
   pub is : ns ≡ front ++ c ∷ back
   pub passes : t c ≡ true
 
-pub passing_at : (t : Node → Bool) (ns : List Node) (k : ℕ) (c : Node) → slice_get (filter t ns) k ≡ Some c → Passing t ns c
+pub passing_at : (t : Node → Bool) (ns : List Node) (k : ℕ) (c : Node) → slice_get (filter t ns) k ≡ Some c → PassesTest t ns c
 passing_at t [] k c at = cc
 passing_at t (n ∷ ns) k c at = step (t n) refl at (λ i. passing_at t ns i c)
   where
-    later : Passing t ns c → Passing t (n ∷ ns) c
+    later : PassesTest t ns c → PassesTest t (n ∷ ns) c
     later p = record { front = n ∷ p.front; back = p.back; is = ap (λ ms. n ∷ ms) p.is; passes = p.passes }
 
-    here : (i : ℕ) → t n ≡ true → slice_get (n ∷ filter t ns) i ≡ Some c → ((j : ℕ) → slice_get (filter t ns) j ≡ Some c → Passing t ns c) → Passing t (n ∷ ns) c
+    here : (i : ℕ) → t n ≡ true → slice_get (n ∷ filter t ns) i ≡ Some c → ((j : ℕ) → slice_get (filter t ns) j ≡ Some c → PassesTest t ns c) → PassesTest t (n ∷ ns) c
     here zero e r rest = let one : n ≡ c = cc in record { front = []; back = ns; is = ap (λ m. m ∷ ns) one; passes = ap t (sym one) ∙ e }
     here (suc i) e r rest = later (rest i r)
 
-    step : (b : Bool) → t n ≡ b → slice_get (cond b (n ∷ filter t ns) (filter t ns)) k ≡ Some c → ((j : ℕ) → slice_get (filter t ns) j ≡ Some c → Passing t ns c) → Passing t (n ∷ ns) c
+    step : (b : Bool) → t n ≡ b → slice_get (cond b (n ∷ filter t ns) (filter t ns)) k ≡ Some c → ((j : ℕ) → slice_get (filter t ns) j ≡ Some c → PassesTest t ns c) → PassesTest t (n ∷ ns) c
     step true e r rest = here k e r rest
     step false e r rest = later (rest k r)
 

@@ -18,7 +18,7 @@ use Rattle.smil_tree.specs.declared.fault.TreeFault.TheVariants.{TooDeep, BadPla
 use Rattle.smil_tree.specs.Outcomes.{passes, place_outcome, agrees_with_first}
 use Rattle.smil_tree.proofs.Families.{above_of}
 use Rattle.smil_tree.proofs.KinLists.{none_pass}
-use Rattle.smil_tree.proofs.Kids.{Passing, passing_at, child_told, no_child_told}
+use Rattle.smil_tree.proofs.Kids.{PassesTest, passing_at, child_told, no_child_told}
 use Rattle.smil_tree.proofs.Spans.{each_parts}
 use Rattle.smil_tree.proofs.Standing.{each_of_all, all_of_each}
 
@@ -67,7 +67,7 @@ module _ (nodes : List Node) (next : ℕ) (valid : IsValid (record { nodes = nod
   first_child : (c : Node) → slice_get (children nodes parent) 0 ≡ Some c → same_test (is_class_kind c.kind) (is_class_kind kind) ≡ agree_with nodes parent kind
   first_child c at = both_ways (same_test (is_class_kind c.kind) (is_class_kind kind)) (agree_with nodes parent kind) all_do it_does
     where
-      p : Passing (λ (n : Node). n.parent == parent) nodes c
+      p : PassesTest (λ (n : Node). n.parent == parent) nodes c
       p = passing_at (λ (n : Node). n.parent == parent) nodes 0 c at
 
       it : (P : Node → Type 0) → AllByRecursion P nodes → P c

@@ -29,16 +29,16 @@ fault_of outcome Memory is = tt
 
 -- ---- what is known where nothing is refused
 
-pub record Placed (nodes : List Node) (parent place : ℕ) (kind : Kind) : Type 0 where
+pub record IsPlacedAt (nodes : List Node) (parent place : ℕ) (kind : Kind) : Type 0 where
   pub deep : nat_lt (suc (depth_of nodes parent)) DEPTH ≡ true
   pub counted : is_place nodes parent place ≡ true
   pub stand : may_stand (kind_of (node_at nodes parent)) kind ≡ true
   pub agree : agree_with nodes parent kind ≡ true
 
-pub placed_facts : (nodes : List Node) (parent place : ℕ) (kind : Kind) → place_outcome nodes parent place kind ≡ Ok tt → Placed nodes parent place kind
+pub placed_facts : (nodes : List Node) (parent place : ℕ) (kind : Kind) → place_outcome nodes parent place kind ≡ Ok tt → IsPlacedAt nodes parent place kind
 placed_facts nodes parent place kind is = by_depth (nat_lt (suc (depth_of nodes parent)) DEPTH) refl (is_place nodes parent place && may_stand (kind_of (node_at nodes parent)) kind && agree_with nodes parent kind) refl is
   where
-    by_depth : (t : Bool) → nat_lt (suc (depth_of nodes parent)) DEPTH ≡ t → (u : Bool) → (is_place nodes parent place && may_stand (kind_of (node_at nodes parent)) kind && agree_with nodes parent kind) ≡ u → ◌≡◌ {A = Result ⊤ TreeFault} (cond (not t) (Err TooDeep) (cond u (Ok (tt {0})) (Err BadPlace))) (Ok (tt {0})) → Placed nodes parent place kind
+    by_depth : (t : Bool) → nat_lt (suc (depth_of nodes parent)) DEPTH ≡ t → (u : Bool) → (is_place nodes parent place && may_stand (kind_of (node_at nodes parent)) kind && agree_with nodes parent kind) ≡ u → ◌≡◌ {A = Result ⊤ TreeFault} (cond (not t) (Err TooDeep) (cond u (Ok (tt {0})) (Err BadPlace))) (Ok (tt {0})) → IsPlacedAt nodes parent place kind
     by_depth false e u f r = cc
     by_depth true e false f r = cc
     by_depth true e true f r =

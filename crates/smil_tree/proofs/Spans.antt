@@ -90,13 +90,13 @@ module _ (nodes : List Node) (next : ℕ) (numbered : IsNumberedTree (record { n
   known_parts front back is = each_parts (λ (n : Node). node_at nodes n.serial ≡ Some n) front back (subst (λ (xs : List Node). AllByRecursion (λ (n : Node). node_at nodes n.serial ≡ Some n) xs) is all_known)
 
   -- what is open before nodes of which none is the root
-  record Opened (root : Node) (front back : List Node) : Type 0 where
+  record IsOpened (root : Node) (front back : List Node) : Type 0 where
     last : ℕ
     opened_is : opened_after (root.serial ∷ []) front ≡ serials (lineage nodes last)
     first : IsTreeFrom (root.serial ∷ []) front
     rest : IsTreeFrom (opened_after (root.serial ∷ []) front) back
 
-  opened_at : (root : Node) (front back : List Node) → nodes ≡ root ∷ front ++ back → Opened root front back
+  opened_at : (root : Node) (front back : List Node) → nodes ≡ root ∷ front ++ back → IsOpened root front back
   opened_at root front back is =
       let tree : IsTree (root ∷ front ++ back) = subst IsTree is numbered.tree in
       let parts = tree_parts (root.serial ∷ []) front back tree.1 in

@@ -36,7 +36,7 @@ pub struct Tree {
 }
 
 impl Drop for Tree {
-    // Dropped by a call of its own, so that no function that lets one go drops it field by field.
+    // Dropped by a call of its own, not field by field in each function that drops one.
     fn drop(self) {
         let Tree {
             nodes: _nodes,

@@ -16,7 +16,7 @@ pub enum Change {
 
 /// What is to happen to an element, with the key that orders it among all that is to happen.
 #[derive(Clone, Copy, Debug, PartialEq, Eq)]
-pub struct Coming {
+pub struct DueChange {
     pub key: Key,
     pub change: Change,
 }

@@ -10,23 +10,23 @@ use Rattle.smil_model.specs.diary.Diary.{History, gives_birth, since_birth}
 use Rattle.smil_model.specs.diary.Clocks.{outer}
 
 -- a begin or an end: its value on the time parent's clock, and its moment
-pub record Mark : Type 0 where
+pub record PlayEdge : Type 0 where
   pub value : ℤ
   pub moment : ℤ
 
 -- a finished interval; it was finished by an end, or by a cut, whose value is that of the clock at its moment
 pub record FinishedInterval : Type 0 where
-  pub begin : Mark
-  pub finish : Mark
+  pub begin : PlayEdge
+  pub finish : PlayEdge
   pub was_cut : Bool
 
 -- the begin of the present play, and the finished intervals in order
 pub record Plays : Type 0 where
-  pub present : Option Mark
+  pub present : Option PlayEdge
   pub finished : List FinishedInterval
 
 -- an end or a cut finishes the interval that began
-abbrev pub finish_with : Option Mark → Mark → Bool → List FinishedInterval → List FinishedInterval
+abbrev pub finish_with : Option PlayEdge → PlayEdge → Bool → List FinishedInterval → List FinishedInterval
 finish_with None finish was_cut done = done
 finish_with (Some begin) finish was_cut done =
     done ++ record { begin = begin; finish = finish; was_cut = was_cut } ∷ []

@@ -20,7 +20,7 @@ pub data Change : Type 0 where
   repeats : ℤ → Change
 
 -- a change of an element, with the key that orders it among all that is to happen
-pub record Coming : Type 0 where
+pub record DueChange : Type 0 where
   pub key : Key
   pub change : Change
 
@@ -28,7 +28,7 @@ abbrev pub is_repeating : Change → Bool
 is_repeating (repeats start) = true
 is_repeating _ = false
 
-abbrev pub coming_at : ℤ → ℕ → ℕ → Node → Change → Coming
+abbrev pub coming_at : ℤ → ℕ → ℕ → Node → Change → DueChange
 coming_at moment class place e change = record {
   key = record {
     value = moment;
@@ -41,22 +41,22 @@ coming_at moment class place e change = record {
 }
 
 -- the begin of a current interval, in class 2
-abbrev pub coming_begin : History → ℤ → ℕ → Node → Option Interval → List Coming
+abbrev pub coming_begin : History → ℤ → ℕ → Node → Option Interval → List DueChange
 coming_begin h now place e None = []
 coming_begin h now place e (Some i) = coming_at (to_document h e.serial i.begin now) 2 place e (begins i.begin) ∷ []
 
 -- the end of a current interval that is a number: in class 1, and in class 3 where the length is 0
-abbrev pub coming_end_at : History → ℤ → ℕ → Node → ℤ → Time → List Coming
+abbrev pub coming_end_at : History → ℤ → ℕ → Node → ℤ → Time → List DueChange
 coming_end_at h now place e begin (At v) =
     coming_at (to_document h e.serial v now) (if int_lt begin v then 1 else 3) place e (ends v) ∷ []
 coming_end_at h now place e begin _ = []
 
-abbrev pub coming_end : History → ℤ → ℕ → Node → Option Interval → List Coming
+abbrev pub coming_end : History → ℤ → ℕ → Node → Option Interval → List DueChange
 coming_end h now place e None = []
 coming_end h now place e (Some i) = coming_end_at h now place e i.begin i.«end»
 
 -- a repeat, where the simple duration is above 0 and the iteration ends, at a number, before the play's intermediate end
-abbrev pub coming_repeat_at : History → ℤ → ℕ → Node → Time → Time → List Coming
+abbrev pub coming_repeat_at : History → ℤ → ℕ → Node → Time → Time → List DueChange
 coming_repeat_at h now place e simple (At over) =
     if not (time_le simple (At (pos 0)))
     && not (time_le (intermediate_end (bounds_of e.attrs) simple (play_start h e.serial) (iteration_start h e.serial) (iteration h e.serial)) (At over))
@@ -65,7 +65,7 @@ coming_repeat_at h now place e simple (At over) =
 coming_repeat_at h now place e simple _ = []
 
 -- an element with `repeatCount` or `repeatDur` repeats while its own clock runs
-abbrev pub coming_repeat : History → (ℕ → Option Interval) → ℤ → ℕ → Node → List Coming
+abbrev pub coming_repeat : History → (ℕ → Option Interval) → ℤ → ℕ → Node → List DueChange
 coming_repeat h intervals now place e =
     if (is_some e.attrs.repeat_count || is_some e.attrs.repeat_dur) && not (stands h e.serial)
     then coming_repeat_at h now place e (simple_of h intervals e)
@@ -73,26 +73,26 @@ coming_repeat h intervals now place e =
     else []
 
 -- what comes of an element: its begin or its end while the time parent's clock runs, and its repeat while it is active
-abbrev pub coming_of : History → (ℕ → Option Interval) → ℤ → ℕ → Node → List Coming
+abbrev pub coming_of : History → (ℕ → Option Interval) → ℤ → ℕ → Node → List DueChange
 coming_of h intervals now place e =
     if is_active h.diary e.serial
     then (if outer_stands h e.serial then [] else coming_end h now place e (intervals e.serial))
     ++ coming_repeat h intervals now place e
     else (if outer_stands h e.serial then [] else coming_begin h now place e (intervals e.serial))
 
-abbrev pub coming_from : History → (ℕ → Option Interval) → ℤ → ℕ → List Node → List Coming
+abbrev pub coming_from : History → (ℕ → Option Interval) → ℤ → ℕ → List Node → List DueChange
 coming_from h intervals now place [] = []
 coming_from h intervals now place (e ∷ es) =
     coming_of h intervals now place e ++ coming_from h intervals now (suc place) es
 
 -- what comes of all elements, by their current intervals
-abbrev pub coming : History → ℤ → List Coming
+abbrev pub coming : History → ℤ → List DueChange
 coming h now =
     let rows = current_table h now in
     coming_from h (in_table rows) now 0 (elements h.nodes)
 
 abbrev pub keys : History → ℤ → List Key
-keys h now = map (λ (c : Coming). c.key) (coming h now)
+keys h now = map (λ (c : DueChange). c.key) (coming h now)
 
 -- ---- the order of keys
 
@@ -120,12 +120,12 @@ earlier_key (Some l) k = if comes_before k l then Some k else Some l
 abbrev pub least_key : List Key → Option Key
 least_key ks = fold earlier_key None ks
 
-abbrev pub earlier_coming : Option Coming → Coming → Option Coming
+abbrev pub earlier_coming : Option DueChange → DueChange → Option DueChange
 earlier_coming None c = Some c
 earlier_coming (Some b) c = if comes_before c.key b.key then Some c else Some b
 
 -- what comes first
-abbrev pub first_coming : List Coming → Option Coming
+abbrev pub first_coming : List DueChange → Option DueChange
 first_coming cs = fold earlier_coming None cs
 
 -- what is due at a moment: its key is not above it

@@ -7,7 +7,7 @@ use Rattle.smil_model.specs.declared.diary.Step.TheVariants.{Logged}
 use Rattle.smil_model.specs.declared.limits.TheConstants.{DIARY_ENTRIES}
 use Rattle.smil_model.specs.declared.document.Node.{Node}
 use Rattle.smil_model.specs.diary.Diary.{History}
-use Rattle.smil_model.specs.happening.Keys.{Coming, coming, first_coming, is_due}
+use Rattle.smil_model.specs.happening.Keys.{DueChange, coming, first_coming, is_due}
 use Rattle.smil_model.specs.happening.Groups.{group}
 
 -- a document with its log, up to a last moment
@@ -50,7 +50,7 @@ after_settling c p (Some entry) =
     else after_quiet c p
 
 -- what is due happens first, that of the least key
-abbrev pub after_coming : Course → Progress → Option Coming → Option Progress
+abbrev pub after_coming : Course → Progress → Option DueChange → Option Progress
 after_coming c p None = after_settling c p (slice_get c.log p.heard)
 after_coming c p (Some next) =
     if is_due (pos p.moment) next.key

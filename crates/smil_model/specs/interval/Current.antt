@@ -27,7 +27,7 @@ use Rattle.smil_model.specs.document.Document.{elements, time_children, has_id}
 use Rattle.smil_model.specs.document.Defaults.{restart_of, min_of, max_of, endsync_of}
 use Rattle.smil_model.specs.diary.Diary.{History, is_active, is_alive, is_paused, is_deferred, iteration}
 use Rattle.smil_model.specs.diary.Clocks.{run, outer, play_start, iteration_start, parent_start}
-use Rattle.smil_model.specs.diary.Plays.{Mark, FinishedInterval, plays, last_finished, first_of, passed}
+use Rattle.smil_model.specs.diary.Plays.{PlayEdge, FinishedInterval, plays, last_finished, first_of, passed}
 use Rattle.smil_model.specs.interval.Durations.{simple_duration, container_duration}
 use Rattle.smil_model.specs.interval.Instances.{begin_times, end_times}
 use Rattle.smil_model.specs.interval.Intervals.{interval_of}
@@ -118,7 +118,7 @@ abbrev pub present_play : History → ℤ → Node → Option Play
 present_play h now e =
     if is_active h.diary e.serial
     then option_map
-    (λ (begin : Mark). record {
+    (λ (begin : PlayEdge). record {
       begin = begin.value;
       first = play_start h e.serial;
       start = iteration_start h e.serial;

@@ -8,7 +8,7 @@ use Rattle.smil_model.specs.declared.view.Shown.TheVariants as shown
 use Rattle.smil_model.specs.declared.view.How.{How}
 use Rattle.smil_model.specs.declared.view.How.TheVariants as how
 use Rattle.smil_model.specs.diary.Diary.{History}
-use Rattle.smil_model.specs.diary.Plays.{Mark, FinishedInterval, Plays, play_after}
+use Rattle.smil_model.specs.diary.Plays.{PlayEdge, FinishedInterval, Plays, play_after}
 use Rattle.smil_model.specs.interval.Current.{current_interval}
 use Rattle.smil_model.specs.shown.Views.{document_value, view_facts, shown_time, shown_or}
 
@@ -34,7 +34,7 @@ told_finished h serial f = record {
 }
 
 -- the present play ends as its view shows it
-abbrev pub told_present : History → ℤ → Node → Mark → ShownInterval
+abbrev pub told_present : History → ℤ → Node → PlayEdge → ShownInterval
 told_present h now e begin = record {
   begin = shown.At (document_value h e.serial begin);
   finish =

@@ -21,7 +21,7 @@ use Rattle.smil_model.specs.document.Document.{elements, is_element, lineage, ti
 use Rattle.smil_model.specs.document.Defaults.{effective_fill}
 use Rattle.smil_model.specs.diary.Diary.{History, last_place, since_birth, is_active, is_paused, is_deferred, deferral, iteration}
 use Rattle.smil_model.specs.diary.Clocks.{outer, to_document, outer_stands}
-use Rattle.smil_model.specs.diary.Plays.{Mark, FinishedInterval, plays, last_finished}
+use Rattle.smil_model.specs.diary.Plays.{PlayEdge, FinishedInterval, plays, last_finished}
 use Rattle.smil_model.specs.interval.Current.{current_table, in_table}
 
 -- ---- the view by its facts
@@ -132,7 +132,7 @@ is_displaced h serial =
 -- ---- the facts
 
 -- a value that stands in the diary is carried to document time at its entry's moment
-abbrev pub document_value : History → ℕ → Mark → ℤ
+abbrev pub document_value : History → ℕ → PlayEdge → ℤ
 document_value h serial mark = to_document h serial mark.value mark.moment
 
 abbrev pub deferred_begin : History → ℕ → ℤ → Step → Option ℤ

@@ -10,7 +10,7 @@ ghost use Rattle.smil_model.specs.reach.Reach.{subject_of};
 ghost use Rattle.smil_instances.specs.Contribution.{AreClocksAt};
 ghost use Rattle.smil_past.specs.Followed.{began_row, child_after, finished_interval, deferred_row, finished_row, own_after, told_by};
 
-use super::played::{PastInterval, PlayFacts};
+use super::facts::{PastInterval, PlayFacts};
 use smil_model::{Entry, Happening, Log, LogEntry, Step, Time};
 use smil_stretch::Clocks;
 

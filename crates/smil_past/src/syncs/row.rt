@@ -9,13 +9,13 @@ use std::marker::Model;
 
 /// What the begin and the end items of an element wait for, in their order.
 #[derive(Drop)]
-pub struct Row {
+pub struct SyncbaseRow {
     pub(crate) serial: u32,
     pub(crate) begins: Vec<Syncbase>,
     pub(crate) ends: Vec<Syncbase>,
 }
 
-impl Model for Row {
+impl Model for SyncbaseRow {
     ghost use Rattle.smil_past.specs.Syncs.{SyncRow};
 
     ghost Value = { SyncRow };
@@ -23,7 +23,7 @@ impl Model for Row {
     ghost view = { λ a. record { serial = a.serial; begins = a.begins.items; ends = a.ends.items } };
 }
 
-impl Row {
+impl SyncbaseRow {
     /// What the items of one side wait for. It takes no memory.
     pub fn side(&self, side: Edge) -> &[Syncbase]
         ensures { result.now ≡ syncs_on side self.now }

@@ -1,6 +1,6 @@
 use Rattle.std.proofs.Common.{◌≡◌, ◌++◌, take, drop}
 use Rattle.smil_past.specs.Past.{with_diary}
-use Rattle.smil_cells.specs.Standing.{MayAppendAll}
+use Rattle.smil_cells.specs.CellsState.{MayAppendAll}
 use Rattle.smil_cells.proofs.cells.append_all.Given as goal
 
 abbrev pub invariant-loop-entry : goal.invariant-loop-entry

@@ -8,7 +8,7 @@ use Rattle.smil_model.specs.diary.Clocks.{parent_start}
 use Rattle.smil_model.specs.interval.Durations.{Bounds}
 use Rattle.smil_model.specs.interval.Current.{end_list_of}
 use Rattle.smil_model.specs.document.Defaults.{min_of, max_of}
-use Rattle.smil_past.specs.declared.plays.played.PlayFacts.{PlayFacts}
+use Rattle.smil_past.specs.declared.plays.facts.PlayFacts.{PlayFacts}
 use Rattle.smil_instances.proofs.Sensitive.{serial_is}
 use Rattle.smil_past.specs.Past.{history_of}
 use Rattle.smil_element.proofs.Moments.{reads}

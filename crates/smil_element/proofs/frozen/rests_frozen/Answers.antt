@@ -4,7 +4,7 @@ use Rattle.smil_model.specs.document.Document.{time_parent}
 use Rattle.smil_model.specs.document.Defaults.{effective_fill}
 use Rattle.smil_model.specs.diary.Diary.{lives_under}
 use Rattle.smil_model.specs.shown.Views.{is_displaced, is_frozen_by, keeps, view_facts}
-use Rattle.smil_past.specs.declared.plays.played.PlayFacts.{PlayFacts}
+use Rattle.smil_past.specs.declared.plays.facts.PlayFacts.{PlayFacts}
 use Rattle.smil_instances.proofs.Sensitive.{serial_is}
 use Rattle.smil_past.specs.Past.{history_of}
 use Rattle.smil_element.specs.Shown.{is_cut}

@@ -1,5 +1,5 @@
 use Rattle.std.proofs.Common.{◌≡◌, ℕ, ◌<◌, []}
-use Rattle.smil_graph.specs.declared.components.Mark.TheVariants.{New}
+use Rattle.smil_graph.specs.declared.components.Visit.TheVariants.{New}
 use Rattle.smil_graph.specs.Components.{IsGrouping, mark_at}
 use Rattle.smil_graph.proofs.levels.levels.Given as goal
 

@@ -3,7 +3,7 @@ use Rattle.std.proofs.lemmas.Option.{same_Some}
 use Rattle.std.specs.Option.{option_map}
 use Rattle.smil_model.specs.declared.document.Attrs.{Attrs}
 use Rattle.smil_model.specs.declared.document.Node.{Node}
-use Rattle.smil_instance_rows.specs.Rows.{Row}
+use Rattle.smil_instance_rows.specs.Rows.{ElementTimes}
 use Rattle.smil_instances.proofs.Starting.{row_made}
 use Rattle.smil_instances.proofs.idle.idle_row.Goals as goal
 
@@ -11,8 +11,8 @@ pub push_ends-requires : goal.push_ends-requires
 push_ends-requires c =
     let el = c.requires.element in
     let attrs : el.element.attrs ≡ c.attrs-attrs.result.now = sym (same_Some _ _ (c.attrs-attrs.ensures ∙ ap (option_map (λ (n : Node). n.attrs)) el.known)) in
-    ap (λ (r : Row). r.ends) (c.in_ok-push_begins.ensures c.args.tree.now [] el.element c.requires.dependents el.here (ap (λ (a : Attrs). a.begin) attrs))
-    ∙ ap (λ (r : Row). r.ends) c.new-row.ensures
+    ap (λ (r : ElementTimes). r.ends) (c.in_ok-push_begins.ensures c.args.tree.now [] el.element c.requires.dependents el.here (ap (λ (a : Attrs). a.begin) attrs))
+    ∙ ap (λ (r : ElementTimes). r.ends) c.new-row.ensures
 
 pub returns : goal.returns
 returns c = λ log e here.

@@ -4,7 +4,7 @@ use Rattle.smil_model.specs.declared.document.Node.{Node}
 use Rattle.smil_model.specs.document.Document.{elements}
 use Rattle.smil_tree.proofs.Making.{fresh_at}
 use Rattle.smil_instance_rows.specs.Readings.{index_in}
-use Rattle.smil_instance_rows.specs.Rows.{Row}
+use Rattle.smil_instance_rows.specs.Rows.{ElementTimes}
 use Rattle.smil_instances.specs.SettledTimes.{row_of}
 use Rattle.smil_instances.specs.Intake.{history_of}
 use Rattle.smil_instances.proofs.Begun.{at_place, element_at}
@@ -30,8 +30,8 @@ push-requires c =
     let place = c.loop-place.place in
     let h = history_of c.args.tree.now [] [] in
     let here = at_place (elements nodes) c.deref-who-items.result.now place (c.deref-who-items.ensures.value ∙ c.in_ok-whos.ensures) c.loop-place-test.true in
-    ap (λ (rs : List Row). index_in rs c.in_ok-row.row.serial) (c.loop-place.invariant [])
-    ∙ ap (λ (r : Row). index_in (map (row_of h) (take place (elements nodes))) r.serial) (c.in_ok-row.ensures [] here.node here.at)
+    ap (λ (rs : List ElementTimes). index_in rs c.in_ok-row.row.serial) (c.loop-place.invariant [])
+    ∙ ap (λ (r : ElementTimes). index_in (map (row_of h) (take place (elements nodes))) r.serial) (c.in_ok-row.ensures [] here.node here.at)
     ∙ row_absent h (take place (elements nodes)) here.node.serial
     (fresh_at (elements nodes) place here.node (distinct_elements nodes c.valid.ensures.numbered.distinct) here.at)
 
@@ -42,8 +42,8 @@ loop-place-preserved c = λ log.
     let f = row_of (history_of c.args.tree.now log []) in
     let here = at_place es c.deref-who-items.result.now place (c.deref-who-items.ensures.value ∙ c.in_ok-whos.ensures) c.loop-place-test.true in
     c.in_ok-push.ensures.ok
-    ∙ ap (λ (r : Row). c.loop-place.rows ++ r ∷ []) (c.in_ok-row.ensures log here.node here.at)
-    ∙ ap (λ (rs : List Row). rs ++ f here.node ∷ []) (c.loop-place.invariant log)
+    ∙ ap (λ (r : ElementTimes). c.loop-place.rows ++ r ∷ []) (c.in_ok-row.ensures log here.node here.at)
+    ∙ ap (λ (rs : List ElementTimes). rs ++ f here.node ∷ []) (c.loop-place.invariant log)
     ∙ sym (map_next f es place here.node here.at)
 
 pub returns : goal.returns

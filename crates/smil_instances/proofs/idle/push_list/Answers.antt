@@ -4,7 +4,7 @@ use Rattle.std.proofs.lemmas.List.{take_all}
 use Rattle.std.proofs.lemmas.Option.{slice_get-get_or}
 use Rattle.smil_model.specs.declared.document.Item.{Item}
 use Rattle.smil_instance_rows.specs.Cells.{side_of}
-use Rattle.smil_instance_rows.specs.Rows.{Row}
+use Rattle.smil_instance_rows.specs.Rows.{ElementTimes}
 use Rattle.smil_instances.specs.SettledTimes.{instances_of}
 use Rattle.smil_instances.specs.Idle.{idle_kept, with_items}
 use Rattle.smil_instances.specs.Intake.{history_of}
@@ -20,13 +20,13 @@ loop-at-preserved c =
     let items = c.args.items.now in
     let item = c.item-item.result in
     let new = c.in_ok-push_item.ensures in (
-      ap (λ (r : Row). length (side_of r side)) new ∙ items_grow row side _ ∙ ap (λ n. n + 1) c.loop-at.invariant.0,
+      ap (λ (r : ElementTimes). length (side_of r side)) new ∙ items_grow row side _ ∙ ap (λ n. n + 1) c.loop-at.invariant.0,
       λ document log e are list.
           let kept = instances_of (history_of document log []) e side in
           let there : slice_get items i ≡ Some item =
           ap (λ (xs : List Item). slice_get xs i) (sym c.slice-item-items.ensures) ∙ slice_get-get_or c.slice-item-items.result.now i item c.loop-at-test.true ∙ ap Some (sym c.item-item.is) in
           new
-          ∙ ap (λ (r : Row). with_items r side (idle_kept c.idle_time-time.result ∷ [])) (c.loop-at.invariant.1 document log e are list)
+          ∙ ap (λ (r : ElementTimes). with_items r side (idle_kept c.idle_time-time.result ∷ [])) (c.loop-at.invariant.1 document log e are list)
           ∙ more_items c.args.row.now side (map kept (take i items)) _
           ∙ ap (λ ks. with_items c.args.row.now side (map kept (take i items) ++ ks ∷ []))
           (sym (c.idle_time-time.ensures document log e (c.source-source.ensures ∙ source_here document.nodes c.args.sources.now.dependents.now _ e item are list.here (ap (λ is. slice_get is i) (sym list.same) ∙ there))))

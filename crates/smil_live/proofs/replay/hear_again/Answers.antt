@@ -7,7 +7,7 @@ use Rattle.smil_model.specs.declared.diary.LogEntry.{LogEntry}
 use Rattle.smil_model.specs.shown.Orders.{Presentation, course_of, as_of}
 use Rattle.smil_model.specs.happening.Resolution.{diary_of}
 use Rattle.smil_tree.proofs.Results.{on_err}
-use Rattle.smil_cells.specs.Standing.{with_logged}
+use Rattle.smil_cells.specs.CellsState.{with_logged}
 use Rattle.smil_live.specs.Moves.{IsTooFull, heard_at}
 use Rattle.smil_shown.proofs.Ended.{nothing_due}
 use Rattle.smil_live.proofs.RebuiltCounts.{counted_twice}

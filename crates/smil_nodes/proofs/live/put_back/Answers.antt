@@ -1,19 +1,19 @@
 use Rattle.std.proofs.Common.{◌≡◌, ◌∙◌, ap, sym, None}
 use Rattle.std.specs.Prelude.{◌==◌}
 use Rattle.std.specs.List.{position}
-use Rattle.smil_cells.specs.declared.plain.known.Row.{Row}
+use Rattle.smil_cells.specs.declared.plain.current_rows.CurrentRow.{CurrentRow}
 use Rattle.smil_nodes.specs.Undo.{ending_put, row_put}
 use Rattle.smil_nodes.proofs.live.put_back.Goals as goal
 
 pub returns-in_default-clause-rows : goal.returns-in_default-clause-rows
 returns-in_default-clause-rows c =
     let rows = c.args.schedule.now in
-    let none : position (λ (r : Row). r.serial == c.args.noted.row.serial) rows ≡ None = sym c.place.ensures ∙ c.in_default.is in
+    let none : position (λ (r : CurrentRow). r.serial == c.args.noted.row.serial) rows ≡ None = sym c.place.ensures ∙ c.in_default.is in
     ap (row_put rows c.args.noted.row) (sym none)
 
 pub returns-in_default-clause-ends : goal.returns-in_default-clause-ends
 returns-in_default-clause-ends c =
-    let none : position (λ (r : Row). r.serial == c.args.noted.row.serial) c.args.schedule.now ≡ None = sym c.place.ensures ∙ c.in_default.is in
+    let none : position (λ (r : CurrentRow). r.serial == c.args.noted.row.serial) c.args.schedule.now ≡ None = sym c.place.ensures ∙ c.in_default.is in
     ap (ending_put c.args.endings.now c.args.noted.ending) (sym none)
 
 pub put-requires-clause-index : goal.put-requires-clause-index

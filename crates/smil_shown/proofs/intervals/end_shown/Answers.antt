@@ -7,7 +7,7 @@ use Rattle.smil_model.specs.diary.Clocks.{outer}
 use Rattle.smil_model.specs.diary.Diary.{last_moment}
 use Rattle.smil_laws.specs.Near.{IsTimeNear}
 use Rattle.smil_instances.proofs.Sums.{moment_fits}
-use Rattle.smil_cells.specs.Standing.{history_of}
+use Rattle.smil_cells.specs.CellsState.{history_of}
 use Rattle.smil_shown.proofs.Presently.{is_moment, running_shown, settled_late, standing_shown, sum_shown}
 use Rattle.smil_shown.proofs.intervals.end_shown.Goals as goal
 

@@ -1,7 +1,7 @@
 use Rattle.std.proofs.Common.{sym, ap, subst}
 use Rattle.smil_model.specs.diary.Diary.{History}
 use Rattle.smil_laws.specs.Near.{AllNear}
-use Rattle.smil_cells.specs.Standing.{history_of}
+use Rattle.smil_cells.specs.CellsState.{history_of}
 use Rattle.smil_shown.proofs.Presently.{current_near}
 use Rattle.smil_shown.proofs.intervals.present_end.Goals as goal
 

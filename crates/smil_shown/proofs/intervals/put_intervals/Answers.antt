@@ -4,7 +4,7 @@ use Rattle.smil_model.specs.diary.Lawful.{IsLawful}
 use Rattle.smil_model.specs.document.Document.{Document, elements}
 use Rattle.smil_tree.proofs.Changed.{serial_of as own_serial}
 use Rattle.smil_model.proofs.Growing.{begins_by}
-use Rattle.smil_cells.specs.Standing.{history_of}
+use Rattle.smil_cells.specs.CellsState.{history_of}
 use Rattle.smil_shown.specs.Histories.{end_at, present_line}
 use Rattle.smil_shown.proofs.Lined.{begins_either}
 use Rattle.smil_shown.proofs.Presently.{told_all}

@@ -5,7 +5,7 @@ use Rattle.std.proofs.lemmas.Int.{to_z-of_z}
 use Rattle.smil_model.specs.diary.Diary.{History}
 use Rattle.smil_laws.specs.Near.{AllNear, IsIntervalNear}
 use Rattle.smil_past.specs.Past.{IsPresent}
-use Rattle.smil_cells.specs.Standing.{history_of}
+use Rattle.smil_cells.specs.CellsState.{history_of}
 use Rattle.smil_shown.proofs.Presenting.{current_near, present_is}
 use Rattle.smil_shown.proofs.view_table.view_in.Goals as goal
 

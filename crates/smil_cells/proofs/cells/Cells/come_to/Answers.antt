@@ -1,7 +1,7 @@
 use Rattle.std.proofs.Common.{◌∙◌, ap}
 use Rattle.std.specs.Prelude.{pos}
 use Rattle.smil_model.specs.happening.Keys.{first_coming}
-use Rattle.smil_cells.specs.Standing.{history_of}
+use Rattle.smil_cells.specs.CellsState.{history_of}
 use Rattle.smil_element.specs.Comings.{coming_stays}
 use Rattle.smil_cells.proofs.cells.Cells.come_to.Goals as goal
 

@@ -5,7 +5,7 @@ use Rattle.smil_model.specs.happening.Resolution.{diary_of}
 use Rattle.smil_model.specs.shown.Orders.{course_of, as_of}
 use Rattle.smil_diary.specs.declared.fault.BookFault.{BookFault}
 use Rattle.smil_diary.specs.declared.fault.BookFault.TheVariants.{DiaryFull}
-use Rattle.smil_cells.specs.Standing.{Standing, GoesOn, IsFront, IsRefusing, StayTouched, WhereTold, fresh_since, reached_since, with_logged}
+use Rattle.smil_cells.specs.CellsState.{CellsState, GoesOn, IsFront, IsRefusing, StayTouched, WhereTold, fresh_since, reached_since, with_logged}
 use Rattle.smil_cells.specs.Standings.{standing_of}
 use Rattle.smil_cells.proofs.Grown.{fits}
 use Rattle.smil_cells.proofs.OnWay.{goes_on_from}
@@ -17,19 +17,19 @@ use Rattle.smil_cells.proofs.cells.Cells.hear.Goals as goal
 pub returns-in-Err-clause-refused : goal.returns-in-Err-clause-refused
 returns-in-Err-clause-refused g c =
     let i = c.self.inside in
-    subst (λ (s : Standing). IsRefusing s c.take_in.new.self c.in-Err.fault) c.self.view_is
+    subst (λ (s : CellsState). IsRefusing s c.take_in.new.self c.in-Err.fault) c.self.view_is
     (refusing_from i.past i.moment i.fault i.mark i.touched c.cut_back.new.self c.take_in.new.self c.in-Err.fault c.in-Err.ensures.refused)
 
 pub returns-in-Err-clause-full : goal.returns-in-Err-clause-full
 returns-in-Err-clause-full g c =
     let i = c.self.inside in
-    λ e. subst (λ (s : Standing). (s.fault ≡ Some c.in-Err.fault) ⊎ (diary_of (course_of (with_logged s.presentation c.args.entry)) ≡ None)) c.self.view_is
+    λ e. subst (λ (s : CellsState). (s.fault ≡ Some c.in-Err.fault) ⊎ (diary_of (course_of (with_logged s.presentation c.args.entry)) ≡ None)) c.self.view_is
     (inr (c.too_long_is_full.ensures (course_of (with_logged (standing_of i.past i.moment i.fault i.mark c.cut_back.new.self).presentation c.args.entry)) (c.in-Err.ensures.full e).at (c.in-Err.ensures.full e).reached (c.in-Err.ensures.full e).many))
 
 pub returns-in-Err-clause-front : goal.returns-in-Err-clause-front
 returns-in-Err-clause-front g c =
     let i = c.self.inside in
-    λ e. subst (λ (s : Standing). (s.fault ≡ Some c.in-Err.fault) ⊎ IsFront (course_of (with_logged s.presentation c.args.entry)) c.take_in.new.self.diary) c.self.view_is
+    λ e. subst (λ (s : CellsState). (s.fault ≡ Some c.in-Err.fault) ⊎ IsFront (course_of (with_logged s.presentation c.args.entry)) c.take_in.new.self.diary) c.self.view_is
     (inr (c.in-Err.ensures.full e))
 
 pub returns-clause-state : goal.returns-clause-state
@@ -37,8 +37,8 @@ returns-clause-state g c =
     let i = c.self.inside in
     let m = c.self-2.inside.moment in
     let n = nat_abs (to_z w64 (of_z w64 m)) in
-    let here : n ≡ c.take_in.new.self.presentation.now = ap nat_abs (to_z-of_z w64 m (fits m c.self-2.invariant.present.from c.self-2.invariant.present.within)) ∙ ap (λ (s : Standing). s.presentation.now) c.self-2.view_is in
-    subst (λ (s : Standing). OnOk c.settle_through.result (c.settle_through.new.self.presentation ≡ with_logged s.presentation c.args.entry)) c.self.view_is
+    let here : n ≡ c.take_in.new.self.presentation.now = ap nat_abs (to_z-of_z w64 m (fits m c.self-2.invariant.present.from c.self-2.invariant.present.within)) ∙ ap (λ (s : CellsState). s.presentation.now) c.self-2.view_is in
+    subst (λ (s : CellsState). OnOk c.settle_through.result (c.settle_through.new.self.presentation ≡ with_logged s.presentation c.args.entry)) c.self.view_is
     (on_ok_weaker {P = c.settle_through.new.self.presentation ≡ as_of c.take_in.new.self.presentation n} {Q = c.settle_through.new.self.presentation ≡ with_logged (standing_of i.past i.moment i.fault i.mark c.cut_back.new.self).presentation c.args.entry} c.settle_through.result (λ q. state_on (standing_of i.past i.moment i.fault i.mark c.cut_back.new.self) c.take_in.new.self c.args.entry c.in_default-take_in.ensures.heard n here c.settle_through.new.self q) c.settle_through.ensures.state)
 
 pub returns-clause-goes_on : goal.returns-clause-goes_on
@@ -46,15 +46,15 @@ returns-clause-goes_on g c =
     let i = c.self.inside in
     let m = c.self-2.inside.moment in
     let n = nat_abs (to_z w64 (of_z w64 m)) in
-    let here : n ≡ c.take_in.new.self.presentation.now = ap nat_abs (to_z-of_z w64 m (fits m c.self-2.invariant.present.from c.self-2.invariant.present.within)) ∙ ap (λ (s : Standing). s.presentation.now) c.self-2.view_is in
-    subst (λ (s : Standing). OnOk c.settle_through.result (GoesOn s c.settle_through.new.self)) c.self.view_is
+    let here : n ≡ c.take_in.new.self.presentation.now = ap nat_abs (to_z-of_z w64 m (fits m c.self-2.invariant.present.from c.self-2.invariant.present.within)) ∙ ap (λ (s : CellsState). s.presentation.now) c.self-2.view_is in
+    subst (λ (s : CellsState). OnOk c.settle_through.result (GoesOn s c.settle_through.new.self)) c.self.view_is
     (goes_on_from i.past i.moment i.fault i.mark i.touched c.cut_back.new.self c.settle_through.new.self c.settle_through.result
     (where_three c.settle_through.result (c.settle_through.new.self.presentation ≡ as_of c.take_in.new.self.presentation n) (GoesOn c.take_in.new.self c.settle_through.new.self) (StayTouched c.take_in.new.self c.settle_through.new.self) (GoesOn (standing_of i.past i.moment i.fault i.mark c.cut_back.new.self) c.settle_through.new.self) (λ q p t. goes_on_heard (standing_of i.past i.moment i.fault i.mark c.cut_back.new.self) c.take_in.new.self c.args.entry c.in_default-take_in.ensures.heard n here c.settle_through.new.self q p t) c.settle_through.ensures.state c.settle_through.ensures.goes_on c.settle_through.ensures.more))
 
 pub returns-clause-refused : goal.returns-clause-refused
 returns-clause-refused g c =
     let i = c.self.inside in
-    subst (λ (s : Standing). IfErr c.settle_through.result (IsRefusing s c.settle_through.new.self)) c.self.view_is
+    subst (λ (s : CellsState). IfErr c.settle_through.result (IsRefusing s c.settle_through.new.self)) c.self.view_is
     (IfErr-weaker c.settle_through.result (IsRefusing c.take_in.new.self c.settle_through.new.self) (IsRefusing (standing_of i.past i.moment i.fault i.mark i.touched) c.settle_through.new.self) (λ f q. refusing_from i.past i.moment i.fault i.mark i.touched c.cut_back.new.self c.settle_through.new.self f (refusing_on (standing_of i.past i.moment i.fault i.mark c.cut_back.new.self) c.take_in.new.self c.args.entry c.in_default-take_in.ensures.heard c.settle_through.new.self f q)) c.settle_through.ensures.refused)
 
 pub returns-clause-full : goal.returns-clause-full
@@ -62,8 +62,8 @@ returns-clause-full g c =
     let i = c.self.inside in
     let m = c.self-2.inside.moment in
     let n = nat_abs (to_z w64 (of_z w64 m)) in
-    let here : n ≡ c.take_in.new.self.presentation.now = ap nat_abs (to_z-of_z w64 m (fits m c.self-2.invariant.present.from c.self-2.invariant.present.within)) ∙ ap (λ (s : Standing). s.presentation.now) c.self-2.view_is in
-    subst (λ (s : Standing). IfErr c.settle_through.result (λ (fault : BookFault). fault ≡ DiaryFull → (s.fault ≡ Some fault) ⊎ (diary_of (course_of (with_logged s.presentation c.args.entry)) ≡ None))) c.self.view_is
+    let here : n ≡ c.take_in.new.self.presentation.now = ap nat_abs (to_z-of_z w64 m (fits m c.self-2.invariant.present.from c.self-2.invariant.present.within)) ∙ ap (λ (s : CellsState). s.presentation.now) c.self-2.view_is in
+    subst (λ (s : CellsState). IfErr c.settle_through.result (λ (fault : BookFault). fault ≡ DiaryFull → (s.fault ≡ Some fault) ⊎ (diary_of (course_of (with_logged s.presentation c.args.entry)) ≡ None))) c.self.view_is
     (none_is_there (course_of (with_logged (standing_of i.past i.moment i.fault i.mark i.touched).presentation c.args.entry)) c.settle_through.new.self.diary i.fault c.settle_through.result c.too_long_is_full.ensures
     (IfErr-weaker c.settle_through.result (λ (f : BookFault). f ≡ DiaryFull → IsFront (course_of (as_of c.take_in.new.self.presentation n)) c.settle_through.new.self.diary) (λ (f : BookFault). f ≡ DiaryFull → IsFront (course_of (with_logged (standing_of i.past i.moment i.fault i.mark i.touched).presentation c.args.entry)) c.settle_through.new.self.diary) (λ f q e. front_on (standing_of i.past i.moment i.fault i.mark c.cut_back.new.self) c.take_in.new.self c.args.entry c.in_default-take_in.ensures.heard n here c.settle_through.new.self.diary (q e)) c.settle_through.ensures.full))
 
@@ -72,8 +72,8 @@ returns-clause-front g c =
     let i = c.self.inside in
     let m = c.self-2.inside.moment in
     let n = nat_abs (to_z w64 (of_z w64 m)) in
-    let here : n ≡ c.take_in.new.self.presentation.now = ap nat_abs (to_z-of_z w64 m (fits m c.self-2.invariant.present.from c.self-2.invariant.present.within)) ∙ ap (λ (s : Standing). s.presentation.now) c.self-2.view_is in
-    subst (λ (s : Standing). IfErr c.settle_through.result (λ (fault : BookFault). fault ≡ DiaryFull → (s.fault ≡ Some fault) ⊎ IsFront (course_of (with_logged s.presentation c.args.entry)) c.settle_through.new.self.diary)) c.self.view_is
+    let here : n ≡ c.take_in.new.self.presentation.now = ap nat_abs (to_z-of_z w64 m (fits m c.self-2.invariant.present.from c.self-2.invariant.present.within)) ∙ ap (λ (s : CellsState). s.presentation.now) c.self-2.view_is in
+    subst (λ (s : CellsState). IfErr c.settle_through.result (λ (fault : BookFault). fault ≡ DiaryFull → (s.fault ≡ Some fault) ⊎ IsFront (course_of (with_logged s.presentation c.args.entry)) c.settle_through.new.self.diary)) c.self.view_is
     (front_is_there (course_of (with_logged (standing_of i.past i.moment i.fault i.mark i.touched).presentation c.args.entry)) c.settle_through.new.self.diary i.fault c.settle_through.result
     (IfErr-weaker c.settle_through.result (λ (f : BookFault). f ≡ DiaryFull → IsFront (course_of (as_of c.take_in.new.self.presentation n)) c.settle_through.new.self.diary) (λ (f : BookFault). f ≡ DiaryFull → IsFront (course_of (with_logged (standing_of i.past i.moment i.fault i.mark i.touched).presentation c.args.entry)) c.settle_through.new.self.diary) (λ f q e. front_on (standing_of i.past i.moment i.fault i.mark c.cut_back.new.self) c.take_in.new.self c.args.entry c.in_default-take_in.ensures.heard n here c.settle_through.new.self.diary (q e)) c.settle_through.ensures.full))
 
@@ -82,8 +82,8 @@ returns-clause-most g c =
     let i = c.self.inside in
     let m = c.self-2.inside.moment in
     let n = nat_abs (to_z w64 (of_z w64 m)) in
-    let here : n ≡ c.take_in.new.self.presentation.now = ap nat_abs (to_z-of_z w64 m (fits m c.self-2.invariant.present.from c.self-2.invariant.present.within)) ∙ ap (λ (s : Standing). s.presentation.now) c.self-2.view_is in
-    subst (λ (s : Standing). OnOk c.settle_through.result (WhereTold g.T.Table.counts (c.settle_through.new.steps - c.args.steps.now ≤ reached_since s c.settle_through.new.self))) c.self.view_is
+    let here : n ≡ c.take_in.new.self.presentation.now = ap nat_abs (to_z-of_z w64 m (fits m c.self-2.invariant.present.from c.self-2.invariant.present.within)) ∙ ap (λ (s : CellsState). s.presentation.now) c.self-2.view_is in
+    subst (λ (s : CellsState). OnOk c.settle_through.result (WhereTold g.T.Table.counts (c.settle_through.new.steps - c.args.steps.now ≤ reached_since s c.settle_through.new.self))) c.self.view_is
     (where_three c.settle_through.result (c.settle_through.new.self.presentation ≡ as_of c.take_in.new.self.presentation n) (GoesOn c.take_in.new.self c.settle_through.new.self) (WhereTold g.T.Table.counts (c.settle_through.new.steps - c.take_in.new.steps ≤ reached_since c.take_in.new.self c.settle_through.new.self)) (WhereTold g.T.Table.counts (c.settle_through.new.steps - c.args.steps.now ≤ reached_since (standing_of i.past i.moment i.fault i.mark i.touched) c.settle_through.new.self))
     (λ q p k. reached_heard_on (standing_of i.past i.moment i.fault i.mark c.cut_back.new.self) c.take_in.new.self c.args.entry c.in_default-take_in.ensures.heard n here c.settle_through.new.self q p c.args.steps.now c.take_in.new.steps c.settle_through.new.steps g.T.Table.counts c.take_in.ensures.counted c.settle_through.ensures.counted c.in_default-take_in.ensures.most k)
     c.settle_through.ensures.state c.settle_through.ensures.goes_on c.settle_through.ensures.most)
@@ -93,8 +93,8 @@ returns-clause-least g c =
     let i = c.self.inside in
     let m = c.self-2.inside.moment in
     let n = nat_abs (to_z w64 (of_z w64 m)) in
-    let here : n ≡ c.take_in.new.self.presentation.now = ap nat_abs (to_z-of_z w64 m (fits m c.self-2.invariant.present.from c.self-2.invariant.present.within)) ∙ ap (λ (s : Standing). s.presentation.now) c.self-2.view_is in
-    subst (λ (s : Standing). OnOk c.settle_through.result (WhereTold g.T.Table.counts (fresh_since s c.settle_through.new.self ≤ c.settle_through.new.steps - c.args.steps.now))) c.self.view_is
+    let here : n ≡ c.take_in.new.self.presentation.now = ap nat_abs (to_z-of_z w64 m (fits m c.self-2.invariant.present.from c.self-2.invariant.present.within)) ∙ ap (λ (s : CellsState). s.presentation.now) c.self-2.view_is in
+    subst (λ (s : CellsState). OnOk c.settle_through.result (WhereTold g.T.Table.counts (fresh_since s c.settle_through.new.self ≤ c.settle_through.new.steps - c.args.steps.now))) c.self.view_is
     (where_three c.settle_through.result (c.settle_through.new.self.presentation ≡ as_of c.take_in.new.self.presentation n) (GoesOn c.take_in.new.self c.settle_through.new.self) (WhereTold g.T.Table.counts (fresh_since c.take_in.new.self c.settle_through.new.self ≤ c.settle_through.new.steps - c.take_in.new.steps)) (WhereTold g.T.Table.counts (fresh_since (standing_of i.past i.moment i.fault i.mark i.touched) c.settle_through.new.self ≤ c.settle_through.new.steps - c.args.steps.now))
     (λ q p k. fresh_heard_on (standing_of i.past i.moment i.fault i.mark c.cut_back.new.self) c.take_in.new.self c.args.entry c.in_default-take_in.ensures.heard n here c.settle_through.new.self q p c.args.steps.now c.take_in.new.steps c.settle_through.new.steps g.T.Table.counts c.take_in.ensures.counted c.settle_through.ensures.counted c.in_default-take_in.ensures.least k)
     c.settle_through.ensures.state c.settle_through.ensures.goes_on c.settle_through.ensures.least)

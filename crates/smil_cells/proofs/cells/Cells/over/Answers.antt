@@ -3,9 +3,9 @@ use Rattle.std.specs.Prelude.{pos, ◌≤ℤ◌}
 use Rattle.std.proofs.lemmas.Int.{to_z-of_z}
 use Rattle.smil_model.specs.interval.Current.{current_interval}
 use Rattle.smil_past.specs.Past.{IsPresent, history_of}
-use Rattle.smil_cells.specs.Standing.{WhereTold, any_interval}
+use Rattle.smil_cells.specs.CellsState.{WhereTold, any_interval}
 use Rattle.smil_cells.proofs.Grown.{positive}
-use Rattle.smil_cells.specs.Standings.{IsKept}
+use Rattle.smil_cells.specs.Standings.{IsSoundUnderMark}
 use Rattle.smil_cells.proofs.Begun.{is_present, kept}
 use Rattle.smil_cells.proofs.cells.Cells.over.Goals as goal
 
@@ -20,8 +20,8 @@ invariant_of-result g c =
     let is_current = g.T.Table.is_current c.in_ok-table.table in
     let is_marked = g.T.Table.is_marked c.in_ok-table.table in
     let has_mark = g.T.Table.has_mark c.in_ok-table.table in
-    subst (λ (t : List ℕ). IsKept is_current is_marked has_mark c.args.past (to_z w64 (of_z w64 c.args.moment)) None None t) (sym c.new.ensures)
-    (subst (λ (v : ℤ). IsKept is_current is_marked has_mark c.args.past v None None []) (sym whole)
+    subst (λ (t : List ℕ). IsSoundUnderMark is_current is_marked has_mark c.args.past (to_z w64 (of_z w64 c.args.moment)) None None t) (sym c.new.ensures)
+    (subst (λ (v : ℤ). IsSoundUnderMark is_current is_marked has_mark c.args.past v None None []) (sym whole)
     (kept c.args.past c.args.moment c.requires is_current is_marked has_mark c.reached_is_past.ensures made.unmarked (subst (λ (v : ℤ). is_current (history_of c.args.past) v) whole made.current)))
 
 pub returns-clause-least : goal.returns-clause-least

@@ -1,7 +1,7 @@
 use Rattle.std.proofs.Common.{◌≡◌, ◌∙◌, sym, subst, length, ◌-◌, ◌≤◌}
 use Rattle.std.specs.Prelude.{IfOk}
 use Rattle.smil_model.specs.document.Document.{Document, elements}
-use Rattle.smil_cells.specs.Standing.{IsRebuilt, MayRebuild, WhereTold}
+use Rattle.smil_cells.specs.CellsState.{IsRebuilt, MayRebuild, WhereTold}
 use Rattle.smil_cells.proofs.cells.Cells.rebuilt.Goals as goal
 
 pub rebuilt_over-requires-clause-rebuild : goal.rebuilt_over-requires-clause-rebuild

@@ -6,7 +6,7 @@ use Rattle.smil_model.specs.declared.diary.LogEntry.{LogEntry}
 use Rattle.smil_model.specs.diary.Diary.{last_moment}
 use Rattle.smil_stretch.proofs.Diaries.{lawful_first}
 use Rattle.smil_past.specs.Past.{MarkedHistory, IsPossible, history_of}
-use Rattle.smil_cells.specs.Standing.{Standing, IsRebuilt, MayRebuild, cut_log}
+use Rattle.smil_cells.specs.CellsState.{CellsState, IsRebuilt, MayRebuild, cut_log}
 use Rattle.smil_cells.specs.Standings.{MayBegin, begun, standing_of}
 use Rattle.smil_cells.proofs.Begun.{moment_is, possible_part, may_part, rebuilt_is}
 use Rattle.std.proofs.lemmas.Result.{IfOk-weaker}
@@ -18,7 +18,7 @@ of-requires-clause-possible g c =
     let len = c.args.len in
     let doc = c.args.graphed.tree in
     let s = standing_of i.past i.moment i.fault i.mark i.touched in
-    let may = subst (λ (x : Standing). MayRebuild x doc len) (sym c.self.view_is) c.requires.rebuild in
+    let may = subst (λ (x : CellsState). MayRebuild x doc len) (sym c.self.view_is) c.requires.rebuild in
     let lawful = lawful_first (history_of i.past) len c.possible.ensures.lawful in
     let log_is = c.in_ok-log.ensures ∙ (ap (λ (l : List LogEntry). cut_log l (take len c.book.result.now)) c.log.ensures ∙ ap (λ (d : List Entry). cut_log i.past.log (take len d)) c.book.ensures) in
     subst (λ (d : List Entry). IsPossible doc c.in_ok-log.log (take len d)) (sym (c.entries.ensures ∙ c.book-2.ensures))
@@ -31,7 +31,7 @@ over-requires g c =
     let len = c.args.len in
     let doc = c.args.graphed.tree in
     let s = standing_of i.past i.moment i.fault i.mark i.touched in
-    let may = subst (λ (x : Standing). MayRebuild x doc len) (sym c.self.view_is) c.requires.rebuild in
+    let may = subst (λ (x : CellsState). MayRebuild x doc len) (sym c.self.view_is) c.requires.rebuild in
     let lawful = lawful_first (history_of i.past) len c.possible.ensures.lawful in
     let log_is = c.in_ok-log.ensures ∙ (ap (λ (l : List LogEntry). cut_log l (take len c.book.result.now)) c.log.ensures ∙ ap (λ (d : List Entry). cut_log i.past.log (take len d)) c.book.ensures) in
     let part = cut_log i.past.log (take len i.past.diary) in
@@ -51,7 +51,7 @@ returns-clause-rebuilt g c =
     let len = c.args.len in
     let doc = c.args.graphed.tree in
     let s = standing_of i.past i.moment i.fault i.mark i.touched in
-    let may = subst (λ (x : Standing). MayRebuild x doc len) (sym c.self.view_is) c.requires.rebuild in
+    let may = subst (λ (x : CellsState). MayRebuild x doc len) (sym c.self.view_is) c.requires.rebuild in
     let log_is = c.in_ok-log.ensures ∙ (ap (λ (l : List LogEntry). cut_log l (take len c.book.result.now)) c.log.ensures ∙ ap (λ (d : List Entry). cut_log i.past.log (take len d)) c.book.ensures) in
     let part = cut_log i.past.log (take len i.past.diary) in
     let past_is : c.in_ok-past.past ≡ record { document = doc; log = part; diary = take len i.past.diary; marked = None } =
@@ -60,6 +60,6 @@ returns-clause-rebuilt g c =
     ∙ ap (λ (d : List Entry). record { document = doc; log = part; diary = take len d; marked = None }) (c.entries.ensures ∙ c.book-2.ensures)) in
     let z = to_z w64 (of_z w64 c.last_moment-moment.result) in
     let at = to_z-of_z w64 c.last_moment-moment.result (record { sfits = c.last_moment-moment.type_inv }) ∙ c.last_moment-moment.ensures ∙ (ap (λ (p : MarkedHistory). last_moment p.diary) past_is ∙ sym (moment_is s doc len may)) in
-    subst (λ (x : Standing). IfOk c.over.result (IsRebuilt x doc len)) c.self.view_is
-    (IfOk-weaker c.over.result (λ (cells : Standing). cells ≡ begun c.in_ok-past.past z) (IsRebuilt s doc len)
+    subst (λ (x : CellsState). IfOk c.over.result (IsRebuilt x doc len)) c.self.view_is
+    (IfOk-weaker c.over.result (λ (cells : CellsState). cells ≡ begun c.in_ok-past.past z) (IsRebuilt s doc len)
     (λ cells made. rebuilt_is s doc len may c.in_ok-past.past z cells past_is at made) c.over.ensures.begun)

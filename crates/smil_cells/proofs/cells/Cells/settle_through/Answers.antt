@@ -1,7 +1,7 @@
 use Rattle.std.proofs.Common.{refl, sym, ◌∙◌, ap, subst, arith, ◌≡◌, ◌+◌, ◌-◌, ◌≤◌, ◌≤ℤ◌, ◌+ℤ◌, ℕ, ℤ, pos, nat_abs, None, w64, to_z, of_z}
 use Rattle.smil_model.specs.declared.times.TheConstants.{HORIZON as the_horizon}
 use Rattle.smil_model.specs.shown.Orders.{Presentation}
-use Rattle.smil_cells.specs.Standing.{NothingBefore, Standing, WhereTold}
+use Rattle.smil_cells.specs.CellsState.{NothingBefore, CellsState, WhereTold}
 use Rattle.std.proofs.lemmas.Int.{to_z-of_z}
 use Rattle.smil_cells.proofs.OnWay.{IsRest, rested, below, sooner, no_fewer, begun, nothing_reached, nothing_fresh, onward, fewer_free, reached_on, fresh_on, front_later, touched_anew, goes_on, stay_touched, fresh_at_rest}
 use Rattle.smil_model.specs.document.Document.{Document}
@@ -55,7 +55,7 @@ returns-in-Err-clause-full g c =
     let l : p.log ≡ q.log = ap (λ (x : Presentation). x.log) same ∙ ap (λ (x : Presentation). x.log) v.0.presentation_is in
     λ e.
     front_later c.reaches_further.ensures p q (nat_abs c.args.until) c.happen.new.self.diary
-    (subst (λ (x : Document). IsNumberedTree x) (sym d) (subst (λ (s : Standing). IsNumberedTree s.presentation.document) c.self.view_is c.possible.ensures.valid.numbered))
+    (subst (λ (x : Document). IsNumberedTree x) (sym d) (subst (λ (s : CellsState). IsNumberedTree s.presentation.document) c.self.view_is c.possible.ensures.valid.numbered))
     d l
     (below p.now c.args.until (subst (λ (x : ℤ). pos p.now ≤ℤ x) (to_z-of_z w64 c.args.until c.ranges.until) c.come_to.ensures.within))
     (c.in-Err.ensures.full e)
@@ -64,17 +64,17 @@ pub invariant_of-self-2 : goal.invariant_of-self-2
 invariant_of-self-2 g c =
     let i = c.self-2.inside in
     touched_anew (g.T.Table.is_current i.table) (g.T.Table.is_marked i.table) (g.T.Table.has_mark i.table) i.past i.moment i.fault i.mark i.touched c.in_ok-touched.touched
-    (subst (λ (s : Standing). s.fault ≡ None) (sym c.self-2.view_is) c.loop-coming.invariant.0.sound) c.self-2.invariant
+    (subst (λ (s : CellsState). s.fault ≡ None) (sym c.self-2.view_is) c.loop-coming.invariant.0.sound) c.self-2.invariant
 
 pub pass_to-requires-clause-quiet : goal.pass_to-requires-clause-quiet
 pass_to-requires-clause-quiet g c =
     let until = to_z w64 (of_z w64 c.args.until) in
-    λ x e. sooner until x.key.value (subst (λ (s : Standing). NothingBefore s (until +ℤ pos 1)) (sym c.self-2.view_is) c.in_default.ensures.none x e)
+    λ x e. sooner until x.key.value (subst (λ (s : CellsState). NothingBefore s (until +ℤ pos 1)) (sym c.self-2.view_is) c.in_default.ensures.none x e)
 
 pub returns-clause-settled : goal.returns-clause-settled
 returns-clause-settled g c =
     let until = to_z w64 (of_z w64 c.args.until) in
-    c.pass_to.ensures.ended (λ x e. subst (λ (s : Standing). NothingBefore s (until +ℤ pos 1)) (sym c.self-2.view_is) c.in_default.ensures.none x e)
+    c.pass_to.ensures.ended (λ x e. subst (λ (s : CellsState). NothingBefore s (until +ℤ pos 1)) (sym c.self-2.view_is) c.in_default.ensures.none x e)
 
 at_rest : (g : Over) (c : goal.After-pass_to g) → IsRest c.loop-coming.self c.pass_to.new.self
 at_rest g c =

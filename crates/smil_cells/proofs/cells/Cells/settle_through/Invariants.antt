@@ -2,7 +2,7 @@ use Rattle.std.proofs.Common.{◌≡◌, ◌-◌, ◌≤◌, length}
 use Rattle.std.specs.Prelude.{◌≤ℤ◌}
 use Rattle.smil_model.specs.declared.limits.TheConstants.{DIARY_ENTRIES}
 use Rattle.smil_model.specs.declared.times.TheConstants.{HORIZON}
-use Rattle.smil_cells.specs.Standing.{IsOnWay, WhereTold, reached_since, fresh_since}
+use Rattle.smil_cells.specs.CellsState.{IsOnWay, WhereTold, reached_since, fresh_since}
 use Rattle.smil_cells.proofs.cells.Cells.settle_through.Given as goal
 
 abbrev pub invariant-loop-coming : goal.invariant-loop-coming

@@ -4,7 +4,7 @@ use Rattle.std.specs.List.{position}
 use Rattle.std.proofs.lemmas.Option.{same_Some}
 use Rattle.smil_model.specs.document.Document.{elements}
 use Rattle.smil_past.specs.Past.{history_of}
-use Rattle.smil_cells.specs.declared.plain.known.Row.{Row}
+use Rattle.smil_cells.specs.declared.plain.current_rows.CurrentRow.{CurrentRow}
 use Rattle.smil_cells.specs.Plain.{interval_in}
 use Rattle.smil_cells.specs.Round.{StayUnchanged}
 use Rattle.smil_cells.proofs.Taking.{found, own_first, taken_by, unchanged_pushed, unchanged_same}
@@ -31,7 +31,7 @@ put-requires-clause-place g c =
     let rows = c.args.self.now.known in
     let at = found c.args.present.now.past.now.document.nodes rows c.args.present.now.who c.possible.ensures.valid.numbered.distinct c.requires.of_elements c.requires.element in
     let own : c.in_ok-row.row.serial ≡ c.args.present.now.who = (c.in_ok-row.ensures.row at.element at.node).serial ∙ at.is_who in
-    ap (λ s. position (λ (r : Row). r.serial == s) rows) own ∙ sym c.place.ensures ∙ c.unwrap-index.ensures
+    ap (λ s. position (λ (r : CurrentRow). r.serial == s) rows) own ∙ sym c.place.ensures ∙ c.unwrap-index.ensures
 
 pub put-requires-clause-near : goal.put-requires-clause-near
 put-requires-clause-near g c = c.in_ok-row.ensures.near

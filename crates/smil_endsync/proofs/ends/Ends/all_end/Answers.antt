@@ -3,7 +3,7 @@ use Rattle.std.specs.Prelude.{Option, unwrap_or}
 use Rattle.smil_model.specs.declared.times.Time.{Time}
 use Rattle.smil_model.specs.declared.times.Time.TheVariants.{Unresolved}
 use Rattle.smil_model.specs.interval.Durations.{all_end}
-use Rattle.smil_endsync.specs.declared.ends.Summary.{Summary}
+use Rattle.smil_endsync.specs.declared.ends.EndSummary.{EndSummary}
 use Rattle.smil_endsync.proofs.Summaries.{all_is, sum_of, sums}
 use Rattle.smil_endsync.proofs.ends.Ends.all_end.Goals as goal
 
@@ -11,7 +11,7 @@ pub returns : goal.returns
 returns c =
     let i = c.self.inside in
     c.unwrap_or.ensures
-    ∙ ap (λ (s : Summary). unwrap_or s.all Unresolved)
+    ∙ ap (λ (s : EndSummary). unwrap_or s.all Unresolved)
     (c.top.ensures sum_of sums ∙ ap sum_of c.self.invariant.own)
     ∙ ap (λ (o : Option Time). unwrap_or o Unresolved) (all_is i.children.items)
     ∙ ap all_end c.self.view_is

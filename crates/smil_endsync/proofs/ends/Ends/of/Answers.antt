@@ -2,14 +2,14 @@ use Rattle.std.proofs.Common.{◌≡◌, ◌∙◌, ap, List, length, map, arith
 use Rattle.std.specs.List.{position}
 use Rattle.std.proofs.lemmas.List.{length-map}
 use Rattle.smil_model.specs.declared.interval.ChildEnd.{ChildEnd}
-use Rattle.smil_endsync.specs.declared.ends.Summary.{Summary}
+use Rattle.smil_endsync.specs.declared.ends.EndSummary.{EndSummary}
 use Rattle.smil_endsync.specs.Ends.{one_end}
 use Rattle.smil_endsync.proofs.ends.Ends.of.Goals as goal
 
 pub of-requires : goal.of-requires
 of-requires c =
     let long : length c.as_slice.result.now ≡ length c.args.children.items =
-    ap (λ (xs : List Summary). length xs) (c.as_slice.ensures.value ∙ c.in_ok-summaries.ensures)
+    ap (λ (xs : List EndSummary). length xs) (c.as_slice.ensures.value ∙ c.in_ok-summaries.ensures)
     ∙ length-map c.deref.result.now one_end
     ∙ ap (λ (xs : List ChildEnd). length xs) c.deref.ensures.value in
     omega (arith, long, c.requires)

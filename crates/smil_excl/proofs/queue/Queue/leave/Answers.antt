@@ -1,6 +1,6 @@
 use Rattle.std.proofs.Common.{rules}
 use Rattle.std.proofs.lemmas.Fn.{filter_same}
-use Rattle.smil_excl.specs.Line.{without}
+use Rattle.smil_excl.specs.QueueState.{without}
 use Rattle.smil_excl.proofs.Line.{changed}
 use Rattle.smil_excl.proofs.queue.Queue.leave.Goals as goal
 

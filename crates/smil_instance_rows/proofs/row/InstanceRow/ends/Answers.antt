@@ -1,8 +1,8 @@
 use Rattle.std.proofs.Common.{◌∙◌, ap}
-use Rattle.smil_instance_rows.specs.Rows.{Row}
+use Rattle.smil_instance_rows.specs.Rows.{ElementTimes}
 use Rattle.smil_instance_rows.specs.Values.{ends_of}
 use Rattle.smil_instance_rows.proofs.Sides.{ends_same}
 use Rattle.smil_instance_rows.proofs.row.InstanceRow.ends.Goals as goal
 
 pub returns : goal.returns
-returns c = c.values.ensures ∙ ends_same c.self.inside.ends ∙ ap (λ (r : Row). ends_of r.ends) c.self.view_is
+returns c = c.values.ensures ∙ ends_same c.self.inside.ends ∙ ap (λ (r : ElementTimes). ends_of r.ends) c.self.view_is

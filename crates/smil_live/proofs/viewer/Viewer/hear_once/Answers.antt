@@ -2,7 +2,7 @@ use Rattle.std.proofs.Common.{refl, sym, subst}
 use Rattle.smil_model.specs.shown.Orders.{IsState, Presentation}
 use Rattle.smil_diary.specs.Refusals.{of_book}
 use Rattle.smil_tree.proofs.Results.{on_err}
-use Rattle.smil_cells.specs.Standing.{with_logged}
+use Rattle.smil_cells.specs.CellsState.{with_logged}
 use Rattle.smil_live.specs.Moves.{IsTooFull}
 use Rattle.smil_live.specs.declared.moves.Move.TheVariants as move
 use Rattle.smil_live.proofs.Edited.{on_ok_always}

@@ -5,7 +5,7 @@ use Rattle.std.proofs.lemmas.Option.{same_Some}
 use Rattle.smil_model.specs.declared.interval.Interval.{Interval}
 use Rattle.smil_model.specs.document.Document.{elements}
 use Rattle.smil_past.specs.Past.{history_of}
-use Rattle.smil_cells.specs.declared.plain.known.Row.{Row}
+use Rattle.smil_cells.specs.declared.plain.current_rows.CurrentRow.{CurrentRow}
 use Rattle.smil_cells.specs.Plain.{interval_in}
 use Rattle.smil_cells.proofs.Rows.{set_own}
 use Rattle.smil_cells.proofs.Taking.{found, own_first, taken_by}
@@ -33,7 +33,7 @@ replace-requires-clause-index g c =
     let rows = c.args.self.now.schedule in
     let at = found c.args.present.now.past.now.document.nodes rows c.args.present.now.who c.possible.ensures.valid.numbered.distinct c.requires.of_elements c.requires.element in
     let own : c.in_ok-row.row.serial ≡ c.args.present.now.who = (c.in_ok-row.ensures.row at.element at.node).serial ∙ at.is_who in
-    ap (λ s. position (λ (r : Row). r.serial == s) rows) own ∙ sym c.place.ensures ∙ c.unwrap-index.ensures
+    ap (λ s. position (λ (r : CurrentRow). r.serial == s) rows) own ∙ sym c.place.ensures ∙ c.unwrap-index.ensures
 
 pub replace-requires-clause-near : goal.replace-requires-clause-near
 replace-requires-clause-near g c = c.in_ok-row.ensures.near

@@ -3,9 +3,9 @@ use Rattle.std.proofs.lemmas.Int.{to_z-of_z}
 use Rattle.smil_model.specs.declared.document.Node.{Node}
 use Rattle.smil_model.specs.document.Document.{elements}
 use Rattle.smil_laws.proofs.Numbered.{ordered}
-use Rattle.smil_graph.specs.Graph.{IsOrder}
+use Rattle.smil_graph.specs.Graph.{IsGraphOrder}
 use Rattle.smil_past.specs.Past.{history_of}
-use Rattle.smil_cells.specs.Round.{AreTaken}
+use Rattle.smil_cells.specs.Round.{AreRowsEvaluated}
 use Rattle.smil_cells.proofs.Taking.{take_next}
 use Rattle.smil_cells.proofs.Current.{none_taken, ordered_element}
 use Rattle.smil_nodes.proofs.Ranked.{order_length}
@@ -23,7 +23,7 @@ use Rattle.smil_nodes.proofs.live.LiveTable.evaluate_all.Goals as goal
 pub evaluate-requires-clause-element : goal.evaluate-requires-clause-element
 evaluate-requires-clause-element g c =
     let order = c.order-who-items.result.now in
-    let is : IsOrder c.args.past.now.document.nodes order = subst (λ (nodes : List Node). IsOrder nodes order) c.graph.ensures c.order-who-items.ensures.order in
+    let is : IsGraphOrder c.args.past.now.document.nodes order = subst (λ (nodes : List Node). IsGraphOrder nodes order) c.graph.ensures c.order-who-items.ensures.order in
     ordered_element c.args.past.now.document.nodes order c.loop-who.who-index is c.loop-who-test.true
 
 pub evaluate-requires-clause-of_elements : goal.evaluate-requires-clause-of_elements
@@ -35,7 +35,7 @@ loop-who-init g c = (
   refl,
   omega arith,
   none_below (history_of c.args.past.now) (interval_in c.args.self.now.schedule) c.order-who-items.result.now c.args.self.now.endings c.possible.ensures.valid.numbered.distinct
-      (subst (λ (nodes : List Node). IsOrder nodes c.order-who-items.result.now) c.graph.ensures c.order-who-items.ensures.order) c.requires.known,
+      (subst (λ (nodes : List Node). IsGraphOrder nodes c.order-who-items.result.now) c.graph.ensures c.order-who-items.ensures.order) c.requires.known,
 )
 
 pub evaluate-requires-clause-known : goal.evaluate-requires-clause-known
@@ -45,7 +45,7 @@ evaluate-requires-clause-known g c = λ e here implicit.
     let k = c.loop-who.who-index in
     let who = get_or order k 0 in
     let distinct = c.possible.ensures.valid.numbered.distinct in
-    let is : IsOrder nodes order = subst (λ (nodes : List Node). IsOrder nodes order) c.graph.ensures c.order-who-items.ensures.order in
+    let is : IsGraphOrder nodes order = subst (λ (nodes : List Node). IsGraphOrder nodes order) c.graph.ensures c.order-who-items.ensures.order in
     let own : e.serial ≡ who = find-serial who (elements nodes) e here in
     knows (history_of c.args.past.now) c.loop-who.self.schedule c.loop-who.self.endings (IsBelow order k) who e distinct (c.loop-who.invariant.0).of_elements c.loop-who.invariant.3 here
     (λ j child at. child_below nodes order k j e child distinct is c.loop-who-test.true (sym own) (ap (node_at (elements nodes)) own ∙ here) implicit at)
@@ -53,7 +53,7 @@ evaluate-requires-clause-known g c = λ e here implicit.
 pub loop-who-preserved : goal.loop-who-preserved
 loop-who-preserved g c =
     let order = c.order-who-items.result.now in
-    let is : IsOrder c.args.past.now.document.nodes order = subst (λ (nodes : List Node). IsOrder nodes order) c.graph.ensures c.order-who-items.ensures.order in
+    let is : IsGraphOrder c.args.past.now.document.nodes order = subst (λ (nodes : List Node). IsGraphOrder nodes order) c.graph.ensures c.order-who-items.ensures.order in
     let who = get_or order c.loop-who.who-index 0 in
     let kept = c.in_ok-evaluate.ensures in (
       take_next (history_of c.args.past.now) _ order c.loop-who.who-index _ c.loop-who.self.schedule c.evaluate.new.self.schedule c.possible.ensures.valid.numbered.distinct is c.loop-who-test.true refl c.loop-who.invariant.0 kept.taken,
@@ -70,13 +70,13 @@ returns-clause-current g c =
     let h = history_of c.args.past.now in
     let rows = c.loop-who.self.schedule in
     let order = c.order-who-items.result.now in
-    let is : IsOrder nodes order = subst (λ (nodes : List Node). IsOrder nodes order) c.graph.ensures c.order-who-items.ensures.order in
+    let is : IsGraphOrder nodes order = subst (λ (nodes : List Node). IsGraphOrder nodes order) c.graph.ensures c.order-who-items.ensures.order in
     let whole : c.loop-who.who-index ≡ length order = omega (arith, c.loop-who-test.false, c.loop-who.auto.who-index-end) in
-    let taken : AreTaken h c.args.moment order c.loop-who.who-index rows = subst (λ (m : ℤ). AreTaken h m order c.loop-who.who-index rows) (to_z-of_z w64 c.args.moment c.ranges.moment) c.loop-who.invariant.0 in
+    let taken : AreRowsEvaluated h c.args.moment order c.loop-who.who-index rows = subst (λ (m : ℤ). AreRowsEvaluated h m order c.loop-who.who-index rows) (to_z-of_z w64 c.args.moment c.ranges.moment) c.loop-who.invariant.0 in
     record {
       rows_are =
           taken_current h c.args.moment order rows (ordered c.args.past.now.document c.possible.ensures.valid.numbered) is
-          (subst (λ (k : ℕ). AreTaken h c.args.moment order k rows) whole taken);
+          (subst (λ (k : ℕ). AreRowsEvaluated h c.args.moment order k rows) whole taken);
       ends_are =
           all_below h (interval_in rows) order c.loop-who.self.endings c.possible.ensures.valid.numbered.distinct is c.loop-who.who-index c.loop-who-test.false c.loop-who.invariant.3;
     }
@@ -85,7 +85,7 @@ pub returns-in_err-evaluate-clause-most : goal.returns-in_err-evaluate-clause-mo
 returns-in_err-evaluate-clause-most g c =
     let nodes = c.args.past.now.document.nodes in
     let order = c.order-who-items.result.now in
-    let is : IsOrder nodes order = subst (λ (nodes : List Node). IsOrder nodes order) c.graph.ensures c.order-who-items.ensures.order in
+    let is : IsGraphOrder nodes order = subst (λ (nodes : List Node). IsGraphOrder nodes order) c.graph.ensures c.order-who-items.ensures.order in
     let each : length order ≡ length (elements nodes) = order_length nodes order is in
     omega (arith, each, c.loop-who-test.true, c.evaluate.ensures.most, c.loop-who.invariant.2)
 
@@ -93,7 +93,7 @@ pub returns-clause-steps : goal.returns-clause-steps
 returns-clause-steps g c =
     let nodes = c.args.past.now.document.nodes in
     let order = c.order-who-items.result.now in
-    let is : IsOrder nodes order = subst (λ (nodes : List Node). IsOrder nodes order) c.graph.ensures c.order-who-items.ensures.order in
+    let is : IsGraphOrder nodes order = subst (λ (nodes : List Node). IsGraphOrder nodes order) c.graph.ensures c.order-who-items.ensures.order in
     let whole : c.loop-who.who-index ≡ length order = omega (arith, c.loop-who-test.false, c.loop-who.auto.who-index-end) in
     let each : length order ≡ length (elements nodes) = order_length nodes order is in
     omega (arith, whole, each, c.loop-who.invariant.2)

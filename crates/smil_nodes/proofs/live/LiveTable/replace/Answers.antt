@@ -1,5 +1,5 @@
 use Rattle.std.proofs.Common.{◌≡◌, ◌∙◌, ap, sym, set, true, false, List}
-use Rattle.smil_cells.specs.declared.plain.known.Row.{Row}
+use Rattle.smil_cells.specs.declared.plain.current_rows.CurrentRow.{CurrentRow}
 use Rattle.smil_nodes.specs.declared.live.LiveTable.{LiveTable}
 use Rattle.smil_nodes.specs.Endings.{put_ending}
 use Rattle.smil_nodes.specs.Undo.{ends_back, rows_back}
@@ -22,7 +22,7 @@ returns-clause-back c = λ marked.
       | then-self+in_ok-note w ↦
           (let put : c.put.new.self ≡ set rows c.args.index c.args.row = c.put.ensures ∙ ap (λ (t : LiveTable). set t.schedule c.args.index c.args.row) w.self-is in
           let ended : c.put-2.new.self ≡ put_ending kept c.args.index c.args.ending = c.put-2.ensures ∙ ap (λ (t : LiveTable). put_ending t.endings c.args.index c.args.ending) w.self-is in (
-            ap (λ (xs : List Row). rows_back xs c.if-self.self.undo) put
+            ap (λ (xs : List CurrentRow). rows_back xs c.if-self.self.undo) put
                 ∙ ap (λ (t : LiveTable). rows_back (set rows c.args.index c.args.row) t.undo) w.self-is
                 ∙ back_noted rows notes w.note.new.self c.args.index c.args.row (record { row = w.row.result; ending = w.ending.result }) c.requires.index w.row.ensures.row w.note.ensures.grown w.in_ok-note.ensures.noted,
             (λ i. ends_back (put i) (ended i) c.if-self.self.undo)

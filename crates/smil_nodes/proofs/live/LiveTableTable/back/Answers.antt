@@ -1,5 +1,5 @@
 use Rattle.std.proofs.Common.{◌≡◌, ◌∙◌, ap, sym, subst, List, Bool}
-use Rattle.smil_cells.specs.declared.plain.known.Row.{Row}
+use Rattle.smil_cells.specs.declared.plain.current_rows.CurrentRow.{CurrentRow}
 use Rattle.smil_nodes.specs.Endings.{KeptEnds}
 use Rattle.smil_nodes.specs.Marked.{IsMarked, IsUpToDate}
 use Rattle.smil_nodes.specs.Undo.{ends_back, rows_back}
@@ -11,7 +11,7 @@ loop-noted-preserved c =
     let rows = c.loop-noted.self.schedule in
     let kept = c.loop-noted.self.endings in
     let notes = c.take_last.new.self in (
-      ap (λ (xs : List Row). rows_back xs notes) c.put_back.ensures.rows
+      ap (λ (xs : List CurrentRow). rows_back xs notes) c.put_back.ensures.rows
           ∙ sym (back_push rows notes c.in-Some.noted)
           ∙ sym (ap (rows_back rows) c.in-Some.ensures.last)
           ∙ c.loop-noted.invariant.0,
@@ -29,4 +29,4 @@ returns-clause-current c = λ h now marked.
     let stands = subst (λ (b : Bool). IsMarked b old.undo old.schedule old.endings h now) c.requires marked in
     let rows_are : rows_back old.schedule old.undo ≡ rows = sym c.loop-noted.invariant.0 ∙ ap (rows_back rows) c.in_default.ensures.last in
     let ends_are : ends_back old.schedule old.endings old.undo ≡ kept = sym c.loop-noted.invariant.1 ∙ ap (ends_back rows kept) c.in_default.ensures.last in
-    subst (λ (x : List Row × KeptEnds). IsUpToDate x.0 x.1 h now) (λ i. (rows_are i, ends_are i)) stands
+    subst (λ (x : List CurrentRow × KeptEnds). IsUpToDate x.0 x.1 h now) (λ i. (rows_are i, ends_are i)) stands

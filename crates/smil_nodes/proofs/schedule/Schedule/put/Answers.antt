@@ -3,7 +3,7 @@ use Rattle.std.proofs.Math.ListN.{length-set}
 use Rattle.std.proofs.lemmas.List.Quantifiers.{position-Some}
 use Rattle.std.specs.Prelude.{◌==◌}
 use Rattle.std.specs.List.{position}
-use Rattle.smil_cells.specs.declared.plain.known.Row.{Row}
+use Rattle.smil_cells.specs.declared.plain.current_rows.CurrentRow.{CurrentRow}
 use Rattle.smil_cells.specs.Rows.{AreNear}
 use Rattle.smil_cells.proofs.Rows.{near_set}
 use Rattle.smil_nodes.specs.Schedule.{slot_of, slots_of}
@@ -13,7 +13,7 @@ use Rattle.smil_nodes.proofs.schedule.Schedule.put.Goals as goal
 pub set-requires : goal.set-requires
 set-requires c =
     let rows = c.self.inside.known in
-    let at = position-Some (λ (r : Row). r.serial == c.args.row.serial) rows c.args.index c.args.row (ap (position (λ (r : Row). r.serial == c.args.row.serial)) c.self.view_is ∙ c.requires.index) in
+    let at = position-Some (λ (r : CurrentRow). r.serial == c.args.row.serial) rows c.args.index c.args.row (ap (position (λ (r : CurrentRow). r.serial == c.args.row.serial)) c.self.view_is ∙ c.requires.index) in
     let within : c.args.index < length rows = at.0 in
     let slots : length c.self.inside.due ≡ length rows + length rows = ap length c.self.invariant.slots_are ∙ slots_length rows in
     omega (arith, within, slots)
@@ -21,7 +21,7 @@ set-requires c =
 pub set-requires-2 : goal.set-requires-2
 set-requires-2 c =
     let rows = c.self.inside.known in
-    let at = position-Some (λ (r : Row). r.serial == c.args.row.serial) rows c.args.index c.args.row (ap (position (λ (r : Row). r.serial == c.args.row.serial)) c.self.view_is ∙ c.requires.index) in
+    let at = position-Some (λ (r : CurrentRow). r.serial == c.args.row.serial) rows c.args.index c.args.row (ap (position (λ (r : CurrentRow). r.serial == c.args.row.serial)) c.self.view_is ∙ c.requires.index) in
     let within : c.args.index < length rows = at.0 in
     let slots : length c.self.inside.due ≡ length rows + length rows = ap length c.self.invariant.slots_are ∙ slots_length rows in
     let same : length c.set.new.self ≡ length c.self.inside.due = ap length c.set.ensures ∙ simp length-set in

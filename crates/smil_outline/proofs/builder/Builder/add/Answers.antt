@@ -3,7 +3,7 @@ use Rattle.std.proofs.lemmas.Bool.{le-ltb}
 use Rattle.smil_model.specs.declared.limits.TheConstants.{LINE_BYTES}
 use Rattle.smil_model.specs.document.Limits.{limits}
 use Rattle.smil_grammar.specs.Outlines.{Outline, with_line, with_node, shape_in, shape_within}
-use Rattle.smil_outline.specs.Branches.{is_known, IsKept, IsPlaced}
+use Rattle.smil_outline.specs.Branches.{is_known, IsOfBuilder, IsPlaced}
 use Rattle.smil_outline.proofs.Alike.{kept_with, kept_put, where_ok}
 use Rattle.smil_outline.proofs.Parts.{as_node}
 use Rattle.smil_outline.proofs.Validity.{serial_is_new}
@@ -16,7 +16,7 @@ invariant_of-self-2 c =
     let line : List ℕ = c.args.line.now in
     let node = c.in_ok-node.node in
     let spaces : ℕ = c.spaces-spaces.result in
-    let kept : IsKept now = subst IsKept c.self.view_is c.self.invariant in
+    let kept : IsOfBuilder now = subst IsOfBuilder c.self.view_is c.self.invariant in
     let short : ltb LINE_BYTES (length line) ≡ false = le-ltb _ _ c.requires.short in
     let text : drop spaces line ≡ c.split_at.result.1.now = sym c.split_at.ensures.back in
     let shaped = ap (shape_in now now.next) text ∙ sym c.in-Some.ensures.reading in

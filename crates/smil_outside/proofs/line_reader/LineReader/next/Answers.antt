@@ -1,7 +1,7 @@
 use Rattle.std.proofs.Common.{◌≡◌, ◌≤◌, ◌+◌, [], Some, length, take, refl, ap, subst, ◌∙◌, arith}
 use Rattle.std.specs.Str.Lines.{strip_carriage_return}
 use Rattle.smil_outside.specs.declared.line.Ending.TheVariants as ending
-use Rattle.smil_outside.specs.Reading.{Reading}
+use Rattle.smil_outside.specs.ReaderState.{ReaderState}
 use Rattle.smil_outside.specs.Scan.{Stops}
 use Rattle.smil_outside.proofs.ReadLemmas.{scan_fits, scan_uncut, line_feed_reads, end_reads, Counts-from}
 use Rattle.smil_outside.proofs.line_reader.LineReader.next.Goals as goal
@@ -29,7 +29,7 @@ returns-in-LineFeed-clause-reads g c =
     let at = c.in-LineFeed.at in
     let len = c.content_len-len.result in
     let window = c.seek_line_end-scan.new.window in
-    let mid : Reading = record { pending = window.bytes; taken = c.seek_line_end-scan.new.taken; line = window.line; number = c.self.inside.number; closed = c.self.inside.closed } in
+    let mid : ReaderState = record { pending = window.bytes; taken = c.seek_line_end-scan.new.taken; line = window.line; number = c.self.inside.number; closed = c.self.inside.closed } in
     let stops = subst (λ stop. Stops stop window.bytes c.seek_line_end-scan.new.taken (g.S.Source.rest c.seek_line_end-scan.new.source)) c.in-LineFeed.is scans.stopped in
     let bound = subst (λ bytes. len ≤ length (take at bytes)) c.bytes.ensures.value c.content_len-len.ensures.bound in
     let content = subst (λ bytes. take len (take at bytes) ≡ strip_carriage_return (take at bytes)) c.bytes.ensures.value c.content_len-len.ensures.value in
@@ -43,7 +43,7 @@ returns-else-len-eq0-clause-reads g c =
     let scans = rw c.cut.ensures at c.seek_line_end-scan.ensures.scans in
     let scan = c.seek_line_end-scan.result in
     let window = c.seek_line_end-scan.new.window in
-    let mid : Reading = record { pending = window.bytes; taken = c.seek_line_end-scan.new.taken; line = window.line; number = c.self.inside.number; closed = Some ending.End } in
+    let mid : ReaderState = record { pending = window.bytes; taken = c.seek_line_end-scan.new.taken; line = window.line; number = c.self.inside.number; closed = Some ending.End } in
     let new = c.answer_line-in-InputEnd.new.self in
     let stops = subst (λ stop. Stops stop window.bytes c.seek_line_end-scan.new.taken (g.S.Source.rest c.seek_line_end-scan.new.source)) c.in-InputEnd.is scans.stopped in
     let size : length c.bytes-len.result.now ≡ length window.bytes = ap length c.bytes-len.ensures.value in

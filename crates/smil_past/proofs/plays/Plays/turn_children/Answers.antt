@@ -4,7 +4,7 @@ use Rattle.std.proofs.lemmas.Option.{slice_get_within}
 use Rattle.smil_model.specs.declared.document.Node.{Node}
 use Rattle.smil_model.specs.document.Document.{time_children}
 use Rattle.smil_instances.proofs.Begun.{at_place}
-use Rattle.smil_past.specs.Rows.{AreTurned}
+use Rattle.smil_past.specs.Rows.{AreAfterParent}
 use Rattle.smil_past.proofs.Turned.{turned_more}
 use Rattle.smil_past.proofs.plays.Plays.turn_children.Goals as goal
 
@@ -24,4 +24,4 @@ pub returns : goal.returns
 returns c =
     let children = time_children c.args.tree.now.nodes c.args.who in
     let many : length c.time_children-child-items.result.now ≡ length children = ap length c.time_children-child-items.ensures ∙ length-map children (λ (n : Node). n.serial) in
-    subst (λ ns. AreTurned ns c.args.birth c.args.self.now c.loop-child.self) (take_all c.loop-child.child-index children (omega (arith, many, c.loop-child-test.false))) c.loop-child.invariant
+    subst (λ ns. AreAfterParent ns c.args.birth c.args.self.now c.loop-child.self) (take_all c.loop-child.child-index children (omega (arith, many, c.loop-child-test.false))) c.loop-child.invariant

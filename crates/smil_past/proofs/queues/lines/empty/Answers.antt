@@ -1,7 +1,7 @@
 use Rattle.std.proofs.Common.{refl, sym, ap, ◌∙◌, []}
 use Rattle.std.specs.Prelude.{cond}
 use Rattle.std.proofs.lemmas.Bool.{eq-eqb}
-use Rattle.smil_excl.specs.Line.{Line, line_in}
+use Rattle.smil_excl.specs.QueueState.{QueueState, line_in}
 use Rattle.smil_past.specs.Queues.{without_children}
 use Rattle.smil_past.proofs.Placing.{queue_changed, queue_absent, line_there}
 use Rattle.smil_past.proofs.queues.lines.empty.Goals as goal
@@ -12,7 +12,7 @@ returns-in-Some c = λ queue is.
     let who = c.args.who in
     queue_changed nodes queue (without_children who queue) c.args.queues.now c.in-Some.place who c.clear.new.self c.valid.ensures.numbered.distinct is (c.in-Some.ensures)
     (c.clear.ensures
-    ∙ ap (λ (l : Line). record { held = []; room = l.room }) (line_there nodes queue c.args.queues.now c.in-Some.place who c.index-queues-place.result is c.in-Some.ensures)
+    ∙ ap (λ (l : QueueState). record { held = []; room = l.room }) (line_there nodes queue c.args.queues.now c.in-Some.place who c.index-queues-place.result is c.in-Some.ensures)
     ∙ ap (λ t. line_in nodes who (cond t [] (queue who))) (sym (eq-eqb who who refl)))
     (λ e r. ap (λ t. cond t [] (queue e)) (sym r))
 

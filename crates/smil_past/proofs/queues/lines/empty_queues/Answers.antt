@@ -3,7 +3,7 @@ use Rattle.std.specs.Prelude.{slice_get, option_map}
 use Rattle.std.proofs.lemmas.List.{take_all, length-map, length_push}
 use Rattle.smil_model.specs.declared.document.Node.{Node}
 use Rattle.smil_stretch.proofs.Idle.{node_inside, none_left}
-use Rattle.smil_excl.specs.Line.{line_in}
+use Rattle.smil_excl.specs.QueueState.{line_in}
 use Rattle.smil_past.proofs.Listing.{more}
 use Rattle.smil_past.proofs.queues.lines.empty_queues.Goals as goal
 

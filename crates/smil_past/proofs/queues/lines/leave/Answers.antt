@@ -1,6 +1,6 @@
 use Rattle.std.proofs.Common.{ap, ◌∙◌}
 use Rattle.smil_model.specs.happening.Queue as model
-use Rattle.smil_excl.specs.Line.{Line, without, line_in}
+use Rattle.smil_excl.specs.QueueState.{QueueState, without, line_in}
 use Rattle.smil_excl.proofs.Line.{without_is_without}
 use Rattle.smil_past.proofs.Placing.{child_changed, child_absent, parent_there, line_there}
 use Rattle.smil_past.proofs.queues.lines.leave.Goals as goal
@@ -12,7 +12,7 @@ returns-in-Some c = λ queue is.
     let of = parent_there nodes who c.in-Some.place c.in-Some.ensures in
     child_changed nodes who (model.without who) queue c.args.queues.now c.in-Some.place c.leave.new.self of c.valid.ensures.numbered.distinct is
     (c.leave.ensures.rest
-    ∙ ap (λ (l : Line). record { held = without who l.held; room = l.room }) (line_there nodes queue c.args.queues.now c.in-Some.place of.parent c.index-queues-place.result is of.at)
+    ∙ ap (λ (l : QueueState). record { held = without who l.held; room = l.room }) (line_there nodes queue c.args.queues.now c.in-Some.place of.parent c.index-queues-place.result is of.at)
     ∙ ap (λ held. record (line_in nodes of.parent (queue of.parent)) { held = held }) (without_is_without nodes who (queue of.parent)))
 
 pub returns-in_default : goal.returns-in_default

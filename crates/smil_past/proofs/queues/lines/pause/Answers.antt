@@ -1,6 +1,6 @@
 use Rattle.std.proofs.Common.{◌∙◌}
 use Rattle.smil_model.specs.happening.Queue.{put_paused}
-use Rattle.smil_excl.specs.Line.{paused_before}
+use Rattle.smil_excl.specs.QueueState.{paused_before}
 use Rattle.smil_excl.proofs.Line.{paused_is_put}
 use Rattle.smil_past.proofs.Placing.{child_absent, put_there, room_there}
 use Rattle.smil_past.proofs.queues.lines.pause.Goals as goal

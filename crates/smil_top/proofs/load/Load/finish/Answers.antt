@@ -1,5 +1,5 @@
 use Rattle.std.proofs.Common.{subst}
-use Rattle.smil_top.specs.declared.given.NamedOutline.{NamedOutline}
+use Rattle.smil_top.specs.declared.loaded.NamedOutline.{NamedOutline}
 use Rattle.smil_top.proofs.Loads.{IsGivenAt, Gives-ok, Gives-err}
 use Rattle.smil_top.proofs.load.Load.finish.Goals as goal
 

@@ -1,5 +1,5 @@
 use Rattle.std.proofs.Common.{sym, subst}
-use Rattle.smil_top.specs.declared.given.NamedOutline.{NamedOutline}
+use Rattle.smil_top.specs.declared.loaded.NamedOutline.{NamedOutline}
 use Rattle.smil_top.specs.Cut.{NumberedLine}
 use Rattle.smil_top.specs.Running.{IsRead}
 use Rattle.smil_top.proofs.Loads.{IsNodeAt, IsRead-ok, IsRead-err, more_lines}

@@ -1,0 +1,67 @@
+use Rattle.std.proofs.Common.{Err, refl, ◌≡◌, ◌∙◌, sym, ap, subst, w64, to_z, of_z, ◌-◌, drop, length}
+use Rattle.std.specs.Prelude.{IsSome}
+use Rattle.smil_model.specs.document.Document.{Document, is_continuous, node_at}
+use Rattle.smil_model.specs.document.Valid.{IsNumberedTree, kind_of}
+use Rattle.smil_model.specs.shown.Orders.{Presentation}
+use Rattle.std.proofs.lemmas.Int.{to_z-of_z}
+use Rattle.std.proofs.lemmas.Result.{on_ok_weaker, IfErr-weaker}
+use Rattle.smil_model.specs.declared.diary.Happening.TheVariants as happening
+use Rattle.smil_model.specs.declared.order.Order.TheVariants as order
+use Rattle.smil_model.specs.declared.order.Refusal.TheVariants as refusal
+use Rattle.smil_model.specs.shown.Answers.{Refuses}
+use Rattle.smil_grammar.specs.Formats.{formats}
+use Rattle.smil_live.specs.Counts.{most_number, told_where}
+use Rattle.smil_live.specs.Moves.{IsNotHeard}
+use Rattle.smil_live.proofs.CountedOrders.{bounded_at_once, bounded_then}
+use Rattle.smil_live.proofs.Outcomes.{kind_named, may_media, media_heard, media_not_heard, media_refused}
+use Rattle.smil_live.proofs.presentation.PresentationOver.media.Goals as goal
+
+pub kind-requires : goal.kind-requires
+kind-requires g c =
+    let same : c.tree.result.now ≡ c.args.self.now.document = c.tree.ensures ∙ ap (λ (p : Presentation). p.document) c.self.view_is in
+    subst (λ (d : Document). IsSome (node_at d.nodes c.in_ok-serial.serial)) (sym same) c.in_ok-serial.ensures.known
+
+pub returns-then-not-is_continuous-clause-refused : goal.returns-then-not-is_continuous-clause-refused
+returns-then-not-is_continuous-clause-refused g c =
+    let same : c.tree.result.now ≡ c.args.self.now.document = c.tree.ensures ∙ ap (λ (p : Presentation). p.document) c.self.view_is in
+    let h = c.in_ok-serial.ensures.ok in
+    let kind : c.kind.result ≡ h.0.kind =
+    kind_named c.args.self.now.document c.args.who.now h.0 c.in_ok-serial.serial c.kind.result (subst (λ (p : Presentation). IsNumberedTree p.document) c.self.view_is c.self.invariant.shown_is.state.document.numbered) h.1 h.2
+    (c.kind.ensures ∙ ap (λ (d : Document). kind_of (node_at d.nodes c.in_ok-serial.serial)) same) in
+    media_refused c.args.self.now c.args.who.now c.args.length h.0 h.1 (ap is_continuous (sym kind) ∙ sym c.is_continuous.ensures ∙ c.if-not-is_continuous.true)
+
+pub hear-requires : goal.hear-requires
+hear-requires g c =
+    may_media c.in_ok-serial.serial (to_z w64 (of_z w64 c.args.length)) c.args.length c.in_ok-serial.ensures.serial (to_z-of_z w64 c.args.length c.ranges.length) c.requires.1
+
+pub returns-clause-ok : goal.returns-clause-ok
+returns-clause-ok g c =
+    let same : c.tree.result.now ≡ c.args.self.now.document = c.tree.ensures ∙ ap (λ (p : Presentation). p.document) c.self.view_is in
+    let h = c.in_ok-serial.ensures.ok in
+    let kind : c.kind.result ≡ h.0.kind =
+    kind_named c.args.self.now.document c.args.who.now h.0 c.in_ok-serial.serial c.kind.result (subst (λ (p : Presentation). IsNumberedTree p.document) c.self.view_is c.self.invariant.shown_is.state.document.numbered) h.1 h.2
+    (c.kind.ensures ∙ ap (λ (d : Document). kind_of (node_at d.nodes c.in_ok-serial.serial)) same) in
+    let continuous = ap is_continuous (sym kind) ∙ sym c.is_continuous.ensures ∙ c.if-not-is_continuous.false in
+    on_ok_weaker c.hear.result (media_heard c.args.self.now c.hear.new.self c.args.who.now c.in_ok-serial.serial (to_z w64 (of_z w64 c.args.length)) c.args.length h.0 _ (subst (λ (p : Presentation). IsNumberedTree p.document) c.self.view_is c.self.invariant.shown_is.state.document.numbered) h.1 continuous h.2 (to_z-of_z w64 c.args.length c.ranges.length)) c.hear.ensures.ok
+
+pub returns-clause-refused : goal.returns-clause-refused
+returns-clause-refused g c =
+    let same : c.tree.result.now ≡ c.args.self.now.document = c.tree.ensures ∙ ap (λ (p : Presentation). p.document) c.self.view_is in
+    let h = c.in_ok-serial.ensures.ok in
+    let kind : c.kind.result ≡ h.0.kind =
+    kind_named c.args.self.now.document c.args.who.now h.0 c.in_ok-serial.serial c.kind.result (subst (λ (p : Presentation). IsNumberedTree p.document) c.self.view_is c.self.invariant.shown_is.state.document.numbered) h.1 h.2
+    (c.kind.ensures ∙ ap (λ (d : Document). kind_of (node_at d.nodes c.in_ok-serial.serial)) same) in
+    let continuous = ap is_continuous (sym kind) ∙ sym c.is_continuous.ensures ∙ c.if-not-is_continuous.false in
+    IfErr-weaker c.hear.result (IsNotHeard c.args.self.now (happening.Media c.in_ok-serial.serial (to_z w64 (of_z w64 c.args.length)))) (Refuses formats c.args.self.now (order.Media c.args.who.now c.args.length))
+    (λ r not_heard. media_not_heard c.args.self.now c.args.who.now c.in_ok-serial.serial (to_z w64 (of_z w64 c.args.length)) c.args.length h.0 r h.1 continuous h.2 (to_z-of_z w64 c.args.length c.ranges.length) not_heard) c.hear.ensures.refused
+
+pub returns-clause-bounded : goal.returns-clause-bounded
+returns-clause-bounded g c =
+    bounded_then c.hear.result g.T.Table.counts c.args.self.now c.hear.new.self (order.Media c.args.who.now c.args.length) (drop (length c.args.out.now) c.hear.new.out) (c.hear.new.steps - c.args.steps.now) (returns-clause-ok g c)
+    c.hear.ensures.most c.hear.ensures.least (c.hear.ensures.free (told_where g.T.Table.counts (most_number c.args.self.now (order.Media c.args.who.now c.args.length))))
+
+pub returns-in_err-serial-clause-bounded : goal.returns-in_err-serial-clause-bounded
+returns-in_err-serial-clause-bounded g c = bounded_at_once c.from_residual.result g.T.Table.counts c.args.self.now (order.Media c.args.who.now c.args.length) c.args.steps.now c.from_residual.ensures.0
+
+pub returns-then-not-is_continuous-clause-bounded : goal.returns-then-not-is_continuous-clause-bounded
+returns-then-not-is_continuous-clause-bounded g c = bounded_at_once (Err refusal.NotContinuous) g.T.Table.counts c.args.self.now (order.Media c.args.who.now c.args.length) c.args.steps.now refl

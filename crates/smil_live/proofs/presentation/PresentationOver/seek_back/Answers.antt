@@ -1,0 +1,73 @@
+use Rattle.std.proofs.Common.{◌≡◌, ◌-◌, inl, refl, sym, subst, ℤ, to_z, of_z, w64, drop, length}
+use Rattle.std.proofs.lemmas.Int.{to_z-of_z}
+use Rattle.std.proofs.lemmas.Result.{IfErr-weaker}
+use Rattle.smil_model.specs.declared.order.Order.TheVariants as order
+use Rattle.smil_model.specs.declared.order.Refusal.TheVariants as refusal
+use Rattle.smil_model.specs.shown.Answers.{Refuses, gone_text}
+use Rattle.smil_model.specs.shown.Orders.{IsState, changes_between}
+use Rattle.smil_grammar.specs.Formats.{formats}
+use Rattle.smil_tree.proofs.Results.{on_err}
+use Rattle.smil_live.specs.Moves.{IsReplayed, IsTooFull, sought_of, text_of}
+use Rattle.smil_live.specs.Counted.{IsFree}
+use Rattle.smil_live.specs.Counts.{most_number, told_where}
+use Rattle.smil_live.proofs.AgreedCells.{sought_least, sought_most}
+use Rattle.smil_live.proofs.CountedOrders.{bounded_too_full, free_too_full}
+use Rattle.smil_live.proofs.Edited.{replayed_own}
+use Rattle.smil_live.proofs.Outcomes.{appended_both, not_sought, on_both, sought_anew, within_sought}
+use Rattle.smil_live.proofs.presentation.PresentationOver.seek_back.Goals as goal
+
+pub take_over-requires-clause-state : goal.take_over-requires-clause-state
+take_over-requires-clause-state g c = subst IsState (sym c.in_ok-cells.ensures.ok.presentation_is) c.made_at.ensures.state
+
+pub take_over-requires-clause-replayed : goal.take_over-requires-clause-replayed
+take_over-requires-clause-replayed g c = replayed_own _ c.in_ok-cells.cells c.in_ok-cells.ensures.ok
+
+pub returns-clause-ok : goal.returns-clause-ok
+returns-clause-ok g c =
+    let p = c.args.self.now in
+    let there : to_z w64 (of_z w64 c.args.to) ≡ c.args.to = to_z-of_z w64 c.args.to c.ranges.to in
+    let is : IsReplayed (sought_of p c.args.to) c.in_ok-cells.cells = subst (λ (z : ℤ). IsReplayed (sought_of p z) c.in_ok-cells.cells) there c.in_ok-cells.ensures.ok in
+    let state : IsState (sought_of p c.args.to) = subst (λ (z : ℤ). IsState (sought_of p z)) there c.made_at.ensures.state in
+    on_both c.take_over.result (sought_anew p c.take_over.new.self c.in_ok-cells.cells c.args.to c.args.out.now c.take_over.new.out c.settled.ensures.state state is) c.take_over.ensures.state c.take_over.ensures.told
+
+pub returns-clause-appended : goal.returns-clause-appended
+returns-clause-appended g c =
+    let q = c.in_ok-cells.cells.presentation in
+    appended_both c.take_over.result c.args.out.now c.take_over.new.out (gone_text c.args.self.now q) (text_of q (changes_between c.args.self.now q)) c.take_over.ensures.told
+
+pub returns-clause-refused : goal.returns-clause-refused
+returns-clause-refused g c =
+    IfErr-weaker c.take_over.result (λ e. e ≡ refusal.Memory) (Refuses formats c.args.self.now (order.Seek c.args.to)) (λ e h. inl h) c.take_over.ensures.refused
+
+pub returns-in_err-cells-clause-refused : goal.returns-in_err-cells-clause-refused
+returns-in_err-cells-clause-refused g c =
+    let p = c.args.self.now in
+    let there : to_z w64 (of_z w64 c.args.to) ≡ c.args.to = to_z-of_z w64 c.args.to c.ranges.to in
+    let given = c.in_err-cells.field-0.0 in
+    on_err (Refuses formats p (order.Seek c.args.to)) c.from_residual.result given c.from_residual.ensures.1
+    (not_sought p (sought_of p c.args.to) c.args.to given refl (within_sought c.args.to c.requires.clock) (subst (λ (z : ℤ). IsTooFull (sought_of p z) given) there c.in_err-cells.ensures.refused))
+
+pub returns-clause-bounded : goal.returns-clause-bounded
+returns-clause-bounded g c =
+    let p = c.args.self.now in
+    let text = drop (length c.args.out.now) c.take_over.new.out in
+    let rise = c.made_at.new.steps - c.args.steps.now in
+    let there : to_z w64 (of_z w64 c.args.to) ≡ c.args.to = to_z-of_z w64 c.args.to c.ranges.to in
+    let is : IsReplayed (sought_of p c.args.to) c.in_ok-cells.cells = subst (λ (z : ℤ). IsReplayed (sought_of p z) c.in_ok-cells.cells) there c.in_ok-cells.ensures.ok in
+    record {
+      most =
+          sought_most c.take_over.result g.T.Table.counts p c.take_over.new.self c.in_ok-cells.cells c.args.to text rise c.requires.clock c.requires.back is c.take_over.ensures.state
+          (returns-clause-ok g c) c.in_ok-cells.ensures.most;
+      least = sought_least c.take_over.result g.T.Table.counts p c.take_over.new.self c.args.to text rise c.requires.clock c.requires.back (returns-clause-ok g c);
+      free =
+          IfErr-weaker c.take_over.result (λ e. e ≡ refusal.Memory) (λ e. IsFree g.T.Table.counts p (order.Seek c.args.to) e rise)
+          (λ e h. free_too_full (told_where g.T.Table.counts (most_number p (order.Seek c.args.to))) (sought_of p c.args.to) e rise (inl h)) c.take_over.ensures.refused;
+    }
+
+pub returns-in_err-cells-clause-bounded : goal.returns-in_err-cells-clause-bounded
+returns-in_err-cells-clause-bounded g c =
+    let p = c.args.self.now in
+    let there : to_z w64 (of_z w64 c.args.to) ≡ c.args.to = to_z-of_z w64 c.args.to c.ranges.to in
+    let given = c.in_err-cells.field-0.0 in
+    bounded_too_full c.from_residual.result g.T.Table.counts p (sought_of p c.args.to) (order.Seek c.args.to) (c.made_at.new.steps - c.args.steps.now) c.from_residual.ensures.0
+    (on_err (IsTooFull (sought_of p c.args.to)) c.from_residual.result given c.from_residual.ensures.1 (subst (λ (z : ℤ). IsTooFull (sought_of p z) given) there c.in_err-cells.ensures.refused))

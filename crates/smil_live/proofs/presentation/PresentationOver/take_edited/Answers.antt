@@ -1,0 +1,29 @@
+use Rattle.std.proofs.Common.{◌≡◌, inl, sym, subst}
+use Rattle.std.proofs.lemmas.Result.{IfErr-weaker}
+use Rattle.smil_model.specs.declared.order.Refusal.TheVariants as refusal
+use Rattle.smil_model.specs.shown.Orders.{IsState}
+use Rattle.smil_tree.proofs.Results.{on_err}
+use Rattle.smil_live.specs.Moves.{IsTooFull, edited_to}
+use Rattle.smil_live.proofs.Edited.{edited_on_ok, on_ok_always, replayed_own}
+use Rattle.smil_live.proofs.presentation.PresentationOver.take_edited.Goals as goal
+
+pub take_over-requires-clause-state : goal.take_over-requires-clause-state
+take_over-requires-clause-state g c = subst IsState (sym c.in_ok-cells.ensures.ok.presentation_is) c.in_ok-cells.ensures.state
+
+pub take_over-requires-clause-replayed : goal.take_over-requires-clause-replayed
+take_over-requires-clause-replayed g c = replayed_own (edited_to c.args.self.now c.args.edited) c.in_ok-cells.cells c.in_ok-cells.ensures.ok
+
+pub returns-clause-ok : goal.returns-clause-ok
+returns-clause-ok g c =
+    edited_on_ok c.take_over.result c.args.self.now c.take_over.new.self c.args.edited c.in_ok-cells.cells c.args.out.now c.take_over.new.out c.in_ok-cells.ensures.ok c.take_over.ensures.state c.take_over.ensures.told
+
+pub returns-clause-refused : goal.returns-clause-refused
+returns-clause-refused g c =
+    IfErr-weaker c.take_over.result (λ e. e ≡ refusal.Memory) (IsTooFull (edited_to c.args.self.now c.args.edited)) (λ e h. inl h) c.take_over.ensures.refused
+
+pub returns-clause-most : goal.returns-clause-most
+returns-clause-most g c = on_ok_always c.take_over.result c.in_ok-cells.ensures.most
+
+pub returns-in_err-cells-clause-refused : goal.returns-in_err-cells-clause-refused
+returns-in_err-cells-clause-refused g c =
+    on_err (IsTooFull (edited_to c.args.self.now c.args.edited)) c.from_residual.result c.in_err-cells.field-0.0 c.from_residual.ensures.1 c.in_err-cells.ensures.refused

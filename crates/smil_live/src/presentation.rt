@@ -1,0 +1,305 @@
+//! A presentation that answers orders.
+
+ghost use Rattle.std.specs.Prelude.{◌≡◌, ◌≤◌, ◌-◌, ◌++◌, ◌⊎◌, drop, length, true, Some, IsSome, Ok, Err, OnOk, OnErr, IfOk, IfErr};
+ghost use Rattle.smil_model.specs.declared.document.Node.{Node as AnyNode};
+ghost use Rattle.smil_model.specs.declared.order.Order.TheVariants as order;
+ghost use Rattle.smil_model.specs.diary.Logs.{is_serial};
+ghost use Rattle.smil_model.specs.document.Document.{node_at};
+ghost use Rattle.smil_model.specs.document.Valid.{IsValid};
+ghost use Rattle.smil_model.specs.happening.Resolution.{diary_of};
+ghost use Rattle.smil_model.specs.shown.Orders.{IsState, course_of, found, node_of, opened};
+ghost use Rattle.smil_model.specs.shown.Answers.{Accepts, IsGiven, Refuses, load_text};
+ghost use Rattle.smil_grammar.specs.Formats.{formats};
+ghost use Rattle.smil_cells.specs.CellsState.{WhereTold};
+ghost use Rattle.smil_live.specs.Counted.{KeepsToCounts};
+ghost use Rattle.smil_live.specs.Counts.{least_loading, most_loading};
+ghost use Rattle.smil_shown.specs.ShownViews.{IsPlaying};
+ghost use Rattle.smil_live.specs.Moves.{IsReplayed};
+ghost use Rattle.smil_live.specs.Telling.{element_named, is_edit};
+
+use super::replay::{Replay, replayed};
+use super::viewer::Viewer;
+use smil_cells::{Cells, Table};
+use smil_model::{Bytes, Doc, Happening, Order, Player, Refusal, Steps, Who};
+use smil_nodes::LiveTable;
+use smil_revision::{Child, LineText, Setting};
+use smil_shown::{Scene, ViewTable, put_differences};
+use std::alloc::Global;
+use std::marker::Model;
+use std::sync::ledger::Ledger;
+
+/// A presentation that evaluates after each happening those elements alone that the happening can
+/// reach.
+pub type Presentation = PresentationOver<LiveTable>;
+
+/// A presentation, seen as its document, its log and its moment, in milliseconds of document time.
+/// It answers every order, and tells bounds of its interval evaluations where its table counts
+/// them.
+pub struct PresentationOver<T: Table> {
+    pub viewer: Viewer<T>,
+    pub alloc: Global,
+}
+
+impl<T: Table> Drop for PresentationOver<T> {
+    // Dropped by a call of its own, not field by field in each function that drops one.
+    fn drop(self) {
+        let PresentationOver {
+            viewer: _viewer,
+            alloc: _alloc,
+        } = self;
+    }
+}
+
+impl<T: Table> Model for PresentationOver<T> {
+    ghost use Rattle.smil_model.specs.shown.Orders.{Presentation as State};
+    ghost use Rattle.smil_shown.specs.ShownViews.{IsPlaying};
+
+    ghost Value = { State };
+
+    ghost view = { λ p. p.viewer.cells.presentation };
+
+    ghost invariant = { λ p. IsPlaying p.viewer.cells p.viewer.seen };
+}
+
+impl<T: Table> PresentationOver<T> {
+    /// Opens a valid document at moment 0 with an empty log, and appends the lines of what is shown
+    /// of it. `DiaryFull` where its diary has too many entries, `Memory` where memory runs out;
+    /// after a refusal `out` is as before.
+    pub fn new<L: Ledger>(
+        alloc: Global,
+        doc: Doc,
+        out: &mut Bytes,
+        steps: &mut Steps<L>,
+    ) -> Result<Self, Refusal>
+        requires { IsValid doc }
+        ensures state { IfOk result (λ playing. opened doc ≡ Ok playing) }
+        ensures answer { IfOk result (λ playing. out.new ≡ out.old ++ load_text playing) }
+        ensures refused { IfErr result
+            (λ refusal. (refusal ≡ Refusal.Memory) ⊎ (opened doc ≡ Err refusal)) }
+        ensures text { OnErr result (out.new ≡ out.old) }
+        ensures counted { steps.old ≤ steps.new }
+        ensures most { IfOk result (λ playing. WhereTold T.counts
+            (steps.new - steps.old ≤ most_loading playing)) }
+        ensures least { IfOk result (λ playing. WhereTold T.counts
+            (least_loading playing ≤ steps.new - steps.old)) }
+    {
+        let replay = Replay { log: &[], to: 0 };
+        let cells = replayed(alloc, &doc, replay, steps)?;
+        PresentationOver::over(alloc, cells, out)
+    }
+
+    // A presentation over cells that are settled at moment 0, with the lines of what is shown of
+    // it.
+    fn over(alloc: Global, cells: Cells<T>, out: &mut Bytes) -> Result<Self, Refusal>
+        requires state { IsState cells.presentation }
+        requires replayed { IsReplayed cells.presentation cells }
+        requires moment { cells.presentation.now ≡ 0 }
+        ensures state { IfOk result (λ playing. playing ≡ cells.presentation) }
+        ensures answer { IfOk result (λ playing. out.new ≡ out.old ++ load_text playing) }
+        ensures refused { IfErr result (λ refusal. refusal ≡ Refusal.Memory) }
+        ensures text { OnErr result (out.new ≡ out.old) }
+    {
+        let seen = put_first(alloc, &cells, out)?;
+        Ok(PresentationOver {
+            viewer: Viewer { cells, seen },
+            alloc,
+        })
+    }
+
+    /// The serial of a node. `NoElement` where there is no such node.
+    pub fn node(&self, who: &Who) -> Result<u32, Refusal>
+        ensures ok { IfOk result (λ serial. (n : AnyNode)
+            × (node_of self.now.document.nodes who.now ≡ Some n) × (serial ≡ n.serial)) }
+        ensures known { IfOk result (λ serial. IsSome (node_at self.now.document.nodes serial)) }
+        ensures serial { IfOk result (λ serial. is_serial serial ≡ true) }
+        ensures err { IfErr result (λ refusal. found (node_of self.now.document.nodes who.now)
+            ≡ Err refusal) }
+    {
+        match self.viewer.cells.tree().find(who) {
+            Some(serial) => Ok(serial),
+            None => Err(Refusal::NoElement),
+        }
+    }
+
+    /// The serial of an element. `NoElement` where there is no such node, `BadPlace` where it is a
+    /// priorityClass.
+    pub fn element(&self, who: &Who) -> Result<u32, Refusal>
+        ensures ok { IfOk result (λ serial. (n : AnyNode) × (element_named self.now who.now ≡ Ok n)
+            × (serial ≡ n.serial)) }
+        ensures serial { IfOk result (λ serial. is_serial serial ≡ true) }
+        ensures err { IfErr result (λ refusal. element_named self.now who.now ≡ Err refusal) }
+    {
+        let serial = self.node(who)?;
+        if self.viewer.cells.tree().kind(serial).is_element() {
+            Ok(serial)
+        } else {
+            Err(Refusal::BadPlace)
+        }
+    }
+
+    /// A presentation is a state, and has its diary: a law for proofs, which costs nothing.
+    pub fn settled(&self)
+        ensures state { IsState self.now }
+        ensures diary { IsSome (diary_of (course_of self.now)) }
+    {
+        let _kept = &self.viewer;
+    }
+
+    // Hears a key, and tells what changes.
+    fn press<L: Ledger>(
+        &mut self,
+        key: u8,
+        out: &mut Bytes,
+        steps: &mut Steps<L>,
+    ) -> Result<(), Refusal>
+        requires { IsGiven (order.Key key) }
+        ensures ok { OnOk result (Accepts formats self.old self.new (order.Key key)
+            (drop (length out.old) out.new)) }
+        ensures appended { OnOk result (out.new ≡ out.old ++ drop (length out.old) out.new) }
+        ensures refused { IfErr result (Refuses formats self.old (order.Key key)) }
+        ensures kept { OnErr result (self.new ≡ self.old) }
+        ensures text { OnErr result (out.new ≡ out.old) }
+        ensures counted { steps.old ≤ steps.new }
+        ensures bounded { KeepsToCounts T.counts self.old (order.Key key) result
+            (steps.new - steps.old) }
+    {
+        self.settled();
+        self.hear(Happening::Key { key }, out, steps)
+    }
+
+    // Answers an order that edits the document.
+    fn edit<L: Ledger>(
+        &mut self,
+        order: &Order,
+        out: &mut Bytes,
+        steps: &mut Steps<L>,
+    ) -> Result<(), Refusal>
+        requires given { IsGiven order.now }
+        requires edits { is_edit order.now ≡ true }
+        ensures ok { OnOk result (Accepts formats self.old self.new order.now
+            (drop (length out.old) out.new)) }
+        ensures appended { OnOk result (out.new ≡ out.old ++ drop (length out.old) out.new) }
+        ensures refused { IfErr result (Refuses formats self.old order.now) }
+        ensures kept { OnErr result (self.new ≡ self.old) }
+        ensures text { OnErr result (out.new ≡ out.old) }
+        ensures counted { steps.old ≤ steps.new }
+        ensures bounded { KeepsToCounts T.counts self.old order.now result (steps.new - steps.old) }
+    {
+        match order {
+            Order::Set {
+                who,
+                attr,
+                value,
+                attr_column,
+                column,
+            } => {
+                let setting = Setting {
+                    attr: placed(attr, *attr_column),
+                    value: placed(value, *column),
+                };
+                self.set(who, setting, out, steps)
+            }
+            Order::Unset {
+                who,
+                attr,
+                attr_column,
+            } => self.unset(who, placed(attr, *attr_column), out, steps),
+            Order::Insert {
+                who,
+                place,
+                node,
+                column,
+            } => {
+                let child = Child {
+                    place: *place,
+                    line: placed(node, *column),
+                };
+                self.insert(who, child, out, steps)
+            }
+            Order::Remove { who } => self.remove(who, out, steps),
+            _ => unreachable!(),
+        }
+    }
+}
+
+impl<T: Table> Player for PresentationOver<T> {
+    ghost use Rattle.std.specs.Prelude.{true};
+    ghost use Rattle.smil_grammar.specs.Formats.{formats};
+    ghost use Rattle.smil_live.specs.Counts.{least_number, most_number, told_where};
+
+    ghost formats = { λ _. formats };
+
+    ghost presentation = { λ p. p };
+
+    ghost takes = { λ _ _. true };
+
+    ghost least_steps = { λ p order. told_where T.counts (least_number p order) };
+
+    ghost most_steps = { λ p order. told_where T.counts (most_number p order) };
+
+    fn now(&self) -> i64 {
+        self.viewer.cells.moment()
+    }
+
+    fn answer<L: Ledger>(
+        &mut self,
+        order: &Order,
+        out: &mut Bytes,
+        steps: &mut Steps<L>,
+    ) -> Result<(), Refusal> {
+        match order {
+            Order::Advance { by } => self.advance(*by, out, steps),
+            Order::Seek { to } => self.seek(*to, out, steps),
+            Order::Event { who, name } => self.event(who, name, out, steps),
+            Order::Media { who, length } => self.media(who, *length, out, steps),
+            Order::Key { key } => self.press(*key, out, steps),
+            Order::Set { .. } | Order::Unset { .. } | Order::Insert { .. } | Order::Remove { .. } =>
+                self.edit(order, out, steps),
+            Order::Show
+            | Order::History { .. }
+            | Order::Text
+            | Order::Save
+            | Order::Values
+            | Order::Stack { .. }
+            | Order::Diary => self.tell(order, out),
+        }
+    }
+}
+
+// A text in an order's line, with its column.
+fn placed(text: &Bytes, column: u32) -> LineText<'_>
+    ensures text { result.text.now ≡ text.now }
+    ensures column { result.column ≡ column }
+{
+    LineText {
+        text: text.slice(),
+        column,
+    }
+}
+
+// The views of cells that are settled at moment 0, with their lines appended.
+fn put_first<T: Table>(
+    alloc: Global,
+    cells: &Cells<T>,
+    out: &mut Bytes,
+) -> Result<ViewTable, Refusal>
+    requires state { IsState cells.now.presentation }
+    requires replayed { IsReplayed cells.now.presentation cells.now }
+    requires moment { cells.now.presentation.now ≡ 0 }
+    ensures seen { IfOk result (IsPlaying cells.now) }
+    ensures answer { OnOk result (out.new ≡ out.old ++ load_text cells.now.presentation) }
+    ensures refused { IfErr result (λ refusal. refusal ≡ Refusal.Memory) }
+    ensures text { OnErr result (out.new ≡ out.old) }
+{
+    let seen = ViewTable::of(alloc, cells)?;
+    let len = out.len();
+    let scene = Scene {
+        tree: cells.tree(),
+        moment: 0,
+    };
+    if put_differences(scene, &ViewTable::none(alloc), &seen, out).is_err() {
+        out.cut_back(len);
+        return Err(Refusal::Memory);
+    }
+    Ok(seen)
+}
