@@ -4,7 +4,7 @@ use smil_model::Refusal;
 use std::alloc::AllocError;
 
 /// Why a line of a program for tests, as a case, has no answer.
-#[derive(Clone, Copy, Debug, PartialEq, Eq)]
+#[derive(Clone, Copy)]
 pub enum Fault {
     /// The line or a word has no reading where it stands, or the call may not be made with its
     /// value.

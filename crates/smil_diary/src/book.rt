@@ -22,7 +22,6 @@ use std::marker::Model;
 
 /// What happened so far, in order: a diary of at most `DIARY_ENTRIES` entries, seen as the list of
 /// its entries. An index by element stands beside it, so that no reading goes through the entries.
-#[derive(Debug)]
 pub struct Book {
     entries: Vec<Entry>,
     index: Index,

@@ -14,7 +14,6 @@ use std::alloc::{AllocError, Global};
 
 /// The places in a diary of the entries on one element, by kind, and of those that finished an
 /// interval of it: the ends and cuts while it was active.
-#[derive(Debug)]
 pub(crate) struct ElementPlaces {
     pub(crate) began: Places,
     pub(crate) repeated: Places,

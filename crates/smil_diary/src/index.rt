@@ -11,7 +11,7 @@ use std::collections::HashMap;
 use std::marker::Model;
 
 /// The index of a diary by element, seen as serials with the places of their entries.
-#[derive(Debug, Drop)]
+#[derive(Drop)]
 pub(crate) struct Index {
     elements: HashMap<u32, ElementPlaces>,
     absent: ElementPlaces,

@@ -11,7 +11,7 @@ use std::alloc::{AllocError, Global};
 use std::marker::Model;
 
 /// Places in a diary, in rising order.
-#[derive(Debug, Drop)]
+#[derive(Drop)]
 pub(crate) struct Places {
     items: Vec<u32>,
 }

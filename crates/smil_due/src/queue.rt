@@ -14,7 +14,7 @@ use std::collections::BTreeSet;
 use std::marker::Model;
 
 /// Keys, each once, in the order in which they happen; seen as their set.
-#[derive(Debug, Drop)]
+#[derive(Drop)]
 pub struct DueQueue {
     due: BTreeSet<Due>,
 }

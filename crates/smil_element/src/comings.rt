@@ -24,7 +24,7 @@ use smil_model::{Attrs, Interval, Key, Play, Time, later};
 use smil_past::Past;
 
 /// What comes of an element: its begin or its end, and its repeat.
-#[derive(Clone, Copy, Debug)]
+#[derive(Clone, Copy)]
 pub struct DueChanges {
     pub moved: Option<DueChange>,
     pub repeat: Option<DueChange>,

@@ -24,7 +24,7 @@ use std::alloc::AllocError;
 
 /// The first and the latest end of an element since its container's iteration began, in
 /// milliseconds on the container's clock, as the container takes them.
-#[derive(Clone, Copy, Debug, PartialEq, Eq)]
+#[derive(Clone, Copy)]
 pub struct Ending {
     pub first: Option<Time>,
     pub latest: Option<Time>,

@@ -26,7 +26,7 @@ use std::alloc::{AllocError, Global};
 use std::sync::ledger::Ledger;
 
 /// The interval of an element and its simple duration.
-#[derive(Clone, Copy, Debug, PartialEq, Eq)]
+#[derive(Clone, Copy)]
 pub struct Evaluation {
     pub interval: Option<Interval>,
     pub simple: Time,

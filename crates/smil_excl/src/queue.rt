@@ -11,7 +11,7 @@ use std::marker::Model;
 
 /// The queue of an excl, seen as the children that it holds, the next one first, and the number
 /// that it has room for.
-#[derive(Debug, Drop)]
+#[derive(Drop)]
 pub struct Queue {
     held: Vec<QueuedChild>,
     room: usize,

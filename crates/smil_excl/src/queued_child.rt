@@ -1,7 +1,7 @@
 //! What a queue holds.
 
 /// A child of an excl in its queue.
-#[derive(Clone, Copy, Debug, PartialEq, Eq)]
+#[derive(Clone, Copy)]
 pub struct QueuedChild {
     /// The serial of the child.
     pub who: u32,

@@ -8,7 +8,7 @@ use smil_model::Bytes;
 use std::alloc::{AllocError, Global};
 
 /// A part of a session.
-#[derive(Clone, Copy, Debug, PartialEq, Eq)]
+#[derive(Clone, Copy)]
 pub enum Part {
     /// The images of the seq.
     Images,

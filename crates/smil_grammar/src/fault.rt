@@ -10,7 +10,7 @@ use std::alloc::AllocError;
 use thiserror::Error;
 
 /// No word stands at this place.
-#[derive(Clone, Copy, Debug, PartialEq, Eq)]
+#[derive(Clone, Copy)]
 pub struct BadAt(pub usize);
 
 /// Why a text is no clock value.
@@ -25,7 +25,7 @@ pub enum ClockFault {
 }
 
 /// Why a text is no item of a list.
-#[derive(Clone, Copy, Debug, PartialEq, Eq)]
+#[derive(Clone, Copy)]
 pub enum ItemFault {
     /// It is outside the grammar.
     Bad,
@@ -44,7 +44,7 @@ impl From<AllocError> for ItemFault {
 }
 
 /// Why a text is no list.
-#[derive(Clone, Copy, Debug, PartialEq, Eq)]
+#[derive(Clone, Copy)]
 pub enum ListFault {
     /// An item is outside the grammar.
     Bad { place: usize },
@@ -65,7 +65,7 @@ impl From<AllocError> for ListFault {
 }
 
 /// Why an attribute has no reading.
-#[derive(Clone, Copy, Debug, PartialEq, Eq)]
+#[derive(Clone, Copy)]
 pub enum AttrFault {
     /// The kind doesn't have this attribute.
     UnknownAttribute,
@@ -90,7 +90,7 @@ impl From<AllocError> for AttrFault {
 }
 
 /// Why a node line has no reading. Columns are counted from 1.
-#[derive(Clone, Copy, Debug, PartialEq, Eq)]
+#[derive(Clone, Copy)]
 pub enum NodeFault {
     /// It isn't of a node line's shape, has a name twice or calls an unknown kind.
     BadOutline,

@@ -13,7 +13,7 @@ use std::alloc::{AllocError, Global};
 use std::marker::Model;
 
 /// What is known of a place.
-#[derive(Debug, Clone, Copy)]
+#[derive(Clone, Copy)]
 pub enum Visit {
     /// It was not met yet.
     New,
@@ -27,7 +27,7 @@ pub enum Visit {
 /// open groups lie on one path: each leads to the later ones. The last of them is done when all its
 /// links were followed, so each link of a group that is done leads into it or to one that was done
 /// before.
-#[derive(Debug, Drop)]
+#[derive(Drop)]
 pub struct Components {
     marks: Vec<Visit>,
     /// Of each place how many of its links were followed.

@@ -23,7 +23,6 @@ use std::marker::Model;
 
 /// The graph of a document, seen as the document's nodes with an order of the elements: which
 /// elements read which, which references are looped, and in what order to take the elements.
-#[derive(Debug)]
 pub struct Graph {
     doc: Doc,
     tables: Tables,

@@ -17,7 +17,7 @@ use std::alloc::{AllocError, Global};
 
 // What an element is sorted by: first by level, then by height, the lower first, and then by
 // place.
-#[derive(Clone, Copy, Debug, PartialEq, Eq, PartialOrd, Ord)]
+#[derive(Clone, Copy, PartialEq, Eq, PartialOrd, Ord)]
 struct Rank {
     level: usize,
     height: usize,

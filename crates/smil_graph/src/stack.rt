@@ -6,7 +6,7 @@ use std::alloc::{AllocError, Global};
 use std::marker::Model;
 
 /// A stack of numbers, seen as the list of them from the top on.
-#[derive(Debug, Drop)]
+#[derive(Drop)]
 pub struct Stack {
     items: Vec<usize>,
 }

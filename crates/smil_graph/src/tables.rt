@@ -23,7 +23,6 @@ use std::alloc::{AllocError, Global};
 use std::collections::HashMap;
 
 /// What a graph keeps of its document, by places in document order.
-#[derive(Debug)]
 pub struct Tables {
     pub places: HashMap<u32, usize>,
     pub time_parents: Vec<Option<usize>>,

@@ -3,7 +3,7 @@
 use smil_model::Edge;
 
 /// What the times of an item follow from (SMIL 3.0 Timing, the forms of begin and end values).
-#[derive(Clone, Copy, Debug, PartialEq, Eq)]
+#[derive(Clone, Copy)]
 pub enum Source {
     /// The start of the time parent's iteration.
     Start,

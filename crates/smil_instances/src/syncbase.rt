@@ -4,7 +4,7 @@ use smil_model::Edge;
 
 /// The begin or the end of the element with the serial `of`, and an offset in milliseconds (SMIL
 /// 3.0 Timing, syncbase values).
-#[derive(Clone, Copy, Debug, PartialEq, Eq)]
+#[derive(Clone, Copy)]
 pub struct Syncbase {
     pub of: u32,
     pub edge: Edge,

@@ -22,7 +22,7 @@ use smil_model::{
 use std::sync::ledger::Ledger;
 
 /// How a presentation goes on from its present state. Moments are in milliseconds of document time.
-#[derive(Debug, Drop)]
+#[derive(Drop)]
 pub enum Move {
     /// It plays on to a moment, and tells the changes of each moment on the way.
     Pass(i64),

@@ -7,7 +7,7 @@ use std::mem::size_of;
 
 /// What came from outside: an event on the element with the serial `who`, the length of its media
 /// in milliseconds, or a press of an access key, one byte.
-#[derive(Debug, PartialEq, Drop)]
+#[derive(Drop)]
 pub enum Happening {
     Event { who: u32, name: Bytes },
     Media { who: u32, length: i64 },
@@ -31,7 +31,7 @@ impl Duplicate for Happening {
 }
 
 /// What came from outside, with its moment, in milliseconds of document time.
-#[derive(Debug, PartialEq, Drop)]
+#[derive(Drop)]
 pub struct LogEntry {
     pub moment: i64,
     pub what: Happening,
@@ -52,7 +52,7 @@ pub type Log = GrowingList<LogEntry>;
 /// What happened to the element with the serial `who`, or which log entry was heard. A begin, an
 /// end and a deferred or passed begin are on the time parent's clock, the start of an iteration on
 /// the element's own, in milliseconds.
-#[derive(Clone, Copy, Debug, PartialEq, Eq)]
+#[derive(Clone, Copy)]
 pub enum Step {
     /// It began with this begin.
     Began { who: u32, begin: i64 },
@@ -75,7 +75,7 @@ pub enum Step {
 }
 
 /// A step with its moment, in milliseconds of document time.
-#[derive(Clone, Copy, Debug, PartialEq, Eq)]
+#[derive(Clone, Copy)]
 pub struct Entry {
     pub moment: i64,
     pub step: Step,
@@ -88,7 +88,7 @@ const _: () = prove!(size_of::<Entry>() <= 48);
 pub type Diary = GrowingList<Entry>;
 
 /// The kinds of steps that happen to an element.
-#[derive(Clone, Copy, Debug, PartialEq, Eq)]
+#[derive(Clone, Copy)]
 pub enum StepKind {
     Began,
     Repeated,

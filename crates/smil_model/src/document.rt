@@ -14,7 +14,7 @@ use std::marker::Model;
 /// media, or a `set`, which sets an attribute of another node while it plays. A priorityClass has
 /// no times of its own (SMIL 3.0 Timing, the elements `par`, `seq`, `excl` and `priorityClass`;
 /// SMIL 3.0 Animation, the element `set`).
-#[derive(Clone, Copy, Debug, PartialEq, Eq)]
+#[derive(Clone, Copy)]
 pub enum Kind {
     Par,
     Seq,
@@ -59,7 +59,7 @@ impl Kind {
 }
 
 /// The begin or the end of an element, which a syncbase item names.
-#[derive(Clone, Copy, Debug, PartialEq, Eq)]
+#[derive(Clone, Copy)]
 pub enum Edge {
     Begin,
     End,
@@ -67,7 +67,7 @@ pub enum Edge {
 
 /// An item of a begin or end list, with an offset in milliseconds (SMIL 3.0 Timing, the `begin` and
 /// `end` attributes).
-#[derive(Debug, PartialEq, Drop)]
+#[derive(Drop)]
 pub enum Item {
     /// An offset alone, from the play start of the time parent.
     Offset {
@@ -130,7 +130,7 @@ impl Duplicate for Item {
 }
 
 /// A begin or end list, seen as the list of its 1 to 32 items.
-#[derive(Debug, PartialEq, Drop)]
+#[derive(Drop)]
 pub struct Items {
     items: GrowingList<Item>,
 }
@@ -201,7 +201,7 @@ impl Duplicate for Items {
 }
 
 /// A value of `dur` (SMIL 3.0 Timing, the `dur` attribute).
-#[derive(Clone, Copy, Debug, PartialEq, Eq)]
+#[derive(Clone, Copy)]
 pub enum Dur {
     /// A length in milliseconds.
     Clock(i64),
@@ -211,7 +211,7 @@ pub enum Dur {
 }
 
 /// A value of `repeatCount` (SMIL 3.0 Timing, the `repeatCount` attribute).
-#[derive(Clone, Copy, Debug, PartialEq, Eq)]
+#[derive(Clone, Copy)]
 pub enum Count {
     /// A number of iterations, in thousandths.
     Thousandths(u64),
@@ -220,7 +220,7 @@ pub enum Count {
 
 /// A value of `restart`: whether the element may begin again (SMIL 3.0 Timing, the `restart`
 /// attribute).
-#[derive(Clone, Copy, Debug, PartialEq, Eq)]
+#[derive(Clone, Copy)]
 pub enum Restart {
     Always,
     WhenNotActive,
@@ -231,7 +231,7 @@ pub enum Restart {
 
 /// A value of `restartDefault`: the restart of the element and its descendants that state none
 /// (SMIL 3.0 Timing, the `restartDefault` attribute).
-#[derive(Clone, Copy, Debug, PartialEq, Eq)]
+#[derive(Clone, Copy)]
 pub enum RestartDefault {
     Always,
     WhenNotActive,
@@ -241,7 +241,7 @@ pub enum RestartDefault {
 }
 
 /// A value of `fill`: what is shown after the end (SMIL 3.0 Timing, the `fill` attribute).
-#[derive(Clone, Copy, Debug, PartialEq, Eq)]
+#[derive(Clone, Copy)]
 pub enum Fill {
     Remove,
     Freeze,
@@ -253,7 +253,7 @@ pub enum Fill {
 
 /// A value of `fillDefault`: the fill of the element and its descendants that state none (SMIL 3.0
 /// Timing, the `fillDefault` attribute).
-#[derive(Clone, Copy, Debug, PartialEq, Eq)]
+#[derive(Clone, Copy)]
 pub enum FillDefault {
     Remove,
     Freeze,
@@ -265,7 +265,7 @@ pub enum FillDefault {
 
 /// A value of `endsync`: the child or the children whose ends decide the implicit duration of a
 /// container (SMIL 3.0 Timing, the `endsync` attribute).
-#[derive(Debug, PartialEq, Drop)]
+#[derive(Drop)]
 pub enum Endsync {
     Last,
     First,
@@ -287,7 +287,7 @@ impl Duplicate for Endsync {
 
 /// What an excl does when a child begins while another plays: it stops or pauses the playing child,
 /// or defers the newcomer or passes it over (SMIL 3.0 Timing, the `priorityClass` element).
-#[derive(Clone, Copy, Debug, PartialEq, Eq)]
+#[derive(Clone, Copy)]
 pub enum Act {
     Stop,
     Pause,
@@ -297,7 +297,7 @@ pub enum Act {
 
 /// The attributes of a node, each with its value or absent. `min`, `max` and `repeat_dur` are in
 /// milliseconds.
-#[derive(Debug, PartialEq, Drop)]
+#[derive(Drop)]
 pub struct Attrs {
     pub id: Option<Bytes>,
     pub begin: Option<Items>,
@@ -403,7 +403,7 @@ impl Duplicate for Attrs {
 /// A node of a document, with its serial and that of its parent; the parent of the root is 0.
 /// Serials are from 1 and are not given twice; where an outline states none, they are given in
 /// document order.
-#[derive(Debug, PartialEq, Drop)]
+#[derive(Drop)]
 pub struct Node {
     pub serial: u32,
     pub kind: Kind,
@@ -431,7 +431,7 @@ impl Duplicate for Node {
 }
 
 /// An attribute with its value, in the units of `Attrs`.
-#[derive(Debug, PartialEq, Drop)]
+#[derive(Drop)]
 pub enum Attr {
     Id(Bytes),
     Begin(Items),
@@ -459,7 +459,7 @@ pub enum Attr {
 }
 
 /// An attribute's name.
-#[derive(Clone, Copy, Debug, PartialEq, Eq)]
+#[derive(Clone, Copy)]
 pub enum AttrName {
     Id,
     Begin,
@@ -487,7 +487,6 @@ pub enum AttrName {
 }
 
 /// A document, seen as its nodes in document order and the next serial.
-#[derive(Debug, PartialEq)]
 pub struct Doc {
     nodes: GrowingList<Node>,
     next: u32,

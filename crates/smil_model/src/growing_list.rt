@@ -7,7 +7,7 @@ use std::alloc::{AllocError, Global};
 use std::marker::Model;
 
 /// A list that grows at its end, seen as the list of its elements.
-#[derive(Debug, Drop)]
+#[derive(Drop)]
 pub struct GrowingList<T> {
     items: Vec<T>,
 }

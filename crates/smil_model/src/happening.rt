@@ -4,7 +4,7 @@ use super::document::Act;
 
 /// The key of a begin, an end or a repeat that is to happen. Keys are compared by moment, then by
 /// class, then by place.
-#[derive(Clone, Copy, Debug, PartialEq, Eq)]
+#[derive(Clone, Copy, PartialEq, Eq)]
 pub struct Key {
     /// The moment, in milliseconds of document time.
     pub value: i64,
@@ -19,7 +19,7 @@ pub struct Key {
 }
 
 /// The priorityClass of a child of an excl (SMIL 3.0 Timing, the `priorityClass` element).
-#[derive(Clone, Copy, Debug, PartialEq, Eq)]
+#[derive(Clone, Copy)]
 pub struct Class {
     /// The place of the class among those of its excl, from 0; the first is the highest.
     pub rank: u32,

@@ -5,14 +5,14 @@ use super::times::Time;
 
 /// An interval of an element, in milliseconds on its time parent's clock (SMIL 3.0 Timing,
 /// evaluation of begin and end time lists).
-#[derive(Clone, Copy, Debug, PartialEq, Eq)]
+#[derive(Clone, Copy, PartialEq, Eq)]
 pub struct Interval {
     pub begin: i64,
     pub end: Time,
 }
 
 /// The present play of an active element.
-#[derive(Clone, Copy, Debug, PartialEq, Eq)]
+#[derive(Clone, Copy)]
 pub struct Play {
     /// The begin of the interval, on the time parent's clock.
     pub begin: i64,
@@ -28,7 +28,7 @@ pub struct Play {
 }
 
 /// What an element's end list can do without a usable end instance.
-#[derive(Clone, Copy, Debug, PartialEq, Eq)]
+#[derive(Clone, Copy, PartialEq, Eq)]
 pub enum EndList {
     /// There is no `end` attribute.
     Absent,
@@ -42,7 +42,7 @@ pub enum EndList {
 /// attributes' values are those that hold: what an absent or inherited attribute means stands in
 /// their places (SMIL 3.0 Timing, computing the active duration and evaluation of begin and end
 /// time lists).
-#[derive(Clone, Copy, Debug, PartialEq, Eq)]
+#[derive(Clone, Copy)]
 pub struct Facts {
     /// Whether the time parent is active; true for the root.
     pub alive: bool,
@@ -69,7 +69,7 @@ pub struct Facts {
 
 /// What `endsync` asks of a time child, in milliseconds on the clock of the container (SMIL 3.0
 /// Timing, the `endsync` attribute).
-#[derive(Clone, Copy, Debug, PartialEq, Eq)]
+#[derive(Clone, Copy)]
 pub struct ChildEnd {
     /// Whether the container's `endsync` names this child.
     pub named: bool,

@@ -7,7 +7,7 @@ use super::growing_list::Bytes;
 use std::alloc::AllocError;
 
 /// A node, by its id or its serial.
-#[derive(Debug, PartialEq, Drop)]
+#[derive(Drop)]
 pub enum Who {
     Id(Bytes),
     Serial(u32),
@@ -25,7 +25,7 @@ impl Duplicate for Who {
 /// An order to a presentation. Moments and lengths are in milliseconds of document time.
 /// `attr_column` is the column of the attribute's name in the order's line, and `column` that of
 /// the value or of the node, in bytes from 1.
-#[derive(Debug, PartialEq, Drop)]
+#[derive(Drop)]
 pub enum Order {
     /// Moves on by a length.
     Advance {
@@ -96,7 +96,7 @@ pub enum Order {
 }
 
 /// Why an order is refused.
-#[derive(Clone, Copy, Debug, PartialEq, Eq)]
+#[derive(Clone, Copy, PartialEq, Eq)]
 pub enum Refusal {
     /// A line has more than 16,384 bytes without its line feed.
     LongLine,

@@ -12,7 +12,7 @@ pub const CARRIED: i64 = 10_000_000_000_000;
 /// A time value. Numbers stand below indefinite, and indefinite below unresolved (SMIL 3.0 Timing,
 /// computing the active duration). The place where the value stands says on which clock a number
 /// is.
-#[derive(Clone, Copy, Debug, PartialEq, Eq)]
+#[derive(Clone, Copy, PartialEq, Eq)]
 pub enum Time {
     /// A number of milliseconds, which may be negative.
     At(i64),

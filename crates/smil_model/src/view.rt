@@ -7,7 +7,7 @@ use super::interval::Interval;
 use std::alloc::AllocError;
 
 /// The state of an element.
-#[derive(Clone, Copy, Debug, PartialEq, Eq)]
+#[derive(Clone, Copy)]
 pub enum State {
     Idle,
     Waiting,
@@ -20,7 +20,7 @@ pub enum State {
 
 /// A time as it is shown: no time, a number of milliseconds of document time, a word, or that its
 /// clock stands.
-#[derive(Clone, Copy, Debug, PartialEq, Eq)]
+#[derive(Clone, Copy)]
 pub enum Shown {
     Nothing,
     At(i64),
@@ -31,7 +31,7 @@ pub enum Shown {
 
 /// What is shown of an element at a moment, in milliseconds of document time: its state, its
 /// interval, the iteration from 0, and how many intervals have finished since birth.
-#[derive(Clone, Copy, Debug, PartialEq, Eq)]
+#[derive(Clone, Copy)]
 pub struct View {
     pub serial: u32,
     pub state: State,
@@ -43,7 +43,7 @@ pub struct View {
 
 /// What the view of an element follows from. `deferred`, `begun` and `last` are in document time,
 /// and `interval` is on the time parent's clock.
-#[derive(Clone, Copy, Debug, PartialEq, Eq)]
+#[derive(Clone, Copy)]
 pub struct ViewFacts {
     pub serial: u32,
     pub active: bool,
@@ -76,7 +76,7 @@ pub struct ViewFacts {
 /// What a `set` that plays, or is frozen, sets: an attribute of the node with the serial `target`,
 /// since a begin in milliseconds of document time. `position` is the place of the `set` among the
 /// nodes, in document order from 0.
-#[derive(Debug, PartialEq, Drop)]
+#[derive(Drop)]
 pub struct Layer {
     pub target: u32,
     pub attr: Bytes,
@@ -96,7 +96,7 @@ impl Duplicate for Layer {
 }
 
 /// How an interval ended, or that it has not.
-#[derive(Clone, Copy, Debug, PartialEq, Eq)]
+#[derive(Clone, Copy)]
 pub enum How {
     Ended,
     Cut,

@@ -9,7 +9,7 @@ use std::collections::BTreeSet;
 use std::marker::Model;
 
 /// A set of ranks, from which the least is taken first; seen as the list of the ranks.
-#[derive(Debug, Drop)]
+#[derive(Drop)]
 pub struct Agenda {
     ranks: BTreeSet<usize>,
 }

@@ -22,7 +22,7 @@ use std::marker::Model;
 
 /// Where the ending of an element stands: the index of its container among the elements, and its
 /// own place, from 0, among the container's time children.
-#[derive(Clone, Copy, Debug, PartialEq, Eq)]
+#[derive(Clone, Copy)]
 pub struct Home {
     pub container: usize,
     pub child: usize,

@@ -8,7 +8,7 @@ ghost use Rattle.smil_stretch.specs.NodeClocks.{Fits, shown_by, stands_by};
 use smil_model::HasSerial;
 
 /// A clock, in milliseconds.
-#[derive(Clone, Copy, Debug)]
+#[derive(Clone, Copy)]
 pub enum Clock {
     /// It runs, and is behind document time by what it lost while it stood.
     Runs { lost: i64 },
@@ -17,7 +17,7 @@ pub enum Clock {
 }
 
 /// The clock of a node.
-#[derive(Clone, Copy, Debug)]
+#[derive(Clone, Copy)]
 pub struct NodeClock {
     /// The serial of the node.
     pub serial: u32,

@@ -26,7 +26,6 @@ use std::marker::Model;
 /// document order. Each answer is for moments from the last entry of the diary on. A clock runs,
 /// and is behind document time by what it lost, or stands while its element or one above it is
 /// paused.
-#[derive(Debug)]
 pub struct Clocks {
     places: HashMap<u32, usize>,
     clocks: Vec<NodeClock>,

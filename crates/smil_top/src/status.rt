@@ -4,7 +4,7 @@ ghost use Rattle.std.specs.Prelude.{◌≡◌};
 ghost use Rattle.smil_top.specs.Words.{exit_number_of, is_told as is_told_by};
 
 /// How a call of `serve` ended.
-#[derive(Clone, Copy, Debug, PartialEq, Eq)]
+#[derive(Clone, Copy)]
 pub enum Status {
     /// The input, where one is read, was read to its end, and every order was accepted.
     Clean,

@@ -15,7 +15,7 @@ pub const SESSIONS: u32 = 900;
 pub const SESSION_DIGITS: usize = 3;
 
 /// What the program is to do.
-#[derive(Clone, Copy, Debug, PartialEq, Eq)]
+#[derive(Clone, Copy)]
 pub enum Mode {
     /// Answer the session's orders.
     Run,
@@ -26,7 +26,7 @@ pub enum Mode {
 }
 
 /// The words are none that the program knows.
-#[derive(Clone, Copy, Debug, PartialEq, Eq)]
+#[derive(Clone, Copy)]
 pub struct Words;
 
 /// What the words ask for: exactly `run`, `check`, or `gen` and a number from 1 to `SESSIONS`, of

@@ -26,7 +26,7 @@ use std::sync::ledger::Ledger;
 
 /// An element with its interval, in milliseconds on the clock of its time parent, and what comes of
 /// it.
-#[derive(Clone, Copy, Debug)]
+#[derive(Clone, Copy)]
 pub struct CurrentRow {
     pub serial: u32,
     pub interval: Option<Interval>,

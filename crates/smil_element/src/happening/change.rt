@@ -4,7 +4,7 @@ use smil_model::Key;
 
 /// What happens to an element, in milliseconds: a begin or an end on the clock of its time parent,
 /// or a repeat on its own.
-#[derive(Clone, Copy, Debug, PartialEq, Eq)]
+#[derive(Clone, Copy)]
 pub enum Change {
     /// A play of the element begins, at this value.
     Begins { begin: i64 },
@@ -15,7 +15,7 @@ pub enum Change {
 }
 
 /// What is to happen to an element, with the key that orders it among all that is to happen.
-#[derive(Clone, Copy, Debug, PartialEq, Eq)]
+#[derive(Clone, Copy)]
 pub struct DueChange {
     pub key: Key,
     pub change: Change,

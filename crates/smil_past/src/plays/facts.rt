@@ -3,7 +3,7 @@
 use smil_model::Time;
 
 /// A finished interval, in milliseconds: on the time parent's clock, and in document time.
-#[derive(Clone, Copy, Debug, PartialEq, Eq)]
+#[derive(Clone, Copy)]
 pub struct PastInterval {
     pub begin: i64,
     /// The end, or what the time parent's clock showed at the cut.
@@ -14,7 +14,7 @@ pub struct PastInterval {
 }
 
 /// What a diary says of the plays of an element, in milliseconds.
-#[derive(Clone, Copy, Debug, PartialEq, Eq)]
+#[derive(Clone, Copy)]
 pub struct PlayFacts {
     /// The begin of the present play on the time parent's clock, and in document time; None where
     /// there is none.
