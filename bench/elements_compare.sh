@@ -13,7 +13,7 @@ cat > "$program/src/main.rt" <<'RT'
 
 use smil_due::comes_before;
 use smil_element::{
-    Change, Coming, Comings, Container, Containers, Evaluation, Intervals, Parts, Present, Room,
+    Change, DueChange, DueChanges, Container, Containers, Evaluation, Intervals, Parts, Present, Room,
     comings_of, evaluation_of, facts_of, group_of, view_of, walked_duration,
 };
 use smil_model::{
@@ -248,7 +248,7 @@ fn restart_word(restart: Restart) -> &'static str {
     }
 }
 
-fn write_coming<W: Write>(out: &mut W, coming: Option<Coming>) -> io::Result<()> {
+fn write_coming<W: Write>(out: &mut W, coming: Option<DueChange>) -> io::Result<()> {
     let Some(coming) = coming else {
         return write!(out, "-");
     };
@@ -331,7 +331,7 @@ fn tell<W: Write>(
 }
 
 /// The group of what comes, at a moment.
-fn write_group<W: Write>(out: &mut W, alloc: Global, past: &Past, now: i64, coming: Option<Coming>) -> io::Result<()> {
+fn write_group<W: Write>(out: &mut W, alloc: Global, past: &Past, now: i64, coming: Option<DueChange>) -> io::Result<()> {
     let Some(coming) = coming else {
         return write!(out, "-");
     };
@@ -353,7 +353,7 @@ fn write_group<W: Write>(out: &mut W, alloc: Global, past: &Past, now: i64, comi
     Ok(())
 }
 
-fn earlier(first: Option<Coming>, coming: Option<Coming>) -> Option<Coming> {
+fn earlier(first: Option<DueChange>, coming: Option<DueChange>) -> Option<DueChange> {
     match (first, coming) {
         (Some(a), Some(b)) if comes_before(b.key, a.key) => Some(b),
         (Some(a), _) => Some(a),
@@ -370,7 +370,7 @@ fn tell_element<W: Write, L: Ledger>(
     place: u32,
     now: i64,
     steps: &mut Steps<L>,
-) -> io::Result<Comings> {
+) -> io::Result<DueChanges> {
     let present = Present {
         past: &case.past,
         who,
@@ -407,7 +407,7 @@ fn tell_coming<W: Write>(
     who: u32,
     at: usize,
     now: i64,
-    coming: Option<Coming>,
+    coming: Option<DueChange>,
     names: (&str, &str),
 ) -> io::Result<()> {
     let mut line = Vec::new(alloc);

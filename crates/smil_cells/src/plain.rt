@@ -188,8 +188,8 @@ impl PlainTable {
         requires element { has_element present.now.past.now.document.nodes present.now.who ≡ true }
         requires moment { IsPresent present.now.past.now present.now.moment }
         requires of_elements { AreOfElements present.now.past.now.document.nodes self.old.known }
-        ensures taken { OnOk result (IsRowEvaluated (history_of present.now.past.now) present.now.moment
-            present.now.who self.old.known self.new.known) }
+        ensures taken { OnOk result (IsRowEvaluated (history_of present.now.past.now)
+            present.now.moment present.now.who self.old.known self.new.known) }
         ensures changed { OnOk result (StayUnchanged changed.old changed.new self.old.known
             self.new.known) }
         ensures noted { self.new.noted ≡ self.old.noted }

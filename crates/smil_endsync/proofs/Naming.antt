@@ -15,7 +15,7 @@ use Rattle.smil_endsync.specs.Ends.{one_end, set_ends, AreSummed}
 abbrev is_named : ChildEnd → Bool
 is_named c = c.named
 
-set_length : (cs : List ChildEnd) (k : ℕ) (first latest : Option Time) → length (set_ends cs k first latest) ≡ length cs
+pub set_length : (cs : List ChildEnd) (k : ℕ) (first latest : Option Time) → length (set_ends cs k first latest) ≡ length cs
 set_length [] k first latest = refl
 set_length (c ∷ cs) zero first latest = refl
 set_length (c ∷ cs) (suc k) first latest = ap suc (set_length cs k first latest)

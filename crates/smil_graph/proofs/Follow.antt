@@ -143,7 +143,7 @@ module _ (nodes : List Node) (distinct : IsDistinct nodes) where
             facts : (parent : Node) → slice_get nodes q ≡ Some parent → (k : ℕ) (m : Node) → slice_get nodes k ≡ Some m → (slice_get nodes (0 + k) ≡ Some m) × (is_time_child nodes parent.serial m ≡ (is_element_at nodes (0 + k) && is_option q (up tps (0 + k)))) × ((m.serial == n.serial) ≡ ((0 + k) == p))
             facts parent r k m b =
                 let same : k ≡ 0 + k = omega arith in
-                (sym (ap (slice_get nodes) same) ∙ b, child_is k q m parent b r ∙ ap (λ z. is_element_at nodes z && is_option q (up tps z)) same, serial_is p k n m at b ∙ swap p k ∙ ap (λ z. z == p) same)
+                (sym (ap (slice_get nodes) same) ∙ b, child_is k q m parent b r ∙ ap (λ z. is_element_at nodes z && is_option q (up tps z)) same, serial_is p k n m at b ∙ same_eqb p k ∙ ap (λ z. z == p) same)
 
             by_node : (z : Option Node) → slice_get nodes q ≡ z → cond (has_kind is_seq_kind (slice_get nodes q)) (previous_child nodes (slice_get nodes q) n.serial) None ≡ at_place nodes (cond (has_kind is_seq_kind (slice_get nodes q)) (before p None (row children q)) None)
             by_node None r = ap (λ z. cond (has_kind is_seq_kind z) (previous_child nodes z n.serial) None) r ∙ sym (ap (λ z. at_place nodes (cond (has_kind is_seq_kind z) (before p None (row children q)) None)) r)

@@ -34,7 +34,7 @@ has_push xs y x = list_any-append (λ j. j == x) xs (y ∷ []) ∙ ap (λ t. has
     right false = refl
 
 -- the same in the words of std
-has_is : (xs : List ℕ) (x : ℕ) → has xs x ≡ list_any (nat_eq x) xs
+pub has_is : (xs : List ℕ) (x : ℕ) → has xs x ≡ list_any (nat_eq x) xs
 has_is [] x = refl
 has_is (y ∷ ys) x = ap (λ t. t || has ys x) (same_eqb y x) ∙ ap (λ t. (x == y) || t) (has_is ys x)
 

@@ -7,7 +7,7 @@ use Rattle.std.proofs.lemmas.Map.Steps.{length-le_from_distinct_below}
 use Rattle.indexmap.specs.IndexSet.{insert_all}
 use Rattle.smil_model.specs.document.Closure.{has}
 use Rattle.smil_graph.specs.Links.{row, links, AreBelow, StayBelow, IsKeptAlongLinks, IsReached}
-use Rattle.smil_graph.proofs.Lists.{has_get, index_of, has_more, longer_more, front_more, distinct_more}
+use Rattle.smil_graph.proofs.Lists.{has_get, has_is, index_of, has_more, longer_more, front_more, distinct_more}
 
 -- the links of the first places of the set have been followed
 pub record IsSearch (rows : List (List ℕ)) (starts places : List ℕ) (next : ℕ) : Type 0 where
@@ -31,7 +31,7 @@ module _ (rows : List (List ℕ)) (starts : List ℕ) where
   }
 
   pub few : (places : List ℕ) (next : ℕ) → IsSearch rows starts places next → length places ≤ length rows
-  few places next s = length-le_from_distinct_below places (length rows) s.distinct s.below
+  few places next s = length-le_from_distinct_below places (length rows) s.distinct (λ q at. s.below q (has_is places q ∙ at))
 
   pub next_below : (places : List ℕ) (next : ℕ) → IsSearch rows starts places next → next < length places → get_or places next 0 < length rows
   next_below places next s l = s.below (get_or places next 0) (has_get places next l)

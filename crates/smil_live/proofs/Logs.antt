@@ -1,9 +1,9 @@
 -- Logs, whose moments do not fall: the entries from a place on.
-use Rattle.std.proofs.Common.{◌≡◌, refl, ◌∙◌, ap, ℕ, suc, zero, ◌<◌, ◌≤◌, ◌+◌, List, [], ◌∷◌, ◌++◌, Some, Bool, true, ℤ, arith, length, take, drop, get_or}
+use Rattle.std.proofs.Common.{◌≡◌, refl, subst, ◌∙◌, ap, ℕ, suc, zero, ◌<◌, ◌≤◌, ◌+◌, ◌-◌, List, [], ◌∷◌, ◌++◌, Some, Bool, true, ℤ, arith, length, take, drop, get_or}
 use Rattle.std.specs.Prelude.{int_le, slice_get}
 use Rattle.std.specs.List.{AllByRecursion, list_all}
 use Rattle.std.proofs.lemmas.Bool.{and_parts}
-use Rattle.std.proofs.lemmas.List.{get_or-drop, length-drop}
+use Rattle.std.proofs.lemmas.List.{get_or-drop, length-drop, take_rest}
 use Rattle.std.proofs.lemmas.Option.{slice_get_read}
 use Rattle.smil_model.specs.declared.diary.LogEntry.{LogEntry}
 use Rattle.smil_model.specs.diary.Logs.{moments_rise}
@@ -42,12 +42,20 @@ all_at p (y ∷ ys) (suc place) x q is = all_at p ys place x (and_parts (p y) (l
 
 -- ---- places behind another
 
+-- the entries from a place on, as a slice gives them
+abbrev pub behind : {X : Type 0} → List X → ℕ → List X
+behind xs start = take (length xs - start) (drop start xs)
+
 -- an entry of those from a place on, as one of all
-pub behind_at : {X : Type 0} (xs : List X) (start from i : ℕ) (x : X) → start ≡ from → i < length (drop start xs) → x ≡ get_or (drop start xs) i x → slice_get xs (from + i) ≡ Some x
-behind_at xs start from i x same within is =
-    let inside : from + i < length xs = omega (arith, same, within, length-drop start xs) in
-    slice_get_read xs (length xs) (from + i) x refl inside (is ∙ (get_or-drop start xs i x ∙ ap (λ (n : ℕ). get_or xs (n + i) x) same))
+pub behind_at : {X : Type 0} (xs : List X) (start from i : ℕ) (x : X) → start ≡ from → i < length (behind xs start) → x ≡ get_or (behind xs start) i x → slice_get xs (from + i) ≡ Some x
+behind_at {X} xs start from i x same within is =
+    let below : i < length (drop start xs) = subst (λ (ys : List X). i < length ys) (take_rest xs start) within in
+    let inside : from + i < length xs = omega (arith, same, below, length-drop start xs) in
+    slice_get_read xs (length xs) (from + i) x refl inside
+    (is ∙ (ap (λ (ys : List X). get_or ys i x) (take_rest xs start) ∙ (get_or-drop start xs i x ∙ ap (λ (n : ℕ). get_or xs (n + i) x) same)))
 
 -- behind the last of them there is none
-pub all_behind : {X : Type 0} (xs : List X) (start from i : ℕ) → start ≡ from → length (drop start xs) ≤ i → length xs ≤ from + i
-all_behind xs start from i same past = omega (arith, same, past, length-drop start xs)
+pub all_behind : {X : Type 0} (xs : List X) (start from i : ℕ) → start ≡ from → length (behind xs start) ≤ i → length xs ≤ from + i
+all_behind {X} xs start from i same past =
+    let above : length (drop start xs) ≤ i = subst (λ (ys : List X). length ys ≤ i) (take_rest xs start) past in
+    omega (arith, same, above, length-drop start xs)

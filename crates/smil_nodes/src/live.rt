@@ -210,8 +210,8 @@ impl LiveTable {
             → has_implicit_duration e ≡ true
             → KnowsEnds self.old.schedule self.old.endings (history_of present.now.past.now)
             present.now.who }
-        ensures taken { OnOk result (IsRowEvaluated (history_of present.now.past.now) present.now.moment
-            present.now.who self.old.schedule self.new.schedule) }
+        ensures taken { OnOk result (IsRowEvaluated (history_of present.now.past.now)
+            present.now.moment present.now.who self.old.schedule self.new.schedule) }
         ensures ended { OnOk result (IsEnded (history_of present.now.past.now) present.now.who
             self.new.schedule self.old.endings self.new.endings) }
         ensures same { IfOk result (λ changes. changes ≡ false

@@ -56,7 +56,7 @@ map_reverse f [] = refl
 map_reverse f (x ∷ xs) =
     reverse-append (f x ∷ []) (map f xs)
     ∙ ap (λ (ys : List _). ys ++ f x ∷ []) (map_reverse f xs)
-    ∙ sym (map_on f (reverse xs) (x ∷ []))
+    ∙ sym (map-append f (reverse xs) (x ∷ []))
     ∙ ap (map f) (sym (reverse-append (x ∷ []) xs))
 
 -- what is left where as many are taken from the end of a list as stand at the front of its reverse

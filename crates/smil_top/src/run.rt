@@ -90,8 +90,8 @@ impl Run {
     ) -> Result<(), Failed>
         requires short { IfSome next.now.text (λ t. length t.now ≤ LINE_BYTES) }
         requires outside { self.old.load ≡ None }
-        ensures answers { (checks : Bool) (cut : CutLines) (lines : LoadLines) (told : TranscriptState)
-            (line : List ℕ) → cut.«open» ≡ Some lines → IsRead load lines
+        ensures answers { (checks : Bool) (cut : CutLines) (lines : LoadLines)
+            (told : TranscriptState) (line : List ℕ) → cut.«open» ≡ Some lines → IsRead load lines
             → Tells checks self.old cut.whole told → next.now.number ≡ suc cut.count
             → IsLine (option_map (λ t. t.now) next.now.text) line
             → Answers checks result self.new (with_line cut line) told (K.taken sink.old)
@@ -99,8 +99,8 @@ impl Run {
         ensures cause { OnErr result (HasRisen (K.faults sink.old) (K.faults sink.new)) }
         ensures count { K.faults sink.old ≤ K.faults sink.new }
         ensures counted { steps.old ≤ steps.new }
-        ensures evaluated { (cut : CutLines) (lines : LoadLines) (told : TranscriptState) (line : List ℕ)
-            → cut.«open» ≡ Some lines
+        ensures evaluated { (cut : CutLines) (lines : LoadLines) (told : TranscriptState)
+            (line : List ℕ) → cut.«open» ≡ Some lines
             → IsRead load lines → Tells false self.old cut.whole told
             → next.now.number ≡ suc cut.count → IsLine (option_map (λ t. t.now) next.now.text) line
             → EvaluatesOn self.old.counts self.new.counts cut.whole (with_line cut line).whole
@@ -137,7 +137,8 @@ impl Run {
         ensures cause { OnErr result (HasRisen (K.faults sink.old) (K.faults sink.new)) }
         ensures count { K.faults sink.old ≤ K.faults sink.new }
         ensures counted { steps.old ≤ steps.new }
-        ensures evaluated { (cut : CutLines) (told : TranscriptState) (line : List ℕ) → cut.«open» ≡ None
+        ensures evaluated { (cut : CutLines) (told : TranscriptState) (line : List ℕ)
+            → cut.«open» ≡ None
             → Tells false self.old cut.whole told
             → next.now.number ≡ suc cut.count → IsLine (option_map (λ t. t.now) next.now.text) line
             → EvaluatesOn self.old.counts self.new.counts cut.whole (with_line cut line).whole

@@ -1,7 +1,6 @@
 use Rattle.std.proofs.Common.{◌≡◌, sym, ◌∙◌, ap, length, arith, Some}
 use Rattle.std.specs.Prelude.{bytes_eq, slice_get}
 use Rattle.std.specs.HashMap.{get_by}
-use Rattle.smil_model.specs.document.Closure.{has}
 use Rattle.std.proofs.lemmas.Option.{slice_get-get_or}
 use Rattle.smil_graph.specs.Links.{row}
 use Rattle.smil_graph.specs.Places.{up, element_follows}

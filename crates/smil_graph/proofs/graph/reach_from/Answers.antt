@@ -1,8 +1,9 @@
-use Rattle.std.proofs.Common.{◌≡◌, ◌∙◌, ap, ◌<◌, arith, length, ℕ, List, nat_eq}
+use Rattle.std.proofs.Common.{◌≡◌, sym, ◌∙◌, ap, ◌<◌, arith, length, ℕ, List, nat_eq}
 use Rattle.std.specs.HashMap.{get}
 use Rattle.std.proofs.lemmas.Result.{IfOk-weaker}
 use Rattle.smil_graph.specs.Tables.{serials_of_places, reach_of, AreOf}
 use Rattle.smil_graph.proofs.Kept.{heads_stay}
+use Rattle.smil_graph.proofs.Lists.{has_is}
 use Rattle.smil_graph.proofs.Ranges.{sorted_rising}
 use Rattle.smil_graph.proofs.Within.{starts_low, reach_is}
 use Rattle.smil_graph.proofs.graph.reach_from.Goals as goal
@@ -27,5 +28,5 @@ returns c =
     (rw c.as_slice.ensures.value at c.in_ok-found.ensures)
     c.sort_unstable.new.self.keys
     (sorted_rising c.sort_unstable.new.self.keys c.in_ok-sort_unstable.ensures.sorted c.sort_unstable.ensures.unique)
-    (λ i. c.in_ok-sort_unstable.ensures.reordered.2 i))
+    (λ i. has_is c.sort_unstable.new.self.keys i ∙ c.in_ok-sort_unstable.ensures.reordered.2 i ∙ sym (has_is c.in_ok-found.found.keys i)))
     c.serials_at.ensures

@@ -1,4 +1,4 @@
-use Rattle.std.proofs.Common.{◌≡◌, ◌∙◌, sym, subst, length, ◌-◌, ◌≤◌}
+use Rattle.std.proofs.Common.{◌∙◌, sym, subst, length, ◌-◌, ◌≤◌}
 use Rattle.std.specs.Prelude.{IfOk}
 use Rattle.smil_model.specs.document.Document.{Document, elements}
 use Rattle.smil_cells.specs.CellsState.{IsRebuilt, MayRebuild, WhereTold}

@@ -1,4 +1,4 @@
-use Rattle.std.proofs.Common.{◌≡◌, ◌∙◌, ap, sym, ◌<◌, ◌≤◌, length, arith}
+use Rattle.std.proofs.Common.{◌∙◌, ap, sym, ◌<◌, ◌≤◌, length, arith}
 use Rattle.std.proofs.lemmas.Option.{slice_get_within}
 use Rattle.smil_model.specs.document.Document.{elements}
 use Rattle.smil_laws.proofs.Rounds.{find-serial}

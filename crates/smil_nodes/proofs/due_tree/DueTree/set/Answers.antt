@@ -1,4 +1,4 @@
-use Rattle.std.proofs.Common.{◌≡◌, ◌∙◌, ap, sym, List, length, set, arith}
+use Rattle.std.proofs.Common.{◌≡◌, ◌∙◌, ap, List, length, set, arith}
 use Rattle.std.specs.Prelude.{Option}
 use Rattle.std.proofs.lemmas.List.{length-map, map-set}
 use Rattle.smil_model.specs.declared.happening.Key.{Key}

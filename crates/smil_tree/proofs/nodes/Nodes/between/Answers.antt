@@ -1,4 +1,4 @@
-use Rattle.std.proofs.Common.{◌≡◌, ◌≤◌, ap, ◌∙◌, length, arith}
+use Rattle.std.proofs.Common.{◌≤◌, ap, ◌∙◌, length, arith}
 use Rattle.std.specs.Prelude.{slice_range}
 use Rattle.smil_tree.proofs.Holding.{held-length, held-range, part_of}
 use Rattle.smil_tree.proofs.nodes.Nodes.between.Goals as goal
