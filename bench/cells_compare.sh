@@ -8,8 +8,8 @@
 # It makes a small program in a temporary folder, and runs it by `rt try`, so with checks and unproved: its scripts come
 # from outside. Its last line counts the files: `differs=0` where all is the same.
 set -eu
-. "$(dirname "$0")/program.sh"
-new_program compare_cells smil_model smil_laws smil_grammar smil_lexis smil_clock_value smil_time_list smil_attrs smil_outline smil_tree smil_graph smil_diary smil_stretch smil_duration smil_instance_rows smil_instances smil_excl smil_past smil_interval smil_endsync smil_fill smil_element smil_due smil_cells smil_nodes
+. "$(dirname "$0")/compare.sh"
+new_comparison compare_cells smil_outline smil_nodes
 case ${5:-live} in
     live) cells=smil_nodes::LiveCells ;;
     plain) cells=smil_cells::PlainCells ;;
@@ -19,15 +19,20 @@ python3 "$here/bench/engine_cases.py" --kind cells --oracle "$1" --out "$work/ca
 cat > "$program/src/main.rt" <<'RT'
 #![tactic(auto)]
 
+mod given;
+mod told;
+
 use CELLS as ComparedCells;
+use given::{happening, number, serial};
 use smil_diary::BookFault;
 use smil_element::{Present, view_of};
-use smil_model::{Bytes, Doc, Entry, Happening, Interval, Kind, LogEntry, Shown, State, Step, Steps, Time, View};
+use smil_model::{Doc, Kind, LogEntry, Steps};
 use smil_outline::Builder;
 use std::alloc::Global;
 use std::io::{self, BufRead, BufReader, BufWriter, Write};
 use std::marker::Brand;
 use std::sync::ledger::{Blank, Ledger};
+use told::{tell_line, write_entry, write_interval, write_view};
 
 /// Cells, and all that is told of them at the mark, where one stands.
 #[derive(Drop)]
@@ -50,79 +55,6 @@ struct Stage {
     entries: usize,
     told: Vec<Vec<u8>>,
     is_over: bool,
-}
-
-fn number(text: &str) -> Option<i64> {
-    text.parse::<i64>().ok()
-}
-
-fn serial(text: &str) -> Option<u32> {
-    u32::try_from(number(text)?).ok()
-}
-
-// ---- texts
-
-fn write_time<W: Write>(out: &mut W, time: Time) -> io::Result<()> {
-    match time {
-        Time::At(value) => write!(out, "{value}"),
-        Time::Indefinite => write!(out, "indefinite"),
-        Time::Unresolved => write!(out, "unresolved"),
-    }
-}
-
-fn write_interval<W: Write>(out: &mut W, interval: Option<Interval>) -> io::Result<()> {
-    match interval {
-        Some(interval) => {
-            write!(out, "{} ", interval.begin)?;
-            write_time(out, interval.end)
-        }
-        None => write!(out, "-"),
-    }
-}
-
-fn write_entry<W: Write>(out: &mut W, entry: Entry) -> io::Result<()> {
-    let moment = entry.moment;
-    match entry.step {
-        Step::Began { who, begin } => write!(out, "b {moment} {who} {begin}"),
-        Step::Repeated { who, start } => write!(out, "r {moment} {who} {start}"),
-        Step::Ended { who, end } => write!(out, "e {moment} {who} {end}"),
-        Step::Cut { who } => write!(out, "c {moment} {who} 0"),
-        Step::Paused { who } => write!(out, "p {moment} {who} 0"),
-        Step::Resumed { who } => write!(out, "u {moment} {who} 0"),
-        Step::Deferred { who, begin } => write!(out, "f {moment} {who} {begin}"),
-        Step::Passed { who, begin } => write!(out, "s {moment} {who} {begin}"),
-        Step::Logged { place } => write!(out, "l {moment} 0 {place}"),
-    }
-}
-
-fn write_shown<W: Write>(out: &mut W, shown: Shown) -> io::Result<()> {
-    match shown {
-        Shown::Nothing => write!(out, "-"),
-        Shown::At(value) => write!(out, "{value}"),
-        Shown::Indefinite => write!(out, "indefinite"),
-        Shown::Unresolved => write!(out, "unresolved"),
-        Shown::Standing => write!(out, "?"),
-    }
-}
-
-fn state_word(state: State) -> &'static str {
-    match state {
-        State::Idle => "idle",
-        State::Waiting => "waiting",
-        State::Active => "active",
-        State::Paused => "paused",
-        State::Deferred => "deferred",
-        State::Frozen => "frozen",
-        State::Done => "done",
-    }
-}
-
-fn write_view<W: Write>(out: &mut W, view: &View) -> io::Result<()> {
-    write!(out, "{} ", state_word(view.state))?;
-    write_shown(out, view.begin)?;
-    write!(out, " ")?;
-    write_shown(out, view.end)?;
-    write!(out, " {} {}", view.iteration, view.finished)
 }
 
 // ---- what is told of cells
@@ -153,28 +85,6 @@ fn write_standing<W: Write>(out: &mut W, cells: &ComparedCells) -> io::Result<()
         None => write!(out, "-")?,
     }
     writeln!(out, " log {} diary {}", cells.log().len(), cells.book().len())
-}
-
-/// Tells a line, where it isn't as it was told before.
-fn tell_line<W: Write>(
-    out: &mut W,
-    told: &mut Vec<Vec<u8>>,
-    place: usize,
-    name: &str,
-    who: u32,
-    line: Vec<u8>,
-) -> io::Result<()> {
-    while told.len() <= place {
-        told.push(Vec::new(*told.allocator()))?;
-    }
-    if told[place] == line {
-        return Ok(());
-    }
-    write!(out, "{name} {who}: ")?;
-    out.write_all(&line)?;
-    writeln!(out)?;
-    told[place] = line;
-    Ok(())
 }
 
 /// Tells the entries that were not told yet, the intervals and views that changed, and how things stand.
@@ -233,30 +143,6 @@ fn tell_touched<W: Write>(out: &mut W, cells: &ComparedCells, seen: &[u32]) -> i
 fn anew(stage: &mut Stage) {
     stage.entries = 0;
     stage.told = Vec::new(stage.alloc);
-}
-
-/// Reads what came from outside: an event, a press of a key, or the length of media.
-fn happening(alloc: Global, kind: &str, rest: &str) -> Option<Happening> {
-    match kind {
-        "v" => {
-            let (who, name) = rest.split_once(' ')?;
-            Some(Happening::Event {
-                who: serial(who)?,
-                name: Bytes::of(alloc, name.as_bytes()).ok()?,
-            })
-        }
-        "k" => Some(Happening::Key {
-            key: u8::try_from(number(rest)?).ok()?,
-        }),
-        "m" => {
-            let (who, length) = rest.split_once(' ')?;
-            Some(Happening::Media {
-                who: serial(who)?,
-                length: number(length)?,
-            })
-        }
-        _ => None,
-    }
 }
 
 /// Settles or hears, and tells what came of it.
@@ -515,5 +401,4 @@ fn main(rt: HostRuntime) -> io::Result<()> {
 }
 RT
 sed -i "s/^use CELLS as/use $cells as/" "$program/src/main.rt"
-cd "$program"
-rt try --steps 1000 --seconds 300 --cases "$work/cases"
+compare_cases --steps 1000 --seconds 300

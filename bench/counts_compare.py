@@ -5,39 +5,30 @@ counts_compare.py --oracle DIR --compare FOLDER --told FILE
 Makes random sessions that are played, each with the least number and the bound of evaluations of each accepted
 order beside it (FOLDER/NAME, ../NAME.bounds), by the reference model in DIR; and compares what a program told of its
 counts, in the output of `rt try --cases`, with them."""
-import argparse
 import os
 import random
 import sys
 
+import reference
+
 
 def arguments():
-    parser = argparse.ArgumentParser()
-    parser.add_argument('--oracle', required=True)
+    parser = reference.parser(cases=200)
     parser.add_argument('--make')
     parser.add_argument('--compare')
     parser.add_argument('--told')
-    parser.add_argument('--seed', type=int, default=1)
-    parser.add_argument('--cases', type=int, default=200)
-    return parser.parse_args()
+    return reference.arguments(parser)
 
 
 ARGS = arguments()
-sys.path.insert(0, ARGS.oracle)
 import bounds  # noqa: E402
 import diff  # noqa: E402
 import grammar  # noqa: E402
 import session  # noqa: E402
+from reference import REQUEST  # noqa: E402
 
 TOGETHER = 20
 APART = [b'%%'] + [b'close ' + name for name in (b'a', b'b', b'c')]
-
-
-class Built(int):
-    """What of the model's last state the program has: all but wall clock items and content selection."""
-
-    def __ge__(self, other):
-        return other not in (17, 19) and int.__ge__(self, other)
 
 
 def beside(folder, name):
@@ -50,12 +41,12 @@ def make(folder):
         lines = []
         for case in range(first, min(first + TOGETHER, ARGS.cases)):
             r = random.Random('counts %d %d' % (ARGS.seed, case))
-            lines += list(diff.KINDS['play'][0](r, Built(20))[1]) + APART
+            lines += list(diff.KINDS['play'][0](r, REQUEST)[1]) + APART
         data = b'\n'.join(lines) + b'\n'
         name = 'case%06d' % first
         with open(os.path.join(folder, name), 'wb') as out:
             out.write(data)
-        counted = bounds.Counted(grammar.Limits(Built(20)))
+        counted = bounds.Counted(grammar.Limits(REQUEST))
         counted.run(session.cut_lines(data))
         with open(beside(folder, name), 'w') as out:
             for row in counted.rows:

@@ -6,7 +6,7 @@
 # were compared, the sums of the least numbers, the counts and the bounds, and each order whose count is out of them.
 set -eu
 . "$(dirname "$0")/program.sh"
-new_program compare_counts $(sed -n 's/^smil_top: *\(.*\) itoa$/\1/p' "$(dirname "$0")/../crates.txt")
+new_program compare_counts smil_live smil_house smil_script
 sed -i 's/^    share: Share<L>,/    share: Share<L>,\n    pub count: u64,/; s/Steps { book, share }/Steps { book, share, count: 0 }/; s/^        self.book.add(&mut self.share, 1);/        self.book.add(\&mut self.share, 1);\n        self.count += 1;/' \
     "$work/crates/smil_model/src/steps.rt"
 cat > "$program/src/main.rt" <<'RT'

@@ -4,7 +4,7 @@
 # It makes a small program over smil_diary in a temporary folder, and runs it as `rt run` builds it.
 set -eu
 . "$(dirname "$0")/program.sh"
-new_program time_diary smil_model smil_diary
+new_program time_diary smil_diary
 cat > "$program/src/main.rt" <<'RT'
 #![tactic(auto)]
 

@@ -14,43 +14,32 @@ go at a time, separated by lines that end a load and close what is held; with
 
 With --folder nothing is run: each input is written there with the model's text
 beside it, as NAME and NAME.stdout, for `rt try --cases` (readers_compare.sh)."""
-import argparse
 import os
 import random
 import signal
 import subprocess
 import sys
 
+import reference
+
 
 def arguments():
-    parser = argparse.ArgumentParser()
-    parser.add_argument('--oracle', required=True)
-    parser.add_argument('--seed', type=int, default=1)
-    parser.add_argument('--cases', type=int, default=1000)
+    parser = reference.parser(cases=1000)
     parser.add_argument('--one', action='store_true')
     parser.add_argument('--seconds', type=int, default=0)
     parser.add_argument('--keep')
     parser.add_argument('--folder')
     parser.add_argument('program', nargs='*')
-    return parser.parse_args()
+    return reference.arguments(parser)
 
 
 ARGS = arguments()
-sys.path.insert(0, ARGS.oracle)
 import diff  # noqa: E402
 import grammar  # noqa: E402
 import laws_session  # noqa: E402
 import session  # noqa: E402
+from reference import REQUEST  # noqa: E402
 
-
-class Built(int):
-    """What of the model's last state the program has: all but wall clock items and content selection."""
-
-    def __ge__(self, other):
-        return other not in (17, 19) and int.__ge__(self, other)
-
-
-REQUEST = Built(20)
 BELOW = 10 ** 9
 TOGETHER = 50
 APART = b'\n%%\n' + b'\n'.join(b'close ' + name for name in (b'a', b'b', b'c', b'd', b'show-1', b'D_9')) + b'\n'

@@ -3,7 +3,7 @@
 # It makes a small program over smil_due in a temporary folder, and runs it as `rt run` builds it.
 set -eu
 . "$(dirname "$0")/program.sh"
-new_program time_due smil_model smil_due
+new_program time_due smil_due
 cat > "$program/src/main.rt" <<'RT'
 #![tactic(auto)]
 

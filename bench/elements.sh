@@ -7,7 +7,7 @@
 # checks and unproved, which makes it slower than what `rt run` builds: what counts is how the numbers grow.
 set -eu
 . "$(dirname "$0")/program.sh"
-new_program time_elements smil_model smil_laws smil_grammar smil_lexis smil_clock_value smil_time_list smil_attrs smil_outline smil_tree smil_graph smil_diary smil_stretch smil_duration smil_instance_rows smil_instances smil_excl smil_past smil_interval smil_endsync smil_fill smil_element
+new_program time_elements smil_outline smil_element
 counts=$(echo "${*:-30 300 1800 8000}" | sed 's/  */, /g')
 cat > "$program/src/main.rt" <<'RT'
 #![tactic(auto)]

@@ -5,20 +5,22 @@
 # It makes a small program in a temporary folder, and runs it by `rt try`, so with checks and unproved: its diaries come
 # from outside. Its last line counts the files: `differs=0` where all is the same.
 set -eu
-. "$(dirname "$0")/program.sh"
-new_program compare_elements smil_model smil_laws smil_grammar smil_lexis smil_clock_value smil_time_list smil_attrs smil_outline smil_tree smil_graph smil_diary smil_stretch smil_duration smil_instance_rows smil_instances smil_excl smil_past smil_interval smil_endsync smil_fill smil_element smil_due
+. "$(dirname "$0")/compare.sh"
+new_comparison compare_elements smil_outline smil_element smil_due
 python3 "$here/bench/engine_cases.py" --kind elements --oracle "$1" --out "$work/cases" --seed "${2:-1}" --cases "${3:-1000}" --files "${4:-5}"
 cat > "$program/src/main.rt" <<'RT'
 #![tactic(auto)]
 
+mod given;
+mod told;
+
+use given::{entry, log_entry, number, serial};
 use smil_due::comes_before;
 use smil_element::{
     Change, DueChange, DueChanges, Container, Containers, Evaluation, Intervals, Parts, Present, Room,
     comings_of, evaluation_of, facts_of, group_of, view_of, walked_duration,
 };
-use smil_model::{
-    Bytes, ChildEnd, Count, EndList, Entry, Facts, Happening, Interval, Kind, Log, LogEntry, Restart, Shown, State, Step, Steps, Time, View,
-};
+use smil_model::{ChildEnd, Count, EndList, Facts, Interval, Kind, Log, Restart, Steps, Time};
 use smil_outline::Builder;
 use smil_past::Past;
 use smil_tree::Tree;
@@ -26,6 +28,7 @@ use std::alloc::{AllocError, Global};
 use std::io::{self, BufRead, BufReader, BufWriter, Write};
 use std::marker::Brand;
 use std::sync::ledger::{Blank, Ledger};
+use told::{flag, tell_line, write_entry, write_interval, write_time, write_view};
 
 /// What is told of an element: facts, interval, begin or end with its group, repeat with its group, view.
 const KINDS: usize = 7;
@@ -83,67 +86,6 @@ struct Stage {
     case: Option<Case>,
 }
 
-fn number(text: &str) -> Option<i64> {
-    text.parse::<i64>().ok()
-}
-
-fn serial(text: &str) -> Option<u32> {
-    u32::try_from(number(text)?).ok()
-}
-
-fn step_of(kind: &str, who: u32, value: i64) -> Option<Step> {
-    let place = u32::try_from(value).unwrap_or(0);
-    match kind {
-        "b" => Some(Step::Began { who, begin: value }),
-        "r" => Some(Step::Repeated { who, start: value }),
-        "e" => Some(Step::Ended { who, end: value }),
-        "c" => Some(Step::Cut { who }),
-        "p" => Some(Step::Paused { who }),
-        "u" => Some(Step::Resumed { who }),
-        "f" => Some(Step::Deferred { who, begin: value }),
-        "s" => Some(Step::Passed { who, begin: value }),
-        "l" => Some(Step::Logged { place }),
-        _ => None,
-    }
-}
-
-/// Reads a line of the log: an event, a press of a key, or the length of media.
-fn log_line(alloc: Global, log: &mut Log, kind: &str, rest: &str) -> Option<()> {
-    let (moment, rest) = rest.split_once(' ')?;
-    let what = match kind {
-        "v" => {
-            let (who, name) = rest.split_once(' ')?;
-            Happening::Event {
-                who: serial(who)?,
-                name: Bytes::of(alloc, name.as_bytes()).ok()?,
-            }
-        }
-        "k" => Happening::Key {
-            key: u8::try_from(number(rest)?).ok()?,
-        },
-        "m" => {
-            let (who, length) = rest.split_once(' ')?;
-            Happening::Media {
-                who: serial(who)?,
-                length: number(length)?,
-            }
-        }
-        _ => return None,
-    };
-    let moment = number(moment)?;
-    log.push(LogEntry { moment, what }).ok()
-}
-
-/// Reads a line of the diary, and takes it in.
-fn diary_line(past: &mut Past, rest: &str) -> Option<()> {
-    let (kind, rest) = rest.split_once(' ')?;
-    let (moment, rest) = rest.split_once(' ')?;
-    let (who, value) = rest.split_once(' ')?;
-    let step = step_of(kind, serial(who)?, number(value)?)?;
-    let moment = number(moment)?;
-    past.append(Entry { moment, step }).ok()
-}
-
 fn time_of(text: &str) -> Option<Time> {
     match text {
         "indefinite" => Some(Time::Indefinite),
@@ -174,33 +116,11 @@ fn interval_line(given: &mut Given, rest: &str) -> Option<()> {
 
 // ---- texts
 
-fn write_time<W: Write>(out: &mut W, time: Time) -> io::Result<()> {
-    match time {
-        Time::At(value) => write!(out, "{value}"),
-        Time::Indefinite => write!(out, "indefinite"),
-        Time::Unresolved => write!(out, "unresolved"),
-    }
-}
-
-fn write_interval<W: Write>(out: &mut W, interval: Option<Interval>) -> io::Result<()> {
-    match interval {
-        Some(interval) => {
-            write!(out, "{} ", interval.begin)?;
-            write_time(out, interval.end)
-        }
-        None => write!(out, "-"),
-    }
-}
-
 fn write_number<W: Write>(out: &mut W, value: Option<i64>) -> io::Result<()> {
     match value {
         Some(value) => write!(out, "{value}"),
         None => write!(out, "-"),
     }
-}
-
-fn flag(is: bool) -> u8 {
-    if is { 1 } else { 0 }
 }
 
 fn write_facts<W: Write>(out: &mut W, facts: &Facts) -> io::Result<()> {
@@ -261,74 +181,7 @@ fn write_coming<W: Write>(out: &mut W, coming: Option<DueChange>) -> io::Result<
     }
 }
 
-fn write_entry<W: Write>(out: &mut W, entry: Entry) -> io::Result<()> {
-    let moment = entry.moment;
-    match entry.step {
-        Step::Began { who, begin } => write!(out, "b {moment} {who} {begin}"),
-        Step::Repeated { who, start } => write!(out, "r {moment} {who} {start}"),
-        Step::Ended { who, end } => write!(out, "e {moment} {who} {end}"),
-        Step::Cut { who } => write!(out, "c {moment} {who} 0"),
-        Step::Paused { who } => write!(out, "p {moment} {who} 0"),
-        Step::Resumed { who } => write!(out, "u {moment} {who} 0"),
-        Step::Deferred { who, begin } => write!(out, "f {moment} {who} {begin}"),
-        Step::Passed { who, begin } => write!(out, "s {moment} {who} {begin}"),
-        Step::Logged { place } => write!(out, "l {moment} 0 {place}"),
-    }
-}
-
-fn write_shown<W: Write>(out: &mut W, shown: Shown) -> io::Result<()> {
-    match shown {
-        Shown::Nothing => write!(out, "-"),
-        Shown::At(value) => write!(out, "{value}"),
-        Shown::Indefinite => write!(out, "indefinite"),
-        Shown::Unresolved => write!(out, "unresolved"),
-        Shown::Standing => write!(out, "?"),
-    }
-}
-
-fn state_word(state: State) -> &'static str {
-    match state {
-        State::Idle => "idle",
-        State::Waiting => "waiting",
-        State::Active => "active",
-        State::Paused => "paused",
-        State::Deferred => "deferred",
-        State::Frozen => "frozen",
-        State::Done => "done",
-    }
-}
-
-fn write_view<W: Write>(out: &mut W, view: &View) -> io::Result<()> {
-    write!(out, "{} ", state_word(view.state))?;
-    write_shown(out, view.begin)?;
-    write!(out, " ")?;
-    write_shown(out, view.end)?;
-    write!(out, " {} {}", view.iteration, view.finished)
-}
-
 // ---- what is looked at
-
-/// Tells a line, where it isn't as it was told before.
-fn tell<W: Write>(
-    out: &mut W,
-    told: &mut Vec<Vec<u8>>,
-    place: usize,
-    name: &str,
-    who: u32,
-    line: Vec<u8>,
-) -> io::Result<()> {
-    while told.len() <= place {
-        told.push(Vec::new(*told.allocator()))?;
-    }
-    if told[place] == line {
-        return Ok(());
-    }
-    write!(out, "{name} {who}: ")?;
-    out.write_all(&line)?;
-    writeln!(out)?;
-    told[place] = line;
-    Ok(())
-}
 
 /// The group of what comes, at a moment.
 fn write_group<W: Write>(out: &mut W, alloc: Global, past: &Past, now: i64, coming: Option<DueChange>) -> io::Result<()> {
@@ -383,12 +236,12 @@ fn tell_element<W: Write, L: Ledger>(
     let at = 1 + KINDS * place as usize;
     let mut line = Vec::new(alloc);
     write_facts(&mut line, &facts)?;
-    tell(out, &mut case.told, at, "facts", who, line)?;
+    tell_line(out, &mut case.told, at, "facts", who, line)?;
     let mut line = Vec::new(alloc);
     write_interval(&mut line, made.interval)?;
     write!(line, " / ")?;
     write_time(&mut line, made.simple)?;
-    tell(out, &mut case.told, at + 1, "interval", who, line)?;
+    tell_line(out, &mut case.told, at + 1, "interval", who, line)?;
     tell_coming(out, alloc, case, who, at + 2, now, comings.moved, ("moved", "group-moved"))?;
     tell_coming(out, alloc, case, who, at + 4, now, comings.repeat, ("repeat", "group-repeat"))?;
     let mut line = Vec::new(alloc);
@@ -396,7 +249,7 @@ fn tell_element<W: Write, L: Ledger>(
     if view.serial != who {
         write!(line, " of {}", view.serial)?;
     }
-    tell(out, &mut case.told, at + 6, "view", who, line)?;
+    tell_line(out, &mut case.told, at + 6, "view", who, line)?;
     Ok(comings)
 }
 
@@ -412,10 +265,10 @@ fn tell_coming<W: Write>(
 ) -> io::Result<()> {
     let mut line = Vec::new(alloc);
     write_coming(&mut line, coming)?;
-    tell(out, &mut case.told, at, names.0, who, line)?;
+    tell_line(out, &mut case.told, at, names.0, who, line)?;
     let mut line = Vec::new(alloc);
     write_group(&mut line, alloc, &case.past, now, coming)?;
-    tell(out, &mut case.told, at + 1, names.1, who, line)
+    tell_line(out, &mut case.told, at + 1, names.1, who, line)
 }
 
 /// Tells all elements at a moment, and what comes first.
@@ -434,7 +287,7 @@ fn look<W: Write, L: Ledger>(out: &mut W, alloc: Global, case: &mut Case, now: i
     }
     let mut line = Vec::new(alloc);
     write_coming(&mut line, first)?;
-    tell(out, &mut case.told, 0, "first", 0, line)
+    tell_line(out, &mut case.told, 0, "first", 0, line)
 }
 
 // ---- lines
@@ -460,6 +313,11 @@ fn case_of(alloc: Global, open: Open) -> Option<Case> {
     })
 }
 
+/// Reads a line of the diary, and takes it in.
+fn diary_line(past: &mut Past, rest: &str) -> Option<()> {
+    past.append(entry(rest)?).ok()
+}
+
 /// Takes a line of what is outside a case: of an outline, or of a log.
 fn outer_line(stage: &mut Stage, line: &str) -> Option<()> {
     let alloc = stage.alloc;
@@ -480,7 +338,8 @@ fn outer_line(stage: &mut Stage, line: &str) -> Option<()> {
         return stage.case.as_ref().map(|_case| ());
     }
     let (kind, rest) = line.split_once(' ')?;
-    log_line(alloc, &mut stage.open.as_mut()?.log, kind, rest)
+    let entry = log_entry(alloc, kind, rest)?;
+    stage.open.as_mut()?.log.push(entry).ok()
 }
 
 /// Takes a line of a case, and answers it.
@@ -549,5 +408,4 @@ fn main(rt: HostRuntime) -> io::Result<()> {
     compare::<_, _, Brand>(alloc, Blank::new(1), input, &mut out)
 }
 RT
-cd "$program"
-rt try --steps 1000 --seconds 300 --cases "$work/cases"
+compare_cases --steps 1000 --seconds 300

@@ -15,35 +15,29 @@ cells     random scripts of settling, hearing, marks, copies and rebuilding; wan
           after each call, and which views must be among those that it touched.
 
 A line is told only where it isn't as it was told before of the same document."""
-import argparse
 import os
 import random
-import sys
+
+import reference
 
 
 def arguments():
-    parser = argparse.ArgumentParser()
-    parser.add_argument('--oracle', required=True)
+    parser = reference.parser(cases=100)
     parser.add_argument('--out', required=True)
     parser.add_argument('--kind', choices=['elements', 'cells'], required=True)
-    parser.add_argument('--seed', type=int, default=1)
-    parser.add_argument('--cases', type=int, default=100)
     parser.add_argument('--files', type=int, default=1)
-    return parser.parse_args()
+    return reference.arguments(parser)
 
 
 if __name__ == '__main__':
     ARGS = arguments()
-    sys.path.insert(0, ARGS.oracle)
 import grammar  # noqa: E402
 import laws  # noqa: E402
-from model import HORIZON, INDEFINITE, UNRESOLVED, Play, Scene, TooFull, World, is_number  # noqa: E402
+from model import HORIZON, Play, TooFull, World  # noqa: E402
+from cases import (  # noqa: E402
+    BOUND, KEYS, Settled, arbitrary, doc_of, entry_text, interval_text, log_text, maybe, resolved, time_text,
+    with_keys, write_numbered)
 
-LIMITS = laws.LIMITS = grammar.Limits(20)
-LETTER = {'Began': 'b', 'Repeated': 'r', 'Ended': 'e', 'Cut': 'c', 'Paused': 'p',
-          'Resumed': 'u', 'Deferred': 'f', 'Passed': 's', 'Logged': 'l'}
-KEYS = 'xyz'
-BOUND = 120
 ANSWER = 700000
 SIZES = [[0, 0, 1, 1, 2, 2, 3, 4, 5, 6], [0, 1, 2], [0, 0, 1, 2, 3, 5, 8, 12], [1, 2, 3, 4],
          [0, 0, 1, 1, 2, 2, 3, 4, 5, 6, 8, 10, 12, 15, 20]]
@@ -245,16 +239,11 @@ def sprinkled(r, case):
             if r.random() < 0.5:
                 kid.attrs['dur'] = '%dms' % r.randint(0, 5)
             line.kids.insert(r.randint(0, len(line.kids)), kid)
-    for _, parent in case.root.walk():
-        for line in parent.kids:
-            for side in ('begin', 'end'):
-                may_hear = line.kind != 'priorityClass' and (side == 'end' or parent.kind != 'seq')
-                if may_hear and r.random() < 0.15:
-                    item = 'accesskey(%s)%s' % (r.choice(KEYS), r.choice(['', '', '+1ms', '-1ms']))
-                    line.attrs[side] = ';'.join(filter(None, [line.attrs.get(side), item]))
-    for _ in range(r.choice([0, 1, 2, 4])):
-        case.log.append((r.randint(0, case.now), 'key', None, ord(r.choice(KEYS))))
-    case.log.sort(key=lambda entry: entry[0])
+    with_keys(case, r, 0.15, key_item, [0, 1, 2, 4])
+
+
+def key_item(r):
+    return 'accesskey(%s)%s' % (r.choice(KEYS), r.choice(['', '', '+1ms', '-1ms']))
 
 
 def some_case(r):
@@ -276,24 +265,12 @@ def some_case(r):
             continue
 
 
-def doc_of(lines):
-    builder = grammar.Builder(LIMITS)
-    for line in lines:
-        builder.push(line.encode())
-    return builder.finish()
-
-
 # ---------------------------------------------------------------- the model
 
-class Told(Scene):
-    """A scene that also gives what the definitions give of diaries that are lawful and no resolution's: a play start 0
-    for children of an element that never began; a queue that an element leaves before it is put in again; and a queue
-    that goes on after an end of the first playing child alone, where several children of an excl play."""
-
-    def children_start(self, p):
-        if p is not None and self.last(p, 'Began') < 0:
-            return 0
-        return super().children_start(p)
+class Told(Settled):
+    """A scene that also gives what the definitions give of diaries that are lawful and no resolution's: a queue that an
+    element leaves before it is put in again; and a queue that goes on after an end of the first playing child alone, where
+    several children of an excl play."""
 
     def group(self, key):
         entries, e = super().group(key), key[4]
@@ -331,30 +308,6 @@ def played(world, log, entries, moment):
 
 
 # ----------------------------------------------------------------- texts
-
-def time_text(t):
-    return 'indefinite' if t == INDEFINITE else 'unresolved' if t == UNRESOLVED else '%d' % t
-
-
-def maybe(t, text=str):
-    return '-' if t is None else text(t)
-
-
-def interval_text(iv):
-    return '-' if iv is None else '%d %s' % (iv[0], time_text(iv[1]))
-
-
-def entry_text(entry):
-    moment, step, who, value = entry
-    return '%s %d %d %d' % (LETTER[step], moment, who or 0, value or 0)
-
-
-def log_text(what):
-    moment, kind, who, value = what
-    if kind == 'event':
-        return 'v %d %d %s' % (moment, who, value.decode())
-    return 'k %d %d' % (moment, value) if kind == 'key' else 'm %d %d %d' % (moment, who, value)
-
 
 def facts_text(scene, e, simple):
     f, a, w = scene.facts(e), scene.world.attrs[e], scene.world
@@ -396,53 +349,6 @@ class Lines:
 
 
 # --------------------------------------------------------------- the elements
-
-def resolved(case, world):
-    """The entries of the resolution."""
-    play = Play(world, BOUND)
-    try:
-        play.to(case.real_log(), case.now)
-    except TooFull:
-        pass
-    return play.log, play.scene.diary.entries
-
-
-def arbitrary(case, world, r):
-    """Groups of the resolution, and lawful entries between them."""
-    scene, moment = Told(world, []), 0
-    log = scene.diary.log
-    for step_moment, step, line, v in case.script[:40]:
-        moment += step_moment
-        scene.go(moment)
-        if r.random() < 0.6:
-            due = [k for k in scene.keys() if k[0] <= moment]
-            entries = scene.group(min(due)) if due else []
-        else:
-            entries = [given(scene, moment, step, line, v, log, r)]
-        for entry in entries:
-            if entry is None or not laws.lawful(scene, entry):
-                break
-            scene.append(entry)
-    return log, scene.diary.entries
-
-
-def given(scene, moment, step, line, v, log, r):
-    """An arbitrary entry on the element of a line, or a press of a key."""
-    if step == 'Logged' and r.random() < 0.6:
-        log.append((moment, 'key', None, ord(r.choice(KEYS))))
-        return (moment, 'Logged', None, len(log) - 1)
-    e = getattr(line, 'serial', None)
-    if e not in scene.world.is_element:
-        return None
-    if step == 'Logged':
-        log.append((moment, 'event', e, b'click'))
-        return (moment, 'Logged', None, len(log) - 1)
-    if step in ('Began', 'Deferred', 'Passed', 'Ended'):
-        return (moment, step, e, scene.outer(e, moment) + v)
-    if step == 'Repeated':
-        return (moment, step, e, scene.run(e, moment) + v)
-    return (moment, step, e, None)
-
 
 def with_script(r, case):
     """Steps for an arbitrary diary, where a case has none."""
@@ -502,7 +408,7 @@ def elements(r, made):
     if made % 4 == 3:
         if not case.script or r.random() < 0.5:
             with_script(r, case)
-        log, entries = arbitrary(case, world, r)
+        log, entries = arbitrary(Told(world, []), case.script[:40], r)
         profile = 'arbitrary'
     else:
         log, entries = resolved(case, world)
@@ -765,10 +671,7 @@ def main():
         entries += count
         profiles[profile] = profiles.get(profile, 0) + 1
     for k, (given_lines, wanted, _, _) in enumerate(texts):
-        with open('%s/case%03d' % (ARGS.out, k), 'w') as file:
-            file.write('\n'.join(given_lines) + '\n')
-        with open('%s/case%03d.stdout' % (ARGS.out, k), 'w') as file:
-            file.write('\n'.join(wanted) + '\n')
+        write_numbered(ARGS.out, k, given_lines, wanted)
     print('%d cases, %d entries, %s' % (made, entries, ', '.join('%d %s' % (profiles[name], name) for name in sorted(profiles))))
 
 

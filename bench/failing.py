@@ -12,7 +12,6 @@ model in DIR:
   write   a proper prefix of the text
 
 and the exit number. --every N tries each Nth call that takes memory."""
-import argparse
 import functools
 import os
 import random
@@ -21,43 +20,36 @@ import sys
 import tempfile
 from concurrent.futures import ThreadPoolExecutor
 
+import reference
+
 CLEAN, REFUSED, READ, WRITE, MEMORY = 0, 1, 3, 4, 5
 PIECE = 16
 
 
 def arguments():
-    parser = argparse.ArgumentParser()
-    parser.add_argument('--oracle', required=True)
+    parser = reference.parser()
     parser.add_argument('--program', required=True)
     parser.add_argument('--jobs', type=int, default=2)
     parser.add_argument('--every', type=int, default=1)
     parser.add_argument('--random')
     parser.add_argument('sessions', nargs='*')
-    return parser.parse_args()
+    return reference.arguments(parser)
 
 
 ARGS = arguments()
-sys.path.insert(0, ARGS.oracle)
 import diff  # noqa: E402
 import grammar  # noqa: E402
 import session  # noqa: E402
+from reference import REQUEST  # noqa: E402
 
-
-class Built(int):
-    """What of the model's last state the program has: all but wall clock items and content selection."""
-
-    def __ge__(self, other):
-        return other not in (17, 19) and int.__ge__(self, other)
-
-
-LIMITS = grammar.Limits(Built(20))
+LIMITS = grammar.Limits(REQUEST)
 
 
 def random_session(seed):
     """Random orders, as the model's own generator makes them, with what was loaded closed behind each part."""
     r, lines = random.Random(seed), []
     while len(lines) < 200:
-        lines += diff.play(r, Built(20))[1] + [b'%%'] + [b'close ' + name for name in (b'a', b'b', b'c')]
+        lines += diff.play(r, REQUEST)[1] + [b'%%'] + [b'close ' + name for name in (b'a', b'b', b'c')]
     return b'\n'.join(lines) + b'\n'
 
 

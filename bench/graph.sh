@@ -4,7 +4,7 @@
 # It makes a small program over smil_graph in a temporary folder, and runs it as `rt run` builds it.
 set -eu
 . "$(dirname "$0")/program.sh"
-new_program time_graph smil_model smil_laws smil_grammar smil_lexis smil_clock_value smil_time_list smil_attrs smil_outline smil_tree smil_duration smil_graph
+new_program time_graph smil_outline smil_graph
 cat > "$program/src/main.rt" <<'RT'
 #![tactic(auto)]
 

@@ -6,7 +6,7 @@
 # unproved, which makes it some hundred times slower than what `rt run` builds (compare the graph with graph.sh).
 set -eu
 . "$(dirname "$0")/program.sh"
-new_program time_instances smil_model smil_laws smil_grammar smil_lexis smil_clock_value smil_time_list smil_attrs smil_outline smil_tree smil_graph smil_diary smil_stretch smil_duration smil_instance_rows smil_instances
+new_program time_instances smil_outline smil_instances
 cat > "$program/src/main.rt" <<'RT'
 #![tactic(auto)]
 

@@ -3,7 +3,7 @@
 # It makes a small program over smil_outside in a temporary folder, and runs it as `rt run` builds it.
 set -eu
 . "$(dirname "$0")/program.sh"
-new_program time_lines smil_model smil_outside
+new_program time_lines smil_outside
 cat > "$program/src/main.rt" <<'RT'
 #![tactic(auto)]
 

@@ -2,9 +2,8 @@
 # Times the reading of outlines: scripts of about 200,000 node lines, in loads of 500, 1,000 and 2,000 nodes with four
 # references each, read by smilplay as `rt run` builds it. Prints nanoseconds a line, which grow little with the outline.
 set -eu
-here=$(cd "$(dirname "$0")/.." && pwd)
-work=$(mktemp -d)
-trap 'rm -rf "$work"' EXIT
+. "$(dirname "$0")/program.sh"
+new_work
 program=$here/crates/smilplay/out/smilplay
 (cd "$here/crates/smilplay" && rt run -- run < /dev/null > /dev/null 2>&1)
 for nodes in 500 1000 2000; do

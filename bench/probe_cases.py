@@ -7,32 +7,26 @@ that is wanted. Without FOLDER the stored runs are made: the files stdin and std
 crates/smil_probe and crates/smil_plays, with the cases of `fixed` and some random ones
 of each kind. No value comes from a program. It prints how many cases there are of each
 kind, or for each program."""
-import argparse
 import os
 import random
-import sys
 
-parser = argparse.ArgumentParser()
-parser.add_argument('--oracle', required=True)
-parser.add_argument('--out')
-parser.add_argument('--seed', type=int, default=1)
-parser.add_argument('--cases', type=int, default=1000)
-parser.add_argument('--files', type=int, default=1)
-parser.add_argument('--kind', nargs='*')
-ARGS = parser.parse_args()
-sys.path.insert(0, ARGS.oracle)
+import reference
+
+PARSER = reference.parser(cases=1000)
+PARSER.add_argument('--out')
+PARSER.add_argument('--files', type=int, default=1)
+PARSER.add_argument('--kind', nargs='*')
+ARGS = reference.arguments(PARSER)
 import engine_cases  # noqa: E402
 import grammar  # noqa: E402
 import laws  # noqa: E402
 import model  # noqa: E402
 import session  # noqa: E402
-from model import INDEFINITE, UNRESOLVED, Play, Scene, TooFull, World, is_number  # noqa: E402
+from model import HORIZON, INDEFINITE, UNRESOLVED, Scene, TooFull, World, is_number  # noqa: E402
+from cases import (  # noqa: E402
+    LETTER, LIMITS, arbitrary, doc_of, entry_text, interval_text, maybe, resolved, settled_times, time_text, write)
 
 REQUEST = 20
-HORIZON = model.HORIZON
-laws.LIMITS = grammar.Limits(REQUEST)
-LETTER = {'Began': 'b', 'Repeated': 'r', 'Ended': 'e', 'Cut': 'c', 'Paused': 'p',
-          'Resumed': 'u', 'Deferred': 'f', 'Passed': 's', 'Logged': 'l'}
 STEPS = ('Began', 'Repeated', 'Ended', 'Cut', 'Paused', 'Resumed', 'Deferred', 'Passed')
 # the refusals of an order, by their numbers from 1
 REFUSALS = ('long-line not-a-command unfinished-load bad-outline depth-jump too-deep bad-place '
@@ -43,18 +37,6 @@ REFUSALS = ('long-line not-a-command unfinished-load bad-outline depth-jump too-
 
 
 # ------------------------------------------------------------------- printing
-
-def time_text(t):
-    return 'indefinite' if t == INDEFINITE else 'unresolved' if t == UNRESOLVED else '%d' % t
-
-
-def maybe(t, text=str):
-    return '-' if t is None else text(t)
-
-
-def interval_text(iv):
-    return '-' if iv is None else '%d %s' % (iv[0], time_text(iv[1]))
-
 
 def flag(b):
     return '1' if b else '0'
@@ -304,7 +286,7 @@ def script_text(r):
 # ------------------------------------------------------------------- outlines
 
 def outline_case(lines):
-    builder, k = grammar.Builder(laws.LIMITS), 0
+    builder, k = grammar.Builder(LIMITS), 0
     try:
         for k, line in enumerate(lines):
             builder.push(line.encode())
@@ -659,47 +641,8 @@ def lawful_diary(r, size):
         except grammar.Refusal:
             continue
         if r.random() < 0.5:
-            play = Play(world, 60)
-            try:
-                play.to(case.real_log(), case.now)
-            except TooFull:
-                pass
-            return world, play.log, play.scene.diary.entries
-        return (world,) + arbitrary(case, world, r)
-
-
-def arbitrary(case, world, r):
-    """Groups of the resolution, and lawful entries between them."""
-    scene, moment = Scene(world, []), 0
-    log = scene.diary.log
-    for step_moment, step, line, v in case.script:
-        moment += step_moment
-        scene.go(moment)
-        if r.random() < 0.6:
-            due = [k for k in scene.keys() if k[0] <= moment]
-            entries = scene.group(min(due)) if due else []
-        else:
-            entries = [given(scene, moment, step, line, v, log)]
-        for entry in entries:
-            if entry is None or not laws.lawful(scene, entry):
-                break
-            scene.append(entry)
-    return log, scene.diary.entries
-
-
-def given(scene, moment, step, line, v, log):
-    """An arbitrary entry on the element of a line."""
-    e = getattr(line, 'serial', None)
-    if e not in scene.world.is_element:
-        return None
-    if step == 'Logged':
-        log.append((moment, 'event', e, b'click'))
-        return (moment, 'Logged', None, len(log) - 1)
-    if step in ('Began', 'Deferred', 'Passed', 'Ended'):
-        return (moment, step, e, scene.outer(e, moment) + v)
-    if step == 'Repeated':
-        return (moment, step, e, scene.run(e, moment) + v)
-    return (moment, step, e, None)
+            return (world,) + resolved(case, world, 60)
+        return (world,) + arbitrary(Scene(world, []), case.script, r, has_keys=False)
 
 
 def step_text(entry):
@@ -753,11 +696,9 @@ def graph_lines(world):
 
 def graph_case(lines):
     """What `graph_lines` says of an outline, on one line, or a refusal; a node that is no element has its serial alone."""
-    text, builder = 'graph ' + '|'.join(lines), grammar.Builder(laws.LIMITS)
+    text = 'graph ' + '|'.join(lines)
     try:
-        for line in lines:
-            builder.push(line.encode())
-        world = World(builder.finish())
+        world = World(doc_of(lines))
     except grammar.Refusal:
         return text, 'refused'
     told = dict(line.split(':', 1) for line in graph_lines(world))
@@ -793,10 +734,11 @@ def documents(r):
     world, log, entries = lawful_diary(r, r.choice([4, 8, 12]))
     lines = ['doc'] + [line.decode() for line in grammar.write_doc(world.doc)] + ['%%']
     wanted, scene = list(graph_lines(world)), Scene(world, log)
-    for moment, step, who, value in entries:
-        lines.append('d %s %d %d %d' % (LETTER[step], moment, who or 0, value or 0))
+    for entry in entries:
+        moment = entry[0]
+        lines.append('d ' + entry_text(entry))
         scene.go(moment)
-        scene.append((moment, step, who, value))
+        scene.append(entry)
         later = moment + r.choice([0, 0, 1, 7, HORIZON - moment])
         lines.append('at %d' % later)
         scene.go(later)
@@ -922,7 +864,7 @@ class Edited:
     def answer(self, order):
         """What an edit answers."""
         p = session.Presentation.__new__(session.Presentation)
-        p.limits, p.doc, p.log, p.now, p.views, made = laws.LIMITS, self.doc, [], 0, {}, []
+        p.limits, p.doc, p.log, p.now, p.views, made = LIMITS, self.doc, [], 0, {}, []
         p.edit = lambda doc: made.append(doc) or []
         # columns by which a refusal of a value tells its place from 0, and one of a line its column
         columns = {'set': (-1, 0), 'unset': (-1,), 'insert': (1,), 'remove': ()}[order[0]]
@@ -959,11 +901,9 @@ def node_row(world, node):
 
 def tree_case(lines, orders):
     """The answers of edits, and the document that they make."""
-    text, builder = 'tree %s|%%%%|%s' % ('|'.join(lines), '|'.join(orders)), grammar.Builder(laws.LIMITS)
+    text = 'tree %s|%%%%|%s' % ('|'.join(lines), '|'.join(orders))
     try:
-        for line in lines:
-            builder.push(line.encode())
-        edited, wanted = Edited(builder.finish()), []
+        edited, wanted = Edited(doc_of(lines)), []
         for line in orders:
             if grammar.is_blank(line.encode()):
                 continue
@@ -1031,9 +971,9 @@ def trees(r):
     """A random document that is edited some times."""
     lines = [line.replace('|', '/') for line in some_document(r).lines()]
     if r.random() < 0.3:
-        lines = [line.decode() for line in grammar.write_doc(engine_cases.doc_of(lines), 2)]
+        lines = [line.decode() for line in grammar.write_doc(doc_of(lines), 2)]
         lines[0] = 'outline 2 next %d' % (int(lines[0].split()[-1]) + r.choice([0, 0, 5, 1000]))
-    edited, orders = Edited(engine_cases.doc_of(lines)), []
+    edited, orders = Edited(doc_of(lines)), []
     for _ in range(r.choice([0, 1, 2, 4, 8, 15])):
         line = edit_text(r, edited.doc).replace('|', '/')
         orders.append(line)
@@ -1070,8 +1010,7 @@ def clocks_row(scene, e, before):
 
 
 def instances_row(scene, e):
-    begins = sorted(t for t in scene.settled_instances(e, 'begin') if is_number(t))
-    ends = sorted(scene.settled_instances(e, 'end'))
+    begins, ends = settled_times(scene, e)
     row = ['%d <' % e] + [time_text(t) for t in begins] + ['>'] + [time_text(t) for t in ends] + [':', flag(bool(ends))]
     for value in (scene.outer(e, scene.moment), begins[0] if begins else 0):
         row += [first_time(begins, value), first_time(ends, value), first_time(begins, value + 1), first_time(ends, value + 1)]
@@ -1111,11 +1050,9 @@ def ordered(play, order):
 
 def play_case(lines, orders, bound=None):
     """What is told of a document after orders; TooFull where its diary has more entries than the bound."""
-    text, builder = 'play %s|%%%%|%s' % ('|'.join(lines), '|'.join(orders)), grammar.Builder(laws.LIMITS)
+    text = 'play %s|%%%%|%s' % ('|'.join(lines), '|'.join(orders))
     try:
-        for line in lines:
-            builder.push(line.encode())
-        play = engine_cases.played(World(builder.finish()), [], [], 0)
+        play = engine_cases.played(World(doc_of(lines)), [], [], 0)
         play.bound = bound
         play.to([], 0)
         for line in orders:
@@ -1346,7 +1283,7 @@ def fixed_plays():
 
 def full_case():
     """A diary at its limit: one more entry is refused, and after one is taken back there is room for one."""
-    entries = laws.LIMITS.diary
+    entries = LIMITS.diary
     last = entries // 1000 * 1000 - 1000 + 7
     return ('book *%d c7 ?7,- <%d c7 c8 ?7,-' % (entries, entries - 1),
             'full 0 1 0 0 0 0 %d - - - - - - - full 0 0 0 0 0 1 %d - - %d - - - - %d' % (last, last, entries - 1, entries))
@@ -1358,16 +1295,13 @@ def made(kind, r):
     return (LONG.get(kind) or KINDS[kind])(r)
 
 
-def write(folder, name, cases):
-    with open(os.path.join(folder, name), 'w') as file:
-        file.write(''.join(given + '\n' for given, _ in cases))
-    return ''.join(wanted + '\n' for _, wanted in cases)
+def write_pairs(folder, given_name, wanted_name, cases):
+    write(folder, given_name, wanted_name, [given for given, _ in cases], [wanted for _, wanted in cases])
 
 
 def write_stored(program, cases):
     folder = os.path.join(os.path.dirname(os.path.abspath(__file__)), '..', 'crates', program)
-    with open(os.path.join(folder, 'stdout'), 'w') as file:
-        file.write(write(folder, 'stdin', cases))
+    write_pairs(folder, 'stdin', 'stdout', cases)
     print('%s %d' % (program, len(cases)))
 
 
@@ -1385,8 +1319,7 @@ def main():
         for k in range(ARGS.files):
             cases = [made(kind, r) for _ in range(ARGS.cases // ARGS.files)]
             name = '%s%03d' % (kind, k)
-            with open(os.path.join(ARGS.out, name + '.stdout'), 'w') as file:
-                file.write(write(ARGS.out, name, cases))
+            write_pairs(ARGS.out, name, name + '.stdout', cases)
         print('%s %d' % (kind, ARGS.cases))
 
 

@@ -4,13 +4,12 @@
 # the runs and the lines that differ; the first that differ are shown. The programs are those which `rt run` builds, or
 # PROBE and PLAYS.
 set -eu
-here=$(cd "$(dirname "$0")/.." && pwd)
+. "$(dirname "$0")/program.sh"
+new_work
 oracle=$1
 seed=${2:-1}
 cases=${3:-10000}
 shift "$(($# < 3 ? $# : 3))"
-work=$(mktemp -d)
-trap 'rm -rf "$work"' EXIT
 probe=${PROBE:-}
 plays=${PLAYS:-}
 

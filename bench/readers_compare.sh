@@ -4,9 +4,8 @@
 # run. Compared is the whole text: which orders are read, and of each refusal word, line and column; what can be read
 # and isn't built yet is `not-yet` on both sides. Prints how many answers of each kind there were, and each difference.
 set -eu
-here=$(cd "$(dirname "$0")/.." && pwd)
-work=$(mktemp -d)
-trap 'rm -rf "$work"' EXIT
+. "$(dirname "$0")/program.sh"
+new_work
 python3 "$here/bench/differential.py" --oracle "$1" --cases "${2:-50000}" --seed "${3:-1}" --folder "$work"
 (cd "$here/crates/smilplay" && rt try --cases "$work" --seconds 60 -- run) > "$work/told" 2>&1 || status=$?
 tail -n 3 "$work/told"

@@ -1,0 +1,30 @@
+"""The reference model, which stands in a folder that a script is told: its modules can be imported after `arguments`."""
+import argparse
+import sys
+
+
+def parser(cases=None):
+    """A parser with the model's folder, and for random cases a seed and their number, which is `cases` where none is told."""
+    made = argparse.ArgumentParser()
+    made.add_argument('--oracle', required=True)
+    if cases is not None:
+        made.add_argument('--seed', type=int, default=1)
+        made.add_argument('--cases', type=int, default=cases)
+    return made
+
+
+def arguments(made):
+    """What a script is told."""
+    told = made.parse_args()
+    sys.path.insert(0, told.oracle)
+    return told
+
+
+class Built(int):
+    """What of the model's last state the program has: all but wall clock items and content selection."""
+
+    def __ge__(self, other):
+        return other not in (17, 19) and int.__ge__(self, other)
+
+
+REQUEST = Built(20)
