@@ -1,5 +1,5 @@
 -- Values case by case: what holds of each keyword and of each number holds of all that a text is read as.
-use Rattle.std.proofs.Common.{◌≡◌, ℕ, false, not, eqb, ◌&&◌, List, length, Option, Some, None, option_map, refl}
+use Rattle.std.proofs.Common.{◌≡◌, ℕ, false, not, eqb, ◌&&◌, List, length, Some, None, option_map, refl}
 use Rattle.std.specs.Prelude.{pos, codes, bytes_eq, IfSome}
 use Rattle.std.proofs.lemmas.Bool.{cond_both}
 use Rattle.smil_model.specs.declared.document.Dur.{Dur}
@@ -17,33 +17,29 @@ use Rattle.smil_grammar.specs.Words.{id_len}
 use Rattle.smil_grammar.specs.Numbers.{with_fraction}
 use Rattle.smil_grammar.specs.Clock.{clock_within}
 use Rattle.smil_grammar.specs.Values.{either, above_zero, short_number_of, thousandths, id_of, dur_of, time_of, repeat_dur_of, count_of, endsync_of, higher_of, lower_of}
-use Rattle.smil_time_list.proofs.Printable.{clock_small}
-use Rattle.smil_attrs.proofs.Readings.{IsSmall, IsLength, length_small, number, both, word}
+use Rattle.smil_time_list.proofs.Printable.{clock_small, mapped}
+use Rattle.smil_attrs.proofs.Readings.{IsSmall, IsLength, length_small, both, word}
 use Rattle.smil_attrs.proofs.Counts.{IsCount, number_below}
 
 pub dur_reads : (P : Dur → Type 0) → P dur.Media → P dur.Indefinite → ((n : ℕ) → IsSmall n → P (dur.Clock (pos n))) → (text : List ℕ) → IfSome (dur_of text) P
 dur_reads P media indefinite clock text =
     both P _ _ (word P (bytes_eq text (codes "media")) dur.Media _ media (word P (bytes_eq text (codes "indefinite")) dur.Indefinite None indefinite tt))
-    (number dur.Clock IsSmall P clock (clock_within text) (clock_small text))
+    (mapped (λ n. dur.Clock (pos n)) IsSmall P clock (clock_within text) (clock_small text))
 
 pub time_reads : (P : Time → Type 0) → P time.Indefinite → ((n : ℕ) → IsSmall n → P (time.At (pos n))) → (text : List ℕ) → IfSome (time_of text) P
 time_reads P indefinite clock text =
     both P _ _ (word P (bytes_eq text (codes "indefinite")) time.Indefinite None indefinite tt)
-    (number time.At IsSmall P clock (clock_within text) (clock_small text))
+    (mapped (λ n. time.At (pos n)) IsSmall P clock (clock_within text) (clock_small text))
 
 pub repeat_reads : (P : Time → Type 0) → P time.Indefinite → ((n : ℕ) → IsLength n → P (time.At (pos n))) → (text : List ℕ) → IfSome (repeat_dur_of text) P
 repeat_reads P indefinite clock text =
     both P _ _ (word P (bytes_eq text (codes "indefinite")) time.Indefinite None indefinite tt)
-    (number time.At IsLength P clock (clock_within text >>= above_zero) (length_small text))
+    (mapped (λ n. time.At (pos n)) IsLength P clock (clock_within text >>= above_zero) (length_small text))
 
 pub count_reads : (P : Count → Type 0) → P count.Indefinite → ((n : ℕ) → IsCount n → P (count.Thousandths n)) → (text : List ℕ) → IfSome (count_of text) P
 count_reads P indefinite each text =
     both P _ _ (word P (bytes_eq text (codes "indefinite")) count.Indefinite None indefinite tt)
-    (counted P each (option_map thousandths (with_fraction short_number_of 100 text) >>= above_zero) (number_below text))
-  where
-    counted : (P : Count → Type 0) → ((n : ℕ) → IsCount n → P (count.Thousandths n)) → (o : Option ℕ) → IfSome o IsCount → IfSome (option_map count.Thousandths o) P
-    counted P each None h = tt
-    counted P each (Some n) h = each n h
+    (mapped count.Thousandths IsCount P each (option_map thousandths (with_fraction short_number_of 100 text) >>= above_zero) (number_below text))
 
 pub higher_reads : (P : Act → Type 0) → P act.Stop → P act.Pause → (text : List ℕ) → IfSome (higher_of text) P
 higher_reads P stop pause text = word P (bytes_eq text (codes "stop")) act.Stop _ stop (word P (bytes_eq text (codes "pause")) act.Pause None pause tt)

@@ -1,7 +1,8 @@
 -- Attributes that a node can have stay so under edits.
-use Rattle.std.proofs.Common.{◌≡◌, ℕ, Bool, false, List, Option, Some, None, Result, Ok, Err, refl, subst}
+use Rattle.std.proofs.Common.{◌≡◌, ℕ, Bool, false, List, Option, Some, Result, Ok, Err, refl, subst}
 use Rattle.std.specs.Prelude.{IfOk, IfSome, IsTrue}
 use Rattle.std.proofs.lemmas.Bool.{false≢true}
+use Rattle.std.proofs.lemmas.Option.{IfSome_then}
 use Rattle.smil_model.specs.declared.document.Kind.{Kind}
 use Rattle.smil_model.specs.declared.document.Attr.{Attr}
 use Rattle.smil_model.specs.declared.document.Attr.TheVariants as attr
@@ -142,9 +143,5 @@ pub attr_anywhere : (in_seq : Bool) (given : Attr) → IsAttr in_seq given → I
 attr_anywhere in_seq (attr.Begin items) h = subst (λ (r : Result Attr AttrFault). IfOk r (IsAttr false)) h.1 (begin_anywhere in_seq h.0)
 attr_anywhere in_seq _ h = h
 
-had_anywhere : (in_seq : Bool) (kind : Kind) (n : AttrName) (o : Option Attr) → IsHad in_seq kind n o → IsHad false kind n o
-had_anywhere in_seq kind n None h = tt
-had_anywhere in_seq kind n (Some given) h = (h.0, attr_anywhere in_seq given h.1)
-
 pub attrs_anywhere : (in_seq : Bool) (kind : Kind) (attrs : Attrs) → IsAttrs in_seq kind attrs → IsAttrs false kind attrs
-attrs_anywhere in_seq kind attrs h = λ n. had_anywhere in_seq kind n (attr_at attrs n) (h n)
+attrs_anywhere in_seq kind attrs h = λ n. IfSome_then (attr_at attrs n) (h n) (λ given had. (had.0, attr_anywhere in_seq given had.1))

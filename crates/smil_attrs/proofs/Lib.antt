@@ -1,4 +1,5 @@
 pub mod Passing
+pub mod Tables
 pub mod Readings
 pub mod Fitting
 pub mod Joins

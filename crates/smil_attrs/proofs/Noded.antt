@@ -14,46 +14,24 @@ use Rattle.smil_model.specs.document.Valid.{may_stand}
 use Rattle.smil_grammar.specs.declared.fault.AttrFault.{AttrFault}
 use Rattle.smil_grammar.specs.declared.fault.AttrFault.TheVariants as fault
 use Rattle.smil_grammar.specs.declared.fault.NodeFault.{NodeFault}
-use Rattle.smil_grammar.specs.Texts.{trim}
 use Rattle.smil_grammar.specs.Results.{◌>>=◌}
 use Rattle.smil_grammar.specs.Attributes.{kind_text, name_text, name_called, name_or, attr_name_of, has, names}
-use Rattle.smil_grammar.specs.Values.{is_other_value, plain_value_of, value_of}
+use Rattle.smil_grammar.specs.Values.{plain_value_of, value_of}
 use Rattle.smil_grammar.specs.Nodes.{WrittenAttr, Shape, shape_of, saved_shape_of, kind_of, kind_of_shape, at_column, attribute_of, attr_of, attrs_from, attrs_of, node_of}
 use Rattle.smil_grammar.specs.Spellings.{attr_at, attr_text, value_text, node_text, saved_node_text}
 use Rattle.smil_grammar.specs.Allowed.{name_of, IsAttr, IsAttrs}
-use Rattle.smil_attrs.proofs.Readings.{any_value, listed}
+use Rattle.smil_attrs.proofs.Readings.{any_value, listed, all_read}
 use Rattle.smil_attrs.proofs.Valued.{attr_again}
 use Rattle.smil_attrs.proofs.ValueBytes.{Unquoted, attr_unquoted}
 use Rattle.smil_attrs.proofs.Kept.{IsHad, with_stays, attrs_anywhere}
-use Rattle.smil_attrs.proofs.Printed.{written_at, written_from, names_once, kind_known, shape_read, saved_parts, saved_read, lead}
+use Rattle.smil_attrs.proofs.Tables.{kind_known, name_known}
+use Rattle.smil_attrs.proofs.Printed.{written_at, written_from, names_once, shape_read, saved_parts, saved_read, lead}
 use Rattle.smil_attrs.proofs.Filled.{named, put, filled, filled_all}
 
 -- what was printed
 
 name_read : (k : Kind) (n : AttrName) → has k n ≡ true → attr_name_of k (name_text n) ≡ Ok n
-name_read k name.Id h = refl
-name_read k name.Begin h = rw h refl
-name_read k name.Dur h = rw h refl
-name_read k name.End h = rw h refl
-name_read k name.Min h = rw h refl
-name_read k name.Max h = rw h refl
-name_read k name.RepeatCount h = rw h refl
-name_read k name.RepeatDur h = rw h refl
-name_read k name.Restart h = rw h refl
-name_read k name.Fill h = rw h refl
-name_read k name.RestartDefault h = rw h refl
-name_read k name.FillDefault h = rw h refl
-name_read k name.Endsync h = rw h refl
-name_read k name.Peers h = rw h refl
-name_read k name.Higher h = rw h refl
-name_read k name.Lower h = rw h refl
-name_read k name.Src h = rw h refl
-name_read k name.Region h = rw h refl
-name_read k name.Alt h = rw h refl
-name_read k name.Title h = rw h refl
-name_read k name.TargetElement h = rw h refl
-name_read k name.AttributeName h = rw h refl
-name_read k name.To h = rw h refl
+name_read k n h = rw (name_known n, h) refl
 
 pub attribute_read : (in_seq : Bool) (k : Kind) (given : Attr) → has k (name_of given) ≡ true → IsAttr in_seq given → attribute_of in_seq k (name_text (name_of given)) (attr_text given) ≡ Ok given
 attribute_read in_seq k given had is = rw (name_read k (name_of given) had) (attr_again in_seq given is)
@@ -142,7 +120,7 @@ plain_named in_seq name.AttributeName text = any_value attr.AttributeName (IsNam
 plain_named in_seq name.To text = any_value attr.To (IsNamed name.To) (λ x. refl) _
 
 value_named : (in_seq : Bool) (n : AttrName) (text : List ℕ) → IfOk (value_of in_seq n text) (IsNamed n)
-value_named in_seq n text = cond_both (is_other_value n (trim text)) _ (plain_value_of in_seq n text) (λ r. IfOk r (IsNamed n)) (λ e. tt) (λ e. plain_named in_seq n text)
+value_named in_seq n text = all_read in_seq (IsNamed n) n text (λ e. plain_named in_seq n text)
 
 -- an attribute that the kind can have
 abbrev Had : Bool → Kind → Attr → Type 0

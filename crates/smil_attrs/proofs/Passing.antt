@@ -1,8 +1,8 @@
 -- Attributes of a line one by one.
-use Rattle.std.proofs.Common.{◌≡◌, ℕ, ◌+◌, ◌<◌, Bool, true, false, cond, eqb, ltb, ◌&&◌, List, [], ◌∷◌, length, Option, Some, None, refl, subst, ◌∙◌, arith, inl, inr}
+use Rattle.std.proofs.Common.{◌≡◌, ℕ, ◌+◌, ◌<◌, Bool, true, false, cond, eqb, ltb, List, [], ◌∷◌, length, Option, Some, None, refl, subst, ◌∙◌, arith, inl, inr}
 use Rattle.std.specs.Prelude.{MatchOption}
 use Rattle.std.specs.List.{list_all, position_or_len}
-use Rattle.std.proofs.lemmas.Bool.{cases_lt, le-ltb}
+use Rattle.std.proofs.lemmas.Bool.{and_right, cases_lt, le-ltb}
 use Rattle.std.proofs.lemmas.Bool.Decides.{nat_tests}
 use Rattle.smil_grammar.specs.Texts.{cut_at}
 use Rattle.smil_grammar.specs.Nodes.{WrittenAttr, is_space, attribute_at, attributes_at, pieces_of, with_written}
@@ -20,13 +20,9 @@ quoted : (text : List ℕ) → position_or_len (λ b. eqb b 34) text < length te
 quoted [] lt = absurd (omega arith)
 quoted (b ∷ text) lt = either b text (eqb b 34) refl lt (quoted text)
   where
-    both : (t : Bool) (rest : Bool) → rest ≡ false → (t && rest) ≡ false
-    both true rest e = e
-    both false rest e = refl
-
     either : (b : ℕ) (text : List ℕ) (t : Bool) → eqb b 34 ≡ t → position_or_len (λ b. eqb b 34) (b ∷ text) < length (b ∷ text) → (position_or_len (λ b. eqb b 34) text < length text → list_all is_space text ≡ false) → list_all is_space (b ∷ text) ≡ false
     either b text true e lt rest = rw (quote_no_space b e) refl
-    either b text false e lt rest = let more : position_or_len (λ b. eqb b 34) (b ∷ text) ≡ 1 + position_or_len (λ b. eqb b 34) text = rw e refl in both (eqb b 32) (list_all is_space text) (rest (omega arith))
+    either b text false e lt rest = let more : position_or_len (λ b. eqb b 34) (b ∷ text) ≡ 1 + position_or_len (λ b. eqb b 34) text = rw e refl in and_right (eqb b 32) (list_all is_space text) (rest (omega arith))
 
 cut_not_spaces : (text : List ℕ) (cut : List ℕ × List ℕ) → cut_at 34 text ≡ Some cut → list_all is_space text ≡ false
 cut_not_spaces text cut e =

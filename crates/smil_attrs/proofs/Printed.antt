@@ -2,7 +2,7 @@
 use Rattle.std.proofs.Common.{◌≡◌, ℕ, ◌+◌, ◌<◌, Bool, true, false, not, eqb, ltb, ◌&&◌, List, [], ◌∷◌, ◌++◌, length, take, drop, flat_map, Option, Some, None, refl, ap, ◌∙◌, arith, append_assoc}
 use Rattle.std.specs.Prelude.{codes, decimal, bytes_eq, option_and_then, IfSome}
 use Rattle.std.specs.Char.{is_ascii_digit}
-use Rattle.std.specs.List.{AllByRecursion, prefix_len, list_any}
+use Rattle.std.specs.List.{AllByRecursion, prefix_len, list_any, list_all}
 use Rattle.std.specs.Str.{is_utf8, chars}
 use Rattle.std.proofs.lemmas.Bool.{and_parts, or_parts, not-true}
 use Rattle.std.proofs.lemmas.List.{take_at, drop_at}
@@ -10,17 +10,17 @@ use Rattle.std.proofs.lemmas.List.Elements.{All-from_recursion}
 use Rattle.std.proofs.lemmas.List.Splits.{slice_split_at}
 use lib.Utf8.{encode}
 use Rattle.smil_model.specs.declared.document.Kind.{Kind}
-use Rattle.smil_model.specs.declared.document.Kind.TheVariants as kind
 use Rattle.smil_model.specs.declared.document.AttrName.{AttrName}
 use Rattle.smil_model.specs.declared.document.AttrName.TheVariants as name
 use Rattle.smil_grammar.specs.Texts.{space, quote, behind}
-use Rattle.smil_grammar.specs.Attributes.{kind_text, kind_called, name_text, names}
+use Rattle.smil_grammar.specs.Attributes.{kind_text, name_text, names}
 use Rattle.smil_grammar.specs.Nodes.{WrittenAttr, is_of_kind, attribute_at, attributes_at, pieces_of, shape_of, shape_behind, saved_shape_of, repeats}
 use Rattle.smil_grammar.specs.Items.{count_of}
 use Rattle.smil_lexis.proofs.Decimals.{decimal_passes}
 use Rattle.smil_time_list.proofs.Spelled.{count_read}
 use Rattle.smil_grammar.specs.Spellings.{attribute_text}
 use Rattle.smil_lexis.proofs.Fronts.{Passes, tested, passes_front}
+use Rattle.smil_attrs.proofs.Tables.{each_kind, each_name}
 use Rattle.smil_attrs.proofs.ValueBytes.{is_unquoted, Unquoted}
 
 -- what stands before the opening quote
@@ -28,29 +28,7 @@ abbrev pub lead : AttrName → List ℕ
 lead n = space ∷ (name_text n ++ codes "=")
 
 lead_unquoted : (n : AttrName) → Unquoted (lead n)
-lead_unquoted name.Id = tested is_unquoted (lead name.Id) refl
-lead_unquoted name.Begin = tested is_unquoted (lead name.Begin) refl
-lead_unquoted name.Dur = tested is_unquoted (lead name.Dur) refl
-lead_unquoted name.End = tested is_unquoted (lead name.End) refl
-lead_unquoted name.Min = tested is_unquoted (lead name.Min) refl
-lead_unquoted name.Max = tested is_unquoted (lead name.Max) refl
-lead_unquoted name.RepeatCount = tested is_unquoted (lead name.RepeatCount) refl
-lead_unquoted name.RepeatDur = tested is_unquoted (lead name.RepeatDur) refl
-lead_unquoted name.Restart = tested is_unquoted (lead name.Restart) refl
-lead_unquoted name.Fill = tested is_unquoted (lead name.Fill) refl
-lead_unquoted name.RestartDefault = tested is_unquoted (lead name.RestartDefault) refl
-lead_unquoted name.FillDefault = tested is_unquoted (lead name.FillDefault) refl
-lead_unquoted name.Endsync = tested is_unquoted (lead name.Endsync) refl
-lead_unquoted name.Peers = tested is_unquoted (lead name.Peers) refl
-lead_unquoted name.Higher = tested is_unquoted (lead name.Higher) refl
-lead_unquoted name.Lower = tested is_unquoted (lead name.Lower) refl
-lead_unquoted name.Src = tested is_unquoted (lead name.Src) refl
-lead_unquoted name.Region = tested is_unquoted (lead name.Region) refl
-lead_unquoted name.Alt = tested is_unquoted (lead name.Alt) refl
-lead_unquoted name.Title = tested is_unquoted (lead name.Title) refl
-lead_unquoted name.TargetElement = tested is_unquoted (lead name.TargetElement) refl
-lead_unquoted name.AttributeName = tested is_unquoted (lead name.AttributeName) refl
-lead_unquoted name.To = tested is_unquoted (lead name.To) refl
+lead_unquoted n = tested is_unquoted (lead n) (each_name (λ n. list_all is_unquoted (lead n)) refl n)
 
 lead_read : (place : ℕ) (value : List ℕ) (n : AttrName) → attribute_at place (lead n) value ≡ Some (record { name = name_text n; name_place = place + 1; value = value; value_place = place + length (lead n) + 1 })
 unfolding is_utf8 chars encode
@@ -155,75 +133,29 @@ names_once values place = no_repeats values place names refl
 -- the kind
 
 kind_passes : (k : Kind) → Passes is_of_kind (kind_text k)
-kind_passes kind.Par = tested is_of_kind (kind_text kind.Par) refl
-kind_passes kind.Seq = tested is_of_kind (kind_text kind.Seq) refl
-kind_passes kind.Excl = tested is_of_kind (kind_text kind.Excl) refl
-kind_passes kind.PriorityClass = tested is_of_kind (kind_text kind.PriorityClass) refl
-kind_passes kind.Img = tested is_of_kind (kind_text kind.Img) refl
-kind_passes kind.Text = tested is_of_kind (kind_text kind.Text) refl
-kind_passes kind.Brush = tested is_of_kind (kind_text kind.Brush) refl
-kind_passes kind.Audio = tested is_of_kind (kind_text kind.Audio) refl
-kind_passes kind.Video = tested is_of_kind (kind_text kind.Video) refl
-kind_passes kind.Animation = tested is_of_kind (kind_text kind.Animation) refl
-kind_passes kind.TextStream = tested is_of_kind (kind_text kind.TextStream) refl
-kind_passes kind.Ref = tested is_of_kind (kind_text kind.Ref) refl
-kind_passes kind.Set = tested is_of_kind (kind_text kind.Set) refl
+kind_passes k = tested is_of_kind (kind_text k) (each_kind (λ k. list_all is_of_kind (kind_text k)) refl k)
 
 kind_utf8 : (k : Kind) → (ltb 0 (length (kind_text k)) && is_utf8 (kind_text k)) ≡ true
 unfolding is_utf8 chars encode
-kind_utf8 kind.Par = refl
-kind_utf8 kind.Seq = refl
-kind_utf8 kind.Excl = refl
-kind_utf8 kind.PriorityClass = refl
-kind_utf8 kind.Img = refl
-kind_utf8 kind.Text = refl
-kind_utf8 kind.Brush = refl
-kind_utf8 kind.Audio = refl
-kind_utf8 kind.Video = refl
-kind_utf8 kind.Animation = refl
-kind_utf8 kind.TextStream = refl
-kind_utf8 kind.Ref = refl
-kind_utf8 kind.Set = refl
+kind_utf8 k = each_kind (λ k. ltb 0 (length (kind_text k)) && is_utf8 (kind_text k)) refl k
 
-pub kind_known : (k : Kind) → kind_called (kind_text k) ≡ Some k
-kind_known kind.Par = refl
-kind_known kind.Seq = refl
-kind_known kind.Excl = refl
-kind_known kind.PriorityClass = refl
-kind_known kind.Img = refl
-kind_known kind.Text = refl
-kind_known kind.Brush = refl
-kind_known kind.Audio = refl
-kind_known kind.Video = refl
-kind_known kind.Animation = refl
-kind_known kind.TextStream = refl
-kind_known kind.Ref = refl
-kind_known kind.Set = refl
-
-stops : (values : AttrName → Option (List ℕ)) (ns : List AttrName) → prefix_len is_of_kind (line_of values ns) ≡ 0
-stops values [] = refl
-stops values (n ∷ ns) = one values n ns (values n) (stops values ns)
+-- what no space passes ends where the attributes begin
+stops : (p : ℕ → Bool) → p space ≡ false → (values : AttrName → Option (List ℕ)) (ns : List AttrName) → prefix_len p (line_of values ns) ≡ 0
+stops p none values [] = refl
+stops p none values (n ∷ ns) = one (values n) (stops p none values ns)
   where
-    one : (values : AttrName → Option (List ℕ)) (n : AttrName) (ns : List AttrName) (o : Option (List ℕ)) → prefix_len is_of_kind (line_of values ns) ≡ 0 → prefix_len is_of_kind (attribute_text n o ++ line_of values ns) ≡ 0
-    one values n ns None e = e
-    one values n ns (Some value) e = refl
+    one : (o : Option (List ℕ)) → prefix_len p (line_of values ns) ≡ 0 → prefix_len p (attribute_text n o ++ line_of values ns) ≡ 0
+    one None e = e
+    one (Some value) e = rw none refl
 
 pub shape_read : (k : Kind) (values : AttrName → Option (List ℕ)) → ((n : AttrName) → IfSome (values n) Unquoted)
     → shape_of (kind_text k ++ line_of values names) ≡ Some (record { kind = kind_text k; attributes = written_from (length (kind_text k)) values names })
 shape_read k values h =
     let text = line_of values names in
-    let len : prefix_len is_of_kind (kind_text k ++ text) ≡ length (kind_text k) = omega (arith, passes_front is_of_kind (kind_text k) text (kind_passes k), stops values names) in
+    let len : prefix_len is_of_kind (kind_text k ++ text) ≡ length (kind_text k) = omega (arith, passes_front is_of_kind (kind_text k) text (kind_passes k), stops is_of_kind refl values names) in
     rw (len, take_at (kind_text k) text (length (kind_text k)) refl, drop_at (kind_text k) text (length (kind_text k)) refl, attributes_read values h (length (kind_text k)) names, kind_utf8 k) refl
 
 -- ---- the same with a serial behind the kind
-
-no_digit : (values : AttrName → Option (List ℕ)) (ns : List AttrName) → prefix_len is_ascii_digit (line_of values ns) ≡ 0
-no_digit values [] = refl
-no_digit values (n ∷ ns) = one values n ns (values n) (no_digit values ns)
-  where
-    one : (values : AttrName → Option (List ℕ)) (n : AttrName) (ns : List AttrName) (o : Option (List ℕ)) → prefix_len is_ascii_digit (line_of values ns) ≡ 0 → prefix_len is_ascii_digit (attribute_text n o ++ line_of values ns) ≡ 0
-    one values n ns None e = e
-    one values n ns (Some value) e = refl
 
 abbrev pub behind_kind : ℕ → (AttrName → Option (List ℕ)) → List ℕ
 behind_kind serial values = 32 ∷ 35 ∷ (decimal serial ++ line_of values names)
@@ -238,7 +170,7 @@ saved_read k serial values h some few =
     let rest = behind_kind serial values in
     let stop : prefix_len is_of_kind rest ≡ 0 = refl in
     let len : prefix_len is_of_kind (kind_text k ++ rest) ≡ length (kind_text k) = omega (arith, passes_front is_of_kind (kind_text k) rest (kind_passes k), stop) in
-    let digits : prefix_len is_ascii_digit (decimal serial ++ text) ≡ length (decimal serial) = omega (arith, passes_front is_ascii_digit (decimal serial) text (decimal_passes serial (omega arith)), no_digit values names) in
+    let digits : prefix_len is_ascii_digit (decimal serial ++ text) ≡ length (decimal serial) = omega (arith, passes_front is_ascii_digit (decimal serial) text (decimal_passes serial (omega arith)), stops is_ascii_digit refl values names) in
     let number : count_of (decimal serial) ≡ Some serial = count_read serial some few in
     let place = length (kind_text k) + 2 + length (decimal serial) in
     let whole : shape_behind (kind_text k) (Some (decimal serial ++ text)) ≡ Some (serial, record { kind = kind_text k; attributes = written_from place values names }) =

@@ -1,11 +1,12 @@
 -- Each byte of a printed value is one of a text that is kept: neither a quote nor a control character.
-use Rattle.std.proofs.Common.{◌≡◌, ℕ, ◌+◌, ◌/◌, ◌%◌, ◌<◌, ◌≤◌, Bool, true, false, not, eqb, ◌&&◌, List, [], ◌∷◌, Option, Some, None, Result, Ok, Err, refl, subst, arith, decimal}
+use Rattle.std.proofs.Common.{◌≡◌, ℕ, ◌+◌, ◌/◌, ◌%◌, ◌<◌, ◌≤◌, Bool, true, false, not, eqb, List, [], ◌∷◌, Option, refl, subst, arith, decimal}
 use Rattle.std.specs.Prelude.{pos, codes, IfOk, IfSome, All}
-use Rattle.std.specs.List.{list_all, AllByRecursion}
+use Rattle.std.specs.List.{AllByRecursion}
 use Rattle.std.specs.Str.{is_utf8}
 use Rattle.std.proofs.lemmas.Bool.{cond_both, and_parts}
 use Rattle.std.proofs.lemmas.Bool.Decides.{nat_tests}
 use Rattle.std.proofs.lemmas.List.Elements.{All-weaker, recursion_from_All}
+use Rattle.std.proofs.lemmas.Option.{IfSome_then}
 use Rattle.smil_model.specs.declared.document.Attr.{Attr}
 use Rattle.smil_model.specs.declared.document.Attr.TheVariants as attr
 use Rattle.smil_model.specs.declared.document.AttrName.{AttrName}
@@ -13,38 +14,28 @@ use Rattle.smil_model.specs.declared.document.AttrName.TheVariants as name
 use Rattle.smil_model.specs.declared.document.Dur.{Dur}
 use Rattle.smil_model.specs.declared.document.Count.{Count}
 use Rattle.smil_model.specs.declared.document.Count.TheVariants as count
-use Rattle.smil_model.specs.declared.document.Restart.{Restart}
-use Rattle.smil_model.specs.declared.document.Restart.TheVariants as restart
-use Rattle.smil_model.specs.declared.document.Fill.{Fill}
-use Rattle.smil_model.specs.declared.document.Fill.TheVariants as fill
-use Rattle.smil_model.specs.declared.document.RestartDefault.{RestartDefault}
-use Rattle.smil_model.specs.declared.document.RestartDefault.TheVariants as restart_default
-use Rattle.smil_model.specs.declared.document.FillDefault.{FillDefault}
-use Rattle.smil_model.specs.declared.document.FillDefault.TheVariants as fill_default
 use Rattle.smil_model.specs.declared.document.Endsync.{Endsync}
-use Rattle.smil_model.specs.declared.document.Act.{Act}
-use Rattle.smil_model.specs.declared.document.Act.TheVariants as act
 use Rattle.smil_model.specs.declared.document.Item.{Item}
 use Rattle.smil_model.specs.declared.times.Time.{Time}
-use Rattle.smil_grammar.specs.declared.fault.AttrFault.{AttrFault}
-use Rattle.smil_grammar.specs.declared.fault.ListFault.{ListFault}
 use Rattle.smil_grammar.specs.Texts.{trim, quote}
 use Rattle.smil_model.specs.document.Words.{is_of_attribute}
 use Rattle.smil_grammar.specs.Words.{is_of_id}
 use Rattle.smil_grammar.specs.Clock.{clock_text}
 use Rattle.smil_grammar.specs.Clock.{clock_within}
 use Rattle.smil_grammar.specs.Items.{IsItem}
-use Rattle.smil_grammar.specs.Lists.{list_of}
-use Rattle.smil_grammar.specs.Values.{id_of, attribute_name_of, restart_default_of, fill_default_of, is_kept, kept_of, dur_of, time_of, repeat_dur_of, count_of, restart_of, fill_of, endsync_of, peers_of, higher_of, lower_of, is_other_value, plain_value_of, value_of}
-use Rattle.smil_grammar.specs.Spellings.{item_text, list_text, attr_text, dur_text, time_text, decimals, count_text, endsync_text, act_text}
-use Rattle.smil_grammar.specs.Allowed.{name_of, IsAttr}
+use Rattle.smil_grammar.specs.Lists.{list_of, IsList}
+use Rattle.smil_grammar.specs.Values.{id_of, attribute_name_of, restart_default_of, fill_default_of, is_kept, kept_of, dur_of, time_of, repeat_dur_of, count_of, restart_of, fill_of, endsync_of, peers_of, higher_of, lower_of, plain_value_of}
+use Rattle.smil_grammar.specs.Spellings.{item_text, list_text, attr_text, dur_text, time_text, decimals, count_text, endsync_text}
+use Rattle.smil_grammar.specs.Allowed.{IsAttr}
 use Rattle.smil_lexis.proofs.Fronts.{Passes, tested, passes_weaker, passes_on}
 use Rattle.smil_time_list.proofs.Printable.{Printable, item_printable, clock_small}
-use Rattle.smil_time_list.proofs.Listed.{is_ink, id_ink, digit_ink, number_ink, clock_ink, item_ink, list_is}
-use Rattle.smil_attrs.proofs.Readings.{IsSmall, value, any_value, listed}
+use Rattle.smil_time_list.proofs.Listed.{is_ink, id_ink, digit_ink, number_ink, clock_ink, item_ink}
+use Rattle.smil_attrs.proofs.Readings.{IsSmall, value, any_value, listed, own_where, all_attrs}
 use Rattle.smil_attrs.proofs.Cases.{dur_reads, time_reads, repeat_reads, count_reads, endsync_reads}
 use Rattle.smil_attrs.proofs.Counts.{IsCount, digit_printed}
+use Rattle.smil_attrs.proofs.Kept.{lists}
 use Rattle.smil_attrs.proofs.Words.{id_passes, attribute_name_passes}
+use Rattle.smil_attrs.proofs.Valued.{IsSpelled, restart_spelled, fill_spelled, restart_default_spelled, fill_default_spelled, act_spelled}
 
 abbrev pub AreKept : List ℕ → Type 0
 AreKept text = Passes is_kept text
@@ -74,9 +65,8 @@ list_kept items h = all items (recursion_from_All Printable items h)
     all (x ∷ []) h = item_kept x h.0
     all (x ∷ y ∷ items) h = passes_on is_kept (item_text x) (59 ∷ list_text (y ∷ items)) (item_kept x h.0) (refl, all (y ∷ items) h.1)
 
-lists_kept : (in_seq : Bool) (text : List ℕ) (r : Result (List Item) ListFault) → list_of in_seq text ≡ r → IfOk r (λ items. AreKept (list_text items))
-lists_kept in_seq text (Ok items) e = list_kept items (All-weaker IsItem Printable item_printable items (list_is in_seq text items e).each)
-lists_kept in_seq text (Err fault) e = tt
+read_kept : (in_seq : Bool) (items : List Item) → IsList in_seq items → AreKept (list_text items)
+read_kept in_seq items h = list_kept items (All-weaker IsItem Printable item_printable items h.each)
 
 -- clock values and times
 
@@ -118,54 +108,14 @@ count_kept text = count_reads CountKept (tested is_kept (codes "indefinite") ref
 
 -- words
 
-restart_kept : (r : Restart) → AreKept (attr_text (attr.Restart r))
-restart_kept restart.Always = tested is_kept (codes "always") refl
-restart_kept restart.WhenNotActive = tested is_kept (codes "whenNotActive") refl
-restart_kept restart.Never = tested is_kept (codes "never") refl
-restart_kept restart.ByDefault = tested is_kept (codes "default") refl
-
-fill_kept : (f : Fill) → AreKept (attr_text (attr.Fill f))
-fill_kept fill.Remove = tested is_kept (codes "remove") refl
-fill_kept fill.Freeze = tested is_kept (codes "freeze") refl
-fill_kept fill.Hold = tested is_kept (codes "hold") refl
-fill_kept fill.Auto = tested is_kept (codes "auto") refl
-fill_kept fill.ByDefault = tested is_kept (codes "default") refl
-
-restart_default_kept : (d : RestartDefault) → AreKept (attr_text (attr.RestartDefault d))
-restart_default_kept restart_default.Always = tested is_kept (codes "always") refl
-restart_default_kept restart_default.WhenNotActive = tested is_kept (codes "whenNotActive") refl
-restart_default_kept restart_default.Never = tested is_kept (codes "never") refl
-restart_default_kept restart_default.Inherit = tested is_kept (codes "inherit") refl
-
-fill_default_kept : (d : FillDefault) → AreKept (attr_text (attr.FillDefault d))
-fill_default_kept fill_default.Remove = tested is_kept (codes "remove") refl
-fill_default_kept fill_default.Freeze = tested is_kept (codes "freeze") refl
-fill_default_kept fill_default.Hold = tested is_kept (codes "hold") refl
-fill_default_kept fill_default.Auto = tested is_kept (codes "auto") refl
-fill_default_kept fill_default.Inherit = tested is_kept (codes "inherit") refl
-
-act_kept : (a : Act) → AreKept (act_text a)
-act_kept act.Stop = tested is_kept (codes "stop") refl
-act_kept act.Pause = tested is_kept (codes "pause") refl
-act_kept act.Defer = tested is_kept (codes "defer") refl
-act_kept act.Never = tested is_kept (codes "never") refl
-
 id_kept : (text : List ℕ) → IfSome (id_of text) AreKept
-id_kept text = weaker (id_of text) (id_passes text)
-  where
-    weaker : (o : Option (List ℕ)) → IfSome o (Passes is_of_id) → IfSome o AreKept
-    weaker None h = tt
-    weaker (Some id) h = passes_weaker is_of_id is_kept id_byte id h
+id_kept text = IfSome_then (id_of text) (id_passes text) (passes_weaker is_of_id is_kept id_byte)
 
 attribute_byte : (b : ℕ) → is_of_attribute b ≡ true → is_kept b ≡ true
 attribute_byte b h = grind (arith, nat_tests)
 
 attribute_name_kept : (text : List ℕ) → IfSome (attribute_name_of text) AreKept
-attribute_name_kept text = weaker (attribute_name_of text) (attribute_name_passes text)
-  where
-    weaker : (o : Option (List ℕ)) → IfSome o (Passes is_of_attribute) → IfSome o AreKept
-    weaker None h = tt
-    weaker (Some name) h = passes_weaker is_of_attribute is_kept attribute_byte name h
+attribute_name_kept text = IfSome_then (attribute_name_of text) (attribute_name_passes text) (passes_weaker is_of_attribute is_kept attribute_byte)
 
 abbrev EndsyncKept : Endsync → Type 0
 EndsyncKept e = AreKept (endsync_text e)
@@ -175,30 +125,33 @@ endsync_kept text = endsync_reads EndsyncKept (tested is_kept (codes "last") ref
     (λ last first all id. subst (λ (o : Option (List ℕ)). IfSome o AreKept) id (id_kept text))
 
 text_kept : (text : List ℕ) → IfSome (kept_of text) AreKept
-text_kept text = cond_both (is_utf8 text && list_all is_kept text) (Some text) None (λ o. IfSome o AreKept) (λ e. tested is_kept text (and_parts _ _ e).1) (λ e. tt)
+text_kept text = own_where AreKept _ text (λ e. tested is_kept text (and_parts (is_utf8 text) _ e).1)
 
 -- attributes
 
 abbrev Q : Attr → Type 0
 Q given = AreKept (attr_text given)
 
+spelled_kept : (in_seq : Bool) (given : Attr) → IsSpelled in_seq given → Q given
+spelled_kept in_seq given h = tested is_kept (attr_text given) h.1
+
 plain_kept : (in_seq : Bool) (n : AttrName) (text : List ℕ) → IfOk (plain_value_of in_seq n text) Q
 plain_kept in_seq name.Id text = value attr.Id AreKept Q (λ id h. h) (id_of text) (id_kept text)
-plain_kept in_seq name.Begin text = listed attr.Begin (λ items. AreKept (list_text items)) Q (λ items h. h) (list_of in_seq text) (lists_kept in_seq text _ refl)
+plain_kept in_seq name.Begin text = listed attr.Begin (IsList in_seq) Q (read_kept in_seq) (list_of in_seq text) (lists in_seq text _ refl)
 plain_kept in_seq name.Dur text = value attr.Dur DurKept Q (λ d h. h) (dur_of (trim text)) (dur_kept (trim text))
-plain_kept in_seq name.End text = listed attr.End (λ items. AreKept (list_text items)) Q (λ items h. h) (list_of false text) (lists_kept false text _ refl)
+plain_kept in_seq name.End text = listed attr.End (IsList false) Q (read_kept false) (list_of false text) (lists false text _ refl)
 plain_kept in_seq name.Min text = value (λ n. attr.Min (pos n)) IsSmall Q clock_kept (clock_within (trim text)) (clock_small (trim text))
 plain_kept in_seq name.Max text = value attr.Max TimeKept Q (λ t h. h) (time_of (trim text)) (time_kept (trim text))
 plain_kept in_seq name.RepeatCount text = value attr.RepeatCount CountKept Q (λ c h. h) (count_of (trim text)) (count_kept (trim text))
 plain_kept in_seq name.RepeatDur text = value attr.RepeatDur TimeKept Q (λ t h. h) (repeat_dur_of (trim text)) (repeat_kept (trim text))
-plain_kept in_seq name.Restart text = any_value attr.Restart Q restart_kept (restart_of (trim text))
-plain_kept in_seq name.Fill text = any_value attr.Fill Q fill_kept (fill_of (trim text))
-plain_kept in_seq name.RestartDefault text = any_value attr.RestartDefault Q restart_default_kept (restart_default_of (trim text))
-plain_kept in_seq name.FillDefault text = any_value attr.FillDefault Q fill_default_kept (fill_default_of (trim text))
+plain_kept in_seq name.Restart text = any_value attr.Restart Q (λ r. spelled_kept in_seq (attr.Restart r) (restart_spelled in_seq r)) (restart_of (trim text))
+plain_kept in_seq name.Fill text = any_value attr.Fill Q (λ f. spelled_kept in_seq (attr.Fill f) (fill_spelled in_seq f)) (fill_of (trim text))
+plain_kept in_seq name.RestartDefault text = any_value attr.RestartDefault Q (λ d. spelled_kept in_seq (attr.RestartDefault d) (restart_default_spelled in_seq d)) (restart_default_of (trim text))
+plain_kept in_seq name.FillDefault text = any_value attr.FillDefault Q (λ d. spelled_kept in_seq (attr.FillDefault d) (fill_default_spelled in_seq d)) (fill_default_of (trim text))
 plain_kept in_seq name.Endsync text = value attr.Endsync EndsyncKept Q (λ x h. h) (endsync_of (trim text)) (endsync_kept (trim text))
-plain_kept in_seq name.Peers text = any_value attr.Peers Q act_kept (peers_of (trim text))
-plain_kept in_seq name.Higher text = any_value attr.Higher Q act_kept (higher_of (trim text))
-plain_kept in_seq name.Lower text = any_value attr.Lower Q act_kept (lower_of (trim text))
+plain_kept in_seq name.Peers text = any_value attr.Peers Q (λ a. spelled_kept in_seq (attr.Peers a) (act_spelled in_seq a)) (peers_of (trim text))
+plain_kept in_seq name.Higher text = any_value attr.Higher Q (λ a. spelled_kept in_seq (attr.Peers a) (act_spelled in_seq a)) (higher_of (trim text))
+plain_kept in_seq name.Lower text = any_value attr.Lower Q (λ a. spelled_kept in_seq (attr.Peers a) (act_spelled in_seq a)) (lower_of (trim text))
 plain_kept in_seq name.Src text = value attr.Src AreKept Q (λ kept h. h) (kept_of text) (text_kept text)
 plain_kept in_seq name.Region text = value attr.Region AreKept Q (λ kept h. h) (kept_of text) (text_kept text)
 plain_kept in_seq name.Alt text = value attr.Alt AreKept Q (λ kept h. h) (kept_of text) (text_kept text)
@@ -207,11 +160,8 @@ plain_kept in_seq name.TargetElement text = value attr.TargetElement AreKept Q (
 plain_kept in_seq name.AttributeName text = value attr.AttributeName AreKept Q (λ name h. h) (attribute_name_of (trim text)) (attribute_name_kept (trim text))
 plain_kept in_seq name.To text = value attr.To AreKept Q (λ kept h. h) (kept_of text) (text_kept text)
 
-value_kept : (in_seq : Bool) (n : AttrName) (text : List ℕ) → IfOk (value_of in_seq n text) Q
-value_kept in_seq n text = cond_both (is_other_value n (trim text)) _ (plain_value_of in_seq n text) (λ r. IfOk r Q) (λ e. tt) (λ e. plain_kept in_seq n text)
-
 pub attr_kept : (in_seq : Bool) (given : Attr) → IsAttr in_seq given → AreKept (attr_text given)
-attr_kept in_seq given h = subst (λ (r : Result Attr AttrFault). IfOk r Q) h.1 (value_kept in_seq (name_of given) h.0)
+attr_kept in_seq given h = all_attrs in_seq Q (λ n text e. plain_kept in_seq n text) given h
 
 -- so it has no quote
 

@@ -1,5 +1,5 @@
 -- Ids, names of attributes and kept texts are read again, as values of attributes.
-use Rattle.std.proofs.Common.{◌≡◌, ℕ, ◌+◌, Bool, true, false, not, eqb, ltb, ◌&&◌, List, [], ◌∷◌, length, take, Some, None, refl, subst, arith}
+use Rattle.std.proofs.Common.{◌≡◌, ℕ, ◌+◌, Bool, true, false, not, eqb, ltb, ◌&&◌, List, [], ◌∷◌, length, take, Some, refl, subst, arith}
 use Rattle.std.specs.Prelude.{IfSome}
 use Rattle.std.specs.List.{prefix_len, list_all}
 use Rattle.std.proofs.lemmas.Bool.{cond_both, and_parts, eqb-true, ltb-false}
@@ -13,12 +13,16 @@ use Rattle.smil_grammar.specs.Values.{id_of, kept_of, attribute_name_of}
 use Rattle.smil_lexis.proofs.Fronts.{Passes, tested, passes_weaker}
 use Rattle.smil_lexis.proofs.Words.{IsWord, all_of_id, passes_taken}
 use Rattle.smil_lexis.proofs.Trims.{is_inked, untrimmed}
+use Rattle.smil_attrs.proofs.Readings.{own_where}
 
-pub id_inked : (b : ℕ) → is_of_id b ≡ true → is_inked b ≡ true
+id_inked : (b : ℕ) → is_of_id b ≡ true → is_inked b ≡ true
 id_inked b h = grind (arith, nat_tests)
 
 all_passes : (p : ℕ → Bool) (text : List ℕ) → prefix_len p text ≡ length text → Passes p text
 all_passes p text e = let all : take (prefix_len p text) text ≡ text = take_all (prefix_len p text) text (omega arith) in subst (Passes p) all (passes_taken p text)
+
+pub id_untrimmed : (text : List ℕ) → IsWord is_of_id text → trim text ≡ text
+id_untrimmed text h = untrimmed text (passes_weaker is_of_id is_inked id_inked text (all_of_id text h))
 
 -- all of a text is an id
 pub whole_id : (text : List ℕ) → (not (eqb (length text) 0) && eqb (id_len false text) (length text)) ≡ true → IsWord is_of_id text
@@ -36,12 +40,14 @@ whole_id text e = let parts = and_parts (not (eqb (length text) 0)) (eqb (id_len
         (λ i k. absurd (none b bytes k)) e
 
 pub id_passes : (text : List ℕ) → IfSome (id_of text) (Passes is_of_id)
-id_passes text = cond_both (not (eqb (length text) 0) && eqb (id_len false text) (length text)) (Some text) None (λ o. IfSome o (Passes is_of_id))
-    (λ e. all_of_id text (whole_id text e)) (λ e. tt)
+id_passes text = own_where (Passes is_of_id) _ text (λ e. all_of_id text (whole_id text e))
 
-pub id_whole : (text : List ℕ) → IfSome (id_of text) (λ id. (id_of id ≡ Some id) × (trim id ≡ id))
-id_whole text = cond_both (not (eqb (length text) 0) && eqb (id_len false text) (length text)) (Some text) None (λ o. IfSome o (λ id. (id_of id ≡ Some id) × (trim id ≡ id)))
-    (λ e. (rw e refl, untrimmed text (passes_weaker is_of_id is_inked id_inked text (all_of_id text (whole_id text e))))) (λ e. tt)
+-- an id that is read again, and has no white space at its ends
+abbrev pub IsWholeId : List ℕ → Type 0
+IsWholeId id = (id_of id ≡ Some id) × (trim id ≡ id)
+
+pub id_whole : (text : List ℕ) → IfSome (id_of text) IsWholeId
+id_whole text = own_where IsWholeId _ text (λ e. (rw e refl, id_untrimmed text (whole_id text e)))
 
 initial_of_attribute : (b : ℕ) → is_initial b ≡ true → is_of_attribute b ≡ true
 initial_of_attribute b h = grind (arith, nat_tests)
@@ -56,11 +62,18 @@ name_of_attribute (b ∷ text) e =
     (initial_of_attribute b parts.0, tested is_of_attribute text parts.1)
 
 pub attribute_name_passes : (text : List ℕ) → IfSome (attribute_name_of text) (Passes is_of_attribute)
-attribute_name_passes text = cond_both (is_attribute_name text) (Some text) None (λ o. IfSome o (Passes is_of_attribute)) (λ e. name_of_attribute text e) (λ e. tt)
+attribute_name_passes text = own_where (Passes is_of_attribute) _ text (name_of_attribute text)
 
-pub attribute_name_whole : (text : List ℕ) → IfSome (attribute_name_of text) (λ name. (attribute_name_of name ≡ Some name) × (trim name ≡ name))
-attribute_name_whole text = cond_both (is_attribute_name text) (Some text) None (λ o. IfSome o (λ name. (attribute_name_of name ≡ Some name) × (trim name ≡ name)))
-    (λ e. (rw e refl, untrimmed text (passes_weaker is_of_attribute is_inked attribute_inked text (name_of_attribute text e)))) (λ e. tt)
+-- the same of a name of an attribute
+abbrev pub IsWholeName : List ℕ → Type 0
+IsWholeName name = (attribute_name_of name ≡ Some name) × (trim name ≡ name)
 
-pub kept_whole : (text : List ℕ) → IfSome (kept_of text) (λ kept. kept_of kept ≡ Some kept)
-kept_whole text = cond_both _ (Some text) None (λ o. IfSome o (λ kept. kept_of kept ≡ Some kept)) (λ e. rw e refl) (λ e. tt)
+pub attribute_name_whole : (text : List ℕ) → IfSome (attribute_name_of text) IsWholeName
+attribute_name_whole text = own_where IsWholeName _ text (λ e. (rw e refl, untrimmed text (passes_weaker is_of_attribute is_inked attribute_inked text (name_of_attribute text e))))
+
+-- and of a text that is kept
+abbrev pub IsWholeText : List ℕ → Type 0
+IsWholeText kept = kept_of kept ≡ Some kept
+
+pub kept_whole : (text : List ℕ) → IfSome (kept_of text) IsWholeText
+kept_whole text = own_where IsWholeText _ text (λ e. rw e refl)

@@ -14,6 +14,8 @@ written_in left = unwrap_or (attributes_in left) []
 
 -- the first attribute was passed; where there is none, only spaces are of the shape of attributes
 abbrev pub Passes : Piece → Option WrittenAttr → Piece → Type 0
-Passes old None new = (new ≡ old) × (attributes_in old ≡ (if list_all is_space old.text then Some [] else None))
+Passes old None new =
+    (new ≡ old) × (attributes_in old ≡ (if list_all is_space old.text then Some [] else None))
 Passes old (Some written) new =
-    (attributes_in old ≡ with_written (Some written) (attributes_in new)) × (length new.text < length old.text)
+    (attributes_in old ≡ with_written (Some written) (attributes_in new))
+    × (length new.text < length old.text)

@@ -13,6 +13,7 @@ use super::names::NAMES;
 use super::spellings::put_attr;
 use itoa::Buffer;
 use smil_lexis::texts::past;
+use smil_lexis::writers::undone;
 use smil_model::{Attrs, Bytes, Kind, Node};
 use smil_time_list::offsets::count;
 use std::alloc::AllocError;
@@ -65,13 +66,8 @@ pub fn write_node(depth: u32, kind: Kind, attrs: &Attrs, out: &mut Bytes) -> Res
     ensures err { OnErr result (out.new ≡ out.old) }
 {
     let before = out.len();
-    match put_node(depth, kind, attrs, out) {
-        Ok(()) => Ok(()),
-        Err(fault) => {
-            out.cut_back(before);
-            Err(fault)
-        }
-    }
+    let written = put_node(depth, kind, attrs, out);
+    undone(written, out, before)
 }
 
 // Appends a text and a number behind it.
@@ -110,29 +106,20 @@ pub fn write_node_2(depth: u32, node: &Node, out: &mut Bytes) -> Result<(), Allo
     ensures err { OnErr result (out.new ≡ out.old) }
 {
     let before = out.len();
-    match put_node_2(depth, node, out) {
-        Ok(()) => Ok(()),
-        Err(fault) => {
-            out.cut_back(before);
-            Err(fault)
-        }
-    }
+    let written = put_node_2(depth, node, out);
+    undone(written, out, before)
 }
 
 /// Appends the header of an outline with serials: `outline 2 next` and the next serial. Only one
-/// from 1 to 999,999,999 is read again. No line end is appended. After a refusal `out` is as before.
+/// from 1 to 999,999,999 is read again. No line end is appended. After a refusal `out` is as
+/// before.
 pub fn write_header(next: u32, out: &mut Bytes) -> Result<(), AllocError>
     ensures ok { OnOk result (out.new ≡ out.old ++ header_text next) }
     ensures err { OnErr result (out.new ≡ out.old) }
 {
     let before = out.len();
-    match put_number(b"outline 2 next ", next, out) {
-        Ok(()) => Ok(()),
-        Err(fault) => {
-            out.cut_back(before);
-            Err(fault)
-        }
-    }
+    let written = put_number(b"outline 2 next ", next, out);
+    undone(written, out, before)
 }
 
 /// The next serial of the header of an outline with serials; none where the line is no such header.

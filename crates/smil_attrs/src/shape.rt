@@ -25,7 +25,13 @@ impl<'a> Model for WrittenAttr<'a> {
 
     ghost Value = { WrittenText };
 
-    ghost view = { λ a. record { name = a.name.now; name_place = a.name_place; value = a.value.now; value_place = a.value_place } };
+    ghost view = { λ a.
+        record {
+          name = a.name.now;
+          name_place = a.name_place;
+          value = a.value.now;
+          value_place = a.value_place;
+        } };
 }
 
 /// What is left of a line, from which attributes are taken one by one.

@@ -1,13 +1,11 @@
 //! Values of attributes, as they are printed.
 
-ghost use Rattle.std.specs.Prelude.{◌≡◌, ◌++◌, ◌<◌, ◌∷◌, [], ℕ, List, Option, codes, option_map, nat_abs, IfSome, All, OnOk, OnErr, Some};
-ghost use Rattle.smil_model.specs.Times.{IsMoment};
+ghost use Rattle.std.specs.Prelude.{◌≡◌, ◌++◌, ◌<◌, ◌∷◌, codes, option_map, IfSome, All, OnOk, OnErr, Some};
 ghost use Rattle.smil_grammar.specs.Attributes.{name_text};
 ghost use Rattle.smil_grammar.specs.Texts.{space};
-ghost use Rattle.smil_grammar.specs.Clock.{clock_text};
-ghost use Rattle.smil_grammar.specs.Spellings.{dur_text, time_text, decimals, count_text, restart_text, fill_text, restart_default_text, fill_default_text, endsync_text, act_text, list_text, attr_at, attr_text, value_text, attribute_text, CanWrite};
+ghost use Rattle.smil_grammar.specs.Spellings.{dur_text, time_text, decimals, count_text, restart_text, fill_text, restart_default_text, fill_default_text, endsync_text, act_text, list_text, attr_at, value_text, attribute_text, CanWrite};
 ghost use Rattle.smil_model.specs.document.Words.{Begins};
-ghost use Rattle.smil_attrs.specs.Fits.{FitsDur, FitsTime, FitsAttr};
+ghost use Rattle.smil_attrs.specs.Fits.{FitsDur, FitsTime, FitsAttr, FitsValue, spelled};
 
 use super::names;
 use itoa::Buffer;
@@ -18,6 +16,17 @@ use smil_model::{
 };
 use smil_time_list::spellings::write_list;
 use std::alloc::AllocError;
+
+/// A value as it is written.
+#[derive(Clone, Copy)]
+pub enum Value<'a> {
+    Text(&'a [u8]),
+    List(&'a Items),
+    Clock(i64),
+    Dur(Dur),
+    Time(Time),
+    Count(Count),
+}
 
 // The word of a `restart`.
 fn restart(restart: Restart) -> &'static [u8]
@@ -165,228 +174,92 @@ fn put_name(name: AttrName, out: &mut Bytes) -> Result<(), AllocError>
     out.append(b"=\"")
 }
 
-// An attribute whose value is this text.
-#[tactic(auto, using(smil_model::proofs::Growing::begins_on))]
-fn put_word(name: AttrName, word: &[u8], out: &mut Bytes) -> Result<(), AllocError>
-    ensures ok { OnOk result (out.new ≡ out.old ++ attribute_text name (Some word.now)) }
-    ensures err { OnErr result (Begins out.old out.new) }
-{
-    put_name(name, out)?;
-    out.append(word)?;
-    out.append(b"\"")
-}
-
-// Appends an attribute that is a text.
-fn put_text(name: AttrName, value: &Option<Bytes>, out: &mut Bytes) -> Result<(), AllocError>
-    ensures ok { OnOk result (out.new ≡ out.old ++ attribute_text name value.now) }
+// Appends a value.
+fn put_value(value: &Value<'_>, out: &mut Bytes) -> Result<(), AllocError>
+    requires { FitsValue value.now }
+    ensures ok { OnOk result (out.new ≡ out.old ++ spelled value.now) }
     ensures err { OnErr result (Begins out.old out.new) }
 {
     match value {
-        Some(text) => put_word(name, text.slice(), out),
-        None => Ok(()),
+        Value::Text(text) => out.append(text),
+        Value::List(items) => write_list(items, out),
+        Value::Clock(value) => write_clock(*value, out),
+        Value::Dur(dur) => put_dur(*dur, out),
+        Value::Time(time) => put_time(*time, out),
+        Value::Count(count) => put_count(*count, out),
     }
 }
 
-// Appends a `restart` with its name.
-fn put_restart(name: AttrName, value: Option<Restart>, out: &mut Bytes) -> Result<(), AllocError>
-    ensures ok { OnOk result (out.new ≡ out.old
-        ++ attribute_text name (option_map restart_text value)) }
-    ensures err { OnErr result (Begins out.old out.new) }
+// A text that is there, as a value.
+fn text(text: &Option<Bytes>) -> Option<Value<'_>>
+    ensures spelled { option_map spelled result ≡ text.now }
+    ensures fits { IfSome result FitsValue }
 {
-    match value {
-        Some(value) => put_word(name, restart(value), out),
-        None => Ok(()),
+    match text {
+        Some(text) => Some(Value::Text(text.slice())),
+        None => None,
     }
 }
 
-// Appends a `fill` with its name.
-fn put_fill(name: AttrName, value: Option<Fill>, out: &mut Bytes) -> Result<(), AllocError>
-    ensures ok { OnOk result (out.new ≡ out.old
-        ++ attribute_text name (option_map fill_text value)) }
-    ensures err { OnErr result (Begins out.old out.new) }
+// A list that is there, as a value.
+fn list(items: &Option<Items>) -> Option<Value<'_>>
+    ensures spelled { option_map spelled result ≡ option_map list_text items.now }
+    ensures fits { IfSome items.now (All CanWrite) → IfSome result FitsValue }
 {
-    match value {
-        Some(value) => put_word(name, fill(value), out),
-        None => Ok(()),
+    match items {
+        Some(items) => Some(Value::List(items)),
+        None => None,
     }
 }
 
-// Appends a `restartDefault` with its name.
-fn put_restart_default(
-    name: AttrName,
-    value: Option<RestartDefault>,
-    out: &mut Bytes,
-) -> Result<(), AllocError>
-    ensures ok { OnOk result (out.new ≡ out.old
-        ++ attribute_text name (option_map restart_default_text value)) }
-    ensures err { OnErr result (Begins out.old out.new) }
+// The value of the attribute of this name, where it is there.
+fn value_of(name: AttrName, attrs: &Attrs) -> Option<Value<'_>>
+    requires { IfSome (attr_at attrs.now name) FitsAttr }
+    ensures spelled { option_map spelled result ≡ value_text attrs.now name }
+    ensures fits { IfSome result FitsValue }
 {
-    match value {
-        Some(value) => put_word(name, restart_default(value), out),
-        None => Ok(()),
-    }
-}
-
-// Appends a `fillDefault` with its name.
-fn put_fill_default(
-    name: AttrName,
-    value: Option<FillDefault>,
-    out: &mut Bytes,
-) -> Result<(), AllocError>
-    ensures ok { OnOk result (out.new ≡ out.old
-        ++ attribute_text name (option_map fill_default_text value)) }
-    ensures err { OnErr result (Begins out.old out.new) }
-{
-    match value {
-        Some(value) => put_word(name, fill_default(value), out),
-        None => Ok(()),
-    }
-}
-
-// Appends an attribute of a priorityClass.
-fn put_act(name: AttrName, value: Option<Act>, out: &mut Bytes) -> Result<(), AllocError>
-    ensures ok { OnOk result (out.new ≡ out.old
-        ++ attribute_text name (option_map act_text value)) }
-    ensures err { OnErr result (Begins out.old out.new) }
-{
-    match value {
-        Some(value) => put_word(name, act(value), out),
-        None => Ok(()),
-    }
-}
-
-// Appends an `endsync` with its name.
-fn put_endsync(name: AttrName, value: &Option<Endsync>, out: &mut Bytes) -> Result<(), AllocError>
-    ensures ok { OnOk result (out.new ≡ out.old
-        ++ attribute_text name (option_map endsync_text value.now)) }
-    ensures err { OnErr result (Begins out.old out.new) }
-{
-    match value {
-        Some(value) => put_word(name, endsync(value), out),
-        None => Ok(()),
-    }
-}
-
-// Appends a list with its name.
-#[tactic(auto, using(smil_model::proofs::Growing::begins_on))]
-fn put_list(name: AttrName, value: &Option<Items>, out: &mut Bytes) -> Result<(), AllocError>
-    requires { IfSome value.now (All CanWrite) }
-    ensures ok { OnOk result (out.new ≡ out.old
-        ++ attribute_text name (option_map list_text value.now)) }
-    ensures err { OnErr result (Begins out.old out.new) }
-{
-    match value {
-        Some(items) => {
-            put_name(name, out)?;
-            write_list(items, out)?;
-            out.append(b"\"")
-        }
-        None => Ok(()),
-    }
-}
-
-// Appends a `min` with its name.
-#[tactic(auto, using(smil_model::proofs::Growing::begins_on))]
-fn put_min(name: AttrName, value: Option<i64>, out: &mut Bytes) -> Result<(), AllocError>
-    requires { IfSome value IsMoment }
-    ensures ok { OnOk result (out.new ≡ out.old
-        ++ attribute_text name (option_map (λ n. clock_text (nat_abs n)) value)) }
-    ensures err { OnErr result (Begins out.old out.new) }
-{
-    match value {
-        Some(value) => {
-            put_name(name, out)?;
-            write_clock(value, out)?;
-            out.append(b"\"")
-        }
-        None => Ok(()),
-    }
-}
-
-// Appends a `dur` with its name.
-#[tactic(auto, using(smil_model::proofs::Growing::begins_on))]
-fn put_duration(name: AttrName, value: Option<Dur>, out: &mut Bytes) -> Result<(), AllocError>
-    requires { IfSome value FitsDur }
-    ensures ok { OnOk result (out.new ≡ out.old
-        ++ attribute_text name (option_map dur_text value)) }
-    ensures err { OnErr result (Begins out.old out.new) }
-{
-    match value {
-        Some(value) => {
-            put_name(name, out)?;
-            put_dur(value, out)?;
-            out.append(b"\"")
-        }
-        None => Ok(()),
-    }
-}
-
-// Appends a `max` or a `repeatDur` with its name.
-#[tactic(auto, using(smil_model::proofs::Growing::begins_on))]
-fn put_limit(name: AttrName, value: Option<Time>, out: &mut Bytes) -> Result<(), AllocError>
-    requires { IfSome value FitsTime }
-    ensures ok { OnOk result (out.new ≡ out.old
-        ++ attribute_text name (option_map time_text value)) }
-    ensures err { OnErr result (Begins out.old out.new) }
-{
-    match value {
-        Some(value) => {
-            put_name(name, out)?;
-            put_time(value, out)?;
-            out.append(b"\"")
-        }
-        None => Ok(()),
-    }
-}
-
-// Appends a `repeatCount` with its name.
-#[tactic(auto, using(smil_model::proofs::Growing::begins_on))]
-fn put_repeat_count(name: AttrName, value: Option<Count>, out: &mut Bytes) -> Result<(), AllocError>
-    ensures ok { OnOk result (out.new ≡ out.old
-        ++ attribute_text name (option_map count_text value)) }
-    ensures err { OnErr result (Begins out.old out.new) }
-{
-    match value {
-        Some(value) => {
-            put_name(name, out)?;
-            put_count(value, out)?;
-            out.append(b"\"")
-        }
-        None => Ok(()),
+    match name {
+        AttrName::Id => text(&attrs.id),
+        AttrName::Begin => list(&attrs.begin),
+        AttrName::Dur => Some(Value::Dur(attrs.dur?)),
+        AttrName::End => list(&attrs.end),
+        AttrName::Min => Some(Value::Clock(attrs.min?)),
+        AttrName::Max => Some(Value::Time(attrs.max?)),
+        AttrName::RepeatCount => Some(Value::Count(attrs.repeat_count?)),
+        AttrName::RepeatDur => Some(Value::Time(attrs.repeat_dur?)),
+        AttrName::Restart => Some(Value::Text(restart(attrs.restart?))),
+        AttrName::Fill => Some(Value::Text(fill(attrs.fill?))),
+        AttrName::RestartDefault => Some(Value::Text(restart_default(attrs.restart_default?))),
+        AttrName::FillDefault => Some(Value::Text(fill_default(attrs.fill_default?))),
+        AttrName::Endsync => Some(Value::Text(endsync(attrs.endsync.as_ref()?))),
+        AttrName::Peers => Some(Value::Text(act(attrs.peers?))),
+        AttrName::Higher => Some(Value::Text(act(attrs.higher?))),
+        AttrName::Lower => Some(Value::Text(act(attrs.lower?))),
+        AttrName::Src => text(&attrs.src),
+        AttrName::Region => text(&attrs.region),
+        AttrName::Alt => text(&attrs.alt),
+        AttrName::Title => text(&attrs.title),
+        AttrName::TargetElement => text(&attrs.target_element),
+        AttrName::AttributeName => text(&attrs.attribute_name),
+        AttrName::To => text(&attrs.to),
     }
 }
 
 /// Appends an attribute of this name, where it is there. After a refusal what was there before
 /// stays at the front.
+#[tactic(auto, using(smil_model::proofs::Growing::begins_on))]
 pub fn put_attr(name: AttrName, attrs: &Attrs, out: &mut Bytes) -> Result<(), AllocError>
     requires { IfSome (attr_at attrs.now name) FitsAttr }
     ensures ok { OnOk result (out.new ≡ out.old
         ++ attribute_text name (value_text attrs.now name)) }
     ensures err { OnErr result (Begins out.old out.new) }
 {
-    match name {
-        AttrName::Id => put_text(name, &attrs.id, out),
-        AttrName::Begin => put_list(name, &attrs.begin, out),
-        AttrName::Dur => put_duration(name, attrs.dur, out),
-        AttrName::End => put_list(name, &attrs.end, out),
-        AttrName::Min => put_min(name, attrs.min, out),
-        AttrName::Max => put_limit(name, attrs.max, out),
-        AttrName::RepeatCount => put_repeat_count(name, attrs.repeat_count, out),
-        AttrName::RepeatDur => put_limit(name, attrs.repeat_dur, out),
-        AttrName::Restart => put_restart(name, attrs.restart, out),
-        AttrName::Fill => put_fill(name, attrs.fill, out),
-        AttrName::RestartDefault => put_restart_default(name, attrs.restart_default, out),
-        AttrName::FillDefault => put_fill_default(name, attrs.fill_default, out),
-        AttrName::Endsync => put_endsync(name, &attrs.endsync, out),
-        AttrName::Peers => put_act(name, attrs.peers, out),
-        AttrName::Higher => put_act(name, attrs.higher, out),
-        AttrName::Lower => put_act(name, attrs.lower, out),
-        AttrName::Src => put_text(name, &attrs.src, out),
-        AttrName::Region => put_text(name, &attrs.region, out),
-        AttrName::Alt => put_text(name, &attrs.alt, out),
-        AttrName::Title => put_text(name, &attrs.title, out),
-        AttrName::TargetElement => put_text(name, &attrs.target_element, out),
-        AttrName::AttributeName => put_text(name, &attrs.attribute_name, out),
-        AttrName::To => put_text(name, &attrs.to, out),
+    match value_of(name, attrs) {
+        Some(value) => {
+            put_name(name, out)?;
+            put_value(&value, out)?;
+            out.append(b"\"")
+        }
+        None => Ok(()),
     }
 }

@@ -1,24 +1,17 @@
 //! The faults of readers, printed.
 
 use super::fault::Fault;
-use super::printed::{put_number, put_word};
+use super::printed::{put_valued, put_word};
 use smil_grammar::NodeFault;
 use smil_model::Bytes;
 use std::alloc::AllocError;
 
 /// Appends the word of a fault, and a column where there is one.
 pub fn put_fault(out: &mut Bytes, word: &str, column: Option<u32>) -> Result<(), AllocError> {
-    put_word(out, word)?;
     match column {
-        Some(column) => put_number(out, column),
-        None => Ok(()),
+        Some(column) => put_valued(out, word, column),
+        None => put_word(out, word),
     }
-}
-
-/// Appends the word of a fault, and its place.
-pub fn put_placed(out: &mut Bytes, word: &str, place: usize) -> Result<(), AllocError> {
-    put_word(out, word)?;
-    put_number(out, place)
 }
 
 /// Appends why a node line has no reading, which may be that memory ran out.

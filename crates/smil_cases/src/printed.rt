@@ -36,6 +36,12 @@ pub fn put_number<I: Integer>(out: &mut Bytes, number: I) -> Result<(), AllocErr
     out.append(buffer.format(number).as_bytes())
 }
 
+/// Appends a word and a number behind what stands there.
+pub fn put_valued<I: Integer>(out: &mut Bytes, word: &str, number: I) -> Result<(), AllocError> {
+    put_word(out, word)?;
+    put_number(out, number)
+}
+
 /// Appends `1` for true and `0` for false.
 pub fn put_flag(out: &mut Bytes, flag: bool) -> Result<(), AllocError> {
     put_word(out, if flag { "1" } else { "0" })

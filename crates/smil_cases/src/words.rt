@@ -2,6 +2,7 @@
 
 use super::fault::Fault;
 use smil_model::{Interval, Time};
+use std::alloc::Global;
 use std::str::FromStr;
 
 /// Words that are separated by one character, taken one after another from the front.
@@ -49,6 +50,22 @@ impl<'a> Words<'a> {
                 Ok(rest)
             }
         }
+    }
+
+    /// The values of all words that are left, or no value where just `none` is left.
+    pub fn values<T, F>(&self, alloc: Global, none: &str, value: F) -> Result<Vec<T>, Fault>
+    where
+        T: Drop,
+        F: Fn(&str) -> Result<T, Fault>,
+        requires { F.IsAlwaysCallable value }
+    {
+        let mut values = Vec::new(alloc);
+        if self.rest != none {
+            for word in self.rest.split(self.between) {
+                values.push(value(word)?).map_err(|_| Fault::Memory)?;
+            }
+        }
+        Ok(values)
     }
 
     /// A number.

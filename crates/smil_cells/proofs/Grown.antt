@@ -1,7 +1,6 @@
 -- Cells whose diary has grown by a group, and the course that has come a step further.
 use Rattle.std.proofs.Common.{◌≡◌, refl, sym, ◌∙◌, ap, subst, ℕ, suc, zero, ◌+◌, ◌-◌, ◌<◌, ◌≤◌, List, [], ◌∷◌, ◌++◌, Option, Some, None, ℤ, Bool, true, false, arith, length, take, drop, append_assoc, length-append, FitsSigned, w64}
 use Rattle.std.proofs.Math.Seq.{drop-append_seam, take-append_seam}
-use Rattle.std.proofs.lemmas.List.{take-append-le}
 use Rattle.std.proofs.lemmas.List.Elements.{filter-append}
 use Rattle.std.specs.Prelude.{pos, negsuc, nat_abs, ◌≤ℤ◌, int_le, cond, is_some, slice_get}
 use Rattle.std.specs.List.{AllByRecursion}
@@ -13,14 +12,14 @@ use Rattle.smil_model.specs.declared.document.Node.{Node}
 use Rattle.smil_model.specs.declared.times.TheConstants.{HORIZON}
 use Rattle.smil_model.specs.declared.limits.TheConstants.{DIARY_ENTRIES}
 use Rattle.smil_model.specs.document.Document.{Document, elements, node_at}
-use Rattle.smil_model.specs.document.Valid.{IsDistinct, IsNumberedTree, IsValid}
+use Rattle.smil_model.specs.document.Valid.{IsDistinct, IsNumberedTree}
 use Rattle.smil_model.specs.diary.Diary.{History, last_moment}
 use Rattle.smil_model.specs.diary.Lawful.{IsLawful, has_element}
 use Rattle.smil_model.specs.diary.Clocks.{until}
 use Rattle.smil_model.specs.happening.Keys.{Change, DueChange, coming, first_coming, is_due}
 use Rattle.smil_model.specs.happening.Groups.{at_moment, group, steps_of}
 use Rattle.smil_model.specs.happening.Resolution.{Progress, Reaches, next_step, after_coming, after_settling, history_at, outset}
-use Rattle.smil_model.specs.shown.Orders.{Presentation}
+use Rattle.smil_model.specs.shown.Orders.{IsState}
 use Rattle.smil_laws.specs.Agreement.{course_on}
 use Rattle.smil_laws.specs.Cut.{IsNamedBelow, NamesBelow}
 use Rattle.smil_laws.proofs.ResolvedSteps.{resolved_lawful}
@@ -34,15 +33,16 @@ use Rattle.smil_model.specs.interval.Current.{current_interval}
 use Rattle.smil_laws.proofs.Numbered.{ordered}
 use Rattle.smil_laws.proofs.Grouped.{group_filled}
 use Rattle.smil_past.specs.Past as past_of
+use Rattle.smil_cells.proofs.Longer.{same_mark, with_entries}
 use Rattle.smil_cells.proofs.OnWay.{untouched}
 use Rattle.smil_laws.specs.Firsts.{FirstIsOfElement}
 use Rattle.smil_past.specs.Past.{MarkedHistory, IsPresent, with_diary}
-use Rattle.smil_cells.specs.CellsState.{IsFront, IsNext, IsRefusing, WhereTold, fresh, fresh_since, MayAppendAll, history_of}
+use Rattle.smil_cells.specs.CellsState.{IsFront, IsNext, IsReached, WhereTold, first_at, fresh, fresh_since, MayAppendAll}
 use Rattle.smil_stretch.specs.Clocks.{AreClocksOf}
 use Rattle.smil_past.specs.Queues.{kept_queues}
 use Rattle.smil_element.specs.declared.happening.parts.Parts.{Parts}
 use Rattle.smil_element.specs.Parts.{ArePartsOf}
-use Rattle.smil_cells.specs.Standings.{IsSoundUnderMark, IsSound, WhereMarked, at_mark, marked_by, standing_of}
+use Rattle.smil_cells.specs.Standings.{begun, standing_of}
 use Rattle.smil_model.proofs.Orders.{le_self, is_le}
 use Rattle.smil_instances.proofs.Targets.{known_node}
 use Rattle.smil_laws.proofs.Cutting.{one_more}
@@ -63,47 +63,6 @@ present_with past m steps was = record {
   from = was.from;
   within = was.within;
 }
-
--- ---- what the mark goes back to
-
-module _ (past : MarkedHistory) (more : List Entry) where
-  abbrev grown_past : MarkedHistory
-  grown_past = with_diary past (past.diary ++ more)
-
-  pub same_mark : (mark : Option ℤ) (lens : Option (ℕ × ℕ)) → ((l : ℕ × ℕ) → lens ≡ Some l → (l.0 ≤ length past.log) × (l.1 ≤ length past.diary)) → marked_by grown_past mark lens ≡ marked_by past mark lens
-  same_mark None lens in_it = refl
-  same_mark (Some m) None in_it = refl
-  same_mark (Some m) (Some l) in_it = rw (take-append-le l.1 past.diary more (in_it l refl).1) refl
-
-  longer : (n : ℕ) → n ≤ length past.diary → n ≤ length (past.diary ++ more)
-  longer n l = let e = length-append past.diary more in omega (arith, e, l)
-
-  module _ (is_current is_marked is_current' is_marked' : History → ℤ → Type 0) (has_mark has_mark' : Bool) (m : ℤ) (fault fault' : Option BookFault) (mark : Option ℤ) (touched touched' : List ℕ) where
-    pub grown : ((h : History) (now : ℤ) → is_marked h now → is_marked' h now) → has_mark' ≡ has_mark → IsPresent grown_past m
-        → (fault' ≡ None → IsSound is_current' (standing_of grown_past m fault' mark touched'))
-        → IsSoundUnderMark is_current is_marked has_mark past m fault mark touched
-        → IsSoundUnderMark is_current' is_marked' has_mark' grown_past m fault' mark touched'
-    grown given has present sound kept = record {
-      present = present;
-      log = kept.log;
-      sound = sound;
-      marked = subst (λ (x : Option (Presentation × List Entry)). WhereMarked is_marked' touched' x) (sym (same_mark mark past.marked kept.lens)) (by_mark (marked_by past mark past.marked) kept.marked);
-      table_mark = has ∙ kept.table_mark;
-      past_mark = kept.past_mark;
-      mark_from = kept.mark_from;
-      lens = λ l e. ((kept.lens l e).0, longer l.1 (kept.lens l e).1);
-    }
-      where
-        by_mark : (x : Option (Presentation × List Entry)) → WhereMarked is_marked touched x → WhereMarked is_marked' touched' x
-        by_mark None k = k
-        by_mark (Some x) k = record { state = k.state; reached = k.reached; current = given (history_of (at_mark touched x)) (pos x.0.now) k.current }
-
-pub refusing : (past new : MarkedHistory) (more : List Entry) (m : ℤ) (fault : Option BookFault) (f : BookFault) (mark : Option ℤ) (touched touched' : List ℕ) → new ≡ with_diary past (past.diary ++ more)
-    → ((l : ℕ × ℕ) → past.marked ≡ Some l → (l.0 ≤ length past.log) × (l.1 ≤ length past.diary))
-    → IsRefusing (standing_of past m fault mark touched) (standing_of new m (Some f) mark touched') f
-refusing past new more m fault f mark touched touched' made in_it =
-    subst (λ (x : MarkedHistory). IsRefusing (standing_of past m fault mark touched) (standing_of x m (Some f) mark touched') f) (sym made)
-    (record { fault_is = refl; document = refl; marked = same_mark past more mark past.marked in_it })
 
 -- ---- what comes first is of an element
 
@@ -203,21 +162,18 @@ length_at m [] = refl
 length_at m (x ∷ xs) = ap suc (length_at m xs)
 
 -- the list of the group is the steps at the moment
-module _ (past : MarkedHistory) (m z : ℤ) (serial : ℕ) (change : Change) (entries : List Entry) (whole : z ≡ m) (made : entries ≡ group (past_of.history_of past) z serial change) where
-  abbrev pub now_steps : List Step
-  now_steps = steps_of (past_of.history_of past) m serial change
+pub made_now : (past : MarkedHistory) (m z : ℤ) (serial : ℕ) (change : Change) (entries : List Entry) → z ≡ m → entries ≡ group (past_of.history_of past) z serial change → entries ≡ at_moment m (steps_of (past_of.history_of past) m serial change)
+made_now past m z serial change entries whole made = made ∙ ap (λ (v : ℤ). group (past_of.history_of past) v serial change) whole
 
-  pub made_now : entries ≡ at_moment m now_steps
-  made_now = made ∙ ap (λ (v : ℤ). group (past_of.history_of past) v serial change) whole
+module _ (past : MarkedHistory) (m : ℤ) (steps : List Step) (entries : List Entry) (made : entries ≡ at_moment m steps) where
+  pub all_now : (new : MarkedHistory) → new ≡ with_diary past (past.diary ++ entries) → new ≡ with_diary past (past.diary ++ at_moment m steps)
+  all_now new is = is ∙ ap (λ (l : List Entry). with_diary past (past.diary ++ l)) made
 
-  pub all_now : (new : MarkedHistory) → new ≡ with_diary past (past.diary ++ entries) → new ≡ with_diary past (past.diary ++ at_moment m now_steps)
-  all_now new is = is ∙ ap (λ (l : List Entry). with_diary past (past.diary ++ l)) made_now
+  pub some_now : (new : MarkedHistory) (k : ℕ) → new ≡ with_diary past (past.diary ++ take k entries) → new ≡ with_diary past (past.diary ++ at_moment m (take k steps))
+  some_now new k is = is ∙ ap (λ (l : List Entry). with_diary past (past.diary ++ l)) (ap (λ (l : List Entry). take k l) made ∙ take_at m k steps)
 
-  pub some_now : (new : MarkedHistory) (k : ℕ) → new ≡ with_diary past (past.diary ++ take k entries) → new ≡ with_diary past (past.diary ++ at_moment m (take k now_steps))
-  some_now new k is = is ∙ ap (λ (l : List Entry). with_diary past (past.diary ++ l)) (ap (λ (l : List Entry). take k l) made_now ∙ take_at m k now_steps)
-
-  pub many_now : (d : ℕ) → d < length past.diary + length entries → d < length past.diary + length now_steps
-  many_now d l = let e = ap (λ (x : List Entry). length x) made_now ∙ length_at m now_steps in omega (arith, e, l)
+  pub many_now : (d : ℕ) → d < length past.diary + length entries → d < length past.diary + length steps
+  many_now d l = let e = ap (λ (x : List Entry). length x) made ∙ length_at m steps in omega (arith, e, l)
 
 -- ---- the group of what comes first
 
@@ -230,33 +186,48 @@ split_at m zero steps = (at_moment m steps, refl)
 split_at m (suc k) [] = ([], refl)
 split_at m (suc k) (x ∷ xs) = let r = split_at m k xs in (r.0, ap (λ (l : List Entry). record { moment = m; step = x } ∷ l) r.1)
 
-module _ (past : MarkedHistory) (m : ℤ) (steps : List Step) (next : DueChange) (valid : IsValid past.document) (present : IsPresent past m) (reached : Reaches (course_on past.document.nodes past.log (nat_abs m)) (record { moment = nat_abs m; heard = length past.log; diary = past.diary })) (first : first_coming (coming (record { nodes = past.document.nodes; log = past.log; diary = past.diary }) (pos (nat_abs m))) ≡ Some next) (due : next.key.value ≤ℤ pos (nat_abs m)) (made : steps ≡ steps_of (record { nodes = past.document.nodes; log = past.log; diary = past.diary }) m next.key.serial next.change) where
+-- at a standing that a resolution comes to, this change comes first and is due
+pub record ComesNext (past : MarkedHistory) (m : ℤ) (next : DueChange) : Type 0 where
+  pub present : IsPresent past m
+  pub state : IsState (begun past m).presentation
+  pub reached : IsReached (begun past m)
+  pub first : first_at (begun past m) ≡ Some next
+  pub due : next.key.value ≤ℤ pos (nat_abs m)
+
+-- the steps of its group
+abbrev pub next_steps : MarkedHistory → ℤ → DueChange → List Step
+next_steps past m next = steps_of (past_of.history_of past) m next.key.serial next.change
+
+module _ (past : MarkedHistory) (m : ℤ) (next : DueChange) (comes : ComesNext past m next) where
+  abbrev steps : List Step
+  steps = next_steps past m next
+
   is_due_now : is_due (pos (nat_abs m)) next.key ≡ true
-  is_due_now = is_le next.key.value (pos (nat_abs m)) due
+  is_due_now = is_le next.key.value (pos (nat_abs m)) comes.due
 
   whole : m ≡ pos (nat_abs m)
-  whole = positive m present.from
+  whole = positive m comes.present.from
 
   group_is : group (record { nodes = past.document.nodes; log = past.log; diary = past.diary }) (pos (nat_abs m)) next.key.serial next.change ≡ at_moment m steps
-  group_is = subst (λ (z : ℤ). at_moment z (steps_of (record { nodes = past.document.nodes; log = past.log; diary = past.diary }) z next.key.serial next.change) ≡ at_moment m steps) whole (ap (λ (l : List Step). at_moment m l) (sym made))
+  group_is = subst (λ (z : ℤ). at_moment z (steps_of (record { nodes = past.document.nodes; log = past.log; diary = past.diary }) z next.key.serial next.change) ≡ at_moment m steps) whole refl
 
   diary_is : past.diary ++ group (record { nodes = past.document.nodes; log = past.log; diary = past.diary }) (pos (nat_abs m)) next.key.serial next.change ≡ past.diary ++ at_moment m steps
   diary_is = ap (λ (l : List Entry). past.diary ++ l) group_is
 
   near_now : pos (nat_abs m) ≤ℤ HORIZON
-  near_now = subst (λ (z : ℤ). z ≤ℤ HORIZON) whole present.within
+  near_now = subst (λ (z : ℤ). z ≤ℤ HORIZON) whole comes.present.within
 
   pub may : ResolvedIsNear → ReachedIsPast → MayAppendAll past (at_moment m steps)
   may near is_past = all_may past m steps
-      (subst (λ (d : List Entry). IsLawful (record { nodes = past.document.nodes; log = past.log; diary = d })) diary_is (lawful_next past.document past.log (nat_abs m) past.diary next reached first is_due_now valid.numbered near_now))
-      (subst (λ (d : List Entry). AllNear d) diary_is (near_next past.document past.log (nat_abs m) past.diary next reached first is_due_now near near_now))
-      (subst (λ (d : List Entry). NamesBelow (length past.log) d) diary_is (named_next past.document past.log (nat_abs m) past.diary next reached first is_due_now is_past))
+      (subst (λ (d : List Entry). IsLawful (record { nodes = past.document.nodes; log = past.log; diary = d })) diary_is (lawful_next past.document past.log (nat_abs m) past.diary next comes.reached comes.first is_due_now comes.state.document.numbered near_now))
+      (subst (λ (d : List Entry). AllNear d) diary_is (near_next past.document past.log (nat_abs m) past.diary next comes.reached comes.first is_due_now near near_now))
+      (subst (λ (d : List Entry). NamesBelow (length past.log) d) diary_is (named_next past.document past.log (nat_abs m) past.diary next comes.reached comes.first is_due_now is_past))
 
   pub reached_after : Reaches (course_on past.document.nodes past.log (nat_abs m)) (record { moment = nat_abs m; heard = length past.log; diary = past.diary ++ at_moment m steps })
-  reached_after = subst (λ (d : List Entry). Reaches (course_on past.document.nodes past.log (nat_abs m)) (record { moment = nat_abs m; heard = length past.log; diary = d })) diary_is (reached_next past.document past.log (nat_abs m) past.diary next reached first is_due_now)
+  reached_after = subst (λ (d : List Entry). Reaches (course_on past.document.nodes past.log (nat_abs m)) (record { moment = nat_abs m; heard = length past.log; diary = d })) diary_is (reached_next past.document past.log (nat_abs m) past.diary next comes.reached comes.first is_due_now)
 
   pub stepped : next_step (course_on past.document.nodes past.log (nat_abs m)) (record { moment = nat_abs m; heard = length past.log; diary = past.diary }) ≡ Some (record { moment = nat_abs m; heard = length past.log; diary = past.diary ++ at_moment m steps })
-  stepped = subst (λ (d : List Entry). next_step (course_on past.document.nodes past.log (nat_abs m)) (record { moment = nat_abs m; heard = length past.log; diary = past.diary }) ≡ Some (record { moment = nat_abs m; heard = length past.log; diary = d })) diary_is (step_on past.document past.log (nat_abs m) past.diary next first is_due_now)
+  stepped = subst (λ (d : List Entry). next_step (course_on past.document.nodes past.log (nat_abs m)) (record { moment = nat_abs m; heard = length past.log; diary = past.diary }) ≡ Some (record { moment = nat_abs m; heard = length past.log; diary = d })) diary_is (step_on past.document past.log (nat_abs m) past.diary next comes.first is_due_now)
 
   pub grows_by : length past.diary < length (past.diary ++ at_moment m steps)
   grows_by =
@@ -323,7 +294,7 @@ module _ (past : MarkedHistory) (m z : ℤ) (steps : List Step) (fault : Option 
       grows = grows;
       few = few;
       sound = refl;
-      marked = same_mark past (at_moment m steps) mark past.marked lens;
+      marked = same_mark past after (with_entries past after (at_moment m steps) refl) lens mark;
       more = λ e there q. two e.serial (one e there q);
       views = λ e there free.
           leaves (record { nodes = past.document.nodes; log = past.log; diary = past.diary }) (at_moment m steps) (pos (nat_abs m)) e (ordered past.document numbered).first there

@@ -1,7 +1,6 @@
 -- Cells that have heard a log entry.
 use Rattle.std.proofs.Common.{◌≡◌, refl, sym, ◌∙◌, ap, subst, ℕ, suc, ◌+◌, ◌-◌, ◌≤◌, List, [], ◌∷◌, ◌++◌, Option, Some, None, ℤ, Bool, true, false, arith, length, take, drop, filter, length-append}
 use Rattle.std.proofs.Math.Seq.{drop-append_seam, take-append_seam}
-use Rattle.std.proofs.lemmas.List.{take-append-le}
 use Rattle.std.proofs.lemmas.List.Elements.{filter-append}
 use Rattle.std.specs.Prelude.{pos, nat_abs, ◌≤ℤ◌, ◌+ℤ◌, int_le, cond}
 use Rattle.std.proofs.lemmas.Int.{ints}
@@ -20,7 +19,7 @@ use Rattle.smil_model.specs.diary.Logs.{is_log, is_logged_by, may_happen}
 use Rattle.smil_model.specs.interval.Current.{current_interval, in_table}
 use Rattle.smil_model.specs.happening.Keys.{DueChange, coming, first_coming, is_due}
 use Rattle.smil_model.specs.happening.Resolution.{Progress, Reaches, history_at}
-use Rattle.smil_model.specs.shown.Orders.{Presentation, IsState, course_of}
+use Rattle.smil_model.specs.shown.Orders.{IsState, course_of}
 use Rattle.smil_laws.specs.Courses.{ReachedIsPast, ReachesFurther}
 use Rattle.smil_laws.specs.Cut.{NamesBelow}
 use Rattle.smil_laws.specs.Near.{AllNear, ResolvedIsNear}
@@ -31,10 +30,11 @@ use Rattle.smil_laws.proofs.ResolvedSteps.{resolved_lawful}
 use Rattle.smil_diary.specs.declared.fault.BookFault.{BookFault}
 use Rattle.smil_past.specs.Past as past_of
 use Rattle.smil_past.specs.Past.{MarkedHistory, IsPresent, MayHear, logged_entry, with_heard}
-use Rattle.smil_cells.specs.CellsState.{CellsState, IsFront, IsHeard, IsRefusing, NothingBefore, WhereTold, fresh, fresh_since, with_logged}
-use Rattle.smil_cells.specs.Standings.{IsSoundUnderMark, IsSound, WhereMarked, marked_by, standing_of}
+use Rattle.smil_cells.specs.CellsState.{CellsState, IsFront, IsHeard, NothingBefore, WhereTold, fresh, fresh_since, with_logged}
+use Rattle.smil_cells.specs.Standings.{IsSound, standing_of}
 use Rattle.smil_cells.proofs.Heard.{reached_heard}
 use Rattle.smil_cells.proofs.Heeded.{log_with, logged_one}
+use Rattle.smil_cells.proofs.Longer.{same_mark, with_entry}
 use Rattle.smil_cells.proofs.OnWay.{untouched, is_fresh}
 use Rattle.smil_cells.proofs.Grown.{AreShown, StayListed, StayBefore, AreFresh}
 use Rattle.smil_model.proofs.Orders.{le_self, le_from}
@@ -45,51 +45,6 @@ not_due x y q = grind (arith, ints)
 
 pub from_first : (n : ℕ) → int_le (pos 0) (pos n) ≡ true
 from_first n = grind (arith, ints)
-
--- ---- what the mark goes back to, and what is kept
-
-module _ (past : MarkedHistory) (entry : LogEntry) where
-  abbrev pub heard : MarkedHistory
-  heard = with_heard past entry
-
-  pub same_mark : (mark : Option ℤ) (lens : Option (ℕ × ℕ)) → ((l : ℕ × ℕ) → lens ≡ Some l → (l.0 ≤ length past.log) × (l.1 ≤ length past.diary)) → marked_by heard mark lens ≡ marked_by past mark lens
-  same_mark None lens in_it = refl
-  same_mark (Some m) None in_it = refl
-  same_mark (Some m) (Some l) in_it =
-      ap (λ (x : List LogEntry). to_mark m x (take l.1 heard.diary)) (take-append-le l.0 past.log (entry ∷ []) (in_it l refl).0)
-      ∙ ap (λ (x : List Entry). to_mark m (take l.0 past.log) x) (take-append-le l.1 past.diary (logged_entry (length past.log) entry.moment ∷ []) (in_it l refl).1)
-    where
-      to_mark : ℤ → List LogEntry → List Entry → Option (Presentation × List Entry)
-      to_mark m log diary = Some (record { document = past.document; log = log; now = nat_abs m }, diary)
-
-  longer : (n : ℕ) → n ≤ length past.log → n ≤ length (past.log ++ entry ∷ [])
-  longer n l = let e = length-append past.log (entry ∷ []) in omega (arith, e, l)
-
-  longer_diary : (n : ℕ) → n ≤ length past.diary → n ≤ length (past.diary ++ logged_entry (length past.log) entry.moment ∷ [])
-  longer_diary n l = let e = length-append past.diary (logged_entry (length past.log) entry.moment ∷ []) in omega (arith, e, l)
-
-  module _ (is_current is_marked is_current' is_marked' : History → ℤ → Type 0) (has_mark has_mark' : Bool) (m : ℤ) (fault fault' : Option BookFault) (mark : Option ℤ) (touched touched' : List ℕ) where
-    pub kept_heard : ((h : History) (now : ℤ) → is_marked h now → is_marked' h now) → has_mark' ≡ has_mark → IsPresent heard m → is_log heard.log ≡ true
-        → (fault' ≡ None → IsSound is_current' (standing_of heard m fault' mark touched'))
-        → IsSoundUnderMark is_current is_marked has_mark past m fault mark touched
-        → IsSoundUnderMark is_current' is_marked' has_mark' heard m fault' mark touched'
-    kept_heard given has present log sound kept = record {
-      present = present;
-      log = log;
-      sound = sound;
-      marked = subst (λ (x : Option (Presentation × List Entry)). WhereMarked is_marked' touched' x) (sym (same_mark mark past.marked kept.lens)) (by_mark (marked_by past mark past.marked) kept.marked);
-      table_mark = has ∙ kept.table_mark;
-      past_mark = kept.past_mark;
-      mark_from = kept.mark_from;
-      lens = λ l e. (longer l.0 (kept.lens l e).0, longer_diary l.1 (kept.lens l e).1);
-    }
-      where
-        by_mark : (x : Option (Presentation × List Entry)) → WhereMarked is_marked touched x → WhereMarked is_marked' touched' x
-        by_mark None k = k
-        by_mark (Some x) k = record { state = k.state; reached = k.reached; current = given (history_of_mark x) (pos x.0.now) k.current }
-          where
-            history_of_mark : Presentation × List Entry → History
-            history_of_mark x = record { nodes = x.0.document.nodes; log = x.0.log; diary = x.1 }
 
 -- ---- the course
 
@@ -216,7 +171,7 @@ module _ (past : MarkedHistory) (m : ℤ) (entry : LogEntry) (fault : Option Boo
             presentation_is = refl;
             diary_is = refl;
             sound = refl;
-            marked = same_mark past entry mark past.marked lens;
+            marked = same_mark past later (with_entry past later entry refl) lens mark;
             more = λ e there q. two e.serial (one e there q);
             views = λ e there free.
                 leaves h' (line ∷ []) (pos now) e (ordered past.document state.document.numbered).first there
@@ -247,33 +202,3 @@ module _ (past : MarkedHistory) (m : ℤ) (entry : LogEntry) (fault : Option Boo
           subst (λ (x : MarkedHistory). AreFresh z start flag n x → WhereTold flag (fresh_since was (standing_of x m None mark others) ≤ n)) (sym is)
           (λ q. subst (λ (v : ℤ). WhereTold flag (fresh past.document.nodes (current_interval h (pos now)) (current_interval (past_of.history_of later) v) ≤ n)) at_now
           (subst (λ (k : ℕ). WhereTold flag (k ≤ n)) (fresh_same (current_interval (past_of.front later start) z) (current_interval h (pos now)) (current_interval (past_of.history_of later) z) same_before (elements past.document.nodes)) q))
-
--- a refusal by which nothing was heard
-pub refusing_still : (past new : MarkedHistory) (m : ℤ) (fault : Option BookFault) (f : BookFault) (mark : Option ℤ) (touched touched' : List ℕ) → new ≡ past
-    → IsRefusing (standing_of past m fault mark touched) (standing_of new m (Some f) mark touched') f
-refusing_still past new m fault f mark touched touched' is =
-    subst (λ (x : MarkedHistory). IsRefusing (standing_of past m fault mark touched) (standing_of x m (Some f) mark touched') f) (sym is)
-    (record { fault_is = refl; document = refl; marked = refl })
-
-pub refusing_heard : (past new : MarkedHistory) (entry : LogEntry) (m : ℤ) (fault : Option BookFault) (f : BookFault) (mark : Option ℤ) (touched touched' : List ℕ) → new ≡ with_heard past entry
-    → ((l : ℕ × ℕ) → past.marked ≡ Some l → (l.0 ≤ length past.log) × (l.1 ≤ length past.diary))
-    → IsRefusing (standing_of past m fault mark touched) (standing_of new m (Some f) mark touched') f
-refusing_heard past new entry m fault f mark touched touched' made in_it =
-    subst (λ (x : MarkedHistory). IsRefusing (standing_of past m fault mark touched) (standing_of x m (Some f) mark touched') f) (sym made)
-    (record { fault_is = refl; document = refl; marked = same_mark past entry mark past.marked in_it })
-
--- and the cells are kept
-pub kept_still : (is_current is_marked : History → ℤ → Type 0) (has_mark : Bool) (past new : MarkedHistory) (moment : ℤ) (fault : Option BookFault) (f : BookFault) (mark : Option ℤ) (touched : List ℕ) → new ≡ past
-    → IsSoundUnderMark is_current is_marked has_mark past moment fault mark touched → IsSoundUnderMark is_current is_marked has_mark new moment (Some f) mark touched
-kept_still is_current is_marked has_mark past new moment fault f mark touched is kept =
-    subst (λ (x : MarkedHistory). IsSoundUnderMark is_current is_marked has_mark x moment (Some f) mark touched) (sym is)
-    (record {
-      present = kept.present;
-      log = kept.log;
-      sound = λ never. cc;
-      marked = kept.marked;
-      table_mark = kept.table_mark;
-      past_mark = kept.past_mark;
-      mark_from = kept.mark_from;
-      lens = kept.lens;
-    })

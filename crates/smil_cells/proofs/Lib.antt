@@ -2,6 +2,7 @@ pub mod Passing
 pub mod Undoing
 pub mod Refusals
 pub mod OnWay
+pub mod Longer
 pub mod Grown
 pub mod Heard
 pub mod Heeded

@@ -16,7 +16,7 @@ use Rattle.smil_laws.proofs.Lineages.{swap_eqb}
 use Rattle.smil_laws.proofs.Members.{differ_each}
 use Rattle.smil_tree.proofs.Families.{node_of_place as node_of}
 use Rattle.smil_past.proofs.Placing.{node_there, none_there}
-use Rattle.smil_cells.specs.Shown.{ArePlaces, is_listed, listed_of}
+use Rattle.smil_cells.specs.Shown.{ArePlaces, is_touched_node, listed_of}
 use Rattle.std.proofs.lemmas.Bool.{or_left}
 use Rattle.smil_laws.proofs.Closures.{has_filter}
 use Rattle.smil_laws.proofs.Lists.{each_at}
@@ -103,7 +103,7 @@ module _ (nodes : List Node) (touched : List ℕ) where
   listed_append : (xs ys : List Node) → listed_of (xs ++ ys) touched ≡ listed_of xs touched ++ listed_of ys touched
   listed_append xs ys = ap (filter (has touched)) (elements_append xs ys) ∙ filter_append (has touched) (serials (elements xs)) (serials (elements ys))
 
-  none_listed : (o : Option Node) → is_listed touched o ≡ false → listed_of (of_place o) touched ≡ []
+  none_listed : (o : Option Node) → is_touched_node touched o ≡ false → listed_of (of_place o) touched ≡ []
   unfolding of_place
   none_listed None q = refl
   none_listed (Some n) q = by_element (is_element n)
@@ -119,7 +119,7 @@ module _ (nodes : List Node) (touched : List ℕ) where
       by_element false = refl
       by_element true = ap (λ (c : Bool). cond c (n.serial ∷ []) []) q
 
-  between : (a k : ℕ) → ((i : ℕ) → a ≤ i → i < a + k → is_listed touched (slice_get nodes i) ≡ false) → listed_of (take (a + k) nodes) touched ≡ listed_of (take a nodes) touched
+  between : (a k : ℕ) → ((i : ℕ) → a ≤ i → i < a + k → is_touched_node touched (slice_get nodes i) ≡ false) → listed_of (take (a + k) nodes) touched ≡ listed_of (take a nodes) touched
   between a zero none = let same : a + 0 ≡ a = omega arith in ap (λ (n : ℕ). listed_of (take n nodes) touched) same
   between a (suc k) none =
       let same : a + suc k ≡ suc (a + k) = omega arith in
@@ -130,14 +130,14 @@ module _ (nodes : List Node) (touched : List ℕ) where
       ∙ (append-nil (listed_of (take (a + k) nodes) touched)
       ∙ between a k (λ i l g. none i l (omega (arith, g)))))))
 
-  up_to : (a b : ℕ) → a ≤ b → ((i : ℕ) → a ≤ i → i < b → is_listed touched (slice_get nodes i) ≡ false) → listed_of (take b nodes) touched ≡ listed_of (take a nodes) touched
+  up_to : (a b : ℕ) → a ≤ b → ((i : ℕ) → a ≤ i → i < b → is_touched_node touched (slice_get nodes i) ≡ false) → listed_of (take b nodes) touched ≡ listed_of (take a nodes) touched
   up_to a b le none =
       let whole : a + (b - a) ≡ b = omega (arith, le) in
       ap (λ (n : ℕ). listed_of (take n nodes) touched) (sym whole) ∙ between a (b - a) (λ i l g. none i l (omega (arith, g, whole)))
 
   -- from a place on, those that are left are the listed ones
   abbrev pub AreLeft : ℕ → List ℕ → Type 0
-  AreLeft next rest = (i : ℕ) → next ≤ i → has rest i ≡ is_listed touched (slice_get nodes i)
+  AreLeft next rest = (i : ℕ) → next ≤ i → has rest i ≡ is_touched_node touched (slice_get nodes i)
 
   abbrev pub AreRising : List ℕ → Type 0
   AreRising [] = Unit {0}
@@ -165,7 +165,7 @@ module _ (nodes : List Node) (touched : List ℕ) where
   skipped next p ps l left i g = sym (ap (λ (b : Bool). b || has ps i) (other p i (omega (arith, l, g)))) ∙ left i g
 
   module _ (next p : ℕ) (ps : List ℕ) (from : next ≤ p) (left : AreLeft next (p ∷ ps)) (rising : AreRising (p ∷ ps)) where
-    is_at : is_listed touched (slice_get nodes p) ≡ true
+    is_at : is_touched_node touched (slice_get nodes p) ≡ true
     is_at = sym (left p from) ∙ or_left (p == p) (has ps p) (eq-eqb p p refl)
 
     pub left_after : AreLeft (p + 1) ps
@@ -177,7 +177,7 @@ module _ (nodes : List Node) (touched : List ℕ) where
     pub node_of_place : (n : Node) × (slice_get nodes p ≡ Some n) × (has touched n.serial ≡ true)
     node_of_place = by_node (slice_get nodes p) refl is_at
       where
-        by_node : (o : Option Node) → slice_get nodes p ≡ o → is_listed touched o ≡ true → (n : Node) × (slice_get nodes p ≡ Some n) × (has touched n.serial ≡ true)
+        by_node : (o : Option Node) → slice_get nodes p ≡ o → is_touched_node touched o ≡ true → (n : Node) × (slice_get nodes p ≡ Some n) × (has touched n.serial ≡ true)
         by_node None e q = cc
         by_node (Some n) e q = (n, e, q)
 
@@ -195,7 +195,7 @@ module _ (nodes : List Node) (touched : List ℕ) where
         one_on n = omega arith
 
         marked : (n : Node) → slice_get nodes p ≡ Some n → has touched n.serial ≡ true
-        marked n at = sym (ap (is_listed touched) at) ∙ is_at
+        marked n at = sym (ap (is_touched_node touched) at) ∙ is_at
 
   pub none_made : (made : List ℕ) → made ≡ [] → made ≡ listed_of (take 0 nodes) touched
   none_made made e = e ∙ ap (λ (l : List Node). listed_of l touched) (sym (none_first nodes))
@@ -233,7 +233,7 @@ rising nodes touched (x ∷ xs) up = (
 -- ---- the place of a serial
 
 -- one more serial
-pub one_more_listed : (touched : List ℕ) (s : ℕ) (o : Option Node) → is_listed (touched ++ s ∷ []) o ≡ (is_listed touched o || is_listed (s ∷ []) o)
+pub one_more_listed : (touched : List ℕ) (s : ℕ) (o : Option Node) → is_touched_node (touched ++ s ∷ []) o ≡ (is_touched_node touched o || is_touched_node (s ∷ []) o)
 one_more_listed touched s None = refl
 one_more_listed touched s (Some n) = list_any-append (λ (y : ℕ). y == n.serial) touched (s ∷ [])
 
@@ -258,10 +258,10 @@ same_place (x ∷ xs) (suc i) (suc p) n m d e f same = ap suc (same_place xs i p
 
 module _ (nodes : List Node) (distinct : IsDistinct nodes) (s : ℕ) where
   -- it is at the place where it was found, and nowhere else
-  pub place_is : (p i : ℕ) → Some p ≡ position (λ (n : Node). n.serial == s) nodes → has (p ∷ []) i ≡ is_listed (s ∷ []) (slice_get nodes i)
+  pub place_is : (p i : ℕ) → Some p ≡ position (λ (n : Node). n.serial == s) nodes → has (p ∷ []) i ≡ is_touched_node (s ∷ []) (slice_get nodes i)
   place_is p i found = by_node (node_there nodes p s found).node (node_there nodes p s found).at (node_there nodes p s found).serial (slice_get nodes i) refl (p == i) refl
     where
-      by_node : (m : Node) → slice_get nodes p ≡ Some m → m.serial ≡ s → (o : Option Node) → slice_get nodes i ≡ o → (b : Bool) → p == i ≡ b → b || false ≡ is_listed (s ∷ []) o
+      by_node : (m : Node) → slice_get nodes p ≡ Some m → m.serial ≡ s → (o : Option Node) → slice_get nodes i ≡ o → (b : Bool) → p == i ≡ b → b || false ≡ is_touched_node (s ∷ []) o
       by_node m at serial None e true f = let never : Some m ≡ None = sym at ∙ (ap (slice_get nodes) (eqb-true p i f) ∙ e) in cc
       by_node m at serial None e false f = refl
       by_node m at serial (Some n) e true f =
@@ -277,23 +277,23 @@ module _ (nodes : List Node) (distinct : IsDistinct nodes) (s : ℕ) where
               cc
           by_test false g = refl
 
-  pub place_none : (i : ℕ) → None ≡ position (λ (n : Node). n.serial == s) nodes → false ≡ is_listed (s ∷ []) (slice_get nodes i)
+  pub place_none : (i : ℕ) → None ≡ position (λ (n : Node). n.serial == s) nodes → false ≡ is_touched_node (s ∷ []) (slice_get nodes i)
   place_none i found = by_all nodes i (none_there nodes s found)
     where
-      by_all : (ns : List Node) (i : ℕ) → AllByRecursion (λ (n : Node). n.serial == s ≡ false) ns → false ≡ is_listed (s ∷ []) (slice_get ns i)
+      by_all : (ns : List Node) (i : ℕ) → AllByRecursion (λ (n : Node). n.serial == s ≡ false) ns → false ≡ is_touched_node (s ∷ []) (slice_get ns i)
       by_all [] i each = refl
       by_all (n ∷ ns) zero each = sym (or_false (s == n.serial) ∙ swap_eqb n.serial s each.0)
       by_all (n ∷ ns) (suc i) each = by_all ns i each.1
 
 -- the places are as told with one serial more
-pub places_more : (nodes : List Node) (touched places places' : List ℕ) (s : ℕ) → ArePlaces nodes touched places → ((i : ℕ) → has places' i ≡ (has places i || is_listed (s ∷ []) (slice_get nodes i))) → ArePlaces nodes (touched ++ s ∷ []) places'
+pub places_more : (nodes : List Node) (touched places places' : List ℕ) (s : ℕ) → ArePlaces nodes touched places → ((i : ℕ) → has places' i ≡ (has places i || is_touched_node (s ∷ []) (slice_get nodes i))) → ArePlaces nodes (touched ++ s ∷ []) places'
 places_more nodes touched places places' s are more i =
-    more i ∙ (ap (λ (b : Bool). b || is_listed (s ∷ []) (slice_get nodes i)) (are i) ∙ sym (one_more_listed touched s (slice_get nodes i)))
+    more i ∙ (ap (λ (b : Bool). b || is_touched_node (s ∷ []) (slice_get nodes i)) (are i) ∙ sym (one_more_listed touched s (slice_get nodes i)))
 
 pub no_places : (nodes : List Node) (places : List ℕ) → places ≡ [] → ArePlaces nodes [] places
 no_places nodes places e i = ap (λ (l : List ℕ). has l i) e ∙ none (slice_get nodes i)
   where
-    none : (o : Option Node) → false ≡ is_listed [] o
+    none : (o : Option Node) → false ≡ is_touched_node [] o
     none None = refl
     none (Some n) = refl
 
@@ -328,7 +328,7 @@ element_is nodes place s found n kind b at of_kind is =
 pub fits_next : (nodes : List Node) (p : ℕ) (n : Node) → slice_get nodes p ≡ Some n → length nodes ≤ NODES → Fits w64 (p + 1)
 fits_next nodes p n at few = let l = there_below nodes p n at in record { fits = omega (arith, l, few) }
 
-pub dropped : (xs : List ℕ) (i : ℕ) → i < length xs → drop i xs ≡ get_or xs i 0 ∷ drop (i + 1) xs
+dropped : (xs : List ℕ) (i : ℕ) → i < length xs → drop i xs ≡ get_or xs i 0 ∷ drop (i + 1) xs
 dropped xs i l = by_list xs i l ∙ ap (λ (n : ℕ). get_or xs i 0 ∷ drop n xs) (next i)
   where
     next : (n : ℕ) → suc n ≡ n + 1
@@ -339,6 +339,12 @@ dropped xs i l = by_list xs i l ∙ ap (λ (n : ℕ). get_or xs i 0 ∷ drop n x
     by_list (x ∷ []) zero l = refl
     by_list (x ∷ (y ∷ ys)) zero l = refl
     by_list (x ∷ xs) (suc i) l = by_list xs i (omega (arith, l))
+
+-- the next of the places that are left, and those behind it
+pub ahead : (nodes : List Node) (touched xs : List ℕ) (i next : ℕ) → i < length xs → AreLeft nodes touched next (drop i xs) → AreRising nodes touched (drop i xs) → AreLeft nodes touched next (get_or xs i 0 ∷ drop (i + 1) xs) × AreRising nodes touched (get_or xs i 0 ∷ drop (i + 1) xs)
+ahead nodes touched xs i next l left rises =
+    let here = dropped xs i l in
+    (subst (λ (ys : List ℕ). AreLeft nodes touched next ys) here left, subst (λ (ys : List ℕ). AreRising nodes touched ys) here rises)
 
 pub all_gone : (xs : List ℕ) (i : ℕ) → length xs ≤ i → drop i xs ≡ []
 all_gone [] zero l = refl

@@ -1,6 +1,6 @@
 -- The elements in whose views a step shows, among the serials that are appended.
-use Rattle.std.proofs.Common.{◌≡◌, refl, sym, ◌∙◌, ap, subst, ℕ, zero, suc, ◌+◌, ◌-◌, ◌<◌, ◌≤◌, List, [], ◌∷◌, ◌++◌, Option, Some, None, Bool, true, false, inl, inr, arith, length, take, drop, filter, append_assoc, append-nil, reverse, eqb-true}
-use Rattle.std.specs.Prelude.{◌⊎◌, ◌&&◌, ◌||◌, ◌==◌, cond, find, is_some, slice_get, slice_range}
+use Rattle.std.proofs.Common.{◌≡◌, refl, sym, ◌∙◌, ap, subst, ℕ, zero, suc, ◌+◌, ◌-◌, ◌≤◌, List, [], ◌∷◌, ◌++◌, Option, Some, None, Bool, true, false, inl, inr, arith, length, take, drop, filter, reverse, eqb-true}
+use Rattle.std.specs.Prelude.{◌⊎◌, ◌&&◌, ◌||◌, ◌==◌, cond, find, is_some, slice_get}
 use Rattle.std.specs.List.{list_any, position}
 use Rattle.std.proofs.lemmas.Option.{same_Some}
 use Rattle.std.proofs.lemmas.List.Folds.{list_any-append}
@@ -15,13 +15,9 @@ use Rattle.smil_model.specs.document.Closure.{has}
 use Rattle.smil_model.specs.document.Valid.{kind_of}
 use Rattle.smil_model.specs.reach.Reach.{shares_parent, subject_of}
 use Rattle.smil_laws.specs.Seen.{any_shows, shows_from, shows_in, starts}
-use Rattle.smil_laws.proofs.Ranks.{serials_append}
-use Rattle.smil_model.specs.document.Edits.{child_place, place_in}
 use Rattle.smil_past.proofs.Listing.{known_place}
 use Rattle.smil_element.proofs.Above.{IsUp}
-use Rattle.smil_element.proofs.Cutting.{part_none, span_within}
 use Rattle.smil_cells.specs.Shown.{displaced_in, sequenced}
-use Rattle.smil_tree.proofs.KinTables.{slice_range-more}
 use Rattle.std.proofs.lemmas.Bool.{or_cases, or_left, or_parts, or_right}
 use Rattle.smil_instances.proofs.Targets.{known_node}
 
@@ -247,37 +243,6 @@ no_place nodes x q = by_test (is_some (node_at nodes x)) refl
     by_test : (b : Bool) → is_some (node_at nodes x) ≡ b → b ≡ false
     by_test true e = let never : true ≡ false = sym (known_place nodes x e) ∙ q in cc
     by_test false e = refl
-
--- ---- the nodes of a span
-
-get_there : (ns : List Node) (i : ℕ) → i < length ns → is_some (serial_of (slice_get ns i)) ≡ true
-get_there [] i l = absurd (omega (arith, l))
-get_there (n ∷ ns) zero l = refl
-get_there (n ∷ ns) (suc i) l = get_there ns i (omega (arith, l))
-
-module _ (nodes : List Node) (who start past : ℕ) (first : start ≡ place_in nodes who) (last : past ≡ child_place nodes who None) where
-  pub in_order : start ≤ past
-  in_order = omega (arith, first, last)
-
-  pub at_node : (at : ℕ) → at < past → slice_range nodes start past ≡ filter (λ (n : Node). is_within nodes who n.serial) nodes → is_some (serial_of (slice_get nodes at)) ≡ true
-  at_node at l within = let short = span_within nodes who start past first last within in get_there nodes at (omega (arith, l, short))
-
-pub none_within : (nodes : List Node) (start : ℕ) (touched : List ℕ) → touched ≡ touched ++ serials (slice_range nodes start start)
-none_within nodes start touched = sym (ap (λ (l : List Node). touched ++ serials l) (part_none nodes start start (omega arith)) ∙ append-nil touched)
-
-pub more_within : (nodes : List Node) (start at s : ℕ) (before now after : List ℕ) → start ≤ at → serial_of (slice_get nodes at) ≡ Some s → now ≡ before ++ serials (slice_range nodes start at) → after ≡ now ++ s ∷ []
-    → after ≡ before ++ serials (slice_range nodes start (at + 1))
-more_within nodes start at s before now after le found made pushed = by_node (slice_get nodes at) refl found
-  where
-    by_node : (o : Option Node) → slice_get nodes at ≡ o → serial_of o ≡ Some s → after ≡ before ++ serials (slice_range nodes start (at + 1))
-    by_node None e f = cc
-    by_node (Some n) e f =
-        pushed
-        ∙ (ap (λ (l : List ℕ). l ++ s ∷ []) made
-        ∙ (append_assoc before (serials (slice_range nodes start at)) (s ∷ [])
-        ∙ ap (λ (l : List ℕ). before ++ l)
-        (ap (λ (k : ℕ). serials (slice_range nodes start at) ++ k ∷ []) (sym (same_Some n.serial s f))
-        ∙ (sym (serials_append (slice_range nodes start at) n) ∙ ap (λ (l : List Node). serials l) (sym (slice_range-more nodes start at n le e))))))
 
 -- of the elements the same are listed
 abbrev pub SameTouched : Document → List ℕ → List ℕ → Type 0

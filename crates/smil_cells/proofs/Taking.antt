@@ -4,7 +4,7 @@ use Rattle.std.specs.Prelude.{◌==◌, cond, not, nat_eq, nat_lt, slice_get, is
 use Rattle.std.specs.List.{position, position_or_len}
 use Rattle.std.proofs.lemmas.Bool.{or_left, or_parts, eq-eqb, eqb-true, eqb-false, lt-ltb}
 use Rattle.std.proofs.lemmas.List.Folds.{list_any-append}
-use Rattle.std.proofs.lemmas.Option.{slice_get_within}
+use Rattle.std.proofs.lemmas.Option.{same_Some, slice_get_within}
 use Rattle.smil_model.specs.declared.interval.Interval.{Interval}
 use Rattle.smil_model.specs.declared.document.Node.{Node}
 use Rattle.smil_model.specs.document.Document.{elements, is_element, node_at, serials}
@@ -50,32 +50,36 @@ node_place who (n ∷ ns) e q = by_test (n.serial == who) refl q (node_place who
     by_test true t r later = let one : n ≡ e = cc in (0, r, sym (ap (λ (m : Node). m.serial) one) ∙ eqb-true n.serial who t)
     by_test false t r later = let found = later r in (suc found.0, found.1, found.2)
 
--- an element of a document whose elements have these rows, and where its row stands
-pub record IsFound (nodes : List Node) (rows : List CurrentRow) (who : ℕ) : Type 0 where
+-- an element of a document whose elements have these rows, of which its own stands at this place
+pub record IsFound (nodes : List Node) (rows : List CurrentRow) (who place : ℕ) : Type 0 where
   pub element : Node
-  pub place : ℕ
   pub node : node_at (elements nodes) who ≡ Some element
   pub here : slice_get (elements nodes) place ≡ Some element
   pub is_who : element.serial ≡ who
   pub first : IsFirst who rows place
-  pub position_is : position (λ (r : CurrentRow). r.serial == who) rows ≡ Some place
   pub within : place < length (elements nodes)
 
-pub found : (nodes : List Node) (rows : List CurrentRow) (who : ℕ) → IsDistinct nodes → serials_in rows ≡ serials (elements nodes) → is_some (node_at (elements nodes) who) ≡ true → IsFound nodes rows who
-found nodes rows who distinct same has =
-    let some = some_of (node_at (elements nodes) who) has in
-    let at = node_place who (elements nodes) some.0 some.1 in
-    let first : IsFirst who rows at.0 = subst (λ s. IsFirst s rows at.0) at.2 (first_at (elements nodes) rows at.0 some.0 (elements_differ nodes distinct) same at.1) in
-    record {
-      element = some.0;
-      place = at.0;
-      node = some.1;
-      here = at.1;
-      is_who = at.2;
-      first = first;
-      position_is = placed who rows at.0 first;
-      within = slice_get_within (elements nodes) at.0 some.0 at.1;
-    }
+module _ (nodes : List Node) (rows : List CurrentRow) (who : ℕ) (distinct : IsDistinct nodes) (same : serials_in rows ≡ serials (elements nodes)) (has : is_some (node_at (elements nodes) who) ≡ true) where
+  found_first : (place : ℕ) × IsFound nodes rows who place
+  found_first =
+      let some = some_of (node_at (elements nodes) who) has in
+      let at = node_place who (elements nodes) some.0 some.1 in (
+        at.0,
+        record {
+          element = some.0;
+          node = some.1;
+          here = at.1;
+          is_who = at.2;
+          first = subst (λ s. IsFirst s rows at.0) at.2 (first_at (elements nodes) rows at.0 some.0 (elements_differ nodes distinct) same at.1);
+          within = slice_get_within (elements nodes) at.0 some.0 at.1;
+        },
+      )
+
+  pub has_row : is_some (position (λ (r : CurrentRow). r.serial == who) rows) ≡ true
+  has_row = ap is_some (placed who rows found_first.0 (found_first.1).first)
+
+  pub found : (place : ℕ) → Some place ≡ position (λ (r : CurrentRow). r.serial == who) rows → IsFound nodes rows who place
+  found place is = subst (IsFound nodes rows who) (sym (same_Some place found_first.0 (is ∙ placed who rows found_first.0 (found_first.1).first))) found_first.1
 
 pub elements_few : (nodes : List Node) → length (elements nodes) ≤ length nodes
 elements_few [] = omega arith
@@ -94,20 +98,27 @@ evaluated_near h intervals now e made near is = where_some made.interval (λ i q
     where_some (Some i) f = f i refl
 
 -- an element is taken where its row is that by the rows as they were
-pub taken_by : (h : History) (now : ℤ) (who place : ℕ) (before after : List CurrentRow) (row : CurrentRow) → (at : IsFound h.nodes before who) → place ≡ at.place → IsRowOf h (interval_in before) now place at.element row → after ≡ set before place row → IsRowEvaluated h now who before after
-taken_by h now who place before after row at is made after_is = record {
+pub taken_by : (h : History) (now : ℤ) (who place : ℕ) (before after : List CurrentRow) (row : CurrentRow) → (at : IsFound h.nodes before who place) → IsRowOf h (interval_in before) now place at.element row → after ≡ set before place row → IsRowEvaluated h now who before after
+taken_by h now who place before after row at made after_is = record {
   place = place;
   element = at.element;
   row = row;
-  here = ap (slice_get (elements h.nodes)) is ∙ at.here;
+  here = at.here;
   is_who = at.is_who;
   made = made;
   after_is = after_is;
 }
 
 -- its row is put in the place of its own
-pub own_first : (nodes : List Node) (rows : List CurrentRow) (who place : ℕ) (row : CurrentRow) → (at : IsFound nodes rows who) → place ≡ at.place → row.serial ≡ who → IsFirst row.serial rows place
-own_first nodes rows who place row at is own = subst (λ s. IsFirst s rows place) (sym own) (subst (IsFirst who rows) (sym is) at.first)
+pub own_first : (nodes : List Node) (rows : List CurrentRow) (who place : ℕ) (row : CurrentRow) → (at : IsFound nodes rows who place) → row.serial ≡ at.element.serial → IsFirst row.serial rows place
+own_first nodes rows who place row at own = subst (λ s. IsFirst s rows place) (sym (own ∙ at.is_who)) at.first
+
+-- and its interval is then that of the row
+pub own_interval : (nodes : List Node) (rows : List CurrentRow) (who place : ℕ) (row : CurrentRow) → (at : IsFound nodes rows who place) → row.serial ≡ at.element.serial → (after : List CurrentRow) → after ≡ set rows place row → interval_in after who ≡ row.interval
+own_interval nodes rows who place row at own after is =
+    ap (λ xs. interval_in xs who) is
+    ∙ ap (interval_in (set rows place row)) (sym (own ∙ at.is_who))
+    ∙ set_own row rows place (own_first nodes rows who place row at own)
 
 -- ---- what is told of an interval that changes
 

@@ -23,8 +23,9 @@ use Rattle.smil_laws.specs.Same.{view_at}
 use Rattle.smil_laws.specs.Same.{IsSame}
 use Rattle.smil_past.specs.Past.{MarkedHistory, MayFollow, logged_entry, with_diary}
 
--- a presentation under way: its document, log and moment, the diary so far, the refusal that is answered from now on, what a
--- mark goes back to, and the elements whose views the last call may have changed
+-- a presentation under way: its document, log and moment, the diary so far,
+-- the refusal that is answered from now on, what a mark goes back to,
+-- and the elements whose views the last call may have changed
 pub record CellsState : Type 0 where
   pub presentation : Presentation
   pub diary : List Entry
@@ -33,12 +34,14 @@ pub record CellsState : Type 0 where
   pub touched : List ℕ
 
 abbrev pub history_of : CellsState → History
-history_of s = record { nodes = s.presentation.document.nodes; log = s.presentation.log; diary = s.diary }
+history_of s =
+    record { nodes = s.presentation.document.nodes; log = s.presentation.log; diary = s.diary }
 
 abbrev pub interval_at : CellsState → ℕ → Option Interval
 interval_at s serial = current_interval (history_of s) (pos s.presentation.now) serial
 
--- the diary is settled: it is that of the document and the log, resolved from scratch up to the moment
+-- the diary is settled: it is that of the document and the log,
+-- resolved from scratch up to the moment
 abbrev pub IsSettled : CellsState → Type 0
 IsSettled s = diary_of (course_of s.presentation) ≡ Some s.diary
 
@@ -48,7 +51,8 @@ with_logged p entry = record { document = p.document; log = p.log ++ entry ∷ [
 -- ---- how far a resolution has come
 
 abbrev pub progress_of : CellsState → Progress
-progress_of s = record { moment = s.presentation.now; heard = length s.presentation.log; diary = s.diary }
+progress_of s =
+    record { moment = s.presentation.now; heard = length s.presentation.log; diary = s.diary }
 
 abbrev pub IsReached : CellsState → Type 0
 IsReached s = Reaches (course_of s.presentation) (progress_of s)
@@ -57,8 +61,8 @@ IsReached s = Reaches (course_of s.presentation) (progress_of s)
 abbrev pub cut_log : List LogEntry → List Entry → List LogEntry
 cut_log log diary = take (logged diary) log
 
--- the first entries of the diary end between two groups, and are what the resolution of a document comes to with the part
--- of the log that they name
+-- the first entries of the diary end between two groups,
+-- and are what the resolution of a document comes to with the part of the log that they name
 pub record MayRebuild (s : CellsState) (document : Document) (len : ℕ) : Type 0 where
   pub valid : IsValid document
   pub within : len ≤ length s.diary
@@ -66,10 +70,12 @@ pub record MayRebuild (s : CellsState) (document : Document) (len : ℕ) : Type 
   pub at : Progress
   pub diary_is : at.diary ≡ take len s.diary
   pub moment_is : pos at.moment ≡ last_moment at.diary
-  pub reached : Reaches (course_on document.nodes (cut_log s.presentation.log at.diary) at.moment) at
+  pub reached :
+      Reaches (course_on document.nodes (cut_log s.presentation.log at.diary) at.moment) at
 
 -- the presentation rebuilt from the first entries
-pub record IsRebuilt (old : CellsState) (document : Document) (len : ℕ) (new : CellsState) : Type 0 where
+pub record IsRebuilt
+    (old : CellsState) (document : Document) (len : ℕ) (new : CellsState) : Type 0 where
   pub document_is : new.presentation.document ≡ document
   pub diary_is : new.diary ≡ take len old.diary
   pub log_is : new.presentation.log ≡ cut_log old.presentation.log new.diary
@@ -81,7 +87,8 @@ pub record IsRebuilt (old : CellsState) (document : Document) (len : ℕ) (new :
 
 abbrev pub is_same_interval : Option Interval → Option Interval → Bool
 is_same_interval None None = true
-is_same_interval (Some i) (Some j) = int_le i.begin j.begin && int_le j.begin i.begin && time_eq i.«end» j.«end»
+is_same_interval (Some i) (Some j) =
+    int_le i.begin j.begin && int_le j.begin i.begin && time_eq i.«end» j.«end»
 is_same_interval _ _ = false
 
 -- how many elements have an interval by the second that they had not by the first
@@ -95,21 +102,26 @@ fresh nodes before after =
 -- the view of each element that is not touched stays
 abbrev pub ViewsStay : CellsState → CellsState → Type 0
 ViewsStay old new =
-    (e : Node) → node_at (elements old.presentation.document.nodes) e.serial ≡ Some e → has new.touched e.serial ≡ false
-    → view_at (history_of new) (pos new.presentation.now) e ≡ view_at (history_of old) (pos old.presentation.now) e
+    (e : Node) → node_at (elements old.presentation.document.nodes) e.serial ≡ Some e
+    → has new.touched e.serial ≡ false
+    → view_at (history_of new) (pos new.presentation.now) e
+    ≡ view_at (history_of old) (pos old.presentation.now) e
 
 -- each element that is touched stays so
 abbrev pub StayTouched : CellsState → CellsState → Type 0
 StayTouched old new =
-    (e : Node) → node_at (elements old.presentation.document.nodes) e.serial ≡ Some e → has old.touched e.serial ≡ true
+    (e : Node) → node_at (elements old.presentation.document.nodes) e.serial ≡ Some e
+    → has old.touched e.serial ≡ true
     → has new.touched e.serial ≡ true
 
--- it goes on from the diary that was there, and the views of elements that are not touched are the same
+-- it goes on from the diary that was there, and the views of elements that are not touched are the
+-- same
 pub record GoesOn (old new : CellsState) : Type 0 where
   pub diary : (more : List Entry) × (new.diary ≡ old.diary ++ more)
   pub sound : new.fault ≡ None
   pub marked : new.marked ≡ old.marked
-  pub touched : new.touched ≡ filter (has new.touched) (serials (elements old.presentation.document.nodes))
+  pub touched :
+      new.touched ≡ filter (has new.touched) (serials (elements old.presentation.document.nodes))
   pub views : ViewsStay old new
 
 -- a refusal is answered from now on; the document and what the mark goes back to stay
@@ -133,14 +145,16 @@ WhereTold false fact = Unit {0}
 
 -- the sum of the reaches of the entries that were appended
 abbrev pub reached_since : CellsState → CellsState → ℕ
-reached_since old new = reaches old.presentation.document.nodes new.presentation.log (drop (length old.diary) new.diary)
+reached_since old new =
+    reaches old.presentation.document.nodes new.presentation.log (drop (length old.diary) new.diary)
 
 abbrev pub fresh_since : CellsState → CellsState → ℕ
 fresh_since old new = fresh old.presentation.document.nodes (interval_at old) (interval_at new)
 
 -- how many elements have an interval
 abbrev pub any_interval : List Node → (ℕ → Option Interval) → ℕ
-any_interval nodes intervals = length (filter (λ (e : Node). is_some (intervals e.serial)) (elements nodes))
+any_interval nodes intervals =
+    length (filter (λ (e : Node). is_some (intervals e.serial)) (elements nodes))
 
 -- ---- on the way
 
@@ -170,7 +184,8 @@ pub record IsPassed (old new : CellsState) : Type 0 where
   pub sound : new.fault ≡ None
   pub marked : new.marked ≡ old.marked
   pub touched_is : new.touched ≡ old.touched
-  pub same : IsSame (history_of old) (pos old.presentation.now) (history_of new) (pos new.presentation.now)
+  pub same :
+      IsSame (history_of old) (pos old.presentation.now) (history_of new) (pos new.presentation.now)
 
 -- one step of the resolution, by which a group was appended
 pub record IsNext (old new : CellsState) : Type 0 where
@@ -187,7 +202,8 @@ pub record IsNext (old new : CellsState) : Type 0 where
 -- a log entry was heard, and nothing settled yet
 pub record IsHeard (old : CellsState) (entry : LogEntry) (new : CellsState) : Type 0 where
   pub presentation_is : new.presentation ≡ with_logged old.presentation entry
-  pub diary_is : new.diary ≡ old.diary ++ logged_entry (length old.presentation.log) entry.moment ∷ []
+  pub diary_is :
+      new.diary ≡ old.diary ++ logged_entry (length old.presentation.log) entry.moment ∷ []
   pub sound : new.fault ≡ None
   pub marked : new.marked ≡ old.marked
   pub more : StayTouched old new

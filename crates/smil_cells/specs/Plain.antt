@@ -1,4 +1,5 @@
--- A plain table: each element with its interval and what comes of it, in document order, and the keys of all in a queue.
+-- A plain table: each element with its interval and what comes of it, in document order,
+-- and the keys of all in a queue.
 use Rattle.std.specs.Prelude.{◌≡◌, ℕ, ℤ, List, map, find, ◌==◌, Bool, true, false, Option, Some, None, option_and_then}
 use Rattle.std.specs.FinSet as set
 use Rattle.std.proofs.Common.{sym, ◌∙◌, ap}
@@ -13,13 +14,16 @@ use Rattle.smil_element.specs.Comings.{HaveDueChanges, comings_stay, keys_stay}
 use Rattle.smil_cells.specs.declared.plain.current_rows.CurrentRow.{CurrentRow}
 
 abbrev pub interval_in : List CurrentRow → ℕ → Option Interval
-interval_in rows serial = option_and_then (λ (r : CurrentRow). r.interval) (find (λ (r : CurrentRow). r.serial == serial) rows)
+interval_in rows serial = option_and_then (λ (r : CurrentRow). r.interval)
+    (find (λ (r : CurrentRow). r.serial == serial) rows)
 
--- the rows are those of all elements by their current intervals, with what comes of them; and the queue has the keys of what
--- comes, and no other
-pub record IsCurrent (rows : List CurrentRow) (due : set.FinSet key_cmp) (h : History) (now : ℤ) : Type 0 where
+-- the rows are those of all elements by their current intervals, with what comes of them;
+-- and the queue has the keys of what comes, and no other
+pub record IsCurrent
+    (rows : List CurrentRow) (due : set.FinSet key_cmp) (h : History) (now : ℤ) : Type 0 where
   pub rows_are : map (λ (r : CurrentRow). (r.serial, r.interval)) rows ≡ current_table h now
-  pub comings_are : HaveDueChanges h now 0 (elements h.nodes) (map (λ (r : CurrentRow). r.comings) rows)
+  pub comings_are :
+      HaveDueChanges h now 0 (elements h.nodes) (map (λ (r : CurrentRow). r.comings) rows)
   pub due_is : due ≡ set.from_list (keys h now)
 
 -- it is current by another history by which the same is
@@ -31,8 +35,10 @@ stays_current rows due h k m n same is = record {
   due_is = is.due_is ∙ sym (ap set.from_list (keys_stay h k m n same));
 }
 
--- what `back` gives where a mark stands: what was noted, or what is there where nothing changed since
-abbrev pub IsMarked : Bool → Option (List CurrentRow × set.FinSet key_cmp) → List CurrentRow → set.FinSet key_cmp
+-- what `back` gives where a mark stands: what was noted,
+-- or what is there where nothing changed since
+abbrev pub IsMarked :
+    Bool → Option (List CurrentRow × set.FinSet key_cmp) → List CurrentRow → set.FinSet key_cmp
     → History → ℤ → Type 0
 IsMarked false noted rows due h now = Unit {0}
 IsMarked true None rows due h now = IsCurrent rows due h now

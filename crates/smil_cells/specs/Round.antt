@@ -1,4 +1,5 @@
--- An evaluation of all elements, in an order in which the dependencies that are not looped go forward.
+-- An evaluation of all elements, in an order in which the dependencies that are not looped go
+-- forward.
 use Rattle.std.specs.Prelude.{◌≡◌, ℕ, ◌<◌, ℤ, List, map, fold, Bool, true, false, Option, Some, None, slice_get, slice_index, slice_set}
 use Rattle.std.specs.FinSet as set
 use Rattle.smil_model.specs.declared.interval.Interval.{Interval}
@@ -22,7 +23,8 @@ pub record IsRowOf (h : History) (intervals : ℕ → Option Interval) (now : �
       ≡ coming_by h row.interval (simple_of h intervals e) now place e
 
 -- one element was evaluated by the rows as they were
-pub record IsRowEvaluated (h : History) (now : ℤ) (who : ℕ) (before after : List CurrentRow) : Type 0 where
+pub record IsRowEvaluated
+    (h : History) (now : ℤ) (who : ℕ) (before after : List CurrentRow) : Type 0 where
   pub place : ℕ
   pub element : Node
   pub row : CurrentRow
@@ -36,7 +38,8 @@ abbrev pub AreOfElements : List Node → List CurrentRow → Type 0
 AreOfElements nodes rows = map (λ (r : CurrentRow). r.serial) rows ≡ serials (elements nodes)
 
 -- the rows of the first elements of an order are as the intervals of all rows give them
-pub record AreRowsEvaluated (h : History) (now : ℤ) (order : List ℕ) (count : ℕ) (rows : List CurrentRow) : Type 0 where
+pub record AreRowsEvaluated
+    (h : History) (now : ℤ) (order : List ℕ) (count : ℕ) (rows : List CurrentRow) : Type 0 where
   pub of_elements : AreOfElements h.nodes rows
   pub rows_are :
       (k place : ℕ) (e : Node) (row : CurrentRow) → k < count → slice_index order k ≡ e.serial
@@ -64,14 +67,16 @@ pub record StayUnchanged (old new : List ℕ) (before after : List CurrentRow) :
   pub others : (s : ℕ) → has new s ≡ false → interval_in after s ≡ interval_in before s
 
 -- what is noted where a mark stands
-abbrev pub IsNoted : Bool → Option (List CurrentRow × set.FinSet key_cmp) → List CurrentRow → set.FinSet key_cmp
+abbrev pub IsNoted :
+    Bool → Option (List CurrentRow × set.FinSet key_cmp) → List CurrentRow → set.FinSet key_cmp
     → Option (List CurrentRow × set.FinSet key_cmp) → Type 0
 IsNoted true None rows due noted = noted ≡ Some (rows, due)
 IsNoted true (Some before) rows due noted = noted ≡ Some before
 IsNoted false before rows due noted = noted ≡ before
 
 -- the first elements of an order were evaluated
-pub record IsUnderWay (h : History) (now : ℤ) (order : List ℕ) (count : ℕ) (before rows : List CurrentRow)
+pub record IsUnderWay
+    (h : History) (now : ℤ) (order : List ℕ) (count : ℕ) (before rows : List CurrentRow)
     (old changed : List ℕ) : Type 0 where
   pub taken : AreRowsEvaluated h now order count rows
   pub unchanged : StayUnchanged old changed before rows

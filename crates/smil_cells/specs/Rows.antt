@@ -10,7 +10,8 @@ use Rattle.smil_cells.specs.declared.plain.current_rows.CurrentRow.{CurrentRow}
 
 -- the row of an element without an interval, of which nothing comes
 abbrev pub row_without : ℕ → CurrentRow
-row_without serial = record { serial = serial; interval = None; comings = record { moved = None; repeat = None } }
+row_without serial =
+    record { serial = serial; interval = None; comings = record { moved = None; repeat = None } }
 
 abbrev pub empty_row : Node → CurrentRow
 empty_row e = row_without e.serial

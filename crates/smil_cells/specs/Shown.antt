@@ -19,13 +19,14 @@ displaced_in nodes step serial = if starts step then sequenced (time_parent node
 -- ---- places of listed elements
 
 -- whether the node at a place is listed
-abbrev pub is_listed : List ℕ → Option Node → Bool
-is_listed touched None = false
-is_listed touched (Some n) = has touched n.serial
+abbrev pub is_touched_node : List ℕ → Option Node → Bool
+is_touched_node touched None = false
+is_touched_node touched (Some n) = has touched n.serial
 
 -- these are the places of the nodes that are listed
 abbrev pub ArePlaces : List Node → List ℕ → List ℕ → Type 0
-ArePlaces nodes touched places = (place : ℕ) → has places place ≡ is_listed touched (slice_get nodes place)
+ArePlaces nodes touched places =
+    (place : ℕ) → has places place ≡ is_touched_node touched (slice_get nodes place)
 
 -- the elements that are listed, in document order
 abbrev pub listed_of : List Node → List ℕ → List ℕ

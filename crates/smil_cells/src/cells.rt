@@ -81,7 +81,9 @@ impl<T: Table> Model for Cells<T> {
 
     ghost view = { λ c. standing_of c.past c.moment c.fault c.mark c.touched };
 
-    ghost invariant = { λ c. IsSoundUnderMark (T.is_current c.table) (T.is_marked c.table) (T.has_mark c.table) c.past c.moment c.fault c.mark c.touched };
+    ghost invariant = { λ c.
+        IsSoundUnderMark (T.is_current c.table) (T.is_marked c.table) (T.has_mark c.table) c.past
+        c.moment c.fault c.mark c.touched };
 }
 
 impl<T: Table> Cells<T> {

@@ -5,7 +5,7 @@ ghost use Rattle.std.specs.List.Sorted.{IsNonDecreasing};
 ghost use Rattle.smil_model.specs.declared.document.Node.{Node as AnyNode};
 ghost use Rattle.smil_model.specs.document.Document.{elements, node_at, serials};
 ghost use Rattle.smil_model.specs.document.Closure.{has};
-ghost use Rattle.smil_cells.specs.Shown.{ArePlaces, is_listed, listed_of};
+ghost use Rattle.smil_cells.specs.Shown.{ArePlaces, is_touched_node, listed_of};
 
 use smil_model::Serials;
 use smil_tree::Tree;
@@ -38,7 +38,7 @@ fn places_of(alloc: Global, tree: &Tree, touched: &Serials) -> Result<Vec<usize>
 // Appends the place of the node with a serial, where there is one.
 fn note_place(tree: &Tree, serial: u32, places: &mut Vec<usize>) -> Result<(), AllocError>
     ensures { OnOk result ((i : ℕ) → has places.new.items i
-        ≡ (has places.old.items i || is_listed (serial ∷ []) (slice_get tree.now.nodes i))) }
+        ≡ (has places.old.items i || is_touched_node (serial ∷ []) (slice_get tree.now.nodes i))) }
 {
     tree.valid();
     match tree.position(serial) {

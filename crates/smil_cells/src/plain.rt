@@ -10,7 +10,7 @@ pub mod current_rows;
 
 use super::cells::Cells;
 use super::table::{Since, Table};
-use current_rows::{CurrentRow, CurrentRows, row_of};
+use current_rows::{CurrentRow, CurrentRows, IndexedElement, row_of};
 use smil_due::DueQueue;
 use smil_element::{DueChange, Intervals, Present, Room};
 use smil_model::{Duplicate, Interval, Serials, Steps};
@@ -198,8 +198,12 @@ impl PlainTable {
     {
         let who = present.who;
         present.past.possible();
-        let index = self.known.place(who).unwrap();
-        let row = row_of(present, index, &self.known, &mut self.room, steps)?;
+        let index = self.known.index_of(who).unwrap();
+        let element = IndexedElement {
+            present: *present,
+            index,
+        };
+        let row = row_of(&element, &self.known, &mut self.room, steps)?;
         if !is_same(self.known.interval(who), row.interval) {
             changed.push(who)?;
         }

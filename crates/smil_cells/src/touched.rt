@@ -124,10 +124,8 @@ fn touch_within(tree: &Tree, who: u32, touched: &mut Serials) -> Result<(), Allo
         ++ serials
         (filter (λ (n : AnyNode). is_within tree.now.nodes who n.serial) tree.now.nodes)) }
 {
-    let (start, past) = tree.span(who);
-    for position in start..past {
-        let serial = tree.serial_at(position).unwrap();
-        touched.push(serial)?;
+    for node in tree.within(who) {
+        touched.push(node.serial)?;
     }
     Ok(())
 }

@@ -14,6 +14,7 @@ pub use smil_grammar::ClockFault;
 use smil_grammar::{BILLION, HOUR, MINUTE, SECOND};
 use smil_lexis::numbers::{CAP, decimal, seconds, sixty, whole};
 use smil_lexis::texts::cut;
+use smil_lexis::writers::undone;
 use smil_model::Bytes;
 use std::alloc::AllocError;
 
@@ -128,11 +129,8 @@ pub fn write_clock(value: i64, out: &mut Bytes) -> Result<(), AllocError>
     let before = out.len();
     let mut buffer = Buffer::new();
     out.append(buffer.format(value as u64).as_bytes())?;
-    if let Err(fault) = out.append(b"ms") {
-        out.cut_back(before);
-        return Err(fault);
-    }
-    Ok(())
+    let written = out.append(b"ms");
+    undone(written, out, before)
 }
 
 /// The printed spelling of each number of milliseconds up to the horizon is read as that number.

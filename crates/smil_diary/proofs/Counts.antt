@@ -5,13 +5,14 @@ use Rattle.std.specs.List.{count_by}
 use Rattle.std.proofs.lemmas.List.{drop-drop}
 use Rattle.smil_model.specs.declared.diary.Entry.{Entry}
 use Rattle.smil_model.specs.declared.diary.Step.{Step}
-use Rattle.smil_model.specs.declared.diary.Step.TheVariants.{Began, Repeated, Ended, Cut, Paused, Resumed, Deferred, Passed, Logged}
+use Rattle.smil_model.specs.declared.diary.Step.TheVariants.{Began, Repeated, Ended, Cut}
 use Rattle.smil_model.specs.declared.diary.StepKind.TheVariants as kind
 use Rattle.smil_model.specs.declared.document.Node.{Node}
 use Rattle.smil_model.specs.diary.Diary.{History, gives_birth, later_place, iteration_after, iteration_from, is_step, last_step}
 use Rattle.smil_model.specs.diary.Plays.{Plays, PlayEdge, FinishedInterval, plays, play_after, is_birth_under, finish_with}
 use Rattle.smil_model.specs.diary.Clocks.{outer}
 use Rattle.smil_model.specs.document.Document.{time_parent, serial_of}
+use Rattle.smil_diary.proofs.Choices.{chosen}
 use Rattle.smil_diary.proofs.LastPlaces.{fold-fusion, last-drop, drop_place}
 use Rattle.smil_diary.proofs.Rising.{count-cons}
 
@@ -64,46 +65,22 @@ finish-counts (Some begin) finish was_cut done = grind (arith, length-append)
 abbrev made : Bool → ℕ → Tally
 made playing finished = record { playing = playing; finished = finished }
 
-began-by : (c : Bool) (begin : PlayEdge) (so_far : Plays) →
-    tally_of (if c then record { present = Some begin; finished = so_far.finished } else so_far)
-    ≡ (if c then made true (length so_far.finished) else tally_of so_far)
-unfolding tally_of
-began-by true begin so_far = refl
-began-by false begin so_far = refl
-
-end-by : (c : Bool) (finish : PlayEdge) (was_cut : Bool) (so_far : Plays) →
-    tally_of (if c then record { present = None; finished = finish_with so_far.present finish was_cut so_far.finished } else so_far)
-    ≡ (if c then play_ends (tally_of so_far) else tally_of so_far)
-unfolding tally_of
-end-by true finish was_cut so_far = ap (λ n. made false n) (finish-counts so_far.present finish was_cut so_far.finished)
-end-by false finish was_cut so_far = refl
-
 tally-on : (h : History) (who : ℕ) (moment : ℤ) (so_far : Plays) (step : Step) →
     tally_of (play_after h who moment so_far step) ≡ tally_on who (tally_of so_far) step
 unfolding tally_of
-tally-on h who moment so_far (Began on begin) = began-by (on == who) (record { value = begin; moment = moment }) so_far
-tally-on h who moment so_far (Repeated on start) = refl
-tally-on h who moment so_far (Ended on end') = end-by (on == who) (record { value = end'; moment = moment }) false so_far
-tally-on h who moment so_far (Cut on) = end-by (on == who) (record { value = outer h who moment; moment = moment }) true so_far
-tally-on h who moment so_far (Paused on) = refl
-tally-on h who moment so_far (Resumed on) = refl
-tally-on h who moment so_far (Deferred on begin) = refl
-tally-on h who moment so_far (Passed on begin) = refl
-tally-on h who moment so_far (Logged place) = refl
-
-tally-by : (b : Bool) (so_far next : Plays) (counted : Tally) → tally_of next ≡ counted →
-    tally_of (if b then record { present = so_far.present; finished = [] } else next)
-    ≡ (if b then made (is_some so_far.present) 0 else counted)
-unfolding tally_of
-tally-by true so_far next counted same = refl
-tally-by false so_far next counted same = same
+tally-on h who moment so_far (Began on begin) = chosen tally_of (λ t. t) (on == who) _ _ _ _ refl refl
+tally-on h who moment so_far (Ended on end') =
+    chosen tally_of (λ t. t) (on == who) _ _ _ _ (ap (λ n. made false n) (finish-counts so_far.present (record { value = end'; moment = moment }) false so_far.finished)) refl
+tally-on h who moment so_far (Cut on) =
+    chosen tally_of (λ t. t) (on == who) _ _ _ _ (ap (λ n. made false n) (finish-counts so_far.present (record { value = outer h who moment; moment = moment }) true so_far.finished)) refl
+tally-on h who moment so_far _ = refl
 
 tally-step : (h : History) (who : ℕ) (so_far : Plays) (x : Entry) →
     tally_of (plays_after h who so_far x) ≡ tally_after (serial_of (time_parent h.nodes who)) who (tally_of so_far) x.step
 unfolding tally_of plays_after
 tally-step h who so_far x =
-    tally-by (is_birth_under (time_parent h.nodes who) x.step) so_far (play_after h who x.moment so_far x.step)
-    (tally_on who (tally_of so_far) x.step) (tally-on h who x.moment so_far x.step)
+    chosen tally_of (λ t. t) (is_birth_under (time_parent h.nodes who) x.step) (record { present = so_far.present; finished = [] }) (play_after h who x.moment so_far x.step)
+    (made (is_some so_far.present) 0) (tally_on who (tally_of so_far) x.step) refl (tally-on h who x.moment so_far x.step)
     ∙ ap (λ b. if b then made (is_some so_far.present) 0 else tally_on who (tally_of so_far) x.step)
     (births-same (time_parent h.nodes who) x.step)
 
@@ -155,13 +132,7 @@ step-counts : (s : ℕ) (before : Option ℕ) (step : Step) (n total : ℕ)
 unfolding counted
 step-counts s before (Began on begin) n total e = began-counts (on == s) before n total e
 step-counts s before (Repeated on start) n total e = repeat-counts (on == s) before n total e
-step-counts s before (Ended on end') n total e = more before n total e
-step-counts s before (Cut on) n total e = more before n total e
-step-counts s before (Paused on) n total e = more before n total e
-step-counts s before (Resumed on) n total e = more before n total e
-step-counts s before (Deferred on begin) n total e = more before n total e
-step-counts s before (Passed on begin) n total e = more before n total e
-step-counts s before (Logged place) n total e = more before n total e
+step-counts s before _ n total e = more before n total e
 
 counted-begin : (s : ℕ) (t : Bool) (before : Option ℕ) (xs : List Entry) →
     counted t (repeats_in s xs) before ≡ by_begin s before (later_place t None) xs

@@ -27,16 +27,14 @@ last-steps diary k s = last-places (λ (x : Entry). is_step k s x.step) diary
 kinds : (diary : List Entry) (k : StepKind) (s : ℕ) → places_of (element_of diary s) k ≡ steps diary k s
 unfolding element_of
 kinds diary kind.Began s = refl
-kinds diary kind.Repeated s = refl
-kinds diary kind.Ended s = refl
-kinds diary kind.Cut s = refl
-kinds diary kind.Paused s = refl
-kinds diary kind.Resumed s = refl
-kinds diary kind.Deferred s = refl
-kinds diary kind.Passed s = refl
+kinds diary _ s = refl
 
 pub last-of : (diary : List Entry) (k : StepKind) (s : ℕ) → last_of (places_of (element_of diary s) k) ≡ last_step diary k s
 last-of diary k s = ap last_of (kinds diary k s) ∙ last-steps diary k s
+
+pub last-kept : {e : ElementPlaces} (diary : List Entry) (k : StepKind) (s : ℕ)
+    → e ≡ element_of diary s → last_of (places_of e k) ≡ last_step diary k s
+last-kept diary k s is = ap (λ e. last_of (places_of e k)) is ∙ last-of diary k s
 
 -- the first place of a kind is that of the first such step
 pub first-of : (diary : List Entry) (k : StepKind) (s : ℕ) → slice_get (places_of (element_of diary s) k) 0 ≡ position (λ (x : Entry). is_step k s x.step) diary
@@ -44,10 +42,11 @@ first-of diary k s = ap (λ ps. slice_get ps 0) (kinds diary k s) ∙ first-plac
 
 pub playing : (diary : List Entry) (s : ℕ) → active_by (element_of diary s) ≡ is_active diary s
 playing diary s =
-    ap (λ o. is_later o (later_of (last_of (element_of diary s).ended) (last_of (element_of diary s).cut))) (last-of diary kind.Began s)
-    ∙ ap (λ o. is_later (last_step diary kind.Began s) (later_of o (last_of (element_of diary s).cut))) (last-of diary kind.Ended s)
-    ∙ ap (λ o. is_later (last_step diary kind.Began s) (later_of (last_step diary kind.Ended s) o)) (last-of diary kind.Cut s)
-    ∙ sym (active-last s diary)
+    let began = last-of diary kind.Began s in
+    let ended = last-of diary kind.Ended s in
+    let cut = last-of diary kind.Cut s in
+    let last = active-last s diary in
+    cc
 
 -- ---- one more entry
 

@@ -9,12 +9,13 @@ use Rattle.std.proofs.lemmas.List.{append-nil}
 use Rattle.std.proofs.lemmas.List.Sums.{fold-append}
 use Rattle.smil_model.specs.declared.diary.Entry.{Entry}
 use Rattle.smil_model.specs.declared.diary.Step.{Step}
-use Rattle.smil_model.specs.declared.diary.Step.TheVariants.{Began, Repeated, Ended, Cut, Paused, Resumed, Deferred, Passed, Logged}
+use Rattle.smil_model.specs.declared.diary.Step.TheVariants.{Began, Repeated, Ended, Cut}
 use Rattle.smil_model.specs.diary.Diary.{History, gives_birth, last_place, later_place, active_after, is_active, with_past}
 use Rattle.smil_model.specs.diary.Plays.{plays}
 use Rattle.smil_model.specs.shown.Views.{is_finish}
 use Rattle.smil_diary.specs.Readings.{IsOf, births_end}
 use Rattle.smil_diary.specs.ElementPlaces.{element_of, finishing, finishes, grown, places_from}
+use Rattle.smil_diary.proofs.Choices.{chosen, same_choice}
 use Rattle.smil_diary.proofs.PlaceLists.{past-length, places-rise, length-places, count-places}
 use Rattle.smil_diary.proofs.Elements.{finishing-push}
 use Rattle.smil_diary.proofs.Counts.{Tally, is_birth, play_ends, tally_on, tally_after, finished-tally}
@@ -116,34 +117,18 @@ birth-keeps : (parent : Option ℕ) (who : ℕ) (a : Bool) (step : Step) → (pa
 birth-keeps None who a step apart is = cc
 birth-keeps (Some p) who a (Began on begin) apart is =
     apart-begins on p who a is (λ same. apart (ap (λ (k : ℕ). Some k) same))
-birth-keeps (Some p) who a (Repeated on start) apart is = refl
-birth-keeps (Some p) who a (Ended on end') apart is = cc
-birth-keeps (Some p) who a (Cut on) apart is = cc
-birth-keeps (Some p) who a (Paused on) apart is = refl
-birth-keeps (Some p) who a (Resumed on) apart is = refl
-birth-keeps (Some p) who a (Deferred on begin) apart is = refl
-birth-keeps (Some p) who a (Passed on begin) apart is = refl
-birth-keeps (Some p) who a (Logged place) apart is = refl
+birth-keeps (Some p) who a _ apart is = cc
 
 began-plays : (c : Bool) (t : Tally) →
     (if c then (let one : Tally = record { playing = true; finished = t.finished } in one) else t).playing ≡ (c || t.playing)
 began-plays true t = refl
 began-plays false t = refl
 
-end-plays : (c : Bool) (t : Tally) → (if c then play_ends t else t).playing ≡ (if c then false else t.playing)
-end-plays true t = refl
-end-plays false t = refl
-
 plays-on : (who : ℕ) (t : Tally) (step : Step) → (tally_on who t step).playing ≡ active_after who t.playing step
 plays-on who t (Began on begin) = began-plays (on == who) t
-plays-on who t (Repeated on start) = refl
-plays-on who t (Ended on end') = end-plays (on == who) t
-plays-on who t (Cut on) = end-plays (on == who) t
-plays-on who t (Paused on) = refl
-plays-on who t (Resumed on) = refl
-plays-on who t (Deferred on begin) = refl
-plays-on who t (Passed on begin) = refl
-plays-on who t (Logged place) = refl
+plays-on who t (Ended on end') = chosen (λ (u : Tally). u.playing) (λ b. b) (on == who) _ _ _ _ refl refl
+plays-on who t (Cut on) = chosen (λ (u : Tally). u.playing) (λ b. b) (on == who) _ _ _ _ refl refl
+plays-on who t _ = refl
 
 began-counts : (c : Bool) (t : Tally) →
     (if c then (let one : Tally = record { playing = true; finished = t.finished } in one) else t).finished ≡ t.finished + 0
@@ -157,14 +142,9 @@ finish-counts false t = omega arith
 counts-on : (who : ℕ) (t : Tally) (step : Step) →
     (tally_on who t step).finished ≡ t.finished + cond (is_finish who step && t.playing) 1 0
 counts-on who t (Began on begin) = began-counts (on == who) t
-counts-on who t (Repeated on start) = omega arith
 counts-on who t (Ended on end') = finish-counts (on == who) t
 counts-on who t (Cut on) = finish-counts (on == who) t
-counts-on who t (Paused on) = omega arith
-counts-on who t (Resumed on) = omega arith
-counts-on who t (Deferred on begin) = omega arith
-counts-on who t (Passed on begin) = omega arith
-counts-on who t (Logged place) = omega arith
+counts-on who t _ = omega arith
 
 -- the tally of the entries so far, from where their places stand
 record IsTally (parent : Option ℕ) (who : ℕ) (past : List Entry) (t : Tally) : Type 0 where
@@ -238,10 +218,6 @@ unfolding element_of finished_from
 finished-of h who parent diary of apart =
     sym ((tally-is parent who diary apart).finished_is) ∙ sym (plays-tally h who parent diary of)
 
-itself : (c : Bool) (a b : Tally) → a ≡ b → (if c then a else b) ≡ b
-itself true a b is = is
-itself false a b is = refl
-
 no-play : Tally
 no-play = record { playing = false; finished = 0 }
 
@@ -252,14 +228,10 @@ own-began false other = refl
 own-step : (who : ℕ) (step : Step) → tally_after (Some who) who no-play step ≡ no-play
 unfolding no-play
 own-step who (Began on begin) = own-began (on == who) (record { playing = true; finished = 0 })
-own-step who (Repeated on start) = itself (on == who) no-play no-play refl
-own-step who (Ended on end') = itself (on == who) (play_ends no-play) no-play refl
-own-step who (Cut on) = itself (on == who) (play_ends no-play) no-play refl
-own-step who (Paused on) = refl
-own-step who (Resumed on) = refl
-own-step who (Deferred on begin) = refl
-own-step who (Passed on begin) = refl
-own-step who (Logged place) = refl
+own-step who (Repeated on start) = same_choice (on == who) no-play
+own-step who (Ended on end') = same_choice (on == who) no-play
+own-step who (Cut on) = same_choice (on == who) no-play
+own-step who _ = refl
 
 -- under itself an element never plays
 pub finished-own : (h : History) (who : ℕ) (parent : Option ℕ) (diary : List Entry)

@@ -8,10 +8,10 @@ use Rattle.smil_model.specs.declared.diary.Entry.{Entry}
 use Rattle.smil_model.specs.declared.diary.StepKind.TheVariants as kind
 use Rattle.smil_model.specs.declared.document.Node.{Node}
 use Rattle.smil_model.specs.document.Document.{time_parent, serial_of}
-use Rattle.smil_model.specs.diary.Diary.{History, last_place, gives_birth, birth_under, lives_under, is_active, is_paused, deferral_after, is_deferred, iteration, iteration_from, is_step, last_step}
-use Rattle.smil_diary.specs.Places.{is_later, later_of, is_from}
+use Rattle.smil_model.specs.diary.Diary.{History, last_place, gives_birth, birth_under, lives_under, is_paused, deferral_after, is_deferred, iteration, iteration_from, is_step, last_step}
+use Rattle.smil_diary.specs.Places.{is_decision}
 use Rattle.smil_diary.specs.Readings.{IsOf}
-use Rattle.smil_diary.specs.ElementPlaces.{element_of, paused_by, birth_by, decision_by, deferred_by, last_of}
+use Rattle.smil_diary.specs.ElementPlaces.{element_of, paused_by, birth_by, decision_by, deferred_by}
 use Rattle.smil_diary.proofs.LastPlaces.{birth-last, paused-last, deferral-last, decision-last}
 use Rattle.smil_diary.proofs.Elements.{last-of, playing}
 use Rattle.smil_diary.proofs.PlaceLists.{places-rise, length-places, count-places}
@@ -33,49 +33,44 @@ pub birth-of : (s : ℕ) (diary : List Entry)
 birth-of s diary =
     let began = last-of diary kind.Began s in
     let repeated = last-of diary kind.Repeated s in
-    ap (λ o. later_of o (last_of (element_of diary s).repeated)) began
-    ∙ ap (λ o. later_of (last_step diary kind.Began s) o) repeated
-    ∙ sym (birth-last s diary)
+    let last = birth-last s diary in
+    cc
 
 pub paused-of : (s : ℕ) (diary : List Entry)
     → paused_by (element_of diary s) ≡ is_paused diary s
 paused-of s diary =
-    let e = element_of diary s in
-    ap (λ a. a && is_later (last_of e.paused) (later_of (last_of e.resumed) (last_of e.began))) (playing diary s)
-    ∙ ap (λ o. is_active diary s && is_later o (later_of (last_of e.resumed) (last_of e.began))) (last-of diary kind.Paused s)
-    ∙ ap (λ o. is_active diary s && is_later (last_step diary kind.Paused s) (later_of o (last_of e.began))) (last-of diary kind.Resumed s)
-    ∙ ap (λ o. is_active diary s && is_later (last_step diary kind.Paused s) (later_of (last_step diary kind.Resumed s) o)) (last-of diary kind.Began s)
-    ∙ ap (λ o. is_active diary s && o) (sym (paused-last s diary))
+    let active = playing diary s in
+    let paused = last-of diary kind.Paused s in
+    let resumed = last-of diary kind.Resumed s in
+    let began = last-of diary kind.Began s in
+    let last = paused-last s diary in
+    cc
 
 some-if : {A : Type 0} (a : Bool) (o : Option A) → (a && is_some o) ≡ is_some (if a then o else None)
 some-if true o = refl
 some-if false o = refl
 
-deferred-from : (h : History) (who b : ℕ) (parent : Option ℕ) (diary : List Entry) (alive : Bool) (S C : Option ℕ)
-    → IsOf h diary who parent
-    → ((node : Option Node) → serial_of node ≡ parent → b ≡ birth_under node diary)
-    → ((node : Option Node) → serial_of node ≡ parent → alive ≡ lives_under node diary)
-    → S ≡ last_step diary kind.Deferred who
-    → C ≡ later_of (later_of (last_step diary kind.Began who) (last_step diary kind.Passed who))
-    (later_of (last_step diary kind.Ended who) (last_step diary kind.Cut who))
-    → (alive && (is_from b S && is_later S C)) ≡ is_deferred h who
-deferred-from h who b parent diary alive S C of birth-is alive-is s c =
-    let node : Option Node = time_parent h.nodes who in
-    ap (λ o. alive && (is_from b o && is_later o C)) s
-    ∙ ap (λ o. alive && (is_from b (last_step diary kind.Deferred who) && is_later (last_step diary kind.Deferred who) o))
-    (c ∙ sym (decision-last who diary))
-    ∙ ap (λ o. alive && o) (sym (deferral-last who b diary))
-    ∙ ap
-    (λ k. alive && is_some (fold (λ before (x : Entry). deferral_after who x before x.step) None (drop k diary)))
-    (birth-is node of.parent_is)
-    ∙ ap
-    (λ a. a && is_some (fold (λ before (x : Entry). deferral_after who x before x.step) None (drop (birth_under node diary) diary)))
-    (alive-is node of.parent_is)
-    ∙ ap
-    (λ xs. lives_under node xs && is_some (fold (λ before (x : Entry). deferral_after who x before x.step) None (drop (birth_under node xs) xs)))
-    (sym of.diary_is)
-    ∙ some-if (lives_under node h.diary)
-    (fold (λ before (x : Entry). deferral_after who x before x.step) None (drop (birth_under node h.diary) h.diary))
+-- whether the begin is put off by the entries from a place on
+abbrev deferred_since : ℕ → ℕ → List Entry → Bool
+deferred_since s from diary =
+    is_some (fold (λ before (x : Entry). deferral_after s x before x.step) None (drop from diary))
+
+decision-of : (s : ℕ) (diary : List Entry)
+    → decision_by (element_of diary s) ≡ last_place (λ (x : Entry). is_decision s x.step) diary
+decision-of s diary =
+    let began = last-of diary kind.Began s in
+    let passed = last-of diary kind.Passed s in
+    let ended = last-of diary kind.Ended s in
+    let cut = last-of diary kind.Cut s in
+    let last = decision-last s diary in
+    cc
+
+deferral-of : (s b : ℕ) (diary : List Entry) → deferred_by b (element_of diary s) ≡ deferred_since s b diary
+deferral-of s b diary =
+    let deferred = last-of diary kind.Deferred s in
+    let decision = decision-of s diary in
+    let last = deferral-last s b diary in
+    cc
 
 pub deferred-of : (h : History) (who b : ℕ) (parent : Option ℕ) (diary : List Entry) (alive : Bool)
     → IsOf h diary who parent
@@ -83,14 +78,13 @@ pub deferred-of : (h : History) (who b : ℕ) (parent : Option ℕ) (diary : Lis
     → ((node : Option Node) → serial_of node ≡ parent → alive ≡ lives_under node diary)
     → (alive && deferred_by b (element_of diary who)) ≡ is_deferred h who
 deferred-of h who b parent diary alive of birth-is alive-is =
-    let e = element_of diary who in
-    deferred-from h who b parent diary alive (last_of e.deferred)
-    (decision_by e)
-    of birth-is alive-is (last-of diary kind.Deferred who)
-    (ap (λ o. later_of (later_of o (last_of e.passed)) (later_of (last_of e.ended) (last_of e.cut))) (last-of diary kind.Began who)
-    ∙ ap (λ o. later_of (later_of (last_step diary kind.Began who) o) (later_of (last_of e.ended) (last_of e.cut))) (last-of diary kind.Passed who)
-    ∙ ap (λ o. later_of (later_of (last_step diary kind.Began who) (last_step diary kind.Passed who)) (later_of o (last_of e.cut))) (last-of diary kind.Ended who)
-    ∙ ap (λ o. later_of (later_of (last_step diary kind.Began who) (last_step diary kind.Passed who)) (later_of (last_step diary kind.Ended who) o)) (last-of diary kind.Cut who))
+    let node : Option Node = time_parent h.nodes who in
+    ap (λ o. alive && o) (deferral-of who b diary)
+    ∙ ap (λ k. alive && deferred_since who k diary) (birth-is node of.parent_is)
+    ∙ ap (λ a. a && deferred_since who (birth_under node diary) diary) (alive-is node of.parent_is)
+    ∙ ap (λ xs. lives_under node xs && deferred_since who (birth_under node xs) xs) (sym of.diary_is)
+    ∙ some-if (lives_under node h.diary)
+    (fold (λ before (x : Entry). deferral_after who x before x.step) None (drop (birth_under node h.diary) h.diary))
 
 pub iteration-of : (h : History) (who b : ℕ) (parent : Option ℕ) (diary : List Entry) (S : Option ℕ)
     → IsOf h diary who parent

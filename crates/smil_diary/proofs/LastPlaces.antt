@@ -3,7 +3,7 @@ use Rattle.std.proofs.Common.{◌≡◌, ℕ, zero, suc, ◌-◌, Bool, true, fa
 use Rattle.std.specs.Prelude.{fold, nat_lt, nat_le, if◌then◌else◌, Option, Some, None, is_some}
 use Rattle.smil_model.specs.declared.diary.Entry.{Entry}
 use Rattle.smil_model.specs.declared.diary.Step.{Step}
-use Rattle.smil_model.specs.declared.diary.Step.TheVariants.{Began, Repeated, Ended, Cut, Paused, Resumed, Deferred, Passed, Logged}
+use Rattle.smil_model.specs.declared.diary.Step.TheVariants.{Began, Ended, Resumed}
 use Rattle.smil_model.specs.declared.diary.StepKind.TheVariants as kind
 use Rattle.smil_model.specs.diary.Diary.{last_place, later_place, gives_birth, active_after, paused_after, deferral_after, is_step, is_active, last_step}
 use Rattle.smil_model.specs.shown.Views.{is_finish}
@@ -21,22 +21,10 @@ set_or_clear is_clear is_set before = if is_clear then false else is_set || befo
 
 held-later : (c s before : Bool) (S C : Option ℕ) →
     held (set_or_clear c s before) S C ≡ held before (later_place s S) (later_place c C)
-held-later true true before None None = refl
-held-later true false before None None = refl
-held-later false true before None None = refl
-held-later false false before None None = refl
-held-later true true before None (Some k) = grind arith
-held-later true false before None (Some k) = grind arith
-held-later false true before None (Some k) = grind arith
-held-later false false before None (Some k) = grind arith
-held-later true true before (Some k) None = grind arith
-held-later true false before (Some k) None = grind arith
-held-later false true before (Some k) None = grind arith
-held-later false false before (Some k) None = grind arith
-held-later true true before (Some j) (Some k) = grind arith
-held-later true false before (Some j) (Some k) = grind arith
-held-later false true before (Some j) (Some k) = grind arith
-held-later false false before (Some j) (Some k) = grind arith
+held-later c s before None None = grind arith
+held-later c s before (Some j) None = grind arith
+held-later c s before None (Some k) = grind arith
+held-later c s before (Some j) (Some k) = grind arith
 
 pub fold-held : {A : Type 0} (after : Bool → A → Bool) (set clear : A → Bool)
     → ((b : Bool) (x : A) → after b x ≡ set_or_clear (clear x) (set x) b) → (before : Bool) (xs : List A)
@@ -56,22 +44,10 @@ held-false (Some j) (Some k) = refl
 -- the last place of either of two tests is the later one
 later-either : (a b : Bool) (P Q : Option ℕ) →
     later_place (a || b) (later_of P Q) ≡ later_of (later_place a P) (later_place b Q)
-later-either true true None None = refl
-later-either true false None None = refl
-later-either false true None None = refl
-later-either false false None None = refl
-later-either true true None (Some k) = grind arith
-later-either true false None (Some k) = grind arith
-later-either false true None (Some k) = refl
-later-either false false None (Some k) = refl
-later-either true true (Some k) None = grind arith
-later-either true false (Some k) None = refl
-later-either false true (Some k) None = grind arith
-later-either false false (Some k) None = refl
-later-either true true (Some j) (Some k) = grind arith
-later-either true false (Some j) (Some k) = grind arith
-later-either false true (Some j) (Some k) = grind arith
-later-either false false (Some j) (Some k) = grind arith
+later-either a b None None = grind arith
+later-either a b (Some j) None = grind arith
+later-either a b None (Some k) = grind arith
+later-either a b (Some j) (Some k) = grind arith
 
 pub last_place-either : {A : Type 0} (p q r : A → Bool) → ((x : A) → r x ≡ (p x || q x)) → (xs : List A)
     → last_place r xs ≡ later_of (last_place p xs) (last_place q xs)
@@ -84,14 +60,7 @@ last_place-either p q r is (x ∷ xs) =
 -- the birth is the later one of the last begin and the last repeat
 gives_birth-either : (s : ℕ) (step : Step) → gives_birth s step ≡ (is_step kind.Began s step || is_step kind.Repeated s step)
 gives_birth-either s (Began who begin) = grind arith
-gives_birth-either s (Repeated who start) = refl
-gives_birth-either s (Ended who end') = refl
-gives_birth-either s (Cut who) = refl
-gives_birth-either s (Paused who) = refl
-gives_birth-either s (Resumed who) = refl
-gives_birth-either s (Deferred who begin) = refl
-gives_birth-either s (Passed who begin) = refl
-gives_birth-either s (Logged place) = refl
+gives_birth-either s _ = refl
 
 pub birth-last : (s : ℕ) (diary : List Entry)
     → last_place (λ (x : Entry). gives_birth s x.step) diary
@@ -102,15 +71,8 @@ birth-last s diary =
 
 -- the last end or cut is the later one of the last end and the last cut
 is_finish-either : (s : ℕ) (step : Step) → is_finish s step ≡ (is_step kind.Ended s step || is_step kind.Cut s step)
-is_finish-either s (Began who begin) = refl
-is_finish-either s (Repeated who start) = refl
 is_finish-either s (Ended who end') = grind arith
-is_finish-either s (Cut who) = refl
-is_finish-either s (Paused who) = refl
-is_finish-either s (Resumed who) = refl
-is_finish-either s (Deferred who begin) = refl
-is_finish-either s (Passed who begin) = refl
-is_finish-either s (Logged place) = refl
+is_finish-either s _ = refl
 
 pub finish-last : (s : ℕ) (diary : List Entry)
     → last_place (λ (x : Entry). is_finish s x.step) diary
@@ -124,14 +86,7 @@ finish-last s diary =
 active-sets : (s : ℕ) (b : Bool) (step : Step) →
     active_after s b step ≡ set_or_clear (is_finish s step) (is_step kind.Began s step) b
 active-sets s b (Began who begin) = refl
-active-sets s b (Repeated who start) = refl
-active-sets s b (Ended who end') = refl
-active-sets s b (Cut who) = refl
-active-sets s b (Paused who) = refl
-active-sets s b (Resumed who) = refl
-active-sets s b (Deferred who begin) = refl
-active-sets s b (Passed who begin) = refl
-active-sets s b (Logged place) = refl
+active-sets s b _ = refl
 
 -- a resume or a begin
 abbrev pub is_release : ℕ → Step → Bool
@@ -139,15 +94,8 @@ is_release s step = is_step kind.Resumed s step || is_step kind.Began s step
 
 paused-sets : (s : ℕ) (b : Bool) (step : Step) →
     paused_after s b step ≡ set_or_clear (is_release s step) (is_step kind.Paused s step) b
-paused-sets s b (Began who begin) = refl
-paused-sets s b (Repeated who start) = refl
-paused-sets s b (Ended who end') = refl
-paused-sets s b (Cut who) = refl
-paused-sets s b (Paused who) = refl
 paused-sets s b (Resumed who) = grind arith
-paused-sets s b (Deferred who begin) = refl
-paused-sets s b (Passed who begin) = refl
-paused-sets s b (Logged place) = refl
+paused-sets s b _ = refl
 
 pub active-last : (s : ℕ) (diary : List Entry) →
     is_active diary s ≡
@@ -207,14 +155,7 @@ defers-sets : (s : ℕ) (here : Entry) (before : Option Entry) (step : Step) →
     is_some (deferral_after s here before step)
     ≡ set_or_clear (is_decision s step) (is_step kind.Deferred s step) (is_some before)
 defers-sets s here before (Began who begin) = grind arith
-defers-sets s here before (Repeated who start) = refl
-defers-sets s here before (Ended who end') = grind arith
-defers-sets s here before (Cut who) = grind arith
-defers-sets s here before (Paused who) = refl
-defers-sets s here before (Resumed who) = refl
-defers-sets s here before (Deferred who begin) = grind arith
-defers-sets s here before (Passed who begin) = grind arith
-defers-sets s here before (Logged place) = refl
+defers-sets s here before _ = grind arith
 
 pub deferral-last : (s b : ℕ) (diary : List Entry) →
     is_some (fold (λ before (x : Entry). deferral_after s x before x.step) None (drop b diary)) ≡

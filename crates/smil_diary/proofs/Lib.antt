@@ -1,3 +1,4 @@
+pub mod Choices
 pub mod Rising
 pub mod PlaceLists
 pub mod LastPlaces

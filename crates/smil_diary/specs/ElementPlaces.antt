@@ -92,7 +92,8 @@ active_by e = is_later (last_of e.began) (later_of (last_of e.ended) (last_of e.
 
 -- it is active and paused: the last pause is after all resumes and begins
 abbrev pub paused_by : ElementPlaces → Bool
-paused_by e = active_by e && is_later (last_of e.paused) (later_of (last_of e.resumed) (last_of e.began))
+paused_by e =
+    active_by e && is_later (last_of e.paused) (later_of (last_of e.resumed) (last_of e.began))
 
 -- the last begin or repeat, by which its children are born
 abbrev pub birth_by : ElementPlaces → Option ℕ
@@ -100,11 +101,14 @@ birth_by e = later_of (last_of e.began) (last_of e.repeated)
 
 -- the last begin, pass, end or cut, by which it is no longer deferred
 abbrev pub decision_by : ElementPlaces → Option ℕ
-decision_by e = later_of (later_of (last_of e.began) (last_of e.passed)) (later_of (last_of e.ended) (last_of e.cut))
+decision_by e = later_of (later_of (last_of e.began) (last_of e.passed))
+    (later_of (last_of e.ended) (last_of e.cut))
 
--- it is deferred while its parent is active: the last deferral is not before its birth, and after all of those
+-- it is deferred while its parent is active: the last deferral is not before its birth,
+-- and after all of those
 abbrev pub deferred_by : ℕ → ElementPlaces → Bool
-deferred_by birth e = is_from birth (last_of e.deferred) && is_later (last_of e.deferred) (decision_by e)
+deferred_by birth e =
+    is_from birth (last_of e.deferred) && is_later (last_of e.deferred) (decision_by e)
 
 -- one more place behind the others, where it counts
 abbrev pub grown : Bool → ℕ → List ℕ → List ℕ
@@ -177,4 +181,5 @@ element_of diary serial = record {
 
 -- a diary that isn't too long, and an index that has of each element what it keeps
 abbrev pub IsBook : List Entry → List (ℕ × ElementPlaces) → Type 0
-IsBook diary index = (length diary ≤ DIARY_ENTRIES) × ((serial : ℕ) → kept index serial ≡ element_of diary serial)
+IsBook diary index =
+    (length diary ≤ DIARY_ENTRIES) × ((serial : ℕ) → kept index serial ≡ element_of diary serial)

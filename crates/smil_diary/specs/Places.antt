@@ -24,4 +24,5 @@ is_from from (Some a) = nat_le from a
 
 -- a step by which the element is no longer deferred
 abbrev pub is_decision : ℕ → Step → Bool
-is_decision who step = (is_step kind.Began who step || is_step kind.Passed who step) || is_finish who step
+is_decision who step =
+    (is_step kind.Began who step || is_step kind.Passed who step) || is_finish who step

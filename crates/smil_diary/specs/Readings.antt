@@ -10,7 +10,9 @@ pub record IsOf (h : History) (diary : List Entry) (who : ℕ) (parent : Option 
   pub diary_is : h.diary ≡ diary
   pub parent_is : serial_of (time_parent h.nodes who) ≡ parent
 
--- how many entries there are up to and with the last birth under a time parent with this serial; 0 where there is none
+-- how many entries there are up to and with the last birth under a time parent with this serial;
+-- 0 where there is none
 abbrev pub births_end : Option ℕ → List Entry → ℕ
 births_end None diary = 0
-births_end (Some p) diary = option_map_or suc (last_place (λ (x : Entry). gives_birth p x.step) diary) 0
+births_end (Some p) diary =
+    option_map_or suc (last_place (λ (x : Entry). gives_birth p x.step) diary) 0

@@ -14,7 +14,8 @@ abbrev pub IsIrreflexive : Type 0
 IsIrreflexive = (a : Key) → comes_before a a ≡ false
 
 abbrev pub IsTransitive : Type 0
-IsTransitive = (a b c : Key) → comes_before a b ≡ true → comes_before b c ≡ true → comes_before a c ≡ true
+IsTransitive =
+    (a b c : Key) → comes_before a b ≡ true → comes_before b c ≡ true → comes_before a c ≡ true
 
 -- a key of a document: its serial is that of the element at its place
 abbrev pub HasSerial : (ℕ → ℕ) → Key → Type 0
@@ -37,4 +38,5 @@ pub record IsLeast (keys : set.FinSet key_cmp) (key : Key) : Type 0 where
 
 -- all keys that the model gives are of one document
 abbrev pub KeysHaveSerials : Type 0
-KeysHaveSerials = (h : History) (now : ℤ) → (serial_at : ℕ → ℕ) × All (HasSerial serial_at) (keys h now)
+KeysHaveSerials =
+    (h : History) (now : ℤ) → (serial_at : ℕ → ℕ) × All (HasSerial serial_at) (keys h now)

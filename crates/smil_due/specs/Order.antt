@@ -12,7 +12,8 @@ turn key = if key.class == 2 then pos key.position else neg_ℤ (pos key.positio
 -- by moment, by class, by turn, an end before a repeat
 abbrev pub happening_cmp : Key → Key → Ordering
 happening_cmp =
-    then_cmp (then_cmp (then_cmp (on (λ (key : Key). key.value) int_cmp) (on (λ (key : Key). key.class) nat_cmp)) (on turn int_cmp))
+    then_cmp (then_cmp (then_cmp (on (λ (key : Key). key.value) int_cmp)
+    (on (λ (key : Key). key.class) nat_cmp)) (on turn int_cmp))
     (on (λ (key : Key). key.repeat) bool_cmp)
 
 -- the same, and by the serial where all that ties, which no two elements of one document do
@@ -21,7 +22,8 @@ key_cmp = then_cmp happening_cmp (on (λ (key : Key). key.serial) nat_cmp)
 
 pub happening_cmp_total : IsTotalOrder happening_cmp
 happening_cmp_total =
-    then_total (then_total (then_total (on_total (λ (key : Key). key.value) int_cmp_total) (on_total (λ (key : Key). key.class) nat_cmp_total)) (on_total turn int_cmp_total))
+    then_total (then_total (then_total (on_total (λ (key : Key). key.value) int_cmp_total)
+    (on_total (λ (key : Key). key.class) nat_cmp_total)) (on_total turn int_cmp_total))
     (on_total (λ (key : Key). key.repeat) bool_cmp_total)
 
 pub key_cmp_total : IsTotalOrder key_cmp

@@ -27,9 +27,11 @@ impl Model for Bounds {
 
     ghost Value = { durations.Bounds };
 
-    ghost view = { λ b. record { count = b.count; repeat_dur = b.repeat_dur; min = b.min; max = b.max } };
+    ghost view = { λ b.
+        record { count = b.count; repeat_dur = b.repeat_dur; min = b.min; max = b.max } };
 
-    ghost inverse = { λ b. record { count = b.count; repeat_dur = b.repeat_dur; min = b.min; max = b.max } };
+    ghost inverse = { λ b.
+        record { count = b.count; repeat_dur = b.repeat_dur; min = b.min; max = b.max } };
 }
 
 impl Bounds {

@@ -16,7 +16,8 @@ HaveDueChanges h now place [] [] = Unit {0}
 HaveDueChanges h now place [] (c ∷ cs) = ⊥
 HaveDueChanges h now place (e ∷ es) [] = ⊥
 HaveDueChanges h now place (e ∷ es) (c ∷ cs) =
-    (both c.moved c.repeat ≡ coming_of h (current_interval h now) now place e) × HaveDueChanges h now (suc place) es cs
+    (both c.moved c.repeat ≡ coming_of h (current_interval h now) now place e)
+    × HaveDueChanges h now (suc place) es cs
 
 module _ (h k : History) (m n : ℤ) (same : IsSame h m k n) where
   from_stays : (place : ℕ) (es : List Node) (cs : List DueChanges) → HaveDueChanges h m place es cs
@@ -24,7 +25,8 @@ module _ (h k : History) (m n : ℤ) (same : IsSame h m k n) where
   from_stays place [] [] is = tt
   from_stays place [] (c ∷ cs) is = is
   from_stays place (e ∷ es) [] is = is
-  from_stays place (e ∷ es) (c ∷ cs) is = (is.0 ∙ sym (same.comings place e), from_stays (suc place) es cs is.1)
+  from_stays place (e ∷ es) (c ∷ cs) is =
+      (is.0 ∙ sym (same.comings place e), from_stays (suc place) es cs is.1)
 
   of_nodes : (nodes : List Node) (cs : List DueChanges) → nodes ≡ h.nodes
       → HaveDueChanges k n 0 (elements h.nodes) cs → HaveDueChanges k n 0 (elements nodes) cs
@@ -51,5 +53,6 @@ module _ (h k : History) (m n : ℤ) (same : IsSame h m k n) where
   -- and so are their keys
   pub keys_stay : keys k n ≡ keys h m
   keys_stay =
-      ap (λ nodes. map (λ (c : DueChange). c.key) (coming_from k (current_interval k n) n 0 (elements nodes))) same.nodes
+      ap (λ nodes. map (λ (c : DueChange). c.key)
+      (coming_from k (current_interval k n) n 0 (elements nodes))) same.nodes
       ∙ ap (map (λ (c : DueChange). c.key)) (all_stays 0 (elements h.nodes))

@@ -29,9 +29,11 @@ interval_in last = record { begin = last.begin; «end» = At last.finish }
 
 -- how far the time parent's clock is ahead of the element's own; none while the element is paused
 abbrev pub shift_of : History → ℕ → ℤ → Option ℤ
-shift_of h serial now = if is_paused h.diary serial then None else Some (outer h serial now -ℤ run h serial now)
+shift_of h serial now =
+    if is_paused h.diary serial then None else Some (outer h serial now -ℤ run h serial now)
 
--- whether another iteration of a play follows the one that is over at this time on the element's own clock
+-- whether another iteration of a play follows the one that is over at this time on the element's
+-- own clock
 abbrev pub goes_on : Bounds → Time → Play → ℤ → Bool
 goes_on bounds simple play over =
     not (time_le simple (At (pos 0)))
@@ -53,7 +55,8 @@ moved_by h interval now place e =
 abbrev pub coming_by : History → Option Interval → Time → ℤ → ℕ → Node → List model.DueChange
 coming_by h interval simple now place e =
     if is_active h.diary e.serial
-    then (if outer_stands h e.serial then [] else coming_end h now place e interval) ++ repeat_by h simple now place e
+    then (if outer_stands h e.serial then [] else coming_end h now place e interval)
+    ++ repeat_by h simple now place e
     else (if outer_stands h e.serial then [] else coming_begin h now place e interval)
 
 -- at most one begin or end, and at most one repeat

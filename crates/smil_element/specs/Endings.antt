@@ -9,7 +9,8 @@ use Rattle.smil_model.specs.diary.Plays.{first_of, plays}
 use Rattle.smil_model.specs.interval.Current.{finish_time}
 use Rattle.smil_element.specs.declared.endings.Ending.{Ending}
 
--- the first and the latest end of an element with this interval: what its container takes of it, but for its name
+-- the first and the latest end of an element with this interval: what its container takes of it,
+-- but for its name
 abbrev pub ending_by : History → Option Interval → ℕ → Ending
 ending_by h interval serial =
     let coming = option_map (λ (i : Interval). i.«end») interval in
@@ -17,5 +18,6 @@ ending_by h interval serial =
     record {
       first = option_or (option_map finish_time (first_of done)) coming;
       latest =
-          option_or coming (if is_deferred h serial then Some Unresolved else option_map finish_time (last_or None done));
+          option_or coming (if is_deferred h serial then Some Unresolved
+          else option_map finish_time (last_or None done));
     }

@@ -1,5 +1,5 @@
 -- What happens to an element, and the parts of a presentation by which its group is told.
-use Rattle.std.specs.Prelude.{◌≡◌, ◌≤ℤ◌, ℕ, ℤ, List, [], ◌∷◌, ◌++◌, reverse, map, filter, Bool, not, ◌&&◌, Option, Some, None, slice_get, if◌then◌else◌}
+use Rattle.std.specs.Prelude.{◌≡◌, ◌≤ℤ◌, ℕ, ℤ, List, [], ◌∷◌, ◌++◌, reverse, map, filter, Bool, not, ◌&&◌, Option, Some, None, if◌then◌else◌}
 use Rattle.std.specs.declared.vec.Vec.{Vec}
 use Rattle.std.specs.declared.alloc.Global.{Global}
 use Rattle.smil_model.specs.declared.diary.Entry.{Entry}
@@ -55,14 +55,9 @@ cut_steps diary nodes =
     map (λ (n : Node). Cut n.serial)
     (reverse (filter (λ (n : Node). is_active diary n.serial) nodes))
 
--- the cut of a node, where there is one and it is active
-abbrev pub cut_if : List Entry → Option Node → List Step
-cut_if diary None = []
-cut_if diary (Some n) = cut_steps diary (n ∷ [])
-
--- the cut of the node at a place
-abbrev pub cut_at : Parts → ℕ → List Step
-cut_at parts place = cut_if parts.book.now (slice_get parts.tree.now.nodes place)
+-- the cut of a node, where it is active
+abbrev pub cut_of : List Entry → ℕ → List Step
+cut_of diary serial = if is_active diary serial then Cut serial ∷ [] else []
 
 -- the cuts of the active descendants of a node
 abbrev pub cuts_below : Parts → ℕ → List Step

@@ -20,7 +20,8 @@ abbrev pub is_cut : Option PastInterval → Bool
 is_cut None = false
 is_cut (Some last) = last.was_cut
 
--- whether the view minds what displaces an element: where its fill is freeze and an interval finished
+-- whether the view minds what displaces an element: where its fill is freeze and an interval
+-- finished
 abbrev pub minds : Fill → Option (ℤ × ℤ) → Bool
 minds Freeze last = is_some last
 minds _ last = false

@@ -31,10 +31,12 @@ both_ends a b = record {
 -- one child has these ends, and its name stays
 abbrev pub set_ends : List ChildEnd → ℕ → Option Time → Option Time → List ChildEnd
 set_ends [] child first latest = []
-set_ends (c ∷ cs) zero first latest = record { named = c.named; first = first; latest = latest } ∷ cs
+set_ends (c ∷ cs) zero first latest =
+    record { named = c.named; first = first; latest = latest } ∷ cs
 set_ends (c ∷ cs) (suc child) first latest = c ∷ set_ends cs child first latest
 
 -- what each child comes to, and which one is named
-pub record AreSummed (children : List ChildEnd) (named : Option ℕ) (summaries : List EndSummary) : Type 0 where
+pub record AreSummed
+    (children : List ChildEnd) (named : Option ℕ) (summaries : List EndSummary) : Type 0 where
   pub own : summaries ≡ map one_end children
   pub named_is : named ≡ position (λ (c : ChildEnd). c.named) children

@@ -17,15 +17,16 @@ use Rattle.smil_excl.specs.QueueState.{paused_before, deferred_after, without, h
 abbrev pub held_of : History → ℕ → List QueuedChild
 held_of h excl = map (ranked h.nodes) (queue_of h excl)
 
--- what the calls make of the queue of an excl at a step: `clear`, `leave`, `pause` and `defer`; a child is put in where it
--- has left before
+-- what the calls make of the queue of an excl at a step: `clear`, `leave`, `pause` and `defer`;
+-- a child is put in where it has left before
 abbrev pub held_after : List Node → ℕ → List QueuedChild → Step → List QueuedChild
 held_after nodes excl held (Began who begin) = if who == excl then [] else without who held
 held_after nodes excl held (Repeated who start) = if who == excl then [] else held
 held_after nodes excl held (Paused who) =
     if is_child_of nodes excl who then paused_before (ranked nodes who) (without who held) else held
 held_after nodes excl held (Deferred who begin) =
-    if is_child_of nodes excl who then deferred_after (ranked nodes who) (without who held) else held
+    if is_child_of nodes excl who then deferred_after (ranked nodes who) (without who held)
+    else held
 held_after nodes excl held (Resumed who) = without who held
 held_after nodes excl held (Ended who end') = without who held
 held_after nodes excl held (Cut who) = without who held
@@ -42,7 +43,8 @@ QueuesFollowEntries =
 abbrev pub FirstIsFirst : Type 0
 FirstIsFirst =
     (h : History) (excl : ℕ)
-    → option_map (λ (first : QueuedChild). first.who) (slice_get (held_of h excl) 0) ≡ slice_get (queue_of h excl) 0
+    → option_map (λ (first : QueuedChild). first.who) (slice_get (held_of h excl) 0)
+    ≡ slice_get (queue_of h excl) 0
 
 -- ---- each child once
 
@@ -70,7 +72,8 @@ DeferredIsHeldOnce =
 
 -- a child leaves
 abbrev pub OthersAreHeldOnce : Type 0
-OthersAreHeldOnce = (who : ℕ) (held : List QueuedChild) → IsHeldOnce held → IsHeldOnce (without who held)
+OthersAreHeldOnce =
+    (who : ℕ) (held : List QueuedChild) → IsHeldOnce held → IsHeldOnce (without who held)
 
 -- the first is taken out
 abbrev pub RestIsHeldOnce : Type 0
@@ -89,10 +92,12 @@ WaitingAreHeldOnce = (h : History) (excl : ℕ) → IsHeldOnce (held_of h excl)
 -- no more children are held than there are time children
 abbrev pub QueuesFit : Type 0
 QueuesFit =
-    (h : History) (excl : ℕ) → IsLawful h → length (held_of h excl) ≤ length (time_children h.nodes excl)
+    (h : History) (excl : ℕ) → IsLawful h
+    → length (held_of h excl) ≤ length (time_children h.nodes excl)
 
 -- where a time child has left, there is room for it
 abbrev pub PutInFits : Type 0
 PutInFits =
-    (h : History) (excl who : ℕ) → IsLawful h → has_element h.nodes who ≡ true → is_child_of h.nodes excl who ≡ true
+    (h : History) (excl who : ℕ) → IsLawful h → has_element h.nodes who ≡ true
+    → is_child_of h.nodes excl who ≡ true
     → length (without who (held_of h excl)) < length (time_children h.nodes excl)

@@ -19,11 +19,13 @@ put_before is_later child (other ∷ others) =
 
 -- a paused child goes before all of its class, behind those of earlier classes
 abbrev pub paused_before : QueuedChild → List QueuedChild → List QueuedChild
-paused_before child held = put_before (λ (other : QueuedChild). nat_le child.rank other.rank) child held
+paused_before child held =
+    put_before (λ (other : QueuedChild). nat_le child.rank other.rank) child held
 
 -- a deferred child goes behind all of its class, before those of later classes
 abbrev pub deferred_after : QueuedChild → List QueuedChild → List QueuedChild
-deferred_after child held = put_before (λ (other : QueuedChild). nat_lt child.rank other.rank) child held
+deferred_after child held =
+    put_before (λ (other : QueuedChild). nat_lt child.rank other.rank) child held
 
 -- the queue without this child
 abbrev pub without : ℕ → List QueuedChild → List QueuedChild
@@ -37,7 +39,8 @@ holds who held = list_any (λ (other : QueuedChild). other.who == who) held
 abbrev pub ranked : List Node → ℕ → QueuedChild
 ranked nodes who = record { who = who; rank = rank nodes who }
 
--- the queue of an excl that holds these children, with the ranks that the document gives them, and room for all time
--- children
+-- the queue of an excl that holds these children, with the ranks that the document gives them,
+-- and room for all time children
 abbrev pub line_in : List Node → ℕ → List ℕ → QueueState
-line_in nodes excl queue = record { held = map (ranked nodes) queue; room = length (time_children nodes excl) }
+line_in nodes excl queue =
+    record { held = map (ranked nodes) queue; room = length (time_children nodes excl) }

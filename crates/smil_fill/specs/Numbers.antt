@@ -16,7 +16,8 @@ IsTimeCarried Unresolved = Unit {0}
 -- each number among the facts is from -10^13 to 10^13
 pub record HasNumbersWithin (facts : ViewFacts) : Type 0 where
   pub deferred : ForSome facts.deferred IsCarried
-  pub interval : ForSome facts.interval (λ (i : Interval). IsCarried i.begin × IsTimeCarried i.«end»)
+  pub interval :
+      ForSome facts.interval (λ (i : Interval). IsCarried i.begin × IsTimeCarried i.«end»)
   pub begun : ForSome facts.begun IsCarried
   pub last : ForSome facts.last (λ (last : ℤ × ℤ). IsCarried last.0 × IsCarried last.1)
   pub shift : IsCarried facts.shift

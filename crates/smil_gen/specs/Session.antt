@@ -1,4 +1,5 @@
--- The session of a number: a seq of so many images, beside each a text, and for each a second of time and a click.
+-- The session of a number: a seq of so many images, beside each a text,
+-- and for each a second of time and a click.
 use Rattle.std.specs.Prelude.{ℕ, zero, suc, ◌+◌, ◌%◌, List, [], ◌++◌, codes, decimal}
 use Rattle.smil_gen.specs.declared.session.Part.{Part}
 use Rattle.smil_gen.specs.declared.session.Part.TheVariants.{Images, Texts, Orders}
@@ -6,12 +7,14 @@ use Rattle.smil_gen.specs.declared.session.Part.TheVariants.{Images, Texts, Orde
 -- an image that lasts one to four seconds, or until it is clicked
 abbrev pub image_line : ℕ → List ℕ
 image_line k =
-    codes "    img id=\"p" ++ decimal k ++ codes "\" dur=\"" ++ decimal (1 + k % 4) ++ codes "s\" end=\"click\"\n"
+    codes "    img id=\"p" ++ decimal k ++ codes "\" dur=\"" ++ decimal (1 + k % 4)
+    ++ codes "s\" end=\"click\"\n"
 
 -- a text from half a second after the image's begin on
 abbrev pub text_line : ℕ → List ℕ
 text_line k =
-    codes "    text id=\"c" ++ decimal k ++ codes "\" begin=\"p" ++ decimal k ++ codes ".begin+500ms\" dur=\"1s\"\n"
+    codes "    text id=\"c" ++ decimal k ++ codes "\" begin=\"p" ++ decimal k
+    ++ codes ".begin+500ms\" dur=\"1s\"\n"
 
 -- a second passes, and the image is clicked
 abbrev pub order_lines : ℕ → List ℕ

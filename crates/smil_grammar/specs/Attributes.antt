@@ -39,7 +39,8 @@ kind_called text = find (λ k. bytes_eq text (kind_text k)) kinds
 -- elements of SMIL that are left out
 abbrev pub is_other_kind : List ℕ → Bool
 is_other_kind text =
-    list_any (bytes_eq text) (codes "switch" ∷ codes "prefetch" ∷ codes "smilText" ∷ codes "body" ∷ [])
+    list_any (bytes_eq text) (codes "switch" ∷ codes "prefetch" ∷ codes "smilText" ∷ codes "body"
+    ∷ [])
 
 -- the word of an attribute
 abbrev pub name_text : AttrName → List ℕ
@@ -79,8 +80,9 @@ names =
 abbrev pub name_called : List ℕ → Option AttrName
 name_called text = find (λ n. bytes_eq text (name_text n)) names
 
--- each kind has an id; a priorityClass has its three besides and no others; of the other kinds only a set has its three,
--- a set has no src, region or alt, only a par or an excl has endsync, and all have the rest
+-- each kind has an id; a priorityClass has its three besides and no others;
+-- of the other kinds only a set has its three, a set has no src, region or alt,
+-- only a par or an excl has endsync, and all have the rest
 abbrev pub has : Kind → AttrName → Bool
 has k name.Id = true
 has k name.Endsync = has_endsync k
@@ -100,7 +102,8 @@ abbrev pub is_other_name : List ℕ → Bool
 is_other_name text =
     list_any (bytes_eq text)
     (codes "speed" ∷ codes "accelerate" ∷ codes "decelerate" ∷ codes "autoReverse"
-    ∷ codes "syncBehavior" ∷ codes "syncTolerance" ∷ codes "syncMaster" ∷ codes "syncBehaviorDefault"
+    ∷ codes "syncBehavior" ∷ codes "syncTolerance" ∷ codes "syncMaster"
+    ∷ codes "syncBehaviorDefault"
     ∷ codes "syncToleranceDefault" ∷ codes "pauseDisplay" ∷ [])
 
 -- the fault of a word that no attribute of the profile has

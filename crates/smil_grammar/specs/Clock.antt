@@ -13,7 +13,8 @@ use Rattle.smil_grammar.specs.declared.fault.ClockFault.TheVariants.{Bad, TooLon
 abbrev pub tenth : ℕ
 tenth = 100_000_000
 
--- a number with its billionths, of a unit of so many milliseconds, rounded down to whole milliseconds
+-- a number with its billionths, of a unit of so many milliseconds,
+-- rounded down to whole milliseconds
 abbrev pub milliseconds : ℕ → ℕ × ℕ → ℕ
 milliseconds unit n = n.0 * unit + n.1 * unit / BILLION
 

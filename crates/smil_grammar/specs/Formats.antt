@@ -1,5 +1,6 @@
--- How an order's values and node lines are read. A place is counted from 0, and its column in the order's line is the sum
--- of the place in the text and the column at which the text begins.
+-- How an order's values and node lines are read. A place is counted from 0,
+-- and its column in the order's line is the sum of the place in the text and the column at which
+-- the text begins.
 use Rattle.std.specs.Prelude.{ℕ, ◌-◌, List, [], Option, Some, Result, Ok}
 use Rattle.smil_model.specs.declared.document.Kind.{Kind}
 use Rattle.smil_model.specs.declared.document.Attr.{Attr}
@@ -29,7 +30,8 @@ attr_in_line kind parent name value name_column column =
 
 -- the name of an attribute of a node of this kind
 abbrev pub name_in_line : Kind → List ℕ → ℕ → Result AttrName Refusal
-name_in_line kind name column = in_line 0 (at_column (written_at name [] column column) (attr_name_of kind name))
+name_in_line kind name column =
+    in_line 0 (at_column (written_at name [] column column) (attr_name_of kind name))
 
 -- the kind of a node line that begins at this column
 abbrev pub kind_in_line : List ℕ → ℕ → Result Kind Refusal
@@ -37,7 +39,8 @@ kind_in_line line column = in_line (column - 1) (kind_of line)
 
 -- the attributes of a node line that begins at this column, under a parent of this kind
 abbrev pub attrs_in_line : Kind → List ℕ → ℕ → Result Attrs Refusal
-attrs_in_line parent line column = in_line (column - 1) (node_of (Some parent) line >>= λ node. Ok node.1)
+attrs_in_line parent line column =
+    in_line (column - 1) (node_of (Some parent) line >>= λ node. Ok node.1)
 
 -- the grammars of values and node lines, and the canonical outline
 abbrev pub formats : Formats

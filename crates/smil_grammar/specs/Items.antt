@@ -1,5 +1,6 @@
--- Items of begin and end lists: `3s`, `-1s`, `a.begin`, `a\.b.end+2s`, `click`, `a.click`, `a.repeat(2)`,
--- `accesskey(x)` and `indefinite`. The name of the element of an item is None where the item names none.
+-- Items of begin and end lists: `3s`, `-1s`, `a.begin`, `a\.b.end+2s`, `click`, `a.click`,
+-- `a.repeat(2)`, `accesskey(x)` and `indefinite`. The name of the element of an item is None where
+-- the item names none.
 use Rattle.std.specs.Prelude.{◌≡◌, ℕ, ℤ, pos, neg_ℤ, Bool, true, false, not, ◌||◌, ◌&&◌, List, [], ◌∷◌, length, take, drop, Option, Some, None, option_map, Result, Ok, Err, nat_lt, ◌==◌, if◌then◌else◌, codes, bytes_eq}
 use Rattle.std.specs.List.{starts_with}
 use Rattle.std.specs.Bool.{nat_eq}
@@ -29,14 +30,17 @@ with_sign sign n = if sign == minus then neg_ℤ (pos n) else pos n
 -- a sign and a clock value, with white space between them where one likes
 abbrev pub signed_of : List ℕ → Option ℤ
 signed_of [] = None
-signed_of (b ∷ bytes) = if is_sign b then option_map (with_sign b) (clock_within (trim_front bytes)) else None
+signed_of (b ∷ bytes) =
+    if is_sign b then option_map (with_sign b) (clock_within (trim_front bytes)) else None
 
 -- an offset: a clock value with an optional sign before it
 abbrev pub offset_of : List ℕ → Option ℤ
 offset_of [] = None
-offset_of (b ∷ bytes) = if is_sign b then signed_of (b ∷ bytes) else option_map pos (clock_within (b ∷ bytes))
+offset_of (b ∷ bytes) =
+    if is_sign b then signed_of (b ∷ bytes) else option_map pos (clock_within (b ∷ bytes))
 
--- a tail: a sign and a clock value behind a word, with white space between them where one likes, or nothing
+-- a tail: a sign and a clock value behind a word, with white space between them where one likes,
+-- or nothing
 abbrev pub tail_of : List ℕ → Option ℤ
 tail_of [] = Some (pos 0)
 tail_of (b ∷ bytes) = signed_of (trim_front (b ∷ bytes))
@@ -85,7 +89,8 @@ what_of who text = word_of who (take (name_len text) text) (drop (name_len text)
 -- an item of an element that a reference names: media markers are left out
 abbrev pub of_element : List ℕ → List ℕ → Result Item ItemFault
 of_element who text =
-    if starts_with nat_eq text (codes "marker(") then Err Unsupported else ok_or (what_of (Some who) text) Bad
+    if starts_with nat_eq text (codes "marker(") then Err Unsupported
+    else ok_or (what_of (Some who) text) Bad
 
 -- where a point stands behind the longest id at the front, the id names the element
 abbrev pub subject_of : List ℕ → Option (List ℕ) → Result Item ItemFault
@@ -94,11 +99,13 @@ subject_of text (Some rest) = of_element (unescaped (take (id_len true text) tex
 
 -- forms of SMIL that are left out, whatever stands behind these words
 abbrev pub is_left_out : List ℕ → Bool
-is_left_out text = starts_with nat_eq text (codes "wallclock(") || starts_with nat_eq text (codes "id(")
+is_left_out text =
+    starts_with nat_eq text (codes "wallclock(") || starts_with nat_eq text (codes "id(")
 
 -- an access key, in two spellings
 abbrev pub is_keyed : List ℕ → Bool
-is_keyed text = starts_with nat_eq text (codes "accesskey(") || starts_with nat_eq text (codes "accessKey(")
+is_keyed text =
+    starts_with nat_eq text (codes "accesskey(") || starts_with nat_eq text (codes "accessKey(")
 
 -- what stands behind these words: the key, a parenthesis, and a tail
 abbrev pub key_of : List ℕ → Option Item
@@ -111,7 +118,8 @@ named_of text =
     if is_left_out text then Err Unsupported
     else (if is_keyed text then ok_or (key_of (drop 10 text)) Bad
     else (if bytes_eq text (codes "indefinite") then Ok Indefinite
-    else (if id_len true text == 0 then Err Bad else subject_of text (behind point (drop (id_len true text) text)))))
+    else (if id_len true text == 0 then Err Bad
+    else subject_of text (behind point (drop (id_len true text) text)))))
 
 -- an item without white space at its ends; offsets begin with a digit or a sign
 abbrev pub item_of : List ℕ → Result Item ItemFault

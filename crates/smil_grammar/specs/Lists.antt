@@ -14,7 +14,8 @@ use Rattle.smil_grammar.specs.Texts.{is_white, trim, semicolon}
 use Rattle.smil_grammar.specs.Results.{◌>>=◌}
 use Rattle.smil_grammar.specs.Items.{item_of, IsItem}
 
--- A malformed item is answered at its own place, and in the begin of a child of a seq at the first item's:
+-- A malformed item is answered at its own place, and in the begin of a child of a seq at the first
+-- item's:
 -- the first argument below is the place of that first item, or None.
 
 -- an item with the place of its fault
@@ -26,7 +27,8 @@ item_at first place (Err item.Memory) = Err Memory
 
 -- a piece of the list that begins at this place: the item stands behind its white space
 abbrev pub piece_at : Option ℕ → ℕ → List ℕ → Result Item ListFault
-piece_at first place piece = item_at first (place + prefix_len is_white piece) (item_of (trim piece))
+piece_at first place piece =
+    item_at first (place + prefix_len is_white piece) (item_of (trim piece))
 
 -- from left to right, up to the first fault
 abbrev pub items_from : Option ℕ → ℕ → List (List ℕ) → Result (List Item) ListFault

@@ -1,6 +1,7 @@
--- Node lines: a kind, and attributes as ` name="value"`. Behind the kind the line is cut at each quote: what
--- stands before an opening quote is spaces, a name and `=`, what stands before a closing one is a value, and
--- behind the last quote are spaces.
+-- Node lines: a kind, and attributes as ` name="value"`.
+-- Behind the kind the line is cut at each quote: what stands before an opening quote is spaces,
+-- a name and `=`, what stands before a closing one is a value,
+-- and behind the last quote are spaces.
 use Rattle.std.specs.Prelude.{ℕ, ◌+◌, ◌-◌, Bool, false, not, ◌&&◌, ◌||◌, List, [], ◌∷◌, length, take, drop, Option, Some, None, option_and_then, Result, Ok, Err, nat_lt, min, ◌==◌, if◌then◌else◌, codes, bytes_eq}
 use Rattle.std.specs.List.{prefix_len, slice_split, list_all, list_any}
 use Rattle.std.specs.Str.{is_utf8}
@@ -107,13 +108,15 @@ shape_behind kind (Some text) =
 abbrev pub saved_shape_of : List ℕ → Option (ℕ × Shape)
 saved_shape_of line =
     let kind : ℕ = prefix_len is_of_kind line in
-    shape_behind (take kind line) (option_and_then (behind number_sign) (behind space (drop kind line)))
+    shape_behind (take kind line)
+    (option_and_then (behind number_sign) (behind space (drop kind line)))
 
 -- a name that stands twice
 abbrev pub repeats : List WrittenAttr → Bool
 repeats [] = false
 repeats (attribute ∷ attributes) =
-    list_any (λ (other : WrittenAttr). bytes_eq other.name attribute.name) attributes || repeats attributes
+    list_any (λ (other : WrittenAttr). bytes_eq other.name attribute.name) attributes
+    || repeats attributes
 
 -- the kind of a node line: its shape and repeated names come before it
 abbrev pub kind_or : List ℕ → Option Kind → Result Kind NodeFault
@@ -135,10 +138,13 @@ column_at place = min (place + 1) 4_294_967_295
 -- a fault with its column
 abbrev pub at_column : {A : Type 0} → WrittenAttr → Result A AttrFault → Result A NodeFault
 at_column written (Ok x) = Ok x
-at_column written (Err attr.UnknownAttribute) = Err (UnknownAttribute (column_at written.name_place))
+at_column written (Err attr.UnknownAttribute) =
+    Err (UnknownAttribute (column_at written.name_place))
 at_column written (Err attr.UnsupportedName) = Err (Unsupported (column_at written.name_place))
-at_column written (Err (attr.UnsupportedValue place)) = Err (Unsupported (column_at (written.value_place + place)))
-at_column written (Err (attr.BadValue place)) = Err (BadValue (column_at (written.value_place + place)))
+at_column written (Err (attr.UnsupportedValue place)) =
+    Err (Unsupported (column_at (written.value_place + place)))
+at_column written (Err (attr.BadValue place)) =
+    Err (BadValue (column_at (written.value_place + place)))
 at_column written (Err attr.TooManyItems) = Err (TooManyItems (column_at written.value_place))
 at_column written (Err attr.Memory) = Err Memory
 

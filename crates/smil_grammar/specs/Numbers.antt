@@ -6,7 +6,8 @@ use Rattle.smil_grammar.specs.Texts.{◌>>=◌, cut_at, point, zero_digit}
 -- the number that digits write, going on from the number before them; none where a byte is no digit
 abbrev pub number_after : ℕ → List ℕ → Option ℕ
 number_after n [] = Some n
-number_after n (b ∷ bytes) = if is_ascii_digit b then number_after (n * 10 + (b - zero_digit)) bytes else None
+number_after n (b ∷ bytes) =
+    if is_ascii_digit b then number_after (n * 10 + (b - zero_digit)) bytes else None
 
 -- the number that one digit or more write
 abbrev pub number_of : List ℕ → Option ℕ
@@ -21,8 +22,8 @@ below_60 n = if nat_lt n 60 then Some n else None
 abbrev pub sixty_of : List ℕ → Option ℕ
 sixty_of text = if length text == 2 then number_of text >>= below_60 else None
 
--- what digits behind a point weigh: a one at the first place weighs so much, and at each later place a tenth of what it
--- weighs at the place before, rounded down
+-- what digits behind a point weigh: a one at the first place weighs so much,
+-- and at each later place a tenth of what it weighs at the place before, rounded down
 abbrev pub weight : ℕ → List ℕ → ℕ
 weight first [] = 0
 weight first (b ∷ bytes) = (b - zero_digit) * first + weight (first / 10) bytes

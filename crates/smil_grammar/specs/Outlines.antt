@@ -21,8 +21,8 @@ use Rattle.smil_model.specs.document.Valid.{may_stand, references, references_am
 use Rattle.smil_model.specs.document.Words.{line_feed}
 use Rattle.smil_grammar.specs.Spellings.{node_text, saved_node_text, header_text}
 
--- the nodes so far, the serials and kinds of the last node and those above it, from the root down, and the next serial
--- where a header gives it
+-- the nodes so far, the serials and kinds of the last node and those above it, from the root down,
+-- and the next serial where a header gives it
 pub record Outline : Type 0 where
   pub nodes : List Node
   pub branch : List (ℕ × Kind)
@@ -47,17 +47,18 @@ abbrev pub in_line : {A : Type 0} → ℕ → Result A NodeFault → Result A Re
 in_line spaces (Ok x) = Ok x
 in_line spaces (Err e) = Err (refused spaces e)
 
--- goes on unless this holds
-abbrev pub unless : Bool → Refusal → Result (Unit {0}) Refusal
-unless true e = Err e
-unless false e = Ok tt
+-- goes on refuse_if this holds
+abbrev pub refuse_if : Bool → Refusal → Result (Unit {0}) Refusal
+refuse_if true e = Err e
+refuse_if false e = Ok tt
 
 -- an excl doesn't mix classes with other children
 abbrev pub mixes : List Node → Option (ℕ × Kind) → Kind → Bool
 mixes nodes None kind = false
 mixes nodes (Some parent) kind =
     list_any
-    (λ (n : Node). (n.parent == parent.0) && not (same_test (is_class_kind n.kind) (is_class_kind kind)))
+    (λ (n : Node). (n.parent == parent.0)
+    && not (same_test (is_class_kind n.kind) (is_class_kind kind)))
     nodes
 
 -- whether a node has this id already, where no id is the empty one
@@ -72,7 +73,8 @@ last_of items = slice_get items (length items - 1)
 -- the attributes of a node below this one
 abbrev pub attrs_in : Option (ℕ × Kind) → Kind → Shape → Result Attrs NodeFault
 attrs_in parent kind shape =
-    attrs_from (is_seq_parent (option_map (λ (n : ℕ × Kind). n.1) parent)) kind no_attrs shape.attributes
+    attrs_from
+    (is_seq_parent (option_map (λ (n : ℕ × Kind). n.1) parent)) kind no_attrs shape.attributes
 
 -- a node line as it is read, with its serial: the one that it gives, or the next in document order
 abbrev pub shape_in : Outline → Option ℕ → List ℕ → Option (ℕ × Shape)
@@ -92,15 +94,16 @@ is_misplaced outline above kind =
     || (length above == 0 && nat_lt 0 (length outline.nodes))
     || mixes outline.nodes (last_of above) kind
 
--- the node of a line below these nodes: its place, its attributes, and what a document within these limits can hold
+-- the node of a line below these nodes: its place, its attributes,
+-- and what a document within these limits can hold
 abbrev pub node_within : Limits → Outline → ℕ → List (ℕ × Kind) → Kind → ℕ → Shape
     → Result Node Refusal
 node_within allowed outline spaces above kind serial shape = do
-  placed ← unless (is_misplaced outline above kind) refusal.BadPlace
+  placed ← refuse_if (is_misplaced outline above kind) refusal.BadPlace
   attrs ← in_line spaces (attrs_in (last_of above) kind shape)
-  single ← unless (has_id outline.nodes attrs.id) refusal.DuplicateId
-  few ← unless (nat_le allowed.nodes (length outline.nodes)) refusal.TooManyElements
-  light ← unless (nat_lt allowed.references (references outline.nodes + references_among attrs))
+  single ← refuse_if (has_id outline.nodes attrs.id) refusal.DuplicateId
+  few ← refuse_if (nat_le allowed.nodes (length outline.nodes)) refusal.TooManyElements
+  light ← refuse_if (nat_lt allowed.references (references outline.nodes + references_among attrs))
       refusal.TooManyReferences
   Ok (record {
     serial = serial;
@@ -111,7 +114,8 @@ node_within allowed outline spaces above kind serial shape = do
 
 -- the header of an outline that gives serials: the next serial
 abbrev pub header_of : List ℕ → Option ℕ
-header_of line = if starts_with nat_eq line (codes "outline 2 next ") then count_of (drop 15 line) else None
+header_of line =
+    if starts_with nat_eq line (codes "outline 2 next ") then count_of (drop 15 line) else None
 
 -- a first line whose first word is `outline` is a header, or faulty
 abbrev pub opens_saved : Outline → List ℕ → Bool
@@ -135,11 +139,11 @@ with_node outline depth node = record outline {
 abbrev pub shape_within : Limits → Outline → ℕ → Option (ℕ × Shape) → Result Outline Refusal
 shape_within allowed outline spaces None = Err refusal.BadOutline
 shape_within allowed outline spaces (Some (serial, shape)) = do
-  even ← unless (spaces % 2 == 1) refusal.BadOutline
+  even ← refuse_if (spaces % 2 == 1) refusal.BadOutline
   kind ← in_line spaces (kind_of_shape (Some shape))
-  fresh ← unless (is_bad_serial outline outline.next serial) refusal.BadSerial
-  near ← unless (nat_lt (length outline.branch) (spaces / 2)) refusal.DepthJump
-  flat ← unless (nat_le DEPTH (spaces / 2)) refusal.TooDeep
+  fresh ← refuse_if (is_bad_serial outline outline.next serial) refusal.BadSerial
+  near ← refuse_if (nat_lt (length outline.branch) (spaces / 2)) refusal.DepthJump
+  flat ← refuse_if (nat_le DEPTH (spaces / 2)) refusal.TooDeep
   node ← node_within allowed outline spaces (take (spaces / 2) outline.branch) kind serial shape
   Ok (with_node outline (spaces / 2) node)
 
@@ -153,7 +157,7 @@ read_within allowed outline line =
 -- one more line
 abbrev pub line_within : Limits → Outline → List ℕ → Result Outline Refusal
 line_within allowed outline line = do
-  short ← unless (nat_lt LINE_BYTES (length line)) refusal.LongLine
+  short ← refuse_if (nat_lt LINE_BYTES (length line)) refusal.LongLine
   read_within allowed outline line
 
 -- line by line, up to the first refusal
@@ -173,7 +177,8 @@ with_lines outline lines = lines_within limits outline lines
 abbrev pub ended : Outline → Result Document Refusal
 ended outline =
     if length outline.nodes == 0 then Err refusal.BadOutline
-    else Ok (record { nodes = outline.nodes; next = unwrap_or outline.next (length outline.nodes + 1) })
+    else Ok
+    (record { nodes = outline.nodes; next = unwrap_or outline.next (length outline.nodes + 1) })
 
 -- the version of an outline: 2 where a header gives serials
 abbrev pub version_of : Outline → ℕ
@@ -190,7 +195,8 @@ outline_of lines = outline_within limits lines
 -- how deep each node stands: one deeper than its parent, which stands before it
 abbrev pub depth_among : List (ℕ × ℕ) → ℕ → ℕ
 depth_among [] parent = 0
-depth_among ((serial, depth) ∷ others) parent = if serial == parent then depth + 1 else depth_among others parent
+depth_among ((serial, depth) ∷ others) parent =
+    if serial == parent then depth + 1 else depth_among others parent
 
 -- the node lines of nodes in document order, which stand behind those of these depths
 abbrev pub lines_from : List (ℕ × ℕ) → List Node → List (List ℕ)
@@ -204,12 +210,14 @@ abbrev pub saved_lines_from : List (ℕ × ℕ) → List Node → List (List ℕ
 saved_lines_from depths [] = []
 saved_lines_from depths (n ∷ nodes) =
     let depth : ℕ = depth_among depths n.parent in
-    saved_node_text depth n.kind n.serial n.attrs ∷ saved_lines_from ((n.serial, depth) ∷ depths) nodes
+    saved_node_text depth n.kind n.serial n.attrs
+    ∷ saved_lines_from ((n.serial, depth) ∷ depths) nodes
 
 -- the canonical outline of a document with its serials and its next serial
 abbrev pub saved_text : Document → List ℕ
 saved_text document =
-    flat_map (λ line. line ++ line_feed ∷ []) (header_text document.next ∷ saved_lines_from [] document.nodes)
+    flat_map (λ line. line ++ line_feed ∷ []) (header_text document.next
+    ∷ saved_lines_from [] document.nodes)
 
 -- the canonical outline: each line ends with a line feed
 abbrev pub outline_text : List Node → List ℕ

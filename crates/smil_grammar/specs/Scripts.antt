@@ -31,15 +31,20 @@ skipped line = record {
 abbrev pub first_of : Piece → Piece × Piece
 first_of line =
     let from : Piece = skipped line in
-    let n : ℕ = prefix_len is_no_space from.text in
-    (record { text = take n from.text; place = from.place }, record { text = drop n from.text; place = from.place + n })
+    let n : ℕ = prefix_len is_no_space from.text in (
+      record { text = take n from.text; place = from.place },
+      record {
+        text = drop n from.text;
+        place = from.place + n;
+      },
+    )
 
 -- nothing but spaces
 abbrev pub is_ended : Piece → Bool
 is_ended line = list_all is_space line.text
 
--- a presentation's name: a letter, then letters, digits, `_` and `-`, at most so many bytes, and neither `load`
--- nor `close`
+-- a presentation's name: a letter, then letters, digits, `_` and `-`, at most so many bytes,
+-- and neither `load` nor `close`
 abbrev pub is_title : List ℕ → Bool
 is_title [] = false
 is_title (b ∷ bytes) =
@@ -114,7 +119,8 @@ attribute_of text =
 abbrev pub unset_line : Who → Piece → Option OrderReading
 unset_line who line =
     let cut : Piece × Piece = first_of line in
-    attribute_of cut.0.text >>= λ name. at_end cut.1 (given (order.Unset who name (cut.0.place + 1)))
+    attribute_of cut.0.text
+    >>= λ name. at_end cut.1 (given (order.Unset who name (cut.0.place + 1)))
 
 -- a value between quotes, and nothing but spaces behind it
 abbrev pub quoted : Piece → Option (List ℕ × Piece)
@@ -167,9 +173,11 @@ order_line verb line =
     else (if bytes_eq verb (codes "set") then with_who set_line line
     else (if bytes_eq verb (codes "unset") then with_who unset_line line
     else (if bytes_eq verb (codes "insert") then with_who insert_line line
-    else (if bytes_eq verb (codes "remove") then with_who (λ who rest. at_end rest (given (order.Remove who))) line
+    else (if bytes_eq verb (codes "remove")
+    then with_who (λ who rest. at_end rest (given (order.Remove who))) line
     else (if bytes_eq verb (codes "show") then at_end line (given order.Show)
-    else (if bytes_eq verb (codes "history") then with_who (λ who rest. at_end rest (given (order.History who))) line
+    else (if bytes_eq verb (codes "history")
+    then with_who (λ who rest. at_end rest (given (order.History who))) line
     else (if bytes_eq verb (codes "text") then at_end line (given order.Text)
     else (if bytes_eq verb (codes "key") then key_line line
     else (if bytes_eq verb (codes "save") then at_end line (given order.Save)
@@ -200,7 +208,8 @@ command cut =
     if bytes_eq cut.0.text (codes "load") then or_refused (named Load cut.1)
     else (if bytes_eq cut.0.text (codes "close") then or_refused (named Close cut.1)
     else (if is_title cut.0.text
-    then (let verb : Piece × Piece = first_of cut.1 in to cut.0.text (finish (order_line verb.0.text verb.1)))
+    then (let verb : Piece × Piece = first_of cut.1 in
+    to cut.0.text (finish (order_line verb.0.text verb.1)))
     else Err NotACommand))
 
 -- a line that has no answer: white space alone, or one whose first byte is `#`
@@ -209,7 +218,8 @@ is_blank line = list_all is_white line || is_some (behind number_sign line)
 
 -- what a script line says, or why it has no reading
 abbrev pub line_of : List ℕ → Result Read Refusal
-line_of line = if is_blank line then Ok Blank else command (first_of (record { text = line; place = 0 }))
+line_of line =
+    if is_blank line then Ok Blank else command (first_of (record { text = line; place = 0 }))
 
 -- a line whose first word is `load` opens a load, however it goes on
 abbrev pub opens_load : List ℕ → Bool

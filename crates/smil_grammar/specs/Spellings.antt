@@ -64,7 +64,8 @@ abbrev pub item_text : Item → List ℕ
 item_text (Offset offset) = offset_text offset
 item_text (Sync who edge offset) = escaped who ++ point ∷ (edge_text edge ++ tail_text offset)
 item_text (Event who name offset) = of_who who ++ (name ++ tail_text offset)
-item_text (Repeat who n offset) = of_who who ++ (codes "repeat(" ++ decimal n ++ codes ")" ++ tail_text offset)
+item_text (Repeat who n offset) =
+    of_who who ++ (codes "repeat(" ++ decimal n ++ codes ")" ++ tail_text offset)
 item_text (Key key offset) = codes "accesskey(" ++ (key ∷ []) ++ codes ")" ++ tail_text offset
 item_text Indefinite = codes "indefinite"
 
@@ -206,7 +207,8 @@ node_text depth kind attrs = replicate (2 * depth) space ++ kind_text kind ++ at
 -- the same with the node's serial behind the kind
 abbrev pub saved_node_text : ℕ → Kind → ℕ → Attrs → List ℕ
 saved_node_text depth kind serial attrs =
-    replicate (2 * depth) space ++ kind_text kind ++ codes " #" ++ decimal serial ++ attributes_text attrs
+    replicate (2 * depth) space ++ kind_text kind ++ codes " #" ++ decimal serial
+    ++ attributes_text attrs
 
 -- the header of an outline with serials
 abbrev pub header_text : ℕ → List ℕ

@@ -51,7 +51,8 @@ either None other = other
 
 -- an id that is all of the text
 abbrev pub id_of : List ℕ → Option (List ℕ)
-id_of text = if not (length text == 0) && (id_len false text == length text) then Some text else None
+id_of text =
+    if not (length text == 0) && (id_len false text == length text) then Some text else None
 
 -- a clock value or `indefinite`
 abbrev pub time_of : List ℕ → Option Time
@@ -110,7 +111,8 @@ fill_of text =
 abbrev pub restart_default_of : List ℕ → Option RestartDefault
 restart_default_of text =
     keyword
-    ((codes "always", restart_default.Always) ∷ (codes "whenNotActive", restart_default.WhenNotActive)
+    ((codes "always", restart_default.Always)
+    ∷ (codes "whenNotActive", restart_default.WhenNotActive)
     ∷ (codes "never", restart_default.Never) ∷ (codes "inherit", restart_default.Inherit) ∷ [])
     text
 
@@ -132,7 +134,8 @@ abbrev pub endsync_of : List ℕ → Option Endsync
 endsync_of text =
     either
     (keyword
-    ((codes "last", endsync.Last) ∷ (codes "first", endsync.First) ∷ (codes "all", endsync.All) ∷ [])
+    ((codes "last", endsync.Last) ∷ (codes "first", endsync.First) ∷ (codes "all", endsync.All)
+    ∷ [])
     text)
     (option_map endsync.Child (id_of text))
 
@@ -166,7 +169,8 @@ is_other_value name.FillDefault text = bytes_eq text (codes "transition")
 is_other_value _ text = false
 
 -- faults of lists have their own places
-abbrev pub of_list : {A : Type 0} → (List Item → A) → Result (List Item) ListFault → Result A AttrFault
+abbrev pub of_list :
+    {A : Type 0} → (List Item → A) → Result (List Item) ListFault → Result A AttrFault
 of_list made (Ok items) = Ok (made items)
 of_list made (Err (list.Bad place)) = Err (BadValue place)
 of_list made (Err (list.Unsupported place)) = Err (UnsupportedValue place)
@@ -177,8 +181,8 @@ of_list made (Err list.Memory) = Err Memory
 abbrev pub of_value : {A B : Type 0} → (A → B) → Option A → Result B AttrFault
 of_value made value = ok_or (option_map made value) (BadValue 0)
 
--- a value, without the white space at its ends where that is ignored; the first argument says that it is read
--- for a child of a seq
+-- a value, without the white space at its ends where that is ignored;
+-- the first argument says that it is read for a child of a seq
 abbrev pub plain_value_of : Bool → AttrName → List ℕ → Result Attr AttrFault
 plain_value_of in_seq name.Id text = of_value attr.Id (id_of text)
 plain_value_of in_seq name.Begin text = of_list attr.Begin (list_of in_seq text)
@@ -190,8 +194,10 @@ plain_value_of in_seq name.RepeatCount text = of_value attr.RepeatCount (count_o
 plain_value_of in_seq name.RepeatDur text = of_value attr.RepeatDur (repeat_dur_of (trim text))
 plain_value_of in_seq name.Restart text = of_value attr.Restart (restart_of (trim text))
 plain_value_of in_seq name.Fill text = of_value attr.Fill (fill_of (trim text))
-plain_value_of in_seq name.RestartDefault text = of_value attr.RestartDefault (restart_default_of (trim text))
-plain_value_of in_seq name.FillDefault text = of_value attr.FillDefault (fill_default_of (trim text))
+plain_value_of in_seq name.RestartDefault text =
+    of_value attr.RestartDefault (restart_default_of (trim text))
+plain_value_of in_seq name.FillDefault text =
+    of_value attr.FillDefault (fill_default_of (trim text))
 plain_value_of in_seq name.Endsync text = of_value attr.Endsync (endsync_of (trim text))
 plain_value_of in_seq name.Peers text = of_value attr.Peers (peers_of (trim text))
 plain_value_of in_seq name.Higher text = of_value attr.Higher (higher_of (trim text))
@@ -201,10 +207,12 @@ plain_value_of in_seq name.Region text = of_value attr.Region (kept_of text)
 plain_value_of in_seq name.Alt text = of_value attr.Alt (kept_of text)
 plain_value_of in_seq name.Title text = of_value attr.Title (kept_of text)
 plain_value_of in_seq name.TargetElement text = of_value attr.TargetElement (id_of (trim text))
-plain_value_of in_seq name.AttributeName text = of_value attr.AttributeName (attribute_name_of (trim text))
+plain_value_of in_seq name.AttributeName text =
+    of_value attr.AttributeName (attribute_name_of (trim text))
 plain_value_of in_seq name.To text = of_value attr.To (kept_of text)
 
 -- a value, where it isn't left out
 abbrev pub value_of : Bool → AttrName → List ℕ → Result Attr AttrFault
 value_of in_seq name text =
-    if is_other_value name (trim text) then Err (UnsupportedValue 0) else plain_value_of in_seq name text
+    if is_other_value name (trim text) then Err (UnsupportedValue 0)
+    else plain_value_of in_seq name text

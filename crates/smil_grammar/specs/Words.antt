@@ -10,8 +10,8 @@ abbrev pub word_len : (ℕ → Bool) → List ℕ → ℕ
 word_len passes [] = 0
 word_len passes (b ∷ bytes) = if is_initial b then 1 + prefix_len passes bytes else 0
 
--- how many bytes go on an id in a reference, where each `.` and `-` has a backslash before it and no other
--- byte has one; the first argument says whether a backslash stands before these bytes
+-- how many bytes go on an id in a reference, where each `.` and `-` has a backslash before it and
+-- no other byte has one; the first argument says whether a backslash stands before these bytes
 abbrev pub escaped_len : Bool → List ℕ → ℕ
 escaped_len true [] = 0
 escaped_len false [] = 0
@@ -37,9 +37,10 @@ short_len most own n = if nat_lt most own then 0 else n
 abbrev pub name_len : List ℕ → ℕ
 name_len text = short_len EVENT_BYTES (word_len is_of_name text) (word_len is_of_name text)
 
--- how many bytes the longest id at the front has, written plainly or as in a reference, whose backslashes
--- don't count for its own length
+-- how many bytes the longest id at the front has, written plainly or as in a reference,
+-- whose backslashes don't count for its own length
 abbrev pub id_len : Bool → List ℕ → ℕ
 id_len true text =
-    short_len ID_BYTES (count_by (λ b. not (b == backslash)) (take (reference_len text) text)) (reference_len text)
+    short_len ID_BYTES (count_by (λ b. not (b == backslash)) (take (reference_len text) text))
+    (reference_len text)
 id_len false text = short_len ID_BYTES (word_len is_of_id text) (word_len is_of_id text)

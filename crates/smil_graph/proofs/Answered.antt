@@ -6,7 +6,7 @@ use Rattle.std.proofs.lemmas.Bool.{and_parts, eqb-true, or_from}
 use Rattle.smil_laws.proofs.Lineages.{swap_eqb}
 use Rattle.smil_model.specs.declared.document.Node.{Node}
 use Rattle.smil_model.specs.declared.document.Item.{Item}
-use Rattle.smil_model.specs.declared.document.Item.TheVariants.{Offset, Sync, Event, Repeat, Key, Indefinite}
+use Rattle.smil_model.specs.declared.document.Item.TheVariants.{Offset, Sync, Event, Repeat}
 use Rattle.smil_model.specs.declared.document.Edge.{Edge}
 use Rattle.smil_model.specs.document.Document.{is_element, elements, element_named, has_id, has_serial, is_time_child, node_at, previous_in_seq, serials, target, time_parent}
 use Rattle.smil_model.specs.document.Defaults.{items_of}
@@ -89,10 +89,7 @@ module _ (nodes : List Node) (distinct : IsDistinct nodes) (index : ℕ → Opti
       no_sync : (item : Item) → is_sync_with nodes s item ≡ false
       no_sync (Offset o) = refl
       no_sync (Sync who edge o) = no_serial (element_named nodes who) (named_there who)
-      no_sync (Event who name o) = refl
-      no_sync (Repeat who n o) = refl
-      no_sync (Key key o) = refl
-      no_sync Indefinite = refl
+      no_sync _ = refl
 
       no_option : (o : Option Node) → has_serial s o ≡ false → is_option s (option_map (λ (n : Node). n.serial) o) ≡ false
       no_option None q = refl
@@ -110,8 +107,7 @@ module _ (nodes : List Node) (distinct : IsDistinct nodes) (index : ℕ → Opti
           by_item (Sync who edge o) = refl
           by_item (Event who name o) = by_target who
           by_item (Repeat who n o) = by_target who
-          by_item (Key key o) = refl
-          by_item Indefinite = refl
+          by_item _ = refl
 
       no_item : (f : Item → Bool) → ((item : Item) → f item ≡ false) → (items : List Item) → list_any f items ≡ false
       no_item f none [] = refl

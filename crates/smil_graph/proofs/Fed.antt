@@ -15,6 +15,7 @@ use Rattle.smil_laws.proofs.Ranks.{filter_has, any_elem}
 use Rattle.smil_laws.proofs.Lists.{each_at}
 use Rattle.smil_graph.specs.Links.{links, AreLevels, LeadsTo}
 use Rattle.smil_graph.specs.Places.{at_place, IsIndex}
+use Rattle.smil_graph.proofs.Lists.{any_each}
 use Rattle.smil_graph.proofs.Nodes.{there, none_each}
 use Rattle.smil_graph.proofs.Follow.{any_one, same_place}
 
@@ -75,14 +76,10 @@ module _ (nodes : List Node) (distinct : IsDistinct nodes) where
   swap_and false true c = refl
   swap_and false false c = refl
 
-  pub any_alike : (f g : Node → Bool) → ((x : Node) → f x ≡ g x) → (xs : List Node) → list_any f xs ≡ list_any g xs
-  any_alike f g same [] = refl
-  any_alike f g same (x ∷ xs) = ap (λ t. t || list_any f xs) (same x) ∙ ap (λ t. g x || t) (any_alike f g same xs)
-
   pub element_one : (f : Node → Bool) (j : ℕ) (e : Node) → slice_get nodes j ≡ Some e → list_any (λ (c : Node). (c.serial == e.serial) && f c) (elements nodes) ≡ (is_element e && f e)
   element_one f j e b =
       any_filter is_element (λ (c : Node). (c.serial == e.serial) && f c) nodes
-      ∙ any_alike (λ (c : Node). is_element c && ((c.serial == e.serial) && f c)) (λ (c : Node). (c.serial == e.serial) && (is_element c && f c)) (λ c. swap_and (is_element c) (c.serial == e.serial) (f c)) nodes
+      ∙ any_each (λ (c : Node). is_element c && ((c.serial == e.serial) && f c)) (λ (c : Node). (c.serial == e.serial) && (is_element c && f c)) nodes (λ c. swap_and (is_element c) (c.serial == e.serial) (f c))
       ∙ any_one nodes distinct (λ (c : Node). is_element c && f c) nodes j e distinct b
 
   pub feeds_is : (s j : ℕ) (e : Node) → slice_get nodes j ≡ Some e → feeds nodes s e.serial ≡ (is_element e && feeds_node nodes s e)

@@ -1,12 +1,13 @@
 -- What the definitions say of nodes, by their places.
 use Rattle.std.proofs.Common.{◌≡◌, refl, sym, ◌∙◌, ap, ℕ, suc, zero, ◌<◌, ◌+◌, List, [], ◌∷◌, ◌++◌, length, Bool, true, false, Option, Some, None, arith, inl, inr}
+use mathlib.Core.Bool.{or-false, or_assoc}
 use Rattle.std.specs.Prelude.{pos, cond, ◌==◌, ◌||◌, ◌&&◌, ◌⊎◌, filter, slice_get}
 use Rattle.std.specs.List.{AllByRecursion, list_any, range_with_len}
 use Rattle.std.proofs.lemmas.Bool.{or_from, eqb-true, eq-eqb, ne_eqb, cases_eq}
 use Rattle.std.proofs.lemmas.List.Folds.{list_any-append}
 use Rattle.smil_model.specs.declared.document.Node.{Node}
 use Rattle.smil_model.specs.declared.document.Item.{Item}
-use Rattle.smil_model.specs.declared.document.Item.TheVariants.{Offset, Sync, Event, Repeat, Key, Indefinite}
+use Rattle.smil_model.specs.declared.document.Item.TheVariants.{Offset, Sync, Event, Repeat, Indefinite}
 use Rattle.smil_model.specs.document.Document.{is_element, has_serial, has_kind, is_seq_kind, time_parent, is_time_child, time_children, just_before, previous_child, previous_in_seq, element_named, is_in_excl, target}
 use Rattle.smil_model.specs.document.Defaults.{items_or, begin_list, end_list}
 use Rattle.smil_model.specs.document.Dependencies.{has_implicit_duration, is_sync_with, all_items, feeds_node}
@@ -18,6 +19,7 @@ use Rattle.smil_laws.proofs.Lists.{each_at}
 use Rattle.smil_model.specs.document.Closure.{has}
 use Rattle.smil_graph.specs.Links.{row}
 use Rattle.smil_graph.specs.Places.{at_place, up, has_element, is_element_at, before, named_by, target_place, source_of, leads_to_place, follows, hears, previous_of, IsTable, IsIndex, AreTimeChildren}
+use Rattle.smil_graph.proofs.Lists.{any_each}
 use Rattle.smil_graph.proofs.Nodes.{there_below, IsTableTo, table_step}
 use Rattle.smil_graph.proofs.Ranges.{has_in_range}
 
@@ -72,13 +74,9 @@ module _ (nodes : List Node) (distinct : IsDistinct nodes) where
       ap (λ (y : Node). list_any (λ (c : Node). (c.serial == y.serial) && f c) (n ∷ ns)) (sym one)
       ∙ ap (λ t. (t && f n) || list_any (λ (c : Node). (c.serial == n.serial) && f c) ns) (eq-eqb n.serial n.serial refl)
       ∙ ap (λ t. f n || t) (none ns (differ_each n.serial ns d.0))
-      ∙ right (f n)
+      ∙ or-false (f n)
       ∙ ap f one
     where
-      right : (t : Bool) → (t || false) ≡ t
-      right true = refl
-      right false = refl
-
       none : (ms : List Node) → AllByRecursion (λ (m : Node). m.serial == n.serial ≡ false) ms → list_any (λ (c : Node). (c.serial == n.serial) && f c) ms ≡ false
       none [] each = refl
       none (m ∷ ms) each = or_from _ _ (ap (λ t. t && f m) each.0) (none ms each.1)
@@ -183,18 +181,11 @@ module _ (nodes : List Node) (distinct : IsDistinct nodes) where
 
   -- ---- items
 
-  any_same : {A : Type 0} (f g : A → Bool) → ((x : A) → f x ≡ g x) → (xs : List A) → list_any f xs ≡ list_any g xs
-  any_same f g same [] = refl
-  any_same f g same (x ∷ xs) = ap (λ t. t || list_any f xs) (same x) ∙ ap (λ t. g x || t) (any_same f g same xs)
-
   module _ (named : List ℕ → Option ℕ) (ids : IsIndex nodes (element_named nodes) named) where
     sync_is : (i : ℕ) (x : Node) → slice_get nodes i ≡ Some x → (item : Item) → is_sync_with nodes x.serial item ≡ is_option i (named_by named item)
     sync_is i x a (Offset o) = refl
     sync_is i x a (Sync who edge o) = ap (has_serial x.serial) (ids.node who) ∙ has_at i x (named who) a
-    sync_is i x a (Event who name o) = refl
-    sync_is i x a (Repeat who n o) = refl
-    sync_is i x a (Key key o) = refl
-    sync_is i x a Indefinite = refl
+    sync_is i x a _ = refl
 
     target_is : (i j : ℕ) (x e : Node) → slice_get nodes i ≡ Some x → slice_get nodes j ≡ Some e → (who : Option (List ℕ)) → is_option x.serial (target nodes e.serial who) ≡ is_option i (target_place named j who)
     target_is i j x e a b None = serial_is j i e x b a ∙ same_eqb j i
@@ -205,11 +196,10 @@ module _ (nodes : List Node) (distinct : IsDistinct nodes) where
     event_is i j x e a b (Sync who edge o) = refl
     event_is i j x e a b (Event who name o) = target_is i j x e a b who
     event_is i j x e a b (Repeat who n o) = target_is i j x e a b who
-    event_is i j x e a b (Key key o) = refl
-    event_is i j x e a b Indefinite = refl
+    event_is i j x e a b _ = refl
 
     pub hears_is : (i j : ℕ) (x e : Node) → slice_get nodes i ≡ Some x → slice_get nodes j ≡ Some e → list_any (is_event_of nodes e.serial x.serial) (all_items nodes e) ≡ hears named j e i
-    hears_is i j x e a b = any_same (is_event_of nodes e.serial x.serial) (λ item. is_option i (source_of named j item)) (event_is i j x e a b) (all_items nodes e) ∙ all_any nodes (λ item. is_option i (source_of named j item)) refl refl e
+    hears_is i j x e a b = any_each (is_event_of nodes e.serial x.serial) (λ item. is_option i (source_of named j item)) (all_items nodes e) (event_is i j x e a b) ∙ all_any nodes (λ item. is_option i (source_of named j item)) refl refl e
 
     module _ (tps : List (Option ℕ)) (children : List (List ℕ)) (previous : List (Option ℕ)) (table : IsTable nodes (λ n. time_parent nodes n.serial) tps) (under : AreTimeChildren nodes tps children) (befores : IsTable nodes (λ n. previous_in_seq nodes n.serial) previous) where
       pub follows_is : (i j : ℕ) (x e : Node) → slice_get nodes i ≡ Some x → slice_get nodes j ≡ Some e → feeds_node nodes x.serial e ≡ follows (row children j) (up previous j) named e i
@@ -217,9 +207,5 @@ module _ (nodes : List Node) (distinct : IsDistinct nodes) where
           ap (λ t. ((has_implicit_duration e && t) || has_serial x.serial (previous_in_seq nodes e.serial)) || list_any (is_sync_with nodes x.serial) (all_items nodes e)) (children_are tps children table under i j x e a b)
           ∙ ap (λ t. ((has_implicit_duration e && has (row children j) i) || t) || list_any (is_sync_with nodes x.serial) (all_items nodes e)) (ap (has_serial x.serial) (befores.node j e b) ∙ has_at i x (up previous j) a)
           ∙ ap (λ t. ((has_implicit_duration e && has (row children j) i) || is_option i (up previous j)) || t)
-          (any_same (is_sync_with nodes x.serial) (λ item. is_option i (named_by named item)) (sync_is i x a) (all_items nodes e) ∙ all_any nodes (λ item. is_option i (named_by named item)) refl refl e)
-          ∙ assoc ((has_implicit_duration e && has (row children j) i) || is_option i (up previous j)) (leads_to_place (named_by named) (items_or [] e.attrs.begin) i) (leads_to_place (named_by named) (items_or [] e.attrs.«end») i)
-        where
-          assoc : (a b c : Bool) → (a || (b || c)) ≡ ((a || b) || c)
-          assoc true b c = refl
-          assoc false b c = refl
+          (any_each (is_sync_with nodes x.serial) (λ item. is_option i (named_by named item)) (all_items nodes e) (sync_is i x a) ∙ all_any nodes (λ item. is_option i (named_by named item)) refl refl e)
+          ∙ sym (or_assoc ((has_implicit_duration e && has (row children j) i) || is_option i (up previous j)) (leads_to_place (named_by named) (items_or [] e.attrs.begin) i) (leads_to_place (named_by named) (items_or [] e.attrs.«end») i))

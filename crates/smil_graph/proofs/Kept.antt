@@ -7,7 +7,7 @@ use Rattle.std.proofs.Math.ListN.{get_or-eq_default}
 use Rattle.std.proofs.lemmas.Bool.{or_cases, and_parts, eqb-true}
 use Rattle.smil_model.specs.declared.document.Node.{Node}
 use Rattle.smil_model.specs.declared.document.Item.{Item}
-use Rattle.smil_model.specs.declared.document.Item.TheVariants.{Offset, Sync, Event, Repeat, Key, Indefinite}
+use Rattle.smil_model.specs.declared.document.Item.TheVariants.{Offset, Sync, Event, Repeat}
 use Rattle.smil_model.specs.document.Document.{is_element, elements, element_named, node_at, time_parent, previous_in_seq, serials}
 use Rattle.smil_model.specs.document.Defaults.{items_or}
 use Rattle.smil_model.specs.document.Dependencies.{feeds, feeds_node, has_implicit_duration}
@@ -97,10 +97,7 @@ module _ (nodes : List Node) (distinct : IsDistinct nodes) (named : List ℕ →
   named_low : (i : ℕ) (item : Item) → is_option i (named_by named item) ≡ true → i < length nodes
   named_low i (Offset o) e = cc
   named_low i (Sync who edge o) e = ids.below who i (place_is i (named who) e)
-  named_low i (Event who name o) e = cc
-  named_low i (Repeat who n o) e = cc
-  named_low i (Key key o) e = cc
-  named_low i Indefinite e = cc
+  named_low i _ e = cc
 
   target_low : (i j : ℕ) → j < length nodes → (who : Option (List ℕ)) → is_option i (target_place named j who) ≡ true → i < length nodes
   target_low i j l None e = let same : i ≡ j = eqb-true i j e in omega (arith, l, same)
@@ -111,8 +108,7 @@ module _ (nodes : List Node) (distinct : IsDistinct nodes) (named : List ℕ →
   source_low i j l (Sync who edge o) e = cc
   source_low i j l (Event who name o) e = target_low i j l who e
   source_low i j l (Repeat who n o) e = target_low i j l who e
-  source_low i j l (Key key o) e = cc
-  source_low i j l Indefinite e = cc
+  source_low i j l _ e = cc
 
   in_both : (of : Item → Option ℕ) (i : ℕ) → ((item : Item) → is_option i (of item) ≡ true → i < length nodes) → (e : Node) → (leads_to_place of (items_or [] e.attrs.begin) i || leads_to_place of (items_or [] e.attrs.«end») i) ≡ true → i < length nodes
   in_both of i low e q = by_case (or_cases _ _ q)

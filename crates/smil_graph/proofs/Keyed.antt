@@ -1,5 +1,6 @@
 -- The rows of keys, and the reach of a key.
-use Rattle.std.proofs.Common.{◌≡◌, refl, sym, ◌∙◌, ap, ℕ, suc, ◌<◌, ◌≤◌, ◌+◌, List, [], ◌∷◌, ◌++◌, length, get_or, take, Bool, true, false, Option, Some, None, arith, inl, inr}
+use Rattle.std.proofs.Common.{◌≡◌, refl, sym, ◌∙◌, ap, ℕ, ◌<◌, ◌≤◌, ◌+◌, List, [], ◌∷◌, ◌++◌, length, get_or, take, Bool, true, false, Option, Some, None, arith, inl, inr}
+use mathlib.Core.Bool.{and-false, and-true, and_comm, or-false}
 use Rattle.std.specs.Prelude.{cond, filter, ◌==◌, ◌||◌, ◌&&◌, ◌⊎◌, slice_get}
 use Rattle.std.specs.List.{list_any}
 use Rattle.std.proofs.Math.ListN.{set, length-set}
@@ -19,22 +20,17 @@ use Rattle.smil_graph.specs.Links.{row, links}
 use Rattle.smil_graph.specs.Places.{has_element}
 use Rattle.smil_graph.specs.Tables.{has_key_item, key_of, waits, AreWaiting, AreWithPlace, AreElements, AreOf}
 use Rattle.smil_graph.proofs.Follow.{all_any}
-use Rattle.smil_graph.proofs.Fed.{any_alike, element_one, has_serials}
-use Rattle.smil_graph.proofs.Lists.{has_push}
+use Rattle.smil_graph.proofs.Fed.{element_one, has_serials}
+use Rattle.smil_graph.proofs.Lists.{has_push, any_each}
 use Rattle.smil_graph.proofs.Nodes.{there_below}
-use Rattle.smil_graph.proofs.Rows.{right}
 use Rattle.smil_laws.proofs.Lineages.{same_eqb}
-use Rattle.smil_laws.proofs.Lists.{take-suc_at}
-
-pub none_right : (t : Bool) → (t && false) ≡ false
-none_right true = refl
-none_right false = refl
+use Rattle.smil_laws.proofs.Lists.{take-more_at}
 
 -- ---- a place is put into rows
 
 -- into none
 pub with_none : (place : ℕ) (rows : List (List ℕ)) → AreWithPlace (λ i. false) place rows rows
-with_none place rows = record { count = refl; each = λ i j. right (links rows i j) }
+with_none place rows = record { count = refl; each = λ i j. sym (or-false (links rows i j)) }
 
 -- into one
 pub with_one : (place at : ℕ) (rows : List (List ℕ)) → at < length rows → AreWithPlace (λ i. is_option i (Some at)) place rows (set rows at (row rows at ++ place ∷ []))
@@ -52,7 +48,7 @@ with_one place at rows low = record {
         ∙ sym (ap (λ t. links rows i j || (t && (j == place))) (eq-eqb i at e))
     by_row i j (inr other) =
         ap (λ r. has r j) (get_or-set_other rows at i (row rows at ++ place ∷ []) [] other)
-        ∙ right (links rows i j)
+        ∙ sym (or-false (links rows i j))
         ∙ sym (ap (λ t. links rows i j || (t && (j == place))) (ne_eqb i at other))
 
 -- into some and then into others
@@ -88,11 +84,9 @@ with_item items k item place old mid new here so pushed =
   where
     more : (key : ℕ) → list_any (is_key_item key) (take (k + 1) items) ≡ (list_any (is_key_item key) (take k items) || is_option key (key_of item))
     more key =
-        let one : k + 1 ≡ suc k = omega arith in
-        ap (λ m. list_any (is_key_item key) (take m items)) one
-        ∙ ap (list_any (is_key_item key)) (take-suc_at items k item here)
+        ap (list_any (is_key_item key)) (take-more_at items k item here)
         ∙ list_any-append (is_key_item key) (take k items) (item ∷ [])
-        ∙ ap (λ t. list_any (is_key_item key) (take k items) || t) (sym (right (is_key_item key item)) ∙ key_is key item)
+        ∙ ap (λ t. list_any (is_key_item key) (take k items) || t) (or-false (is_key_item key item) ∙ key_is key item)
 
 -- ---- the rows of keys
 
@@ -117,18 +111,14 @@ more_waits nodes k f rows new so put here = record {
 }
   where
     other : (key p : ℕ) → (p ≡ k → ⊥) → (links rows key p || (f key && (p == k))) ≡ links rows key p
-    other key p apart = ap (λ t. links rows key p || (f key && t)) (ne_eqb p k apart) ∙ ap (λ t. links rows key p || t) (none_right (f key)) ∙ sym (right (links rows key p))
-
-    all_right : (t : Bool) → (t && true) ≡ t
-    all_right true = refl
-    all_right false = refl
+    other key p apart = ap (λ t. links rows key p || (f key && t)) (ne_eqb p k apart) ∙ ap (λ t. links rows key p || t) (and-false (f key)) ∙ or-false (links rows key p)
 
     by_place : (key p : ℕ) → p < k + 1 → (p ≡ k) ⊎ (p ≡ k → ⊥) → links new key p ≡ waits nodes key (slice_get nodes p)
     by_place key p l (inl e) =
         put.each key p
         ∙ ap (λ t. t || (f key && (p == k))) (so.late key p (omega (arith, e)))
         ∙ ap (λ t. f key && t) (eq-eqb p k e)
-        ∙ all_right (f key)
+        ∙ and-true (f key)
         ∙ here key
         ∙ ap (λ q. waits nodes key (slice_get nodes q)) (sym e)
     by_place key p l (inr apart) = put.each key p ∙ other key p apart ∙ so.early key p (less apart)
@@ -146,7 +136,7 @@ waits_is nodes o e here key =
 pub with_none_of : (e : Node) (place : ℕ) (rows : List (List ℕ)) → is_element e ≡ false → AreWithPlace (λ key. is_element e && has_key_item key e) place rows rows
 with_none_of e place rows is = record {
   count = refl;
-  each = λ i j. right (links rows i j) ∙ sym (ap (λ t. links rows i j || ((t && has_key_item i e) && (j == place))) is);
+  each = λ i j. sym (or-false (links rows i j)) ∙ sym (ap (λ t. links rows i j || ((t && has_key_item i e) && (j == place))) is);
 }
 
 pub with_all_of : (e : Node) (place : ℕ) (old mid new : List (List ℕ)) → is_element e ≡ true → AreWithPlace (λ key. list_any (is_key_item key) (items_or [] e.attrs.begin)) place old mid → AreWithPlace (λ key. list_any (is_key_item key) (items_or [] e.attrs.«end»)) place mid new → AreWithPlace (λ key. is_element e && has_key_item key e) place old new
@@ -181,12 +171,6 @@ fewer f (n ∷ ns) s q = step (f n) q (fewer f ns s)
         by_case (inr d) = or_right _ _ (later d)
     step false r later = or_right _ _ (later r)
 
-swap_and : (a b : Bool) → (a && b) ≡ (b && a)
-swap_and true true = refl
-swap_and true false = refl
-swap_and false true = refl
-swap_and false false = refl
-
 module _ (nodes : List Node) (distinct : IsDistinct nodes) (rows : List (List ℕ)) (are : AreWaiting nodes rows) (key : ℕ) (low : key < 256) where
   waiting : Node → Bool
   waiting e = list_any (is_key_item key) (all_items nodes e)
@@ -198,7 +182,7 @@ module _ (nodes : List Node) (distinct : IsDistinct nodes) (rows : List (List �
         are.each key j low
         ∙ ap (waits nodes key) b
         ∙ sym (element_one nodes distinct (λ (n : Node). list_any (is_key_item key) (all_items nodes n)) j e b)
-        ∙ any_alike nodes distinct (λ (c : Node). (c.serial == e.serial) && list_any (is_key_item key) (all_items nodes c)) (λ (c : Node). list_any (is_key_item key) (all_items nodes c) && (c.serial == e.serial)) (λ c. swap_and (c.serial == e.serial) (list_any (is_key_item key) (all_items nodes c))) (elements nodes)
+        ∙ any_each (λ (c : Node). (c.serial == e.serial) && list_any (is_key_item key) (all_items nodes c)) (λ (c : Node). list_any (is_key_item key) (all_items nodes c) && (c.serial == e.serial)) (elements nodes) (λ c. and_comm (c.serial == e.serial) (list_any (is_key_item key) (all_items nodes c)))
         ∙ sym (has_serials (λ (n : Node). list_any (is_key_item key) (all_items nodes n)) (elements nodes) e.serial);
   }
 

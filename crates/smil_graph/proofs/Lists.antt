@@ -1,9 +1,11 @@
 -- What is listed, and what a set of places lists after more are put in.
 use Rattle.std.proofs.Common.{◌≡◌, refl, sym, ◌∙◌, ap, ℕ, suc, zero, ◌<◌, ◌≤◌, List, [], ◌∷◌, ◌++◌, length, get_or, Bool, true, false, arith, inl, inr, nat_eq}
+use mathlib.Core.Bool.{or-false, or_assoc}
 use Rattle.std.specs.Prelude.{cond, ◌==◌, ◌||◌, ◌⊎◌}
 use Rattle.std.specs.List.{IsDistinct, list_any}
 use Rattle.indexmap.specs.IndexSet.{insert_all, insert_key}
 use Rattle.std.proofs.lemmas.Bool.{or_left, or_right, or_cases, eqb-true, eq-eqb}
+use Rattle.std.proofs.lemmas.List.{get_or_append_left, get_or_push, length_push}
 use Rattle.std.proofs.lemmas.List.Folds.{list_any-append}
 use Rattle.std.proofs.lemmas.Map.Keys.{IsDistinct-push}
 use Rattle.std.proofs.lemmas.Cmp.{nat_eq_equiv}
@@ -27,16 +29,16 @@ index_of (y ∷ ys) x q = by_case (or_cases (y == x) (has ys x) q) (index_of ys 
     by_case (inr e) later = let found = later e in (suc found.0, omega (arith, found.1), found.2)
 
 pub has_push : (xs : List ℕ) (y x : ℕ) → has (xs ++ y ∷ []) x ≡ (has xs x || (x == y))
-has_push xs y x = list_any-append (λ j. j == x) xs (y ∷ []) ∙ ap (λ t. has xs x || t) (right (y == x) ∙ same_eqb y x)
-  where
-    right : (t : Bool) → (t || false) ≡ t
-    right true = refl
-    right false = refl
+has_push xs y x = list_any-append (λ j. j == x) xs (y ∷ []) ∙ ap (λ t. has xs x || t) (or-false (y == x) ∙ same_eqb y x)
 
 -- the same in the words of std
 pub has_is : (xs : List ℕ) (x : ℕ) → has xs x ≡ list_any (nat_eq x) xs
 has_is [] x = refl
 has_is (y ∷ ys) x = ap (λ t. t || has ys x) (same_eqb y x) ∙ ap (λ t. (x == y) || t) (has_is ys x)
+
+pub any_each : {A : Type 0} (f g : A → Bool) (xs : List A) → ((x : A) → f x ≡ g x) → list_any f xs ≡ list_any g xs
+any_each f g [] same = refl
+any_each f g (x ∷ xs) same = ap (λ t. t || list_any f xs) (same x) ∙ ap (λ t. g x || t) (any_each f g xs same)
 
 -- ---- one place more
 
@@ -45,24 +47,14 @@ has_one ps y x = step (list_any (nat_eq y) ps) refl
   where
     same : (t : Bool) → x == y ≡ t → has ps y ≡ true → has ps x ≡ (has ps x || t)
     same true e q = let here : has ps x ≡ true = ap (has ps) (eqb-true x y e) ∙ q in rw here
-    same false e q = right (has ps x)
-      where
-        right : (t : Bool) → t ≡ (t || false)
-        right true = refl
-        right false = refl
+    same false e q = sym (or-false (has ps x))
 
     step : (t : Bool) → list_any (nat_eq y) ps ≡ t → has (cond t ps (ps ++ y ∷ [])) x ≡ (has ps x || (x == y))
     step true q = same (x == y) refl (has_is ps y ∙ q)
     step false q = has_push ps y x
 
 pub front_push : (xs : List ℕ) (y k : ℕ) → k < length xs → get_or (xs ++ y ∷ []) k 0 ≡ get_or xs k 0
-front_push [] y k l = absurd (omega (arith, l))
-front_push (x ∷ xs) y zero l = refl
-front_push (x ∷ xs) y (suc k) l = front_push xs y k (omega (arith, l))
-
-longer_push : (xs : List ℕ) (y : ℕ) → length xs ≤ length (xs ++ y ∷ [])
-longer_push [] y = omega arith
-longer_push (x ∷ xs) y = omega (arith, longer_push xs y)
+front_push xs y k l = get_or_append_left xs (y ∷ []) 0 k l
 
 pub front_one : (ps : List ℕ) (y k : ℕ) → k < length ps → get_or (insert_key nat_eq ps y) k 0 ≡ get_or ps k 0
 front_one ps y k l = step (list_any (nat_eq y) ps)
@@ -76,7 +68,7 @@ longer_one ps y = step (list_any (nat_eq y) ps)
   where
     step : (t : Bool) → length ps ≤ length (cond t ps (ps ++ y ∷ []))
     step true = omega arith
-    step false = longer_push ps y
+    step false = omega (arith, length_push ps y)
 
 pub distinct_one : (ps : List ℕ) (y : ℕ) → IsDistinct nat_eq ps → IsDistinct nat_eq (insert_key nat_eq ps y)
 distinct_one ps y d = step (list_any (nat_eq y) ps) refl
@@ -88,16 +80,8 @@ distinct_one ps y d = step (list_any (nat_eq y) ps) refl
 -- ---- more places
 
 pub has_more : (ps is : List ℕ) (x : ℕ) → has (insert_all nat_eq ps is) x ≡ (has ps x || has is x)
-has_more ps [] x = right (has ps x)
-  where
-    right : (t : Bool) → t ≡ (t || false)
-    right true = refl
-    right false = refl
-has_more ps (i ∷ is) x = has_more (insert_key nat_eq ps i) is x ∙ ap (λ t. t || has is x) (has_one ps i x) ∙ regroup (has ps x) (x == i) (has is x) ∙ ap (λ t. has ps x || (t || has is x)) (same_eqb x i)
-  where
-    regroup : (a b c : Bool) → ((a || b) || c) ≡ (a || (b || c))
-    regroup true b c = refl
-    regroup false b c = refl
+has_more ps [] x = sym (or-false (has ps x))
+has_more ps (i ∷ is) x = has_more (insert_key nat_eq ps i) is x ∙ ap (λ t. t || has is x) (has_one ps i x) ∙ or_assoc (has ps x) (x == i) (has is x) ∙ ap (λ t. has ps x || (t || has is x)) (same_eqb x i)
 
 pub longer_more : (ps is : List ℕ) → length ps ≤ length (insert_all nat_eq ps is)
 longer_more ps [] = omega arith
@@ -112,8 +96,7 @@ distinct_more ps [] d = d
 distinct_more ps (i ∷ is) d = distinct_more (insert_key nat_eq ps i) is (distinct_one ps i d)
 
 pub end_push : (xs : List ℕ) (y : ℕ) → get_or (xs ++ y ∷ []) (length xs) 0 ≡ y
-end_push [] y = refl
-end_push (x ∷ xs) y = end_push xs y
+end_push xs y = get_or_push xs y 0 (length xs) refl
 
 pub only : (i q : ℕ) → has (i ∷ []) q ≡ true → q ≡ i
 only i q h = by_case (or_cases (i == q) false h)

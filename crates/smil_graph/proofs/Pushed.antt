@@ -1,10 +1,11 @@
 -- A place is pushed in each of the rows that are listed; and rows turned round so.
 use Rattle.std.proofs.Common.{◌≡◌, refl, sym, ◌∙◌, ap, ℕ, suc, zero, ◌<◌, ◌+◌, ◌-◌, List, [], ◌∷◌, ◌++◌, length, get_or, take, Bool, true, false, Some, arith, inl, inr}
+use mathlib.Core.Bool.{or-false}
 use Rattle.std.specs.Prelude.{cond, ◌==◌, ◌||◌, ◌⊎◌, filter, slice_get}
 use Rattle.std.specs.List.{range_with_len}
 use Rattle.std.proofs.Math.ListN.{set, length-set}
 use Rattle.std.proofs.lemmas.Bool.{or_left, or_right, eq-eqb, ne_eqb, cases_eq}
-use Rattle.std.proofs.lemmas.List.{get_or-set_same, get_or-set_other, take_more}
+use Rattle.std.proofs.lemmas.List.{append-nil, get_or-set_same, get_or-set_other, take_more}
 use Rattle.std.proofs.lemmas.List.Elements.{filter-append}
 use Rattle.smil_model.specs.document.Closure.{has}
 use Rattle.smil_graph.specs.Links.{row, links, is_last, IsPushedInEach}
@@ -60,11 +61,7 @@ module _ (old new : List (List ℕ)) (listed : List ℕ) (k place : ℕ) (l : k 
               let same : row new i ≡ row old i = so.rows i low fresh ∙ ap (λ t. cond t (row old i ++ place ∷ []) (row old i)) q in
               let there : has (row old i) place ≡ true = has_last (row old i) place (sym (ap (λ r. is_last r place) same) ∙ ap (λ j. is_last (row new j) place) e ∙ ends) in
               let never : false ≡ true = sym fresh ∙ there in cc
-      by_place i low fresh (inr other) = so.rows i low fresh ∙ ap (λ t. cond t (row old i ++ place ∷ []) (row old i)) (right (has (take k listed) i) ∙ ap (λ t. has (take k listed) i || t) (sym (ne_eqb i (get_or listed k 0) other)))
-        where
-          right : (t : Bool) → t ≡ (t || false)
-          right true = refl
-          right false = refl
+      by_place i low fresh (inr other) = so.rows i low fresh ∙ ap (λ t. cond t (row old i ++ place ∷ []) (row old i)) (sym (or-false (has (take k listed) i)) ∙ ap (λ t. has (take k listed) i || t) (sym (ne_eqb i (get_or listed k 0) other)))
 
   pub pushed : at < length old → is_last (row new at) place ≡ false → IsPushedInEach old (set new at (row new at ++ place ∷ [])) (take (k + 1) listed) place
   pushed low_at ends = record {
@@ -89,11 +86,7 @@ module _ (old new : List (List ℕ)) (listed : List ℕ) (k place : ℕ) (l : k 
       by_place i low fresh (inr other) =
           get_or-set_other new (get_or listed k 0) i (row new (get_or listed k 0) ++ place ∷ []) [] other
           ∙ so.rows i low fresh
-          ∙ ap (λ t. cond t (row old i ++ place ∷ []) (row old i)) (right (has (take k listed) i) ∙ ap (λ t. has (take k listed) i || t) (sym (ne_eqb i (get_or listed k 0) other)))
-        where
-          right : (t : Bool) → t ≡ (t || false)
-          right true = refl
-          right false = refl
+          ∙ ap (λ t. cond t (row old i ++ place ∷ []) (row old i)) (sym (or-false (has (take k listed) i)) ∙ ap (λ t. has (take k listed) i || t) (sym (ne_eqb i (get_or listed k 0) other)))
 
 -- ---- rows turned round
 
@@ -127,9 +120,5 @@ turned_more rows heads new place here long so pushed i low =
     by_test false q =
         ap (λ t. cond t (row heads i ++ place ∷ []) (row heads i)) q
         ∙ so i low
-        ∙ right (filter (λ k. links rows k i) (range_with_len 0 place))
+        ∙ sym (append-nil (filter (λ k. links rows k i) (range_with_len 0 place)))
         ∙ ap (λ ps. filter (λ k. links rows k i) (range_with_len 0 place) ++ ps) (sym (ap (λ p. filter (λ k. links rows k i) (p ∷ [])) zero_more ∙ ap (λ t. cond t (place ∷ []) []) q))
-      where
-        right : (xs : List ℕ) → xs ≡ xs ++ []
-        right [] = refl
-        right (x ∷ xs) = ap (λ ys. x ∷ ys) (right xs)

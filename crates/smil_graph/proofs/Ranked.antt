@@ -1,5 +1,6 @@
 -- Elements sorted by level, height and place follow the links.
 use Rattle.std.proofs.Common.{◌≡◌, refl, sym, ◌∙◌, ap, ℕ, suc, zero, ◌<◌, ◌≤◌, ◌+◌, ◌-◌, List, [], ◌∷◌, ◌++◌, length, get_or, Bool, true, false, Option, Some, None, arith, inl, inr}
+use mathlib.Core.Bool.{and-true}
 use Rattle.std.specs.Prelude.{cond, map, not, ◌==◌, ◌||◌, ◌&&◌, ◌⊎◌, filter, slice_get}
 use Rattle.std.specs.List.{list_any, range_with_len, All, AllByRecursion as ByRecursion}
 use Rattle.std.specs.List.Sorted.{IsPermutation, IsSorted}
@@ -9,7 +10,7 @@ use Rattle.std.specs.Cmp.{nat_cmp_is, IsTotalOrder}
 use Rattle.std.proofs.Math.ListN.{get_or-eq_default}
 use Rattle.std.proofs.lemmas.Bool.{or_left, or_right, or_cases, and_parts, and_from, eq-eqb, cases_eq}
 use Rattle.std.proofs.lemmas.Cmp.{nat_cmp_total, then_total}
-use Rattle.std.proofs.lemmas.List.{get_or-map, map-append}
+use Rattle.std.proofs.lemmas.List.{append-nil, get_or-map, map-append}
 use Rattle.std.proofs.lemmas.List.Elements.{filter-append, All-from_recursion}
 use Rattle.std.proofs.lemmas.List.FromFn.{get_or-map-range_with_len}
 use Rattle.std.proofs.lemmas.List.Sorted.{ranks_by, sorted_far, IsPermutation-map, All-permutation}
@@ -103,17 +104,13 @@ ranks_more nodes levels heights ranks k so t is =
     none : 0 + k ≡ k
     none = omega arith
 
-    right : (xs : List Rank) → xs ≡ xs ++ []
-    right [] = refl
-    right (x ∷ xs) = ap (λ ys. x ∷ ys) (right xs)
-
     by_test : (t : Bool) → is_element_at nodes k ≡ t → cond t (ranks ++ rank_of levels heights k ∷ []) ranks ≡ map (rank_of levels heights) (filter (is_element_at nodes) (range_with_len 0 k)) ++ map (rank_of levels heights) (filter (is_element_at nodes) ((0 + k) ∷ []))
     by_test true e =
         ap (λ rs. rs ++ rank_of levels heights k ∷ []) so
         ∙ ap (λ rs. map (rank_of levels heights) (filter (is_element_at nodes) (range_with_len 0 k)) ++ rs)
         (sym (ap (λ m. map (rank_of levels heights) (filter (is_element_at nodes) (m ∷ []))) none ∙ ap (λ b. map (rank_of levels heights) (cond b (k ∷ []) [])) e))
     by_test false e =
-        so ∙ right (map (rank_of levels heights) (filter (is_element_at nodes) (range_with_len 0 k)))
+        so ∙ sym (append-nil (map (rank_of levels heights) (filter (is_element_at nodes) (range_with_len 0 k))))
         ∙ ap (λ rs. map (rank_of levels heights) (filter (is_element_at nodes) (range_with_len 0 k)) ++ rs)
         (sym (ap (λ m. map (rank_of levels heights) (filter (is_element_at nodes) (m ∷ []))) none ∙ ap (λ b. map (rank_of levels heights) (cond b (k ∷ []) [])) e))
 
@@ -316,11 +313,7 @@ module _ (nodes : List Node) (distinct : IsDistinct nodes) (tps : List (Option �
         all_pass (x ∷ xs) = ap (λ ys. x ∷ ys) (all_pass xs)
 
         pass : (k : ℕ) (m : Node) → slice_get nodes k ≡ Some m → is_element_at nodes k ≡ (is_element m && true)
-        pass k m q = ap has_element q ∙ right (is_element m)
-          where
-            right : (t : Bool) → t ≡ (t && true)
-            right true = refl
-            right false = refl
+        pass k m q = ap has_element q ∙ sym (and-true (is_element m))
 
         places_back : (ps : List ℕ) → map (λ (r : Rank). r.place) (map (rank_of levels heights) ps) ≡ ps
         places_back [] = refl

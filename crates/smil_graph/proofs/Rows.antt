@@ -1,7 +1,8 @@
 -- Rows that are built one by one, and what is pushed in them.
-use Rattle.std.proofs.Common.{◌≡◌, refl, sym, ◌∙◌, ap, ℕ, suc, zero, ◌<◌, ◌+◌, List, [], ◌∷◌, ◌++◌, length, take, Bool, true, false, Option, Some, arith, inl, inr, append_assoc}
+use Rattle.std.proofs.Common.{◌≡◌, refl, sym, ◌∙◌, ap, ℕ, ◌<◌, ◌+◌, List, [], ◌∷◌, ◌++◌, length, take, Bool, true, false, Option, Some, arith, inl, inr, append_assoc}
+use mathlib.Core.Bool.{or-false, or_assoc}
 use Rattle.std.specs.Prelude.{cond, map, ◌||◌, ◌&&◌, ◌⊎◌, slice_get, slice_index_or}
-use Rattle.std.proofs.lemmas.List.{get_or_append_left, get_or_push, length_push}
+use Rattle.std.proofs.lemmas.List.{get_or_append_left, get_or_push, length_push, map-append}
 use Rattle.std.proofs.lemmas.List.Folds.{list_any-append}
 use Rattle.smil_model.specs.declared.document.Node.{Node}
 use Rattle.smil_model.specs.declared.document.Item.{Item}
@@ -12,26 +13,13 @@ use Rattle.smil_model.specs.reach.Reach.{is_option}
 use Rattle.smil_model.specs.document.Closure.{has}
 use Rattle.smil_graph.specs.Links.{row, links, AreRows}
 use Rattle.smil_graph.specs.Places.{leads_to_place, follows, hears, element_follows, element_hears, is_on_level, named_by, marks_of, HaveMarks}
-use Rattle.smil_laws.proofs.Lists.{take-suc_at}
+use Rattle.smil_laws.proofs.Lists.{take-more_at}
 
 -- ---- one row more
 
-front_row : (xs : List (List ℕ)) (y : List ℕ) (k : ℕ) → k < length xs → row (xs ++ y ∷ []) k ≡ row xs k
-front_row [] y k l = absurd (omega (arith, l))
-front_row (x ∷ xs) y zero l = refl
-front_row (x ∷ xs) y (suc k) l = front_row xs y k (omega (arith, l))
-
-end_row : (xs : List (List ℕ)) (y : List ℕ) → row (xs ++ y ∷ []) (length xs) ≡ y
-end_row [] y = refl
-end_row (x ∷ xs) y = end_row xs y
-
-row_length : (xs : List (List ℕ)) (y : List ℕ) → length (xs ++ y ∷ []) ≡ length xs + 1
-row_length [] y = refl
-row_length (x ∷ xs) y = let rest : length (xs ++ y ∷ []) ≡ length xs + 1 = row_length xs y in omega (arith, rest)
-
 pub rows_step : (test : ℕ → ℕ → Bool) (k : ℕ) (rows : List (List ℕ)) (new : List ℕ) → AreRows k test rows → ((j : ℕ) → has new j ≡ test k j) → AreRows (k + 1) test (rows ++ new ∷ [])
 rows_step test k rows new so here = record {
-  long = row_length rows new ∙ ap (λ m. m + 1) so.long;
+  long = length_push rows new ∙ ap (λ m. m + 1) so.long;
   each = λ i j l. by_place i j (split i l);
 }
   where
@@ -39,29 +27,26 @@ rows_step test k rows new so here = record {
     split i l = grind arith
 
     by_place : (i j : ℕ) → (i < k) ⊎ (i ≡ k) → links (rows ++ new ∷ []) i j ≡ test i j
-    by_place i j (inl l) = ap (λ r. has r j) (front_row rows new i (omega (arith, l, so.long))) ∙ so.each i j l
-    by_place i j (inr e) = ap (λ m. has (row (rows ++ new ∷ []) m) j) (e ∙ sym so.long) ∙ ap (λ r. has r j) (end_row rows new) ∙ here j ∙ ap (λ m. test m j) (sym e)
+    by_place i j (inl l) = ap (λ r. has r j) (get_or_append_left rows (new ∷ []) [] i (omega (arith, l, so.long))) ∙ so.each i j l
+    by_place i j (inr e) = ap (λ m. has (row (rows ++ new ∷ []) m) j) (e ∙ sym so.long) ∙ ap (λ r. has r j) (get_or_push rows new [] (length rows) refl) ∙ here j ∙ ap (λ m. test m j) (sym e)
 
 -- ---- one item more
 
 pub assoc : (a b c : Bool) → ((a || b) || c) ≡ (a || (b || c))
-assoc true b c = refl
-assoc false b c = refl
+assoc a b c = or_assoc a b c
 
 pub right : (t : Bool) → t ≡ (t || false)
-right true = refl
-right false = refl
+right t = sym (or-false t)
 
 pub leads_more : (of : Item → Option ℕ) (items : List Item) (k : ℕ) (item : Item) (p : Option ℕ) (i : ℕ) (old mid new : Bool) → slice_get items k ≡ Some item → p ≡ of item → mid ≡ (old || leads_to_place of (take k items) i) → new ≡ (mid || is_option i p) → new ≡ (old || leads_to_place of (take (k + 1) items) i)
 leads_more of items k item p i old mid new here is so pushed =
-    let one : k + 1 ≡ suc k = omega arith in
     let all : leads_to_place of (take (k + 1) items) i ≡ (leads_to_place of (take k items) i || is_option i (of item)) =
-    ap (λ m. leads_to_place of (take m items) i) one ∙ ap (λ xs. leads_to_place of xs i) (take-suc_at items k item here)
-    ∙ list_any-append (λ (x : Item). is_option i (of x)) (take k items) (item ∷ []) ∙ ap (λ t. leads_to_place of (take k items) i || t) (sym (right (is_option i (of item)))) in
+    ap (λ xs. leads_to_place of xs i) (take-more_at items k item here)
+    ∙ list_any-append (λ (x : Item). is_option i (of x)) (take k items) (item ∷ []) ∙ ap (λ t. leads_to_place of (take k items) i || t) (or-false (is_option i (of item))) in
     pushed
     ∙ ap (λ q. mid || is_option i q) is
     ∙ ap (λ t. t || is_option i (of item)) so
-    ∙ assoc old (leads_to_place of (take k items) i) (is_option i (of item))
+    ∙ or_assoc old (leads_to_place of (take k items) i) (is_option i (of item))
     ∙ ap (λ t. old || t) (sym all)
 
 -- ---- rows of a node
@@ -84,16 +69,10 @@ no_parent_row t p' i empty none isnt = ap (λ r. has r i) none ∙ ap (λ u. u &
 
 -- ---- marks
 
-map_take : (f : Item → Bool) (items : List Item) (k : ℕ) (item : Item) → slice_get items k ≡ Some item → map f (take (suc k) items) ≡ map f (take k items) ++ f item ∷ []
-map_take f [] k item q = cc
-map_take f (x ∷ xs) zero item q = let same : x ≡ item = cc in ap (λ y. f y ∷ []) same
-map_take f (x ∷ xs) (suc k) item q = ap (λ ys. f x ∷ ys) (map_take f xs k item q)
-
 pub marks_more : (f : Item → Bool) (items : List Item) (k : ℕ) (item : Item) (b : Bool) (old mid new : List Bool) → slice_get items k ≡ Some item → b ≡ f item → mid ≡ old ++ map f (take k items) → new ≡ mid ++ b ∷ [] → new ≡ old ++ map f (take (k + 1) items)
 marks_more f items k item b old mid new at is so pushed =
-    let one : k + 1 ≡ suc k = omega arith in
     pushed ∙ ap (λ c. mid ++ c ∷ []) is ∙ ap (λ r. r ++ f item ∷ []) so ∙ append_assoc old (map f (take k items)) (f item ∷ [])
-    ∙ ap (λ r. old ++ r) (sym (map_take f items k item at)) ∙ ap (λ m. old ++ map f (take m items)) (sym one)
+    ∙ ap (λ r. old ++ r) (sym (ap (map f) (take-more_at items k item at) ∙ map-append f (take k items) (item ∷ [])))
 
 -- the marks of a node
 module _ (side : Edge) (levels : List ℕ) (named : List ℕ → Option ℕ) (k : ℕ) (n : Node) where

@@ -142,8 +142,7 @@ module _ (count : ℕ) where
 
 pub from_is_new : (m : Visit) → is_new m ≡ true → m ≡ New
 from_is_new New e = refl
-from_is_new (Open p) e = cc
-from_is_new (Done m) e = cc
+from_is_new _ e = cc
 
 -- a search begins at a place where no group is open
 pub begun : (rows : List (List ℕ)) (g : Grouping) → IsGrouping rows g → g.members ≡ [] → (place : ℕ) → place < length rows → is_new (mark_at g.marks place) ≡ true → IsGrouping rows (opened g place)

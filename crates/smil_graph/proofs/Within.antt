@@ -1,5 +1,6 @@
 -- Descendants, the elements near an element, and its reach, by places.
 use Rattle.std.proofs.Common.{◌≡◌, refl, sym, ◌∙◌, ap, ℕ, suc, zero, ◌<◌, List, [], ◌∷◌, length, Bool, true, false, Option, Some, None, arith, inl, inr}
+use mathlib.Core.Bool.{or-false}
 use Rattle.std.specs.Prelude.{cond, nat_eq, ◌==◌, ◌||◌, ◌&&◌, ◌⊎◌, filter, reverse, slice_get}
 use Rattle.std.specs.List.{list_any}
 use Rattle.indexmap.specs.IndexSet.{insert_key}
@@ -24,7 +25,6 @@ use Rattle.smil_graph.proofs.Ranges.{filter_below, has_in_range, rising_is}
 use Rattle.smil_graph.proofs.Follow.{same_place, has_at}
 use Rattle.smil_graph.proofs.Fed.{reads_is, place_of, all_has, all_there, in_closure}
 use Rattle.smil_graph.proofs.Kept.{place_is, place_in, placed, serials_filter}
-use Rattle.smil_graph.proofs.Rows.{right}
 use Rattle.smil_tree.proofs.Placings.{both_ways}
 
 pub filter_members : (p q : ℕ → Bool) (xs : List ℕ) → ((z : ℕ) → has xs z ≡ true → p z ≡ q z) → filter p xs ≡ filter q xs
@@ -198,13 +198,13 @@ module _ (document : Document) (tree : IsNumberedTree document) (index : ℕ →
     module _ (new : List ℕ) where
       by_parent_place : (o : Option ℕ) → up tps place ≡ o → (found : List ℕ) → IsReached children (top_of document.nodes o place ∷ []) found → ((i : ℕ) → has new i ≡ (has found i || is_option i o)) → AreNear document.nodes place new
       by_parent_place None u found reached so = record {
-        elements = λ j q. found_elements tps children table under place x here is_x found reached j (right (has found j) ∙ sym (so j) ∙ q);
+        elements = λ j q. found_elements tps children table under place x here is_x found reached j (sym (or-false (has found j)) ∙ sym (so j) ∙ q);
         near = λ j y e a b is.
             let one : Some y ≡ Some x = sym a ∙ here in
             let same : y ≡ x = cc in
-            so j ∙ sym (right (has found j)) ∙ found_within tps children table under place x here is_x found reached j e b
+            so j ∙ or-false (has found j) ∙ found_within tps children table under place x here is_x found reached j e b
             ∙ ap (λ t. t && is_within nodes x.serial e.serial) is
-            ∙ right (is_within nodes x.serial e.serial)
+            ∙ sym (or-false (is_within nodes x.serial e.serial))
             ∙ sym (ap (λ o. near_by o x.serial e.serial) (table.node place x here ∙ ap (at_place nodes) u))
             ∙ ap (λ (n : Node). is_near nodes n.serial e.serial) (sym same);
       }
@@ -410,4 +410,4 @@ module _ (document : Document) (tree : IsNumberedTree document) (tps : List (Opt
   near_some parent u = near_is document tree (λ s. place_in s document.nodes) (placed document.nodes) tps children table under place is found (insert_key nat_eq found parent) from_top (λ i. has_one found parent i ∙ ap (λ o. has found i || is_option i o) (sym u))
 
   pub near_none : up tps place ≡ None → AreNear document.nodes place found
-  near_none u = near_is document tree (λ s. place_in s document.nodes) (placed document.nodes) tps children table under place is found found from_top (λ i. right (has found i) ∙ ap (λ o. has found i || is_option i o) (sym u))
+  near_none u = near_is document tree (λ s. place_in s document.nodes) (placed document.nodes) tps children table under place is found found from_top (λ i. sym (or-false (has found i)) ∙ ap (λ o. has found i || is_option i o) (sym u))

@@ -8,7 +8,8 @@ use Rattle.smil_model.specs.reach.Reach.{is_option}
 
 -- how far a search has come
 pub record Grouping : Type 0 where
-  -- of each place whether it is new, open (with its position among the members) or done (with the number of its group)
+  -- of each place whether it is new, open (with its position among the members) or done (with the
+  -- number of its group)
   pub marks : List Visit
   -- of each place how many of its links were followed
   pub next : List ℕ
@@ -58,7 +59,8 @@ opened g place = record {
 -- without the first ones that are above the position
 abbrev pub without_above : ℕ → List ℕ → List ℕ
 without_above position [] = []
-without_above position (s ∷ starts) = if nat_lt position s then without_above position starts else s ∷ starts
+without_above position (s ∷ starts) =
+    if nat_lt position s then without_above position starts else s ∷ starts
 
 -- the groups from that of the position on become one
 abbrev pub merged : Grouping → ℕ → Grouping
@@ -94,7 +96,9 @@ off_path g = record g { path = drop 1 g.path }
 
 -- the last place of the path is left, and its group is done where the place starts it
 abbrev pub left : Grouping → ℕ → Grouping
-left g position = if is_option position (slice_get g.starts 0) then closed_from (off_path g) position else off_path g
+left g position =
+    if is_option position (slice_get g.starts 0) then closed_from (off_path g) position
+    else off_path g
 
 -- groups that were done later have lower levels
 abbrev pub level_of : ℕ → Visit → ℕ
@@ -107,7 +111,8 @@ level_of closed _ = 0
 abbrev pub IsFrom : List ℕ → ℕ → ℕ → Type 0
 IsFrom starts p q = (s : ℕ) → has starts s ≡ true → s ≤ p → s ≤ q
 
--- a place that a followed link of an open one leads to is done, or in the group of that one, or in a later one
+-- a place that a followed link of an open one leads to is done, or in the group of that one,
+-- or in a later one
 abbrev pub IsMet : List ℕ → ℕ → Visit → Type 0
 IsMet starts p New = ⊥
 IsMet starts p (Open q) = IsFrom starts p q
@@ -121,11 +126,14 @@ pub record IsGrouping (rows : List (List ℕ)) (g : Grouping) : Type 0 where
   pub marks_count : length g.marks ≡ length rows
   pub next_count : length g.next ≡ length rows
   pub placed : (p : ℕ) → p < length g.members → mark_at g.marks (slice_index g.members p) ≡ Open p
-  pub stands : (a p : ℕ) → mark_at g.marks a ≡ Open p → (p < length g.members) × (slice_index g.members p ≡ a)
+  pub stands : (a p : ℕ) → mark_at g.marks a ≡ Open p
+      → (p < length g.members) × (slice_index g.members p ≡ a)
   -- each open place leads to all of its own group and of later ones
-  pub leads : (a b p q : ℕ) → mark_at g.marks a ≡ Open p → mark_at g.marks b ≡ Open q → IsFrom g.starts p q
+  pub leads :
+      (a b p q : ℕ) → mark_at g.marks a ≡ Open p → mark_at g.marks b ≡ Open q → IsFrom g.starts p q
       → LeadsTo rows a b
-  pub met : (a p k : ℕ) → mark_at g.marks a ≡ Open p → k < slice_index g.next a → k < length (row rows a)
+  pub met :
+      (a p k : ℕ) → mark_at g.marks a ≡ Open p → k < slice_index g.next a → k < length (row rows a)
       → IsMet g.starts p (mark_at g.marks (slice_index (row rows a) k))
   pub finished : (p : ℕ) → p < length g.members → has g.path p ≡ false
       → length (row rows (slice_index g.members p)) ≤ slice_index g.next (slice_index g.members p)

@@ -24,7 +24,8 @@ is_looped_item nodes serial (Some item) = is_looped nodes serial item
 
 abbrev pub looped_of : List Node → Edge → ℕ → Option Node → Bool
 looped_of nodes side k None = false
-looped_of nodes side k (Some e) = is_looped_item nodes e.serial (slice_get (items_of nodes side e) k)
+looped_of nodes side k (Some e) =
+    is_looped_item nodes e.serial (slice_get (items_of nodes side e) k)
 
 -- whether an item of the element with this serial is a looped reference
 abbrev pub looped_at : List Node → ℕ → Edge → ℕ → Bool
@@ -41,7 +42,8 @@ readers_of nodes x = filter (reads nodes x) (serials (elements nodes))
 -- whether the times of e follow from those of x in a way that is not looped
 abbrev pub follows_unlooped : List Node → ℕ → Node → Bool
 follows_unlooped nodes x e =
-    (has_implicit_duration e && list_any (λ (c : Node). (c.serial == x) && is_time_child nodes e.serial c) nodes)
+    (has_implicit_duration e
+    && list_any (λ (c : Node). (c.serial == x) && is_time_child nodes e.serial c) nodes)
     || has_serial x (previous_in_seq nodes e.serial)
     || (list_any (is_sync_with nodes x) (all_items nodes e) && not (leads_to nodes e.serial x))
 

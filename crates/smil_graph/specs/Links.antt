@@ -44,7 +44,8 @@ IsKeptAlongLinks rows test = (i j : ℕ) → test i ≡ true → links rows i j 
 pub record IsReached (rows : List (List ℕ)) (starts places : List ℕ) : Type 0 where
   pub begun : (i : ℕ) → has starts i ≡ true → has places i ≡ true
   pub kept : IsKeptAlongLinks rows (has places)
-  pub least : (test : ℕ → Bool) → ((i : ℕ) → has starts i ≡ true → test i ≡ true) → IsKeptAlongLinks rows test
+  pub least : (test : ℕ → Bool) → ((i : ℕ) → has starts i ≡ true → test i ≡ true)
+      → IsKeptAlongLinks rows test
       → (i : ℕ) → has places i ≡ true → test i ≡ true
 
 -- j is i, or links lead from i to j
@@ -54,8 +55,10 @@ LeadsTo rows i j = (test : ℕ → Bool) → test i ≡ true → IsKeptAlongLink
 -- no link falls in level, and one that stays on its level can be gone back along links
 pub record AreLevels (rows : List (List ℕ)) (levels : List ℕ) : Type 0 where
   pub count : length levels ≡ length rows
-  pub rising : (i j : ℕ) → links rows i j ≡ true → slice_index_or levels i 0 ≤ slice_index_or levels j 0
-  pub looped : (i j : ℕ) → links rows i j ≡ true → slice_index_or levels i 0 ≡ slice_index_or levels j 0
+  pub rising :
+      (i j : ℕ) → links rows i j ≡ true → slice_index_or levels i 0 ≤ slice_index_or levels j 0
+  pub looped :
+      (i j : ℕ) → links rows i j ≡ true → slice_index_or levels i 0 ≡ slice_index_or levels j 0
       → LeadsTo rows j i
 
 -- whether the last place is this one

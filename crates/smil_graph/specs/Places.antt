@@ -45,18 +45,21 @@ parent_by index (Some n) = index n.parent
 -- a parent, or what stands above it where it is a priorityClass
 abbrev pub element_above : List Node → List (Option ℕ) → Option ℕ → Option ℕ
 element_above nodes above None = None
-element_above nodes above (Some parent) = if is_element_at nodes parent then Some parent else up above parent
+element_above nodes above (Some parent) =
+    if is_element_at nodes parent then Some parent else up above parent
 
 -- ---- tables of places
 
 -- for each node the place of a node that stands before it, as the function says by the node
-pub record IsTable (nodes : List Node) (of : Node → Option Node) (table : List (Option ℕ)) : Type 0 where
+pub record IsTable
+    (nodes : List Node) (of : Node → Option Node) (table : List (Option ℕ)) : Type 0 where
   pub count : length table ≡ length nodes
   pub node : (p : ℕ) (n : Node) → slice_get nodes p ≡ Some n → of n ≡ at_place nodes (up table p)
   pub before : (p q : ℕ) → up table p ≡ Some q → q < p
 
 -- the places of the nodes that are looked up by keys
-pub record IsIndex {K : Type 0} (nodes : List Node) (look_up : K → Option Node) (index : K → Option ℕ) : Type 0 where
+pub record IsIndex {K : Type 0} (nodes : List Node) (look_up : K → Option Node)
+    (index : K → Option ℕ) : Type 0 where
   pub node : (key : K) → look_up key ≡ at_place nodes (index key)
   pub below : (key : K) (p : ℕ) → index key ≡ Some p → p < length nodes
 
@@ -69,13 +72,15 @@ before place last (i ∷ is) = if i == place then last else before place (Some i
 abbrev pub AreTimeChildren : List Node → List (Option ℕ) → List (List ℕ) → Type 0
 AreTimeChildren nodes time_parents children =
     (q : ℕ) → row children q
-    ≡ filter (λ p. is_element_at nodes p && is_option q (up time_parents p)) (range_with_len 0 (length nodes))
+    ≡ filter (λ p. is_element_at nodes p
+    && is_option q (up time_parents p)) (range_with_len 0 (length nodes))
 
 -- under a parent that is a seq, the one before
 abbrev pub previous_of : List Node → List (List ℕ) → ℕ → Option ℕ → Option ℕ
 previous_of nodes children place None = None
 previous_of nodes children place (Some parent) =
-    if has_kind is_seq_kind (slice_get nodes parent) then before place None (row children parent) else None
+    if has_kind is_seq_kind (slice_get nodes parent) then before place None (row children parent)
+    else None
 
 -- ---- rows of places
 
@@ -98,8 +103,9 @@ source_of named place _ = None
 abbrev pub leads_to_place : (Item → Option ℕ) → List Item → ℕ → Bool
 leads_to_place of items i = list_any (λ (item : Item). is_option i (of item)) items
 
--- whether the times of a node follow from those of the one at the place i, by the places of its time children, of the
--- child before it in a seq, and of those that its items name
+-- whether the times of a node follow from those of the one at the place i,
+-- by the places of its time children, of the child before it in a seq,
+-- and of those that its items name
 abbrev pub follows : List ℕ → Option ℕ → (List ℕ → Option ℕ) → Node → ℕ → Bool
 follows children previous named e i =
     (has_implicit_duration e && has children i) || is_option i previous
@@ -115,7 +121,8 @@ hears named place e i =
 -- the same of the node at a place
 abbrev pub element_follows : List ℕ → Option ℕ → (List ℕ → Option ℕ) → Option Node → ℕ → Bool
 element_follows children previous named None i = false
-element_follows children previous named (Some e) i = is_element e && follows children previous named e i
+element_follows children previous named (Some e) i =
+    is_element e && follows children previous named e i
 
 abbrev pub element_hears : (List ℕ → Option ℕ) → ℕ → Option Node → ℕ → Bool
 element_hears named place None i = false
@@ -132,15 +139,19 @@ reads_place nodes j i = reads_from nodes (slice_get nodes j) (slice_get nodes i)
 -- whether there is another place, and on the level of this one
 abbrev pub is_on_level : List ℕ → ℕ → Option ℕ → Bool
 is_on_level levels place None = false
-is_on_level levels place (Some other) = slice_index_or levels other 0 == slice_index_or levels place 0
+is_on_level levels place (Some other) =
+    slice_index_or levels other 0 == slice_index_or levels place 0
 
 -- for each item whether it names another place on the level of this one
 abbrev pub marks_of : Edge → List ℕ → (List ℕ → Option ℕ) → ℕ → Option Node → List Bool
 marks_of side levels named place None = []
 marks_of side levels named place (Some e) =
-    if is_element e then map (λ (item : Item). is_on_level levels place (named_by named item)) (items_or [] (stated_list e.attrs side)) else []
+    if is_element e then map (λ (item : Item). is_on_level levels place (named_by named item))
+    (items_or [] (stated_list e.attrs side)) else []
 
 -- so many rows of such marks
-pub record HaveMarks (nodes : List Node) (side : Edge) (levels : List ℕ) (named : List ℕ → Option ℕ) (count : ℕ) (rows : List (List Bool)) : Type 0 where
+pub record HaveMarks (nodes : List Node) (side : Edge) (levels : List ℕ) (named : List ℕ → Option ℕ)
+    (count : ℕ) (rows : List (List Bool)) : Type 0 where
   pub long : length rows ≡ count
-  pub each : (j : ℕ) → j < count → slice_index_or rows j [] ≡ marks_of side levels named j (slice_get nodes j)
+  pub each : (j : ℕ) → j < count
+      → slice_index_or rows j [] ≡ marks_of side levels named j (slice_get nodes j)

@@ -6,10 +6,15 @@ use Rattle.smil_graph.specs.declared.ordered.Rank.{Rank}
 use Rattle.smil_graph.specs.Places.{up}
 
 abbrev pub rank_of : List ℕ → List ℕ → ℕ → Rank
-rank_of levels heights place = record { level = slice_index_or levels place 0; height = slice_index_or heights place 0; place = place }
+rank_of levels heights place = record {
+  level = slice_index_or levels place 0;
+  height = slice_index_or heights place 0;
+  place = place;
+}
 
 abbrev pub rank_cmp : Rank → Rank → Ordering
-rank_cmp a b = ordering_then (nat_cmp a.level b.level) (ordering_then (nat_cmp a.height b.height) (nat_cmp a.place b.place))
+rank_cmp a b = ordering_then (nat_cmp a.level b.level)
+    (ordering_then (nat_cmp a.height b.height) (nat_cmp a.place b.place))
 
 -- one below the parent's height, or the top where there is no parent
 abbrev pub height_under : List ℕ → ℕ → Option ℕ → ℕ

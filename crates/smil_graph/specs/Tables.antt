@@ -28,7 +28,8 @@ abbrev pub row_of : List (List ℕ) → Option ℕ → List ℕ
 row_of rows None = []
 row_of rows (Some place) = row rows place
 
--- a level for each node: it does not fall along a dependency, and stays exactly where the dependency can be gone back
+-- a level for each node: it does not fall along a dependency,
+-- and stays exactly where the dependency can be gone back
 pub record AreElementLevels (nodes : List Node) (levels : List ℕ) : Type 0 where
   pub count : length levels ≡ length nodes
   pub rising : (i j : ℕ) (x e : Node) → slice_get nodes i ≡ Some x → slice_get nodes j ≡ Some e
@@ -41,7 +42,8 @@ pub record AreElementLevels (nodes : List Node) (levels : List ℕ) : Type 0 whe
 abbrev pub AreMarks : List Node → Edge → List (List Bool) → Type 0
 AreMarks nodes side rows =
     (j k : ℕ) (e : Node) → slice_get nodes j ≡ Some e
-    → marked_at rows (Some j) k ≡ (is_element e && is_looped_item nodes e.serial (slice_get (items_of nodes side e) k))
+    → marked_at rows (Some j) k
+    ≡ (is_element e && is_looped_item nodes e.serial (slice_get (items_of nodes side e) k))
 
 -- for each node the places of the elements that read it, in document order
 pub record AreHeads (nodes : List Node) (rows : List (List ℕ)) : Type 0 where
@@ -51,7 +53,8 @@ pub record AreHeads (nodes : List Node) (rows : List (List ℕ)) : Type 0 where
 
 -- and their serials
 abbrev pub AreReaders : List Node → List (List ℕ) → Type 0
-AreReaders nodes rows = (i : ℕ) (x : Node) → slice_get nodes i ≡ Some x → row rows i ≡ readers_of nodes x.serial
+AreReaders nodes rows =
+    (i : ℕ) (x : Node) → slice_get nodes i ≡ Some x → row rows i ≡ readers_of nodes x.serial
 
 -- the serials of the nodes at places
 abbrev pub with_serial : Option Node → List ℕ → List ℕ
@@ -60,13 +63,15 @@ with_serial (Some n) serials = n.serial ∷ serials
 
 abbrev pub serials_of_places : List Node → List ℕ → List ℕ
 serials_of_places nodes [] = []
-serials_of_places nodes (place ∷ places) = with_serial (slice_get nodes place) (serials_of_places nodes places)
+serials_of_places nodes (place ∷ places) =
+    with_serial (slice_get nodes place) (serials_of_places nodes places)
 
 -- whether there is a seq or an excl
 abbrev pub takes_turns : Option Node → Bool
 takes_turns o = has_kind is_seq_kind o || has_kind is_excl_kind o
 
--- the time parent of the element at a place where that is a seq or an excl, and else the element itself
+-- the time parent of the element at a place where that is a seq or an excl,
+-- and else the element itself
 abbrev pub top_of : List Node → Option ℕ → ℕ → ℕ
 top_of nodes None place = place
 top_of nodes (Some parent) place = if takes_turns (slice_get nodes parent) then parent else place
@@ -87,7 +92,8 @@ AreElements nodes places = (j : ℕ) → has places j ≡ true → is_element_at
 -- the places of the elements whose serials are in a set, which has serials of elements alone
 pub record AreOf (nodes : List Node) (set places : List ℕ) : Type 0 where
   pub known : (s : ℕ) → has set s ≡ true → has (serials (elements nodes)) s ≡ true
-  pub listed : (j : ℕ) (e : Node) → slice_get nodes j ≡ Some e → is_element e ≡ true → has places j ≡ has set e.serial
+  pub listed : (j : ℕ) (e : Node) → slice_get nodes j ≡ Some e → is_element e ≡ true
+      → has places j ≡ has set e.serial
 
 -- the place that is given, if there is an element
 abbrev pub element_place : List Node → Option ℕ → Option ℕ
@@ -129,8 +135,8 @@ AreRanks order ranks = AreFirstPlaces (λ (s : ℕ). s) ranks order
 
 -- ---- tables
 
--- what is kept: places by serial, time parents, time children, looped begins and ends, who reads whom, who waits for
--- which key, and an order with ranks
+-- what is kept: places by serial, time parents, time children, looped begins and ends,
+-- who reads whom, who waits for which key, and an order with ranks
 pub record AreTables (document : Document) (t : Tables) : Type 0 where
   pub indexed : IsIndex document.nodes (node_at document.nodes) (get nat_eq t.places)
   pub above : IsTable document.nodes (λ n. time_parent document.nodes n.serial) t.time_parents.items

@@ -47,7 +47,15 @@ impl Model for Components {
 
     ghost Value = { Grouping };
 
-    ghost view = { λ a. record { marks = a.marks.items; next = a.next.items; members = a.members.items; starts = a.starts; path = a.path; closed = a.closed } };
+    ghost view = { λ a.
+        record {
+          marks = a.marks.items;
+          next = a.next.items;
+          members = a.members.items;
+          starts = a.starts;
+          path = a.path;
+          closed = a.closed;
+        } };
 }
 
 impl Components {

@@ -19,12 +19,11 @@ at_found name items held found place h same is some here =
     }
 
 -- another player put in its place
-pub turned_to : {P : Type 0} (formats : P → Formats) (takes : P → Order → Bool) (name : List ℕ) (items held : List (NamedPlayer P)) (found : Option ℕ) (place : ℕ) (h : NamedPlayer P) (player : P)
-    → items ≡ held → found ≡ place_of name held → found ≡ Some place → h ≡ slice_index_or items place h
-    → formats player ≡ formats h.player → takes player ≡ takes h.player
+pub turned_to : {P : Type 0} (formats : P → Formats) (takes : P → Order → Bool) {name : List ℕ} (items : List (NamedPlayer P)) {held : List (NamedPlayer P)} {place : ℕ} {h : NamedPlayer P} (player : P)
+    → items ≡ held → IsAt name held place h → formats player ≡ formats h.player → takes player ≡ takes h.player
     → IsReplaced formats takes name held (slice_set items place (record { name = h.name; player = player })) place h (record { name = h.name; player = player })
-turned_to formats takes name items held found place h player same is some here told taken = record {
-  at = at_found name items held found place h same is some here;
+turned_to formats takes items {place = place} {h = h} player same at told taken = record {
+  at = at;
   new_is = ap (λ xs. slice_set xs place (record { name = h.name; player = player })) same;
   name_is = refl;
   formats_are = told;

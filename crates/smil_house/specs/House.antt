@@ -16,7 +16,8 @@ place_of name held = position (λ h. bytes_eq h.name name) held
 -- the moment of the presentation of this name
 abbrev pub moment_of : {P : Type 0} → (P → Presentation) → List ℕ → List (NamedPlayer P) → Option ℤ
 moment_of presentation name held =
-    option_map (λ h. pos (presentation h.player).now) (option_and_then (slice_get held) (place_of name held))
+    option_map (λ h. pos (presentation h.player).now)
+    (option_and_then (slice_get held) (place_of name held))
 
 -- why no presentation may be loaded under this name
 abbrev pub load_refusal : {P : Type 0} → List ℕ → List (NamedPlayer P) → Result Unit Refusal
@@ -29,18 +30,23 @@ abbrev pub without : {P : Type 0} → ℕ → List (NamedPlayer P) → List (Nam
 without place held = take place held ++ drop (place + 1) held
 
 -- the presentation of this name, where there is one, takes the order
-abbrev pub Takes : {P : Type 0} → (P → Order → Bool) → List ℕ → Order → List (NamedPlayer P) → Type 0
+abbrev pub Takes :
+    {P : Type 0} → (P → Order → Bool) → List ℕ → Order → List (NamedPlayer P) → Type 0
 Takes {P = P} takes name given held =
-    (place : ℕ) (h : NamedPlayer P) → place_of name held ≡ Some place → slice_get held place ≡ Some h
+    (place : ℕ) (h : NamedPlayer P) → place_of name held ≡ Some place
+    → slice_get held place ≡ Some h
     → takes h.player given ≡ true
 
 -- the presentation at a place, with its name
-pub record IsAt {P : Type 0} (name : List ℕ) (held : List (NamedPlayer P)) (place : ℕ) (h : NamedPlayer P) : Type 0 where
+pub record IsAt {P : Type 0} (name : List ℕ) (held : List (NamedPlayer P)) (place : ℕ)
+    (h : NamedPlayer P) : Type 0 where
   pub found : place_of name held ≡ Some place
   pub here : slice_get held place ≡ Some h
 
--- the player at a place is another one, by this name and with these formats and orders; all others are as before
-pub record IsReplaced {P : Type 0} (formats : P → Formats) (takes : P → Order → Bool) (name : List ℕ)
+-- the player at a place is another one, by this name and with these formats and orders;
+-- all others are as before
+pub record IsReplaced
+    {P : Type 0} (formats : P → Formats) (takes : P → Order → Bool) (name : List ℕ)
     (old new : List (NamedPlayer P)) (place : ℕ) (before after : NamedPlayer P) : Type 0 where
   pub at : IsAt name old place before
   pub new_is : new ≡ slice_set old place after
@@ -48,7 +54,8 @@ pub record IsReplaced {P : Type 0} (formats : P → Formats) (takes : P → Orde
   pub formats_are : formats after.player ≡ formats before.player
   pub takes_are : takes after.player ≡ takes before.player
 
--- the presentation of this name has answered an order, by this text and so many evaluations, and is at this moment
+-- the presentation of this name has answered an order, by this text and so many evaluations,
+-- and is at this moment
 pub record IsAnsweredBy {P : Type 0} (formats : P → Formats) (presentation : P → Presentation)
     (takes : P → Order → Bool) (least most : P → Order → Option ℕ) (name : List ℕ) (given : Order)
     (old new : List (NamedPlayer P)) (text : List ℕ) (rise : ℕ) (moment : ℤ) : Type 0 where
@@ -56,7 +63,8 @@ pub record IsAnsweredBy {P : Type 0} (formats : P → Formats) (presentation : P
   pub before : NamedPlayer P
   pub after : NamedPlayer P
   pub turned : IsReplaced formats takes name old new place before after
-  pub accepted : Accepts (formats before.player) (presentation before.player) (presentation after.player) given text
+  pub accepted : Accepts (formats before.player) (presentation before.player)
+      (presentation after.player) given text
   pub moment_is : moment ≡ pos (presentation after.player).now
   pub least_is : AtLeast (least before.player given) rise
   pub most_is : AtMost (most before.player given) rise
@@ -77,7 +85,8 @@ AreKept formats presentation takes name old new =
 
 -- it refuses the order
 pub record IsRefusedBy {P : Type 0} (formats : P → Formats) (presentation : P → Presentation)
-    (most : P → Order → Option ℕ) (name : List ℕ) (given : Order) (old : List (NamedPlayer P)) (rise : ℕ)
+    (most : P → Order → Option ℕ) (name : List ℕ) (given : Order) (old : List (NamedPlayer P))
+    (rise : ℕ)
     (refusal : Refusal) : Type 0 where
   pub place : ℕ
   pub before : NamedPlayer P
@@ -86,12 +95,15 @@ pub record IsRefusedBy {P : Type 0} (formats : P → Formats) (presentation : P 
   pub free : MayEvaluate (most before.player given) refusal rise
 
 -- there is none of this name, and nothing is evaluated
-pub record IsAbsent {P : Type 0} (name : List ℕ) (old : List (NamedPlayer P)) (rise : ℕ) (refusal : Refusal) : Type 0 where
+pub record IsAbsent {P : Type 0} (name : List ℕ) (old : List (NamedPlayer P)) (rise : ℕ)
+    (refusal : Refusal) : Type 0 where
   pub place_is : place_of name old ≡ None
   pub refusal_is : refusal ≡ NoPresentation
   pub none : rise ≡ 0
 
-abbrev pub IsRefused : {P : Type 0} → (P → Formats) → (P → Presentation) → (P → Order → Option ℕ) → List ℕ
+abbrev pub IsRefused :
+    {P : Type 0} → (P → Formats) → (P → Presentation) → (P → Order → Option ℕ) → List ℕ
     → Order → List (NamedPlayer P) → ℕ → Refusal → Type 0
 IsRefused formats presentation most name given old rise refusal =
-    IsAbsent name old rise refusal ⊎ IsRefusedBy formats presentation most name given old rise refusal
+    IsAbsent name old rise refusal
+    ⊎ IsRefusedBy formats presentation most name given old rise refusal

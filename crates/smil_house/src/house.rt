@@ -52,7 +52,7 @@ impl<P: Player + Drop> House<P> {
     pub fn may_load(&self, name: &[u8]) -> Result<(), Refusal>
         ensures { result ≡ load_refusal name.now self.now }
     {
-        if self.place(name).is_some() {
+        if self.index_of(name).is_some() {
             Err(Refusal::NameTaken)
         } else if self.held.len() == PRESENTATIONS {
             Err(Refusal::TooManyPresentations)
@@ -95,10 +95,10 @@ impl<P: Player + Drop> House<P> {
         ensures text { OnErr result (out.new ≡ out.old) }
         ensures counted { steps.old ≤ steps.new }
     {
-        let Some(place) = self.place(name) else {
+        let Some(index) = self.index_of(name) else {
             return Err(Refusal::NoPresentation);
         };
-        let player = &mut self.held[place].player;
+        let player = &mut self.held[index].player;
         player.answer(order, out, steps)?;
         Ok(player.now())
     }
@@ -111,10 +111,10 @@ impl<P: Player + Drop> House<P> {
             × (self.new ≡ without place self.old) }
         ensures kept { OnErr result (self.new ≡ self.old) }
     {
-        let Some(place) = self.place(name) else {
+        let Some(index) = self.index_of(name) else {
             return Err(Refusal::NoPresentation);
         };
-        self.held.remove(place);
+        self.held.remove(index);
         Ok(())
     }
 
@@ -123,14 +123,14 @@ impl<P: Player + Drop> House<P> {
     pub fn moment(&self, name: &[u8]) -> Option<i64>
         ensures { result ≡ moment_of P.presentation name.now self.now }
     {
-        match self.place(name) {
-            Some(place) => Some(self.held[place].player.now()),
+        match self.index_of(name) {
+            Some(index) => Some(self.held[index].player.now()),
             None => None,
         }
     }
 
-    // The place of the presentation of this name.
-    fn place(&self, name: &[u8]) -> Option<usize>
+    // The index of the presentation of this name.
+    fn index_of(&self, name: &[u8]) -> Option<usize>
         ensures { result ≡ place_of name.now self.now }
     {
         self.held.iter().position(|held| held.name.slice() == name)

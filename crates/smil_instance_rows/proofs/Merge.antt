@@ -2,6 +2,7 @@
 use Rattle.std.proofs.Common.{◌≡◌, refl, sym, ◌∙◌, ap, ℕ, suc, zero, ◌<◌, List, [], ◌∷◌, ◌++◌, length, Bool, Option, Some, None, arith}
 use Rattle.std.specs.Prelude.{get_or, set, flat_map}
 use Rattle.std.specs.List.{cons_option}
+use Rattle.std.proofs.lemmas.List.{set-get_or}
 use Rattle.std.proofs.lemmas.List.Elements.{filter_map-append}
 use Rattle.smil_model.specs.declared.times.Time.{Time}
 use Rattle.smil_instance_rows.specs.declared.item_times.InstanceTime.{InstanceTime}
@@ -10,10 +11,8 @@ use Rattle.smil_instance_rows.specs.Values.{values_of, merged, with_value}
 use Rattle.smil_instance_rows.specs.Places.{Replaces}
 use Rattle.smil_model.proofs.Rising.{poured-append, poured-put, poured-swap}
 
-pub set_same : {X : Type 0} (xs : List X) (i : ℕ) (x : X) → i < length xs → x ≡ get_or xs i x → set xs i x ≡ xs
-set_same [] i x inside same = absurd (omega (arith, inside))
-set_same (y ∷ ys) zero x inside same = ap (λ z. z ∷ ys) same
-set_same (y ∷ ys) (suc i) x inside same = ap (λ zs. y ∷ zs) (set_same ys i x (omega (arith, inside)) same)
+pub set_same : {X : Type 0} (xs : List X) (i : ℕ) (x : X) → x ≡ get_or xs i x → set xs i x ≡ xs
+set_same xs i x same = ap (set xs i) same ∙ set-get_or xs i x
 
 -- a list with an element has a last
 pub has_last : {X : Type 0} (xs : List X) → 0 < length xs → (first : List X) × (last : X) × (xs ≡ first ++ last ∷ [])
@@ -52,7 +51,7 @@ module _ {A : Type 0} (le : A → A → Bool) (order : IsOrder le) (choose : Tim
       ∙ ap (poured le (values_of choose l)) (sym (in_front m (set items i [])))
 
   own_apart : (items : List (List InstanceTime)) (i : ℕ) (own : List InstanceTime) → i < length items → own ≡ get_or items i own → merged le choose items ≡ poured le (values_of choose own) (merged le choose (set items i []))
-  own_apart items i own inside is = ap (merged le choose) (sym (set_same items i own inside is)) ∙ item_apart items i own inside
+  own_apart items i own inside is = ap (merged le choose) (sym (set_same items i own is)) ∙ item_apart items i own inside
 
   -- an instance time appended to an item's list
   pub merged_push : (items : List (List InstanceTime)) (i : ℕ) (own : List InstanceTime) (k : InstanceTime) → i < length items → own ≡ get_or items i own → merged le choose (set items i (own ++ k ∷ [])) ≡ with_value le (choose k.time) (merged le choose items)

@@ -33,8 +33,7 @@ numbers_of_kept (k ∷ ks) = step k.time (numbers_of_kept ks)
   where
     step : (t : Time) → numbers (times_of ks) ≡ values_of number_of ks → numbers (t ∷ times_of ks) ≡ cons_option (number_of t) (values_of number_of ks)
     step (At x) rest = ap (λ xs. x ∷ xs) rest
-    step Indefinite rest = rest
-    step Unresolved rest = rest
+    step _ rest = rest
 
 pub begins_same : (items : List (List InstanceTime)) → merged int_le number_of items ≡ begins_of items
 begins_same items =

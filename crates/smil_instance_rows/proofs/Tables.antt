@@ -2,7 +2,8 @@
 use Rattle.std.proofs.Common.{◌≡◌, refl, sym, ◌∙◌, ap, subst, ℕ, suc, zero, ◌-◌, ◌<◌, ◌≤◌, List, [], ◌∷◌, ◌++◌, length, reverse, arith, pos, length-append}
 use Rattle.std.specs.Prelude.{get_or, set, take}
 use Rattle.std.proofs.lemmas.List.Sums.{fold_push}
-use Rattle.std.proofs.lemmas.List.{get_or-reverse, get_or-take, get_or_default, length-reverse, length-set, length-take-le}
+use Rattle.std.proofs.Math.Seq.{take-suc}
+use Rattle.std.proofs.lemmas.List.{get_or-reverse, get_or-set_same, get_or-take, get_or_default, length-reverse, length-set, length-take-le, set-get_or, set-set}
 use Rattle.smil_model.specs.declared.document.Edge.{Edge}
 use Rattle.smil_model.specs.declared.document.Edge.TheVariants.{Begin, End}
 use Rattle.smil_model.specs.declared.times.Time.TheVariants as time
@@ -14,44 +15,29 @@ use Rattle.smil_instance_rows.specs.Cells.{side_of, list_of, with_list}
 use Rattle.smil_instance_rows.specs.Places.{EndsWith, IsNotAfter}
 use Rattle.smil_instance_rows.specs.Changes.{row_at, no_row, HasCell, cell_of, with_cell, with_add, with_adds, Fits}
 
-get_set : {A : Type 0} (xs : List A) (i : ℕ) (x d : A) → i < length xs → get_or (set xs i x) i d ≡ x
-get_set [] i x d inside = absurd (omega (arith, inside))
-get_set (y ∷ ys) zero x d inside = refl
-get_set (y ∷ ys) (suc i) x d inside = get_set ys i x d (omega (arith, inside))
-
-set_set : {A : Type 0} (xs : List A) (i : ℕ) (x y : A) → set (set xs i x) i y ≡ set xs i y
-set_set [] i x y = refl
-set_set (z ∷ zs) zero x y = refl
-set_set (z ∷ zs) (suc i) x y = ap (λ ws. z ∷ ws) (set_set zs i x y)
-
-set_back : {A : Type 0} (xs : List A) (i : ℕ) (d : A) → i < length xs → set xs i (get_or xs i d) ≡ xs
-set_back [] i d inside = absurd (omega (arith, inside))
-set_back (y ∷ ys) zero d inside = refl
-set_back (y ∷ ys) (suc i) d inside = ap (λ zs. y ∷ zs) (set_back ys i d (omega (arith, inside)))
-
 -- ---- a row
 
 list_with : (row : ElementTimes) (side : Edge) (item : ℕ) (k : List InstanceTime) → item < length (side_of row side) → list_of (with_list row side item k) side item ≡ k
-list_with row Begin item k inside = get_set row.begins item k [] inside
-list_with row End item k inside = get_set row.ends item k [] inside
+list_with row Begin item k inside = get_or-set_same row.begins item k [] inside
+list_with row End item k inside = get_or-set_same row.ends item k [] inside
 
 length_with : (row : ElementTimes) (side : Edge) (item : ℕ) (k : List InstanceTime) → length (side_of (with_list row side item k) side) ≡ length (side_of row side)
 length_with row Begin item k = length-set row.begins item k
 length_with row End item k = length-set row.ends item k
 
-back_row : (row : ElementTimes) (side : Edge) (item : ℕ) (k : List InstanceTime) → item < length (side_of row side) → with_list (with_list row side item k) side item (list_of row side item) ≡ row
-back_row row Begin item k inside = ap (λ bs. record { serial = row.serial; begins = bs; ends = row.ends }) (set_set row.begins item k (get_or row.begins item []) ∙ set_back row.begins item [] inside)
-back_row row End item k inside = ap (λ es. record { serial = row.serial; begins = row.begins; ends = es }) (set_set row.ends item k (get_or row.ends item []) ∙ set_back row.ends item [] inside)
+back_row : (row : ElementTimes) (side : Edge) (item : ℕ) (k : List InstanceTime) → with_list (with_list row side item k) side item (list_of row side item) ≡ row
+back_row row Begin item k = ap (λ bs. record { serial = row.serial; begins = bs; ends = row.ends }) (set-set row.begins item k (get_or row.begins item []) ∙ set-get_or row.begins item [])
+back_row row End item k = ap (λ es. record { serial = row.serial; begins = row.begins; ends = es }) (set-set row.ends item k (get_or row.ends item []) ∙ set-get_or row.ends item [])
 
 list_twice : (row : ElementTimes) (side : Edge) (item : ℕ) (k l : List InstanceTime) → with_list (with_list row side item k) side item l ≡ with_list row side item l
-list_twice row Begin item k l = ap (λ bs. record { serial = row.serial; begins = bs; ends = row.ends }) (set_set row.begins item k l)
-list_twice row End item k l = ap (λ es. record { serial = row.serial; begins = row.begins; ends = es }) (set_set row.ends item k l)
+list_twice row Begin item k l = ap (λ bs. record { serial = row.serial; begins = bs; ends = row.ends }) (set-set row.begins item k l)
+list_twice row End item k l = ap (λ es. record { serial = row.serial; begins = row.begins; ends = es }) (set-set row.ends item k l)
 
 -- ---- a cell
 
 module _ (rows : List ElementTimes) (cell : Cell) (k : List InstanceTime) (has : HasCell rows cell) where
   row_with : row_at (with_cell rows cell k) cell.row ≡ with_list (row_at rows cell.row) cell.side cell.item k
-  row_with = get_set rows cell.row (with_list (row_at rows cell.row) cell.side cell.item k) no_row has.row
+  row_with = get_or-set_same rows cell.row (with_list (row_at rows cell.row) cell.side cell.item k) no_row has.row
 
   pub still_has : HasCell (with_cell rows cell k) cell
   still_has = record {
@@ -66,32 +52,30 @@ module _ (rows : List ElementTimes) (cell : Cell) (k : List InstanceTime) (has :
   cell_twice l =
       ap (λ (r : ElementTimes). set (with_cell rows cell k) cell.row (with_list r cell.side cell.item l)) row_with
       ∙ ap (λ (r : ElementTimes). set (with_cell rows cell k) cell.row r) (list_twice (row_at rows cell.row) cell.side cell.item k l)
-      ∙ set_set rows cell.row (with_list (row_at rows cell.row) cell.side cell.item k) (with_list (row_at rows cell.row) cell.side cell.item l)
+      ∙ set-set rows cell.row (with_list (row_at rows cell.row) cell.side cell.item k) (with_list (row_at rows cell.row) cell.side cell.item l)
 
   pub cell_back : with_cell (with_cell rows cell k) cell (cell_of rows cell) ≡ rows
   cell_back =
       ap (λ (r : ElementTimes). set (with_cell rows cell k) cell.row (with_list r cell.side cell.item (cell_of rows cell))) row_with
-      ∙ ap (λ (r : ElementTimes). set (with_cell rows cell k) cell.row r) (back_row (row_at rows cell.row) cell.side cell.item k has.item)
-      ∙ set_set rows cell.row (with_list (row_at rows cell.row) cell.side cell.item k) (row_at rows cell.row)
-      ∙ set_back rows cell.row no_row has.row
+      ∙ ap (λ (r : ElementTimes). set (with_cell rows cell k) cell.row r) (back_row (row_at rows cell.row) cell.side cell.item k)
+      ∙ set-set rows cell.row (with_list (row_at rows cell.row) cell.side cell.item k) (row_at rows cell.row)
+      ∙ set-get_or rows cell.row no_row
 
 -- ---- adds
 
-take_more : (adds : List Add) (i : ℕ) (d : Add) → i < length adds → take (suc i) adds ≡ take i adds ++ get_or adds i d ∷ []
-take_more [] i d inside = absurd (omega (arith, inside))
-take_more (a ∷ rest) zero d inside = refl
-take_more (a ∷ rest) (suc i) d inside = ap (λ zs. a ∷ zs) (take_more rest i d (omega (arith, inside)))
-
 pub one_more_made : (before : List ElementTimes) (adds : List Add) (i : ℕ) (d : Add) → i < length adds → with_adds before (take (suc i) adds) ≡ with_add (with_adds before (take i adds)) (get_or adds i d)
-one_more_made before adds i d inside = ap (with_adds before) (take_more adds i d inside) ∙ fold_push with_add before (take i adds) (get_or adds i d)
+one_more_made before adds i d inside = ap (with_adds before) (take-suc adds i d inside) ∙ fold_push with_add before (take i adds) (get_or adds i d)
 
 pub fits_at : (before : List ElementTimes) (adds : List Add) (i : ℕ) (d : Add) → Fits before adds → i < length adds → HasCell (with_adds before (take i adds)) (get_or adds i d).cell × IsNotAfter (get_or adds i d).kept.place (cell_of (with_adds before (take i adds)) (get_or adds i d).cell)
 fits_at before [] i d fit inside = absurd (omega (arith, inside))
 fits_at before (a ∷ rest) zero d fit inside = (fit.0, fit.1)
 fits_at before (a ∷ rest) (suc i) d fit inside = fits_at (with_add before a) rest i d fit.2 (omega (arith, inside))
 
+abbrev pub no_cell : Cell
+no_cell = record { row = 0; side = Begin; item = 0 }
+
 abbrev pub blank : Add
-blank = record { cell = record { row = 0; side = Begin; item = 0 }; kept = record { place = 0; time = time.At (pos 0) } }
+blank = record { cell = no_cell; kept = record { place = 0; time = time.At (pos 0) } }
 
 -- where the first adds are made, the last of them can be undone
 pub record Undoes (rows : List ElementTimes) (before : List ElementTimes) (adds : List Add) (i : ℕ) : Type 0 where
@@ -115,7 +99,7 @@ some_there ks ls k is = omega (arith, ap length is, length-append ls (k ∷ []))
 -- ---- the first adds undone, the last of them first
 
 -- the add that is the next from the last of the first adds
-pub next_back : (adds : List Add) (made n : ℕ) (a : Add) → made ≤ length adds → (n < length (reverse (take made adds))) × (a ≡ get_or (reverse (take made adds)) n a)
+next_back : (adds : List Add) (made n : ℕ) (a : Add) → made ≤ length adds → (n < length (reverse (take made adds))) × (a ≡ get_or (reverse (take made adds)) n a)
     → (n < made) × (a ≡ get_or adds (made - 1 - n) blank)
 next_back adds made n a within at =
     let many : length (take made adds) ≡ made = length-take-le made adds within in
@@ -136,7 +120,7 @@ pub record IsUndoneBy (rows before : List ElementTimes) (adds : List Add) (i : �
   pub some : 0 < length (cell_of rows cell)
   pub back : (new : List ElementTimes) → EndsWith (cell_of rows cell) (λ first last. new ≡ with_cell rows cell first) → new ≡ with_adds before (take i adds)
 
-pub undone_by : (rows before : List ElementTimes) (adds : List Add) (i : ℕ) (a : Add) → a ≡ get_or adds i blank → i < length adds → Fits before adds → rows ≡ with_adds before (take (suc i) adds) → IsUndoneBy rows before adds i a.cell
+undone_by : (rows before : List ElementTimes) (adds : List Add) (i : ℕ) (a : Add) → a ≡ get_or adds i blank → i < length adds → Fits before adds → rows ≡ with_adds before (take (suc i) adds) → IsUndoneBy rows before adds i a.cell
 undone_by rows before adds i a is inside fit now =
     let ready = undoes rows before adds i inside fit now in
     subst (λ (b : Add). IsUndoneBy rows before adds i b.cell) (sym is)
@@ -145,6 +129,14 @@ undone_by rows before adds i a is inside fit now =
       some = some_there _ _ _ ready.is;
       back = λ new ends. ends (cell_of (with_adds before (take i adds)) (get_or adds i blank).cell) (get_or adds i blank).kept ready.is ∙ ready.back;
     })
+
+-- so it is with the next from the last of the first adds
+pub undone_next : (rows before : List ElementTimes) (adds : List Add) (made n : ℕ) (a : Add) → made ≤ length adds → (n < length (reverse (take made adds))) × (a ≡ get_or (reverse (take made adds)) n a) → Fits before adds → rows ≡ with_adds before (take (made - n) adds)
+    → IsUndoneBy rows before adds (made - 1 - n) a.cell
+undone_next rows before adds made n a within at fit now =
+    let next = next_back adds made n a within at in
+    let e : made - n ≡ suc (made - 1 - n) = omega (arith, next.0) in
+    undone_by rows before adds (made - 1 - n) a next.1 (omega (arith, next.0, within)) fit (now ∙ ap (λ k. with_adds before (take k adds)) e)
 
 -- ---- the shape is kept
 

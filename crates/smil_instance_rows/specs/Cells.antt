@@ -13,10 +13,13 @@ abbrev pub list_of : ElementTimes → Edge → ℕ → List InstanceTime
 list_of row side item = get_or (side_of row side) item []
 
 abbrev pub with_list : ElementTimes → Edge → ℕ → List InstanceTime → ElementTimes
-with_list row Begin item kept = record { serial = row.serial; begins = set row.begins item kept; ends = row.ends }
-with_list row End item kept = record { serial = row.serial; begins = row.begins; ends = set row.ends item kept }
+with_list row Begin item kept =
+    record { serial = row.serial; begins = set row.begins item kept; ends = row.ends }
+with_list row End item kept =
+    record { serial = row.serial; begins = row.begins; ends = set row.ends item kept }
 
 -- with one more item, for which nothing is kept
 abbrev pub with_item : ElementTimes → Edge → ElementTimes
-with_item row Begin = record { serial = row.serial; begins = row.begins ++ [] ∷ []; ends = row.ends }
+with_item row Begin =
+    record { serial = row.serial; begins = row.begins ++ [] ∷ []; ends = row.ends }
 with_item row End = record { serial = row.serial; begins = row.begins; ends = row.ends ++ [] ∷ [] }

@@ -21,7 +21,8 @@ abbrev pub cell_of : List ElementTimes → Cell → List InstanceTime
 cell_of rows cell = list_of (row_at rows cell.row) cell.side cell.item
 
 abbrev pub with_cell : List ElementTimes → Cell → List InstanceTime → List ElementTimes
-with_cell rows cell kept = set rows cell.row (with_list (row_at rows cell.row) cell.side cell.item kept)
+with_cell rows cell kept =
+    set rows cell.row (with_list (row_at rows cell.row) cell.side cell.item kept)
 
 -- each cell in turn with its instance time added
 abbrev pub with_add : List ElementTimes → Add → List ElementTimes
@@ -34,10 +35,12 @@ with_adds rows adds = fold with_add rows adds
 abbrev pub Fits : List ElementTimes → List Add → Type 0
 Fits rows [] = Unit {0}
 Fits rows (add ∷ adds) =
-    HasCell rows add.cell × IsNotAfter add.kept.place (cell_of rows add.cell) × Fits (with_add rows add) adds
+    HasCell rows add.cell × IsNotAfter add.kept.place (cell_of rows add.cell)
+    × Fits (with_add rows add) adds
 
 -- the rows are some others with the first adds made
-pub record IsMade (rows : List ElementTimes) (adds : List Add) (made : ℕ) (before : List ElementTimes) : Type 0 where
+pub record IsMade (rows : List ElementTimes) (adds : List Add) (made : ℕ)
+    (before : List ElementTimes) : Type 0 where
   pub fit : Fits before adds
   pub are : rows ≡ with_adds before (take made adds)
 
@@ -46,4 +49,5 @@ SomeMade rows adds made = (before : List ElementTimes) × IsMade rows adds made 
 
 -- whatever the rows were before the first adds, they are so again
 abbrev pub IsAsBefore : List ElementTimes → List Add → ℕ → List ElementTimes → Type 0
-IsAsBefore rows adds made new = (before : List ElementTimes) → IsMade rows adds made before → new ≡ before
+IsAsBefore rows adds made new =
+    (before : List ElementTimes) → IsMade rows adds made before → new ≡ before

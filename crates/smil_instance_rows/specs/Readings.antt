@@ -27,7 +27,8 @@ row_times row End = ends_of row.ends
 -- the index of the first row of an element
 abbrev pub index_in : List ElementTimes → ℕ → Option ℕ
 index_in [] who = None
-index_in (r ∷ rs) who = let rest = index_in rs who in if r.serial == who then Some 0 else option_map suc rest
+index_in (r ∷ rs) who =
+    let rest = index_in rs who in if r.serial == who then Some 0 else option_map suc rest
 
 abbrev pub row_in : List ElementTimes → ℕ → Option ElementTimes
 row_in rows who = find (λ (r : ElementTimes). r.serial == who) rows

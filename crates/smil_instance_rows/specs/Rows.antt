@@ -1,4 +1,5 @@
--- The instance times that are kept of an element, item by item, each with the place of the entry that gave it.
+-- The instance times that are kept of an element, item by item,
+-- each with the place of the entry that gave it.
 use Rattle.std.specs.Prelude.{ℕ, List, filter, Option, Some, None, nat_le}
 use Rattle.smil_instance_rows.specs.declared.item_times.InstanceTime.{InstanceTime}
 use Rattle.smil_model.specs.declared.times.Time.{Time}

@@ -21,7 +21,8 @@ ends_of items = rising_times (flat_map times_of items)
 abbrev pub values_of : {A : Type 0} → (Time → Option A) → List InstanceTime → List A
 values_of choose kept = filter_map (λ (k : InstanceTime). choose k.time) kept
 
-abbrev pub merged : {A : Type 0} → (A → A → Bool) → (Time → Option A) → List (List InstanceTime) → List A
+abbrev pub merged :
+    {A : Type 0} → (A → A → Bool) → (Time → Option A) → List (List InstanceTime) → List A
 merged le choose items = poured le (flat_map (values_of choose) items) []
 
 -- with a value put in its place, where there is one

@@ -8,7 +8,7 @@ use Rattle.smil_model.specs.declared.document.Node.{Node}
 use Rattle.smil_model.specs.declared.document.Edge.{Edge}
 use Rattle.smil_model.specs.declared.document.Edge.TheVariants.{End}
 use Rattle.smil_model.specs.declared.document.Item.{Item}
-use Rattle.smil_model.specs.declared.document.Item.TheVariants.{Offset, Sync, Event, Repeat, Key, Indefinite}
+use Rattle.smil_model.specs.declared.document.Item.TheVariants.{Offset, Sync, Event, Repeat}
 use Rattle.smil_model.specs.document.Document.{elements, element_named, has_id, is_element, is_in_seq, is_time_child, just_before, node_at, previous_child, previous_in_seq, target, time_children, time_parent, has_serial}
 use Rattle.smil_instances.specs.declared.source.Source.{Source}
 use Rattle.smil_instances.specs.declared.source.Source.TheVariants as source
@@ -109,8 +109,7 @@ module _ (nodes : List Node) where
     base_there (Sync who edge offset) there q = by_node source.Nothing edge (element_named nodes who) (named_there who) refl q
     base_there (Event who name offset) there q = by_target who there q
     base_there (Repeat who n offset) there q = by_target who there q
-    base_there (Key key offset) there q = cc
-    base_there Indefinite there q = cc
+    base_there _ there q = cc
 
   pub is_element_of : (e : Node) (item : Item) (x : ℕ) → node_at (elements nodes) e.serial ≡ Some e → base_of (source_of nodes e.serial item) ≡ Some x → is_some (node_at (elements nodes) x) ≡ true
   is_element_of e item x here' q = base_there e.serial x item (ap is_some here') q

@@ -1,19 +1,15 @@
 -- The rows of elements before any cell is noted.
-use Rattle.std.proofs.Common.{◌≡◌, refl, sym, ◌∙◌, ap, subst, ℕ, zero, suc, List, [], ◌∷◌, Option, Some, None, Bool, true, false, cond, map, length, get_or, take, ◌++◌, ◌+◌, ◌<◌, arith}
-use Rattle.std.specs.Prelude.{not, slice_get, option_map, pos}
-use Rattle.std.proofs.lemmas.List.{map-append}
-use Rattle.std.proofs.lemmas.List.Elements.{filter-append}
+use Rattle.std.proofs.Common.{◌≡◌, refl, sym, ◌∙◌, ap, subst, ℕ, zero, suc, List, [], ◌∷◌, Option, Some, None, Bool, true, false, cond, map, length, get_or, ◌<◌, arith}
+use Rattle.std.specs.Prelude.{slice_get, option_map, pos}
 use Rattle.std.proofs.lemmas.Option.{slice_get-map, get_or_from_slice_get}
 use Rattle.smil_model.specs.declared.document.Node.{Node}
 use Rattle.smil_model.specs.declared.document.Attrs.{Attrs}
-use Rattle.smil_model.specs.declared.document.Kind.{Kind}
 use Rattle.smil_model.specs.declared.document.Edge.TheVariants.{End}
 use Rattle.smil_model.specs.declared.document.Item.TheVariants.{Offset, Indefinite}
-use Rattle.smil_model.specs.document.Document.{Document, elements, is_class_kind, is_element, is_in_excl, node_at, previous_in_seq, serials}
+use Rattle.smil_model.specs.document.Document.{Document, elements, is_element, is_in_excl, node_at, previous_in_seq, serials}
 use Rattle.smil_model.specs.document.Defaults.{begin_list, end_list, items_or}
-use Rattle.smil_model.specs.document.Valid.{IsDistinct, IsNumberedTree, kind_of}
-use Rattle.smil_laws.proofs.Lists.{take-more_at, each_at, each_kept}
-use Rattle.smil_tree.proofs.Families.{node_of_place}
+use Rattle.smil_model.specs.document.Valid.{IsNumberedTree}
+use Rattle.smil_laws.proofs.Lists.{each_at, each_kept}
 use Rattle.smil_tree.proofs.Spans.{all_known}
 use Rattle.smil_tree.proofs.Changed.{serial_of}
 use Rattle.smil_instances.specs.declared.source.Source.{Source}
@@ -80,32 +76,3 @@ module _ (nodes : List Node) (who : ℕ) where
 
 pub same_some : {A : Type 0} (x y : A) → Some x ≡ Some y → x ≡ y
 same_some x y q = cc
-
-pub found_at : (ns : List Node) (i who : ℕ) → Some who ≡ option_map (λ (n : Node). n.serial) (slice_get ns i) → IsAt ns i who
-found_at ns i who q = by_node (slice_get ns i) refl q
-  where
-    by_node : (o : Option Node) → slice_get ns i ≡ o → Some who ≡ option_map (λ (n : Node). n.serial) o → IsAt ns i who
-    by_node None at r = cc
-    by_node (Some n) at r = record { node = n; at = at; serial = cc }
-
-pub found_known : (nodes : List Node) (i who : ℕ) → IsDistinct nodes → (is : IsAt nodes i who) → node_at nodes who ≡ Some is.node
-found_known nodes i who d is = ap (node_at nodes) is.serial ∙ node_of_place nodes i is.node d is.at
-
-pub elements_next : (nodes : List Node) (i : ℕ) (n : Node) → slice_get nodes i ≡ Some n → serials (elements (take (i + 1) nodes)) ≡ serials (elements (take i nodes)) ++ cond (is_element n) (n.serial ∷ []) []
-elements_next nodes i n at =
-    ap (λ xs. serials (elements xs)) (take-more_at nodes i n at)
-    ∙ ap serials (filter-append is_element (take i nodes) (n ∷ []))
-    ∙ map-append (λ (m : Node). m.serial) (elements (take i nodes)) (elements (n ∷ []))
-    ∙ ap (λ xs. serials (elements (take i nodes)) ++ xs) (one (is_element n))
-  where
-    one : (t : Bool) → serials (cond t (n ∷ []) []) ≡ cond t (n.serial ∷ []) []
-    one true = refl
-    one false = refl
-
--- with the node's serial pushed, if it is an element
-pub elements_more : (nodes : List Node) (i who : ℕ) (kind : Kind) (t : Bool) (old new : List ℕ) → IsDistinct nodes → IsAt nodes i who → Some kind ≡ kind_of (node_at nodes who) → t ≡ not (is_class_kind kind) → old ≡ serials (elements (take i nodes)) → new ≡ old ++ cond t (who ∷ []) [] → new ≡ serials (elements (take (i + 1) nodes))
-elements_more nodes i who kind t old new d is k e so q =
-    q ∙ ap (λ xs. xs ++ cond t (who ∷ []) []) so
-    ∙ ap (λ s. serials (elements (take i nodes)) ++ cond t (s ∷ []) []) is.serial
-    ∙ ap (λ u. serials (elements (take i nodes)) ++ cond u (is.node.serial ∷ []) []) (e ∙ ap (λ x. not (is_class_kind x)) (same_some kind is.node.kind (k ∙ ap kind_of (found_known nodes i who d is))))
-    ∙ sym (elements_next nodes i is.node is.at)

@@ -38,8 +38,7 @@ means nodes e (Sync who edge offset) x q = by (element_named nodes who) q
     by (Some b) r = cc
 means nodes e (Event who name offset) x q = is_eventbase (target nodes e who) x q
 means nodes e (Repeat who n offset) x q = is_eventbase (target nodes e who) x q
-means nodes e (Key key offset) x q = cc
-means nodes e Indefinite x q = cc
+means nodes e _ x q = cc
 
 -- an item whose source is a key means no element
 pub key_means : (nodes : List Node) (e : ℕ) (item : Item) (k : ℕ) → source_of nodes e item ≡ source.Key k → None ≡ target_of nodes e item
@@ -55,8 +54,7 @@ key_means nodes e (Repeat who n offset) k q = by (target nodes e who) q
     by : (o : Option ℕ) → eventbase o ≡ source.Key k → None ≡ o
     by None r = refl
     by (Some b) r = cc
-key_means nodes e (Key key offset) k q = refl
-key_means nodes e Indefinite k q = refl
+key_means nodes e _ k q = refl
 
 -- ---- what is given
 
@@ -82,8 +80,7 @@ module _ (h : History) (y : Entry) (e : Node) (side : Edge) where
       by : (o : Option ℕ) → eventbase o ≡ source.Start → at_place (length h.diary) (given_repeat h y e side (Repeat who n offset) offset n o) ≡ start_time h y offset (time_parent h.nodes e.serial)
       by None r = cc
       by (Some b) r = cc
-  start_given (Key key offset) q = cc
-  start_given Indefinite q = cc
+  start_given _ q = cc
 
   pub edge_given : (item : Item) (x : ℕ) (edge : Edge) → source_of h.nodes e.serial item ≡ source.Syncbase x edge → given_at h y e side item ≡ at_place (length h.diary) (edge_time h e.serial x (offset_of item) y.moment edge y.step)
   edge_given (Offset offset) x edge q = by (previous_in_seq h.nodes e.serial) q
@@ -114,8 +111,7 @@ module _ (h : History) (y : Entry) (e : Node) (side : Edge) where
       by : (o : Option ℕ) → eventbase o ≡ source.Syncbase x edge → at_place (length h.diary) (given_repeat h y e side (Repeat who n offset) offset n o) ≡ at_place (length h.diary) (edge_time h e.serial x offset y.moment edge y.step)
       by None r = cc
       by (Some b) r = cc
-  edge_given (Key key offset) x edge q = cc
-  edge_given Indefinite x edge q = cc
+  edge_given _ x edge q = cc
 
   pub event_given : (item : Item) (x : ℕ) → source_of h.nodes e.serial item ≡ source.Eventbase x → given_at h y e side item ≡ given_heard h y e side item (Some x)
   event_given (Event who name offset) x q =
@@ -126,8 +122,7 @@ module _ (h : History) (y : Entry) (e : Node) (side : Edge) where
       ap (λ o. at_place (length h.diary) (given_repeat h y e side (Repeat who n offset) offset n o)) one
   event_given (Offset offset) x q = let never : None ≡ Some x = means h.nodes e.serial (Offset offset) x q in cc
   event_given (Sync who edge offset) x q = let never : None ≡ Some x = means h.nodes e.serial (Sync who edge offset) x q in cc
-  event_given (Key key offset) x q = cc
-  event_given Indefinite x q = cc
+  event_given _ x q = cc
 
   pub key_given : (item : Item) (k : ℕ) → source_of h.nodes e.serial item ≡ source.Key k → given_at h y e side item ≡ given_heard h y e side item None
   key_given (Key key offset) k q = refl

@@ -1,5 +1,6 @@
 -- Cells of elements, and which of them an entry concerns.
 use Rattle.std.proofs.Common.{◌≡◌, refl, sym, ◌∙◌, ap, subst, ℕ, suc, zero, List, [], ◌∷◌, Option, Some, None, Bool, true, false}
+use mathlib.Core.Bool.{and-false}
 use Rattle.std.specs.Prelude.{cond, map, slice_get, find, reverse, drop, ◌==◌, ◌&&◌, ◌||◌, is_some}
 use Rattle.std.specs.Option.{option_map, IsSome}
 use Rattle.std.specs.List.{AllByRecursion}
@@ -175,10 +176,6 @@ module _ (nodes : List Node) (distinct : IsDistinct nodes) where
     no_reset e (source.Key key) = no_child e
     no_reset e source.Nothing = refl
 
-    and_false : (t : Bool) → (t && false) ≡ false
-    and_false true = refl
-    and_false false = refl
-
     -- an entry on no element concerns nothing
     pub unconcerned : BasesAreElements → (birth : Bool) (key : Option ℕ) (cell : Cell) → is_concerned_cell nodes birth (Some x) key cell ≡ false
     unconcerned law birth key cell = by (slice_get (elements nodes) cell.row) refl
@@ -188,7 +185,7 @@ module _ (nodes : List Node) (distinct : IsDistinct nodes) where
         by (Some e) q =
             ap (λ t. t || (birth && is_reset_with nodes x e.serial (source_at nodes cell))) (other_base (base_of (source_at nodes cell)) (λ of r. base_known law cell e of q r))
             ∙ ap (λ t. birth && t) (no_reset e.serial (source_at nodes cell))
-            ∙ and_false birth
+            ∙ and-false birth
 
   -- no entry on nothing concerns anything
   nothing_concerned : (birth : Bool) (cell : Cell) → is_concerned_cell nodes birth None None cell ≡ false

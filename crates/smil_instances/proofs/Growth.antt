@@ -1,5 +1,6 @@
 -- How the lists of cells grow: one push, one after another, and all.
 use Rattle.std.proofs.Common.{◌≡◌, refl, sym, ◌∙◌, ap, ℕ, zero, suc, ◌+◌, ◌<◌, List, [], ◌∷◌, ◌++◌, Option, Some, None, Bool, true, false, length, get_or, arith, ◌≢◌}
+use mathlib.Core.Bool.{and-false}
 use Rattle.std.specs.Prelude.{cond, ◌==◌, ◌&&◌, slice_get, slice_set, count_by, option_map, OnOk, Result, Ok, Err}
 use Rattle.std.proofs.lemmas.Bool.{eqb-true}
 use Rattle.std.proofs.lemmas.List.{length-set}
@@ -112,12 +113,8 @@ pushed nodes rows at old who b cell there below own = record {
         ∙ ap (λ o. count_by (is_cell d) (cells_of t o) + one_if (same_test t b && true && is_cell d cell)) (sym (ap (slice_get rows) (eqb-true row at q) ∙ there))
         ∙ ap (λ u. count_by (is_cell d) (cells_in rows row t) + one_if (same_test t b && u && is_cell d cell)) (sym q)
     by_cells row t d false q =
-        let none : one_if (same_test t b && (row == at) && is_cell d cell) ≡ 0 = ap (λ u. one_if (same_test t b && u && is_cell d cell)) q ∙ no_one (same_test t b) in
+        let none : one_if (same_test t b && (row == at) && is_cell d cell) ≡ 0 = ap (λ u. one_if (same_test t b && u && is_cell d cell)) q ∙ ap (λ u. one_if (u && is_cell d cell)) (and-false (same_test t b)) in
         omega (arith, none)
-      where
-        no_one : (u : Bool) → one_if (u && false && is_cell d cell) ≡ 0
-        no_one true = refl
-        no_one false = refl
 
 -- ---- by serial
 

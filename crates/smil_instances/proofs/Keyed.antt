@@ -1,10 +1,10 @@
 -- How the cells of each access key grow: one push, one after another, and all.
 use Rattle.std.proofs.Common.{◌≡◌, refl, sym, ◌∙◌, ap, ℕ, zero, suc, ◌+◌, ◌<◌, ◌≤◌, List, [], ◌∷◌, ◌++◌, Some, Bool, true, false, length, get_or, arith}
+use mathlib.Core.Bool.{and-false, and-true}
 use Rattle.std.specs.Prelude.{cond, ◌==◌, ◌&&◌, nat_lt, slice_get, slice_set, count_by}
 use Rattle.std.proofs.lemmas.Bool.{eqb-true, ltb-false}
 use Rattle.std.proofs.lemmas.Option.{slice_get_past, slice_get-get_or}
 use Rattle.smil_model.specs.declared.document.Edge.{Edge}
-use Rattle.smil_graph.proofs.Keyed.{none_right}
 use Rattle.smil_instances.specs.declared.source.Source.{Source}
 use Rattle.smil_instances.specs.declared.source.Source.TheVariants as source
 use Rattle.smil_instance_rows.specs.declared.cell.Cell.{Cell}
@@ -62,13 +62,9 @@ key_pushed old keys key cells cell same below is = record {
     by_key k d true q =
         one_more d cell cells
         ∙ ap (λ cs. count_by (is_cell d) cs + one_if (is_cell d cell)) (own k (eqb-true k key q))
-        ∙ ap (λ t. count_by (is_cell d) (keyed_in old k) + one_if t) (and_true (is_cell d cell) ∙ ap (λ t. is_cell d cell && t) (sym q ∙ turned k))
-      where
-        and_true : (t : Bool) → t ≡ (t && true)
-        and_true true = refl
-        and_true false = refl
+        ∙ ap (λ t. count_by (is_cell d) (keyed_in old k) + one_if t) (sym (and-true (is_cell d cell)) ∙ ap (λ t. is_cell d cell && t) (sym q ∙ turned k))
     by_key k d false q =
-        let none : one_if (is_cell d cell && (key == k)) ≡ 0 = ap (λ t. one_if (is_cell d cell && t)) (sym (turned k) ∙ q) ∙ ap one_if (none_right (is_cell d cell)) in
+        let none : one_if (is_cell d cell && (key == k)) ≡ 0 = ap (λ t. one_if (is_cell d cell && t)) (sym (turned k) ∙ q) ∙ ap one_if (and-false (is_cell d cell)) in
         ap (count_by (is_cell d)) (same k) ∙ omega (arith, none)
 
 -- ---- one cell, and all

@@ -6,7 +6,7 @@ use Rattle.smil_model.specs.declared.times.Time.{Time}
 use Rattle.smil_model.specs.declared.diary.Entry.{Entry}
 use Rattle.smil_model.specs.declared.diary.LogEntry.{LogEntry}
 use Rattle.smil_model.specs.declared.diary.Step.{Step}
-use Rattle.smil_model.specs.declared.diary.Step.TheVariants.{Began, Repeated, Ended, Cut, Paused, Resumed, Deferred, Passed, Logged}
+use Rattle.smil_model.specs.declared.diary.Step.TheVariants.{Logged}
 use Rattle.smil_model.specs.declared.document.Node.{Node}
 use Rattle.smil_model.specs.declared.document.Edge.{Edge}
 use Rattle.smil_model.specs.declared.document.Edge.TheVariants.{Begin, End}
@@ -28,25 +28,11 @@ IsSameHeard log more _ = Unit {0}
 
 same_event : (log more : List LogEntry) (x : ℕ) (name : List ℕ) (step : Step) → IsSameHeard log more step → is_event more x name step ≡ is_event log x name step
 same_event log more x name (Logged place) q = ap (is_log_event x name) q
-same_event log more x name (Began who begin) q = refl
-same_event log more x name (Ended who end') q = refl
-same_event log more x name (Cut who) q = refl
-same_event log more x name (Repeated who start) q = refl
-same_event log more x name (Paused who) q = refl
-same_event log more x name (Resumed who) q = refl
-same_event log more x name (Deferred who begin) q = refl
-same_event log more x name (Passed who begin) q = refl
+same_event log more x name _ q = refl
 
 same_press : (log more : List LogEntry) (key : ℕ) (step : Step) → IsSameHeard log more step → is_press more key step ≡ is_press log key step
 same_press log more key (Logged place) q = ap (is_log_key key) q
-same_press log more key (Began who begin) q = refl
-same_press log more key (Ended who end') q = refl
-same_press log more key (Cut who) q = refl
-same_press log more key (Repeated who start) q = refl
-same_press log more key (Paused who) q = refl
-same_press log more key (Resumed who) q = refl
-same_press log more key (Deferred who begin) q = refl
-same_press log more key (Passed who begin) q = refl
+same_press log more key _ q = refl
 
 module _ (h : History) (more : List LogEntry) where
   abbrev grown : History

@@ -53,5 +53,4 @@ module _ (h : History) (y : Entry) where
   edge-at e x offset m Begin (Began who begin) q = rw (parent-at e m q, parent-at x m q)
   edge-at e x offset m End (Ended who end') q = rw (parent-at e m q, parent-at x m q)
   edge-at e x offset m End (Cut who) q = rw (parent-at e m q)
-  edge-at e x offset m Begin _ q = refl
-  edge-at e x offset m End _ q = refl
+  edge-at e x offset m _ _ q = refl

@@ -1,5 +1,6 @@
 -- Nodes that are found: above another, by a name, and with an id.
 use Rattle.std.proofs.Common.{◌≡◌, refl, sym, ◌∙◌, ap, ℕ, ◌+◌, ◌≤◌, List, [], ◌∷◌, Option, Some, None, Bool, true, false, cond, arith}
+use mathlib.Core.Bool.{and-false}
 use Rattle.std.specs.Prelude.{◌&&◌, ◌==◌, not, find, count_by, drop, reverse, is_some}
 use Rattle.std.proofs.lemmas.List.Sums.{sum_by-cons}
 use Rattle.smil_model.specs.declared.document.Node.{Node}
@@ -72,22 +73,14 @@ module _ (q : List ℕ) where
   none_named [] h = refl
   none_named (n ∷ ns) h = step (bears q n) refl (none_named ns)
     where
-      no_one : (u : Bool) → cond (u && false) (Some n) (element_named ns q) ≡ element_named ns q
-      no_one true = refl
-      no_one false = refl
-
       step : (t : Bool) → bears q n ≡ t → (count_by (bears q) ns ≤ 0 → element_named ns q ≡ None) → element_named (n ∷ ns) q ≡ None
       step true e rest = absurd (let m = at_most n ns true 0 e h in omega (arith, m))
-      step false e rest = ap (λ t. cond (is_element n && t) (Some n) (element_named ns q)) e ∙ no_one (is_element n) ∙ rest (let m = at_most n ns false 0 e h in omega (arith, m))
+      step false e rest = ap (λ t. cond (is_element n && t) (Some n) (element_named ns q)) e ∙ ap (λ t. cond t (Some n) (element_named ns q)) (and-false (is_element n)) ∙ rest (let m = at_most n ns false 0 e h in omega (arith, m))
 
   once_named : (ns : List Node) → count_by (bears q) ns ≤ 1 → element_named ns q ≡ only_element (find (bears q) ns)
   once_named [] h = refl
   once_named (n ∷ ns) h = step (bears q n) refl (once_named ns)
     where
-      no_one : (u : Bool) → cond (u && false) (Some n) (element_named ns q) ≡ element_named ns q
-      no_one true = refl
-      no_one false = refl
-
       by_kind : (u : Bool) → element_named ns q ≡ None → cond (u && true) (Some n) (element_named ns q) ≡ cond u (Some n) None
       by_kind true none = refl
       by_kind false none = none
@@ -99,7 +92,7 @@ module _ (q : List ℕ) where
           ∙ ap (λ t. only_element (cond t (Some n) (find (bears q) ns))) (sym e)
       step false e rest =
           ap (λ t. cond (is_element n && t) (Some n) (element_named ns q)) e
-          ∙ no_one (is_element n)
+          ∙ ap (λ t. cond t (Some n) (element_named ns q)) (and-false (is_element n))
           ∙ rest (let m = at_most n ns false 1 e h in omega (arith, m))
           ∙ ap (λ t. only_element (cond t (Some n) (find (bears q) ns))) (sym e)
 

@@ -4,7 +4,7 @@ use Rattle.std.specs.Prelude.{slice_get}
 use Rattle.smil_model.specs.declared.diary.Entry.{Entry}
 use Rattle.smil_model.specs.declared.diary.LogEntry.{LogEntry}
 use Rattle.smil_model.specs.declared.diary.Step.{Step}
-use Rattle.smil_model.specs.declared.diary.Step.TheVariants.{Began, Repeated, Ended, Cut, Paused, Resumed, Deferred, Passed, Logged}
+use Rattle.smil_model.specs.declared.diary.Step.TheVariants.{Began}
 use Rattle.smil_model.specs.declared.document.Node.{Node}
 use Rattle.smil_model.specs.document.Document.{Document}
 use Rattle.smil_model.specs.diary.Diary.{History, with_past, with_entry}
@@ -23,14 +23,7 @@ by nodes log diary = record { nodes = nodes; log = log; diary = diary }
 
 step_same : (nodes : List Node) (one other : List LogEntry) (ds : List Entry) (s : Step) → is_lawful_step (by nodes one ds) s ≡ is_lawful_step (by nodes other ds) s
 step_same nodes one other ds (Began who begin) = refl
-step_same nodes one other ds (Repeated who start) = refl
-step_same nodes one other ds (Ended who end') = refl
-step_same nodes one other ds (Cut who) = refl
-step_same nodes one other ds (Paused who) = refl
-step_same nodes one other ds (Resumed who) = refl
-step_same nodes one other ds (Deferred who begin) = refl
-step_same nodes one other ds (Passed who begin) = refl
-step_same nodes one other ds (Logged place) = refl
+step_same nodes one other ds _ = refl
 
 all_same : (nodes : List Node) (one other : List LogEntry) (diary ds before : List Entry) → AllLawful (by nodes one diary) (with_past before ds) → AllLawful (by nodes other diary) (with_past before ds)
 all_same nodes one other diary [] before all = tt

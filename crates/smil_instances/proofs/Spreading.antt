@@ -1,5 +1,6 @@
 -- Each cell goes to the elements that it concerns, and in the end every cell did.
 use Rattle.std.proofs.Common.{◌≡◌, refl, sym, ◌∙◌, ap, ℕ, ◌+◌, ◌<◌, ◌≤◌, List, [], Option, Some, None, Bool, true, false, length, map, get_or, arith}
+use mathlib.Core.Bool.{and-false, and-true}
 use Rattle.std.specs.Prelude.{◌==◌, ◌&&◌, ◌||◌, not, nat_lt, slice_get, count_by, option_map}
 use Rattle.std.proofs.lemmas.Bool.{eqb-true, and_parts, lt-ltb, ltb-false}
 use Rattle.std.proofs.lemmas.List.{length-map}
@@ -101,27 +102,15 @@ next_item : (a i : ℕ) → one_if (nat_lt a i) + one_if (a == i) ≡ one_if (na
 next_item a i = grind arith
 
 by_concern : (k l q m : Bool) → one_if l + one_if q ≡ one_if m → one_if (l && k) + one_if (q && k) ≡ one_if (m && k)
-by_concern true l q m h = ap (λ t. one_if t + one_if (q && true)) (and_true l) ∙ ap (λ t. one_if l + one_if t) (and_true q) ∙ h ∙ ap one_if (sym (and_true m))
-  where
-    and_true : (t : Bool) → (t && true) ≡ t
-    and_true true = refl
-    and_true false = refl
+by_concern true l q m h = ap (λ t. one_if t + one_if (q && true)) (and-true l) ∙ ap (λ t. one_if l + one_if t) (and-true q) ∙ h ∙ ap one_if (sym (and-true m))
 by_concern false l q m h =
-    let a = no_one l in let b = no_one q in let e = no_one m in omega (arith, a, b, e)
-  where
-    no_one : (t : Bool) → one_if (t && false) ≡ 0
-    no_one true = refl
-    no_one false = refl
+    omega (arith, ap one_if (and-false l), ap one_if (and-false q), ap one_if (and-false m))
 
 pub no_items : (row : ℕ) (side : Edge) (test : Cell → Bool) (d : Cell) → first_of_side row side 0 test d ≡ false
-no_items row side test d = ap (λ t. (is_of_side row side d && t) && test d) none ∙ no_one (is_of_side row side d)
+no_items row side test d = ap (λ t. (is_of_side row side d && t) && test d) none ∙ ap (λ t. t && test d) (and-false (is_of_side row side d))
   where
     none : nat_lt d.item 0 ≡ false
     none = grind arith
-
-    no_one : (u : Bool) → ((u && false) && test d) ≡ false
-    no_one true = refl
-    no_one false = refl
 
 pub items_next : (row : ℕ) (side : Edge) (i : ℕ) (test : Cell → Bool) (d : Cell) → one_if (first_of_side row side i test d) + one_if (is_cell d (record { row = row; side = side; item = i }) && test d) ≡ one_if (first_of_side row side (i + 1) test d)
 items_next row side i test d = by_tests (d.row == row) (is_same_edge d.side side) (test d)
@@ -149,13 +138,9 @@ source_here nodes rows cell r are is below = sym (ap (source_under cell) (row_th
 no_concern : (nodes : List Node) (b : Bool) (x : ℕ) (d : Cell) → source_at nodes d ≡ source.Nothing → concerns_cell nodes b x d ≡ false
 no_concern nodes b x d q = by_node (slice_get (elements nodes) d.row)
   where
-    nothing : (t : Bool) → (t && false) ≡ false
-    nothing true = refl
-    nothing false = refl
-
     by_node : (o : Option Node) → concerns_under nodes b x d o ≡ false
     by_node None = refl
-    by_node (Some e) = ap (is_concerned nodes b x e.serial) q ∙ nothing b
+    by_node (Some e) = ap (is_concerned nodes b x e.serial) q ∙ and-false b
 
 -- where no item from n on passes, the first n are all of the side
 pub side_all : (row : ℕ) (side : Edge) (n : ℕ) (test : Cell → Bool) (d : Cell) → (d.row ≡ row → d.side ≡ side → n ≤ d.item → test d ≡ false) → first_of_side row side n test d ≡ of_side row side test d
@@ -242,12 +227,8 @@ module _ (nodes : List Node) where
   every : (b : Bool) (x : ℕ) (d : Cell) → first_rows nodes (length (elements nodes)) b x d ≡ concerns_cell nodes b x d
   every b x d = by_node (slice_get (elements nodes) d.row) refl
     where
-      nothing : (t : Bool) → (t && false) ≡ false
-      nothing true = refl
-      nothing false = refl
-
       by_node : (o : Option Node) → slice_get (elements nodes) d.row ≡ o → (nat_lt d.row (length (elements nodes)) && concerns_under nodes b x d o) ≡ concerns_under nodes b x d o
-      by_node None at = nothing (nat_lt d.row (length (elements nodes)))
+      by_node None at = and-false (nat_lt d.row (length (elements nodes)))
       by_node (Some e) at = ap (λ t. t && concerns_under nodes b x d (Some e)) (lt-ltb d.row (length (elements nodes)) (slice_get_within (elements nodes) d.row e at))
 
   -- once every cell went to the elements that it concerns, and to its key

@@ -12,7 +12,7 @@ use Rattle.smil_model.specs.declared.document.Node.{Node}
 use Rattle.smil_model.specs.declared.document.Edge.{Edge}
 use Rattle.smil_model.specs.declared.document.Edge.TheVariants.{Begin, End}
 use Rattle.smil_model.specs.declared.document.Item.{Item}
-use Rattle.smil_model.specs.declared.document.Item.TheVariants.{Offset, Sync, Event, Repeat, Key, Indefinite}
+use Rattle.smil_model.specs.declared.document.Item.TheVariants.{Offset, Sync, Event, Repeat}
 use Rattle.smil_model.specs.document.Document.{element_named, has_serial, previous_in_seq, time_parent, target}
 use Rattle.smil_model.specs.diary.Diary.{History, with_entry}
 use Rattle.smil_model.specs.diary.Plays.{is_birth_under}
@@ -55,8 +55,7 @@ by_source nodes log step e (Sync who edge offset) = by_node (element_named nodes
     by_node (Some x) = refl
 by_source nodes log step e (Event who name offset) = by_target nodes log step e (target nodes e who)
 by_source nodes log step e (Repeat who n offset) = by_target nodes log step e (target nodes e who)
-by_source nodes log step e (Key key offset) = refl
-by_source nodes log step e Indefinite = refl
+by_source nodes log step e _ = refl
 
 -- ---- a step that is on no element: a log entry that there is not
 
@@ -70,8 +69,7 @@ lone_edge : (log : List LogEntry) (edge : Edge) (x : ℕ) (step : Step) → subj
 lone_edge log Begin x (Began who begin) on = cc
 lone_edge log End x (Ended who end') on = cc
 lone_edge log End x (Cut who) on = cc
-lone_edge log Begin x _ on = refl
-lone_edge log End x _ on = refl
+lone_edge log _ x _ on = refl
 
 -- ---- a step on an element
 
@@ -106,8 +104,7 @@ module _ (log : List LogEntry) (step : Step) (x : ℕ) (on : subject_of log step
       by_step Begin (Began who begin) same = let one : who ≡ x = cc in grind (arith, one, q)
       by_step End (Ended who end') same = let one : who ≡ x = cc in grind (arith, one, q)
       by_step End (Cut who) same = let one : who ≡ x = cc in grind (arith, one, q)
-      by_step Begin _ same = refl
-      by_step End _ same = refl
+      by_step _ _ same = refl
 
   neither : (b u v : Bool) → b && (u || v) ≡ false → (b && u ≡ false) × (b && v ≡ false)
   neither true u v q = or_parts u v q

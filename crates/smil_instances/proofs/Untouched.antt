@@ -37,8 +37,7 @@ pub other_edge : (h : History) (e x : ℕ) (offset m : ℤ) (edge : Edge) (step 
 other_edge h e x offset m Begin (Began who begin) q = rw q
 other_edge h e x offset m End (Ended who end') q = rw q
 other_edge h e x offset m End (Cut who) q = rw q
-other_edge h e x offset m Begin _ q = refl
-other_edge h e x offset m End _ q = refl
+other_edge h e x offset m _ _ q = refl
 
 -- a further cut at a place that stays takes nothing out
 same_cut : {A : Type 0} (f : A → Option Time) (xs : List A) (k' k : ℕ) → Stays (length xs) k' k → from_place k' (from_place k (placed f 0 xs)) ≡ from_place k (placed f 0 xs)
@@ -55,8 +54,7 @@ event_other log t name (Logged place) q = by_entry (slice_get log place) q
       where
         swapped : (w : ℕ) → t == w ≡ false → w == t ≡ false
         swapped w r = grind (arith, r)
-    by_what (happening.Media who len) r = refl
-    by_what (happening.Key key) r = refl
+    by_what _ r = refl
 
     by_entry : (o : Option LogEntry) → is_option t (logged_subject o) ≡ false → is_log_event t name o ≡ false
     by_entry None r = refl

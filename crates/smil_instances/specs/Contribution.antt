@@ -27,20 +27,25 @@ given_edge h y e offset edge (Some x) = edge_time h e x.serial offset y.moment e
 
 abbrev pub given_event : History → Entry → Node → Edge → Item → ℤ → List ℕ → Option ℕ → Option Time
 given_event h y e side item offset name None = None
-given_event h y e side item offset name (Some x) = heard_time h e side item offset (occurs_event x name) h.diary y
+given_event h y e side item offset name (Some x) =
+    heard_time h e side item offset (occurs_event x name) h.diary y
 
 abbrev pub given_repeat : History → Entry → Node → Edge → Item → ℤ → ℕ → Option ℕ → Option Time
 given_repeat h y e side item offset n None = None
-given_repeat h y e side item offset n (Some x) = heard_time h e side item offset (occurs_repeat x n) h.diary y
+given_repeat h y e side item offset n (Some x) =
+    heard_time h e side item offset (occurs_repeat x n) h.diary y
 
 abbrev pub given_by : History → Entry → Node → Edge → Item → Option Time
-given_by h y e side (Offset offset) = given_edge h y e.serial offset End (previous_in_seq h.nodes e.serial)
-given_by h y e side (Sync who edge offset) = given_edge h y e.serial offset edge (element_named h.nodes who)
+given_by h y e side (Offset offset) =
+    given_edge h y e.serial offset End (previous_in_seq h.nodes e.serial)
+given_by h y e side (Sync who edge offset) =
+    given_edge h y e.serial offset edge (element_named h.nodes who)
 given_by h y e side (Event who name offset) =
     given_event h y e side (Event who name offset) offset name (target h.nodes e.serial who)
 given_by h y e side (Repeat who n offset) =
     given_repeat h y e side (Repeat who n offset) offset n (target h.nodes e.serial who)
-given_by h y e side (Key key offset) = heard_time h e side (Key key offset) offset (occurs_key key) h.diary y
+given_by h y e side (Key key offset) =
+    heard_time h e side (Key key offset) offset (occurs_key key) h.diary y
 given_by h y e side Indefinite = None
 
 -- ---- what is cut after it
@@ -50,16 +55,19 @@ abbrev pub start_time : History → Entry → ℤ → Option Node → Option Ins
 start_time h y offset None = None
 start_time h y offset (Some p) =
     if gives_birth p.serial y.step
-    then Some (instance_at 0 (within_horizon (iteration_start_after h p.serial y.moment (pos 0) y.step +ℤ offset)))
+    then Some (instance_at 0
+    (within_horizon (iteration_start_after h p.serial y.moment (pos 0) y.step +ℤ offset)))
     else None
 
 abbrev pub offset_given : History → Entry → ℕ → ℤ → Option Node → Option InstanceTime
 offset_given h y e offset None = start_time h y offset (time_parent h.nodes e)
-offset_given h y e offset (Some before) = at_place (length h.diary) (given_edge h y e offset End (Some before))
+offset_given h y e offset (Some before) =
+    at_place (length h.diary) (given_edge h y e offset End (Some before))
 
 -- what the entry gives to an item of e, by the clocks and the diary before it
 abbrev pub given_at : History → Entry → Node → Edge → Item → Option InstanceTime
-given_at h y e side (Offset offset) = offset_given h y e.serial offset (previous_in_seq h.nodes e.serial)
+given_at h y e side (Offset offset) =
+    offset_given h y e.serial offset (previous_in_seq h.nodes e.serial)
 given_at h y e side item = at_place (length h.diary) (given_by h y e side item)
 
 -- these are the clocks of the history, and the moment is not before its last entry
@@ -76,8 +84,8 @@ offset_of (Repeat who n offset) = offset
 offset_of (Key key offset) = offset
 offset_of Indefinite = pos 0
 
--- what an entry gives to an item that means the element `of` or waits for a key: a time where it is what the item waits for
--- and e hears it
+-- what an entry gives to an item that means the element `of` or waits for a key:
+-- a time where it is what the item waits for and e hears it
 abbrev pub given_heard : History → Entry → Node → Edge → Item → Option ℕ → Option InstanceTime
 given_heard h y e side item of =
     at_place (length h.diary)

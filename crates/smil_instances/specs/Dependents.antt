@@ -1,5 +1,6 @@
--- What is kept of a document: for each element the sources of its items, and the cells of the items that an entry on it can
--- concern; for each access key the cells of the items that wait for it.
+-- What is kept of a document: for each element the sources of its items,
+-- and the cells of the items that an entry on it can concern;
+-- for each access key the cells of the items that wait for it.
 use Rattle.std.specs.Prelude.{◌≡◌, ℕ, List, [], Bool, true, false, Option, Some, None, slice_get}
 use Rattle.smil_model.specs.declared.document.Node.{Node}
 use Rattle.smil_model.specs.declared.document.Edge.{Edge}
@@ -10,8 +11,9 @@ use Rattle.smil_instances.specs.declared.source.Source.TheVariants as source
 use Rattle.smil_instance_rows.specs.declared.cell.Cell.{Cell}
 use Rattle.smil_instances.specs.Sources.{AreThose, concerns_cell, is_keyed, source_at}
 
--- of an element: the sources of its begin and end items, the items that name it, and the items that its begin or repeat can
--- concern, which are those that name it and those for which it is a birth
+-- of an element: the sources of its begin and end items, the items that name it,
+-- and the items that its begin or repeat can concern,
+-- which are those that name it and those for which it is a birth
 pub record ElementDependents : Type 0 where
   pub begins : List Source
   pub ends : List Source

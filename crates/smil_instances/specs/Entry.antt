@@ -30,12 +30,14 @@ pub record IsAtHand (document : Document) (clocks : List NodeClock) (log : List 
 -- the arrival is that of this entry, with what was before it
 abbrev pub IsArrivalOf : History → Entry → Arrival → Type 0
 IsArrivalOf h y arrival =
-    IsEntryOf h y arrival.history.tree.now arrival.clocks.now arrival.history.log.now arrival.history.book.now
+    IsEntryOf h y arrival.history.tree.now arrival.clocks.now
+    arrival.history.log.now arrival.history.book.now
 
 -- it is that of some entry
 abbrev pub HasArrived : Arrival → Type 0
 HasArrived arrival =
-    IsAtHand arrival.history.tree.now arrival.clocks.now arrival.history.log.now arrival.history.book.now
+    IsAtHand arrival.history.tree.now arrival.clocks.now
+    arrival.history.log.now arrival.history.book.now
 
 -- it has what the items of its document follow from, and which of them an entry concerns
 abbrev pub HasDependents : Arrival → Type 0

@@ -19,12 +19,15 @@ use Rattle.smil_model.specs.Rising.{poured}
 
 abbrev pub expected_before : History → (ℕ → Option Interval) → ℤ → ℕ → ℤ → Option Node → List Time
 expected_before h intervals now e offset None = []
-expected_before h intervals now e offset (Some before) = expected_times h intervals now e before.serial offset End
+expected_before h intervals now e offset (Some before) =
+    expected_times h intervals now e before.serial offset End
 
-abbrev pub expected_named : History → (ℕ → Option Interval) → ℤ → ℕ → ℤ → Edge → Option Node → List Time
+abbrev pub expected_named :
+    History → (ℕ → Option Interval) → ℤ → ℕ → ℤ → Edge → Option Node → List Time
 expected_named h intervals now e offset edge None = []
 expected_named h intervals now e offset edge (Some x) =
-    if leads_to h.nodes e x.serial then [] else expected_times h intervals now e x.serial offset edge
+    if leads_to h.nodes e x.serial then []
+    else expected_times h intervals now e x.serial offset edge
 
 abbrev pub expected_of : History → (ℕ → Option Interval) → ℤ → Node → Item → List Time
 expected_of h intervals now e (Offset offset) =
@@ -33,16 +36,20 @@ expected_of h intervals now e (Sync who edge offset) =
     expected_named h intervals now e.serial offset edge (element_named h.nodes who)
 expected_of h intervals now e _ = []
 
--- the instance times of an element are those that are kept, with the expected ones put in their places
-pub record AreMerged (h : History) (intervals : ℕ → Option Interval) (now : ℤ) (e : Node) : Type 0 where
+-- the instance times of an element are those that are kept,
+-- with the expected ones put in their places
+pub record AreMerged
+    (h : History) (intervals : ℕ → Option Interval) (now : ℤ) (e : Node) : Type 0 where
   pub begins :
       begin_times h intervals now e
       ≡ poured int_le (numbers (flat_map (expected_of h intervals now e) (begin_list h.nodes e)))
       (begins_of (row_of h e).begins)
   pub ends :
       end_times h intervals now e
-      ≡ poured time_le (flat_map (expected_of h intervals now e) (end_list e)) (ends_of (row_of h e).ends)
+      ≡ poured time_le (flat_map (expected_of h intervals now e) (end_list e))
+      (ends_of (row_of h e).ends)
 
 -- they are so whatever the current intervals are
 abbrev pub InstancesAreMerged : Type 0
-InstancesAreMerged = (h : History) (intervals : ℕ → Option Interval) (now : ℤ) (e : Node) → AreMerged h intervals now e
+InstancesAreMerged = (h : History) (intervals : ℕ → Option Interval) (now : ℤ) (e : Node)
+    → AreMerged h intervals now e

@@ -17,11 +17,15 @@ idle_kept (Some t) = instance_at 0 t ∷ []
 
 -- the row with the instance times of more items
 abbrev pub with_items : ElementTimes → Edge → List (List InstanceTime) → ElementTimes
-with_items row Begin items = record { serial = row.serial; begins = row.begins ++ items; ends = row.ends }
-with_items row End items = record { serial = row.serial; begins = row.begins; ends = row.ends ++ items }
+with_items row Begin items =
+    record { serial = row.serial; begins = row.begins ++ items; ends = row.ends }
+with_items row End items =
+    record { serial = row.serial; begins = row.begins; ends = row.ends ++ items }
 
--- e is the element at a place among the elements of a document, and these are the items of one of its lists
-pub record IsListOf (nodes : List Node) (place : ℕ) (e : Node) (side : Edge) (items : List Item) : Type 0 where
+-- e is the element at a place among the elements of a document,
+-- and these are the items of one of its lists
+pub record IsListOf
+    (nodes : List Node) (place : ℕ) (e : Node) (side : Edge) (items : List Item) : Type 0 where
   pub here : slice_get (elements nodes) place ≡ Some e
   pub same : items ≡ items_of nodes side e
 

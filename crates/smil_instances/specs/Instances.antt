@@ -27,7 +27,8 @@ pub record IsSettled (value : SettledInstances) (document : Document) (log : Lis
   pub rows : value.rows ≡ settled_rows (history_of document log diary)
   pub dependents : AreDependentsOf document.nodes value.dependents
 
--- these are the instance times of a document after the entries of its diary, and e is its element with this serial
+-- these are the instance times of a document after the entries of its diary,
+-- and e is its element with this serial
 pub record IsElementOf (value : SettledInstances) (who : ℕ) (h : History) (e : Node) : Type 0 where
   pub rows : value.rows ≡ settled_rows h
   pub known : node_at (elements h.nodes) who ≡ Some e

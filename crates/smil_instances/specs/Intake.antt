@@ -1,4 +1,5 @@
--- What the last entry of a diary gives to the items that it concerns, and what is still kept for these after it.
+-- What the last entry of a diary gives to the items that it concerns,
+-- and what is still kept for these after it.
 use Rattle.std.specs.Prelude.{◌≡◌, ℕ, List, [], fold, map, filter_map, length, Bool, false, true, Option, Some, None, slice_get, is_some, All, pos}
 use Rattle.smil_model.specs.declared.diary.Entry.{Entry}
 use Rattle.smil_model.specs.declared.diary.LogEntry.{LogEntry}
@@ -33,7 +34,8 @@ history_with history diary = history_of history.tree.now history.log.now diary
 
 abbrev pub concerned_under : List Node → Bool → Option ℕ → Option ℕ → Cell → Option Node → Bool
 concerned_under nodes is_birth on key cell None = false
-concerned_under nodes is_birth on key cell (Some e) = concerned_by nodes is_birth on key e.serial (source_at nodes cell)
+concerned_under nodes is_birth on key cell (Some e) =
+    concerned_by nodes is_birth on key e.serial (source_at nodes cell)
 
 -- whether an entry, which is on an element, or a press of a key, or neither, concerns a cell's item
 abbrev pub is_concerned_cell : List Node → Bool → Option ℕ → Option ℕ → Cell → Bool
@@ -72,7 +74,8 @@ stated_in (Some e) side = stated_list e.attrs side
 abbrev pub IsUnstated : List Node → ℕ → Edge → Type 0
 IsUnstated nodes who side = stated_in (node_at nodes who) side ≡ None
 
--- the item of an element without `begin`, by its source: `indefinite` in an excl, and else the offset 0
+-- the item of an element without `begin`, by its source: `indefinite` in an excl,
+-- and else the offset 0
 abbrev pub default_of : Source → Item
 default_of source.Nothing = Indefinite
 default_of _ = Offset (pos 0)
@@ -83,7 +86,8 @@ given_item h y e side (Some item) = given_at h y e side item
 
 abbrev pub given_under : History → Entry → Cell → Option Node → Option InstanceTime
 given_under h y cell None = None
-given_under h y cell (Some e) = given_item h y e cell.side (slice_get (items_of h.nodes cell.side e) cell.item)
+given_under h y cell (Some e) =
+    given_item h y e cell.side (slice_get (items_of h.nodes cell.side e) cell.item)
 
 -- what the entry gives to a cell's item; nothing where there is no such item
 abbrev pub given_to : History → Entry → Cell → Option InstanceTime

@@ -11,7 +11,8 @@ use Rattle.smil_instances.specs.Spread.{first_of_side, of_first_rows, of_row, of
 pub record TakesKeys (test : ℕ → Cell → Bool) (old new : List (List Cell)) : Type 0 where
   pub cells :
       (key : ℕ) (d : Cell)
-      → count_by (is_cell d) (keyed_in new key) ≡ count_by (is_cell d) (keyed_in old key) + one_if (test key d)
+      → count_by (is_cell d) (keyed_in new key)
+      ≡ count_by (is_cell d) (keyed_in old key) + one_if (test key d)
 
 -- the cell goes to the list of the key that is its source, if it is one
 abbrev pub goes_to_key : Source → Cell → ℕ → Cell → Bool
@@ -21,7 +22,8 @@ goes_to_key source cell key d = is_cell d cell && is_keyed (Some key) source
 abbrev pub is_for_key : List ElementDependents → ℕ → Cell → Bool
 is_for_key rows key cell = is_keyed (Some key) (source_in rows cell)
 
--- so do the first items of one side, all of one side, all of one element, and those of the first elements
+-- so do the first items of one side, all of one side, all of one element,
+-- and those of the first elements
 abbrev pub first_keys : List ElementDependents → ℕ → Edge → ℕ → ℕ → Cell → Bool
 first_keys rows row side count key d = first_of_side row side count (is_for_key rows key) d
 

@@ -20,4 +20,5 @@ pub record RowsTell (h : History) (now : ℤ) (e : Node) : Type 0 where
 -- they do so for each element of the document
 abbrev pub RowsTellInstances : Type 0
 RowsTellInstances =
-    (h : History) (now : ℤ) (e : Node) → node_at (elements h.nodes) e.serial ≡ Some e → RowsTell h now e
+    (h : History) (now : ℤ) (e : Node) → node_at (elements h.nodes) e.serial ≡ Some e
+    → RowsTell h now e

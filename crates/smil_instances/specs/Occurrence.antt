@@ -1,4 +1,5 @@
--- The element that an event or repeat item means, and what an event, repeat or accesskey item waits for.
+-- The element that an event or repeat item means, and what an event,
+-- repeat or accesskey item waits for.
 use Rattle.std.specs.Prelude.{ℕ, List, Bool, true, false, Option, Some, None}
 use Rattle.smil_model.specs.declared.diary.Entry.{Entry}
 use Rattle.smil_model.specs.declared.document.Item.{Item}
@@ -16,8 +17,8 @@ target_of nodes e (Event who name offset) = target nodes e who
 target_of nodes e (Repeat who n offset) = target nodes e who
 target_of nodes e _ = None
 
--- whether the entry is what the item waits for: the named event on the element that it means, the begin of iteration n of
--- that one, or a press of the key
+-- whether the entry is what the item waits for: the named event on the element that it means,
+-- the begin of iteration n of that one, or a press of the key
 abbrev pub occurs_in : History → Entry → Option ℕ → Item → Bool
 occurs_in h y (Some x) (Event who name offset) = is_event h.log x name y.step
 occurs_in h y (Some x) (Repeat who n offset) = is_repeat h x n y.step

@@ -38,20 +38,25 @@ edge_instances h e x offset edge =
 -- ---- events
 
 -- the time that an entry gives to an item that hears it, by what was before
-abbrev pub heard_time : History → Node → Edge → Item → ℤ → (History → Step → Bool) → List Entry → Entry → Option Time
+abbrev pub heard_time :
+    History → Node → Edge → Item → ℤ → (History → Step → Bool) → List Entry → Entry → Option Time
 heard_time h e side item offset occurs before y =
     if occurs (up_to h before) y.step && hears (up_to h before) e side item
     then Some (within_horizon (outer h e.serial y.moment +ℤ offset))
     else None
 
-abbrev pub all_heard : History → Node → Edge → Item → ℤ → (History → Step → Bool) → List InstanceTime
+abbrev pub all_heard :
+    History → Node → Edge → Item → ℤ → (History → Step → Bool) → List InstanceTime
 all_heard h e side item offset occurs =
     filter_map
-    (λ (p : ℕ × (List Entry × Entry)). at_place p.0 (heard_time h e side item offset occurs (p.1).0 (p.1).1))
+    (λ (p : ℕ × (List Entry × Entry)). at_place p.0
+    (heard_time h e side item offset occurs (p.1).0 (p.1).1))
     (numbered 0 (with_past [] h.diary))
 
-abbrev pub heard_instances : History → Node → Edge → Item → ℤ → (History → Step → Bool) → List InstanceTime
-heard_instances h e side item offset occurs = from_place (birth h e.serial) (all_heard h e side item offset occurs)
+abbrev pub heard_instances :
+    History → Node → Edge → Item → ℤ → (History → Step → Bool) → List InstanceTime
+heard_instances h e side item offset occurs =
+    from_place (birth h e.serial) (all_heard h e side item offset occurs)
 
 abbrev pub occurs_event : ℕ → List ℕ → History → Step → Bool
 occurs_event x name past step = is_event past.log x name step
@@ -76,23 +81,29 @@ abbrev pub named_instances : History → ℕ → ℤ → Edge → Option Node �
 named_instances h e offset edge None = []
 named_instances h e offset edge (Some x) = edge_instances h e x.serial offset edge
 
-abbrev pub event_instances : History → Node → Edge → Item → ℤ → List ℕ → Option ℕ → List InstanceTime
+abbrev pub event_instances :
+    History → Node → Edge → Item → ℤ → List ℕ → Option ℕ → List InstanceTime
 event_instances h e side item offset name None = []
-event_instances h e side item offset name (Some x) = heard_instances h e side item offset (occurs_event x name)
+event_instances h e side item offset name (Some x) =
+    heard_instances h e side item offset (occurs_event x name)
 
 abbrev pub repeat_instances : History → Node → Edge → Item → ℤ → ℕ → Option ℕ → List InstanceTime
 repeat_instances h e side item offset n None = []
-repeat_instances h e side item offset n (Some x) = heard_instances h e side item offset (occurs_repeat x n)
+repeat_instances h e side item offset n (Some x) =
+    heard_instances h e side item offset (occurs_repeat x n)
 
 -- what is kept for an item
 abbrev pub instances_of : History → Node → Edge → Item → List InstanceTime
-instances_of h e side (Offset offset) = offset_instances h e.serial offset (previous_in_seq h.nodes e.serial)
-instances_of h e side (Sync who edge offset) = named_instances h e.serial offset edge (element_named h.nodes who)
+instances_of h e side (Offset offset) =
+    offset_instances h e.serial offset (previous_in_seq h.nodes e.serial)
+instances_of h e side (Sync who edge offset) =
+    named_instances h e.serial offset edge (element_named h.nodes who)
 instances_of h e side (Event who name offset) =
     event_instances h e side (Event who name offset) offset name (target h.nodes e.serial who)
 instances_of h e side (Repeat who n offset) =
     repeat_instances h e side (Repeat who n offset) offset n (target h.nodes e.serial who)
-instances_of h e side (Key key offset) = heard_instances h e side (Key key offset) offset (occurs_key key)
+instances_of h e side (Key key offset) =
+    heard_instances h e side (Key key offset) offset (occurs_key key)
 instances_of h e Begin Indefinite = []
 instances_of h e End Indefinite = instance_at 0 time.Indefinite ∷ []
 

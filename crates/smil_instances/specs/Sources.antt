@@ -25,8 +25,8 @@ abbrev pub eventbase : Option ℕ → Source
 eventbase None = source.Nothing
 eventbase (Some x) = source.Eventbase x
 
--- what the times of an item of e follow from: an offset alone counts from the end of the child before in a seq, and else
--- from the start of the time parent's iteration
+-- what the times of an item of e follow from: an offset alone counts from the end of the child
+-- before in a seq, and else from the start of the time parent's iteration
 abbrev pub source_of : List Node → ℕ → Item → Source
 source_of nodes e (Offset offset) = syncbase_or source.Start End (previous_in_seq nodes e)
 source_of nodes e (Sync who edge offset) = syncbase_or source.Nothing edge (element_named nodes who)
@@ -45,7 +45,8 @@ base_of (source.Eventbase x) = Some x
 base_of (source.Key key) = None
 base_of source.Nothing = None
 
--- whether a birth of the time children of p can change what is kept for an item of e with this source
+-- whether a birth of the time children of p can change what is kept for an item of e with this
+-- source
 abbrev pub is_reset_with : List Node → ℕ → ℕ → Source → Bool
 is_reset_with nodes p e source.Start = is_child_of nodes p e
 is_reset_with nodes p e (source.Syncbase x edge) = is_child_of nodes p e || is_child_of nodes p x
@@ -53,10 +54,11 @@ is_reset_with nodes p e (source.Eventbase x) = is_child_of nodes p e
 is_reset_with nodes p e (source.Key key) = is_child_of nodes p e
 is_reset_with nodes p e source.Nothing = false
 
--- whether an entry on x, which is a birth of the time children of x or not, can change what is kept for an item of e with
--- this source
+-- whether an entry on x, which is a birth of the time children of x or not,
+-- can change what is kept for an item of e with this source
 abbrev pub is_concerned : List Node → Bool → ℕ → ℕ → Source → Bool
-is_concerned nodes is_birth x e s = is_option x (base_of s) || (is_birth && is_reset_with nodes x e s)
+is_concerned nodes is_birth x e s =
+    is_option x (base_of s) || (is_birth && is_reset_with nodes x e s)
 
 -- whether a press of this key can change what is kept for an item with this source
 abbrev pub is_keyed : Option ℕ → Source → Bool
@@ -87,11 +89,13 @@ source_at nodes cell = source_under nodes cell (slice_get (elements nodes) cell.
 
 abbrev pub concerns_under : List Node → Bool → ℕ → Cell → Option Node → Bool
 concerns_under nodes is_birth x cell None = false
-concerns_under nodes is_birth x cell (Some e) = is_concerned nodes is_birth x e.serial (source_at nodes cell)
+concerns_under nodes is_birth x cell (Some e) =
+    is_concerned nodes is_birth x e.serial (source_at nodes cell)
 
 -- whether an entry on x can change what is kept for a cell's item
 abbrev pub concerns_cell : List Node → Bool → ℕ → Cell → Bool
-concerns_cell nodes is_birth x cell = concerns_under nodes is_birth x cell (slice_get (elements nodes) cell.row)
+concerns_cell nodes is_birth x cell =
+    concerns_under nodes is_birth x cell (slice_get (elements nodes) cell.row)
 
 abbrev pub is_same_edge : Edge → Edge → Bool
 is_same_edge Begin Begin = true

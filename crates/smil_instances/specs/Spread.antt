@@ -27,7 +27,8 @@ without_cells begins ends = record { begins = begins; ends = ends; readers = [];
 -- the sources of an element's items, and no cell yet
 abbrev pub fresh_row : List Node → Node → ElementDependents
 fresh_row nodes e =
-    without_cells (map (source_of nodes e.serial) (begin_list nodes e)) (map (source_of nodes e.serial) (end_list e))
+    without_cells (map (source_of nodes e.serial) (begin_list nodes e))
+    (map (source_of nodes e.serial) (end_list e))
 
 abbrev pub fresh_rows : List Node → List ElementDependents
 fresh_rows nodes = map (fresh_row nodes) (elements nodes)
@@ -58,7 +59,8 @@ element_of nodes who = only_element (node_of nodes who)
 
 -- ---- places
 
--- cells that pass: of the first items of one side, of one side, of one element, and of the first elements
+-- cells that pass: of the first items of one side, of one side, of one element,
+-- and of the first elements
 abbrev pub is_of_side : ℕ → Edge → Cell → Bool
 is_of_side row side d = (d.row == row) && is_same_edge d.side side
 
@@ -80,7 +82,8 @@ abbrev pub one_if : Bool → ℕ
 one_if test = if test then 1 else 0
 
 -- the sources stay, and each list has once more exactly the cells that pass
-pub record Takes (nodes : List Node) (test : Bool → ℕ → Cell → Bool) (old new : List ElementDependents) : Type 0 where
+pub record Takes (nodes : List Node) (test : Bool → ℕ → Cell → Bool)
+    (old new : List ElementDependents) : Type 0 where
   pub sources : (row : ℕ) (side : Edge) → sources_at new row side ≡ sources_at old row side
   pub rows : length new ≡ length old
   pub cells :
@@ -96,7 +99,8 @@ goes_to who is_birth cell b x d = same_test b is_birth && is_option x who && is_
 abbrev pub goes_to_all : List Node → Cell → Bool → ℕ → Cell → Bool
 goes_to_all nodes cell b x d = is_cell d cell && concerns_cell nodes b x d
 
--- so do the first items of one side, all of one side, all of one element, and those of the first elements
+-- so do the first items of one side, all of one side, all of one element,
+-- and those of the first elements
 abbrev pub first_items : List Node → ℕ → Edge → ℕ → Bool → ℕ → Cell → Bool
 first_items nodes row side count b x d = first_of_side row side count (concerns_cell nodes b x) d
 

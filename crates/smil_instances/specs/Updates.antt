@@ -34,7 +34,8 @@ EntriesAreTakenIn =
     ≡ remaining (with_entry h y) e.serial (source_of h.nodes e.serial item)
     (instances_of h e side item ++ option_to_list (given_at h y e side item))
 
--- whether an entry on this element, or a press of this key, can change what is kept for an item of e with this source
+-- whether an entry on this element, or a press of this key,
+-- can change what is kept for an item of e with this source
 abbrev pub concerned_by : List Node → Bool → Option ℕ → Option ℕ → ℕ → Source → Bool
 concerned_by nodes is_birth None key e s = is_keyed key s
 concerned_by nodes is_birth (Some x) key e s = is_concerned nodes is_birth x e s
@@ -43,7 +44,8 @@ concerned_by nodes is_birth (Some x) key e s = is_concerned nodes is_birth x e s
 abbrev pub OnlyConcernedChange : Type 0
 OnlyConcernedChange =
     (h : History) (y : Entry) (e : Node) (side : Edge) (item : Item) → IsUpTo y.moment h.diary
-    → concerned_by h.nodes (is_opening y.step) (subject_of h.log y.step) (key_of h.log y.step) e.serial
+    → concerned_by h.nodes (is_opening y.step) (subject_of h.log y.step)
+    (key_of h.log y.step) e.serial
     (source_of h.nodes e.serial item)
     ≡ false
     → instances_of (with_entry h y) e side item ≡ instances_of h e side item
@@ -51,6 +53,7 @@ OnlyConcernedChange =
 -- an item names elements alone
 abbrev pub BasesAreElements : Type 0
 BasesAreElements =
-    (nodes : List Node) (e : Node) (item : Item) (x : ℕ) → node_at (elements nodes) e.serial ≡ Some e
+    (nodes : List Node) (e : Node) (item : Item) (x : ℕ)
+    → node_at (elements nodes) e.serial ≡ Some e
     → base_of (source_of nodes e.serial item) ≡ Some x
     → is_some (node_at (elements nodes) x) ≡ true

@@ -25,7 +25,13 @@ impl Model for DependentsRow {
 
     ghost Value = { ElementDependents };
 
-    ghost view = { λ a. record { begins = a.begins.items; ends = a.ends.items; readers = a.readers.items; births = a.births.items } };
+    ghost view = { λ a.
+        record {
+          begins = a.begins.items;
+          ends = a.ends.items;
+          readers = a.readers.items;
+          births = a.births.items;
+        } };
 }
 
 impl Duplicate for DependentsRow {

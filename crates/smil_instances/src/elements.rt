@@ -16,16 +16,10 @@ use std::collections::HashMap;
 pub fn elements(alloc: Global, tree: &Tree) -> Result<Vec<u32>, AllocError>
     ensures { IfOk result (λ whos. whos.items ≡ serials (elements tree.now.nodes)) }
 {
-    tree.valid();
-    let mut whos = Vec::new(alloc);
-    let mut place = 0;
-    while let Some(who) = tree.serial_at(place) {
-        if tree.kind(who).is_element() {
-            whos.push(who)?;
-        }
-        place += 1;
-    }
-    Ok(whos)
+    tree.nodes()
+        .filter(|node| node.kind.is_element())
+        .map(|node| node.serial)
+        .collect(alloc)
 }
 
 /// The places of the elements in the list, by their serials.

@@ -17,9 +17,11 @@ IsRisingTimes ts = IsRisingBy time_le ts
 -- the begin instance times of an element rise
 abbrev pub BeginTimesRise : Type 0
 BeginTimesRise =
-    (h : History) (intervals : ℕ → Option Interval) (now : ℤ) (e : Node) → IsRising (begin_times h intervals now e)
+    (h : History) (intervals : ℕ → Option Interval) (now : ℤ) (e : Node)
+    → IsRising (begin_times h intervals now e)
 
 -- the end instance times of an element rise
 abbrev pub EndTimesRise : Type 0
 EndTimesRise =
-    (h : History) (intervals : ℕ → Option Interval) (now : ℤ) (e : Node) → IsRisingTimes (end_times h intervals now e)
+    (h : History) (intervals : ℕ → Option Interval) (now : ℤ) (e : Node)
+    → IsRisingTimes (end_times h intervals now e)

@@ -1,4 +1,5 @@
--- Two documents that are the same but for the descendants of one element, and the diaries that agree until it begins.
+-- Two documents that are the same but for the descendants of one element,
+-- and the diaries that agree until it begins.
 use Rattle.std.specs.Prelude.{◌≡◌, ℕ, ℤ, suc, List, filter, reverse, Bool, true, false, not, ◌||◌, ◌==◌, option_map, is_some, Some, None}
 use Rattle.std.specs.List.{AllByRecursion, list_any}
 use Rattle.smil_model.specs.declared.diary.Entry.{Entry}
@@ -17,7 +18,8 @@ use Rattle.smil_model.specs.happening.Resolution.{Course, Progress, outset, hist
 -- a node is set aside exactly where its parent is p or is set aside, and p is no priorityClass
 abbrev pub IsPlaced : (ℕ → Bool) → ℕ → Node → Type 0
 IsPlaced aside p n =
-    (aside n.serial ≡ ((n.parent == p) || aside n.parent)) × (n.serial == p ≡ true → is_element n ≡ true)
+    (aside n.serial ≡ ((n.parent == p) || aside n.parent))
+    × (n.serial == p ≡ true → is_element n ≡ true)
 
 -- the nodes of a document that are set aside are the descendants of p
 pub record IsAside (aside : ℕ → Bool) (p : ℕ) (nodes : List Node) : Type 0 where
@@ -29,8 +31,8 @@ pub record IsAside (aside : ℕ → Bool) (p : ℕ) (nodes : List Node) : Type 0
 abbrev pub without_aside : (ℕ → Bool) → List Node → List Node
 without_aside aside nodes = filter (λ (n : Node). not (aside n.serial)) nodes
 
--- two documents are the same but for the descendants of p; an id names the same element in both, or none, and a reference of a
--- node outside is looped in both or in none
+-- two documents are the same but for the descendants of p; an id names the same element in both,
+-- or none, and a reference of a node outside is looped in both or in none
 pub record DifferBelow (aside : ℕ → Bool) (p : ℕ) (old new : List Node) : Type 0 where
   pub same : without_aside aside old ≡ without_aside aside new
   pub in_old : IsAside aside p old
@@ -60,39 +62,48 @@ SparesAll aside diary = AllByRecursion (λ (x : Entry). is_on aside x.step ≡ f
 abbrev pub course_on : List Node → List LogEntry → ℕ → Course
 course_on nodes log last = record { nodes = nodes; log = log; last = last }
 
--- the resolutions of two documents that are the same but for the descendants of p are the same up to and with the step
--- by which p begins first
+-- the resolutions of two documents that are the same but for the descendants of p are the same up
+-- to and with the step by which p begins first
 abbrev pub AgreesUntilBegun : Type 0
 AgreesUntilBegun =
-    (aside : ℕ → Bool) (p : ℕ) (old new : List Node) (log : List LogEntry) (last k : ℕ) → DifferBelow aside p old new
+    (aside : ℕ → Bool) (p : ℕ) (old new : List Node) (log : List LogEntry) (last k : ℕ)
+    → DifferBelow aside p old new
     → has_begun (after_steps (course_on old log last) k outset).diary p ≡ false
-    → after_steps (course_on old log last) (suc k) outset ≡ after_steps (course_on new log last) (suc k) outset
+    → after_steps (course_on old log last) (suc k) outset
+    ≡ after_steps (course_on new log last) (suc k) outset
 
--- so the resolution of the new document comes to the part of the old diary through the first begin of p
+-- so the resolution of the new document comes to the part of the old diary through the first begin
+-- of p
 abbrev pub AgreesThroughBegin : Type 0
 AgreesThroughBegin =
-    (aside : ℕ → Bool) (p : ℕ) (old new : List Node) (log : List LogEntry) (last k : ℕ) → DifferBelow aside p old new
+    (aside : ℕ → Bool) (p : ℕ) (old new : List Node) (log : List LogEntry) (last k : ℕ)
+    → DifferBelow aside p old new
     → (r : Progress) × Reaches (course_on new log last) r
     × (r.diary ≡ through_begin p (after_steps (course_on old log last) k outset).diary)
 
 -- and where p does not begin, the diaries are the same
 abbrev pub SameUnlessBegun : Type 0
 SameUnlessBegun =
-    (aside : ℕ → Bool) (p : ℕ) (old new : List Node) (log : List LogEntry) (last : ℕ) → DifferBelow aside p old new
+    (aside : ℕ → Bool) (p : ℕ) (old new : List Node) (log : List LogEntry) (last : ℕ)
+    → DifferBelow aside p old new
     → has_begun (resolved (course_on old log last)).diary p ≡ false
     → diary_of (course_on old log last) ≡ diary_of (course_on new log last)
 
--- one step: by a diary that is lawful and in which p has not begun, both documents give no interval to what is set
--- aside, the same current intervals to all, and the same next step
-pub record SameStep (aside : ℕ → Bool) (old new : List Node) (log : List LogEntry) (last : ℕ) (at : Progress) : Type 0 where
-  pub none : (now : ℤ) (s : ℕ) → aside s ≡ true → current_interval (history_at (course_on old log last) at) now s ≡ None
+-- one step: by a diary that is lawful and in which p has not begun,
+-- both documents give no interval to what is set aside, the same current intervals to all,
+-- and the same next step
+pub record SameStep (aside : ℕ → Bool) (old new : List Node) (log : List LogEntry) (last : ℕ)
+    (at : Progress) : Type 0 where
+  pub none : (now : ℤ) (s : ℕ) → aside s ≡ true
+      → current_interval (history_at (course_on old log last) at) now s ≡ None
   pub same : (now : ℤ) (s : ℕ) → current_interval (history_at (course_on old log last) at) now s
       ≡ current_interval (history_at (course_on new log last) at) now s
   pub next : next_step (course_on old log last) at ≡ next_step (course_on new log last) at
 
 abbrev pub StepsAgree : Type 0
 StepsAgree =
-    (aside : ℕ → Bool) (p : ℕ) (old new : List Node) (log : List LogEntry) (last : ℕ) (at : Progress)
+    (aside : ℕ → Bool) (p : ℕ) (old new : List Node) (log : List LogEntry) (last : ℕ)
+    (at : Progress)
     → DifferBelow aside p old new
     → IsLawful (history_at (course_on old log last) at)
     → has_begun at.diary p ≡ false

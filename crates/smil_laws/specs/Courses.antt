@@ -1,4 +1,5 @@
--- What courses come to: their diary, and the same by a longer log, up to a later last moment, and at an earlier one.
+-- What courses come to: their diary, and the same by a longer log, up to a later last moment,
+-- and at an earlier one.
 use Rattle.std.specs.Prelude.{◌≡◌, ◌<◌, ◌≤◌, length, Some, None, ℕ, pos, int_le, List, ◌++◌, true, ◌+◌}
 use Rattle.smil_model.specs.declared.limits.TheConstants.{DIARY_ENTRIES}
 use Rattle.smil_model.specs.happening.Resolution.{Course, Progress, next_step, Reaches, diary_of}
@@ -25,8 +26,8 @@ abbrev pub TooLongIsFull : Type 0
 TooLongIsFull =
     (c : Course) (p : Progress) → Reaches c p → DIARY_ENTRIES < length p.diary → diary_of c ≡ None
 
--- what a course comes to, a course with more log entries, none of them before the moment that it came to, and with a later
--- last moment comes to as well
+-- what a course comes to, a course with more log entries,
+-- none of them before the moment that it came to, and with a later last moment comes to as well
 abbrev pub ReachesFurther : Type 0
 ReachesFurther =
     (document : Document) (log more : List LogEntry) (last later : ℕ) (p : Progress)
@@ -36,7 +37,8 @@ ReachesFurther =
     → last ≤ later
     → Reaches (course_on document.nodes (log ++ more) later) p
 
--- of what a course comes to no entry is later than its moment, and the log entries that it names are those that were heard
+-- of what a course comes to no entry is later than its moment,
+-- and the log entries that it names are those that were heard
 pub record IsPast (p : Progress) : Type 0 where
   pub entries : until (pos p.moment) p.diary ≡ p.diary
   pub named : NamesBelow p.heard p.diary
@@ -63,7 +65,8 @@ heard_by log diary moment = record { moment = moment; heard = length log; diary 
 -- nothing comes before a later moment
 abbrev pub IsQuietUntil : History → ℕ → ℕ → Type 0
 IsQuietUntil h now later =
-    (c : DueChange) → first_coming (coming h (pos now)) ≡ Some c → int_le (pos later) c.key.value ≡ true
+    (c : DueChange) → first_coming (coming h (pos now)) ≡ Some c
+    → int_le (pos later) c.key.value ≡ true
 
 -- then the course up to that moment comes to it with the same diary
 abbrev pub ReachesOverQuiet : Type 0

@@ -34,7 +34,8 @@ is_logged _ = false
 abbrev pub logged : List Entry → ℕ
 logged diary = length (filter (λ (x : Entry). is_logged x.step) diary)
 
--- so a diary that is reached is reached by the part of the log that it names, up to the moment of its last entry
+-- so a diary that is reached is reached by the part of the log that it names,
+-- up to the moment of its last entry
 abbrev pub ReachesByItsLog : Type 0
 ReachesByItsLog =
     (document : Document) (log : List LogEntry) (last : ℕ) (q : Progress) → IsNumberedTree document

@@ -30,12 +30,14 @@ change_by h intervals e true =
 change_by h intervals e false = moved_by (is_active h.diary e.serial) (intervals e.serial)
 
 -- it is of an element of the document, and is what its key stands for
-pub record IsOfElement (h : History) (intervals : ℕ → Option Interval) (c : DueChange) : Type 0 where
+pub record IsOfElement
+    (h : History) (intervals : ℕ → Option Interval) (c : DueChange) : Type 0 where
   pub element : Node
   pub here : node_at (elements h.nodes) c.key.serial ≡ Some element
   pub change : change_by h intervals element c.key.repeat ≡ Some c.change
 
 abbrev pub FirstIsOfElement : Type 0
 FirstIsOfElement =
-    (h : History) (now : ℤ) (c : DueChange) → IsDistinct h.nodes → first_coming (coming h now) ≡ Some c
+    (h : History) (now : ℤ) (c : DueChange) → IsDistinct h.nodes
+    → first_coming (coming h now) ≡ Some c
     → IsOfElement h (current_interval h now) c

@@ -13,13 +13,18 @@ use Rattle.smil_model.specs.document.Edits.{no_attrs}
 use Rattle.smil_model.specs.happening.Resolution.{resolved}
 
 abbrev pub node : ℕ → Kind → ℕ → Attrs → Node
-node serial kind parent attrs = record { serial = serial; kind = kind; parent = parent; attrs = attrs }
+node serial kind parent attrs =
+    record { serial = serial; kind = kind; parent = parent; attrs = attrs }
 
 -- the document
 abbrev pub image : ℕ → ℕ → List ℕ → List Node
 image b d id =
     node 1 Par 0 no_attrs
-    ∷ node 2 Img 1 (record no_attrs { id = Some id; begin = Some (Offset (pos b) ∷ []); dur = Some (dur.Clock (pos d)) })
+    ∷ node 2 Img 1 (record no_attrs {
+      id = Some id;
+      begin = Some (Offset (pos b) ∷ []);
+      dur = Some (dur.Clock (pos d));
+    })
     ∷ []
 
 abbrev pub begin_at : ℕ → ℕ → Entry

@@ -14,7 +14,8 @@ NoParent serial (n ∷ before) = (n.parent == serial ≡ false) × NoParent seri
 
 abbrev pub ParentsBefore : List Node → Type 0
 ParentsBefore [] = Unit {0}
-ParentsBefore (n ∷ before) = (n.parent == n.serial ≡ false) × NoParent n.serial before × ParentsBefore before
+ParentsBefore (n ∷ before) =
+    (n.parent == n.serial ≡ false) × NoParent n.serial before × ParentsBefore before
 
 -- an entry leaves the current interval of each element outside its reach as it was
 abbrev pub LeavesUnreached : Type 0

@@ -1,4 +1,5 @@
--- Limits that are raised: an order that meets no smaller limit has the same outcome within larger ones.
+-- Limits that are raised: an order that meets no smaller limit has the same outcome within larger
+-- ones.
 use Rattle.std.specs.Prelude.{◌≡◌, ◌≤◌, Bool, true, false, not, Result, Ok, Err}
 use Rattle.smil_model.specs.declared.order.Refusal.{Refusal}
 use Rattle.smil_model.specs.declared.order.Refusal.TheVariants.{TooManyElements, TooManyReferences, DiaryFull}
@@ -28,7 +29,8 @@ meets_no_limit (Err refusal) = not (is_for_limit refusal)
 -- the outcome of an order is the same within larger limits
 abbrev pub OutcomesMigrate : Type 0
 OutcomesMigrate =
-    (small large : Limits) (formats : Formats) (p : Presentation) (given : Order) → AreBelow small large
+    (small large : Limits) (formats : Formats) (p : Presentation) (given : Order)
+    → AreBelow small large
     → meets_no_limit (outcome_within small formats p given) ≡ true
     → outcome_within large formats p given ≡ outcome_within small formats p given
 

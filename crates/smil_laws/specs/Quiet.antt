@@ -18,14 +18,17 @@ pub record IsSameLater (h : History) (m : ℕ) : Type 0 where
 -- so it is where no entry is later than the moment
 abbrev pub QuietChangesNothing : Type 0
 QuietChangesNothing =
-    (h : History) (m : ℕ) → ParentsBefore (reverse h.nodes) → until (pos m) h.diary ≡ h.diary → IsSameLater h m
+    (h : History) (m : ℕ) → ParentsBefore (reverse h.nodes) → until (pos m) h.diary ≡ h.diary
+    → IsSameLater h m
 
 -- nothing comes, and nothing is logged, before so many milliseconds have passed
 pub record IsQuietFor (c : Course) (p : Progress) (n : ℕ) : Type 0 where
   pub past : until (pos p.moment) p.diary ≡ p.diary
-  pub coming : (next : DueChange) → first_coming (coming (history_at c p) (pos p.moment)) ≡ Some next
+  pub coming :
+      (next : DueChange) → first_coming (coming (history_at c p) (pos p.moment)) ≡ Some next
       → int_le (pos (p.moment + n)) next.key.value ≡ true
-  pub log : (entry : LogEntry) → slice_get c.log p.heard ≡ Some entry → int_le (pos (p.moment + n)) entry.moment ≡ true
+  pub log : (entry : LogEntry) → slice_get c.log p.heard ≡ Some entry
+      → int_le (pos (p.moment + n)) entry.moment ≡ true
   pub last : p.moment + n ≤ c.last
 
 -- the resolution with so many milliseconds passed

@@ -17,7 +17,8 @@ use Rattle.smil_laws.specs.Agreement.{course_on}
 -- the history after so many steps of the resolution of a document and a log, up to a last moment
 abbrev pub history_after : Document → List LogEntry → ℕ → ℕ → History
 history_after document log last steps =
-    history_at (course_on document.nodes log last) (after_steps (course_on document.nodes log last) steps outset)
+    history_at (course_on document.nodes log last)
+    (after_steps (course_on document.nodes log last) steps outset)
 
 -- the diary is lawful after each step of each resolution whose last moment is not above the horizon
 abbrev pub ResolvedIsLawful : Type 0
@@ -29,14 +30,16 @@ ResolvedIsLawful =
 -- and each active element is alive, so its time parent is active
 abbrev pub ResolvedChildrenLive : Type 0
 ResolvedChildrenLive =
-    (document : Document) (log : List LogEntry) (last steps : ℕ) (serial : ℕ) → IsNumberedTree document
+    (document : Document) (log : List LogEntry) (last steps : ℕ) (serial : ℕ)
+    → IsNumberedTree document
     → is_active (history_after document log last steps).diary serial ≡ true
     → is_alive (history_after document log last steps) serial ≡ true
 
 -- a group has at least one entry
 abbrev pub GroupHasEntry : Type 0
 GroupHasEntry =
-    (h : History) (moment : ℤ) (serial : ℕ) (change : Change) → 0 < length (group h moment serial change)
+    (h : History) (moment : ℤ) (serial : ℕ) (change : Change)
+    → 0 < length (group h moment serial change)
 
 -- whether the step is a begin or a repeat
 abbrev pub is_opening : Step → Bool
@@ -47,7 +50,8 @@ is_opening _ = false
 -- no entry of a group follows a begin or a repeat in it
 abbrev pub GroupEndsWithBegin : Type 0
 GroupEndsWithBegin =
-    (h : History) (moment : ℤ) (serial : ℕ) (change : Change) (before : List Entry) (entry : Entry) (after : List Entry)
+    (h : History) (moment : ℤ) (serial : ℕ) (change : Change) (before : List Entry) (entry : Entry)
+    (after : List Entry)
     → group h moment serial change ≡ before ++ entry ∷ after
     → is_opening entry.step ≡ true
     → after ≡ []

@@ -1,4 +1,5 @@
--- Current intervals: the rounds that define them come to rest, and only one assignment of intervals agrees with itself.
+-- Current intervals: the rounds that define them come to rest,
+-- and only one assignment of intervals agrees with itself.
 use Rattle.std.specs.Prelude.{◌≡◌, ℕ, ◌+◌, ◌<◌, ℤ, List, reverse, length, true, false, ◌&&◌, ◌==◌, Option, Some, option_and_then}
 use Rattle.std.specs.List.{list_any}
 use Rattle.smil_model.specs.declared.document.Node.{Node}
@@ -22,7 +23,8 @@ pub record IsRank (nodes : List Node) (rank : ℕ → ℕ) (e : Node) : Type 0 w
 abbrev pub DependenciesHaveRank : Type 0
 DependenciesHaveRank =
     (nodes : List Node) → ParentsBefore (reverse nodes)
-    → (rank : ℕ → ℕ) × ((e : Node) → node_at (elements nodes) e.serial ≡ Some e → IsRank nodes rank e)
+    → (rank : ℕ → ℕ)
+    × ((e : Node) → node_at (elements nodes) e.serial ≡ Some e → IsRank nodes rank e)
 
 -- rounds past the number of elements change nothing
 abbrev pub RoundsComeToRest : Type 0
@@ -34,5 +36,6 @@ RoundsComeToRest =
 abbrev pub AgreeingIsCurrent : Type 0
 AgreeingIsCurrent =
     (h : History) (now : ℤ) (intervals : ℕ → Option Interval) → ParentsBefore (reverse h.nodes)
-    → ((s : ℕ) → intervals s ≡ option_and_then (interval_given h intervals now) (node_at (elements h.nodes) s))
+    → ((s : ℕ) → intervals s
+    ≡ option_and_then (interval_given h intervals now) (node_at (elements h.nodes) s))
     → (s : ℕ) → intervals s ≡ current_interval h now s

@@ -1,4 +1,5 @@
--- Histories by which the same is current: what the passing of time, and a log that grows, leave as it was.
+-- Histories by which the same is current: what the passing of time, and a log that grows,
+-- leave as it was.
 use Rattle.std.specs.Prelude.{◌≡◌, ℕ, ◌+◌, ℤ, pos, List, ◌++◌, length, reverse}
 use Rattle.smil_model.specs.declared.diary.LogEntry.{LogEntry}
 use Rattle.smil_model.specs.declared.document.Node.{Node}
@@ -18,7 +19,8 @@ comings_at h now place e = coming_of h (current_interval h now) now place e
 abbrev pub view_at : History → ℤ → Node → View
 view_at h now e = view_of h now (current_interval h now) e
 
--- by two histories of one document and one diary the same is current, the same comes, and the same is shown
+-- by two histories of one document and one diary the same is current, the same comes,
+-- and the same is shown
 pub record IsSame (h : History) (m : ℤ) (k : History) (n : ℤ) : Type 0 where
   pub nodes : k.nodes ≡ h.nodes
   pub diary : k.diary ≡ h.diary

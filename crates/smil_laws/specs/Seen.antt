@@ -18,8 +18,9 @@ starts (Began who begin) = true
 starts (Resumed who) = true
 starts _ = false
 
--- an entry shows in the views of its element and of those below it, and where the element begins or resumes in a seq or an
--- excl also in those of its siblings and of those below them
+-- an entry shows in the views of its element and of those below it,
+-- and where the element begins or resumes in a seq or an excl also in those of its siblings and of
+-- those below them
 abbrev pub shows_in : List Node → Step → ℕ → ℕ → Bool
 shows_in nodes step x s =
     is_within nodes x s
@@ -35,7 +36,8 @@ any_shows nodes log [] s = false
 any_shows nodes log (y ∷ ys) s =
     shows_from nodes y.step (subject_of log y.step) s || any_shows nodes log ys s
 
--- entries leave the view of each element in which none of them shows and whose current interval stays
+-- entries leave the view of each element in which none of them shows and whose current interval
+-- stays
 abbrev pub LeavesViews : Type 0
 LeavesViews =
     (h : History) (entries : List Entry) (now : ℤ) (e : Node) → ParentsBefore (reverse h.nodes)

@@ -1,4 +1,5 @@
--- Which elements an entry touches: those whose interval may change though the intervals that it follows from do not.
+-- Which elements an entry touches: those whose interval may change though the intervals that it
+-- follows from do not.
 use Rattle.std.specs.Prelude.{◌≡◌, ℕ, ℤ, List, [], ◌∷◌, ◌++◌, reverse, Bool, true, false, ◌&&◌, ◌||◌, Option, Some, None, is_some}
 use Rattle.std.specs.List.{list_any}
 use Rattle.smil_model.specs.declared.diary.Entry.{Entry}
@@ -17,7 +18,8 @@ use Rattle.smil_laws.specs.Locality.{ParentsBefore}
 abbrev pub is_touched : List Node → ℕ → ℕ → Bool
 is_touched nodes x s =
     is_within nodes x s
-    || list_any (λ (b : Node). is_within nodes x b.serial && reads nodes b.serial s) (elements nodes)
+    || list_any (λ (b : Node). is_within nodes x b.serial
+    && reads nodes b.serial s) (elements nodes)
 
 -- an entry on no element touches none of these
 abbrev pub is_touched_from : List Node → Option ℕ → ℕ → Bool
@@ -36,12 +38,13 @@ is_touched_by nodes log (y ∷ ys) s =
     || is_touched_by nodes log ys s
 
 -- what is given of an element by two histories is the same
-pub record GivesSame (h k : History) (intervals : ℕ → Option Interval) (now : ℤ) (e : Node) : Type 0 where
+pub record GivesSame
+    (h k : History) (intervals : ℕ → Option Interval) (now : ℤ) (e : Node) : Type 0 where
   pub interval : interval_given k intervals now e ≡ interval_given h intervals now e
   pub coming : (place : ℕ) → coming_of k intervals now place e ≡ coming_of h intervals now place e
 
--- entries leave each element that they do not touch with the interval, and with what comes of it, that it had, given the same
--- intervals of the others
+-- entries leave each element that they do not touch with the interval, and with what comes of it,
+-- that it had, given the same intervals of the others
 abbrev pub LeavesUntouched : Type 0
 LeavesUntouched =
     (h : History) (entries : List Entry) (intervals : ℕ → Option Interval) (now : ℤ) (e : Node)
@@ -59,7 +62,8 @@ abbrev pub IsReached : List Node → List LogEntry → List Entry → Node → T
 IsReached nodes log entries e = in_reaches nodes log entries e.serial ≡ true
 
 -- what is touched is reached, and what reads a reached element is reached
-pub record ReachHolds (nodes : List Node) (log : List LogEntry) (entries : List Entry) : Type 0 where
+pub record ReachHolds
+    (nodes : List Node) (log : List LogEntry) (entries : List Entry) : Type 0 where
   pub touched : (e : Node) → node_at (elements nodes) e.serial ≡ Some e
       → is_touched_by nodes log entries e.serial ≡ true
       → IsReached nodes log entries e

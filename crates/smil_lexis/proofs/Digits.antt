@@ -3,6 +3,7 @@ use Rattle.std.proofs.Common.{◌≡◌, ℕ, zero, suc, ◌+◌, ◌-◌, ◌*�
 use Rattle.std.specs.Prelude.{IfSome}
 use Rattle.std.proofs.lemmas.Bool.Decides.{nat_tests}
 use Rattle.std.proofs.lemmas.Nat.{mul-le}
+use Rattle.std.proofs.lemmas.Option.{IfSome_then}
 use Rattle.std.proofs.Math.Nat.{pow-suc, one-le-pow}
 use Rattle.std.specs.Char.{is_ascii_digit}
 use Rattle.smil_model.specs.declared.limits.TheConstants.{DIGITS}
@@ -47,10 +48,6 @@ below-either : (t : Bool) (x : Option ℕ) (limit : ℕ) → (t ≡ true → IfS
 below-either true x limit h = h refl
 below-either false x limit h = tt
 
-below-weaker : (x : Option ℕ) (a b : ℕ) → a ≤ b → IfSome x (λ m. m < a) → IfSome x (λ m. m < b)
-below-weaker None a b le h = tt
-below-weaker (Some m) a b le h = omega arith
-
 -- so many digits write a number below this
 abbrev tens : List ℕ → ℕ
 tens [] = 1
@@ -59,9 +56,9 @@ tens (b ∷ digits) = 10 * tens digits
 number_below : (n : ℕ) (digits : List ℕ) → IfSome (number_after n digits) (λ m. m < (n + 1) * tens digits)
 number_below n [] = omega arith
 number_below n (b ∷ digits) = below-either (is_ascii_digit b) (number_after (n * 10 + (b - 48)) digits) ((n + 1) * (10 * tens digits)) (λ digit.
-    below-weaker (number_after (n * 10 + (b - 48)) digits) ((n * 10 + (b - 48) + 1) * tens digits) ((n + 1) * (10 * tens digits))
-    (let d : b - 48 ≤ 9 = digit_below b digit in let m : (n * 10 + (b - 48) + 1) * tens digits ≤ (n * 10 + 10) * tens digits = mul-le (n * 10 + (b - 48) + 1) (tens digits) (n * 10 + 10) (tens digits) (omega arith) (omega arith) in omega arith)
-    (number_below (n * 10 + (b - 48)) digits))
+    let d : b - 48 ≤ 9 = digit_below b digit in
+    let m : (n * 10 + (b - 48) + 1) * tens digits ≤ (n * 10 + 10) * tens digits = mul-le (n * 10 + (b - 48) + 1) (tens digits) (n * 10 + 10) (tens digits) (omega arith) (omega arith) in
+    IfSome_then (number_after (n * 10 + (b - 48)) digits) (number_below (n * 10 + (b - 48)) digits) (λ value h. omega arith))
 
 tens_at : (k : ℕ) (digits : List ℕ) → length digits ≤ k → tens digits ≤ 10 ^ k
 tens_at k [] le = one-le-pow k 10 (omega arith)
@@ -73,7 +70,7 @@ tens_at (suc k) (b ∷ digits) le =
 
 pub nine_below : (digits : List ℕ) → length digits ≤ 9 → IfSome (number_of digits) (λ m. m < 1_000_000_000)
 nine_below [] le = tt
-nine_below (b ∷ digits) le = below-weaker (number_after 0 (b ∷ digits)) ((0 + 1) * tens (b ∷ digits)) 1_000_000_000 (omega (arith, tens_at 9 (b ∷ digits) le)) (number_below 0 (b ∷ digits))
+nine_below (b ∷ digits) le = IfSome_then (number_after 0 (b ∷ digits)) (number_below 0 (b ∷ digits)) (λ value h. omega (arith, tens_at 9 (b ∷ digits) le))
 
 -- a cap that isn't met changes nothing
 uncapped : (x : Option ℕ) → IfSome x (λ m. m < 1_000_000_000) → option_map capped x ≡ x

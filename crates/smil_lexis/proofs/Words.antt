@@ -1,7 +1,7 @@
 -- Ids and names: what stands at the front of a text is one, and a written one is found again.
 use Rattle.std.proofs.Common.{◌≡◌, ℕ, suc, ◌+◌, ◌<◌, ◌≤◌, Bool, true, false, not, eqb, ltb, ◌||◌, List, [], ◌∷◌, ◌++◌, length, take, refl, sym, ap, ◌∙◌, arith, length-take}
 use Rattle.std.specs.List.{prefix_len, count_by}
-use Rattle.std.proofs.lemmas.Bool.{le-ltb, cond_both, ltb-false, eqb-true}
+use Rattle.std.proofs.lemmas.Bool.{or_right, le-ltb, cond_both, ltb-false, eqb-true}
 use Rattle.std.proofs.lemmas.Bool.Decides.{nat_tests}
 use Rattle.std.proofs.lemmas.List.{take_at}
 use Rattle.std.proofs.lemmas.List.Sums.{length-filter}
@@ -115,12 +115,8 @@ Taken bytes = Passes is_of_id (unescaped (take (escaped_len false bytes) bytes))
 taken_dash : (b : ℕ) (bytes : List ℕ) → is_dash b ≡ true → Passes is_of_id (unescaped (take (escaped_len false bytes) bytes)) → Passes is_of_id (unescaped (take (2 + escaped_len false bytes) (92 ∷ b ∷ bytes)))
 taken_dash b bytes e k =
     let more : 2 + escaped_len false bytes ≡ suc (suc (escaped_len false bytes)) = omega arith in
-    let id : is_of_id b ≡ true = or_second (is_of_name b) (is_dash b) e in
+    let id : is_of_id b ≡ true = or_right (is_of_name b) (is_dash b) e in
     rw (more, dash_no_backslash b e) (id, k)
-  where
-    or_second : (x y : Bool) → y ≡ true → (x || y) ≡ true
-    or_second true y e = refl
-    or_second false y e = e
 
 taken_name : (b : ℕ) (bytes : List ℕ) → is_of_name b ≡ true → Passes is_of_id (unescaped (take (escaped_len false bytes) bytes)) → Passes is_of_id (unescaped (take (1 + escaped_len false bytes) (b ∷ bytes)))
 taken_name b bytes e k =

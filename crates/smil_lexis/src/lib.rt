@@ -6,6 +6,7 @@ pub mod numbers;
 pub mod runs;
 pub mod texts;
 pub mod utf8;
+pub mod writers;
 
 pub use cursor::Cursor;
 pub use smil_grammar::BadAt;

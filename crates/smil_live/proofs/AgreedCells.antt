@@ -1,20 +1,18 @@
 -- Cells that go on with an edited document from the part of the diary that stays, and how often
 -- edits and backward seeks have intervals evaluated.
-use Rattle.std.proofs.Common.{◌≡◌, refl, sym, ◌∙◌, ap, subst, ℕ, ◌+◌, ◌≤◌, List, length, take, ℤ, negsuc, Bool, true, false, Result, Ok, Err, arith}
+use Rattle.std.proofs.Common.{◌≡◌, refl, sym, ◌∙◌, ap, subst, ℕ, ◌+◌, ◌≤◌, ◌++◌, List, length, take, drop, ℤ, negsuc, Bool, true, false, Result, Ok, Err, arith}
 use Rattle.std.specs.Prelude.{IfErr, OnOk, filter, int_le, nat_abs, nat_lt, pos, ◌<ℤ◌, ◌≤ℤ◌}
-use Rattle.std.specs.List.{list_all}
-use Rattle.std.proofs.lemmas.Bool.{and_parts, lt-ltb}
+use Rattle.std.proofs.lemmas.Bool.{lt-ltb}
 use Rattle.std.proofs.lemmas.Int.{ints}
-use Rattle.std.proofs.lemmas.Result.{IfErr-weaker}
+use Rattle.std.proofs.lemmas.Result.{IfErr-weaker, on_ok_weaker}
 use Rattle.smil_model.specs.declared.diary.LogEntry.{LogEntry}
 use Rattle.smil_model.specs.declared.order.Order.{Order}
 use Rattle.smil_model.specs.declared.order.Order.TheVariants as order
 use Rattle.smil_model.specs.declared.order.Refusal.{Refusal}
-use Rattle.smil_model.specs.diary.Logs.{may_happen, moments_rise}
 use Rattle.smil_model.specs.document.Document.{Document, elements}
 use Rattle.smil_model.specs.document.Valid.{IsValid}
 use Rattle.smil_model.specs.document.Values.{is_clock}
-use Rattle.smil_model.specs.shown.Answers.{Accepts}
+use Rattle.smil_model.specs.shown.Answers.{Accepts, Refuses}
 use Rattle.smil_model.specs.shown.Orders.{IsState, Presentation, course_of}
 use Rattle.smil_grammar.specs.Formats.{formats}
 use Rattle.smil_cells.specs.CellsState.{IsRebuilt, MayRebuild, CellsState, WhereTold}
@@ -29,8 +27,9 @@ use Rattle.smil_live.specs.Telling.{is_edit}
 use Rattle.smil_live.specs.declared.edits.Site.{Site}
 use Rattle.smil_live.proofs.AgreedParts.{staying_part, staying_within}
 use Rattle.smil_live.proofs.CountedOrders.{at_least, at_most, free_too_full}
-use Rattle.smil_live.proofs.Edited.{edited_accepted, edited_state}
-use Rattle.smil_shown.proofs.Ended.{diary_is}
+use Rattle.smil_live.proofs.EditedPresentations.{edited_accepted, edited_appended, edited_state, not_edited}
+use Rattle.smil_shown.proofs.SettledDiaries.{diary_is}
+use Rattle.smil_live.proofs.Logs.{log_parts}
 use Rattle.smil_live.proofs.Outcomes.{clock_from, sought_state}
 use Rattle.smil_live.proofs.RebuiltCells.{may_rebuild, rebuilt_way}
 use Rattle.smil_live.proofs.RebuiltParts.{IsPart, front_until}
@@ -41,39 +40,49 @@ own_replayed s shown is = record { presentation_is = refl; sound = is.shown_is.s
 
 -- ---- an edit
 
-module _ (s : CellsState) (shown : ViewLists) (is : IsPlaying s shown) (p : Presentation) (view : s.presentation ≡ p) (d e : Document) (same : d ≡ e) (valid : IsValid d) (at : Site) (made : IsMade p.document at e) (len : ℕ) (count : len ≡ staying p e at) where
+-- what plays a presentation, an edit of its document, a copy of what the edit makes, and how many
+-- entries stay by it
+pub record IsEditedAt (s : CellsState) (shown : ViewLists) (p : Presentation) (d e : Document) (at : Site) (len : ℕ) : Type 0 where
+  pub is : IsPlaying s shown
+  pub view : s.presentation ≡ p
+  pub same : d ≡ e
+  pub valid : IsValid d
+  pub made : IsMade p.document at e
+  pub count : len ≡ staying p e at
+
+module _ {s : CellsState} {shown : ViewLists} {p : Presentation} {d e : Document} {at : Site} {len : ℕ} (edit : IsEditedAt s shown p d e at len) where
   pub edited_is : edited_to s.presentation d ≡ edited_to p e
-  edited_is = ap (λ (q : Presentation). edited_to q d) view ∙ ap (edited_to p) same
+  edited_is = ap (λ (q : Presentation). edited_to q d) edit.view ∙ ap (edited_to p) edit.same
 
   pub edited_stands : IsState (edited_to s.presentation d)
-  edited_stands = edited_state s.presentation d is.shown_is.state valid
+  edited_stands = edited_state s.presentation d edit.is.shown_is.state edit.valid
 
   made_here : IsMade s.presentation.document at d
-  made_here = subst (λ (q : Presentation). IsMade q.document at d) (sym view) (subst (λ (x : Document). IsMade p.document at x) (sym same) made)
+  made_here = subst (λ (q : Presentation). IsMade q.document at d) (sym edit.view) (subst (λ (x : Document). IsMade p.document at x) (sym edit.same) edit.made)
 
   count_here : len ≡ staying s.presentation d at
-  count_here = count ∙ (ap (λ (x : Document). staying p x at) (sym same) ∙ ap (λ (q : Presentation). staying q d at) (sym view))
+  count_here = edit.count ∙ (ap (λ (x : Document). staying p x at) (sym edit.same) ∙ ap (λ (q : Presentation). staying q d at) (sym edit.view))
 
   part : IsPart d.nodes s.presentation.log (take len s.diary) s.presentation.now
   part =
       subst (λ (n : ℕ). IsPart d.nodes s.presentation.log (take n s.diary) s.presentation.now) (sym count_here)
-      (staying_part s.presentation d at s.diary is.shown_is.state.document.numbered valid.numbered is.shown_is.state.log made_here is.shown_is.settled)
+      (staying_part s.presentation d at s.diary edit.is.shown_is.state.document.numbered edit.valid.numbered edit.is.shown_is.state.log made_here edit.is.shown_is.settled)
 
   within : len ≤ length s.diary
   within =
       subst (λ (n : ℕ). n ≤ length s.diary) (sym count_here)
-      (staying_within s.presentation d at s.diary is.shown_is.state.document.numbered valid.numbered is.shown_is.state.log made_here is.shown_is.settled)
+      (staying_within s.presentation d at s.diary edit.is.shown_is.state.document.numbered edit.valid.numbered edit.is.shown_is.state.log made_here edit.is.shown_is.settled)
 
   pub edited_rebuild : MayRebuild s d len
-  edited_rebuild = may_rebuild s d len s.presentation.now valid within is.unmarked part
+  edited_rebuild = may_rebuild s d len s.presentation.now edit.valid within edit.is.unmarked part
 
   pub edited_way : (t : CellsState) → IsRebuilt s d len t → IsUnderWay (edited_to s.presentation d) (length t.presentation.log) t
   edited_way t rebuilt = rebuilt_way s t d len s.presentation.now rebuilt part (edited_to s.presentation d) refl refl refl
 
   pub edited_count : length (elements d.nodes) + reached_behind len (edited_to s.presentation d) ≡ most_resolving p at e
   edited_count =
-      ap (λ (x : Document). length (elements x.nodes) + reached_behind len (edited_to s.presentation d)) same
-      ∙ (ap (λ (q : Presentation). length (elements e.nodes) + reached_behind len q) edited_is ∙ ap (λ (n : ℕ). length (elements e.nodes) + reached_behind n (edited_to p e)) count)
+      ap (λ (x : Document). length (elements x.nodes) + reached_behind len (edited_to s.presentation d)) edit.same
+      ∙ (ap (λ (q : Presentation). length (elements e.nodes) + reached_behind len q) edited_is ∙ ap (λ (n : ℕ). length (elements e.nodes) + reached_behind n (edited_to p e)) edit.count)
 
 -- ---- how often an edit has intervals evaluated
 
@@ -108,7 +117,7 @@ edited_least (Ok x) counts p q o d old new rise edits edited is =
     none true = omega arith
     none false = tt
 
-pub edited_bounded : (r : Result (Unit {0}) Refusal) (counts : Bool) (p q : Presentation) (o : Order) (d : Document) (at : Site) (old new : List ℕ) (rise : ℕ) → is_edit o ≡ true → edit_of p o ≡ Ok d → at ≡ site_of p.document o
+edited_bounded : (r : Result (Unit {0}) Refusal) (counts : Bool) (p q : Presentation) (o : Order) (d : Document) (at : Site) (old new : List ℕ) (rise : ℕ) → is_edit o ≡ true → edit_of p o ≡ Ok d → at ≡ site_of p.document o
     → OnOk r (IsEdited p d q old new) → OnOk r (WhereTold counts (rise ≤ most_resolving p at d)) → IfErr r (IsTooFull (edited_to p d)) → KeepsToCounts counts p o r rise
 edited_bounded r counts p q o d at old new rise edits edited here is most refused = record {
   most = edited_most r counts p q o d at old new rise edits edited here is most;
@@ -118,12 +127,27 @@ edited_bounded r counts p q o d at old new rise edits edited here is most refuse
       (λ e full. free_too_full (told_where counts (most_number p o)) (edited_to p d) e rise full) refused;
 }
 
+-- what an order that edits is answered, and how often it has intervals evaluated
+pub record IsAnswered (r : Result (Unit {0}) Refusal) (counts : Bool) (p q : Presentation) (o : Order) (old new : List ℕ) (rise : ℕ) : Type 0 where
+  pub ok : OnOk r (Accepts formats p q o (drop (length old) new))
+  pub appended : OnOk r (new ≡ old ++ drop (length old) new)
+  pub refused : IfErr r (Refuses formats p o)
+  pub bounded : KeepsToCounts counts p o r rise
+
+pub edit_answered : (r : Result (Unit {0}) Refusal) (counts : Bool) (p q : Presentation) (o : Order) (d : Document) (at : Site) (old new : List ℕ) (rise : ℕ) → is_edit o ≡ true → edit_of p o ≡ Ok d → at ≡ site_of p.document o
+    → OnOk r (IsEdited p d q old new) → OnOk r (WhereTold counts (rise ≤ most_resolving p at d)) → IfErr r (IsTooFull (edited_to p d)) → IsAnswered r counts p q o old new rise
+edit_answered r counts p q o d at old new rise edits edited here is most refused = record {
+  ok = on_ok_weaker r (edited_accepted p q o d old new edits edited) is;
+  appended = on_ok_weaker r (edited_appended p q d old new) is;
+  refused = IfErr-weaker r (IsTooFull (edited_to p d)) (Refuses formats p o) (λ e h. not_edited p o d e edits edited h) refused;
+  bounded = edited_bounded r counts p q o d at old new rise edits edited here is most refused;
+}
+
 -- ---- a seek back
 
 pub sought_stands : (p : Presentation) (to : ℤ) → IsState p → is_clock to ≡ true → IsState (sought_of p to)
 sought_stands p to state clock =
-    let rise = (and_parts (moments_rise (pos 0) p.log) (list_all (λ (x : LogEntry). may_happen x.what) p.log) state.log).0 in
-    sought_state p p.log (length (filter (λ (x : LogEntry). int_le x.moment to) p.log)) to state clock refl (front_until to (pos 0) p.log rise)
+    sought_state p p.log (length (filter (λ (x : LogEntry). int_le x.moment to) p.log)) to state clock refl (front_until to (pos 0) p.log (log_parts p.log state.log).0)
 
 below : (to : ℤ) (n : ℕ) → pos 0 ≤ℤ to → to <ℤ pos n → nat_lt (nat_abs to) n ≡ true
 below (pos k) n from back = lt-ltb k n (omega (arith, ints, back))

@@ -17,7 +17,7 @@ use Rattle.smil_revision.specs.References.{keeps_references}
 use Rattle.smil_live.specs.Sites.{IsMade, site_nodes, site_serial, staying}
 use Rattle.smil_live.specs.declared.edits.Site.{Site}
 use Rattle.smil_live.proofs.AgreedReferences.{references_kept}
-use Rattle.smil_shown.proofs.Ended.{comes_within, diary_is}
+use Rattle.smil_shown.proofs.SettledDiaries.{comes_within, diary_is}
 use Rattle.smil_live.proofs.RebuiltParts.{IsPart, no_part, part_of, through_first, through_within}
 
 module _ (p : Presentation) (d : Document) (at : Site) (diary : List Entry) (old : IsNumberedTree p.document) (new : IsNumberedTree d) (log : is_log p.log ≡ true)

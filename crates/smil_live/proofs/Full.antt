@@ -4,7 +4,6 @@ use Rattle.std.proofs.Common.{◌≡◌, refl, subst, ℕ, suc, zero, ◌<◌, �
 use Rattle.std.specs.Prelude.{cond, pos, int_le, nat_le, slice_get}
 use Rattle.std.specs.List.{AllByRecursion}
 use Rattle.std.proofs.lemmas.List.{append-nil, take-append-drop}
-use Rattle.std.proofs.lemmas.Int.{ints}
 use Rattle.std.proofs.lemmas.Bool.{and_parts}
 use Rattle.smil_model.specs.declared.diary.LogEntry.{LogEntry}
 use Rattle.smil_model.specs.declared.limits.TheConstants.{DIARY_ENTRIES}
@@ -12,11 +11,13 @@ use Rattle.smil_model.specs.document.Document.{Document}
 use Rattle.smil_model.specs.document.Valid.{IsNumberedTree}
 use Rattle.smil_model.specs.diary.Logs.{moments_rise}
 use Rattle.smil_model.specs.happening.Resolution.{Course, Progress, resolved, diary_of}
-use Rattle.smil_model.proofs.Orders.{le_self}
+use Rattle.smil_model.proofs.Orders.{le_both, le_self}
 use Rattle.smil_laws.specs.Agreement.{course_on}
+use Rattle.smil_laws.proofs.Lists.{each_weaker}
 use Rattle.smil_laws.proofs.Decided.{too_long_is_full}
 use Rattle.smil_laws.proofs.Further.{reaches_further}
-use Rattle.smil_shown.proofs.Ended.{comes_within}
+use Rattle.smil_shown.proofs.SettledDiaries.{comes_within}
+use Rattle.smil_live.proofs.Logs.{no_later, none_before}
 
 many_entries : (r : Progress) (most : ℕ) → cond (nat_le (length r.diary) most) (Some r.diary) None ≡ None → most < length r.diary
 many_entries r most e = by_test (nat_le (length r.diary) most) refl e
@@ -29,15 +30,8 @@ many_entries r most e = by_test (nat_le (length r.diary) most) refl e
 abbrev pub AreFrom : ℤ → List LogEntry → Type 0
 AreFrom moment log = AllByRecursion (λ (x : LogEntry). int_le moment x.moment ≡ true) log
 
-sooner : (a b : ℤ) (x : ℤ) → int_le a b ≡ true → int_le b x ≡ true → int_le a x ≡ true
-sooner a b x p q = grind (arith, ints)
-
 pub from_sooner : (a b : ℤ) (log : List LogEntry) → int_le a b ≡ true → AreFrom b log → AreFrom a log
-from_sooner a b [] p q = tt
-from_sooner a b (x ∷ xs) p q = (sooner a b x.moment p q.0, from_sooner a b xs p q.1)
-
-no_less : (a b : ℕ) → a ≤ b → int_le (pos a) (pos b) ≡ true
-no_less a b l = grind (arith, ints)
+from_sooner a b log p each = each_weaker _ _ log each (λ x q. le_both a b x.moment p q)
 
 -- with more log entries, none of them before the last moment
 pub full_further : (d : Document) (log more : List LogEntry) (last later : ℕ) → IsNumberedTree d → AreFrom (pos last) more → last ≤ later → diary_of (course_on d.nodes log last) ≡ None → diary_of (course_on d.nodes (log ++ more) later) ≡ None
@@ -45,7 +39,7 @@ full_further d log more last later numbered after further e =
     let c : Course = course_on d.nodes log last in
     let within = comes_within c (suc (DIARY_ENTRIES + c.last)) in
     too_long_is_full (course_on d.nodes (log ++ more) later) (resolved c)
-    (reaches_further d log more last later (resolved c) numbered (suc (DIARY_ENTRIES + c.last), refl) (from_sooner (pos (resolved c).moment) (pos last) more (no_less (resolved c).moment last within) after) further)
+    (reaches_further d log more last later (resolved c) numbered (suc (DIARY_ENTRIES + c.last), refl) (from_sooner (pos (resolved c).moment) (pos last) more (no_later (resolved c).moment last (pos (resolved c).moment) within (le_self (pos (resolved c).moment))) after) further)
     (many_entries (resolved c) DIARY_ENTRIES e)
 
 -- with the same log
@@ -62,11 +56,7 @@ full_by_first d log k last later numbered after further e =
 
 -- the moments of a log do not fall
 pub rising_from : (from : ℤ) (log : List LogEntry) → moments_rise from log ≡ true → AreFrom from log
-rising_from from [] q = tt
-rising_from from (x ∷ xs) q =
-    let here = (and_parts (int_le from x.moment) (moments_rise x.moment xs) q).0 in
-    let rest = (and_parts (int_le from x.moment) (moments_rise x.moment xs) q).1 in
-    (here, from_sooner from x.moment xs here (rising_from x.moment xs rest))
+rising_from from log rise = none_before from from log (le_self from) rise
 
 -- from an entry on none is before it, and none of those behind it
 pub rising_at : (from : ℤ) (log : List LogEntry) (k : ℕ) (entry : LogEntry) → moments_rise from log ≡ true → slice_get log k ≡ Some entry → AreFrom entry.moment (drop k log)

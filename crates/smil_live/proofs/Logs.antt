@@ -1,13 +1,22 @@
 -- Logs, whose moments do not fall: the entries from a place on.
 use Rattle.std.proofs.Common.{◌≡◌, refl, subst, ◌∙◌, ap, ℕ, suc, zero, ◌<◌, ◌≤◌, ◌+◌, ◌-◌, List, [], ◌∷◌, ◌++◌, Some, Bool, true, ℤ, arith, length, take, drop, get_or}
-use Rattle.std.specs.Prelude.{int_le, slice_get}
+use Rattle.std.specs.Prelude.{int_le, pos, slice_get}
 use Rattle.std.specs.List.{AllByRecursion, list_all}
 use Rattle.std.proofs.lemmas.Bool.{and_parts}
+use Rattle.std.proofs.lemmas.Int.{ints}
 use Rattle.std.proofs.lemmas.List.{get_or-drop, length-drop, take_rest}
 use Rattle.std.proofs.lemmas.Option.{slice_get_read}
 use Rattle.smil_model.specs.declared.diary.LogEntry.{LogEntry}
-use Rattle.smil_model.specs.diary.Logs.{moments_rise}
+use Rattle.smil_model.specs.diary.Logs.{is_log, may_happen, moments_rise}
 use Rattle.smil_model.proofs.Orders.{le_both}
+
+-- what is not later than a moment is not later than a later one
+pub no_later : (a b : ℕ) (x : ℤ) → a ≤ b → int_le x (pos a) ≡ true → int_le x (pos b) ≡ true
+no_later a b x l q = grind (arith, ints)
+
+-- the moments of a log do not fall, and each entry is such as may happen
+pub log_parts : (log : List LogEntry) → is_log log ≡ true → (moments_rise (pos 0) log ≡ true) × (list_all (λ (x : LogEntry). may_happen x.what) log ≡ true)
+log_parts log q = and_parts (moments_rise (pos 0) log) (list_all (λ (x : LogEntry). may_happen x.what) log) q
 
 -- ---- entries from a place on
 

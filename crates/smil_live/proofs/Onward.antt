@@ -21,6 +21,7 @@ use Rattle.smil_live.specs.Moves.{IsFirstDue, IsShownAt, IsTooFull, text_of}
 use Rattle.smil_shown.specs.ViewTable.{ViewLists}
 use Rattle.smil_live.proofs.Full.{full_later}
 use Rattle.smil_live.proofs.Quiet.{HasDiary, IsQuiet}
+use Rattle.smil_live.proofs.Replays.{not_below}
 use Rattle.smil_live.proofs.Standings.{has_diary, nothing_before}
 use Rattle.smil_live.proofs.Through.{in_two, through_quiet}
 
@@ -75,14 +76,14 @@ sets_out s shown text to is within = record {
     none : s.presentation.now - s.presentation.now ≡ 0
     none = omega arith
 
-module _ (p : Presentation) (front : List ℕ) (to : ℤ) (s : CellsState) (shown : ViewLists) (text : List ℕ) (way : IsPassing p front to s shown text) where
+module _ {p : Presentation} {front : List ℕ} {to : ℤ} {s : CellsState} {shown : ViewLists} {text : List ℕ} (way : IsPassing p front to s shown text) where
   -- the moved presentation
   pub moved_is : (m : ℕ) → as_of s.presentation m ≡ as_of p m
   moved_is m = ap (λ (q : Presentation). as_of q m) way.presentation_is
 
-  module _ (next : CellsState) (shown' : ViewLists) (text' : List ℕ) (v : ℤ) (from : pos s.presentation.now ≤ℤ v) (quiet : NothingBefore s v)
+  module _ {text' : List ℕ} {v : ℤ} (from : pos s.presentation.now ≤ℤ v) (quiet : NothingBefore s v)
       (new : text' ≡ text ++ text_of s.presentation (changes_between s.presentation (as_of s.presentation (nat_abs v)))) where
-    pub told_then : text' ≡ front ++ text_of p (changes_through p (nat_abs v - p.now))
+    told_then : text' ≡ front ++ text_of p (changes_through p (nat_abs v - p.now))
     told_then = by_number (over s.presentation.now v from)
       where
         by_number : (n : ℕ) × (v ≡ pos (s.presentation.now + n)) → text' ≡ front ++ text_of p (changes_through p (nat_abs v - p.now))
@@ -96,7 +97,7 @@ module _ (p : Presentation) (front : List ℕ) (to : ℤ) (s : CellsState) (show
             (subst (λ (x : ℤ). NothingBefore s x) e quiet) way.told
             (subst (λ (m : ℕ). text' ≡ text ++ text_of s.presentation (changes_between s.presentation (as_of s.presentation m))) here new))
 
-  module _ (due : ℤ) (first : IsFirstDue s due) where
+  module _ {due : ℤ} (first : IsFirstDue s due) where
     due_later : (pos s.presentation.now +ℤ pos 1) ≤ℤ due
     due_later = subst (λ (x : ℤ). (pos s.presentation.now +ℤ pos 1) ≤ℤ x) first.due_is (nothing_before s way.shown_is.settled first.coming first.first)
 
@@ -112,7 +113,7 @@ module _ (p : Presentation) (front : List ℕ) (to : ℤ) (s : CellsState) (show
         no_less : (x y : ℤ) → y ≡ x → x ≤ℤ y
         no_less x y e = omega (arith, ints, e)
 
-    module _ (within : due ≤ℤ to) (next : CellsState) (shown' : ViewLists) (text' : List ℕ) (is : IsShownAt (as_of s.presentation (nat_abs due)) next shown')
+    module _ (within : due ≤ℤ to) {next : CellsState} {shown' : ViewLists} {text' : List ℕ} (is : IsShownAt (as_of s.presentation (nat_abs due)) next shown')
         (new : text' ≡ text ++ text_of s.presentation (changes_between s.presentation (as_of s.presentation (nat_abs due)))) where
       at_due : next.presentation ≡ as_of p (nat_abs due)
       at_due = is.presentation_is ∙ moved_is (nat_abs due)
@@ -121,10 +122,7 @@ module _ (p : Presentation) (front : List ℕ) (to : ℤ) (s : CellsState) (show
       now_is = ap (λ (q : Presentation). q.now) at_due
 
       due_is : pos (nat_abs due) ≡ due
-      due_is = by_number (over s.presentation.now due due_from)
-        where
-          by_number : (n : ℕ) × (due ≡ pos (s.presentation.now + n)) → pos (nat_abs due) ≡ due
-          by_number (n, e) = ap (λ (x : ℤ). pos (nat_abs x)) e ∙ sym e
+      due_is = not_below s.presentation.now due due_from
 
       -- one due moment further
       pub passes_on : IsPassing p front to next shown' text'
@@ -133,7 +131,7 @@ module _ (p : Presentation) (front : List ℕ) (to : ℤ) (s : CellsState) (show
         from = let a = way.from in let b = due_later in numbers p.now s.presentation.now next.presentation.now due a b (ap pos now_is ∙ due_is);
         within = subst (λ (x : ℤ). x ≤ℤ to) (sym (ap pos now_is ∙ due_is)) within;
         shown_is = is.shown_is;
-        told = subst (λ (m : ℕ). text' ≡ front ++ text_of p (changes_through p (m - p.now))) (sym now_is) (told_then next shown' text' due due_from quiet_until new);
+        told = subst (λ (m : ℕ). text' ≡ front ++ text_of p (changes_through p (m - p.now))) (sym now_is) (told_then due_from quiet_until new);
       }
         where
           numbers : (a b c : ℕ) (x : ℤ) → a ≤ b → (pos b +ℤ pos 1) ≤ℤ x → pos c ≡ x → a ≤ c
@@ -171,11 +169,5 @@ module _ (p : Presentation) (front : List ℕ) (to : ℤ) (s : CellsState) (show
     quiet_to : NothingBefore s to
     quiet_to c e = sooner to c.key.value (silence c e)
 
-    pub arrives : (next : CellsState) (shown' : ViewLists) (text' : List ℕ) → text' ≡ text ++ text_of s.presentation (changes_between s.presentation (as_of s.presentation (nat_abs to))) → text' ≡ front ++ text_of p (changes_through p (nat_abs to - p.now))
-    arrives next shown' text' new = told_then next shown' text' to way.within quiet_to new
-
-  pub shown_there : (next : CellsState) (shown' : ViewLists) → IsShownAt (as_of s.presentation (nat_abs to)) next shown' → IsShownAt (as_of p (nat_abs to)) next shown'
-  shown_there next shown' is = record { presentation_is = is.presentation_is ∙ moved_is (nat_abs to); shown_is = is.shown_is }
-
-  pub too_full_there : (given : Refusal) → IsTooFull (as_of s.presentation (nat_abs to)) given → IsTooFull (as_of p (nat_abs to)) given
-  too_full_there given is = subst (λ (q : Presentation). IsTooFull q given) (moved_is (nat_abs to)) is
+    pub arrives : {text' : List ℕ} → text' ≡ text ++ text_of s.presentation (changes_between s.presentation (as_of s.presentation (nat_abs to))) → text' ≡ front ++ text_of p (changes_through p (nat_abs to - p.now))
+    arrives new = told_then way.within quiet_to new

@@ -1,18 +1,18 @@
 -- What is opened, and what is told of it.
-use Rattle.std.proofs.Common.{◌≡◌, ℕ, List, [], ◌++◌, Some, Ok, Err, inl, inr, sym, ap, ◌∙◌, subst}
+use Rattle.std.proofs.Common.{◌≡◌, ℕ, List, [], ◌++◌, Some, Ok, Err, sym, ap, ◌∙◌, subst}
 use Rattle.std.specs.Prelude.{◌⊎◌}
 use Rattle.smil_model.specs.declared.order.Refusal.{Refusal}
 use Rattle.smil_model.specs.declared.order.Refusal.TheVariants as refusal
 use Rattle.smil_model.specs.declared.view.View.{View}
 use Rattle.smil_model.specs.document.Document.{Document}
-use Rattle.smil_model.specs.document.Limits.{limits}
 use Rattle.smil_model.specs.happening.Resolution.{diary_of}
 use Rattle.smil_model.specs.shown.Answers.{load_text}
-use Rattle.smil_model.specs.shown.Orders.{Presentation, course_of, kept_where, opened, unless_too_full, views_of}
+use Rattle.smil_model.specs.shown.Orders.{Presentation, course_of, opened, views_of}
 use Rattle.smil_cells.specs.CellsState.{IsSettled, CellsState}
 use Rattle.smil_shown.specs.ShownViews.{views_at}
 use Rattle.smil_live.specs.Moves.{IsReplayed, IsTooFull}
 use Rattle.smil_shown.specs.Told.{lines_between}
+use Rattle.smil_live.proofs.Resolved.{has_room, no_room}
 use Rattle.smil_live.proofs.Standings.{views_settled}
 
 -- the lines of what is shown first
@@ -28,18 +28,8 @@ told_load s d before after m old new settled same none seen moment told =
 abbrev pub first_of : Document → Presentation
 first_of d = record { document = d; log = []; now = 0 }
 
--- a presentation that has its diary
-pub has_room : (p q : Presentation) (s : CellsState) → q ≡ s.presentation → IsReplayed p s → unless_too_full limits p ≡ Ok q
-has_room p q s same is =
-    let settled : diary_of (course_of p) ≡ Some s.diary = subst (λ (r : Presentation). diary_of (course_of r) ≡ Some s.diary) is.presentation_is is.settled in
-    ap (kept_where p) settled ∙ ap Ok (sym (same ∙ is.presentation_is))
-
-pub no_room : (p : Presentation) (e : Refusal) → IsTooFull p e → (e ≡ refusal.Memory) ⊎ (unless_too_full limits p ≡ Err e)
-no_room p e (inl memory) = inl memory
-no_room p e (inr full) = inr (ap (kept_where p) full.1 ∙ ap Err (sym full.0))
-
 pub opens : (d : Document) (q : Presentation) (s : CellsState) → q ≡ s.presentation → IsReplayed (first_of d) s → opened d ≡ Ok q
-opens d q s same is = has_room (first_of d) q s same is
+opens d q s same is = has_room (first_of d) q s.diary (same ∙ is.presentation_is) (subst (λ (r : Presentation). diary_of (course_of r) ≡ Some s.diary) (sym same) is.settled)
 
 pub not_opened : (d : Document) (e : Refusal) → IsTooFull (first_of d) e → (e ≡ refusal.Memory) ⊎ (opened d ≡ Err e)
 not_opened d e full = no_room (first_of d) e full

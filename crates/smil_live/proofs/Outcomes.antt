@@ -13,6 +13,7 @@ use Rattle.smil_model.specs.declared.diary.LogEntry.{LogEntry}
 use Rattle.smil_model.specs.declared.document.Kind.{Kind}
 use Rattle.smil_model.specs.declared.document.Node.{Node}
 use Rattle.smil_model.specs.declared.limits.TheConstants.{LOG_ENTRIES, SERIALS}
+use Rattle.smil_model.specs.declared.order.Order.{Order}
 use Rattle.smil_model.specs.declared.order.Order.TheVariants as order
 use Rattle.smil_model.specs.declared.order.Refusal.{Refusal}
 use Rattle.smil_model.specs.declared.order.Refusal.TheVariants as refusal
@@ -27,23 +28,30 @@ use Rattle.smil_model.specs.diary.Logs.{is_log, is_logged_by, is_serial, may_hap
 use Rattle.smil_model.specs.document.Values.{is_clock}
 use Rattle.smil_model.specs.document.Words.{is_event_name, is_raised_name}
 use Rattle.smil_model.specs.happening.Resolution.{diary_of}
-use Rattle.smil_model.specs.shown.Answers.{Accepts, Refuses, change_text, gone_text}
+use Rattle.smil_model.specs.shown.Answers.{Accepts, Refuses, answer_text, change_text, gone_text}
 use Rattle.smil_model.specs.shown.Lines.{gone_line, name_of}
 use Rattle.smil_model.specs.shown.Orders.{IsState, Presentation, and_then, at_moment_with, changes_between, changes_through, course_of, found, kept_where, node_of, outcome, unless, unless_too_full, with_logged as logged_within, as_of}
 use Rattle.smil_grammar.specs.Formats.{formats}
+use Rattle.smil_model.proofs.Orders.{le_from}
 use Rattle.smil_laws.proofs.Aside.{find_each}
 use Rattle.smil_tree.proofs.Spans.{all_known}
 use Rattle.smil_cells.specs.CellsState.{CellsState, with_logged}
 use Rattle.smil_cells.proofs.Heeded.{first_is_log}
 use Rattle.smil_live.specs.Moves.{IsHeardBy, IsNotHeard, IsReplayed, IsTooFull, entry_of, sought_of, text_of}
 use Rattle.smil_live.specs.Telling.{element_named}
+use Rattle.smil_shown.proofs.Apart.{found_each}
 use Rattle.smil_live.proofs.Growth.{is_appended}
+use Rattle.smil_live.proofs.Replays.{not_below}
 
 -- ---- the node that an order names
 
+-- what each node has, it has
+named_each : (P : Node → Type 0) (ns : List Node) (named : Who) (n : Node) → AllByRecursion P ns → node_of ns named ≡ Some n → P n
+named_each P ns (who.Id id) n each some = find_each P (λ (m : Node). has_id id m.attrs.id) ns n each some
+named_each P ns (who.Serial serial) n each some = find_each P (λ (m : Node). m.serial == serial) ns n each some
+
 pub known : (d : Document) (named : Who) (n : Node) → IsNumberedTree d → node_of d.nodes named ≡ Some n → node_at d.nodes n.serial ≡ Some n
-known d (who.Id id) n numbered some = find_each (λ (m : Node). node_at d.nodes m.serial ≡ Some m) (λ (m : Node). has_id id m.attrs.id) d.nodes n (all_known d.nodes d.next numbered) some
-known d (who.Serial serial) n numbered some = find_each (λ (m : Node). node_at d.nodes m.serial ≡ Some m) (λ (m : Node). m.serial == serial) d.nodes n (all_known d.nodes d.next numbered) some
+known d named n numbered some = named_each (λ (m : Node). node_at d.nodes m.serial ≡ Some m) d.nodes named n (all_known d.nodes d.next numbered) some
 
 pub there : (d : Document) (named : Who) (n : Node) (s : ℕ) → IsNumberedTree d → node_of d.nodes named ≡ Some n → s ≡ n.serial → IsSome (node_at d.nodes s)
 there d named n s numbered some same = ap (λ t. is_some (node_at d.nodes t)) same ∙ ap is_some (known d named n numbered some)
@@ -64,14 +72,8 @@ may_be next s b most =
     ap (λ t. t && nat_le s SERIALS) (le-leb 1 s (omega (arith, from))) ∙ le-leb s SERIALS (omega (arith, below, most))
 
 serial_named : (d : Document) (named : Who) (n : Node) → IsNumberedTree d → node_of d.nodes named ≡ Some n → is_serial n.serial ≡ true
-serial_named d named n numbered some = may_be d.next n.serial (within named some) numbered.next
-  where
-    low : AllByRecursion (λ (m : Node). (0 < m.serial) × (m.serial < d.next)) d.nodes
-    low = recursion_from_All (λ (m : Node). (0 < m.serial) × (m.serial < d.next)) d.nodes numbered.below
-
-    within : (named : Who) → node_of d.nodes named ≡ Some n → (0 < n.serial) × (n.serial < d.next)
-    within (who.Id id) some = find_each (λ (m : Node). (0 < m.serial) × (m.serial < d.next)) (λ (m : Node). has_id id m.attrs.id) d.nodes n low some
-    within (who.Serial serial) some = find_each (λ (m : Node). (0 < m.serial) × (m.serial < d.next)) (λ (m : Node). m.serial == serial) d.nodes n low some
+serial_named d named n numbered some =
+    may_be d.next n.serial (named_each (λ (m : Node). (0 < m.serial) × (m.serial < d.next)) d.nodes named n (recursion_from_All (λ (m : Node). (0 < m.serial) × (m.serial < d.next)) d.nodes numbered.below) some) numbered.next
 
 pub serial_of_named : (d : Document) (named : Who) (n : Node) (s : ℕ) → IsNumberedTree d → node_of d.nodes named ≡ Some n → s ≡ n.serial → is_serial s ≡ true
 serial_of_named d named n s numbered some same = ap is_serial same ∙ serial_named d named n numbered some
@@ -124,27 +126,27 @@ at_moment_full p m log within none =
 
 -- ---- texts
 
-all_stay : (all ns : List Node) → AllByRecursion (λ (n : Node). node_at all n.serial ≡ Some n) ns → filter (λ (n : Node). not (is_some (node_at all n.serial))) (elements ns) ≡ []
+-- no element is gone from a document that stays
+all_stay : (all ns : List Node) → AllByRecursion (λ (n : Node). IsSome (node_at all n.serial)) ns → filter (λ (n : Node). not (is_some (node_at all n.serial))) (elements ns) ≡ []
 all_stay all [] h = refl
 all_stay all (n ∷ ns) h = by_element (is_element n) (all_stay all ns h.1)
   where
     by_element : (t : Bool) → filter (λ (m : Node). not (is_some (node_at all m.serial))) (elements ns) ≡ [] → filter (λ (m : Node). not (is_some (node_at all m.serial))) (cond t (n ∷ elements ns) (elements ns)) ≡ []
     by_element true rest =
-        ap (λ o. cond (not (is_some o)) (n ∷ filter (λ (m : Node). not (is_some (node_at all m.serial))) (elements ns)) (filter (λ (m : Node). not (is_some (node_at all m.serial))) (elements ns))) h.0 ∙ rest
+        ap (λ (s : Bool). cond (not s) (n ∷ filter (λ (m : Node). not (is_some (node_at all m.serial))) (elements ns)) (filter (λ (m : Node). not (is_some (node_at all m.serial))) (elements ns))) h.0 ∙ rest
     by_element false rest = rest
 
--- where the document stays, no element is gone
-none_gone : (p q : Presentation) → IsNumberedTree p.document → q.document ≡ p.document → gone_text p q ≡ []
-none_gone p q numbered same =
+pub none_gone : (p q : Presentation) → q.document ≡ p.document → gone_text p q ≡ []
+none_gone p q same =
     ap (λ (d : Document). gone_text p (record { document = d; log = q.log; now = q.now })) same
-    ∙ ap (λ (ns : List Node). flat_map (λ (n : Node). gone_line (pos q.now) (name_of n)) ns) (all_stay p.document.nodes p.document.nodes (all_known p.document.nodes p.document.next numbered))
+    ∙ ap (λ (ns : List Node). flat_map (λ (n : Node). gone_line (pos q.now) (name_of n)) ns) (all_stay p.document.nodes p.document.nodes (found_each p.document.nodes))
 
 -- only changes are told
-pub told_alone : (p q : Presentation) (changes : List (ℕ × View)) (text : List ℕ) → IsNumberedTree p.document → q.document ≡ p.document → text ≡ text_of p changes → text ≡ gone_text p q ++ flat_map (change_text q.document.nodes) changes
-told_alone p q changes text numbered same told =
+pub told_alone : (p q : Presentation) (changes : List (ℕ × View)) (text : List ℕ) → q.document ≡ p.document → text ≡ text_of p changes → text ≡ gone_text p q ++ flat_map (change_text q.document.nodes) changes
+told_alone p q changes text same told =
     told
     ∙ ap (λ (d : Document). flat_map (change_text d.nodes) changes) (sym same)
-    ∙ ap (λ (l : List ℕ). l ++ flat_map (change_text q.document.nodes) changes) (sym (none_gone p q numbered same))
+    ∙ ap (λ (l : List ℕ). l ++ flat_map (change_text q.document.nodes) changes) (sym (none_gone p q same))
 
 cut_off : (old new more : List ℕ) → new ≡ old ++ more → drop (length old) new ≡ more
 cut_off old new more is = ap (drop (length old)) is ∙ drop-append_seam old more
@@ -154,10 +156,7 @@ cut_off old new more is = ap (drop (length old)) is ∙ drop-append_seam old mor
 pub clock_from : (v : ℤ) → is_clock v ≡ true → (pos 0 ≤ℤ v) × (v ≤ℤ HORIZON)
 clock_from v q =
     let parts = and_parts (int_le (pos 0) v) (int_le v HORIZON) q in
-    (at_most (pos 0) v parts.0, at_most v HORIZON parts.1)
-  where
-    at_most : (x y : ℤ) → int_le x y ≡ true → x ≤ℤ y
-    at_most x y q = grind (arith, ints)
+    (le_from (pos 0) v parts.0, le_from v HORIZON parts.1)
 
 pub not_above : (a b : ℤ) → int_lt a b ≡ false → b ≤ℤ a
 not_above a b q = grind (arith, ints)
@@ -168,21 +167,21 @@ moved_by n (negsuc k) to from e = absurd (omega (arith, ints, from))
 
 -- ---- orders that move on
 
-pub advanced_by : (p q : Presentation) (by : ℤ) (old new : List ℕ) → IsState p → q ≡ as_of p (p.now + nat_abs by) → IsState q → IsSome (diary_of (course_of q)) → new ≡ old ++ text_of p (changes_through p (nat_abs by)) → Accepts formats p q (order.Advance by) (drop (length old) new)
-advanced_by p q by old new state is state' some told =
+advanced_by : (p q : Presentation) (by : ℤ) (old new : List ℕ) → q ≡ as_of p (p.now + nat_abs by) → IsState q → IsSome (diary_of (course_of q)) → new ≡ old ++ text_of p (changes_through p (nat_abs by)) → Accepts formats p q (order.Advance by) (drop (length old) new)
+advanced_by p q by old new is state' some told =
     let within : int_le (pos (p.now + nat_abs by)) HORIZON ≡ true = subst (λ (r : Presentation). int_le (pos r.now) HORIZON ≡ true) is state'.now in
     let diary : IsSome (diary_of (course_of (as_of p (p.now + nat_abs by)))) = subst (λ (r : Presentation). IsSome (diary_of (course_of r))) is some in
     record {
       state = at_moment_ok p (p.now + nat_abs by) p.log within diary ∙ ap Ok (sym is);
       answer =
-          told_alone p q (changes_through p (nat_abs by)) (drop (length old) new) state.document.numbered (ap (λ (r : Presentation). r.document) is)
+          told_alone p q (changes_through p (nat_abs by)) (drop (length old) new) (ap (λ (r : Presentation). r.document) is)
           (cut_off old new (text_of p (changes_through p (nat_abs by))) told);
     }
 
-pub advanced_to : (p q : Presentation) (by to : ℤ) (old new : List ℕ) → IsState p → pos 0 ≤ℤ by → to ≡ pos p.now +ℤ by → q ≡ as_of p (nat_abs to) → IsState q → IsSome (diary_of (course_of q)) → new ≡ old ++ text_of p (changes_through p (nat_abs to - p.now)) → Accepts formats p q (order.Advance by) (drop (length old) new)
-advanced_to p q by to old new state from there is state' some told =
+pub advanced_to : (p q : Presentation) (by to : ℤ) (old new : List ℕ) → pos 0 ≤ℤ by → to ≡ pos p.now +ℤ by → q ≡ as_of p (nat_abs to) → IsState q → IsSome (diary_of (course_of q)) → new ≡ old ++ text_of p (changes_through p (nat_abs to - p.now)) → Accepts formats p q (order.Advance by) (drop (length old) new)
+advanced_to p q by to old new from there is state' some told =
     let sums = moved_by p.now by to from there in
-    advanced_by p q by old new state (is ∙ ap (as_of p) sums.0) state' some (told ∙ ap (λ (k : ℕ). old ++ text_of p (changes_through p k)) sums.1)
+    advanced_by p q by old new (is ∙ ap (as_of p) sums.0) state' some (told ∙ ap (λ (k : ℕ). old ++ text_of p (changes_through p k)) sums.1)
 
 -- a log of which no entry is later is left whole
 all_left : (m : ℤ) (log : List LogEntry) → is_logged_by m log ≡ true → filter (λ (x : LogEntry). int_le x.moment m) log ≡ log
@@ -208,8 +207,10 @@ passing t (x ∷ xs) = by_test (t x) refl (passing t xs)
     by_test false e rest = rest
 
 natural : (to : ℤ) → is_clock to ≡ true → pos (nat_abs to) ≡ to
-natural (pos k) q = refl
-natural (negsuc k) q = cc
+natural to clock = not_below 0 to (clock_from to clock).0
+
+pub within_sought : (to : ℤ) → is_clock to ≡ true → int_le (pos (nat_abs to)) HORIZON ≡ true
+within_sought to clock = ap (λ (m : ℤ). int_le m HORIZON) (natural to clock) ∙ (and_parts (int_le (pos 0) to) (int_le to HORIZON) clock).1
 
 pub sought_state : (p : Presentation) (log : List LogEntry) (len : ℕ) (to : ℤ) → IsState p → is_clock to ≡ true → log ≡ p.log → take len log ≡ filter (λ (x : LogEntry). int_le x.moment to) log → IsState (sought_of p to)
 sought_state p log len to state clock logs first =
@@ -220,21 +221,18 @@ sought_state p log len to state clock logs first =
       document = state.document;
       log = subst (λ (l : List LogEntry). is_log l ≡ true) same (first_is_log len p.log state.log);
       logged = passing (λ (x : LogEntry). int_le x.moment (pos (nat_abs to))) p.log;
-      now = ap (λ (m : ℤ). int_le m HORIZON) (natural to clock) ∙ (and_parts (int_le (pos 0) to) (int_le to HORIZON) clock).1;
+      now = within_sought to clock;
     }
 
-pub within_sought : (to : ℤ) → is_clock to ≡ true → int_le (pos (nat_abs to)) HORIZON ≡ true
-within_sought to clock = ap (λ (m : ℤ). int_le m HORIZON) (natural to clock) ∙ (and_parts (int_le (pos 0) to) (int_le to HORIZON) clock).1
-
-pub sought : (p q : Presentation) (to : ℤ) (old new : List ℕ) → IsState p → q ≡ sought_of p to → IsState q → IsSome (diary_of (course_of q)) → new ≡ old ++ text_of p (changes_between p q) → Accepts formats p q (order.Seek to) (drop (length old) new)
-sought p q to old new state is state' some told =
+pub sought : (p q : Presentation) (to : ℤ) (old new : List ℕ) → q ≡ sought_of p to → IsState q → IsSome (diary_of (course_of q)) → new ≡ old ++ text_of p (changes_between p q) → Accepts formats p q (order.Seek to) (drop (length old) new)
+sought p q to old new is state' some told =
     let left = filter (λ (x : LogEntry). int_le x.moment (pos (nat_abs to))) p.log in
     let within : int_le (pos (nat_abs to)) HORIZON ≡ true = subst (λ (r : Presentation). int_le (pos r.now) HORIZON ≡ true) is state'.now in
     let diary : IsSome (diary_of (course_of (record { document = p.document; log = left; now = nat_abs to }))) = subst (λ (r : Presentation). IsSome (diary_of (course_of r))) is some in
     record {
       state = at_moment_ok p (nat_abs to) left within diary ∙ ap Ok (sym is);
       answer =
-          told_alone p q (changes_between p q) (drop (length old) new) state.document.numbered (ap (λ (r : Presentation). r.document) is)
+          told_alone p q (changes_between p q) (drop (length old) new) (ap (λ (r : Presentation). r.document) is)
           (cut_off old new (text_of p (changes_between p q)) told);
     }
 
@@ -243,8 +241,8 @@ not_sought p q to given is within (inl memory) = inl memory
 not_sought p q to given is within (inr (full, none)) =
     inr (at_moment_full p (nat_abs to) (filter (λ (x : LogEntry). int_le x.moment (pos (nat_abs to))) p.log) within (subst (λ (r : Presentation). diary_of (course_of r) ≡ None) is none) ∙ ap Err (sym full))
 
-pub sought_anew : (p q : Presentation) (s : CellsState) (to : ℤ) (old new : List ℕ) → IsState p → IsState (sought_of p to) → IsReplayed (sought_of p to) s → q ≡ s.presentation → new ≡ old ++ gone_text p s.presentation ++ text_of s.presentation (changes_between p s.presentation) → Accepts formats p q (order.Seek to) (drop (length old) new)
-sought_anew p q s to old new state there is e told =
+pub sought_anew : (p q : Presentation) (s : CellsState) (to : ℤ) (old new : List ℕ) → IsState (sought_of p to) → IsReplayed (sought_of p to) s → q ≡ s.presentation → new ≡ old ++ gone_text p s.presentation ++ text_of s.presentation (changes_between p s.presentation) → Accepts formats p q (order.Seek to) (drop (length old) new)
+sought_anew p q s to old new there is e told =
     let at = is.presentation_is in
     let here : q ≡ sought_of p to = e ∙ at in
     let diary : IsSome (diary_of (course_of q)) = subst (λ (r : Presentation). IsSome (diary_of (course_of r))) (sym e) (ap is_some is.settled) in
@@ -252,9 +250,9 @@ sought_anew p q s to old new state there is e told =
     subst (λ (r : Presentation). new ≡ old ++ gone_text p r ++ text_of r (changes_between p r)) at told in
     let lines : new ≡ old ++ text_of p (changes_between p (sought_of p to)) =
     all
-    ∙ ap (λ (t : List ℕ). old ++ t ++ text_of p (changes_between p (sought_of p to))) (none_gone p (sought_of p to) state.document.numbered refl)
+    ∙ ap (λ (t : List ℕ). old ++ t ++ text_of p (changes_between p (sought_of p to))) (none_gone p (sought_of p to) refl)
     ∙ ap (λ (t : List ℕ). t ++ text_of p (changes_between p (sought_of p to))) (append-nil old) in
-    sought p q to old new state here (subst IsState (sym here) there) diary
+    sought p q to old new here (subst IsState (sym here) there) diary
     (lines ∙ ap (λ (r : Presentation). old ++ text_of p (changes_between p r)) (sym here))
 
 -- what was appended in two parts
@@ -301,26 +299,25 @@ heard_document p q what e = by_room (nat_lt (length p.log) LOG_ENTRIES) e
     by_room true e = by_diary (diary_of (course_of (with_logged p (entry_of p what)))) e
     by_room false e = cc
 
-event_is : (p : Presentation) (named : Who) (name : List ℕ) (n : Node) → element_named p named ≡ Ok n → outcome formats p (order.Event named name) ≡ logged_within limits p (happening.Event n.serial name)
-event_is p named name n e =
+-- an order that comes to what is heard
+pub heard_answered : (p q : Presentation) (o : Order) (what : Happening) (text : List ℕ) → outcome formats p o ≡ logged_within limits p what
+    → answer_text formats p q o ≡ gone_text p q ++ flat_map (change_text q.document.nodes) (changes_between p q) → IsHeardBy p what q text → Accepts formats p q o text
+heard_answered p q o what text is answer heard = record {
+  state = is ∙ heard.state;
+  answer = told_alone p q (changes_between p q) text (heard_document p q what heard.state) heard.told ∙ sym answer;
+}
+
+pub not_heard : (p : Presentation) (o : Order) (what : Happening) (r : Refusal) → outcome formats p o ≡ logged_within limits p what → IsNotHeard p what r → Refuses formats p o r
+not_heard p o what r is (inl memory) = inl memory
+not_heard p o what r is (inr none) = inr (is ∙ none)
+
+pub event_is : (p : Presentation) (named : Who) (s : ℕ) (given name : List ℕ) (n : Node) → element_named p named ≡ Ok n → s ≡ n.serial → given ≡ name → outcome formats p (order.Event named name) ≡ logged_within limits p (happening.Event s given)
+event_is p named s given name n e same alike =
     let at = found_named p named n e in
+    let one : happening.Event n.serial name ≡ happening.Event s given = cc in
     ap (λ o. and_then (found o) (λ (m : Node). and_then (unless (not (is_element m)) refusal.BadPlace m) (λ (x : Node). logged_within limits p (happening.Event x.serial name)))) at.0
     ∙ ap (λ (t : Bool). and_then (unless (not t) refusal.BadPlace n) (λ (x : Node). logged_within limits p (happening.Event x.serial name))) at.1
-
-pub event_heard : (p q : Presentation) (named : Who) (s : ℕ) (given name : List ℕ) (n : Node) (text : List ℕ) → IsNumberedTree p.document → element_named p named ≡ Ok n → s ≡ n.serial → given ≡ name → IsHeardBy p (happening.Event s given) q text → Accepts formats p q (order.Event named name) text
-event_heard p q named s given name n text numbered e same alike is =
-    let one : happening.Event s given ≡ happening.Event n.serial name = cc in
-    let state : logged_within limits p (happening.Event n.serial name) ≡ Ok q = subst (λ (w : Happening). logged_within limits p w ≡ Ok q) one is.state in
-    record {
-      state = event_is p named name n e ∙ state;
-      answer = told_alone p q (changes_between p q) text numbered (heard_document p q (happening.Event n.serial name) state) is.told;
-    }
-
-pub event_not_heard : (p : Presentation) (named : Who) (s : ℕ) (given name : List ℕ) (n : Node) (r : Refusal) → element_named p named ≡ Ok n → s ≡ n.serial → given ≡ name → IsNotHeard p (happening.Event s given) r → Refuses formats p (order.Event named name) r
-event_not_heard p named s given name n r e same alike (inl memory) = inl memory
-event_not_heard p named s given name n r e same alike (inr not_heard) =
-    let one : happening.Event s given ≡ happening.Event n.serial name = cc in
-    inr (event_is p named name n e ∙ subst (λ (w : Happening). logged_within limits p w ≡ Err r) one not_heard)
+    ∙ ap (logged_within limits p) one
 
 pub event_refused : (p : Presentation) (named : Who) (name : List ℕ) (r : Refusal) → element_named p named ≡ Err r → Refuses formats p (order.Event named name) r
 event_refused p named name r e = inr (by_node (node_of p.document.nodes named) e)
@@ -333,25 +330,12 @@ event_refused p named name r e = inr (by_node (node_of p.document.nodes named) e
     by_node None e = let one : refusal.NoElement ≡ r = cc in ap Err one
     by_node (Some m) e = by_element m (is_element m) e
 
-media_is : (p : Presentation) (named : Who) (long : ℤ) (n : Node) → node_of p.document.nodes named ≡ Some n → is_continuous n.kind ≡ true → outcome formats p (order.Media named long) ≡ logged_within limits p (happening.Media n.serial long)
-media_is p named long n some continuous =
+pub media_is : (p : Presentation) (named : Who) (s : ℕ) (given long : ℤ) (n : Node) → node_of p.document.nodes named ≡ Some n → is_continuous n.kind ≡ true → s ≡ n.serial → given ≡ long → outcome formats p (order.Media named long) ≡ logged_within limits p (happening.Media s given)
+media_is p named s given long n some continuous same alike =
+    let one : happening.Media n.serial long ≡ happening.Media s given = cc in
     ap (λ o. and_then (found o) (λ (m : Node). and_then (unless (not (is_continuous m.kind)) refusal.NotContinuous m) (λ (x : Node). logged_within limits p (happening.Media x.serial long)))) some
     ∙ ap (λ (t : Bool). and_then (unless (not t) refusal.NotContinuous n) (λ (x : Node). logged_within limits p (happening.Media x.serial long))) continuous
-
-pub media_heard : (p q : Presentation) (named : Who) (s : ℕ) (given long : ℤ) (n : Node) (text : List ℕ) → IsNumberedTree p.document → node_of p.document.nodes named ≡ Some n → is_continuous n.kind ≡ true → s ≡ n.serial → given ≡ long → IsHeardBy p (happening.Media s given) q text → Accepts formats p q (order.Media named long) text
-media_heard p q named s given long n text numbered some continuous same alike is =
-    let one : happening.Media s given ≡ happening.Media n.serial long = cc in
-    let state : logged_within limits p (happening.Media n.serial long) ≡ Ok q = subst (λ (w : Happening). logged_within limits p w ≡ Ok q) one is.state in
-    record {
-      state = media_is p named long n some continuous ∙ state;
-      answer = told_alone p q (changes_between p q) text numbered (heard_document p q (happening.Media n.serial long) state) is.told;
-    }
-
-pub media_not_heard : (p : Presentation) (named : Who) (s : ℕ) (given long : ℤ) (n : Node) (r : Refusal) → node_of p.document.nodes named ≡ Some n → is_continuous n.kind ≡ true → s ≡ n.serial → given ≡ long → IsNotHeard p (happening.Media s given) r → Refuses formats p (order.Media named long) r
-media_not_heard p named s given long n r some continuous same alike (inl memory) = inl memory
-media_not_heard p named s given long n r some continuous same alike (inr not_heard) =
-    let one : happening.Media s given ≡ happening.Media n.serial long = cc in
-    inr (media_is p named long n some continuous ∙ subst (λ (w : Happening). logged_within limits p w ≡ Err r) one not_heard)
+    ∙ ap (logged_within limits p) one
 
 pub media_refused : (p : Presentation) (named : Who) (long : ℤ) (n : Node) → node_of p.document.nodes named ≡ Some n → is_continuous n.kind ≡ false → Refuses formats p (order.Media named long) refusal.NotContinuous
 media_refused p named long n some none =

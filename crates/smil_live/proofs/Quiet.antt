@@ -1,6 +1,7 @@
 -- Moments at which nothing comes: the diary stays settled, and the views stay.
-use Rattle.std.proofs.Common.{◌≡◌, refl, sym, ◌∙◌, ap, subst, ℕ, suc, zero, ◌≤◌, ◌+◌, List, [], ◌∷◌, Some, Bool, true, false, ℤ, arith, length}
-use Rattle.std.specs.Prelude.{◌&&◌, pos, int_le, ◌≤ℤ◌, ◌+ℤ◌, reverse}
+use Rattle.std.proofs.Common.{◌≡◌, refl, sym, ◌∙◌, ap, subst, ℕ, suc, zero, ◌≤◌, ◌+◌, List, [], ◌∷◌, Some, true, false, ℤ, arith, length}
+use Rattle.std.specs.Prelude.{pos, int_le, ◌≤ℤ◌, ◌+ℤ◌, reverse}
+use Rattle.std.proofs.lemmas.Bool.{and_from, and_parts}
 use Rattle.std.proofs.lemmas.Int.{ints}
 use Rattle.std.proofs.lemmas.Option.{slice_get_past}
 use Rattle.smil_model.specs.declared.diary.Entry.{Entry}
@@ -17,12 +18,13 @@ use Rattle.smil_laws.specs.Agreement.{course_on}
 use Rattle.smil_laws.specs.Courses.{heard_by}
 use Rattle.smil_laws.specs.Locality.{ParentsBefore}
 use Rattle.smil_laws.proofs.Decided.{ended_is_diary}
-use Rattle.smil_laws.proofs.Further.{is_past}
 use Rattle.smil_laws.proofs.Jumping.{over_quiet}
 use Rattle.smil_laws.proofs.Numbered.{ordered}
 use Rattle.smil_laws.proofs.Quiet.{same_later, until_later}
 use Rattle.smil_cells.proofs.Passing.{rests}
-use Rattle.smil_shown.proofs.Ended.{comes_to, diary_few}
+use Rattle.smil_shown.proofs.SettledDiaries.{comes_to, diary_few}
+use Rattle.smil_shown.proofs.PresentMoments.{settled_until}
+use Rattle.smil_live.proofs.Logs.{no_later}
 use Rattle.smil_live.proofs.Resolved.{history_with, views_are}
 
 -- ---- time passes
@@ -53,27 +55,12 @@ pub record HasDiary (p : Presentation) (d : List Entry) : Type 0 where
   pub logged : is_logged_by (pos p.now) p.log ≡ true
   pub settled : diary_of (course_of p) ≡ Some d
 
-later : (a b : ℕ) (x : ℤ) → a ≤ b → int_le x (pos a) ≡ true → int_le x (pos b) ≡ true
-later a b x l q = grind (arith, ints)
-
 -- a log in which no entry is later than a moment has none later than a later moment
 pub logged_later : (a b : ℕ) (log : List LogEntry) → a ≤ b → is_logged_by (pos a) log ≡ true → is_logged_by (pos b) log ≡ true
 logged_later a b [] l q = q
 logged_later a b (x ∷ xs) l q =
-    both (int_le x.moment (pos b)) (is_logged_by (pos b) xs)
-    (later a b x.moment l (left (int_le x.moment (pos a)) (is_logged_by (pos a) xs) q))
-    (logged_later a b xs l (right (int_le x.moment (pos a)) (is_logged_by (pos a) xs) q))
-  where
-    both : (s t : Bool) → s ≡ true → t ≡ true → s && t ≡ true
-    both s t p q = ap (λ a. a && t) p ∙ q
-
-    left : (s t : Bool) → s && t ≡ true → s ≡ true
-    left true t p = cc
-    left false t p = p
-
-    right : (s t : Bool) → s && t ≡ true → t ≡ true
-    right true t p = p
-    right false t p = cc
+    let parts = and_parts (int_le x.moment (pos a)) (is_logged_by (pos a) xs) q in
+    and_from (int_le x.moment (pos b)) (is_logged_by (pos b) xs) (no_later a b x.moment l parts.0) (logged_later a b xs l parts.1)
 
 -- nothing comes before a moment
 abbrev pub IsQuiet : Presentation → List Entry → ℤ → Type 0
@@ -90,7 +77,7 @@ module _ (p : Presentation) (d : List Entry) (has : HasDiary p d) where
   reached = comes_to (course_of p) d has.logged has.settled
 
   past : until (pos p.now) d ≡ d
-  past = (is_past (course_of p) (heard_by p.log d p.now) reached).entries
+  past = settled_until p d has.settled
 
   pub before : (k : ℕ) → IsAsBefore (history_with p d) p.now (p.now + k)
   before k = as_before (history_with p d) p.now k (ordered p.document has.numbered).first past

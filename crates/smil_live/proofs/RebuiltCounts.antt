@@ -25,8 +25,8 @@ use Rattle.smil_cells.specs.CellsState.{GoesOn, IsSettled, CellsState, WhereTold
 use Rattle.smil_cells.proofs.OnWay.{drops}
 use Rattle.smil_live.specs.Counts.{interval_by, least_loading, reached_behind}
 use Rattle.smil_live.specs.Moves.{IsReplayed}
-use Rattle.smil_live.proofs.Counted.{IsCounted, counted_by}
-use Rattle.smil_shown.proofs.Ended.{diary_is, has_ended}
+use Rattle.smil_live.proofs.CellCounts.{IsCounted, counted_by}
+use Rattle.smil_shown.proofs.SettledDiaries.{diary_is, has_ended}
 use Rattle.smil_live.proofs.Resolved.{resolved_is}
 
 -- ---- a longer log

@@ -50,10 +50,10 @@ moments_append xs ys =
 -- ---- step by step
 
 module _ (c : Course) (rise : moments_rise (pos 0) c.log ≡ true) (q : Progress) (before : HasHeard c.log q) where
-  NotDue : Type 0
+  abbrev NotDue : Type 0
   NotDue = (entry : LogEntry) → slice_get c.log q.heard ≡ Some entry → int_le entry.moment (pos q.moment) ≡ false
 
-  quiet_heard : (r : Progress) → after_quiet c q ≡ Some r → ((entry : LogEntry) → slice_get c.log q.heard ≡ Some entry → int_le entry.moment (pos q.moment) ≡ false) → HasHeard c.log r
+  quiet_heard : (r : Progress) → after_quiet c q ≡ Some r → NotDue → HasHeard c.log r
   quiet_heard r e free = by_test (nat_lt q.moment c.last) e
     where
       by_test : (t : Bool) → cond t (Some (record { moment = suc q.moment; heard = q.heard; diary = q.diary })) None ≡ Some r → HasHeard c.log r

@@ -1,8 +1,8 @@
 -- The part of a diary that stays, and what a resolution comes to by it and by the part of the log
 -- that it names.
 use Rattle.std.proofs.Common.{◌≡◌, refl, sym, ◌∙◌, ap, subst, ℕ, suc, zero, ◌≤◌, ◌+◌, List, [], ◌∷◌, Some, None, ℤ, Bool, true, false, arith, length, take, drop}
-use Rattle.std.specs.Prelude.{cond, pos, int_le, slice_get, map, filter, fold, position, not, min, nat_lt, ◌&&◌}
-use Rattle.std.specs.List.{AllByRecursion, list_all, position_or_len}
+use Rattle.std.specs.Prelude.{cond, pos, int_le, slice_get, map, filter, position, not, min, nat_lt, ◌&&◌}
+use Rattle.std.specs.List.{position_or_len}
 use Rattle.std.proofs.Math.Seq.{take-length}
 use Rattle.std.proofs.lemmas.Bool.{and_parts, ltb-true, ltb-false}
 use Rattle.std.proofs.lemmas.Int.{ints}
@@ -16,24 +16,23 @@ use Rattle.smil_model.specs.document.Document.{Document}
 use Rattle.smil_model.specs.document.Valid.{IsNumberedTree}
 use Rattle.smil_model.specs.diary.Clocks.{until}
 use Rattle.smil_model.specs.diary.Diary.{is_step, last_moment}
-use Rattle.smil_model.specs.diary.Logs.{is_log, is_logged_by, may_happen, moments_rise}
+use Rattle.smil_model.specs.diary.Logs.{is_log, is_logged_by, moments_rise}
 use Rattle.smil_model.specs.happening.Resolution.{Course, Progress, outset, Reaches, diary_of}
 use Rattle.smil_model.specs.reach.Bounds.{is_begin_of, through_begin}
-use Rattle.smil_model.proofs.Orders.{le_both}
+use Rattle.smil_model.proofs.Orders.{is_le, le_both}
 use Rattle.smil_laws.specs.Agreement.{course_on}
 use Rattle.smil_laws.specs.Courses.{heard_by}
 use Rattle.smil_laws.specs.Cut.{is_logged, logged}
 use Rattle.smil_laws.proofs.Back.{reaches_back}
 use Rattle.smil_laws.proofs.Cutting.{reaches_at_last}
 use Rattle.smil_laws.proofs.Further.{is_past}
-use Rattle.smil_cells.proofs.Hearing.{from_first}
-use Rattle.smil_shown.proofs.Ended.{comes_to}
+use Rattle.smil_cells.proofs.Grown.{is_late}
+use Rattle.smil_shown.proofs.PresentMoments.{from_zero}
+use Rattle.smil_shown.proofs.SettledDiaries.{comes_to}
+use Rattle.smil_live.proofs.Logs.{log_parts, no_later}
 use Rattle.smil_live.proofs.RebuiltLogs.{has_heard, heard_moments, log_moments}
 
 -- ---- logs
-
-rising : (log : List LogEntry) → is_log log ≡ true → moments_rise (pos 0) log ≡ true
-rising log q = (and_parts (moments_rise (pos 0) log) (list_all (λ (x : LogEntry). may_happen x.what) log) q).0
 
 -- from a place on a log rises from each moment that its entry there is not before
 rise_from : (from m : ℤ) (log : List LogEntry) (k : ℕ) → moments_rise from log ≡ true → ((x : LogEntry) → slice_get log k ≡ Some x → int_le m x.moment ≡ true) → moments_rise m (drop k log) ≡ true
@@ -43,7 +42,8 @@ rise_from from m (x ∷ xs) zero rise first =
     ap (λ (t : Bool). t && moments_rise x.moment xs) (first x refl) ∙ (and_parts (int_le from x.moment) (moments_rise x.moment xs) rise).1
 rise_from from m (x ∷ xs) (suc k) rise first = rise_from x.moment m xs k (and_parts (int_le from x.moment) (moments_rise x.moment xs) rise).1 first
 
-none_passes : (m from : ℤ) (log : List LogEntry) → int_le from m ≡ false → moments_rise from log ≡ true → filter (λ (x : LogEntry). int_le x.moment m) log ≡ []
+-- no entry behind a moment passes
+pub none_passes : (m from : ℤ) (log : List LogEntry) → int_le from m ≡ false → moments_rise from log ≡ true → filter (λ (x : LogEntry). int_le x.moment m) log ≡ []
 none_passes m from [] late rise = refl
 none_passes m from (x ∷ xs) late rise =
     let parts = and_parts (int_le from x.moment) (moments_rise x.moment xs) rise in
@@ -97,7 +97,7 @@ count_log m (x ∷ xs) = by_test (int_le x.moment m) (count_log m xs)
 -- the entries up to a moment of a whole diary name the log entries up to it
 pub log_until : (c : Course) (d : List Entry) (m : ℤ) → is_log c.log ≡ true → is_logged_by (pos c.last) c.log ≡ true → diary_of c ≡ Some d → take (logged (until m d)) c.log ≡ filter (λ (x : LogEntry). int_le x.moment m) c.log
 log_until c d m log by settled =
-    let rise = rising c.log log in
+    let rise = (log_parts c.log log).0 in
     let heard = has_heard c (heard_by c.log d c.last) rise (comes_to c d by settled) in
     let moments : heard_moments d ≡ log_moments c.log = heard.moments ∙ ap log_moments (take-length c.log) in
     ap (λ (n : ℕ). take n c.log) (count_until m d ∙ (ap (λ (l : List ℤ). length (filter (λ z. int_le z m) l)) moments ∙ count_log m c.log))
@@ -107,35 +107,12 @@ log_until c d m log by settled =
 
 -- the last of entries that are not later than a moment is not
 last_within : (n : ℕ) (d : List Entry) → until (pos n) d ≡ d → int_le (last_moment d) (pos n) ≡ true
-last_within n d e = from_start (pos 0) d (from_first n) (each d e)
-  where
-    NoneLater : List Entry → Type 0
-    NoneLater xs = AllByRecursion (λ (x : Entry). int_le x.moment (pos n) ≡ true) xs
-
-    shorter : (xs : List Entry) → length (until (pos n) xs) ≤ length xs
-    shorter [] = omega arith
-    shorter (x ∷ xs) = by_test (int_le x.moment (pos n)) (shorter xs)
-      where
-        by_test : (t : Bool) → length (until (pos n) xs) ≤ length xs → length (cond t (x ∷ until (pos n) xs) (until (pos n) xs)) ≤ suc (length xs)
-        by_test true l = omega (arith, l)
-        by_test false l = omega (arith, l)
-
-    each : (xs : List Entry) → until (pos n) xs ≡ xs → AllByRecursion (λ (x : Entry). int_le x.moment (pos n) ≡ true) xs
-    each [] e = tt
-    each (x ∷ xs) e = by_test (int_le x.moment (pos n)) refl e (each xs)
-      where
-        by_test : (t : Bool) → int_le x.moment (pos n) ≡ t → cond t (x ∷ until (pos n) xs) (until (pos n) xs) ≡ x ∷ xs → (until (pos n) xs ≡ xs → AllByRecursion (λ (y : Entry). int_le y.moment (pos n) ≡ true) xs) → AllByRecursion (λ (y : Entry). int_le y.moment (pos n) ≡ true) (x ∷ xs)
-        by_test true t e rest = let same : until (pos n) xs ≡ xs = cc in (t, rest same)
-        by_test false t e rest = let long = ap (λ (l : List Entry). length l) e in let short = shorter xs in absurd (omega (arith, long, short))
-
-    from_start : (before : ℤ) (xs : List Entry) → int_le before (pos n) ≡ true → AllByRecursion (λ (x : Entry). int_le x.moment (pos n) ≡ true) xs → int_le (fold (λ b (x : Entry). x.moment) before xs) (pos n) ≡ true
-    from_start before [] low all = low
-    from_start before (x ∷ xs) low all = from_start x.moment xs all.0 all.1
+last_within n d e = is_le (last_moment d) (pos n) (is_late (pos n) d (from_zero n) e)
 
 -- the log entries that a course has not heard are not before the last entry of its diary
 pub rise_after : (c : Course) (p : Progress) → is_log c.log ≡ true → Reaches c p → moments_rise (last_moment p.diary) (drop (logged p.diary) c.log) ≡ true
 rise_after c p log reached =
-    let rise = rising c.log log in
+    let rise = (log_parts c.log log).0 in
     let heard = has_heard c p rise reached in
     let past = is_past c p reached in
     subst (λ (n : ℕ). moments_rise (last_moment p.diary) (drop n c.log) ≡ true) (sym heard.count)
@@ -153,9 +130,6 @@ pub record IsPart (nodes : List Node) (log : List LogEntry) (part : List Entry) 
   pub rise : moments_rise (last_moment part) (drop (logged part) log) ≡ true
   pub until : int_le (last_moment part) (pos bound) ≡ true
 
-low_through : (a : ℤ) (m n : ℕ) → int_le a (pos m) ≡ true → m ≤ n → int_le a (pos n) ≡ true
-low_through a m n p l = grind (arith, ints)
-
 -- the diary of any progress is such a part
 pub part_of : (document : Document) (log : List LogEntry) (last bound : ℕ) (p : Progress) (part : List Entry) → IsNumberedTree document → is_log log ≡ true → Reaches (course_on document.nodes log last) p → p.moment ≤ bound → p.diary ≡ part → IsPart document.nodes log part bound
 part_of document log last bound p part numbered is_a_log reached before same =
@@ -167,7 +141,7 @@ part_of document log last bound p part numbered is_a_log reached before same =
       moment_is = cut.2;
       reached = cut.3;
       rise = subst (λ (d : List Entry). moments_rise (last_moment d) (drop (logged d) log) ≡ true) same (rise_after c p is_a_log reached);
-      until = subst (λ (d : List Entry). int_le (last_moment d) (pos bound) ≡ true) same (low_through (last_moment p.diary) p.moment bound (last_within p.moment p.diary (is_past c p reached).entries) before);
+      until = subst (λ (d : List Entry). int_le (last_moment d) (pos bound) ≡ true) same (no_later p.moment bound (last_moment p.diary) before (last_within p.moment p.diary (is_past c p reached).entries));
     }
 
 -- so are the entries up to an earlier moment

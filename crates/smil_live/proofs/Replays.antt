@@ -1,8 +1,6 @@
 -- Presentations made anew, entry by entry of a log.
 use Rattle.std.proofs.Common.{◌≡◌, refl, sym, ◌∙◌, ap, subst, ℕ, suc, ◌≤◌, ◌+◌, List, [], ◌∷◌, ◌++◌, Some, None, true, ℤ, arith, inl, inr, length, take, drop, negsuc, w64, FitsSigned}
 use Rattle.std.specs.Prelude.{◌⊎◌, min, pos, int_le, nat_abs, slice_get, ◌≤ℤ◌}
-use Rattle.std.specs.List.{list_all}
-use Rattle.std.proofs.lemmas.Bool.{and_parts}
 use Rattle.std.proofs.lemmas.Int.{ints}
 use Rattle.std.proofs.lemmas.List.{length-take, take_all}
 use Rattle.smil_model.specs.declared.diary.LogEntry.{LogEntry}
@@ -22,13 +20,13 @@ use Rattle.smil_laws.proofs.Further.{le_same}
 use Rattle.smil_cells.specs.CellsState.{GoesOn, IsSettled, CellsState, with_logged}
 use Rattle.smil_live.specs.Moves.{IsReplayed, IsTooFull, IsUnderWay, heard_at}
 use Rattle.smil_live.proofs.Full.{full_further, full_by_first}
-use Rattle.smil_live.proofs.Logs.{IsAt, at, all_at, none_before}
+use Rattle.smil_live.proofs.Logs.{IsAt, at, all_at, log_parts, none_before}
 
 -- ---- numbers
 
-natural : (m : ℕ) (x : ℤ) → int_le (pos m) x ≡ true → pos (nat_abs x) ≡ x
-natural m (pos k) q = refl
-natural m (negsuc k) q = cc
+pub not_below : (n : ℕ) (z : ℤ) → pos n ≤ℤ z → pos (nat_abs z) ≡ z
+not_below n (pos k) from = refl
+not_below n (negsuc k) from = absurd (omega (arith, ints, from))
 
 no_more : (x : ℤ) (n : ℕ) → pos (nat_abs x) ≡ x → int_le x (pos n) ≡ true → nat_abs x ≤ n
 no_more (pos k) n e q = grind (arith, ints)
@@ -37,10 +35,6 @@ no_more (negsuc k) n e q = cc
 pub fits : (n : ℕ) (z : ℤ) → pos n ≤ℤ z → z ≤ℤ HORIZON → FitsSigned w64 z
 fits n (pos k) from within = record { sfits = omega (arith, ints, from, within) }
 fits n (negsuc k) from within = absurd (omega (arith, ints, from))
-
-pub not_below : (n : ℕ) (z : ℤ) → pos n ≤ℤ z → pos (nat_abs z) ≡ z
-not_below n (pos k) from = refl
-not_below n (negsuc k) from = absurd (omega (arith, ints, from))
 
 -- ---- what a refusal tells
 
@@ -77,17 +71,11 @@ heard_within p place s way =
     omega (arith, same)
 
 module _ (p : Presentation) (state : IsState p) where
-  rising : moments_rise (pos 0) p.log ≡ true
-  rising = (and_parts (moments_rise (pos 0) p.log) (list_all (λ (x : LogEntry). may_happen x.what) p.log) state.log).0
-
-  happening : list_all (λ (x : LogEntry). may_happen x.what) p.log ≡ true
-  happening = (and_parts (moments_rise (pos 0) p.log) (list_all (λ (x : LogEntry). may_happen x.what) p.log) state.log).1
-
   pub under_way : (s : CellsState) → s.presentation ≡ record { document = p.document; log = []; now = 0 } → s.fault ≡ None → s.marked ≡ None → IsUnderWay p 0 s
   under_way s is sound unmarked = record {
     document_is = ap (λ (q : Presentation). q.document) is;
     log_is = ap (λ (q : Presentation). q.log) is;
-    rise = ap (λ (q : Presentation). moments_rise (pos q.now) p.log) is ∙ rising;
+    rise = ap (λ (q : Presentation). moments_rise (pos q.now) p.log) is ∙ (log_parts p.log state.log).0;
     until = let start = ap (λ (q : Presentation). q.now) is in omega (arith, start);
     sound = sound;
     unmarked = unmarked;
@@ -97,12 +85,12 @@ module _ (p : Presentation) (state : IsState p) where
     pub next_of : IsNextOf p place s x
     next_of =
         let here = at (pos s.presentation.now) p.log place x way.rise is in
-        let whole = natural s.presentation.now x.moment here.from in
+        let whole = not_below s.presentation.now x.moment (le_from (pos s.presentation.now) x.moment here.from) in
         let sooner = all_at (λ (y : LogEntry). int_le y.moment (pos p.now)) p.log place x state.logged is in
         record {
           from = le_from (pos s.presentation.now) x.moment here.from;
           within = le_from x.moment HORIZON (le_both x.moment (pos p.now) HORIZON sooner state.now);
-          may = all_at (λ (y : LogEntry). may_happen y.what) p.log place x happening is;
+          may = all_at (λ (y : LogEntry). may_happen y.what) p.log place x (log_parts p.log state.log).1 is;
           numbered = subst (λ (d : Document). IsNumberedTree d) (sym way.document_is) state.document.numbered;
           natural = whole;
           until = no_more x.moment p.now whole sooner;

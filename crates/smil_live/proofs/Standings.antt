@@ -10,7 +10,7 @@ use Rattle.smil_live.specs.Moves.{MayMove, made}
 use Rattle.smil_shown.specs.ViewTable.{ViewLists}
 use Rattle.smil_live.specs.declared.moves.Move.{Move}
 use Rattle.smil_live.specs.declared.moves.Move.TheVariants as move
-use Rattle.smil_shown.proofs.Ended.{nothing_due}
+use Rattle.smil_shown.proofs.SettledDiaries.{nothing_due}
 use Rattle.smil_live.proofs.Quiet.{HasDiary}
 use Rattle.smil_live.proofs.Resolved.{views_are}
 use Rattle.smil_live.proofs.States.{state_logged, state_moved}

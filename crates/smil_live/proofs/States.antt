@@ -1,6 +1,5 @@
--- Presentations that stay states: at a later moment, with an entry at the present moment, with the
--- first entries alone.
-use Rattle.std.proofs.Common.{◌≡◌, refl, ◌∙◌, ap, ℕ, ◌≤◌, List, [], ◌∷◌, ◌++◌, true, ℤ, arith, take}
+-- Presentations that stay states: at a later moment, and with an entry at the present moment.
+use Rattle.std.proofs.Common.{◌≡◌, refl, ◌∙◌, ap, ℕ, ◌≤◌, List, [], ◌∷◌, ◌++◌, true, ℤ, arith}
 use Rattle.std.specs.Prelude.{pos, int_le, ◌≤ℤ◌}
 use Rattle.std.specs.List.{list_all}
 use Rattle.std.proofs.lemmas.Int.{ints}
@@ -10,8 +9,9 @@ use Rattle.smil_model.specs.declared.times.TheConstants.{HORIZON}
 use Rattle.smil_model.specs.diary.Logs.{is_logged_by, may_happen, moments_rise}
 use Rattle.smil_model.specs.shown.Orders.{IsState, Presentation, as_of}
 use Rattle.smil_model.proofs.Orders.{is_le}
-use Rattle.smil_cells.proofs.Heeded.{all_first, all_one}
+use Rattle.smil_cells.proofs.Heeded.{all_one}
 use Rattle.smil_cells.proofs.Hearing.{from_first}
+use Rattle.smil_live.proofs.Logs.{log_parts}
 use Rattle.smil_live.proofs.Quiet.{logged_later}
 
 -- at a later moment
@@ -41,13 +41,8 @@ state_logged p entry state here may = record {
   document = state.document;
   log =
       and_from (moments_rise (pos 0) (p.log ++ entry ∷ [])) (list_all (λ (x : LogEntry). may_happen x.what) (p.log ++ entry ∷ []))
-      (rises_more (pos 0) (pos p.now) p.log entry (and_parts (moments_rise (pos 0) p.log) (list_all (λ (x : LogEntry). may_happen x.what) p.log) state.log).0 state.logged (from_first p.now) here)
-      (all_one (λ (x : LogEntry). may_happen x.what) p.log entry (and_parts (moments_rise (pos 0) p.log) (list_all (λ (x : LogEntry). may_happen x.what) p.log) state.log).1 may);
+      (rises_more (pos 0) (pos p.now) p.log entry (log_parts p.log state.log).0 state.logged (from_first p.now) here)
+      (all_one (λ (x : LogEntry). may_happen x.what) p.log entry (log_parts p.log state.log).1 may);
   logged = all_one (λ (x : LogEntry). int_le x.moment (pos p.now)) p.log entry state.logged (at_or_before entry.moment (pos p.now) here);
   now = state.now;
 }
-
--- ---- the first entries alone
-
-pub first_is_logged_by : (m : ℤ) (len : ℕ) (log : List LogEntry) → is_logged_by m log ≡ true → is_logged_by m (take len log) ≡ true
-first_is_logged_by m len log q = all_first (λ (x : LogEntry). int_le x.moment m) len log q

@@ -1,22 +1,22 @@
 -- What an advance tells: moment by moment, or from one moment at which something comes to the next.
 use Rattle.std.proofs.Common.{◌≡◌, refl, sym, ◌∙◌, ap, ℕ, suc, zero, ◌≤◌, ◌+◌, List, [], ◌∷◌, ◌++◌, Option, Some, Bool, true, false, ℤ, arith, append_assoc, append-nil}
-use Rattle.std.specs.Prelude.{cond, pos, int_le, find, map, not, ◌==◌, ◌≤ℤ◌, ◌+ℤ◌, unwrap_or}
-use Rattle.std.specs.List.{AllByRecursion, list_any}
+use Rattle.std.specs.Prelude.{cond, pos, int_le, find, not, ◌==◌, ◌≤ℤ◌, ◌+ℤ◌, unwrap_or}
+use Rattle.std.specs.List.{AllByRecursion}
 use Rattle.std.proofs.lemmas.Int.{ints}
 use Rattle.std.proofs.lemmas.Bool.{eq-eqb, or_parts, and_from}
 use Rattle.smil_model.specs.declared.diary.Entry.{Entry}
-use Rattle.smil_model.specs.declared.document.Node.{Node}
 use Rattle.smil_model.specs.declared.view.View.{View}
 use Rattle.smil_model.specs.declared.view.Shown.{Shown}
 use Rattle.smil_model.specs.declared.view.Shown.TheVariants as shown
-use Rattle.smil_model.specs.document.Document.{elements, is_element}
-use Rattle.smil_model.specs.document.Valid.{IsDistinct}
-use Rattle.smil_model.specs.diary.Diary.{History}
-use Rattle.smil_model.specs.interval.Current.{current_table, in_table}
+use Rattle.smil_model.specs.document.Document.{elements}
 use Rattle.smil_model.specs.shown.Orders.{Presentation, as_of, views_of, view_eq, state_code, shown_eq, view_before, changed, at_moment, changes_through, changes_between, resolved_history}
-use Rattle.smil_model.specs.shown.Views.{views, view_of, blank}
+use Rattle.smil_model.specs.shown.Views.{blank}
 use Rattle.smil_model.proofs.Orders.{le_self}
+use Rattle.smil_laws.specs.Same.{view_at}
 use Rattle.smil_laws.proofs.Lineages.{swap_eqb}
+use Rattle.smil_instances.proofs.Siblings.{distinct_elements}
+use Rattle.smil_shown.specs.ViewTable.{AreOne, has_view}
+use Rattle.smil_shown.proofs.AllViews.{one_each}
 use Rattle.smil_live.proofs.Quiet.{HasDiary, IsQuiet, views_stay}
 
 -- ---- one advance after another
@@ -70,59 +70,30 @@ none_differ all (v ∷ vs) first =
     same : not (view_eq v (view_before all v)) ≡ false
     same = ap (λ (o : Option View). not (view_eq v (unwrap_or o (blank v.serial)))) first.0 ∙ ap not (same_view v)
 
--- no element has two
-abbrev pub AreOfEach : List View → Type 0
-AreOfEach [] = Unit {0}
-AreOfEach (v ∷ vs) = AllByRecursion (λ (w : View). v.serial == w.serial ≡ false) vs × AreOfEach vs
-
-found_behind : (x : View) (all vs : List View) → AllByRecursion (λ (w : View). x.serial == w.serial ≡ false) vs → AreFirst all vs → AreFirst (x ∷ all) vs
+found_behind : (x : View) (all vs : List View) → has_view vs x.serial ≡ false → AreFirst all vs → AreFirst (x ∷ all) vs
 found_behind x all [] other first = tt
-found_behind x all (v ∷ vs) other first = (
-  ap (λ (b : Bool). cond b (Some x) (find (λ (w : View). w.serial == v.serial) all)) other.0 ∙ first.0,
-  found_behind x all vs other.1 first.1,
-)
+found_behind x all (v ∷ vs) other first =
+    let apart = or_parts (v.serial == x.serial) (has_view vs x.serial) other in (
+      ap (λ (b : Bool). cond b (Some x) (find (λ (w : View). w.serial == v.serial) all)) (swap_eqb v.serial x.serial apart.0) ∙ first.0,
+      found_behind x all vs apart.1 first.1,
+    )
 
-are_first : (vs : List View) → AreOfEach vs → AreFirst vs vs
-are_first [] each = tt
-are_first (v ∷ vs) each = (
+are_first : (vs : List View) → AreOne vs → AreFirst vs vs
+are_first [] one = tt
+are_first (v ∷ vs) one = (
   ap (λ (b : Bool). cond b (Some v) (find (λ (w : View). w.serial == v.serial) vs)) (eq-eqb v.serial v.serial refl),
-  found_behind v vs vs each.0 (are_first vs each.1),
+  found_behind v vs vs one.0 (are_first vs one.1),
 )
 
 -- views of different elements don't differ from themselves
-pub none_changed : (vs : List View) → AreOfEach vs → changed vs vs ≡ []
-none_changed vs each = none_differ vs vs (are_first vs each)
-
--- ---- the views of a document
-
-module _ (h : History) (now : ℤ) where
-  abbrev of_node : Node → View
-  of_node = view_of h now (in_table (current_table h now))
-
-  no_other : (s : ℕ) (ns : List Node) → list_any (λ (m : Node). m.serial == s) ns ≡ false → AllByRecursion (λ (w : View). s == w.serial ≡ false) (map of_node (elements ns))
-  no_other s [] q = tt
-  no_other s (n ∷ ns) q = by_element (is_element n) (no_other s ns (or_parts (n.serial == s) (list_any (λ (m : Node). m.serial == s) ns) q).1)
-    where
-      by_element : (t : Bool) → AllByRecursion (λ (w : View). s == w.serial ≡ false) (map of_node (elements ns)) → AllByRecursion (λ (w : View). s == w.serial ≡ false) (map of_node (cond t (n ∷ elements ns) (elements ns)))
-      by_element true rest = (swap_eqb n.serial s (or_parts (n.serial == s) (list_any (λ (m : Node). m.serial == s) ns) q).0, rest)
-      by_element false rest = rest
-
-  of_each : (ns : List Node) → IsDistinct ns → AreOfEach (map of_node (elements ns))
-  of_each [] d = tt
-  of_each (n ∷ ns) d = by_element (is_element n) (no_other n.serial ns d.0) (of_each ns d.1)
-    where
-      by_element : (t : Bool) → AllByRecursion (λ (w : View). n.serial == w.serial ≡ false) (map of_node (elements ns)) → AreOfEach (map of_node (elements ns)) → AreOfEach (map of_node (cond t (n ∷ elements ns) (elements ns)))
-      by_element true other rest = (other, rest)
-      by_element false other rest = rest
-
-  pub views_of_each : IsDistinct h.nodes → AreOfEach (views h now)
-  views_of_each d = of_each h.nodes d
+none_changed : (vs : List View) → AreOne vs → changed vs vs ≡ []
+none_changed vs one = none_differ vs vs (are_first vs one)
 
 -- ---- what an advance tells over quiet moments
 
 module _ (p : Presentation) (d : List Entry) (has : HasDiary p d) where
   pub same_unchanged : changed (views_of p) (views_of p) ≡ []
-  same_unchanged = none_changed (views_of p) (views_of_each (resolved_history p) (pos p.now) has.numbered.distinct)
+  same_unchanged = none_changed (views_of p) (one_each (view_at (resolved_history p) (pos p.now)) (λ n. refl) (elements p.document.nodes) (distinct_elements p.document.nodes has.numbered.distinct))
 
   sooner : (n k : ℕ) → suc k ≤ n → IsQuiet p d (pos (p.now + n)) → IsQuiet p d (pos (p.now + k) +ℤ pos 1)
   sooner n k l quiet c e = numbers p.now n k c.key.value l (quiet c e)

@@ -22,7 +22,7 @@ use Rattle.smil_shown.specs.ShownViews.{views_at}
 use Rattle.smil_shown.specs.ViewTable.{ViewLists, differs, has_view, view_in, view_now, with_view}
 use Rattle.smil_shown.specs.Told.{lines_between, lines_of}
 use Rattle.smil_shown.proofs.LinesTold.{difference_on, next_view}
-use Rattle.smil_live.proofs.Touching.{AreLeft, IsTurn, OwnsIn, Stays, all_left, all_put, own_all, put_all, put_next, told_same, touched_of, touched_serials, turn_of}
+use Rattle.smil_live.proofs.PutViews.{AreLeft, IsTurn, OwnsIn, Stays, all_left, all_put, own_all, put_all, put_next, told_same, touched_of, touched_serials, turn_of}
 
 -- ---- the line of one view
 
@@ -123,8 +123,10 @@ module _ (new : CellsState) (first : List View) (from : IsFrom new first) where
       (all_left (has new.touched) (view_now from.old) (view_now new) (λ e. refl) (λ e. refl) es from.distinct (own_all es from.distinct))
 
   -- the element whose turn it is
-  pub turn : (i : ℕ) (d : View) → i < length new.touched
-      → IsTurn (has new.touched) (view_now from.old) (view_now new) (λ e. refl) (λ e. refl) es (get_or new.touched i 0) i d
+  abbrev pub IsTurnAt : ℕ → View → Type 0
+  IsTurnAt i d = IsTurn (has new.touched) (view_now from.old) (view_now new) (λ e. refl) (λ e. refl) es (get_or new.touched i 0) i d
+
+  pub turn : (i : ℕ) (d : View) → i < length new.touched → IsTurnAt i d
   turn i d l =
       turn_of (has new.touched) (view_now from.old) (view_now new) (λ e. refl) (λ e. refl) es new.touched i d
       (own_all es from.distinct) from.touched l

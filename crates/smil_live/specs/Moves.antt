@@ -26,7 +26,8 @@ abbrev pub MayMove : Presentation → Move → Type 0
 MayMove p (move.Pass to) = (pos p.now ≤ℤ to) × (to ≤ℤ HORIZON)
 MayMove p (move.Settle to) = (pos p.now ≤ℤ to) × (to ≤ℤ HORIZON)
 MayMove p (move.Hear entry) =
-    (entry.moment ≡ pos p.now) × (may_happen entry.what ≡ true) × (length (p.log ++ entry ∷ []) ≤ LOG_ENTRIES)
+    (entry.moment ≡ pos p.now) × (may_happen entry.what ≡ true)
+    × (length (p.log ++ entry ∷ []) ≤ LOG_ENTRIES)
 
 -- the presentation behind a move
 abbrev pub made : Presentation → Move → Presentation

@@ -43,10 +43,13 @@ site_of document given = site.Old (edited_serial document given)
 -- how many entries stay by an edit at a site
 abbrev pub staying : Presentation → Document → Site → ℕ
 staying before after at =
-    agreed_under (keeps_references (site_serial before.document at) before.document.nodes after.nodes)
-    (time_parent (site_nodes before.document after at) (site_serial before.document at)) (diary_at before)
+    agreed_under
+    (keeps_references (site_serial before.document at) before.document.nodes after.nodes)
+    (time_parent (site_nodes before.document after at) (site_serial before.document at))
+    (diary_at before)
 
 -- each element of the edited document once, and the reaches of the entries that do not stay
 abbrev pub most_resolving : Presentation → Site → Document → ℕ
 most_resolving before at after =
-    length (elements after.nodes) + reached_behind (staying before after at) (edited_to before after)
+    length (elements after.nodes)
+    + reached_behind (staying before after at) (edited_to before after)

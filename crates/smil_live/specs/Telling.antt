@@ -14,7 +14,8 @@ use Rattle.smil_model.specs.shown.Orders.{Presentation, and_then, found, node_of
 -- the element that an order names
 abbrev pub element_named : Presentation → Who → Result Node Refusal
 element_named p who =
-    and_then (found (node_of p.document.nodes who)) (λ (n : Node). unless (not (is_element n)) refusal.BadPlace n)
+    and_then (found (node_of p.document.nodes who))
+    (λ (n : Node). unless (not (is_element n)) refusal.BadPlace n)
 
 abbrev pub is_edit : Order → Bool
 is_edit (order.Set who name value name_column column) = true

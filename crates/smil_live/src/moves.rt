@@ -155,8 +155,8 @@ impl<T: Table> PresentationOver<T> {
     }
 
     /// The length of a node's media, in milliseconds, becomes known at the present moment.
-    /// `NoElement` where there is no such node, `NotContinuous` where its media have no length, then
-    /// `LogFull` and `DiaryFull`, or `Memory`.
+    /// `NoElement` where there is no such node, `NotContinuous` where its media have no length,
+    /// then `LogFull` and `DiaryFull`, or `Memory`.
     pub fn media<L: Ledger>(
         &mut self,
         who: &Who,

@@ -59,7 +59,8 @@ pub fn replayed<T: Table, L: Ledger>(
 
 /// The cells of a moment from 0 to the present one, in milliseconds of document time, rebuilt from
 /// the entries of the diary up to it. The present cells are settled, answered no refusal and have
-/// no mark. `DiaryFull` where the diary would have too many entries, `Memory` where memory runs out.
+/// no mark. `DiaryFull` where the diary would have too many entries, `Memory` where memory runs
+/// out.
 pub fn cells_at<T: Table, L: Ledger>(
     cells: &Cells<T>,
     to: i64,

@@ -9,7 +9,8 @@ pub record IsOrder {A : Type 0} (le : A → A → Bool) : Type 0 where
 
 -- each value is at most those after it
 abbrev pub IsRising : {A : Type 0} → (A → A → Bool) → List A → Type 0
-IsRising {A} le xs = (i j : ℕ) (d : A) → i ≤ j → j < length xs → le (get_or xs i d) (get_or xs j d) ≡ true
+IsRising {A} le xs =
+    (i j : ℕ) (d : A) → i ≤ j → j < length xs → le (get_or xs i d) (get_or xs j d) ≡ true
 
 -- a value put in its place
 abbrev pub put_in : {A : Type 0} → (A → A → Bool) → A → List A → List A
@@ -19,7 +20,8 @@ put_in le x (y ∷ ys) = let rest = put_in le x ys in if le x y then x ∷ y ∷
 -- without the first that is this value
 abbrev pub taken_out : {A : Type 0} → (A → A → Bool) → A → List A → List A
 taken_out le x [] = []
-taken_out le x (y ∷ ys) = let rest = taken_out le x ys in if le x y then (if le y x then ys else y ∷ rest) else y ∷ rest
+taken_out le x (y ∷ ys) =
+    let rest = taken_out le x ys in if le x y then (if le y x then ys else y ∷ rest) else y ∷ rest
 
 -- these values put in their places
 abbrev pub poured : {A : Type 0} → (A → A → Bool) → List A → List A → List A

@@ -22,7 +22,8 @@ pub record IsCarried (time : ℤ) : Type 0 where
 -- a sum or a product as a time: indefinite above the horizon, and never below minus the horizon
 abbrev pub within_horizon : ℤ → Time
 within_horizon x =
-    if int_lt HORIZON x then Indefinite else (if int_lt x (neg_ℤ HORIZON) then At (neg_ℤ HORIZON) else At x)
+    if int_lt HORIZON x then Indefinite
+    else (if int_lt x (neg_ℤ HORIZON) then At (neg_ℤ HORIZON) else At x)
 
 -- a time so many milliseconds later; an offset leaves indefinite and unresolved as they are
 abbrev pub later_time : Time → ℤ → Time
@@ -76,7 +77,8 @@ least_of ts = fold least_time Unresolved ts
 -- a number in its place in a rising list
 abbrev pub insert_in_order : ℤ → List ℤ → List ℤ
 insert_in_order x [] = x ∷ []
-insert_in_order x (y ∷ ys) = let rest = insert_in_order x ys in if int_le x y then x ∷ y ∷ ys else y ∷ rest
+insert_in_order x (y ∷ ys) =
+    let rest = insert_in_order x ys in if int_le x y then x ∷ y ∷ ys else y ∷ rest
 
 -- the numbers in rising order, repetitions kept
 abbrev pub rising : List ℤ → List ℤ

@@ -1,5 +1,5 @@
--- A tournament over a list of places: each place has what comes of the two below it. `none` is the item of an empty
--- place, and `both` what comes of two.
+-- A tournament over a list of places: each place has what comes of the two below it.
+-- `none` is the item of an empty place, and `both` what comes of two.
 use Rattle.std.specs.Prelude.{◌≡◌, ◌≢◌, ℕ, zero, suc, ◌+◌, ◌/◌, ◌^◌, ◌<◌, ◌≤◌, List, [], ◌∷◌, ◌++◌, length, slice_index_or}
 
 -- the item at a place; a place past the last one is empty
@@ -20,9 +20,10 @@ place_up (suc steps) place = place_up steps (place / 2)
 abbrev pub IsOff : ℕ → ℕ → Type 0
 IsOff i place = (steps : ℕ) → i ≢ place_up steps place
 
--- the places from 1 to below `half`, a power of 2, have what comes of the two below each, and behind them stand the
--- items, at most `half` of them
-pub record IsTournament {A : Type 0} (none : A) (both : A → A → A) (places : List A) (half : ℕ) : Type 0 where
+-- the places from 1 to below `half`, a power of 2, have what comes of the two below each,
+-- and behind them stand the items, at most `half` of them
+pub record IsTournament
+    {A : Type 0} (none : A) (both : A → A → A) (places : List A) (half : ℕ) : Type 0 where
   pub height : ℕ
   pub half_is : half ≡ 2 ^ height
   pub few : half ≤ 2 ^ 32

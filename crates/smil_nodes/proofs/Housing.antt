@@ -146,8 +146,8 @@ among_children document numbered who parent e whos known under are =
     ∙ kept_has (is_time_child nodes parent) nodes at.place e at.at child
 
 -- its ending stands there
-pub is_home : (document : Document) → IsNumberedTree document → (rows : List CurrentRow) (who parent container child : ℕ) (e : Node) (whos : List ℕ) → node_at (elements document.nodes) who ≡ Some e → (above : IsFound document.nodes rows parent) → container ≡ above.place → whos ≡ serials (time_children document.nodes parent) → slice_get whos child ≡ Some who → IsHome document.nodes who (record { container = container; child = child })
-is_home document numbered rows who parent container child e whos known above place are at =
+pub is_home : (document : Document) → IsNumberedTree document → (rows : List CurrentRow) (who parent container child : ℕ) (e : Node) (whos : List ℕ) → node_at (elements document.nodes) who ≡ Some e → IsFound document.nodes rows parent container → whos ≡ serials (time_children document.nodes parent) → slice_get whos child ≡ Some who → IsHome document.nodes who (record { container = container; child = child })
+is_home document numbered rows who parent container child e whos known above are at =
     let nodes = document.nodes in
     let there : IsChild nodes parent child who = subst (IsChild nodes parent child) (get_or_from_slice_get whos child who 0 at) (child_at document numbered parent child whos are (slice_get_within whos child who at)) in
     let both : Some there.node ≡ Some e = sym there.known ∙ known in
@@ -156,7 +156,7 @@ is_home document numbered rows who parent container child e whos known above pla
       container = above.element;
       element = e;
       known = known;
-      above = ap (slice_get (elements nodes)) place ∙ above.here;
+      above = above.here;
       child = ap (λ s. slice_get (time_children nodes s) child) above.is_who ∙ there.at ∙ ap Some one;
     }
 

@@ -1,17 +1,16 @@
 -- The ranks of elements are listed one after another.
-use Rattle.std.proofs.Common.{◌≡◌, refl, sym, ◌∙◌, ap, subst, ℕ, suc, ◌+◌, ◌-◌, ◌<◌, ◌≤◌, List, [], ◌∷◌, length, take, drop, get_or, Option, Some, None, Bool, true, false, arith, inl, inr}
-use Rattle.std.specs.Prelude.{◌⊎◌, ◌==◌, ◌||◌, ◌&&◌, cond, filter, is_some, option_map, slice_get, slice_range}
+use Rattle.std.proofs.Common.{◌≡◌, refl, sym, ◌∙◌, ap, subst, ℕ, suc, ◌+◌, ◌<◌, ◌≤◌, List, [], ◌∷◌, length, take, get_or, Option, Some, None, Bool, true, false, arith, inl, inr}
+use Rattle.std.specs.Prelude.{◌⊎◌, ◌==◌, ◌||◌, ◌&&◌, cond, filter, is_some, option_map, slice_get}
 use Rattle.std.specs.List.{list_any, position}
 use Rattle.std.proofs.lemmas.Bool.{and_from, and_parts, or_cases, or_left, or_right, eqb-true, eq-eqb}
-use Rattle.std.proofs.lemmas.List.{get_or-drop, length-drop, take_all}
+use Rattle.std.proofs.lemmas.List.{take_all}
 use Rattle.std.proofs.lemmas.List.Folds.{list_any_more}
 use Rattle.std.proofs.lemmas.List.Quantifiers.{position-Some}
 use Rattle.std.proofs.lemmas.List.Sorted.{list_any-IsPermutation}
-use Rattle.std.proofs.lemmas.Option.{get_or_from_slice_get, slice_get_within}
 use Rattle.smil_model.specs.declared.diary.Entry.{Entry}
 use Rattle.smil_model.specs.declared.diary.LogEntry.{LogEntry}
 use Rattle.smil_model.specs.declared.document.Node.{Node}
-use Rattle.smil_model.specs.document.Document.{elements, is_element, is_within, node_at, serial_of, serials}
+use Rattle.smil_model.specs.document.Document.{elements, is_element, is_within, node_at, serials}
 use Rattle.smil_model.specs.document.Closure.{has}
 use Rattle.smil_model.specs.document.Valid.{IsDistinct}
 use Rattle.smil_model.specs.reach.Reach.{key_of, reads, subject_of}
@@ -20,9 +19,7 @@ use Rattle.smil_graph.specs.Graph.{IsGraphOrder, readers_of}
 use Rattle.smil_graph.proofs.Answered.{element_at, only_element}
 use Rattle.smil_graph.proofs.Fed.{any_filter, any_there, there_any_item}
 use Rattle.smil_stretch.proofs.Above.{known_element}
-use Rattle.smil_stretch.proofs.Idle.{node_found}
 use Rattle.smil_past.proofs.Listing.{known_node}
-use Rattle.smil_element.proofs.Cutting.{part_none}
 use Rattle.smil_nodes.specs.Noted.{AreNoted, is_noted_at, is_noted_by, is_noted_through, is_self_or_reader}
 use Rattle.smil_model.proofs.FirstPlaces.{position_cons}
 use Rattle.smil_graph.proofs.Rows.{assoc, right}
@@ -191,17 +188,7 @@ module _ (nodes : List Node) (order : List ℕ) (is : IsGraphOrder nodes order) 
   pub nothing_within : (x : ℕ) (old : List ℕ) → is_some (position (λ t. t == x) order) ≡ false → AreNoted order (is_touched_from nodes (Some x)) old old
   nothing_within x old at = none_noted order (is_touched_from nodes (Some x)) old (λ s r at_s. ap (λ b. b && is_touched nodes x s) (is_known x false at))
 
--- ---- the nodes of a part of a document, one after another
-
--- a test of what a part has, with one more at its end
-pub any_part_more : {A : Type 0} (p : A → Bool) (xs : List A) (first at : ℕ) (x : A) → first ≤ at → slice_get xs at ≡ Some x → list_any p (slice_range xs first (at + 1)) ≡ (list_any p (slice_range xs first at) || p x)
-any_part_more {A} p xs first at x le there =
-    let long : (at + 1) - first ≡ (at - first) + 1 = omega (arith, le) in
-    let place : first + (at - first) ≡ at = omega (arith, le) in
-    let inside : at - first < length (drop first xs) = omega (arith, le, slice_get_within xs at x there, length-drop first xs) in
-    ap (λ k. list_any p (take k (drop first xs))) long
-    ∙ list_any_more p (drop first xs) (at - first) x inside
-    ∙ ap (λ y. list_any p (take (at - first) (drop first xs)) || p y) (get_or-drop first xs (at - first) x ∙ ap (λ k. get_or xs k x) place ∙ get_or_from_slice_get xs at x x there)
+-- ---- the nodes within a node
 
 -- a node with this serial passes
 any_known : (f : Node → Bool) (ns : List Node) (s : ℕ) → is_some (node_at ns s) ≡ true → ((n : Node) → n.serial ≡ s → f n ≡ true) → list_any f ns ≡ true
@@ -264,35 +251,19 @@ module _ (nodes : List Node) (distinct : IsDistinct nodes) (x s : ℕ) where
       any_filter (λ (n : Node). is_within nodes x n.serial) (λ (n : Node). is_self_or_reader nodes n.serial s) nodes
       ∙ both_ways (list_any of_node nodes) (is_touched nodes x s) to_touched (from_touched known_s)
 
-module _ (nodes : List Node) (order : List ℕ) where
-  abbrev pub part_test : ℕ → ℕ → ℕ → Bool
-  part_test first at s = list_any (λ (n : Node). is_self_or_reader nodes n.serial s) (slice_range nodes first at)
+-- whether an element is one of these nodes or reads one
+abbrev pub reached_by : List Node → List Node → ℕ → Bool
+reached_by nodes ns s = list_any (λ (n : Node). is_self_or_reader nodes n.serial s) ns
 
-  pub no_part : (first : ℕ) (old : List ℕ) → AreNoted order (part_test first first) old old
-  no_part first old = none_noted order (part_test first first) old (λ s r at. ap (list_any (λ (n : Node). is_self_or_reader nodes n.serial s)) (part_none nodes first first (omega arith)))
-
-  -- one node more
-  pub more_part : (tree : List Node) (first at serial : ℕ) (old now new : List ℕ) → nodes ≡ tree → first ≤ at → serial_of (slice_get tree at) ≡ Some serial → AreNoted order (part_test first at) old now → AreNoted order (is_self_or_reader nodes serial) now new → AreNoted order (part_test first (at + 1)) old new
-  more_part tree first at serial old now new same le here so_far one =
-      let found = node_found nodes serial at (sym here ∙ ap (λ ns. serial_of (slice_get ns at)) (sym same)) in
-      noted_by order (λ s. part_test first at s || is_self_or_reader nodes serial s) (part_test first (at + 1)) old new
-      (λ s r at_s.
-      ap (λ k. part_test first at s || is_self_or_reader nodes k s) (sym found.serial)
-      ∙ sym (any_part_more (λ (n : Node). is_self_or_reader nodes n.serial s) nodes first at found.node le found.at))
-      (noted_then order (part_test first at) (is_self_or_reader nodes serial) old now new so_far one)
-
-  pub whole_part : IsGraphOrder nodes order → (tree : List Node) → nodes ≡ tree → IsDistinct tree → (x first past at : ℕ) (old new : List ℕ) → is_some (position (λ t. t == x) order) ≡ true → slice_range tree first past ≡ filter (λ (n : Node). is_within tree x n.serial) tree → at ≡ past → AreNoted order (part_test first at) old new → AreNoted order (is_touched_from nodes (Some x)) old new
-  whole_part is tree same distinct x first past at old new at_x within end noted =
-      noted_by order (part_test first at) (is_touched_from nodes (Some x)) old new
-      (λ s r at_s.
-      ap (λ k. part_test first k s) end
-      ∙ ap (list_any (λ (n : Node). is_self_or_reader nodes n.serial s)) part
-      ∙ part_is nodes (subst IsDistinct (sym same) distinct) x s (known nodes order is s r at_s)
-      ∙ sym (ap (λ b. b && is_touched nodes x s) (is_known nodes order is x true at_x)))
-      noted
-    where
-      part : slice_range nodes first past ≡ filter (λ (n : Node). is_within nodes x n.serial) nodes
-      part = subst (λ (ns : List Node). slice_range ns first past ≡ filter (λ (n : Node). is_within ns x n.serial) ns) (sym same) within
+-- what the nodes within a node reach is what it touches
+pub all_within : (nodes : List Node) (order : List ℕ) → IsGraphOrder nodes order → (tree : List Node) → nodes ≡ tree → IsDistinct tree → (x : ℕ) (old new : List ℕ) → is_some (position (λ t. t == x) order) ≡ true → AreNoted order (reached_by nodes (filter (λ (n : Node). is_within tree x n.serial) tree)) old new → AreNoted order (is_touched_from nodes (Some x)) old new
+all_within nodes order is tree same distinct x old new at_x =
+    subst (λ (ns : List Node). IsDistinct ns → AreNoted order (reached_by nodes (filter (λ (n : Node). is_within ns x n.serial) ns)) old new → AreNoted order (is_touched_from nodes (Some x)) old new) same
+    (λ once noted.
+    noted_by order (reached_by nodes (filter (λ (n : Node). is_within nodes x n.serial) nodes)) (is_touched_from nodes (Some x)) old new
+    (λ s r at_s. part_is nodes once x s (known nodes order is s r at_s) ∙ sym (ap (λ b. b && is_touched nodes x s) (is_known nodes order is x true at_x)))
+    noted)
+    distinct
 
 -- ---- entries one after another
 

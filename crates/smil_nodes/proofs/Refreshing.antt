@@ -2,7 +2,6 @@
 use Rattle.std.proofs.Common.{◌≡◌, ◌∙◌, ap, sym, subst, ℕ, ◌<◌, List, [], length, drop, Some, true, inl, inr}
 use Rattle.std.specs.Prelude.{◌||◌, ◌&&◌, ◌==◌, ◌⊎◌, not, nat_eq}
 use Rattle.std.specs.List.{IsDistinct, position}
-use Rattle.std.proofs.lemmas.Bool.{or_cases}
 use Rattle.smil_model.specs.declared.document.Node.{Node}
 use Rattle.smil_model.specs.document.Closure.{has}
 use Rattle.smil_model.specs.document.Valid as valid
@@ -47,9 +46,6 @@ module _ (graph : OrderedNodes) (nodes : List Node) (order taken mid new : List 
       ∙ ap (λ l. has l r || is_later_reader graph.nodes graph.order rank who r) stays
       ∙ ap (λ ns. has taken r || is_later_reader ns graph.order rank who r) same
       ∙ ap (λ o. has taken r || is_later_reader nodes o rank who r) (sym kept)
-
-  pub from_later : ((r : ℕ) → has new r ≡ (has taken r || is_later_reader nodes order rank who r)) → (r : ℕ) → has new r ≡ true → (has taken r ≡ true) ⊎ (is_later_reader nodes order rank who r ≡ true)
-  from_later told r on = or_cases _ _ (sym (told r) ∙ on)
 
 pub from_taken : (nodes : List Node) (order taken mid : List ℕ) (rank who : ℕ) → mid ≡ taken → (r : ℕ) → has mid r ≡ true → (has taken r ≡ true) ⊎ (is_later_reader nodes order rank who r ≡ true)
 from_taken nodes order taken mid rank who stays r on = inl (sym (ap (λ l. has l r) stays) ∙ on)

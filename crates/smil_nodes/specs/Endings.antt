@@ -16,7 +16,8 @@ use Rattle.smil_cells.specs.Plain.{interval_in}
 use Rattle.smil_cells.specs.Round.{AreOfElements}
 use Rattle.smil_nodes.specs.declared.endings.Home.{Home}
 
--- of the elements in document order where the ending of each stands, and the ends of its time children
+-- of the elements in document order where the ending of each stands,
+-- and the ends of its time children
 pub record KeptEnds : Type 0 where
   pub homes : List (Option Home)
   pub ends : List (List ChildEnd)
@@ -119,7 +120,8 @@ anyone serial = Unit {0}
 
 -- those by another history of the same document and diary
 pub stay_known : (h k : History) (given : ℕ → Option Interval) (test : ℕ → Type 0) (kept : KeptEnds)
-    → k.nodes ≡ h.nodes → k.diary ≡ h.diary → AreKnown h given test kept → AreKnown k given test kept
+    → k.nodes ≡ h.nodes → k.diary ≡ h.diary → AreKnown h given test kept
+    → AreKnown k given test kept
 stay_known h k given test kept nodes diary are =
     subst
     (λ (x : List Node × List Entry).
@@ -128,7 +130,8 @@ stay_known h k given test kept nodes diary are =
     (record { homes = are.homes; names = are.names; right = are.right })
 
 -- the ends of the time children of one element are right
-pub record KnowsEnds (rows : List CurrentRow) (kept : KeptEnds) (h : History) (who : ℕ) : Type 0 where
+pub record KnowsEnds
+    (rows : List CurrentRow) (kept : KeptEnds) (h : History) (who : ℕ) : Type 0 where
   pub of_elements : AreOfElements h.nodes rows
   pub as_many : length kept.ends ≡ length (elements h.nodes)
   pub ends_are :

@@ -11,7 +11,8 @@ use Rattle.smil_nodes.specs.Schedule.{AreCurrent, stay_current}
 use Rattle.smil_nodes.specs.Undo.{ends_back, rows_back}
 
 -- the rows are current, and all ends are right by their intervals
-pub record IsUpToDate (rows : List CurrentRow) (kept : KeptEnds) (h : History) (now : ℤ) : Type 0 where
+pub record IsUpToDate
+    (rows : List CurrentRow) (kept : KeptEnds) (h : History) (now : ℤ) : Type 0 where
   pub rows_are : AreCurrent rows h now
   pub ends_are : AreKnown h (interval_in rows) anyone kept
 

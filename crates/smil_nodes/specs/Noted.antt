@@ -28,7 +28,8 @@ is_noted_at nodes log s y = is_noted_through nodes (key_of log y.step) (subject_
 abbrev pub is_noted_by : List Node → List LogEntry → List Entry → ℕ → Bool
 is_noted_by nodes log entries s = list_any (is_noted_at nodes log s) entries
 
--- of the elements in an order the ranks of those that pass a test are listed besides what was, and no other numbers
+-- of the elements in an order the ranks of those that pass a test are listed besides what was,
+-- and no other numbers
 pub record AreNoted (order : List ℕ) (test : ℕ → Bool) (old new : List ℕ) : Type 0 where
   pub listed : (s r : ℕ) → position (λ t. t == s) order ≡ Some r → has new r ≡ (has old r || test s)
   pub ranks : (r : ℕ) → has new r ≡ true → (has old r ≡ true) ⊎ (r < length order)
@@ -36,7 +37,8 @@ pub record AreNoted (order : List ℕ) (test : ℕ → Bool) (old new : List ℕ
 -- what a step has listed
 abbrev pub NotesStep : OrderedNodes → List LogEntry → Step → List ℕ → List ℕ → Type 0
 NotesStep graph log step old new =
-    AreNoted graph.order (is_noted_through graph.nodes (key_of log step) (subject_of log step)) old new
+    AreNoted graph.order
+    (is_noted_through graph.nodes (key_of log step) (subject_of log step)) old new
 
 -- what the entries from a place on have listed
 abbrev pub NotesEntries : OrderedNodes → MarkedHistory → ℕ → List ℕ → List ℕ → Type 0

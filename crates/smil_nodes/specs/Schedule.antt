@@ -33,7 +33,8 @@ pub record IsScheduled (rows : List CurrentRow) (slots : List (Option Key)) : Ty
 -- the rows are those of all elements by their current intervals, with what comes of them
 pub record AreCurrent (rows : List CurrentRow) (h : History) (now : ℤ) : Type 0 where
   pub rows_are : map (λ (r : CurrentRow). (r.serial, r.interval)) rows ≡ current_table h now
-  pub comings_are : HaveDueChanges h now 0 (elements h.nodes) (map (λ (r : CurrentRow). r.comings) rows)
+  pub comings_are :
+      HaveDueChanges h now 0 (elements h.nodes) (map (λ (r : CurrentRow). r.comings) rows)
 
 -- this comes first by the rows, where they are current
 abbrev pub ComesFirst : List CurrentRow → Option DueChange → Type 0
@@ -46,5 +47,6 @@ pub stay_current : (rows : List CurrentRow) (h k : History) (m n : ℤ)
     → IsSame h m k n → AreCurrent rows h m → AreCurrent rows k n
 stay_current rows h k m n same are = record {
   rows_are = are.rows_are ∙ sym same.table;
-  comings_are = comings_stay h k m n same (map (λ (r : CurrentRow). r.comings) rows) are.comings_are;
+  comings_are =
+      comings_stay h k m n same (map (λ (r : CurrentRow). r.comings) rows) are.comings_are;
 }

@@ -66,7 +66,8 @@ pub record IsUnlisted (order : List ℕ) (listed : ℕ → Bool) (serial : ℕ) 
 -- each evaluation is a step, and no element is evaluated twice; those that were, and those that
 -- are listed, are in the reaches of entries; the listed ranks are above those of the former
 pub record IsCounted (nodes : List Node) (log : List LogEntry) (entries : List Entry)
-    (order : List ℕ) (listed : ℕ → Bool) (before rows : List CurrentRow) (start steps : ℕ) : Type 0 where
+    (order : List ℕ) (listed : ℕ → Bool) (before rows : List CurrentRow) (start steps : ℕ)
+    : Type 0 where
   pub next : ℕ
   pub taken : List ℕ
   pub steps_are : steps ≡ start + length taken

@@ -172,7 +172,7 @@ fn home_of(tree: &Tree, schedule: &Schedule, who: u32, nexts: &mut Vec<usize>) -
 {
     tree.valid();
     let parent = tree.time_parent(who)?;
-    let container = schedule.place(parent).unwrap();
+    let container = schedule.index_of(parent).unwrap();
     let child = place_among(tree.time_children(parent), who, nexts[container]);
     nexts[container] = child + 1;
     Some(Home { container, child })

@@ -23,7 +23,7 @@ use super::schedule::Schedule;
 use super::sources::Sources;
 use super::touched::{Network, note_touched};
 use super::undo::{Note, Undo};
-use smil_cells::plain::current_rows::{CurrentRow, row_of};
+use smil_cells::plain::current_rows::{CurrentRow, IndexedElement, row_of};
 use smil_cells::{Cells, Since, Table};
 use smil_element::{DueChange, Ending, Intervals, Present, Room, ending_of};
 use smil_model::{Duplicate, Interval, Serials, Steps};
@@ -225,12 +225,16 @@ impl LiveTable {
     {
         let who = present.who;
         present.past.possible();
-        let index = self.schedule.place(who).unwrap();
+        let index = self.schedule.index_of(who).unwrap();
         let sources = Sources {
             schedule: &self.schedule,
             endings: &self.endings,
         };
-        let row = row_of(present, index, &sources, &mut self.room, steps)?;
+        let element = IndexedElement {
+            present: *present,
+            index,
+        };
+        let row = row_of(&element, &sources, &mut self.room, steps)?;
         let before = self.schedule.interval(who);
         self.replace(index, row, ending_of(present.past, who, row.interval))?;
         Ok(differ(before, row.interval))
@@ -267,7 +271,7 @@ fn put_back(schedule: &mut Schedule, endings: &mut Endings, noted: Note)
     ensures rows { schedule.new ≡ row_back schedule.old noted.row }
     ensures ends { endings.new ≡ ending_back schedule.old endings.old noted }
 {
-    let Some(index) = schedule.place(noted.row.serial) else {
+    let Some(index) = schedule.index_of(noted.row.serial) else {
         return;
     };
     schedule.put(index, noted.row);

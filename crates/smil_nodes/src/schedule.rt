@@ -86,10 +86,10 @@ impl Schedule {
     }
 
     /// The index of the row of an element; None exactly where it has none. It takes no memory.
-    pub fn place(&self, who: u32) -> Option<usize>
+    pub fn index_of(&self, who: u32) -> Option<usize>
         ensures { result ≡ position (λ (r : AnyRow). r.serial == who) self.now }
     {
-        self.known.place(who)
+        self.known.index_of(who)
     }
 
     /// The row at an index. It takes no memory.

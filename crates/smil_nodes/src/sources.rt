@@ -35,7 +35,7 @@ impl<'a> Containers for Sources<'a> {
     ) -> Result<Time, AllocError> {
         let who = container.who;
         container.past.possible();
-        let index = self.schedule.place(who).unwrap();
+        let index = self.schedule.index_of(who).unwrap();
         let tree = container.past.tree();
         let kind = tree.kind(who);
         let attrs = tree.attrs(who);

@@ -84,10 +84,8 @@ fn note_within(tree: &Tree, graph: &Graph, who: u32, agenda: &mut Agenda) -> Res
     if graph.place_in_order(who).is_none() {
         return Ok(());
     }
-    let (start, past) = tree.span(who);
-    for position in start..past {
-        let serial = tree.serial_at(position).unwrap();
-        note_element(graph, serial, agenda)?;
+    for node in tree.within(who) {
+        note_element(graph, node.serial, agenda)?;
     }
     Ok(())
 }

@@ -4,6 +4,7 @@ use Rattle.std.specs.Prelude.{ℤ, pos, negsuc, int_le, codes, bytes_eq, IfSome,
 use Rattle.std.specs.List.{AllByRecursion, prefix_len, list_all}
 use Rattle.std.proofs.lemmas.Bool.{and_parts, or_parts, not-true, not_from_false, leb-true, ltb-true, le-ltb, eq-eqb, ne_eqb, cond_both}
 use Rattle.std.proofs.lemmas.List.Elements.{All-from_recursion}
+use Rattle.std.proofs.lemmas.Option.{IfSome_then}
 use Rattle.smil_model.specs.declared.document.Kind.{Kind}
 use Rattle.smil_model.specs.declared.document.Attr.{Attr}
 use Rattle.smil_model.specs.declared.document.Attr.TheVariants as attr
@@ -16,14 +17,6 @@ use Rattle.smil_model.specs.declared.document.Dur.{Dur}
 use Rattle.smil_model.specs.declared.document.Dur.TheVariants as dur
 use Rattle.smil_model.specs.declared.document.Count.{Count}
 use Rattle.smil_model.specs.declared.document.Count.TheVariants as count
-use Rattle.smil_model.specs.declared.document.Restart.{Restart}
-use Rattle.smil_model.specs.declared.document.Restart.TheVariants as restart
-use Rattle.smil_model.specs.declared.document.Fill.{Fill}
-use Rattle.smil_model.specs.declared.document.Fill.TheVariants as fill
-use Rattle.smil_model.specs.declared.document.RestartDefault.{RestartDefault}
-use Rattle.smil_model.specs.declared.document.RestartDefault.TheVariants as restart_default
-use Rattle.smil_model.specs.declared.document.FillDefault.{FillDefault}
-use Rattle.smil_model.specs.declared.document.FillDefault.TheVariants as fill_default
 use Rattle.smil_model.specs.declared.document.Endsync.{Endsync}
 use Rattle.smil_model.specs.declared.document.Endsync.TheVariants as endsync
 use Rattle.smil_model.specs.declared.document.Act.{Act}
@@ -33,24 +26,23 @@ use Rattle.smil_model.specs.declared.times.Time.TheVariants as time
 use Rattle.smil_model.specs.document.Document.{is_class_kind, is_set_kind}
 use Rattle.smil_model.specs.document.Words.{is_initial, is_of_name, is_of_id, is_word, is_id, is_list_word, is_event_name, is_key, is_attribute_name, is_kept_text}
 use Rattle.smil_model.specs.document.Values.{absent_or, is_clock, is_offset, is_item, is_list, is_plain_begin, is_begin, is_dur, is_bound, is_positive_bound, is_count, is_endsync_word, is_endsync, is_higher, is_lower, has_endsync, has_class_attrs, has_set_attrs, has_media_attrs, has_element_attrs, are_element_values, is_seq_parent, fit_kind}
-use Rattle.smil_grammar.specs.Texts.{trim}
 use Rattle.smil_grammar.specs.Items.{IsItem}
 use Rattle.smil_grammar.specs.Lists.{is_plain, IsList}
 use Rattle.smil_grammar.specs.Values.{above_zero, id_of, attribute_name_of}
 use Rattle.smil_grammar.specs.Attributes.{has}
-use Rattle.smil_grammar.specs.Spellings.{item_text, list_text, count_text, attr_at}
+use Rattle.smil_grammar.specs.Spellings.{item_text, list_text, count_text, attr_text, attr_at}
 use Rattle.smil_grammar.specs.Clock.{clock_text}
 use Rattle.smil_grammar.specs.Allowed.{IsAttr, IsAttrs}
-use Rattle.smil_lexis.proofs.Fronts.{tested, passes_all, passes_weaker}
-use Rattle.smil_lexis.proofs.Trims.{is_inked, untrimmed}
-use Rattle.smil_lexis.proofs.Words.{IsWord, all_of_id}
+use Rattle.smil_lexis.proofs.Fronts.{tested, passes_all}
+use Rattle.smil_lexis.proofs.Words.{IsWord}
 use Rattle.smil_model.specs.Times.{IsNear}
 use Rattle.smil_time_list.proofs.Printable.{IsEventName, IsWho, Printable, near}
-use Rattle.smil_time_list.proofs.Spelled.{item_read, clock_read}
+use Rattle.smil_time_list.proofs.Spelled.{item_read}
 use Rattle.smil_time_list.proofs.Listed.{list_read}
-use Rattle.smil_attrs.proofs.Clocks.{trimmed, no_keyword, dur_read, time_read, repeat_read}
+use Rattle.smil_attrs.proofs.Clocks.{trimmed, dur_read, repeat_read}
 use Rattle.smil_attrs.proofs.Counts.{count_read}
-use Rattle.smil_attrs.proofs.Words.{id_inked, attribute_name_whole}
+use Rattle.smil_attrs.proofs.Words.{IsWholeName, id_untrimmed, attribute_name_whole}
+use Rattle.smil_attrs.proofs.Valued.{Again, min_again, max_again, restart_spelled, fill_spelled, restart_default_spelled, fill_default_spelled, act_spelled}
 
 -- words
 
@@ -138,11 +130,9 @@ begin_list : (in_seq : Bool) (items : List Item) → is_begin in_seq items ≡ t
 begin_list false items h = list_with false items (and_parts (is_list items) true h).0 (λ e. absurd cc)
 begin_list true items h = let parts = and_parts (is_list items) (is_plain_begin items) h in list_with true items parts.0 (λ e. plain items parts.1)
 
-begin_fits : (in_seq : Bool) (items : List Item) → is_begin in_seq items ≡ true → IsAttr in_seq (attr.Begin items)
-begin_fits in_seq items h = (list_text items, rw (list_read in_seq items (begin_list in_seq items h)) refl)
-
-end_fits : (in_seq : Bool) (items : List Item) → is_list items ≡ true → IsAttr in_seq (attr.End items)
-end_fits in_seq items h = (list_text items, rw (list_read false items (list_with false items h (λ e. absurd cc))) refl)
+-- what is read again is an attribute
+again_fits : (in_seq : Bool) (given : Attr) → Again in_seq given → IsAttr in_seq given
+again_fits in_seq given h = (attr_text given, h)
 
 -- clock values and times
 
@@ -159,11 +149,11 @@ dur_fits in_seq dur.Media h = (codes "media", refl)
 dur_fits in_seq dur.Indefinite h = (codes "indefinite", refl)
 
 min_fits : (in_seq : Bool) (v : ℤ) → is_clock v ≡ true → IsAttr in_seq (attr.Min v)
-min_fits in_seq (pos n) h = let le = clock_small n h in (clock_text n, rw (trimmed n le, no_keyword n 109 (codes "edia") le refl, clock_read n le) refl)
+min_fits in_seq (pos n) h = again_fits in_seq (attr.Min (pos n)) (min_again in_seq n (clock_small n h))
 min_fits in_seq (negsuc n) h = absurd (no_clock n h)
 
 max_fits : (in_seq : Bool) (t : Time) → is_bound t ≡ true → IsAttr in_seq (attr.Max t)
-max_fits in_seq (time.At (pos n)) h = let le = clock_small n h in (clock_text n, rw (trimmed n le, no_keyword n 109 (codes "edia") le refl, time_read n le) refl)
+max_fits in_seq (time.At (pos n)) h = again_fits in_seq (attr.Max (time.At (pos n))) (max_again in_seq n (clock_small n h))
 max_fits in_seq (time.At (negsuc n)) h = absurd (no_clock n h)
 max_fits in_seq time.Indefinite h = (codes "indefinite", refl)
 max_fits in_seq time.Unresolved h = absurd cc
@@ -188,38 +178,6 @@ count_fits in_seq count.Indefinite h = (codes "indefinite", refl)
 
 -- words and texts
 
-restart_fits : (in_seq : Bool) (r : Restart) → IsAttr in_seq (attr.Restart r)
-restart_fits in_seq restart.Always = (codes "always", refl)
-restart_fits in_seq restart.WhenNotActive = (codes "whenNotActive", refl)
-restart_fits in_seq restart.Never = (codes "never", refl)
-restart_fits in_seq restart.ByDefault = (codes "default", refl)
-
-fill_fits : (in_seq : Bool) (f : Fill) → IsAttr in_seq (attr.Fill f)
-fill_fits in_seq fill.Remove = (codes "remove", refl)
-fill_fits in_seq fill.Freeze = (codes "freeze", refl)
-fill_fits in_seq fill.Hold = (codes "hold", refl)
-fill_fits in_seq fill.Auto = (codes "auto", refl)
-fill_fits in_seq fill.ByDefault = (codes "default", refl)
-
-restart_default_fits : (in_seq : Bool) (d : RestartDefault) → IsAttr in_seq (attr.RestartDefault d)
-restart_default_fits in_seq restart_default.Always = (codes "always", refl)
-restart_default_fits in_seq restart_default.WhenNotActive = (codes "whenNotActive", refl)
-restart_default_fits in_seq restart_default.Never = (codes "never", refl)
-restart_default_fits in_seq restart_default.Inherit = (codes "inherit", refl)
-
-fill_default_fits : (in_seq : Bool) (d : FillDefault) → IsAttr in_seq (attr.FillDefault d)
-fill_default_fits in_seq fill_default.Remove = (codes "remove", refl)
-fill_default_fits in_seq fill_default.Freeze = (codes "freeze", refl)
-fill_default_fits in_seq fill_default.Hold = (codes "hold", refl)
-fill_default_fits in_seq fill_default.Auto = (codes "auto", refl)
-fill_default_fits in_seq fill_default.Inherit = (codes "inherit", refl)
-
-peers_fits : (in_seq : Bool) (a : Act) → IsAttr in_seq (attr.Peers a)
-peers_fits in_seq act.Stop = (codes "stop", refl)
-peers_fits in_seq act.Pause = (codes "pause", refl)
-peers_fits in_seq act.Defer = (codes "defer", refl)
-peers_fits in_seq act.Never = (codes "never", refl)
-
 higher_fits : (in_seq : Bool) (a : Act) → is_higher a ≡ true → IsAttr in_seq (attr.Higher a)
 higher_fits in_seq act.Stop h = (codes "stop", refl)
 higher_fits in_seq act.Pause h = (codes "pause", refl)
@@ -232,9 +190,6 @@ lower_fits in_seq act.Pause h = absurd cc
 lower_fits in_seq act.Defer h = (codes "defer", refl)
 lower_fits in_seq act.Never h = (codes "never", refl)
 
-id_fits : (in_seq : Bool) (text : List ℕ) → is_id text ≡ true → IsAttr in_seq (attr.Id text)
-id_fits in_seq text h = (text, rw (id_read text h) refl)
-
 endsync_fits : (in_seq : Bool) (e : Endsync) → is_endsync e ≡ true → IsAttr in_seq (attr.Endsync e)
 endsync_fits in_seq endsync.Last h = (codes "last", refl)
 endsync_fits in_seq endsync.First h = (codes "first", refl)
@@ -245,34 +200,13 @@ endsync_fits in_seq (endsync.Child text) h =
     let first = or_parts (bytes_eq text (codes "first")) _ last.1 in
     let all = or_parts (bytes_eq text (codes "all")) _ first.1 in
     let media = or_parts (bytes_eq text (codes "media")) _ all.1 in
-    let same : trim text ≡ text = untrimmed text (passes_weaker is_of_id is_inked id_inked text (all_of_id text (id_word text parts.0))) in
-    (text, rw (same, media.0, last.0, first.0, all.0, id_read text parts.0) refl)
-
-src_fits : (in_seq : Bool) (text : List ℕ) → is_kept_text text ≡ true → IsAttr in_seq (attr.Src text)
-src_fits in_seq text h = (text, rw h refl)
-
-region_fits : (in_seq : Bool) (text : List ℕ) → is_kept_text text ≡ true → IsAttr in_seq (attr.Region text)
-region_fits in_seq text h = (text, rw h refl)
-
-alt_fits : (in_seq : Bool) (text : List ℕ) → is_kept_text text ≡ true → IsAttr in_seq (attr.Alt text)
-alt_fits in_seq text h = (text, rw h refl)
-
-title_fits : (in_seq : Bool) (text : List ℕ) → is_kept_text text ≡ true → IsAttr in_seq (attr.Title text)
-title_fits in_seq text h = (text, rw h refl)
-
-target_fits : (in_seq : Bool) (text : List ℕ) → is_id text ≡ true → IsAttr in_seq (attr.TargetElement text)
-target_fits in_seq text h =
-    let same : trim text ≡ text = untrimmed text (passes_weaker is_of_id is_inked id_inked text (all_of_id text (id_word text h))) in
-    (text, rw (same, id_read text h) refl)
+    (text, rw (id_untrimmed text (id_word text parts.0), media.0, last.0, first.0, all.0, id_read text parts.0) refl)
 
 attribute_name_fits : (in_seq : Bool) (text : List ℕ) → is_attribute_name text ≡ true → IsAttr in_seq (attr.AttributeName text)
 attribute_name_fits in_seq text h =
     let known : attribute_name_of text ≡ Some text = rw h refl in
-    let whole = subst (λ (o : Option (List ℕ)). IfSome o (λ name. (attribute_name_of name ≡ Some name) × (trim name ≡ name))) known (attribute_name_whole text) in
+    let whole = subst (λ (o : Option (List ℕ)). IfSome o IsWholeName) known (attribute_name_whole text) in
     (text, rw (whole.1, h) refl)
-
-to_fits : (in_seq : Bool) (text : List ℕ) → is_kept_text text ≡ true → IsAttr in_seq (attr.To text)
-to_fits in_seq text h = (text, rw h refl)
 
 -- ---- attributes that are there
 
@@ -303,29 +237,29 @@ IsInRange in_seq (attr.AttributeName text) = is_attribute_name text ≡ true
 IsInRange in_seq (attr.To text) = is_kept_text text ≡ true
 
 pub is_attr : (in_seq : Bool) (given : Attr) → IsInRange in_seq given → IsAttr in_seq given
-is_attr in_seq (attr.Id text) h = id_fits in_seq text h
-is_attr in_seq (attr.Begin items) h = begin_fits in_seq items h
+is_attr in_seq (attr.Id text) h = (text, rw (id_read text h) refl)
+is_attr in_seq (attr.Begin items) h = (list_text items, rw (list_read in_seq items (begin_list in_seq items h)) refl)
 is_attr in_seq (attr.Dur d) h = dur_fits in_seq d h
-is_attr in_seq (attr.End items) h = end_fits in_seq items h
+is_attr in_seq (attr.End items) h = (list_text items, rw (list_read false items (list_with false items h (λ e. absurd cc))) refl)
 is_attr in_seq (attr.Min v) h = min_fits in_seq v h
 is_attr in_seq (attr.Max t) h = max_fits in_seq t h
 is_attr in_seq (attr.RepeatCount c) h = count_fits in_seq c h
 is_attr in_seq (attr.RepeatDur t) h = repeat_dur_fits in_seq t h
-is_attr in_seq (attr.Restart r) h = restart_fits in_seq r
-is_attr in_seq (attr.Fill f) h = fill_fits in_seq f
-is_attr in_seq (attr.RestartDefault d) h = restart_default_fits in_seq d
-is_attr in_seq (attr.FillDefault d) h = fill_default_fits in_seq d
+is_attr in_seq (attr.Restart r) h = again_fits in_seq (attr.Restart r) (restart_spelled in_seq r).0
+is_attr in_seq (attr.Fill f) h = again_fits in_seq (attr.Fill f) (fill_spelled in_seq f).0
+is_attr in_seq (attr.RestartDefault d) h = again_fits in_seq (attr.RestartDefault d) (restart_default_spelled in_seq d).0
+is_attr in_seq (attr.FillDefault d) h = again_fits in_seq (attr.FillDefault d) (fill_default_spelled in_seq d).0
 is_attr in_seq (attr.Endsync e) h = endsync_fits in_seq e h
-is_attr in_seq (attr.Peers a) h = peers_fits in_seq a
+is_attr in_seq (attr.Peers a) h = again_fits in_seq (attr.Peers a) (act_spelled in_seq a).0
 is_attr in_seq (attr.Higher a) h = higher_fits in_seq a h
 is_attr in_seq (attr.Lower a) h = lower_fits in_seq a h
-is_attr in_seq (attr.Src text) h = src_fits in_seq text h
-is_attr in_seq (attr.Region text) h = region_fits in_seq text h
-is_attr in_seq (attr.Alt text) h = alt_fits in_seq text h
-is_attr in_seq (attr.Title text) h = title_fits in_seq text h
-is_attr in_seq (attr.TargetElement text) h = target_fits in_seq text h
+is_attr in_seq (attr.Src text) h = (text, rw h refl)
+is_attr in_seq (attr.Region text) h = (text, rw h refl)
+is_attr in_seq (attr.Alt text) h = (text, rw h refl)
+is_attr in_seq (attr.Title text) h = (text, rw h refl)
+is_attr in_seq (attr.TargetElement text) h = (text, rw (id_untrimmed text (id_word text h), id_read text h) refl)
 is_attr in_seq (attr.AttributeName text) h = attribute_name_fits in_seq text h
-is_attr in_seq (attr.To text) h = to_fits in_seq text h
+is_attr in_seq (attr.To text) h = (text, rw h refl)
 
 abbrev Fits : Bool → Bool → Option Attr → Type 0
 Fits in_seq had o = IfSome o (λ given. IsTrue had × IsInRange in_seq given)
@@ -541,9 +475,5 @@ in_range k parent attrs h =
     parts.1
 
 -- all of them can be read
-readable : (in_seq had : Bool) (o : Option Attr) → Fits in_seq had o → IfSome o (λ given. IsTrue had × IsAttr in_seq given)
-readable in_seq had None h = tt
-readable in_seq had (Some given) h = (h.0, is_attr in_seq given h.1)
-
 pub fits : (k : Kind) (parent : Option Kind) (attrs : Attrs) → fit_kind k parent attrs ≡ true → IsAttrs (is_seq_parent parent) k attrs
-fits k parent attrs h n = readable (is_seq_parent parent) (has k n) (attr_at attrs n) (in_range k parent attrs h n)
+fits k parent attrs h n = IfSome_then (attr_at attrs n) (in_range k parent attrs h n) (λ given had. (had.0, is_attr (is_seq_parent parent) given had.1))

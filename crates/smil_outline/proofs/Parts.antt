@@ -12,7 +12,7 @@ use Rattle.smil_model.specs.declared.order.Refusal.TheVariants as refusal
 use Rattle.smil_model.specs.document.Limits.{limits}
 use Rattle.smil_grammar.specs.Results.{◌>>=◌}
 use Rattle.smil_grammar.specs.Nodes.{Shape, is_space, kind_of_shape}
-use Rattle.smil_grammar.specs.Outlines.{Outline, unless, in_line, is_misplaced, is_bad_serial, attrs_in, mixes, last_of, with_node, with_header, header_of, opens_saved, shape_in, node_within, shape_within, with_line}
+use Rattle.smil_grammar.specs.Outlines.{Outline, refuse_if, in_line, is_misplaced, is_bad_serial, attrs_in, mixes, last_of, with_node, with_header, header_of, opens_saved, shape_in, node_within, shape_within, with_line}
 use Rattle.smil_grammar.specs.Gives.{GivesReading}
 use Rattle.smil_outline.specs.Steps.{text_of, kind_at, attrs_at, node_with, node_kept}
 
@@ -62,13 +62,13 @@ module _ (outline : Outline) (spaces serial : ℕ) (shape : Shape) where
   -- the kind comes first
   by_kind : reading ≡ behind_kind (kind_at outline spaces serial shape)
   by_kind =
-      kind_first (unless (eqb (spaces % 2) 1) refusal.BadOutline) (in_line spaces (kind_of_shape (Some shape))) (unless (is_bad_serial outline outline.next serial) refusal.BadSerial)
-      (unless (ltb (length outline.branch) (spaces / 2)) refusal.DepthJump) (unless (leb DEPTH (spaces / 2)) refusal.TooDeep) node_of_line (with_node outline (spaces / 2))
+      kind_first (refuse_if (eqb (spaces % 2) 1) refusal.BadOutline) (in_line spaces (kind_of_shape (Some shape))) (refuse_if (is_bad_serial outline outline.next serial) refusal.BadSerial)
+      (refuse_if (ltb (length outline.branch) (spaces / 2)) refusal.DepthJump) (refuse_if (leb DEPTH (spaces / 2)) refusal.TooDeep) node_of_line (with_node outline (spaces / 2))
 
   -- then the attributes
   by_attrs : (kind : Kind) → node_of_line kind ≡ (attrs_at outline spaces above kind shape >>= node_with outline.nodes serial (last_of above) kind)
   by_attrs kind =
-      attrs_first (unless (is_misplaced outline above kind) refusal.BadPlace) (in_line spaces (attrs_in (last_of above) kind shape)) (node_with outline.nodes serial (last_of above) kind)
+      attrs_first (refuse_if (is_misplaced outline above kind) refusal.BadPlace) (in_line spaces (attrs_in (last_of above) kind shape)) (node_with outline.nodes serial (last_of above) kind)
 
   abbrev behind_attrs : Kind → Result Attrs Refusal → Result Outline Refusal
   behind_attrs kind attrs = attrs >>= node_with outline.nodes serial (last_of above) kind >>= λ node. Ok (with_node outline (spaces / 2) node)

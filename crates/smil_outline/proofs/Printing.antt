@@ -7,11 +7,9 @@ use Rattle.std.proofs.lemmas.Bool.Decides.{nat_tests}
 use Rattle.std.proofs.lemmas.List.Elements.{All-from_recursion}
 use Rattle.std.proofs.lemmas.List.Splits.{slice_split_at}
 use Rattle.smil_model.specs.declared.document.Kind.{Kind}
-use Rattle.smil_model.specs.declared.document.Kind.TheVariants as kind
 use Rattle.smil_model.specs.declared.document.Attr.{Attr}
 use Rattle.smil_model.specs.declared.document.Attrs.{Attrs}
 use Rattle.smil_model.specs.declared.document.AttrName.{AttrName}
-use Rattle.smil_model.specs.declared.document.AttrName.TheVariants as name
 use Rattle.smil_model.specs.document.Words.{is_kept}
 use Rattle.smil_model.specs.document.Values.{is_seq_parent}
 use Rattle.smil_grammar.specs.Attributes.{kind_text, name_text, names, has}
@@ -21,6 +19,7 @@ use Rattle.smil_model.specs.document.Valid.{IsValid, kind_of, has_fitting_attrs}
 use Rattle.smil_grammar.specs.Outlines.{depth_among, lines_from, outline_text}
 use Rattle.smil_grammar.specs.Spellings.{attr_text, attr_at, value_text, attribute_text, node_text}
 use Rattle.smil_lexis.proofs.Fronts.{Passes, tested, passes_weaker, passes_on}
+use Rattle.smil_attrs.proofs.Tables.{each_kind, each_name}
 use Rattle.smil_attrs.proofs.ValueBytes.{attr_kept}
 use Rattle.smil_outline.proofs.Fitting.{IsInRange, AreInRange, is_attr, in_range}
 
@@ -40,44 +39,10 @@ value_shown in_seq given h = passes_weaker is_kept is_shown kept_byte (attr_text
 -- lines
 
 name_shown : (n : AttrName) → IsShown (32 ∷ (name_text n ++ codes "=\""))
-name_shown name.Id = tested is_shown (32 ∷ (name_text name.Id ++ codes "=\"")) refl
-name_shown name.Begin = tested is_shown (32 ∷ (name_text name.Begin ++ codes "=\"")) refl
-name_shown name.Dur = tested is_shown (32 ∷ (name_text name.Dur ++ codes "=\"")) refl
-name_shown name.End = tested is_shown (32 ∷ (name_text name.End ++ codes "=\"")) refl
-name_shown name.Min = tested is_shown (32 ∷ (name_text name.Min ++ codes "=\"")) refl
-name_shown name.Max = tested is_shown (32 ∷ (name_text name.Max ++ codes "=\"")) refl
-name_shown name.RepeatCount = tested is_shown (32 ∷ (name_text name.RepeatCount ++ codes "=\"")) refl
-name_shown name.RepeatDur = tested is_shown (32 ∷ (name_text name.RepeatDur ++ codes "=\"")) refl
-name_shown name.Restart = tested is_shown (32 ∷ (name_text name.Restart ++ codes "=\"")) refl
-name_shown name.Fill = tested is_shown (32 ∷ (name_text name.Fill ++ codes "=\"")) refl
-name_shown name.Endsync = tested is_shown (32 ∷ (name_text name.Endsync ++ codes "=\"")) refl
-name_shown name.Peers = tested is_shown (32 ∷ (name_text name.Peers ++ codes "=\"")) refl
-name_shown name.Higher = tested is_shown (32 ∷ (name_text name.Higher ++ codes "=\"")) refl
-name_shown name.Lower = tested is_shown (32 ∷ (name_text name.Lower ++ codes "=\"")) refl
-name_shown name.Src = tested is_shown (32 ∷ (name_text name.Src ++ codes "=\"")) refl
-name_shown name.Region = tested is_shown (32 ∷ (name_text name.Region ++ codes "=\"")) refl
-name_shown name.Alt = tested is_shown (32 ∷ (name_text name.Alt ++ codes "=\"")) refl
-name_shown name.Title = tested is_shown (32 ∷ (name_text name.Title ++ codes "=\"")) refl
-name_shown name.RestartDefault = tested is_shown (32 ∷ (name_text name.RestartDefault ++ codes "=\"")) refl
-name_shown name.FillDefault = tested is_shown (32 ∷ (name_text name.FillDefault ++ codes "=\"")) refl
-name_shown name.TargetElement = tested is_shown (32 ∷ (name_text name.TargetElement ++ codes "=\"")) refl
-name_shown name.AttributeName = tested is_shown (32 ∷ (name_text name.AttributeName ++ codes "=\"")) refl
-name_shown name.To = tested is_shown (32 ∷ (name_text name.To ++ codes "=\"")) refl
+name_shown n = tested is_shown (32 ∷ (name_text n ++ codes "=\"")) (each_name (λ n. list_all is_shown (32 ∷ (name_text n ++ codes "=\""))) refl n)
 
 kind_shown : (k : Kind) → IsShown (kind_text k)
-kind_shown kind.Par = tested is_shown (kind_text kind.Par) refl
-kind_shown kind.Seq = tested is_shown (kind_text kind.Seq) refl
-kind_shown kind.Excl = tested is_shown (kind_text kind.Excl) refl
-kind_shown kind.PriorityClass = tested is_shown (kind_text kind.PriorityClass) refl
-kind_shown kind.Img = tested is_shown (kind_text kind.Img) refl
-kind_shown kind.Text = tested is_shown (kind_text kind.Text) refl
-kind_shown kind.Brush = tested is_shown (kind_text kind.Brush) refl
-kind_shown kind.Audio = tested is_shown (kind_text kind.Audio) refl
-kind_shown kind.Video = tested is_shown (kind_text kind.Video) refl
-kind_shown kind.Animation = tested is_shown (kind_text kind.Animation) refl
-kind_shown kind.TextStream = tested is_shown (kind_text kind.TextStream) refl
-kind_shown kind.Ref = tested is_shown (kind_text kind.Ref) refl
-kind_shown kind.Set = tested is_shown (kind_text kind.Set) refl
+kind_shown k = tested is_shown (kind_text k) (each_kind (λ k. list_all is_shown (kind_text k)) refl k)
 
 attribute_shown : (in_seq had : Bool) (n : AttrName) (o : Option Attr) → IfSome o (λ given. (had ≡ true) × IsInRange in_seq given) → IsShown (attribute_text n (option_map attr_text o))
 attribute_shown in_seq had n None h = tt

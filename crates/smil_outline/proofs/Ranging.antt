@@ -1,12 +1,11 @@
 -- What some text is read as fits the kinds of a node and its parent.
-use Rattle.std.proofs.Common.{◌≡◌, ℕ, suc, ◌<◌, ◌≤◌, Bool, true, false, not, cond, eqb, ltb, leb, ◌&&◌, ◌||◌, List, [], ◌∷◌, length, Option, Some, None, option_map, is_some, Result, refl, subst, arith}
+use Rattle.std.proofs.Common.{◌≡◌, ℕ, suc, ◌<◌, ◌≤◌, Bool, true, false, not, cond, eqb, ltb, leb, ◌&&◌, ◌||◌, List, [], ◌∷◌, length, Option, Some, None, option_map, is_some, refl, subst, arith}
 use Rattle.std.specs.Prelude.{ℤ, pos, negsuc, codes, bytes_eq, IfOk, IfSome, IsTrue}
 use Rattle.std.specs.List.{AllByRecursion, list_all}
-use Rattle.std.proofs.lemmas.Bool.{not_from_true, le-leb, lt-ltb, cond_both}
+use Rattle.std.proofs.lemmas.Bool.{not_from_true, not-true, le-leb, lt-ltb, cond_both}
 use Rattle.std.proofs.lemmas.Bool.Decides.{nat_tests}
 use Rattle.std.proofs.lemmas.List.Elements.{recursion_from_All}
 use Rattle.smil_model.specs.declared.document.Kind.{Kind}
-use Rattle.smil_model.specs.declared.document.Kind.TheVariants as kind
 use Rattle.smil_model.specs.declared.document.Attr.{Attr}
 use Rattle.smil_model.specs.declared.document.Attr.TheVariants as attr
 use Rattle.smil_model.specs.declared.document.Attrs.{Attrs}
@@ -25,21 +24,20 @@ use Rattle.smil_model.specs.declared.times.Time.TheVariants as time
 use Rattle.smil_model.specs.document.Document.{is_class_kind, is_set_kind}
 use Rattle.smil_model.specs.document.Words.{is_of_name, is_of_id, is_word, is_id, is_event_name, is_attribute_name, is_kept_text}
 use Rattle.smil_model.specs.document.Values.{absent_or, is_clock, is_offset, is_item, is_list, is_plain_begin, is_begin, is_dur, is_bound, is_positive_bound, is_count, is_endsync, is_higher, is_lower, has_endsync, has_class_attrs, has_set_attrs, has_media_attrs, has_element_attrs, are_element_values, is_seq_parent, fit_kind}
-use Rattle.smil_grammar.specs.declared.fault.AttrFault.{AttrFault}
 use Rattle.smil_grammar.specs.Texts.{trim}
-use Rattle.smil_grammar.specs.Words.{id_len}
 use Rattle.smil_grammar.specs.Clock.{clock_within}
 use Rattle.smil_grammar.specs.Items.{IsItem}
 use Rattle.smil_grammar.specs.Lists.{is_plain, list_of, IsList}
-use Rattle.smil_grammar.specs.Values.{above_zero, id_of, attribute_name_of, restart_default_of, fill_default_of, kept_of, dur_of, time_of, repeat_dur_of, count_of, restart_of, fill_of, endsync_of, peers_of, higher_of, lower_of, is_other_value, plain_value_of, value_of}
-use Rattle.smil_grammar.specs.Allowed.{name_of, IsAttr, IsAttrs}
+use Rattle.smil_grammar.specs.Values.{above_zero, id_of, attribute_name_of, restart_default_of, fill_default_of, kept_of, dur_of, time_of, repeat_dur_of, count_of, restart_of, fill_of, endsync_of, peers_of, higher_of, lower_of, is_other_value, plain_value_of}
+use Rattle.smil_grammar.specs.Allowed.{IsAttr, IsAttrs}
 use Rattle.smil_lexis.proofs.Fronts.{tests_pass}
 use Rattle.smil_lexis.proofs.Words.{IsWord}
 use Rattle.smil_model.specs.Times.{IsNear}
 use Rattle.smil_time_list.proofs.Printable.{IsEventName, IsWho, Printable, item_printable, clock_small, size}
-use Rattle.smil_attrs.proofs.Readings.{IsSmall, IsLength, value, any_value, listed}
+use Rattle.smil_attrs.proofs.Readings.{IsSmall, IsLength, value, any_value, listed, own_where, all_attrs}
 use Rattle.smil_attrs.proofs.Cases.{dur_reads, time_reads, repeat_reads, count_reads, higher_reads, lower_reads, endsync_reads}
 use Rattle.smil_attrs.proofs.Counts.{IsCount}
+use Rattle.smil_attrs.proofs.Tables.{each_kind}
 use Rattle.smil_attrs.proofs.Kept.{lists}
 use Rattle.smil_attrs.proofs.Words.{whole_id}
 use Rattle.smil_outline.proofs.Fitting.{IsInRange}
@@ -57,20 +55,19 @@ abbrev IsId : List ℕ → Type 0
 IsId text = is_id text ≡ true
 
 id_ranged : (text : List ℕ) → IfSome (id_of text) IsId
-id_ranged text = cond_both (not (eqb (length text) 0) && eqb (id_len false text) (length text)) (Some text) None (λ o. IfSome o IsId)
-    (λ e. word_ranged is_of_id text (whole_id text e)) (λ e. tt)
+id_ranged text = own_where IsId _ text (λ e. word_ranged is_of_id text (whole_id text e))
 
 abbrev IsKept : List ℕ → Type 0
 IsKept text = is_kept_text text ≡ true
 
 kept_ranged : (text : List ℕ) → IfSome (kept_of text) IsKept
-kept_ranged text = cond_both _ (Some text) None (λ o. IfSome o IsKept) (λ e. e) (λ e. tt)
+kept_ranged text = own_where IsKept _ text (λ e. e)
 
 abbrev IsName : List ℕ → Type 0
 IsName text = is_attribute_name text ≡ true
 
 attribute_name_ranged : (text : List ℕ) → IfSome (attribute_name_of text) IsName
-attribute_name_ranged text = cond_both (is_attribute_name text) (Some text) None (λ o. IfSome o IsName) (λ e. e) (λ e. tt)
+attribute_name_ranged text = own_where IsName _ text (λ e. e)
 
 -- lists
 
@@ -220,11 +217,8 @@ any in_seq name.TargetElement text e = value attr.TargetElement IsId (IsInRange 
 any in_seq name.AttributeName text e = value attr.AttributeName IsName (IsInRange in_seq) (λ x h. h) (attribute_name_of (trim text)) (attribute_name_ranged (trim text))
 any in_seq name.To text e = value attr.To IsKept (IsInRange in_seq) (λ x h. h) (kept_of text) (kept_ranged text)
 
-value_ranged : (in_seq : Bool) (n : AttrName) (text : List ℕ) → IfOk (value_of in_seq n text) (IsInRange in_seq)
-value_ranged in_seq n text = cond_both (is_other_value n (trim text)) _ (plain_value_of in_seq n text) (λ r. IfOk r (IsInRange in_seq)) (λ e. tt) (λ e. any in_seq n text e)
-
 pub attr_ranged : (in_seq : Bool) (given : Attr) → IsAttr in_seq given → IsInRange in_seq given
-attr_ranged in_seq given h = subst (λ (r : Result Attr AttrFault). IfOk r (IsInRange in_seq)) h.1 (value_ranged in_seq (name_of given) h.0)
+attr_ranged in_seq given h = all_attrs in_seq (IsInRange in_seq) (any in_seq) given h
 
 -- attributes of a node
 
@@ -245,34 +239,14 @@ left_out made in_seq false None h = refl
 left_out made in_seq false (Some x) h = let there : false ≡ true = h.0 in absurd cc
 
 no_endsync : (k : Kind) → is_class_kind k ≡ true → has_endsync k ≡ false
-no_endsync kind.Par e = absurd cc
-no_endsync kind.Seq e = refl
-no_endsync kind.Excl e = absurd cc
-no_endsync kind.PriorityClass e = refl
-no_endsync kind.Img e = refl
-no_endsync kind.Text e = refl
-no_endsync kind.Brush e = refl
-no_endsync kind.Audio e = refl
-no_endsync kind.Video e = refl
-no_endsync kind.Animation e = refl
-no_endsync kind.TextStream e = refl
-no_endsync kind.Ref e = refl
-no_endsync kind.Set e = refl
+no_endsync k e =
+    let both = not-true (is_class_kind k && has_endsync k) (each_kind (λ k. not (is_class_kind k && has_endsync k)) refl k) in
+    rw e at both
 
 no_set : (k : Kind) → is_class_kind k ≡ true → is_set_kind k ≡ false
-no_set kind.Par e = refl
-no_set kind.Seq e = refl
-no_set kind.Excl e = refl
-no_set kind.PriorityClass e = refl
-no_set kind.Img e = refl
-no_set kind.Text e = refl
-no_set kind.Brush e = refl
-no_set kind.Audio e = refl
-no_set kind.Video e = refl
-no_set kind.Animation e = refl
-no_set kind.TextStream e = refl
-no_set kind.Ref e = refl
-no_set kind.Set e = absurd cc
+no_set k e =
+    let both = not-true (is_class_kind k && is_set_kind k) (each_kind (λ k. not (is_class_kind k && is_set_kind k)) refl k) in
+    rw e at both
 
 class_ranged : (in_seq : Bool) (k : Kind) (attrs : Attrs) → is_class_kind k ≡ true → IsAttrs in_seq k attrs
     → (not (has_element_attrs attrs) && absent_or is_higher attrs.higher && absent_or is_lower attrs.lower) ≡ true

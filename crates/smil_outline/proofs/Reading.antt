@@ -1,11 +1,10 @@
 -- A printed node line is read as its node, where the node may stand.
-use Rattle.std.proofs.Common.{◌≡◌, ℕ, zero, suc, ◌+◌, ◌*◌, ◌<◌, ◌≤◌, true, false, not, eqb, ltb, leb, ◌&&◌, List, ◌∷◌, ◌++◌, length, take, drop, replicate, flat_map, Some, option_map, is_some, Result, Ok, refl, ap, ◌∙◌, arith, append_assoc}
+use Rattle.std.proofs.Common.{◌≡◌, ℕ, zero, suc, ◌+◌, ◌*◌, ◌<◌, ◌≤◌, Bool, true, false, not, eqb, ltb, leb, ◌&&◌, List, [], ◌∷◌, ◌++◌, length, take, drop, replicate, flat_map, Some, option_map, is_some, Result, Ok, refl, ap, ◌∙◌, arith, append_assoc}
 use Rattle.std.specs.Prelude.{◌/◌, ◌%◌, unwrap_or, sum_by, codes, bytes_eq}
 use Rattle.std.specs.List.{prefix_len}
-use Rattle.std.proofs.lemmas.Bool.{and_right, le-ltb, lt-leb, ne_eqb}
+use Rattle.std.proofs.lemmas.Bool.{and_parts, and_right, not-true, le-ltb, lt-leb, ne_eqb}
 use Rattle.smil_model.specs.declared.limits.TheConstants.{NODES, DEPTH, REFERENCES, LINE_BYTES}
 use Rattle.smil_model.specs.declared.document.Kind.{Kind}
-use Rattle.smil_model.specs.declared.document.Kind.TheVariants as kind
 use Rattle.smil_model.specs.declared.document.Node.{Node}
 use Rattle.smil_model.specs.declared.document.Attrs.{Attrs}
 use Rattle.smil_model.specs.declared.order.Refusal.{Refusal}
@@ -17,7 +16,8 @@ use Rattle.smil_grammar.specs.Results.{◌>>=◌}
 use Rattle.smil_grammar.specs.Attributes.{kind_text, names}
 use Rattle.smil_grammar.specs.Spellings.{value_text, attribute_text, node_text, saved_node_text}
 use Rattle.smil_grammar.specs.Nodes.{Shape, is_space, is_no_space, kind_of_shape}
-use Rattle.smil_grammar.specs.Outlines.{Outline, unless, in_line, mixes, has_id, attrs_in, last_of, is_bad_serial, opens_saved, shape_in, node_within, shape_within, with_node, with_line}
+use Rattle.smil_grammar.specs.Outlines.{Outline, refuse_if, in_line, mixes, has_id, attrs_in, last_of, is_bad_serial, opens_saved, shape_in, node_within, shape_within, with_node, with_line}
+use Rattle.smil_attrs.proofs.Tables.{each_kind}
 use Rattle.smil_attrs.proofs.Noded.{IsShape}
 use Rattle.smil_attrs.proofs.Printed.{behind_kind, saved_parts}
 use Rattle.smil_outline.proofs.Parts.{as_node}
@@ -32,20 +32,17 @@ behind_spaces : (count : ℕ) (text : List ℕ) → drop count (replicate count 
 behind_spaces zero text = refl
 behind_spaces (suc count) text = behind_spaces count text
 
+-- the first byte passes
+abbrev opens : (ℕ → Bool) → List ℕ → Bool
+opens p [] = false
+opens p (b ∷ text) = p b
+
 no_space : (k : Kind) (text : List ℕ) → prefix_len is_space (kind_text k ++ text) ≡ 0
-no_space kind.Par text = refl
-no_space kind.Seq text = refl
-no_space kind.Excl text = refl
-no_space kind.PriorityClass text = refl
-no_space kind.Img text = refl
-no_space kind.Text text = refl
-no_space kind.Brush text = refl
-no_space kind.Audio text = refl
-no_space kind.Video text = refl
-no_space kind.Animation text = refl
-no_space kind.TextStream text = refl
-no_space kind.Ref text = refl
-no_space kind.Set text = refl
+no_space k text = by (kind_text k) (each_kind (λ k. opens (λ b. not (is_space b)) (kind_text k)) refl k)
+  where
+    by : (word : List ℕ) → opens (λ b. not (is_space b)) word ≡ true → prefix_len is_space (word ++ text) ≡ 0
+    by [] h = absurd cc
+    by (b ∷ word) h = rw (not-true (is_space b) h) refl
 
 apart : (depth : ℕ) (k : Kind) (attrs : Attrs) → node_text depth k attrs ≡ replicate (2 * depth) 32 ++ node_text 0 k attrs
 apart depth k attrs = append_assoc (replicate (2 * depth) 32) (kind_text k) (flat_map (λ n. attribute_text n (value_text attrs n)) names)
@@ -81,19 +78,11 @@ other_word b text h other = ap (λ word. bytes_eq word (codes "outline")) (word_
 
 -- no kind is `outline`
 pub no_header : (k : Kind) (text : List ℕ) → bytes_eq (take (prefix_len is_no_space (kind_text k ++ text)) (kind_text k ++ text)) (codes "outline") ≡ false
-no_header kind.Par text = other_word 112 (codes "ar" ++ text) refl refl
-no_header kind.Seq text = other_word 115 (codes "eq" ++ text) refl refl
-no_header kind.Excl text = other_word 101 (codes "xcl" ++ text) refl refl
-no_header kind.PriorityClass text = other_word 112 (codes "riorityClass" ++ text) refl refl
-no_header kind.Img text = other_word 105 (codes "mg" ++ text) refl refl
-no_header kind.Text text = other_word 116 (codes "ext" ++ text) refl refl
-no_header kind.Brush text = other_word 98 (codes "rush" ++ text) refl refl
-no_header kind.Audio text = other_word 97 (codes "udio" ++ text) refl refl
-no_header kind.Video text = other_word 118 (codes "ideo" ++ text) refl refl
-no_header kind.Animation text = other_word 97 (codes "nimation" ++ text) refl refl
-no_header kind.TextStream text = other_word 116 (codes "extstream" ++ text) refl refl
-no_header kind.Ref text = other_word 114 (codes "ef" ++ text) refl refl
-no_header kind.Set text = other_word 115 (codes "et" ++ text) refl refl
+no_header k text = by (kind_text k) (each_kind (λ k. opens (λ b. is_no_space b && not (eqb b 111)) (kind_text k)) refl k)
+  where
+    by : (word : List ℕ) → opens (λ b. is_no_space b && not (eqb b 111)) word ≡ true → bytes_eq (take (prefix_len is_no_space (word ++ text)) (word ++ text)) (codes "outline") ≡ false
+    by [] h = absurd cc
+    by (b ∷ word) h = let parts = and_parts (is_no_space b) (not (eqb b 111)) h in other_word b (word ++ text) parts.0 (not-true (eqb b 111) parts.1)
 
 pub plain_opens_none : (outline : Outline) (depth : ℕ) (k : Kind) (attrs : Attrs) → opens_saved outline (node_text depth k attrs) ≡ false
 plain_opens_none outline depth k attrs =
@@ -126,11 +115,11 @@ node_is outline spaces serial above k attrs shape room read =
 -- the steps of a line
 abbrev steps : Outline → ℕ → ℕ → Shape → ℕ → Result Outline Refusal
 steps outline spaces serial shape depth = do
-  even ← unless (eqb (spaces % 2) 1) refusal.BadOutline
+  even ← refuse_if (eqb (spaces % 2) 1) refusal.BadOutline
   kind ← in_line spaces (kind_of_shape (Some shape))
-  fresh ← unless (is_bad_serial outline outline.next serial) refusal.BadSerial
-  near ← unless (ltb (length outline.branch) depth) refusal.DepthJump
-  flat ← unless (leb DEPTH depth) refusal.TooDeep
+  fresh ← refuse_if (is_bad_serial outline outline.next serial) refusal.BadSerial
+  near ← refuse_if (ltb (length outline.branch) depth) refusal.DepthJump
+  flat ← refuse_if (leb DEPTH depth) refusal.TooDeep
   node ← node_within limits outline spaces (take depth outline.branch) kind serial shape
   Ok (with_node outline depth node)
 

@@ -8,8 +8,8 @@ use Rattle.std.proofs.lemmas.Bool.{and_parts, and_right, or_parts, or_right, eq-
 use Rattle.std.proofs.lemmas.Bool.Decides.{nat_tests}
 use Rattle.std.proofs.lemmas.List.{reverse-append, take-append-drop, map-append}
 use Rattle.std.proofs.lemmas.List.Elements.{All-from_recursion}
+use Rattle.std.proofs.lemmas.List.Folds.{list_all-append, list_any-append}
 use Rattle.std.proofs.lemmas.List.Sums.{sum_by-append, sum_by-cons}
-use Rattle.std.proofs.lemmas.Slice.Eq.{bytes_eq-Decides}
 use Rattle.smil_model.specs.declared.document.Kind.{Kind}
 use Rattle.smil_model.specs.declared.document.Node.{Node}
 use Rattle.smil_model.specs.declared.document.Attrs.{Attrs}
@@ -29,10 +29,10 @@ use Rattle.smil_model.specs.declared.limits.TheConstants.{NODES, DEPTH, REFERENC
 use Rattle.smil_model.specs.document.Limits.{limits}
 use Rattle.smil_time_list.proofs.Printable.{IsCounted, count_small}
 use Rattle.smil_laws.proofs.Lineages.{swap_eqb}
-use Rattle.smil_laws.proofs.Lists.{each_at}
+use Rattle.smil_laws.proofs.Lists.{each_at, each_push, each_take, each_weaker, bytes_swap}
 use Rattle.smil_outline.specs.Branches.{is_known, IsRead}
 use Rattle.smil_outline.proofs.Alike.{other_serial, known_on, known_self}
-use Rattle.smil_grammar.specs.Outlines.{Outline, unless, in_line, mixes, has_id as has_id_among, attrs_in, last_of, no_lines, shape_in, is_bad_serial, is_misplaced, opens_saved, header_of, with_header, node_within, shape_within, read_within, with_line, with_lines, ended, outline_of}
+use Rattle.smil_grammar.specs.Outlines.{Outline, refuse_if, in_line, mixes, has_id as has_id_among, attrs_in, last_of, no_lines, shape_in, is_bad_serial, is_misplaced, opens_saved, header_of, with_header, node_within, shape_within, read_within, with_line, with_lines, ended, outline_of}
 use Rattle.smil_grammar.specs.Outlines.{with_node as outline_with}
 use Rattle.smil_attrs.proofs.Noded.{attrs_had_from}
 use Rattle.smil_outline.specs.Open.{upwards}
@@ -44,7 +44,7 @@ use Rattle.smil_outline.proofs.RoundTrip.{found}
 
 -- ---- a line that is read
 
-goes : {A : Type 0} (t : Bool) (e : Refusal) (r : Result A Refusal) (x : A) → (unless t e >>= λ _. r) ≡ Ok x → (t ≡ false) × (r ≡ Ok x)
+goes : {A : Type 0} (t : Bool) (e : Refusal) (r : Result A Refusal) (x : A) → (refuse_if t e >>= λ _. r) ≡ Ok x → (t ≡ false) × (r ≡ Ok x)
 goes true e r x h = absurd cc
 goes false e r x h = (refl, h)
 
@@ -186,20 +186,10 @@ depth_on nodes x serial e =
     ap (λ (back : List Node). length (drop 1 (lineage_up back serial))) (reverse-append nodes (x ∷ [])) ∙ ap (λ (line : List Node). length (drop 1 line)) skipped
 
 all_on : (p : Node → Bool) (nodes : List Node) (x : Node) → list_all p nodes ≡ true → p x ≡ true → list_all p (nodes ++ x ∷ []) ≡ true
-all_on p [] x h k = rw k refl
-all_on p (m ∷ nodes) x h k = let parts = and_parts (p m) (list_all p nodes) h in rw (parts.0, all_on p nodes x parts.1 k) refl
+all_on p nodes x h k = rw (list_all-append p nodes (x ∷ []), h, k) refl
 
 none_on : (p : Node → Bool) (nodes : List Node) (x : Node) → list_any p nodes ≡ false → p x ≡ false → list_any p (nodes ++ x ∷ []) ≡ false
-none_on p [] x h k = rw k refl
-none_on p (m ∷ nodes) x h k = let parts = or_parts (p m) (list_any p nodes) h in rw (parts.0, none_on p nodes x parts.1 k) refl
-
-all_snoc : {A : Type 0} (P : A → Type 0) (xs : List A) (x : A) → AllByRecursion P xs → P x → AllByRecursion P (xs ++ x ∷ [])
-all_snoc P [] x h k = (k, tt)
-all_snoc P (y ∷ xs) x h k = (h.0, all_snoc P xs x h.1 k)
-
-all_weaker : {A : Type 0} (P Q : A → Type 0) → ((x : A) → P x → Q x) → (xs : List A) → AllByRecursion P xs → AllByRecursion Q xs
-all_weaker P Q f [] h = tt
-all_weaker P Q f (x ∷ xs) h = (f x h.0, all_weaker P Q f xs h.1)
+none_on p nodes x h k = rw (list_any-append p nodes (x ∷ []), h, k) refl
 
 -- serials are distinct, and below the next one
 
@@ -229,9 +219,9 @@ given_new nodes (Some next) serial h is = unknown nodes serial is.0 is.2
 below_on : (nodes : List Node) (x : Node) (next : Option ℕ) → AreBelow (unwrap_or next (length nodes + 1)) nodes → IsGiven next nodes x.serial → AreBelow (unwrap_or next (length (nodes ++ x ∷ []) + 1)) (nodes ++ x ∷ [])
 below_on nodes x None h is =
     let len : length (nodes ++ x ∷ []) ≡ length nodes + 1 = length-append nodes (x ∷ []) in
-    all_snoc (λ (n : Node). (0 < n.serial) × (n.serial < length (nodes ++ x ∷ []) + 1)) nodes x
-    (all_weaker (λ (n : Node). (0 < n.serial) × (n.serial < length nodes + 1)) (λ (n : Node). (0 < n.serial) × (n.serial < length (nodes ++ x ∷ []) + 1)) (λ n h. (h.0, omega (arith, h.1))) nodes h) (omega arith, omega arith)
-below_on nodes x (Some next) h is = all_snoc (λ (n : Node). (0 < n.serial) × (n.serial < next)) nodes x h (is.0, is.1)
+    each_push (λ (n : Node). (0 < n.serial) × (n.serial < length (nodes ++ x ∷ []) + 1)) nodes x
+    (each_weaker (λ (n : Node). (0 < n.serial) × (n.serial < length nodes + 1)) (λ (n : Node). (0 < n.serial) × (n.serial < length (nodes ++ x ∷ []) + 1)) nodes h (λ n h. (h.0, omega (arith, h.1)))) (omega arith, omega arith)
+below_on nodes x (Some next) h is = each_push (λ (n : Node). (0 < n.serial) × (n.serial < next)) nodes x h (is.0, is.1)
 
 -- the tree
 
@@ -275,11 +265,7 @@ same_turned false true h = absurd cc
 same_turned false false h = refl
 
 pub bytes_turned : (xs ys : List ℕ) → bytes_eq xs ys ≡ false → bytes_eq ys xs ≡ false
-bytes_turned xs ys e = by (bytes_eq ys xs) refl
-  where
-    by : (t : Bool) → bytes_eq ys xs ≡ t → t ≡ false
-    by false k = refl
-    by true k = let same : ys ≡ xs = (bytes_eq-Decides ys xs).0 k in let back : bytes_eq xs ys ≡ true = (bytes_eq-Decides xs ys).1 (sym same) in absurd cc
+bytes_turned xs ys e = bytes_swap ys xs ∙ e
 
 no_id_of : (own : List ℕ) (m : Node) → bytes_eq (unwrap_or m.attrs.id []) own ≡ false → has_id own m.attrs.id ≡ false
 no_id_of own m e = by own m.attrs.id e
@@ -389,11 +375,7 @@ opens_at nodes s (c ∷ closed_nodes) above h =
 
 stands_in : (s : ℕ) (closed_nodes above : List ℕ) → list_any (λ t. eqb t s) (closed_nodes ++ s ∷ above) ≡ true
 stands_in s [] above = let own : eqb s s ≡ true = eq-eqb _ _ refl in rw own refl
-stands_in s (c ∷ closed_nodes) above = by (eqb c s) (list_any (λ t. eqb t s) (closed_nodes ++ s ∷ above)) (stands_in s closed_nodes above)
-  where
-    by : (a b : Bool) → b ≡ true → (a || b) ≡ true
-    by true b e = refl
-    by false b e = e
+stands_in s (c ∷ closed_nodes) above = or_right (eqb c s) (list_any (λ t. eqb t s) (closed_nodes ++ s ∷ above)) (stands_in s closed_nodes above)
 
 fresh_for : (nodes : List Node) (x : Node) (xs : List ℕ) → is_known nodes x.serial ≡ false → AreOnce nodes xs → AreFresh xs (x ∷ [])
 fresh_for nodes x [] new h = tt
@@ -454,11 +436,6 @@ tree_grows (root ∷ nodes) open_nodes kept x h e k =
     let there : list_any (λ s. eqb s x.parent) (after (root.serial ∷ []) nodes) ≡ true = subst (λ (xs : List ℕ). list_any (λ s. eqb s x.parent) xs ≡ true) h.2 e in
     (h.0, tree_on (root.serial ∷ []) nodes x h.1 there, ap (λ (xs : List ℕ). x.serial ∷ xs) (k ∙ ap (open_from x.parent) h.2) ∙ sym (after_on (root.serial ∷ []) nodes x))
 
-all_taken : {A : Type 0} (P : A → Type 0) (n : ℕ) (xs : List A) → AllByRecursion P xs → AllByRecursion P (take n xs)
-all_taken P zero xs h = tt
-all_taken P (suc n) [] h = tt
-all_taken P (suc n) (x ∷ xs) h = (h.0, all_taken P n xs h.1)
-
 apart : (branch : List (ℕ × Kind)) (depth : ℕ) → upwards branch ≡ upwards (drop depth branch) ++ upwards (take depth branch)
 apart branch depth =
     ap upwards (sym (take-append-drop depth branch)) ∙ ap (λ (xs : List ℕ). reverse xs) (map-append (λ (m : ℕ × Kind). m.0) (take depth branch) (drop depth branch)) ∙ reverse-append (map (λ (m : ℕ × Kind). m.0) (take depth branch)) (map (λ (m : ℕ × Kind). m.0) (drop depth branch))
@@ -489,7 +466,7 @@ put_at nodes branch next (suc d) serial k attrs r new near room =
     let kept : upwards above ≡ open_from x.parent (upwards branch) =
     here.up ∙ sym (opens_at nodes p.0 (upwards (drop (suc d) branch)) tail once) ∙ ap (open_from p.0) (sym all) ∙ ap (λ (q : ℕ). open_from q (upwards branch)) (sym parent) in
     let known : kind_of (node_with nodes p.0) ≡ Some p.1 =
-    each_at (λ (b : ℕ × Kind). kind_of (node_with nodes b.0) ≡ Some b.1) above (length above - 1) p (all_taken (λ (b : ℕ × Kind). kind_of (node_with nodes b.0) ≡ Some b.1) (suc d) branch r.kinds) here.last in
+    each_at (λ (b : ℕ × Kind). kind_of (node_with nodes b.0) ≡ Some b.1) above (length above - 1) p (each_take (λ (b : ℕ × Kind). kind_of (node_with nodes b.0) ≡ Some b.1) (suc d) branch r.kinds) here.last in
     let unmixed : mixes nodes (Some p) k ≡ false = subst (λ (o : Option (ℕ × Kind)). mixes nodes o k ≡ false) here.last room.unmixed in
     let alike_all = subst (λ (q : ℕ). AreAlike nodes q k) (sym parent) (all_alike nodes p.0 k unmixed) in
     record {
@@ -567,10 +544,10 @@ grows nodes branch next depth x r is put fit =
       tree = subst (IsTreeTo nodes_now) (sym up) put.tree;
       levels = subst (λ (back : List Node). Levels back (upwards (above ++ (x.serial, x.kind) ∷ []))) (sym (reverse-append nodes (x ∷ []))) (subst (Levels (x ∷ reverse nodes)) open_now levels);
       once = subst (AreOnce nodes_now) (sym up) once;
-      kinds = all_snoc (λ (b : ℕ × Kind). kind_of (node_with nodes_now b.0) ≡ Some b.1) above (x.serial, x.kind)
-          (all_weaker (λ (b : ℕ × Kind). kind_of (node_with nodes b.0) ≡ Some b.1) (λ (b : ℕ × Kind). kind_of (node_with nodes_now b.0) ≡ Some b.1) (λ b h. kind_kept nodes x b.0 b.1 h) above
-          (all_taken (λ (b : ℕ × Kind). kind_of (node_with nodes b.0) ≡ Some b.1) depth branch r.kinds)) last;
-      settled = all_snoc (IsSettled nodes_now) nodes x (all_stay nodes x put.serial nodes r.settled put.alike_behind (λ id e. subst (λ (o : Option (List ℕ)). has_id_among nodes o ≡ false) e fit.free)) (new_settled nodes branch above x walked put fit);
+      kinds = each_push (λ (b : ℕ × Kind). kind_of (node_with nodes_now b.0) ≡ Some b.1) above (x.serial, x.kind)
+          (each_weaker (λ (b : ℕ × Kind). kind_of (node_with nodes b.0) ≡ Some b.1) (λ (b : ℕ × Kind). kind_of (node_with nodes_now b.0) ≡ Some b.1) above
+          (each_take (λ (b : ℕ × Kind). kind_of (node_with nodes b.0) ≡ Some b.1) depth branch r.kinds) (λ b. kind_kept nodes x b.0 b.1)) last;
+      settled = each_push (IsSettled nodes_now) nodes x (all_stay nodes x put.serial nodes r.settled put.alike_behind (λ id e. subst (λ (o : Option (List ℕ)). has_id_among nodes o ≡ false) e fit.free)) (new_settled nodes branch above x walked put fit);
       few = omega (arith, fit.few);
       light = omega (arith, sum_by-append references_of nodes (x ∷ []), sum_by-cons references_of x [], own, fit.light);
     }

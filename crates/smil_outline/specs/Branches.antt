@@ -10,15 +10,18 @@ use Rattle.smil_model.specs.document.Document.{is_class_kind}
 use Rattle.smil_grammar.specs.Outlines.{Outline, no_lines, has_id, last_of, mixes, with_lines}
 
 -- an id among others
-abbrev pub is_listed : List (List ℕ) → List ℕ → Bool
-is_listed ids id = list_any (λ (other : List ℕ). bytes_eq other id) ids
+abbrev pub is_among_ids : List (List ℕ) → List ℕ → Bool
+is_among_ids ids id = list_any (λ (other : List ℕ). bytes_eq other id) ids
 
--- the ids and the serials of these nodes, the empty id for a node without one, and how many items refer to something
-pub record IsNoted (nodes : List Node) (ids : List (List ℕ)) (serials : List ℕ) (count : ℕ) : Type 0 where
+-- the ids and the serials of these nodes, the empty id for a node without one,
+-- and how many items refer to something
+pub record IsNoted
+    (nodes : List Node) (ids : List (List ℕ)) (serials : List ℕ) (count : ℕ) : Type 0 where
   pub counted : count ≡ references nodes
   pub few : count ≤ REFERENCES
-  pub named : (id : List ℕ) → is_listed ids id ≡ has_id nodes (Some id)
-  pub numbered : (serial : ℕ) → has serials serial ≡ list_any (λ (n : Node). n.serial == serial) nodes
+  pub named : (id : List ℕ) → is_among_ids ids id ≡ has_id nodes (Some id)
+  pub numbered :
+      (serial : ℕ) → has serials serial ≡ list_any (λ (n : Node). n.serial == serial) nodes
 
 -- a kind that is a class beside one that is none, or the other way round
 abbrev pub differs : Option (ℕ × Kind) → Kind → Bool
@@ -33,7 +36,8 @@ serial_of node = unwrap_or (option_map (λ (n : ℕ × Kind). n.0) node) 0
 abbrev pub is_known : List Node → ℕ → Bool
 is_known nodes serial = (serial == 0) || list_any (λ (n : Node). n.serial == serial) nodes
 
--- the children of a node on the branch are all classes, or none is, as the one below it there; no other has its serial
+-- the children of a node on the branch are all classes, or none is, as the one below it there;
+-- no other has its serial
 pub record IsAlike (nodes : List Node) (node : ℕ × Kind) (below : List (ℕ × Kind)) : Type 0 where
   pub known : is_known nodes node.0 ≡ true
   pub once : list_any (λ (other : ℕ × Kind). other.0 == node.0) below ≡ false

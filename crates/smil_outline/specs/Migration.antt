@@ -1,4 +1,5 @@
--- Limits that are raised: an outline that meets no smaller limit is read the same within larger ones.
+-- Limits that are raised: an outline that meets no smaller limit is read the same within larger
+-- ones.
 use Rattle.std.specs.Prelude.{◌≡◌, ℕ, List, true}
 use Rattle.smil_model.specs.document.Limits.{Limits}
 use Rattle.smil_grammar.specs.Outlines.{Outline, line_within, outline_within}

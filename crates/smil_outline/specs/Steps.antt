@@ -12,7 +12,7 @@ use Rattle.smil_grammar.specs.declared.fault.NodeFault.{NodeFault}
 use Rattle.smil_grammar.specs.declared.fault.NodeFault.TheVariants.{Unsupported, UnknownAttribute, BadValue, TooManyItems}
 use Rattle.smil_grammar.specs.Results.{◌>>=◌}
 use Rattle.smil_grammar.specs.Nodes.{WrittenAttr, Shape, is_space, kind_of_shape}
-use Rattle.smil_grammar.specs.Outlines.{Outline, unless, in_line, is_misplaced, is_bad_serial, has_id, attrs_in, last_of, with_node}
+use Rattle.smil_grammar.specs.Outlines.{Outline, refuse_if, in_line, is_misplaced, is_bad_serial, has_id, attrs_in, last_of, with_node}
 
 -- a line without its leading spaces
 abbrev pub text_of : List ℕ → List ℕ
@@ -21,25 +21,26 @@ text_of line = drop (prefix_len is_space line) line
 -- the kind of a node, and the refusals that come before its place
 abbrev pub kind_at : Outline → ℕ → ℕ → Shape → Result Kind Refusal
 kind_at outline spaces serial shape = do
-  even ← unless (spaces % 2 == 1) refusal.BadOutline
+  even ← refuse_if (spaces % 2 == 1) refusal.BadOutline
   kind ← in_line spaces (kind_of_shape (Some shape))
-  fresh ← unless (is_bad_serial outline outline.next serial) refusal.BadSerial
-  near ← unless (nat_lt (length outline.branch) (spaces / 2)) refusal.DepthJump
-  flat ← unless (nat_le DEPTH (spaces / 2)) refusal.TooDeep
+  fresh ← refuse_if (is_bad_serial outline outline.next serial) refusal.BadSerial
+  near ← refuse_if (nat_lt (length outline.branch) (spaces / 2)) refusal.DepthJump
+  flat ← refuse_if (nat_le DEPTH (spaces / 2)) refusal.TooDeep
   Ok kind
 
 -- the attributes of a node that stands where it may
 abbrev pub attrs_at : Outline → ℕ → List (ℕ × Kind) → Kind → Shape → Result Attrs Refusal
 attrs_at outline spaces above kind shape = do
-  placed ← unless (is_misplaced outline above kind) refusal.BadPlace
+  placed ← refuse_if (is_misplaced outline above kind) refusal.BadPlace
   in_line spaces (attrs_in (last_of above) kind shape)
 
 -- the node with these attributes, within the limits of a document
 abbrev pub node_with : List Node → ℕ → Option (ℕ × Kind) → Kind → Attrs → Result Node Refusal
 node_with nodes serial parent kind attrs = do
-  single ← unless (has_id nodes attrs.id) refusal.DuplicateId
-  few ← unless (nat_le NODES (length nodes)) refusal.TooManyElements
-  light ← unless (nat_lt REFERENCES (references nodes + references_among attrs)) refusal.TooManyReferences
+  single ← refuse_if (has_id nodes attrs.id) refusal.DuplicateId
+  few ← refuse_if (nat_le NODES (length nodes)) refusal.TooManyElements
+  light ← refuse_if
+      (nat_lt REFERENCES (references nodes + references_among attrs)) refusal.TooManyReferences
   Ok (record {
     serial = serial;
     kind = kind;

@@ -50,7 +50,8 @@ impl Model for Builder {
 
     ghost view = { λ a. record { nodes = a.nodes; branch = a.branch; next = a.next } };
 
-    ghost invariant = { λ a. IsOfBuilder (record { nodes = a.nodes; branch = a.branch; next = a.next }) };
+    ghost invariant = { λ a.
+        IsOfBuilder (record { nodes = a.nodes; branch = a.branch; next = a.next }) };
 }
 
 // The kind of a node line of this shape behind so many spaces.
@@ -324,8 +325,9 @@ impl Builder {
     /// serial that isn't below the header's number, or that a node has already; `DepthJump` more
     /// than one level below the line before; `TooDeep` at depth 32; `BadPlace` for a second root,
     /// or where the parent can't have such a child, or not beside those that it has; an attribute's
-    /// fault, with its column in the line from 1; `DuplicateId`; `TooManyElements` behind 8,000 nodes; `TooManyReferences` above
-    /// 32,000. `Memory` may come at any node line. After a refusal the builder is as before.
+    /// fault, with its column in the line from 1; `DuplicateId`; `TooManyElements` behind 8,000
+    /// nodes; `TooManyReferences` above 32,000. `Memory` may come at any node line. After a refusal
+    /// the builder is as before.
     pub fn push(&mut self, line: &[u8]) -> Result<(), Refusal>
         ensures ok { OnOk result (with_line self.old line.now ≡ Ok self.new) }
         ensures refusal { IfErr result (GivesRefusal (with_line self.old line.now)) }

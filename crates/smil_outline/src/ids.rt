@@ -1,7 +1,7 @@
 //! The ids of an outline's nodes.
 
 ghost use Rattle.std.specs.Prelude.{◌≡◌, ℕ, List, [], ◌||◌, bytes_eq, OnOk, OnErr};
-ghost use Rattle.smil_outline.specs.Branches.{is_listed};
+ghost use Rattle.smil_outline.specs.Branches.{is_among_ids};
 
 use std::alloc::{AllocError, Global};
 use std::collections::BTreeSet;
@@ -33,7 +33,7 @@ impl Ids {
 
     /// Whether this id is among them.
     pub fn has(&self, id: &[u8]) -> bool
-        ensures { result ≡ is_listed self.now id.now }
+        ensures { result ≡ is_among_ids self.now id.now }
     {
         self.ids.contains(id)
     }
@@ -42,7 +42,7 @@ impl Ids {
     /// before.
     pub fn put(&mut self, id: Vec<u8>) -> Result<(), AllocError>
         ensures ok { OnOk result ((other : List ℕ)
-            → is_listed self.new other ≡ (is_listed self.old other || bytes_eq id.items other)) }
+            → is_among_ids self.new other ≡ (is_among_ids self.old other || bytes_eq id.items other)) }
         ensures err { OnErr result (self.new ≡ self.old) }
     {
         self.ids.insert(id)?;

@@ -12,6 +12,7 @@ ghost use Rattle.smil_outline.specs.Written.{line_text, nodes_text};
 
 use super::branch::Branch;
 use smil_attrs::{write_header, write_node, write_node_2};
+use smil_lexis::writers::undone;
 use smil_model::{Bytes, Doc, Kind, Node};
 use std::alloc::AllocError;
 
@@ -99,13 +100,8 @@ pub fn write_doc(doc: &Doc, out: &mut Bytes) -> Result<(), AllocError>
     ensures err { OnErr result (out.new ≡ out.old) }
 {
     let before = out.len();
-    match put_nodes(doc, false, out) {
-        Ok(()) => Ok(()),
-        Err(fault) => {
-            out.cut_back(before);
-            Err(fault)
-        }
-    }
+    let written = put_nodes(doc, false, out);
+    undone(written, out, before)
 }
 
 // Appends the header and the lines of all nodes.
@@ -129,11 +125,6 @@ pub fn write_doc_2(doc: &Doc, out: &mut Bytes) -> Result<(), AllocError>
     ensures err { OnErr result (out.new ≡ out.old) }
 {
     let before = out.len();
-    match put_saved(doc, out) {
-        Ok(()) => Ok(()),
-        Err(fault) => {
-            out.cut_back(before);
-            Err(fault)
-        }
-    }
+    let written = put_saved(doc, out);
+    undone(written, out, before)
 }

@@ -3,6 +3,7 @@ use Rattle.std.proofs.Common.{◌≡◌, ◌≢◌, ℕ, ◌+◌, ◌-◌, ◌<�
 use Rattle.std.proofs.lemmas.Bool.{cases_lt, cases_Bool}
 use Rattle.std.proofs.lemmas.Bool.Decides.{when_true, when_false}
 use Rattle.std.proofs.lemmas.List.{length-append, length-take, length-take-le, take-take, take_all, drop_all, drop_more, take-append-drop}
+use Rattle.std.specs.Io.KnownBytes.{IsAtEnd}
 use Rattle.std.specs.Str.Lines.{strip_carriage_return}
 use Rattle.smil_outside.specs.declared.line.TheConstants.{INPUT_BYTES}
 use Rattle.smil_model.specs.declared.limits.TheConstants.{LINE_BYTES}
@@ -13,7 +14,7 @@ use Rattle.smil_outside.specs.declared.scan.Scan.{Scan}
 use Rattle.smil_outside.specs.declared.scan.Stop.TheVariants.{LineFeed, InputEnd}
 use Rattle.smil_outside.specs.Lines.{HasNoLineFeed, StartsWithLine, IsUnendedLine}
 use Rattle.smil_model.specs.document.Words.{line_feed}
-use Rattle.smil_outside.specs.ReaderState.{ReaderState, Reads, within_limit}
+use Rattle.smil_outside.specs.ReaderState.{ReaderState, Reads, Answers, line_count, within_limit}
 use Rattle.smil_outside.specs.Scan.{Scans, Stops, IsCutFront}
 use Rattle.smil_outside.proofs.ScanLemmas.{HasNoLineFeed-append}
 
@@ -72,6 +73,18 @@ Counts-from old new covers line is = record {
   closed = ap (λ r. r.closed) is;
 }
 
+-- what a scan found, with what was answered of it
+answers : (old mid new : ReaderState) (answer told : Line) (scan : Scan) (rest after : Option (List ℕ)) (covers : ℕ) →
+    (s : Scans old.pending mid.pending old.taken mid.taken scan rest after) → mid.number ≡ old.number → line_count told ≡ 1 → answer ≡ told → Counts mid new covers →
+    Answers told (old.pending ++ within_limit old.taken s.came) new (IsAtEnd after × (new.taken ≤ INPUT_BYTES)) → Reads old new answer rest after
+answers old mid new answer told scan rest after covers s number one is counts answered = subst (λ a. Reads old new a rest after) (sym is) (record {
+  came = s.came;
+  took = s.took;
+  counted = counts.taken ∙ s.counted;
+  numbered = counts.number ∙ ap (λ n. n + 1) number ∙ ap (λ n. old.number + n) (sym one);
+  answered = answered;
+})
+
 -- a line that ends at a line feed
 pub line_feed_reads : (old mid new : ReaderState) (answer : Line) (scan : Scan) (rest after : Option (List ℕ)) (at len : ℕ) →
     Scans old.pending mid.pending old.taken mid.taken scan rest after → Stops (LineFeed at) mid.pending mid.taken after →
@@ -94,33 +107,22 @@ line_feed_reads old mid new answer scan rest after at len s stops number closed 
     ]
   where
     line_is_long : LINE_BYTES < length (strip_carriage_return (s.dropped ++ take at mid.pending)) → (answer ≡ LongLine) × (new.line ≡ []) × Counts mid new (at + 1) → Reads old new answer rest after
-    line_is_long many e = subst (λ a. Reads old new a rest after) (sym e.0) (record {
-      came = s.came;
-      took = s.took;
-      counted = e.2.taken ∙ s.counted;
-      numbered = e.2.number ∙ ap (λ n. n + 1) number;
-      answered = ((strip_carriage_return (s.dropped ++ take at mid.pending), inl (subst (λ zs. StartsWithLine (old.pending ++ within_limit old.taken s.came) (strip_carriage_return (s.dropped ++ take at mid.pending)) zs) (sym e.2.pending) (starts_with_line old.pending mid.pending old.taken mid.taken scan rest after at s stops), e.2.closed ∙ closed), many), e.1);
-    })
+    line_is_long many e = answers old mid new answer LongLine scan rest after (at + 1) s number refl e.0 e.2
+        ((strip_carriage_return (s.dropped ++ take at mid.pending), inl (subst (λ zs. StartsWithLine (old.pending ++ within_limit old.taken s.came) (strip_carriage_return (s.dropped ++ take at mid.pending)) zs) (sym e.2.pending) (starts_with_line old.pending mid.pending old.taken mid.taken scan rest after at s stops), e.2.closed ∙ closed), many), e.1)
 
     line_is_short : strip_carriage_return (s.dropped ++ take at mid.pending) ≡ take len (take at mid.pending) → length (strip_carriage_return (s.dropped ++ take at mid.pending)) ≡ len → len ≤ LINE_BYTES →
         (answer ≡ Bytes) × (new.line ≡ take len mid.pending) × Counts mid new (at + 1) → Reads old new answer rest after
     line_is_short same size few e =
         let line : strip_carriage_return (s.dropped ++ take at mid.pending) ≡ new.line = same ∙ take-take len at mid.pending (omega (arith, bound, length-take at mid.pending)) ∙ sym e.1 in
         let starts = starts_with_line old.pending mid.pending old.taken mid.taken scan rest after at s stops in
-        subst (λ a. Reads old new a rest after) (sym e.0) (record {
-          came = s.came;
-          took = s.took;
-          counted = e.2.taken ∙ s.counted;
-          numbered = e.2.number ∙ ap (λ n. n + 1) number;
-          answered = (
-            inl (
-              subst (λ zs. StartsWithLine (old.pending ++ within_limit old.taken s.came) zs new.pending) line
-                  (subst (λ zs. StartsWithLine (old.pending ++ within_limit old.taken s.came) (strip_carriage_return (s.dropped ++ take at mid.pending)) zs) (sym e.2.pending) starts),
-              e.2.closed ∙ closed,
-            ),
-            omega (arith, ap length line, size, few),
-          );
-        })
+        answers old mid new answer Bytes scan rest after (at + 1) s number refl e.0 e.2 (
+          inl (
+            subst (λ zs. StartsWithLine (old.pending ++ within_limit old.taken s.came) zs new.pending) line
+                (subst (λ zs. StartsWithLine (old.pending ++ within_limit old.taken s.came) (strip_carriage_return (s.dropped ++ take at mid.pending)) zs) (sym e.2.pending) starts),
+            e.2.closed ∙ closed,
+          ),
+          omega (arith, ap length line, size, few),
+        )
 
 -- a last line, which no line feed ends
 pub end_reads : (old mid new : ReaderState) (answer : Line) (scan : Scan) (rest after : Option (List ℕ)) →
@@ -153,31 +155,20 @@ end_reads old mid new answer scan rest after s stops number closed some long sho
     nothing_left e = e.pending ∙ drop_all (length mid.pending) mid.pending (omega arith)
 
     line_is_long : LINE_BYTES < length (old.pending ++ within_limit old.taken s.came) → (answer ≡ LongLine) × (new.line ≡ []) × Counts mid new (length mid.pending) → Reads old new answer rest after
-    line_is_long many e = subst (λ a. Reads old new a rest after) (sym e.0) (record {
-      came = s.came;
-      took = s.took;
-      counted = e.2.taken ∙ s.counted;
-      numbered = e.2.number ∙ ap (λ n. n + 1) number;
-      answered = ((old.pending ++ within_limit old.taken s.came, inr (unended, (stops.1, omega (arith, stops.2, e.2.taken)), nothing_left e.2, e.2.closed ∙ closed), many), e.1);
-    })
+    line_is_long many e = answers old mid new answer LongLine scan rest after (length mid.pending) s number refl e.0 e.2
+        ((old.pending ++ within_limit old.taken s.came, inr (unended, (stops.1, omega (arith, stops.2, e.2.taken)), nothing_left e.2, e.2.closed ∙ closed), many), e.1)
 
     line_is_short : s.dropped ++ mid.pending ≡ mid.pending → length mid.pending ≤ LINE_BYTES →
         (answer ≡ Bytes) × (new.line ≡ take (length mid.pending) mid.pending) × Counts mid new (length mid.pending) → Reads old new answer rest after
     line_is_short whole few e =
         let line : new.line ≡ mid.pending = e.1 ∙ take_all (length mid.pending) mid.pending (omega arith) in
         let same : new.line ≡ old.pending ++ within_limit old.taken s.came = line ∙ sym whole ∙ sym s.text in
-        subst (λ a. Reads old new a rest after) (sym e.0) (record {
-          came = s.came;
-          took = s.took;
-          counted = e.2.taken ∙ s.counted;
-          numbered = e.2.number ∙ ap (λ n. n + 1) number;
-          answered = (
-            inr (
-              record { same = same; uncut = unended.uncut; some = unended.some },
-              (stops.1, omega (arith, stops.2, e.2.taken)),
-              nothing_left e.2,
-              e.2.closed ∙ closed,
-            ),
-            omega (arith, ap length line, few),
-          );
-        })
+        answers old mid new answer Bytes scan rest after (length mid.pending) s number refl e.0 e.2 (
+          inr (
+            record { same = same; uncut = unended.uncut; some = unended.some },
+            (stops.1, omega (arith, stops.2, e.2.taken)),
+            nothing_left e.2,
+            e.2.closed ∙ closed,
+          ),
+          omega (arith, ap length line, few),
+        )

@@ -1,5 +1,5 @@
--- The lines of a text that a line feed ends, each without one carriage return before it. All lines, one behind the
--- last line feed too, are std's `lines`.
+-- The lines of a text that a line feed ends, each without one carriage return before it.
+-- All lines, one behind the last line feed too, are std's `lines`.
 use Rattle.std.specs.Prelude.{◌≡◌, ◌≢◌, ℕ, ◌<◌, ◌==◌, List, [], ◌∷◌, ◌++◌, length, slice_index, EachIndex}
 use Rattle.std.specs.List.{slice_split}
 use Rattle.std.specs.Str.Lines.{strip_carriage_return}
@@ -13,7 +13,8 @@ parts text = slice_split (λ byte. byte == line_feed) text
 abbrev pub whole_lines_of_parts : List (List ℕ) → List (List ℕ)
 whole_lines_of_parts [] = []
 whole_lines_of_parts (last ∷ []) = []
-whole_lines_of_parts (part ∷ next ∷ more) = strip_carriage_return part ∷ whole_lines_of_parts (next ∷ more)
+whole_lines_of_parts (part ∷ next ∷ more) =
+    strip_carriage_return part ∷ whole_lines_of_parts (next ∷ more)
 
 abbrev pub whole_lines : List ℕ → List (List ℕ)
 whole_lines text = whole_lines_of_parts (parts text)

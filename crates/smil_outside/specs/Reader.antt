@@ -15,8 +15,8 @@ reading_in r = record {
   closed = r.closed;
 }
 
--- it took no more than the limit and a window; and the lines that were answered, the bytes that are left and those that
--- may still come are together no more than the limit
+-- it took no more than the limit and a window; and the lines that were answered,
+-- the bytes that are left and those that may still come are together no more than the limit
 abbrev pub IsReader : Inside → Type 0
 IsReader r =
     (r.taken ≤ INPUT_BYTES + WINDOW_BYTES)

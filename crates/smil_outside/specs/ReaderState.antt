@@ -44,7 +44,8 @@ line_count ReadFault = 0
 abbrev pub within_limit : ℕ → List ℕ → List ℕ
 within_limit taken came = take (INPUT_BYTES - taken) came
 
--- `line` is the text's next line: a line feed ends it, or it is all that is left at the end of the input
+-- `line` is the text's next line: a line feed ends it,
+-- or it is all that is left at the end of the input
 abbrev pub IsNextLine : List ℕ → List ℕ → ReaderState → Type 0 → Type 0
 IsNextLine text line new at_end =
     (StartsWithLine text line new.pending × (new.closed ≡ None))
@@ -60,7 +61,8 @@ pub record Closes (new : ReaderState) (how : Ending) : Type 0 where
 abbrev pub Answers : Line → List ℕ → ReaderState → Type 0 → Type 0
 Answers Bytes text new at_end = IsNextLine text new.line new at_end × (length new.line ≤ LINE_BYTES)
 Answers LongLine text new at_end =
-    ((line : List ℕ) × IsNextLine text line new at_end × (LINE_BYTES < length line)) × (new.line ≡ [])
+    ((line : List ℕ) × IsNextLine text line new at_end × (LINE_BYTES < length line))
+    × (new.line ≡ [])
 Answers End text new at_end = (text ≡ []) × at_end × Closes new ending.End
 Answers InputTooLong text new at_end =
     HasNoLineFeed text × (INPUT_BYTES < new.taken) × Closes new ending.InputTooLong
@@ -68,9 +70,11 @@ Answers ReadFault text new at_end =
     HasNoLineFeed text × (new.taken ≤ INPUT_BYTES) × Closes new ending.ReadFault
 
 -- a call of `next` took `came` from the source, and answered
-pub record Reads (old new : ReaderState) (answer : Line) (before after : Option (List ℕ)) : Type 0 where
+pub record Reads
+    (old new : ReaderState) (answer : Line) (before after : Option (List ℕ)) : Type 0 where
   pub came : List ℕ
   pub took : Consumes before after came
   pub counted : new.taken ≡ old.taken + length came
   pub numbered : new.number ≡ old.number + line_count answer
-  pub answered : Answers answer (old.pending ++ within_limit old.taken came) new (IsAtEnd after × (new.taken ≤ INPUT_BYTES))
+  pub answered : Answers answer (old.pending ++ within_limit old.taken came) new (IsAtEnd after
+      × (new.taken ≤ INPUT_BYTES))

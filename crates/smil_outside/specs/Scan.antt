@@ -25,7 +25,8 @@ pub record IsCutFront (dropped bytes : List ℕ) : Type 0 where
   pub goes_on : slice_index bytes 0 ≢ line_feed
 
 -- a scan took `came`, left out `dropped`, the front of a line that is too long, and holds `bytes`
-pub record Scans (old bytes : List ℕ) (before taken : ℕ) (scan : Scan) (rest after : Option (List ℕ)) : Type 0 where
+pub record Scans (old bytes : List ℕ) (before taken : ℕ) (scan : Scan)
+    (rest after : Option (List ℕ)) : Type 0 where
   pub came : List ℕ
   pub dropped : List ℕ
   pub took : Consumes rest after came

@@ -2,7 +2,8 @@
 use Rattle.std.specs.Prelude.{ℕ, ◌+◌, min, List, Option}
 use Rattle.smil_outside.specs.Faults.{last_count}
 
--- the bytes that the reader has left or the writer holds, where these are known, and how many faults there were
+-- the bytes that the reader has left or the writer holds, where these are known,
+-- and how many faults there were
 pub record CountedBytes : Type 0 where
   pub bytes : Option (List ℕ)
   pub faults : ℕ

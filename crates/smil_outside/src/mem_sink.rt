@@ -24,7 +24,8 @@ impl Model for MemSink {
 
     ghost Value = { SinkState };
 
-    ghost view = { λ s. record { taken = take s.len s.buffer.items; room = vec_len s.buffer; plan = s.plan } };
+    ghost view = { λ s.
+        record { taken = take s.len s.buffer.items; room = vec_len s.buffer; plan = s.plan } };
 
     ghost invariant = { λ s. s.len ≤ vec_len s.buffer };
 }

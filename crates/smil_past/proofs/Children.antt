@@ -1,5 +1,6 @@
 -- The time children of an element, by their time parent, and their rows after a step of it.
 use Rattle.std.proofs.Common.{◌≡◌, refl, sym, ◌∙◌, ap, ℕ, List, [], ◌∷◌, Option, Some, None, Bool, true, false}
+use mathlib.Core.Bool.{and-false}
 use Rattle.std.specs.Prelude.{cond, not, ◌==◌, ◌||◌, ◌&&◌, filter, option_map}
 use Rattle.std.specs.List.{list_any}
 use Rattle.std.proofs.lemmas.Bool.{eqb-true}
@@ -8,7 +9,7 @@ use Rattle.smil_model.specs.declared.document.Node.{Node}
 use Rattle.smil_model.specs.document.Document.{elements, is_element, has_serial, is_time_child, time_parent, time_children}
 use Rattle.smil_model.specs.diary.Lawful.{has_element}
 use Rattle.smil_model.specs.diary.Plays.{is_birth_under}
-use Rattle.smil_laws.proofs.Lineages.{swap_eqb}
+use Rattle.smil_laws.proofs.Lineages.{same_eqb}
 use Rattle.smil_past.specs.declared.plays.facts.PlayFacts.{PlayFacts}
 use Rattle.smil_past.specs.Rows.{row_of, AreAfterParent, AreChildrenTaken}
 use Rattle.smil_past.specs.Followed.{is_death_under, child_after}
@@ -31,12 +32,8 @@ any_child nodes who s (n ∷ ns) = by_test (n.serial == s) (is_element n) (has_s
         ∙ sym (ap (λ w. (w || list_any (λ (m : Node). m.serial == s) es) && has_serial who (time_parent nodes s)) e ∙ ap (λ k. has_serial who (time_parent nodes k)) (sym (eqb-true n.serial s e)) ∙ f)
     by_test true true false e f more =
         let off : has_serial who (time_parent nodes s) ≡ false = ap (λ k. has_serial who (time_parent nodes k)) (sym (eqb-true n.serial s e)) ∙ f in
-        more ∙ ap (λ w. list_any (λ (m : Node). m.serial == s) es && w) off ∙ none (list_any (λ (m : Node). m.serial == s) es)
+        more ∙ ap (λ w. list_any (λ (m : Node). m.serial == s) es && w) off ∙ and-false (list_any (λ (m : Node). m.serial == s) es)
         ∙ sym (ap (λ w. (w || list_any (λ (m : Node). m.serial == s) es) && has_serial who (time_parent nodes s)) e ∙ off)
-      where
-        none : (w : Bool) → (w && false) ≡ false
-        none true = refl
-        none false = refl
     by_test false true true e f more = ap (λ w. w || list_any (λ (m : Node). m.serial == s) kids) e ∙ more ∙ sym (ap (λ w. (w || list_any (λ (m : Node). m.serial == s) es) && has_serial who (time_parent nodes s)) e)
     by_test false true false e f more = more ∙ sym (ap (λ w. (w || list_any (λ (m : Node). m.serial == s) es) && has_serial who (time_parent nodes s)) e)
 
@@ -62,14 +59,10 @@ children_taken nodes step who birth old new born left are = record {
     by_both true false o = same_map o
     by_both false false o = same_map o
 
-    swap : (a b : ℕ) (t : Bool) → b == a ≡ t → a == b ≡ t
-    swap a b true q = ap (λ k. a == k) (eqb-true b a q) ∙ ap (λ k. k == a) (sym (eqb-true b a q)) ∙ q
-    swap a b false q = swap_eqb b a q
-
     under : (o : Option Node) (r : Option PlayFacts) → cond (has_serial who o) (option_map (child_after birth (not birth)) r) r ≡ option_map (child_after (is_birth_under o step) (is_death_under o step)) r
     under None r = same_map r
     under (Some p) r =
-        ap (λ t. cond t (option_map (child_after birth (not birth)) r) r) (sym (swap who p.serial (p.serial == who) refl))
+        ap (λ t. cond t (option_map (child_after birth (not birth)) r) r) (same_eqb p.serial who)
         ∙ by_both birth (who == p.serial) r
         ∙ ap (λ b. option_map (child_after b (not birth && (who == p.serial))) r) (sym (born p))
         ∙ ap (λ d. option_map (child_after (is_birth_under (Some p) step) d) r) (sym (left p))

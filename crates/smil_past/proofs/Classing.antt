@@ -7,7 +7,7 @@ use Rattle.std.proofs.lemmas.List.{length-map}
 use Rattle.std.proofs.lemmas.Option.{slice_get-map, get_or_from_slice_get, same_Some}
 use Rattle.smil_model.specs.declared.limits.TheConstants.{DEPTH}
 use Rattle.smil_model.specs.declared.document.Kind.{Kind}
-use Rattle.smil_model.specs.declared.document.Kind.TheVariants.{Par, Seq, Excl, PriorityClass, Img, Text, Brush, Audio, Video, Animation, TextStream, Ref, Set}
+use Rattle.smil_model.specs.declared.document.Kind.TheVariants.{Par}
 use Rattle.smil_model.specs.declared.document.Node.{Node}
 use Rattle.smil_model.specs.declared.happening.Class.{Class}
 use Rattle.smil_model.specs.document.Document.{has_kind, is_class_kind, is_container_kind, node_at, serial_of, serials}
@@ -83,18 +83,7 @@ class_parent nodes class placed q = by (node_at nodes class) refl q
   where
     root : (k : Kind) → is_class_kind k ≡ true → is_container_kind k ≡ true → ⊥
     root Par c r = cc
-    root Seq c r = cc
-    root Excl c r = cc
-    root PriorityClass c r = cc
-    root Img c r = cc
-    root Text c r = cc
-    root Brush c r = cc
-    root Audio c r = cc
-    root Video c r = cc
-    root Animation c r = cc
-    root TextStream c r = cc
-    root Ref c r = cc
-    root Set c r = cc
+    root _ c r = cc
 
     parented : (n : Node) (o : Option Node) → node_at nodes n.parent ≡ o → is_class_kind n.kind ≡ true → may_stand (kind_of o) n.kind ≡ true → is_some (serial_of o) ≡ true
     parented n None e k s = absurd (root n.kind k s)

@@ -1,12 +1,10 @@
 -- The first entries of a diary.
 use Rattle.std.proofs.Common.{◌≡◌, refl, sym, ◌∙◌, ap, subst, ℕ, ◌+◌, ◌-◌, ◌<◌, ◌≤◌, List, [], ◌∷◌, ◌++◌, take, length, length-drop, get_or, Some, arith}
-use Rattle.std.specs.Prelude.{drop, pos, slice_get}
+use Rattle.std.specs.Prelude.{drop, slice_get}
 use Rattle.std.specs.List.{AllByRecursion}
 use Rattle.std.proofs.lemmas.List.{get_or-drop, take-append-drop, take_rest}
-use Rattle.std.proofs.lemmas.Option.{slice_get-get_or}
 use Rattle.smil_model.specs.declared.diary.Entry.{Entry}
 use Rattle.smil_model.specs.declared.diary.LogEntry.{LogEntry}
-use Rattle.smil_model.specs.declared.diary.Step.TheVariants.{Began}
 use Rattle.smil_model.specs.document.Document.{Document}
 use Rattle.smil_model.specs.diary.Lawful.{IsLawful}
 use Rattle.smil_laws.specs.Near.{HasNear}
@@ -14,12 +12,9 @@ use Rattle.smil_laws.specs.Cut.{IsNamedBelow}
 use Rattle.smil_laws.proofs.Lists.{take-more_at}
 use Rattle.smil_tree.proofs.KinLists.{each_left}
 use Rattle.smil_stretch.proofs.Diaries.{lawful_first}
+use Rattle.smil_stretch.proofs.Idle.{next_at, no_entry}
 use Rattle.smil_instances.specs.Intake.{history_of}
 use Rattle.smil_past.specs.Past.{IsPossible, MayFollow, unmarked}
-
--- what stands for an entry where there is none
-abbrev pub no_entry : Entry
-no_entry = record { moment = pos 0; step = Began 0 (pos 0) }
 
 each_last : {A : Type 0} (P : A → Type 0) (xs : List A) (y : A) → AllByRecursion P (xs ++ y ∷ []) → P y
 each_last P [] y each = each.0
@@ -29,11 +24,11 @@ each_last P (x ∷ xs) y each = each_last P xs y each.1
 abbrev pub rest : List Entry → ℕ → List Entry
 rest entries from = take (length entries - from) (drop from entries)
 
-pub entry_at : (entries : List Entry) (from k : ℕ) → k < length (rest entries from) → slice_get entries (from + k) ≡ Some (get_or (rest entries from) k no_entry)
-entry_at entries from k within =
+pub entry_at : (entries diary : List Entry) (from k : ℕ) → diary ≡ entries → k < length (rest entries from) → slice_get diary (from + k) ≡ Some (get_or (rest entries from) k no_entry)
+entry_at entries diary from k same within =
     let left : k < length (drop from entries) = subst (λ (es : List Entry). k < length es) (take_rest entries from) within in
     let below : from + k < length entries = omega (arith, left, length-drop from entries) in
-    slice_get-get_or entries (from + k) no_entry below
+    next_at entries diary (from + k) no_entry same below
     ∙ ap (λ (y : Entry). Some y) (sym (ap (λ (es : List Entry). get_or es k no_entry) (take_rest entries from) ∙ get_or-drop from entries k no_entry))
 
 pub all_reached : (entries : List Entry) (from k : ℕ) → length (rest entries from) ≤ k → length entries ≤ from + k

@@ -1,13 +1,12 @@
 -- A log of which the diary does not name the last entries.
-use Rattle.std.proofs.Common.{◌≡◌, refl, sym, ◌∙◌, ap, subst, ℕ, suc, zero, ◌+◌, List, [], ◌∷◌, ◌++◌, take, length, length-append, arith}
+use Rattle.std.proofs.Common.{◌≡◌, refl, sym, ◌∙◌, ap, subst, ℕ, suc, zero, List, [], ◌∷◌, ◌++◌, take, length, length-append, arith}
 use Rattle.std.specs.Prelude.{All, map}
 use Rattle.std.proofs.Math.Seq.{take-length}
 use Rattle.std.proofs.lemmas.List.{take-append-le}
-use Rattle.smil_model.specs.declared.times.Time.TheVariants as time
 use Rattle.smil_model.specs.declared.diary.Entry.{Entry}
 use Rattle.smil_model.specs.declared.diary.LogEntry.{LogEntry}
 use Rattle.smil_model.specs.declared.diary.Step.{Step}
-use Rattle.smil_model.specs.declared.diary.Step.TheVariants.{Began, Repeated, Ended, Cut, Paused, Resumed, Deferred, Passed, Logged}
+use Rattle.smil_model.specs.declared.diary.Step.TheVariants.{Logged}
 use Rattle.smil_model.specs.declared.document.Node.{Node}
 use Rattle.smil_model.specs.declared.document.Edge.{Edge}
 use Rattle.smil_model.specs.declared.document.Edge.TheVariants.{Begin, End}
@@ -31,14 +30,7 @@ use Rattle.smil_past.specs.Readings.{Holds, AreReadingsOf}
 
 heard_alike : (log more : List LogEntry) (step : Step) → IsNamedBelow (length log) step → IsSameHeard log (log ++ more) step
 heard_alike log more (Logged place) named = get_longer log more place named
-heard_alike log more (Began who begin) named = tt
-heard_alike log more (Repeated who start) named = tt
-heard_alike log more (Ended who end') named = tt
-heard_alike log more (Cut who) named = tt
-heard_alike log more (Paused who) named = tt
-heard_alike log more (Resumed who) named = tt
-heard_alike log more (Deferred who begin) named = tt
-heard_alike log more (Passed who begin) named = tt
+heard_alike log more _ named = tt
 
 all_alike : (log more : List LogEntry) (diary : List Entry) → NamesBelow (length log) diary → All (λ (z : Entry). IsSameHeard log (log ++ more) z.step) diary
 all_alike log more [] named k d below = absurd (omega (arith, below))

@@ -1,5 +1,5 @@
 -- The rows before the first entry.
-use Rattle.std.proofs.Common.{◌≡◌, refl, sym, ◌∙◌, ap, ℕ, List, [], ◌∷◌, Option, None, Bool, true, false, ℤ, length, map, arith}
+use Rattle.std.proofs.Common.{◌≡◌, refl, sym, ◌∙◌, ap, ℕ, List, [], ◌∷◌, Option, None, ℤ, map, arith}
 use Rattle.std.specs.Prelude.{cond, pos, fold, option_and_then}
 use Rattle.std.proofs.lemmas.List.{drop_all}
 use Rattle.smil_model.specs.declared.times.Time.TheVariants.{Unresolved}
@@ -9,6 +9,7 @@ use Rattle.smil_model.specs.document.Document.{elements, serials}
 use Rattle.smil_model.specs.diary.Diary.{History, up_to, birth, since_birth, is_alive, deferral, deferral_after}
 use Rattle.smil_model.specs.diary.Plays.{passed, passed_after}
 use Rattle.smil_model.specs.shown.Views.{deferred_begin}
+use Rattle.smil_diary.proofs.Choices.{same_choice}
 use Rattle.smil_past.specs.declared.plays.facts.PlayFacts.{PlayFacts}
 use Rattle.smil_past.specs.declared.plays.TheConstants.{IDLE}
 use Rattle.smil_past.specs.Played.{all_played, played}
@@ -30,11 +31,7 @@ module _ (h : History) where
   deferral_none : (s : ℕ) → deferral fresh s ≡ None
   deferral_none s =
       ap (λ ds. cond (is_alive fresh s) (fold (λ before (x : Entry). deferral_after s x before x.step) None ds) None) (none_since s)
-      ∙ either (is_alive fresh s)
-    where
-      either : (t : Bool) → cond {A = Option Entry} t None None ≡ None
-      either true = refl
-      either false = refl
+      ∙ same_choice (is_alive fresh s) None
 
   passed_none : (s : ℕ) → passed fresh s ≡ None
   passed_none s = ap (fold (λ before (x : Entry). passed_after s before x.step) None) (none_since s)

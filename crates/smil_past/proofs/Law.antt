@@ -7,7 +7,7 @@ use Rattle.smil_model.specs.declared.interval.Interval.{Interval}
 use Rattle.smil_model.specs.declared.document.Node.{Node}
 use Rattle.smil_model.specs.declared.document.Edge.{Edge}
 use Rattle.smil_model.specs.declared.document.Item.{Item}
-use Rattle.smil_model.specs.declared.document.Item.TheVariants.{Offset, Sync, Event, Repeat, Key, Indefinite}
+use Rattle.smil_model.specs.declared.document.Item.TheVariants.{Offset, Sync}
 use Rattle.smil_model.specs.document.Document.{element_named, previous_in_seq}
 use Rattle.smil_model.specs.document.Defaults.{items_of}
 use Rattle.smil_model.specs.document.Dependencies.{leads_to}
@@ -39,10 +39,7 @@ module _ (h : History) (intervals : ℕ → Option Interval) (now : ℤ) (e : No
   head : (item : Item) (syncs : List Syncbase) → expected_of h intervals now e item ++ times_by syncs ≡ times_by (cons_option (waits item) syncs)
   head (Offset offset) syncs = before_head offset (previous_in_seq h.nodes e.serial) syncs
   head (Sync who edge offset) syncs = named_head offset edge (element_named h.nodes who) syncs
-  head (Event who name offset) syncs = refl
-  head (Repeat who n offset) syncs = refl
-  head (Key key offset) syncs = refl
-  head Indefinite syncs = refl
+  head _ syncs = refl
 
   told : (items : List Item) → flat_map (expected_of h intervals now e) items ≡ times_by (filter_map waits items)
   told [] = refl

@@ -3,6 +3,7 @@ use Rattle.std.proofs.Common.{◌≡◌, refl, sym, ◌∙◌, ap, subst, ℕ, �
 use Rattle.std.specs.Prelude.{cond, ◌==◌, option_map, slice_get, unwrap_or}
 use Rattle.std.specs.Option.{option_or}
 use Rattle.std.proofs.lemmas.Bool.{eqb-true, eq-eqb}
+use Rattle.std.proofs.lemmas.Option.{same_Some}
 use Rattle.smil_stretch.specs.declared.clock.NodeClock.{NodeClock}
 use Rattle.smil_model.specs.declared.diary.Entry.{Entry}
 use Rattle.smil_model.specs.declared.diary.LogEntry.{LogEntry}
@@ -20,7 +21,7 @@ use Rattle.smil_past.specs.declared.plays.facts.PastInterval.{PastInterval}
 use Rattle.smil_past.specs.declared.plays.facts.PlayFacts.{PlayFacts}
 use Rattle.smil_model.specs.reach.Reach.{subject, logged_subject, subject_of}
 use Rattle.smil_past.specs.Rows.{row_of, IsPut, IsOwnTaken}
-use Rattle.smil_past.specs.Followed.{began_row, deferred_row, finished_row, finished_interval, told_by, own_after}
+use Rattle.smil_past.specs.Followed.{began_row, finished_row, finished_interval, told_by, own_after}
 
 or_none : (o : Option PastInterval) → option_or o None ≡ o
 or_none None = refl
@@ -41,34 +42,29 @@ deferred_by h m s r b t = record { begun = r.begun; shown_begun = r.shown_begun;
 fix : (r : PlayFacts) → record r { first_finished = option_or r.first_finished None } ≡ r
 fix r = ap (λ o. record r { first_finished = o }) (or_none r.first_finished)
 
--- of the element itself
+-- the step is on the element itself
+itself : (h : History) (e : Entry) (who w : ℕ) (step : Step) → e.step ≡ step → subject_of h.log step ≡ Some w → subject_of h.log e.step ≡ Some who → w == who ≡ true
+itself h e who w step is of on = eq-eqb w who (same_Some w who (sym of ∙ sym (ap (subject_of h.log) is) ∙ on))
+
 pub own_began : (h : History) (e : Entry) (who w : ℕ) (b : ℤ) (r : PlayFacts) → e.step ≡ Began w b → subject_of h.log e.step ≡ Some who → began_row h who e.moment b r ≡ own_after h e who r
 own_began h e who w b r is on =
-    let one : Some w ≡ Some who = sym (ap (subject_of h.log) is) ∙ on in
-    let same : w ≡ who = cc in
     subst (λ (st : Step). began_row h who e.moment b r ≡ own_after h (at e.moment st) who r) (sym is)
-    (sym (ap (λ o. record (began_row h who e.moment b r) { first_finished = o }) (or_none r.first_finished)) ∙ sym (ap (began_by h e.moment who r b) (eq-eqb w who same)))
+    (sym (ap (λ o. record (began_row h who e.moment b r) { first_finished = o }) (or_none r.first_finished)) ∙ sym (ap (began_by h e.moment who r b) (itself h e who w (Began w b) is refl on)))
 
 pub own_ended : (h : History) (e : Entry) (who w : ℕ) (b : ℤ) (r : PlayFacts) → e.step ≡ Ended w b → subject_of h.log e.step ≡ Some who → finished_row h who e.moment b false r ≡ own_after h e who r
 own_ended h e who w b r is on =
-    let one : Some w ≡ Some who = sym (ap (subject_of h.log) is) ∙ on in
-    let same : w ≡ who = cc in
     subst (λ (st : Step). finished_row h who e.moment b false r ≡ own_after h (at e.moment st) who r) (sym is)
-    (sym (ap (finished_by h e.moment who r b false) (eq-eqb w who same)))
+    (sym (ap (finished_by h e.moment who r b false) (itself h e who w (Ended w b) is refl on)))
 
 pub own_cut : (h : History) (e : Entry) (who w : ℕ) (r : PlayFacts) → e.step ≡ Cut w → subject_of h.log e.step ≡ Some who → finished_row h who e.moment (outer h who e.moment) true r ≡ own_after h e who r
 own_cut h e who w r is on =
-    let one : Some w ≡ Some who = sym (ap (subject_of h.log) is) ∙ on in
-    let same : w ≡ who = cc in
     subst (λ (st : Step). finished_row h who e.moment (outer h who e.moment) true r ≡ own_after h (at e.moment st) who r) (sym is)
-    (sym (ap (finished_by h e.moment who r (outer h who e.moment) true) (eq-eqb w who same)))
+    (sym (ap (finished_by h e.moment who r (outer h who e.moment) true) (itself h e who w (Cut w) is refl on)))
 
 pub own_deferred : (h : History) (e : Entry) (who w : ℕ) (b : ℤ) (r : PlayFacts) → e.step ≡ Deferred w b → subject_of h.log e.step ≡ Some who → record r { shown_deferred = Some (to_document h who b e.moment) } ≡ own_after h e who r
 own_deferred h e who w b r is on =
-    let one : Some w ≡ Some who = sym (ap (subject_of h.log) is) ∙ on in
-    let same : w ≡ who = cc in
     subst (λ (st : Step). record r { shown_deferred = Some (to_document h who b e.moment) } ≡ own_after h (at e.moment st) who r) (sym is)
-    (sym (ap (λ o. record r { shown_deferred = Some (to_document h who b e.moment); first_finished = o }) (or_none r.first_finished)) ∙ sym (ap (deferred_by h e.moment who r b) (eq-eqb w who same)))
+    (sym (ap (λ o. record r { shown_deferred = Some (to_document h who b e.moment); first_finished = o }) (or_none r.first_finished)) ∙ sym (ap (deferred_by h e.moment who r b) (itself h e who w (Deferred w b) is refl on)))
 
 quiet_step : (h : History) (m : ℤ) (s : ℕ) (r : PlayFacts) (step : Step) → ((w : ℕ) → subject_of h.log step ≡ Some w → w == s ≡ false) → own_after h (at m step) s r ≡ r
 quiet_step h m s r (Began w b) far = ap (began_by h m s r b) (far w refl) ∙ fix r
@@ -129,22 +125,6 @@ module _ (h : History) (y : Entry) (who : ℕ) (on : subject_of h.log y.step ≡
 
 -- ---- by numbers as they are passed
 
-pub read_began : (h : History) (clocks : List NodeClock) (e : Entry) (who w : ℕ) (b m' b' : ℤ) (r result : PlayFacts) → m' ≡ e.moment → b' ≡ b → ((k : History) → AreClocksAt k clocks m' → result ≡ began_row k who m' b' r) → AreClocksAt h clocks e.moment → e.step ≡ Began w b → subject_of h.log e.step ≡ Some who → result ≡ own_after h e who r
-read_began h clocks e who w b m' b' r result at_m at_b got are is on =
-    got h (subst (AreClocksAt h clocks) (sym at_m) are) ∙ ap (λ m. began_row h who m b' r) at_m ∙ ap (λ v. began_row h who e.moment v r) at_b
-    ∙ own_began h e who w b r is on
-
-pub read_ended : (h : History) (clocks : List NodeClock) (e : Entry) (who w : ℕ) (b m' b' : ℤ) (r result : PlayFacts) → m' ≡ e.moment → b' ≡ b → ((k : History) → AreClocksAt k clocks m' → result ≡ finished_row k who m' b' false r) → AreClocksAt h clocks e.moment → e.step ≡ Ended w b → subject_of h.log e.step ≡ Some who → result ≡ own_after h e who r
-read_ended h clocks e who w b m' b' r result at_m at_b got are is on =
-    got h (subst (AreClocksAt h clocks) (sym at_m) are) ∙ ap (λ m. finished_row h who m b' false r) at_m ∙ ap (λ v. finished_row h who e.moment v false r) at_b
-    ∙ own_ended h e who w b r is on
-
-pub read_cut : (h : History) (clocks : List NodeClock) (e : Entry) (who w : ℕ) (m' b' : ℤ) (r result : PlayFacts) → m' ≡ e.moment → b' ≡ outer h who m' → ((k : History) → AreClocksAt k clocks m' → result ≡ finished_row k who m' b' true r) → AreClocksAt h clocks e.moment → e.step ≡ Cut w → subject_of h.log e.step ≡ Some who → result ≡ own_after h e who r
-read_cut h clocks e who w m' b' r result at_m at_b got are is on =
-    got h (subst (AreClocksAt h clocks) (sym at_m) are) ∙ ap (λ v. finished_row h who m' v true r) at_b ∙ ap (λ m. finished_row h who m (outer h who m) true r) at_m
-    ∙ own_cut h e who w r is on
-
-pub read_deferred : (h : History) (clocks : List NodeClock) (e : Entry) (who w : ℕ) (b m' b' : ℤ) (r result : PlayFacts) → m' ≡ e.moment → b' ≡ b → ((k : History) → AreClocksAt k clocks m' → result ≡ deferred_row k who m' b' r) → AreClocksAt h clocks e.moment → e.step ≡ Deferred w b → subject_of h.log e.step ≡ Some who → result ≡ own_after h e who r
-read_deferred h clocks e who w b m' b' r result at_m at_b got are is on =
-    got h (subst (AreClocksAt h clocks) (sym at_m) are) ∙ ap (λ m. deferred_row h who m b' r) at_m ∙ ap (λ v. deferred_row h who e.moment v r) at_b
-    ∙ own_deferred h e who w b r is on
+pub read_row : (row : History → ℕ → ℤ → ℤ → PlayFacts → PlayFacts) (h : History) (clocks : List NodeClock) (e : Entry) (who : ℕ) (b m' b' : ℤ) (r result : PlayFacts) → m' ≡ e.moment → b' ≡ b → ((k : History) → AreClocksAt k clocks m' → result ≡ row k who m' b' r) → AreClocksAt h clocks e.moment → row h who e.moment b r ≡ own_after h e who r → result ≡ own_after h e who r
+read_row row h clocks e who b m' b' r result at_m at_b got are own =
+    got h (subst (AreClocksAt h clocks) (sym at_m) are) ∙ ap (λ m. row h who m b' r) at_m ∙ ap (λ v. row h who e.moment v r) at_b ∙ own

@@ -9,7 +9,7 @@ use Rattle.smil_model.specs.declared.document.Attrs.{Attrs}
 use Rattle.smil_model.specs.declared.document.Edge.{Edge}
 use Rattle.smil_model.specs.declared.document.Edge.TheVariants.{Begin, End}
 use Rattle.smil_model.specs.declared.document.Item.{Item}
-use Rattle.smil_model.specs.declared.document.Item.TheVariants.{Offset, Sync, Event, Repeat, Key, Indefinite}
+use Rattle.smil_model.specs.declared.document.Item.TheVariants.{Offset, Sync, Indefinite}
 use Rattle.smil_model.specs.document.Document.{elements, element_named, is_element, is_in_excl, node_at, previous_in_seq, serials}
 use Rattle.smil_model.specs.document.Defaults.{begin_list, items_of, items_or}
 use Rattle.smil_model.specs.document.Dependencies.{is_looped, is_looped_to, leads_to}
@@ -44,10 +44,7 @@ by_name nodes e who edge offset (Some x) = by_mark nodes e who edge offset x (le
 pub sync_told : (nodes : List Node) (e : ℕ) (item : Item) → sync_by (is_looped nodes e item) item (source_of nodes e item) ≡ sync_of nodes e item
 sync_told nodes e (Offset offset) = by_end offset (previous_in_seq nodes e)
 sync_told nodes e (Sync who edge offset) = by_name nodes e who edge offset (element_named nodes who)
-sync_told nodes e (Event who name offset) = refl
-sync_told nodes e (Repeat who n offset) = refl
-sync_told nodes e (Key key offset) = refl
-sync_told nodes e Indefinite = refl
+sync_told nodes e _ = refl
 
 -- ---- an item at its place
 

@@ -3,17 +3,17 @@ use Rattle.std.proofs.Common.{◌≡◌, refl, sym, ◌∙◌, ap, ℕ, List, []
 use Rattle.std.specs.Prelude.{cond, int_le, fold, ◌==◌, ◌||◌, option_map, is_some}
 use Rattle.std.specs.List.{AllByRecursion, last_or}
 use Rattle.std.specs.Option.{option_or}
-use Rattle.std.proofs.lemmas.Bool.{eqb-true}
+use Rattle.std.proofs.lemmas.Bool.{cond_both, eqb-true}
 use Rattle.smil_model.specs.declared.diary.Entry.{Entry}
 use Rattle.smil_model.specs.declared.diary.Step.{Step}
-use Rattle.smil_model.specs.declared.diary.Step.TheVariants.{Began, Repeated, Ended, Cut, Paused, Resumed, Deferred, Passed, Logged}
+use Rattle.smil_model.specs.declared.diary.Step.TheVariants.{Began, Repeated, Ended, Cut}
 use Rattle.smil_model.specs.declared.document.Node.{Node}
 use Rattle.smil_model.specs.document.Document.{time_parent}
 use Rattle.smil_model.specs.diary.Diary.{History, active_after, is_active, with_entry}
 use Rattle.smil_model.specs.diary.Lawful.{IsLawful}
-use Rattle.smil_model.specs.diary.Clocks.{outer}
 use Rattle.smil_model.specs.diary.Plays.{PlayEdge, FinishedInterval, Plays, finish_with, play_after, is_birth_under, plays, first_of}
 use Rattle.smil_model.specs.shown.Views.{document_value}
+use Rattle.smil_diary.proofs.Choices.{chosen}
 use Rattle.smil_stretch.proofs.Moments.{EachUntil}
 use Rattle.smil_past.specs.Played.{past_interval}
 use Rattle.smil_past.proofs.Clocked.{outer_with, document_with, each_until, fold_with}
@@ -31,14 +31,7 @@ no_plays = record { present = None; finished = [] }
 module _ (h : History) (y : Entry) (s : ℕ) (lawful : IsLawful (with_entry h y)) where
   pub after_same : (m : ℤ) → int_le m y.moment ≡ true → (b : Plays) (step : Step) → play_after (with_entry h y) s m b step ≡ play_after h s m b step
   after_same m le b (Cut who) = ap (λ o. cond (who == s) (record { present = None; finished = finish_with b.present (record { value = o; moment = m }) true b.finished }) b) (outer_with h y s m le)
-  after_same m le b (Began who begin) = refl
-  after_same m le b (Repeated who start) = refl
-  after_same m le b (Ended who end') = refl
-  after_same m le b (Paused who) = refl
-  after_same m le b (Resumed who) = refl
-  after_same m le b (Deferred who begin) = refl
-  after_same m le b (Passed who begin) = refl
-  after_same m le b (Logged place) = refl
+  after_same m le b _ = refl
 
   pub plays_with : plays (with_entry h y) s ≡ follow h s (plays h s) y
   plays_with =
@@ -59,13 +52,7 @@ module _ (h : History) (s : ℕ) (apart : (p : Node) → time_parent h.nodes s �
       under None e st r = cc
       under (Some p) e (Began who begin) r = ap (λ t. cond t (record { present = Some (record { value = begin; moment = m }); finished = b.finished }) b) (other who p.serial (apart p e) r)
       under (Some p) e (Repeated who start) r = refl
-      under (Some p) e (Ended who end') r = cc
-      under (Some p) e (Cut who) r = cc
-      under (Some p) e (Paused who) r = cc
-      under (Some p) e (Resumed who) r = cc
-      under (Some p) e (Deferred who begin) r = cc
-      under (Some p) e (Passed who begin) r = cc
-      under (Some p) e (Logged place) r = cc
+      under (Some p) e _ r = cc
 
   -- so the present play is that after the step
   pub present_then : (b : Plays) (x : Entry) → (follow h s b x).present ≡ (play_after h s x.moment b x.step).present
@@ -76,11 +63,7 @@ module _ (h : History) (s : ℕ) (apart : (p : Node) → time_parent h.nodes s �
       by_test false q = refl
 
   pub finished_then : (b : Plays) (x : Entry) → (follow h s b x).finished ≡ cond (is_birth_under (time_parent h.nodes s) x.step) [] (play_after h s x.moment b x.step).finished
-  finished_then b x = by_test (is_birth_under (time_parent h.nodes s) x.step)
-    where
-      by_test : (t : Bool) → (cond t (record { present = b.present; finished = [] }) (play_after h s x.moment b x.step)).finished ≡ cond t [] (play_after h s x.moment b x.step).finished
-      by_test true = refl
-      by_test false = refl
+  finished_then b x = chosen (λ (p : Plays). p.finished) (λ fs. fs) (is_birth_under (time_parent h.nodes s) x.step) _ _ _ _ refl refl
 
   -- an element has a present play while it is active
   active_step : (m : ℤ) (b : Plays) (a : Bool) (step : Step) → is_some b.present ≡ a → is_some (play_after h s m b step).present ≡ active_after s a step
@@ -89,22 +72,9 @@ module _ (h : History) (s : ℕ) (apart : (p : Node) → time_parent h.nodes s �
       by_own : (t : Bool) → is_some (cond t (record { present = Some (record { value = begin; moment = m }); finished = b.finished }) b).present ≡ (t || a)
       by_own true = refl
       by_own false = q
-  active_step m b a (Ended who end') q = by_own (who == s)
-    where
-      by_own : (t : Bool) → is_some (cond t (record { present = None; finished = finish_with b.present (record { value = end'; moment = m }) false b.finished }) b).present ≡ cond t false a
-      by_own true = refl
-      by_own false = q
-  active_step m b a (Cut who) q = by_own (who == s)
-    where
-      by_own : (t : Bool) → is_some (cond t (record { present = None; finished = finish_with b.present (record { value = outer h s m; moment = m }) true b.finished }) b).present ≡ cond t false a
-      by_own true = refl
-      by_own false = q
-  active_step m b a (Repeated who start) q = q
-  active_step m b a (Paused who) q = q
-  active_step m b a (Resumed who) q = q
-  active_step m b a (Deferred who begin) q = q
-  active_step m b a (Passed who begin) q = q
-  active_step m b a (Logged place) q = q
+  active_step m b a (Ended who end') q = chosen (λ (p : Plays). is_some p.present) (λ x. x) (who == s) _ _ _ _ refl q
+  active_step m b a (Cut who) q = chosen (λ (p : Plays). is_some p.present) (λ x. x) (who == s) _ _ _ _ refl q
+  active_step m b a _ q = q
 
   active_from : (b : Plays) (a : Bool) (ds : List Entry) → is_some b.present ≡ a → is_some (fold (follow h s) b ds).present ≡ fold (λ before (x : Entry). active_after s before x.step) a ds
   active_from b a [] q = q
@@ -137,34 +107,17 @@ finish_until m (Some b) k cut fs is le each = each_more m fs _ each (record { be
 
 module _ (h : History) (s : ℕ) (m : ℤ) where
   pub until_after : (at : ℤ) → int_le at m ≡ true → (b : Plays) (step : Step) → AreUntil m b → AreUntil m (play_after h s at b step)
-  until_after at le b (Began who begin) are = by_own (who == s)
-    where
-      by_own : (t : Bool) → AreUntil m (cond t (record { present = Some (record { value = begin; moment = at }); finished = b.finished }) b)
-      by_own true = record { present = le; finished = are.finished }
-      by_own false = are
-  until_after at le b (Ended who end') are = by_own (who == s)
-    where
-      by_own : (t : Bool) → AreUntil m (cond t (record { present = None; finished = finish_with b.present (record { value = end'; moment = at }) false b.finished }) b)
-      by_own true = record { present = tt; finished = finish_until m b.present _ false b.finished are.present le are.finished }
-      by_own false = are
-  until_after at le b (Cut who) are = by_own (who == s)
-    where
-      by_own : (t : Bool) → AreUntil m (cond t (record { present = None; finished = finish_with b.present (record { value = outer h s at; moment = at }) true b.finished }) b)
-      by_own true = record { present = tt; finished = finish_until m b.present _ true b.finished are.present le are.finished }
-      by_own false = are
-  until_after at le b (Repeated who start) are = are
-  until_after at le b (Paused who) are = are
-  until_after at le b (Resumed who) are = are
-  until_after at le b (Deferred who begin) are = are
-  until_after at le b (Passed who begin) are = are
-  until_after at le b (Logged place) are = are
+  until_after at le b (Began who begin) are =
+      cond_both (who == s) _ b (AreUntil m) (λ e. record { present = le; finished = are.finished }) (λ e. are)
+  until_after at le b (Ended who end') are =
+      cond_both (who == s) _ b (AreUntil m) (λ e. record { present = tt; finished = finish_until m b.present _ false b.finished are.present le are.finished }) (λ e. are)
+  until_after at le b (Cut who) are =
+      cond_both (who == s) _ b (AreUntil m) (λ e. record { present = tt; finished = finish_until m b.present _ true b.finished are.present le are.finished }) (λ e. are)
+  until_after at le b _ are = are
 
   until_follow : (b : Plays) (x : Entry) → int_le x.moment m ≡ true → AreUntil m b → AreUntil m (follow h s b x)
-  until_follow b x le are = by_test (is_birth_under (time_parent h.nodes s) x.step)
-    where
-      by_test : (t : Bool) → AreUntil m (cond t (record { present = b.present; finished = [] }) (play_after h s x.moment b x.step))
-      by_test true = record { present = are.present; finished = tt }
-      by_test false = until_after x.moment le b x.step are
+  until_follow b x le are =
+      cond_both (is_birth_under (time_parent h.nodes s) x.step) _ _ (AreUntil m) (λ e. record { present = are.present; finished = tt }) (λ e. until_after x.moment le b x.step are)
 
   until_fold : (b : Plays) (ds : List Entry) → EachUntil m ds → AreUntil m b → AreUntil m (fold (follow h s) b ds)
   until_fold b [] each are = are

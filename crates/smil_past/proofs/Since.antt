@@ -1,12 +1,13 @@
 -- The entries since birth, and whether an element is alive, after one entry more.
 use Rattle.std.proofs.Common.{◌≡◌, refl, sym, ◌∙◌, ap, ℕ, suc, ◌≤◌, List, [], ◌∷◌, ◌++◌, length, drop, Option, Some, None, Bool, true, false, arith, length-append}
-use Rattle.std.specs.Prelude.{cond, ◌==◌, ◌||◌, fold}
+use Rattle.std.specs.Prelude.{◌==◌, ◌||◌, fold}
 use Rattle.std.specs.Option.{option_map_or}
+use Rattle.std.proofs.lemmas.Bool.{cond_both}
 use Rattle.std.proofs.lemmas.List.{drop-append-le, drop_all}
 use Rattle.std.proofs.lemmas.List.Sums.{fold_push}
 use Rattle.smil_model.specs.declared.diary.Entry.{Entry}
 use Rattle.smil_model.specs.declared.diary.Step.{Step}
-use Rattle.smil_model.specs.declared.diary.Step.TheVariants.{Began, Repeated, Ended, Cut, Paused, Resumed, Deferred, Passed, Logged}
+use Rattle.smil_model.specs.declared.diary.Step.TheVariants.{Began, Ended, Cut}
 use Rattle.smil_model.specs.declared.document.Node.{Node}
 use Rattle.smil_model.specs.document.Document.{time_parent}
 use Rattle.smil_model.specs.diary.Diary.{History, last_place, later_place, gives_birth, birth_under, since_birth, active_after, lives_under, with_entry}
@@ -21,22 +22,9 @@ began_once p b (x ∷ xs) q off = by_rest (last_place (λ (z : Entry). gives_bir
   where
     quiet : (c : Bool) (step : Step) → gives_birth p step ≡ false → c ≡ false → active_after p c step ≡ false
     quiet c (Began who begin) r e = ap (λ t. t || c) r ∙ e
-    quiet c (Ended who end') r e = by_own (who == p)
-      where
-        by_own : (t : Bool) → cond t false c ≡ false
-        by_own true = refl
-        by_own false = e
-    quiet c (Cut who) r e = by_own (who == p)
-      where
-        by_own : (t : Bool) → cond t false c ≡ false
-        by_own true = refl
-        by_own false = e
-    quiet c (Repeated who start) r e = e
-    quiet c (Paused who) r e = e
-    quiet c (Resumed who) r e = e
-    quiet c (Deferred who begin) r e = e
-    quiet c (Passed who begin) r e = e
-    quiet c (Logged place) r e = e
+    quiet c (Ended who end') r e = cond_both (who == p) false c (λ b. b ≡ false) (λ q. refl) (λ q. e)
+    quiet c (Cut who) r e = cond_both (who == p) false c (λ b. b ≡ false) (λ q. refl) (λ q. e)
+    quiet c _ r e = e
 
     by_rest : (o : Option ℕ) (t : Bool) → last_place (λ (z : Entry). gives_birth p z.step) xs ≡ o → gives_birth p x.step ≡ t → later_place t o ≡ None → (last_place (λ (z : Entry). gives_birth p z.step) xs ≡ None → active_after p b x.step ≡ false → fold (λ before (z : Entry). active_after p before z.step) (active_after p b x.step) xs ≡ false) → fold (λ before (z : Entry). active_after p before z.step) (active_after p b x.step) xs ≡ false
     by_rest (Some k) t e r later more = cc

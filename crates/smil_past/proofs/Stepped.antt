@@ -3,15 +3,15 @@ use Rattle.std.proofs.Common.{◌≡◌, refl, sym, ◌∙◌, ap, ℕ, List, []
 use Rattle.std.specs.Prelude.{cond, int_le, fold, ◌==◌, ◌||◌, ◌&&◌, not, option_map, option_and_then, is_some, unwrap_or, slice_get}
 use Rattle.std.specs.List.{AllByRecursion, last_or}
 use Rattle.std.specs.Option.{option_or}
-use Rattle.std.proofs.lemmas.Bool.{eqb-true, and_parts}
+use Rattle.std.proofs.lemmas.Bool.{cond_both, eqb-true, and_parts}
 use Rattle.smil_model.specs.declared.times.Time.{Time}
-use Rattle.smil_model.specs.declared.times.Time.TheVariants.{At, Unresolved}
+use Rattle.smil_model.specs.declared.times.Time.TheVariants.{Unresolved}
 use Rattle.smil_model.specs.declared.diary.Entry.{Entry}
 use Rattle.smil_model.specs.declared.diary.LogEntry.{LogEntry}
 use Rattle.smil_model.specs.declared.diary.Happening.{Happening}
-use Rattle.smil_model.specs.declared.diary.Happening.TheVariants.{Event, Media, Key}
+use Rattle.smil_model.specs.declared.diary.Happening.TheVariants.{Media}
 use Rattle.smil_model.specs.declared.diary.Step.{Step}
-use Rattle.smil_model.specs.declared.diary.Step.TheVariants.{Began, Repeated, Ended, Cut, Paused, Resumed, Deferred, Passed, Logged}
+use Rattle.smil_model.specs.declared.diary.Step.TheVariants.{Began, Ended, Cut, Deferred, Passed, Logged}
 use Rattle.smil_model.specs.declared.document.Node.{Node}
 use Rattle.smil_model.specs.document.Document.{time_parent}
 use Rattle.smil_model.specs.diary.Diary.{History, active_after, is_active, lives_under, is_alive, since_birth, birth, deferral, deferral_after, with_entry}
@@ -22,6 +22,7 @@ use Rattle.smil_model.specs.interval.Current.{logged_length, length_of, length_a
 use Rattle.smil_model.specs.shown.Views.{document_value, deferred_begin, present_begin}
 use Rattle.smil_model.proofs.Orders.{le_self}
 use Rattle.smil_laws.proofs.LawfulSteps.{active_push}
+use Rattle.smil_diary.proofs.Choices.{chosen, same_choice}
 use Rattle.smil_stretch.proofs.Moments.{EachUntil}
 use Rattle.smil_stretch.proofs.Diaries.{lawful_last}
 use Rattle.smil_past.specs.declared.plays.facts.PastInterval.{PastInterval}
@@ -49,28 +50,14 @@ module _ (h : History) (y : Entry) (s : ℕ) (lawful : IsLawful (with_entry h y)
   finished_is : (plays (with_entry h y) s).finished ≡ cond birth_now [] after.finished
   finished_is = ap (λ (b : Plays). b.finished) (plays_with h y s lawful) ∙ finished_then h s apart (plays h s) y
 
+  abbrev begun_in : Plays → Option ℤ
+  begun_in b = option_map value_of b.present
+
   begun_step : (b : Plays) (step : Step) → option_map value_of (play_after h s y.moment b step).present ≡ begun_after s (option_map value_of b.present) step
-  begun_step b (Began who begin) = by_own (who == s)
-    where
-      by_own : (t : Bool) → option_map value_of (cond t (record { present = Some (record { value = begin; moment = y.moment }); finished = b.finished }) b).present ≡ cond t (Some begin) (option_map value_of b.present)
-      by_own true = refl
-      by_own false = refl
-  begun_step b (Ended who end') = by_own (who == s)
-    where
-      by_own : (t : Bool) → option_map value_of (cond t (record { present = None; finished = finish_with b.present (record { value = end'; moment = y.moment }) false b.finished }) b).present ≡ cond t None (option_map value_of b.present)
-      by_own true = refl
-      by_own false = refl
-  begun_step b (Cut who) = by_own (who == s)
-    where
-      by_own : (t : Bool) → option_map value_of (cond t (record { present = None; finished = finish_with b.present (record { value = outer h s y.moment; moment = y.moment }) true b.finished }) b).present ≡ cond t None (option_map value_of b.present)
-      by_own true = refl
-      by_own false = refl
-  begun_step b (Repeated who start) = refl
-  begun_step b (Paused who) = refl
-  begun_step b (Resumed who) = refl
-  begun_step b (Deferred who begin) = refl
-  begun_step b (Passed who begin) = refl
-  begun_step b (Logged place) = refl
+  begun_step b (Began who begin) = chosen begun_in (λ o. o) (who == s) _ _ _ _ refl refl
+  begun_step b (Ended who end') = chosen begun_in (λ o. o) (who == s) _ _ _ _ refl refl
+  begun_step b (Cut who) = chosen begun_in (λ o. o) (who == s) _ _ _ _ refl refl
+  begun_step b _ = refl
 
   begun_is : option_map value_of (plays (with_entry h y) s).present ≡ begun_after s (option_map value_of (plays h s).present) y.step
   begun_is = ap (option_map value_of) present_is ∙ begun_step (plays h s) y.step
@@ -85,6 +72,9 @@ module _ (h : History) (y : Entry) (s : ℕ) (lawful : IsLawful (with_entry h y)
       by_present (Some m) true q = refl
       by_present (Some m) false q = cc
 
+  abbrev shown_in : Plays → Option ℤ
+  shown_in p = option_map (document_value (with_entry h y) s) p.present
+
   shown_step : (b : Plays) → IsMarked y.moment b.present → (step : Step) → option_map (document_value (with_entry h y) s) (play_after h s y.moment b step).present ≡ shown_begun_after h s y.moment (option_map (document_value h s) b.present) step
   shown_step b is step = by_step step
     where
@@ -96,27 +86,10 @@ module _ (h : History) (y : Entry) (s : ℕ) (lawful : IsLawful (with_entry h y)
           by_mark (Some k) i = ap Some (mark_with h y s k i)
 
       by_step : (st : Step) → option_map (document_value (with_entry h y) s) (play_after h s y.moment b st).present ≡ shown_begun_after h s y.moment (option_map (document_value h s) b.present) st
-      by_step (Began who begin) = by_own (who == s)
-        where
-          by_own : (t : Bool) → option_map (document_value (with_entry h y) s) (cond t (record { present = Some (record { value = begin; moment = y.moment }); finished = b.finished }) b).present ≡ cond t (Some (to_document h s begin y.moment)) (option_map (document_value h s) b.present)
-          by_own true = ap Some (document_with h y s begin y.moment (le_self y.moment))
-          by_own false = same
-      by_step (Ended who end') = by_own (who == s)
-        where
-          by_own : (t : Bool) → option_map (document_value (with_entry h y) s) (cond t (record { present = None; finished = finish_with b.present (record { value = end'; moment = y.moment }) false b.finished }) b).present ≡ cond t None (option_map (document_value h s) b.present)
-          by_own true = refl
-          by_own false = same
-      by_step (Cut who) = by_own (who == s)
-        where
-          by_own : (t : Bool) → option_map (document_value (with_entry h y) s) (cond t (record { present = None; finished = finish_with b.present (record { value = outer h s y.moment; moment = y.moment }) true b.finished }) b).present ≡ cond t None (option_map (document_value h s) b.present)
-          by_own true = refl
-          by_own false = same
-      by_step (Repeated who start) = same
-      by_step (Paused who) = same
-      by_step (Resumed who) = same
-      by_step (Deferred who begin) = same
-      by_step (Passed who begin) = same
-      by_step (Logged place) = same
+      by_step (Began who begin) = chosen shown_in (λ o. o) (who == s) _ _ _ _ (ap Some (document_with h y s begin y.moment (le_self y.moment))) same
+      by_step (Ended who end') = chosen shown_in (λ o. o) (who == s) _ _ _ _ refl same
+      by_step (Cut who) = chosen shown_in (λ o. o) (who == s) _ _ _ _ refl same
+      by_step _ = same
 
   shown_is : present_begin (with_entry h y) s ≡ shown_begun_after h s y.moment (present_begin h s) y.step
   shown_is =
@@ -157,13 +130,8 @@ module _ (h : History) (y : Entry) (s : ℕ) (lawful : IsLawful (with_entry h y)
       by_entry o (Some e) = by_what e.what
         where
           by_what : (w : Happening) → unwrap_or (logged_length s w o) Unresolved ≡ unwrap_or (logged_length s w (Some (unwrap_or o Unresolved))) Unresolved
-          by_what (Media who length) = by_own (who == s)
-            where
-              by_own : (t : Bool) → unwrap_or (cond t (Some (At length)) o) Unresolved ≡ unwrap_or (cond t (Some (At length)) (Some (unwrap_or o Unresolved))) Unresolved
-              by_own true = refl
-              by_own false = refl
-          by_what (Event who name) = refl
-          by_what (Key key) = refl
+          by_what (Media who length) = chosen (λ v. unwrap_or v Unresolved) (λ v. unwrap_or v Unresolved) (who == s) _ _ _ _ refl refl
+          by_what _ = refl
 
       by_step : (o : Option Time) (step : Step) → unwrap_or (length_after h.log s o step) Unresolved ≡ told_after h.log s (unwrap_or o Unresolved) step
       by_step o (Logged place) = by_entry o (slice_get h.log place)
@@ -199,6 +167,12 @@ module _ (h : History) (y : Entry) (s : ℕ) (lawful : IsLawful (with_entry h y)
     abbrev shown : Option ℤ
     shown = option_map (document_value h s) b.present
 
+    abbrev first_in : Plays → Option PastInterval
+    first_in p = option_map past_then (first_of p.finished)
+
+    abbrev last_in : Plays → Option PastInterval
+    last_in p = option_map past_then (last_or None p.finished)
+
     first_rest : option_map past_then (first_of b.finished) ≡ option_or (option_map past_now (first_of b.finished)) None
     first_rest = first_with h y s b.finished are.finished ∙ sym (or_none (option_map past_now (first_of b.finished)))
 
@@ -206,50 +180,20 @@ module _ (h : History) (y : Entry) (s : ℕ) (lawful : IsLawful (with_entry h y)
     last_rest = last_with h y s b.finished are.finished
 
     first_step : (step : Step) → option_map past_then (first_of (play_after h s y.moment b step).finished) ≡ option_or (option_map past_now (first_of b.finished)) (interval_finished_by h s y.moment begun shown step)
-    first_step (Began who begin) = by_own (who == s)
-      where
-        by_own : (t : Bool) → option_map past_then (first_of (cond t (record { present = Some (record { value = begin; moment = y.moment }); finished = b.finished }) b).finished) ≡ option_or (option_map past_now (first_of b.finished)) None
-        by_own true = first_rest
-        by_own false = first_rest
-    first_step (Ended who end') = by_own (who == s)
-      where
-        by_own : (t : Bool) → option_map past_then (first_of (cond t (record { present = None; finished = finish_with b.present (record { value = end'; moment = y.moment }) false b.finished }) b).finished) ≡ option_or (option_map past_now (first_of b.finished)) (cond t (finished_interval h s y.moment end' false begun shown) None)
-        by_own true = close_first b.present are.present end' false b.finished are.finished
-        by_own false = first_rest
-    first_step (Cut who) = by_own (who == s)
-      where
-        by_own : (t : Bool) → option_map past_then (first_of (cond t (record { present = None; finished = finish_with b.present (record { value = outer h s y.moment; moment = y.moment }) true b.finished }) b).finished) ≡ option_or (option_map past_now (first_of b.finished)) (cond t (finished_interval h s y.moment (outer h s y.moment) true begun shown) None)
-        by_own true = close_first b.present are.present (outer h s y.moment) true b.finished are.finished
-        by_own false = first_rest
-    first_step (Repeated who start) = first_rest
-    first_step (Paused who) = first_rest
-    first_step (Resumed who) = first_rest
-    first_step (Deferred who begin) = first_rest
-    first_step (Passed who begin) = first_rest
-    first_step (Logged place) = first_rest
+    first_step (Began who begin) = cond_both (who == s) _ b (λ p. first_in p ≡ option_or (option_map past_now (first_of b.finished)) None) (λ e. first_rest) (λ e. first_rest)
+    first_step (Ended who end') =
+        chosen first_in (option_or (option_map past_now (first_of b.finished))) (who == s) _ _ _ _ (close_first b.present are.present end' false b.finished are.finished) first_rest
+    first_step (Cut who) =
+        chosen first_in (option_or (option_map past_now (first_of b.finished))) (who == s) _ _ _ _ (close_first b.present are.present (outer h s y.moment) true b.finished are.finished) first_rest
+    first_step _ = first_rest
 
     last_step : (step : Step) → option_map past_then (last_or None (play_after h s y.moment b step).finished) ≡ option_or (interval_finished_by h s y.moment begun shown step) (option_map past_now (last_or None b.finished))
-    last_step (Began who begin) = by_own (who == s)
-      where
-        by_own : (t : Bool) → option_map past_then (last_or None (cond t (record { present = Some (record { value = begin; moment = y.moment }); finished = b.finished }) b).finished) ≡ option_map past_now (last_or None b.finished)
-        by_own true = last_rest
-        by_own false = last_rest
-    last_step (Ended who end') = by_own (who == s)
-      where
-        by_own : (t : Bool) → option_map past_then (last_or None (cond t (record { present = None; finished = finish_with b.present (record { value = end'; moment = y.moment }) false b.finished }) b).finished) ≡ option_or (cond t (finished_interval h s y.moment end' false begun shown) None) (option_map past_now (last_or None b.finished))
-        by_own true = close_last b.present are.present end' false b.finished are.finished
-        by_own false = last_rest
-    last_step (Cut who) = by_own (who == s)
-      where
-        by_own : (t : Bool) → option_map past_then (last_or None (cond t (record { present = None; finished = finish_with b.present (record { value = outer h s y.moment; moment = y.moment }) true b.finished }) b).finished) ≡ option_or (cond t (finished_interval h s y.moment (outer h s y.moment) true begun shown) None) (option_map past_now (last_or None b.finished))
-        by_own true = close_last b.present are.present (outer h s y.moment) true b.finished are.finished
-        by_own false = last_rest
-    last_step (Repeated who start) = last_rest
-    last_step (Paused who) = last_rest
-    last_step (Resumed who) = last_rest
-    last_step (Deferred who begin) = last_rest
-    last_step (Passed who begin) = last_rest
-    last_step (Logged place) = last_rest
+    last_step (Began who begin) = cond_both (who == s) _ b (λ p. last_in p ≡ option_map past_now (last_or None b.finished)) (λ e. last_rest) (λ e. last_rest)
+    last_step (Ended who end') =
+        chosen last_in (λ o. option_or o (option_map past_now (last_or None b.finished))) (who == s) _ _ _ _ (close_last b.present are.present end' false b.finished are.finished) last_rest
+    last_step (Cut who) =
+        chosen last_in (λ o. option_or o (option_map past_now (last_or None b.finished))) (who == s) _ _ _ _ (close_last b.present are.present (outer h s y.moment) true b.finished are.finished) last_rest
+    last_step _ = last_rest
 
   first_is : option_map past_then (first_of (plays (with_entry h y) s).finished) ≡ none_if birth_now (option_or (option_map past_now (first_of (plays h s).finished)) (interval_finished_by h s y.moment (option_map value_of (plays h s).present) (present_begin h s) y.step))
   first_is =
@@ -285,14 +229,7 @@ module _ (h : History) (y : Entry) (s : ℕ) (lawful : IsLawful (with_entry h y)
 
       by_step : (step : Step) → is_lawful_step h step ≡ true → passed_after s None step ≡ None
       by_step (Passed who begin) q = by_own who begin (who == s) refl (own_alive who q)
-      by_step (Began who begin) q = refl
-      by_step (Repeated who start) q = refl
-      by_step (Ended who end') q = refl
-      by_step (Cut who) q = refl
-      by_step (Paused who) q = refl
-      by_step (Resumed who) q = refl
-      by_step (Deferred who begin) q = refl
-      by_step (Logged place) q = refl
+      by_step _ q = refl
 
   abbrev pass : Option ℤ → Entry → Option ℤ
   pass before x = passed_after s before x.step
@@ -310,24 +247,17 @@ module _ (h : History) (y : Entry) (s : ℕ) (lawful : IsLawful (with_entry h y)
   deferred_dead : is_alive h s ≡ false → defer None y ≡ None
   deferred_dead dead = by_step y.step (lawful_last h y lawful)
     where
-      none : (t : Bool) → cond {A = Option Entry} t None None ≡ None
-      none true = refl
-      none false = refl
-
       by_own : (who : ℕ) (t : Bool) → who == s ≡ t → (who == s ≡ true → is_alive h s ≡ true) → cond t (Some y) None ≡ None
       by_own who true e own = let never : true ≡ false = sym (own e) ∙ dead in cc
       by_own who false e own = refl
 
       by_step : (step : Step) → is_lawful_step h step ≡ true → deferral_after s y None step ≡ None
       by_step (Deferred who begin) q = by_own who (who == s) refl (own_alive who q)
-      by_step (Began who begin) q = none (who == s)
-      by_step (Ended who end') q = none (who == s)
-      by_step (Cut who) q = none (who == s)
-      by_step (Passed who begin) q = none (who == s)
-      by_step (Repeated who start) q = refl
-      by_step (Paused who) q = refl
-      by_step (Resumed who) q = refl
-      by_step (Logged place) q = refl
+      by_step (Began who begin) q = same_choice (who == s) None
+      by_step (Ended who end') q = same_choice (who == s) None
+      by_step (Cut who) q = same_choice (who == s) None
+      by_step (Passed who begin) q = same_choice (who == s) None
+      by_step _ q = refl
 
   -- the entry that put it off is not later than this one
   abbrev IsHeld : Option Entry → Type 0
@@ -338,12 +268,10 @@ module _ (h : History) (y : Entry) (s : ℕ) (lawful : IsLawful (with_entry h y)
   held_step o x le is = by_step x.step
     where
       none : (t : Bool) → IsHeld (cond t None o)
-      none true = tt
-      none false = is
+      none t = cond_both t None o IsHeld (λ e. tt) (λ e. is)
 
       some : (t : Bool) → IsHeld (cond t (Some x) o)
-      some true = le
-      some false = is
+      some t = cond_both t (Some x) o IsHeld (λ e. le) (λ e. is)
 
       by_step : (step : Step) → IsHeld (deferral_after s x o step)
       by_step (Began who begin) = none (who == s)
@@ -351,10 +279,7 @@ module _ (h : History) (y : Entry) (s : ℕ) (lawful : IsLawful (with_entry h y)
       by_step (Cut who) = none (who == s)
       by_step (Passed who begin) = none (who == s)
       by_step (Deferred who begin) = some (who == s)
-      by_step (Repeated who start) = is
-      by_step (Paused who) = is
-      by_step (Resumed who) = is
-      by_step (Logged place) = is
+      by_step _ = is
 
   held_fold : (o : Option Entry) (ds : List Entry) → EachUntil y.moment ds → IsHeld o → IsHeld (fold defer o ds)
   held_fold o [] each is = is
@@ -375,14 +300,7 @@ module _ (h : History) (y : Entry) (s : ℕ) (lawful : IsLawful (with_entry h y)
     where
       by_step : (step : Step) → deferred_begin (with_entry h y) s x.moment step ≡ deferred_begin h s x.moment step
       by_step (Deferred who begin) = ap Some (document_with h y s begin x.moment is)
-      by_step (Began who begin) = refl
-      by_step (Ended who end') = refl
-      by_step (Cut who) = refl
-      by_step (Passed who begin) = refl
-      by_step (Repeated who start) = refl
-      by_step (Paused who) = refl
-      by_step (Resumed who) = refl
-      by_step (Logged place) = refl
+      by_step _ = refl
 
   put_off_step : (o : Option Entry) → IsHeld o → put_off (with_entry h y) (defer o y) ≡ shown_deferred_after h s y.moment (put_off h o) y.step
   put_off_step o is = by_step y.step refl
@@ -391,12 +309,10 @@ module _ (h : History) (y : Entry) (s : ℕ) (lawful : IsLawful (with_entry h y)
       same = put_off_same o is
 
       none : (t : Bool) → put_off (with_entry h y) (cond t None o) ≡ cond t None (put_off h o)
-      none true = refl
-      none false = same
+      none t = chosen (put_off (with_entry h y)) (λ v. v) t _ _ _ _ refl same
 
       some : (who : ℕ) (begin : ℤ) (t : Bool) → y.step ≡ Deferred who begin → put_off (with_entry h y) (cond t (Some y) o) ≡ cond t (Some (to_document h s begin y.moment)) (put_off h o)
-      some who begin true e = ap (deferred_begin (with_entry h y) s y.moment) e ∙ ap Some (document_with h y s begin y.moment (le_self y.moment))
-      some who begin false e = same
+      some who begin t e = chosen (put_off (with_entry h y)) (λ v. v) t _ _ _ _ (ap (deferred_begin (with_entry h y) s y.moment) e ∙ ap Some (document_with h y s begin y.moment (le_self y.moment))) same
 
       by_step : (step : Step) → y.step ≡ step → put_off (with_entry h y) (deferral_after s y o step) ≡ shown_deferred_after h s y.moment (put_off h o) step
       by_step (Began who begin) e = none (who == s)
@@ -404,10 +320,7 @@ module _ (h : History) (y : Entry) (s : ℕ) (lawful : IsLawful (with_entry h y)
       by_step (Cut who) e = none (who == s)
       by_step (Passed who begin) e = none (who == s)
       by_step (Deferred who begin) e = some who begin (who == s) e
-      by_step (Repeated who start) e = same
-      by_step (Paused who) e = same
-      by_step (Resumed who) e = same
-      by_step (Logged place) e = same
+      by_step _ e = same
 
   -- whether the element is alive changes with a birth and with an end of the time parent
   abbrev death_now : Bool
@@ -419,13 +332,7 @@ module _ (h : History) (y : Entry) (s : ℕ) (lawful : IsLawful (with_entry h y)
       ended : (p : Node) (a : Bool) (step : Step) → is_death_under (Some p) step ≡ true → active_after p.serial a step ≡ false
       ended p a (Ended who end') r = ap (λ t. cond t false a) r
       ended p a (Cut who) r = ap (λ t. cond t false a) r
-      ended p a (Began who begin) r = cc
-      ended p a (Repeated who start) r = cc
-      ended p a (Paused who) r = cc
-      ended p a (Resumed who) r = cc
-      ended p a (Deferred who begin) r = cc
-      ended p a (Passed who begin) r = cc
-      ended p a (Logged place) r = cc
+      ended p a _ r = cc
 
       under : (o : Option Node) → is_death_under o y.step ≡ true → lives_under o (h.diary ++ y ∷ []) ≡ false
       under None r = cc
@@ -438,12 +345,7 @@ module _ (h : History) (y : Entry) (s : ℕ) (lawful : IsLawful (with_entry h y)
       stays p a (Ended who end') u v = ap (λ t. cond t false a) v
       stays p a (Cut who) u v = ap (λ t. cond t false a) v
       stays p a (Began who begin) u v = ap (λ t. t || a) u
-      stays p a (Repeated who start) u v = refl
-      stays p a (Paused who) u v = refl
-      stays p a (Resumed who) u v = refl
-      stays p a (Deferred who begin) u v = refl
-      stays p a (Passed who begin) u v = refl
-      stays p a (Logged place) u v = refl
+      stays p a _ u v = refl
 
       under : (o : Option Node) → is_birth_under o y.step ≡ false → is_death_under o y.step ≡ false → lives_under o (h.diary ++ y ∷ []) ≡ lives_under o h.diary
       under None u v = refl
@@ -452,10 +354,6 @@ module _ (h : History) (y : Entry) (s : ℕ) (lawful : IsLawful (with_entry h y)
   deferred_is : put_off (with_entry h y) (deferral (with_entry h y) s) ≡ none_if (birth_now || death_now) (shown_deferred_after h s y.moment (put_off h (deferral h s)) y.step)
   deferred_is = by_birth birth_now refl
     where
-      never : (t : Bool) → cond {A = Option Entry} t None None ≡ None
-      never true = refl
-      never false = refl
-
       on : (t : Bool) → is_alive h s ≡ t → put_off (with_entry h y) (cond t (defer held y) None) ≡ shown_deferred_after h s y.moment (put_off h (cond t held None)) y.step
       on true e = put_off_step held is_held
       on false e = sym (ap (put_off (with_entry h y)) (deferred_dead e)) ∙ put_off_step None tt
@@ -470,7 +368,7 @@ module _ (h : History) (y : Entry) (s : ℕ) (lawful : IsLawful (with_entry h y)
       by_birth : (t : Bool) → birth_now ≡ t → put_off (with_entry h y) (deferral (with_entry h y) s) ≡ none_if (t || death_now) (shown_deferred_after h s y.moment (put_off h (deferral h s)) y.step)
       by_birth true q =
           ap (λ ds. put_off (with_entry h y) (cond (is_alive (with_entry h y) s) (fold defer None ds) None)) (since_hit h y s q)
-          ∙ ap (put_off (with_entry h y)) (never (is_alive (with_entry h y) s))
+          ∙ ap (put_off (with_entry h y)) (same_choice (is_alive (with_entry h y) s) None)
       by_birth false q = by_death q death_now refl
 
   -- ---- all of it

@@ -19,7 +19,8 @@ pub record TellsNothing (document : Document) (log : List LogEntry) (c : Chronic
   pub readings_are : AreReadingsOf c.readings document log []
 
 -- it has the first entries of a diary
-pub record Lags (document : Document) (log : List LogEntry) (diary : List Entry) (c : Chronicle) : Type 0 where
+pub record Lags
+    (document : Document) (log : List LogEntry) (diary : List Entry) (c : Chronicle) : Type 0 where
   pub within : length c.book ≤ length diary
   pub first : c.book ≡ take (length c.book) diary
   pub tells : Tells document log c
@@ -32,7 +33,8 @@ LagsIfAny document log diary second = (c : Chronicle) → second ≡ Some c → 
 abbrev pub reach : Option Chronicle → Option ℕ
 reach second = option_map (λ (c : Chronicle). length c.book) second
 
--- what had happened when the mark was made was possible; where the diary is longer now, the second one ends at the mark
+-- what had happened when the mark was made was possible; where the diary is longer now,
+-- the second one ends at the mark
 pub record HoldsAt (document : Document) (log : List LogEntry) (diary : List Entry)
     (second : Option Chronicle) (mark : ℕ × ℕ) : Type 0 where
   pub log_within : mark.0 ≤ length log
@@ -40,7 +42,8 @@ pub record HoldsAt (document : Document) (log : List LogEntry) (diary : List Ent
   pub possible : IsPossible document (take mark.0 log) (take mark.1 diary)
   pub noted : mark.1 < length diary → reach second ≡ Some mark.1
 
--- the second one, where there is one, has first entries of the diary, and what is needed to go back where there is a mark
+-- the second one, where there is one, has first entries of the diary,
+-- and what is needed to go back where there is a mark
 pub record BacksUp (document : Document) (log : List LogEntry) (diary : List Entry)
     (second : Option Chronicle) (marked : Option (ℕ × ℕ)) : Type 0 where
   pub lags : LagsIfAny document log diary second
@@ -52,7 +55,8 @@ EndsAtMark second marked = (mark : ℕ × ℕ) → marked ≡ Some mark → reac
 
 -- a document with its log, and what is kept of it: its graph, what its items wait for, a chronicle,
 -- a second one with first entries of its diary, and a mark
-pub record KeepsPast (document : Document) (log : List LogEntry) (graph : OrderedNodes) (syncs : List SyncRow)
+pub record KeepsPast
+    (document : Document) (log : List LogEntry) (graph : OrderedNodes) (syncs : List SyncRow)
     (first : Chronicle) (second : Option Chronicle) (mark : Option (ℕ × ℕ)) : Type 0 where
   pub graph_is : graph.nodes ≡ document.nodes
   pub syncs_are : syncs ≡ all_syncs document.nodes

@@ -33,13 +33,15 @@ begun_after s before (Cut who) = if who == s then None else before
 begun_after s before _ = before
 
 abbrev pub shown_begun_after : History → ℕ → ℤ → Option ℤ → Step → Option ℤ
-shown_begun_after h s m before (Began who begin) = if who == s then Some (to_document h s begin m) else before
+shown_begun_after h s m before (Began who begin) =
+    if who == s then Some (to_document h s begin m) else before
 shown_begun_after h s m before (Ended who end') = if who == s then None else before
 shown_begun_after h s m before (Cut who) = if who == s then None else before
 shown_begun_after h s m before _ = before
 
 -- the interval of a play that finishes with a value
-abbrev pub finished_interval : History → ℕ → ℤ → ℤ → Bool → Option ℤ → Option ℤ → Option PastInterval
+abbrev pub finished_interval :
+    History → ℕ → ℤ → ℤ → Bool → Option ℤ → Option ℤ → Option PastInterval
 finished_interval h s m finish was_cut (Some begin) (Some shown) = Some (record {
   begin = begin;
   finish = finish;
@@ -62,7 +64,8 @@ abbrev pub shown_deferred_after : History → ℕ → ℤ → Option ℤ → Ste
 shown_deferred_after h s m before (Began who begin) = if who == s then None else before
 shown_deferred_after h s m before (Ended who end') = if who == s then None else before
 shown_deferred_after h s m before (Cut who) = if who == s then None else before
-shown_deferred_after h s m before (Deferred who begin) = if who == s then Some (to_document h s begin m) else before
+shown_deferred_after h s m before (Deferred who begin) =
+    if who == s then Some (to_document h s begin m) else before
 shown_deferred_after h s m before (Passed who begin) = if who == s then None else before
 shown_deferred_after h s m before _ = before
 
@@ -84,15 +87,17 @@ own_after h y s r = record {
   shown_begun = shown_begun_after h s y.moment r.shown_begun y.step;
   first = play_start_after h s y.moment r.first y.step;
   start = iteration_start_after h s y.moment r.start y.step;
-  first_finished = option_or r.first_finished (interval_finished_by h s y.moment r.begun r.shown_begun y.step);
-  last_finished = option_or (interval_finished_by h s y.moment r.begun r.shown_begun y.step) r.last_finished;
+  first_finished =
+      option_or r.first_finished (interval_finished_by h s y.moment r.begun r.shown_begun y.step);
+  last_finished =
+      option_or (interval_finished_by h s y.moment r.begun r.shown_begun y.step) r.last_finished;
   shown_deferred = shown_deferred_after h s y.moment r.shown_deferred y.step;
   passed = passed_after s r.passed y.step;
   length = told_after h.log s r.length y.step;
 }
 
--- what a birth or an end of the time parent leaves: a birth forgets what finished, was deferred or passed since the last
--- one, and after an end nothing is deferred
+-- what a birth or an end of the time parent leaves: a birth forgets what finished,
+-- was deferred or passed since the last one, and after an end nothing is deferred
 abbrev pub child_after : Bool → Bool → PlayFacts → PlayFacts
 child_after birth death r = record r {
   first_finished = none_if birth r.first_finished;
@@ -104,7 +109,8 @@ child_after birth death r = record r {
 -- what a step leaves of what is kept of an element by its time parent
 abbrev pub child_step : List Node → Step → ℕ → PlayFacts → PlayFacts
 child_step nodes step s =
-    child_after (is_birth_under (time_parent nodes s) step) (is_death_under (time_parent nodes s) step)
+    child_after (is_birth_under (time_parent nodes s) step)
+    (is_death_under (time_parent nodes s) step)
 
 -- what is kept of an element after one entry more
 abbrev pub row_after : History → Entry → ℕ → PlayFacts → PlayFacts
@@ -124,8 +130,10 @@ abbrev pub finished_row : History → ℕ → ℤ → ℤ → Bool → PlayFacts
 finished_row h s m finish was_cut r = record r {
   begun = None;
   shown_begun = None;
-  first_finished = option_or r.first_finished (finished_interval h s m finish was_cut r.begun r.shown_begun);
-  last_finished = option_or (finished_interval h s m finish was_cut r.begun r.shown_begun) r.last_finished;
+  first_finished =
+      option_or r.first_finished (finished_interval h s m finish was_cut r.begun r.shown_begun);
+  last_finished =
+      option_or (finished_interval h s m finish was_cut r.begun r.shown_begun) r.last_finished;
   shown_deferred = None;
 }
 
@@ -143,6 +151,7 @@ pub record IsEntryAfter (h : History) (y : Entry) (document : Document) (clocks 
   pub lawful : IsLawful (with_entry h y)
 
 -- there is such a history
-pub record MayBeTaken (y : Entry) (document : Document) (clocks : List NodeClock) (log : List LogEntry) : Type 0 where
+pub record MayBeTaken
+    (y : Entry) (document : Document) (clocks : List NodeClock) (log : List LogEntry) : Type 0 where
   pub past : History
   pub before : IsEntryAfter past y document clocks log

@@ -14,7 +14,8 @@ use Rattle.smil_model.specs.diary.Diary.{with_entry}
 use Rattle.smil_laws.specs.Near.{AllNear, HasNear}
 use Rattle.smil_laws.specs.Cut.{IsNamedBelow, NamesBelow}
 
--- a document, its log and its diary; and, where there is a mark, how long log and diary were when it was made
+-- a document, its log and its diary; and, where there is a mark,
+-- how long log and diary were when it was made
 pub record MarkedHistory : Type 0 where
   pub document : Document
   pub log : List LogEntry
@@ -26,14 +27,17 @@ history_of past = record { nodes = past.document.nodes; log = past.log; diary = 
 
 -- what has happened, where there is no mark
 abbrev pub unmarked : Document → List LogEntry → List Entry → MarkedHistory
-unmarked document log diary = record { document = document; log = log; diary = diary; marked = None }
+unmarked document log diary =
+    record { document = document; log = log; diary = diary; marked = None }
 
 -- the past without what came after its first entries
 abbrev pub front : MarkedHistory → ℕ → History
 front past len = record { nodes = past.document.nodes; log = past.log; diary = take len past.diary }
 
--- what can have happened to a document: a lawful diary with numbers near 0, which names entries of the log
-pub record IsPossible (document : Document) (log : List LogEntry) (diary : List Entry) : Type 0 where
+-- what can have happened to a document: a lawful diary with numbers near 0,
+-- which names entries of the log
+pub record IsPossible
+    (document : Document) (log : List LogEntry) (diary : List Entry) : Type 0 where
   pub valid : IsValid document
   pub lawful : IsLawful (record { nodes = document.nodes; log = log; diary = diary })
   pub near : AllNear diary
@@ -67,7 +71,8 @@ pub record MayHear (past : MarkedHistory) (entry : LogEntry) : Type 0 where
   pub named : NamesBelow (length past.log) past.diary
 
 abbrev pub with_diary : MarkedHistory → List Entry → MarkedHistory
-with_diary past diary = record { document = past.document; log = past.log; diary = diary; marked = past.marked }
+with_diary past diary =
+    record { document = past.document; log = past.log; diary = diary; marked = past.marked }
 
 -- the log entry was heard
 abbrev pub with_heard : MarkedHistory → LogEntry → MarkedHistory

@@ -1,4 +1,5 @@
--- What a diary says of the plays of each element, with what the clocks of each entry's own moment showed.
+-- What a diary says of the plays of each element, with what the clocks of each entry's own moment
+-- showed.
 use Rattle.std.specs.Prelude.{Option, ◌≡◌, ℕ, List, map, option_map, option_and_then}
 use Rattle.smil_model.specs.declared.diary.Entry.{Entry}
 use Rattle.smil_model.specs.declared.document.Node.{Node}
@@ -11,7 +12,8 @@ use Rattle.smil_model.specs.shown.Views.{document_value, deferred_begin, present
 use Rattle.smil_past.specs.declared.plays.facts.PastInterval.{PastInterval}
 use Rattle.smil_past.specs.declared.plays.facts.PlayFacts.{PlayFacts}
 
--- a finished interval: its begin and its finish on the time parent's clock, both in document time, and whether it was cut
+-- a finished interval: its begin and its finish on the time parent's clock, both in document time,
+-- and whether it was cut
 abbrev pub past_interval : History → ℕ → FinishedInterval → PastInterval
 past_interval h serial f = record {
   begin = f.begin.value;

@@ -12,7 +12,8 @@ use Rattle.smil_model.specs.happening.Queue.{queue_of, queue_after, class_facts,
 use Rattle.smil_excl.specs.QueueState.{QueueState, line_in}
 use Rattle.smil_model.specs.diary.Diary.{with_entry}
 
--- the queues of all nodes, in document order; only those of excls are ever filled in a resolved diary
+-- the queues of all nodes, in document order; only those of excls are ever filled in a resolved
+-- diary
 abbrev pub lines : List Node → (ℕ → List ℕ) → List QueueState
 lines nodes queue = map (λ (n : Node). line_in nodes n.serial (queue n.serial)) nodes
 
@@ -34,7 +35,8 @@ pub record AreQueuesOf (kept : KeptQueues) (document : Document) (h : History) :
   pub value : kept ≡ kept_queues h
 
 -- a history of this document of which this is kept, and which the entry may follow
-pub record IsPastOf (kept : KeptQueues) (document : Document) (entry : Entry) (h : History) : Type 0 where
+pub record IsPastOf
+    (kept : KeptQueues) (document : Document) (entry : Entry) (h : History) : Type 0 where
   pub known : AreQueuesOf kept document h
   pub lawful : IsLawful (with_entry h entry)
 
@@ -45,8 +47,10 @@ unplayed nodes log = record { nodes = nodes; log = log; diary = [] }
 -- ---- the queue of each element, by its serial, after a part of a step
 
 -- whatever the queues were, they are what the change makes of them
-abbrev pub AreTurned : List QueueState → List QueueState → List Node → ((ℕ → List ℕ) → ℕ → List ℕ) → Type 0
-AreTurned old new nodes change = (queue : ℕ → List ℕ) → old ≡ lines nodes queue → new ≡ lines nodes (change queue)
+abbrev pub AreTurned :
+    List QueueState → List QueueState → List Node → ((ℕ → List ℕ) → ℕ → List ℕ) → Type 0
+AreTurned old new nodes change =
+    (queue : ℕ → List ℕ) → old ≡ lines nodes queue → new ≡ lines nodes (change queue)
 
 -- the queue of this element is emptied
 abbrev pub without_children : ℕ → (ℕ → List ℕ) → ℕ → List ℕ
@@ -54,7 +58,8 @@ without_children who queue serial = if who == serial then [] else queue serial
 
 -- the element leaves the queue of its time parent
 abbrev pub without_child : List Node → ℕ → (ℕ → List ℕ) → ℕ → List ℕ
-without_child nodes who queue serial = if is_child_of nodes serial who then without who (queue serial) else queue serial
+without_child nodes who queue serial =
+    if is_child_of nodes serial who then without who (queue serial) else queue serial
 
 -- the element is put in the queue of its time parent
 abbrev pub with_paused : List Node → ℕ → (ℕ → List ℕ) → ℕ → List ℕ
@@ -77,7 +82,8 @@ abbrev pub queues_after : List Node → (ℕ → List ℕ) → Step → ℕ → 
 queues_after nodes queue step serial = queue_after nodes serial (queue serial) step
 
 -- the queues of a lawful history of these nodes, in which this step is lawful
-pub record MayTakeIn (kept : List QueueState) (nodes : List Node) (step : Step) (h : History) : Type 0 where
+pub record MayTakeIn
+    (kept : List QueueState) (nodes : List Node) (step : Step) (h : History) : Type 0 where
   pub same_nodes : h.nodes ≡ nodes
   pub value : kept ≡ lines nodes (queue_of h)
   pub lawful : IsLawful h

@@ -14,7 +14,8 @@ use Rattle.smil_instances.specs.Intake.{history_of}
 use Rattle.smil_past.specs.declared.readings.Readings.{Readings}
 use Rattle.smil_past.specs.Past.{IsPossible}
 
--- these are the clocks, the plays, the queues and the instance times of a document after the entries of a diary
+-- these are the clocks, the plays, the queues and the instance times of a document after the
+-- entries of a diary
 pub record AreReadingsOf (readings : Readings) (document : Document) (log : List LogEntry)
     (diary : List Entry) : Type 0 where
   pub clocks_are : AreClocksOf readings.clocks (history_of document log diary)
@@ -32,6 +33,7 @@ pub record IsLast (readings : Readings) (y : Entry) (document : Document) (log :
   pub near : HasNear y.step
 
 -- what has happened is possible, and these are its readings
-pub record Holds (document : Document) (log : List LogEntry) (diary : List Entry) (readings : Readings) : Type 0 where
+pub record Holds (document : Document) (log : List LogEntry) (diary : List Entry)
+    (readings : Readings) : Type 0 where
   pub possible : IsPossible document log diary
   pub readings_are : AreReadingsOf readings document log diary

@@ -27,7 +27,8 @@ from_end offset (Some before) = Some (record { of = before.serial; edge = End; o
 abbrev pub from_named : List Node → ℕ → ℤ → Edge → Option Node → Option Syncbase
 from_named nodes e offset edge None = None
 from_named nodes e offset edge (Some x) =
-    if leads_to nodes e x.serial then None else Some (record { of = x.serial; edge = edge; offset = offset })
+    if leads_to nodes e x.serial then None
+    else Some (record { of = x.serial; edge = edge; offset = offset })
 
 -- what an item of an element waits for
 abbrev pub sync_of : List Node → ℕ → Item → Option Syncbase
@@ -49,7 +50,8 @@ pub record SyncRow : Type 0 where
   pub ends : List Syncbase
 
 abbrev pub sync_row : List Node → Node → SyncRow
-sync_row nodes e = record { serial = e.serial; begins = syncs_of nodes Begin e; ends = syncs_of nodes End e }
+sync_row nodes e =
+    record { serial = e.serial; begins = syncs_of nodes Begin e; ends = syncs_of nodes End e }
 
 abbrev pub all_syncs : List Node → List SyncRow
 all_syncs nodes = map (sync_row nodes) (elements nodes)
@@ -77,7 +79,8 @@ offset_of _ = None
 
 abbrev pub sync_from : Option ℤ → Source → Option Syncbase
 sync_from None s = None
-sync_from (Some offset) (source.Syncbase x edge) = Some (record { of = x; edge = edge; offset = offset })
+sync_from (Some offset) (source.Syncbase x edge) =
+    Some (record { of = x; edge = edge; offset = offset })
 sync_from (Some offset) _ = None
 
 -- what an item waits for, which is looped or not and has this source
@@ -90,7 +93,8 @@ abbrev pub listed : Option Syncbase → List Syncbase
 listed sync = cons_option sync []
 
 -- the items of one side of an element, which stands at this place and has this serial
-pub record IsListOf (nodes : List Node) (place who : ℕ) (side : Edge) (e : Node) (items : List Item) : Type 0 where
+pub record IsListOf
+    (nodes : List Node) (place who : ℕ) (side : Edge) (e : Node) (items : List Item) : Type 0 where
   pub here : slice_get (elements nodes) place ≡ Some e
   pub known : node_at (elements nodes) who ≡ Some e
   pub same : items_of nodes side e ≡ items

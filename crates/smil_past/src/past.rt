@@ -61,7 +61,8 @@ impl Model for Past {
 
     ghost Value = { MarkedHistory };
 
-    ghost view = { λ p. record { document = p.tree; log = p.log; diary = p.chronicle.book; marked = p.mark } };
+    ghost view = { λ p.
+        record { document = p.tree; log = p.log; diary = p.chronicle.book; marked = p.mark } };
 
     ghost invariant = { λ p. KeepsPast p.tree p.log p.graph p.syncs p.chronicle p.second p.mark };
 }
@@ -118,8 +119,8 @@ impl Past {
         })
     }
 
-    /// What has happened to a document, whose graph was made, by a log and these entries of a diary;
-    /// unless memory runs out.
+    /// What has happened to a document, whose graph was made, by a log and these entries of a
+    /// diary; unless memory runs out.
     pub fn of(
         alloc: Global,
         graphed: GraphedTree,

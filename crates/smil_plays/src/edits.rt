@@ -7,7 +7,7 @@ ghost use Rattle.smil_model.specs.document.Valid.{kind_of};
 
 use super::orders::is_known;
 use smil_attrs::{AttrFault, attr_name, read_attr, read_kind, read_node};
-use smil_cases::{Fault, put_node_fault, put_number, put_placed, put_word};
+use smil_cases::{Fault, put_node_fault, put_number, put_valued, put_word};
 use smil_model::{Bytes, Kind, Order, Who};
 use smil_tree::{Tree, TreeFault};
 use std::alloc::Global;
@@ -153,8 +153,8 @@ fn attr_fault(out: &mut Bytes, fault: AttrFault) -> Result<(), Fault> {
     match fault {
         AttrFault::UnknownAttribute => Ok(put_word(out, "unknown-attribute")?),
         AttrFault::UnsupportedName => Ok(put_word(out, "unsupported")?),
-        AttrFault::UnsupportedValue { place } => Ok(put_placed(out, "unsupported", place)?),
-        AttrFault::BadValue { place } => Ok(put_placed(out, "bad-value", place)?),
+        AttrFault::UnsupportedValue { place } => Ok(put_valued(out, "unsupported", place)?),
+        AttrFault::BadValue { place } => Ok(put_valued(out, "bad-value", place)?),
         AttrFault::TooManyItems => Ok(put_word(out, "too-many-items")?),
         AttrFault::Memory => Err(Fault::Memory),
     }

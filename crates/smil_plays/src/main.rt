@@ -12,36 +12,25 @@ mod orders;
 mod plays;
 mod trees;
 
-use smil_cases::{Fault, Words, end_line};
+use smil_cases::{Cases, Fault, Words, answer_cases};
 use smil_model::Bytes;
-use std::alloc::{AllocError, Global};
-use std::io::{self, BufRead, BufReader, BufWriter, Write};
+use std::alloc::Global;
+use std::io;
 
 fn main(rt: HostRuntime) -> io::Result<()> {
-    let alloc = rt.alloc();
-    let mut out = BufWriter::new(alloc, io::writer(&rt))?;
-    for line in BufReader::new(alloc, rt.reader())?.lines(alloc) {
-        let line = line?;
-        let text = respond(alloc, line.as_str())?;
-        out.write_all(text.slice())?;
-    }
-    out.flush()
+    answer_cases::<Calls, _, _>(rt.alloc(), rt.reader(), io::writer(&rt))
 }
 
-// The line that answers a case, with its line feed.
-fn respond(alloc: Global, line: &str) -> Result<Bytes, AllocError> {
-    let mut out = Bytes::new(alloc);
-    let outcome = answer(alloc, &mut Words::of_line(line), &mut out);
-    end_line(&mut out, outcome)?;
-    Ok(out)
-}
+// The calls that cases ask for by their words.
+struct Calls;
 
-// Answers a case by its word.
-fn answer(alloc: Global, words: &mut Words<'_>, out: &mut Bytes) -> Result<(), Fault> {
-    match words.word()? {
-        "graph" => graphs::graph(alloc, words, out),
-        "tree" => trees::tree(alloc, words, out),
-        "play" => plays::play(alloc, words, out),
-        _ => Err(Fault::Refused),
+impl Cases for Calls {
+    fn answer(alloc: Global, words: &mut Words<'_>, out: &mut Bytes) -> Result<(), Fault> {
+        match words.word()? {
+            "graph" => graphs::graph(alloc, words, out),
+            "tree" => trees::tree(alloc, words, out),
+            "play" => plays::play(alloc, words, out),
+            _ => Err(Fault::Refused),
+        }
     }
 }

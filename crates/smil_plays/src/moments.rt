@@ -75,9 +75,9 @@ fn put_instance(
 ) -> Result<(), AllocError> {
     put_number(out, who)?;
     put_word(out, "<")?;
-    put_begins(out, instances.begins(who))?;
+    put_once(out, instances.begins(who), put_number::<i64>)?;
     put_word(out, ">")?;
-    put_ends(out, instances.ends(who))?;
+    put_once(out, instances.ends(who), put_time)?;
     put_word(out, ":")?;
     put_flag(out, instances.any_end(who))?;
     put_first(out, instances, who, now)?;
@@ -86,26 +86,19 @@ fn put_instance(
     put_word(out, "/")
 }
 
-// Begins that rise, each once.
-fn put_begins(out: &mut Bytes, begins: &[i64]) -> Result<(), AllocError> {
+// Times that rise, each once.
+fn put_once<T, F>(out: &mut Bytes, times: &[T], put: F) -> Result<(), AllocError>
+where
+    T: Copy + PartialEq,
+    F: Fn(&mut Bytes, T) -> Result<(), AllocError>,
+    requires { F.IsAlwaysCallable put }
+{
     let mut last = None;
-    for begin in begins {
-        if last != Some(*begin) {
-            put_number(out, *begin)?;
+    for time in times {
+        if last != Some(*time) {
+            put(out, *time)?;
         }
-        last = Some(*begin);
-    }
-    Ok(())
-}
-
-// Ends that rise, each once.
-fn put_ends(out: &mut Bytes, ends: &[Time]) -> Result<(), AllocError> {
-    let mut last = None;
-    for end in ends {
-        if last != Some(*end) {
-            put_time(out, *end)?;
-        }
-        last = Some(*end);
+        last = Some(*time);
     }
     Ok(())
 }

@@ -38,12 +38,7 @@ pub fn before(words: &mut Words<'_>, out: &mut Bytes) -> Result<(), Fault> {
 
 /// `least-key KEY..`: the least of many keys.
 pub fn least_key(alloc: Global, words: &mut Words<'_>, out: &mut Bytes) -> Result<(), Fault> {
-    let mut keys = Vec::new(alloc);
-    if !words.rest().is_empty() {
-        for word in words.rest().split(' ') {
-            keys.push(key(word)?).map_err(|_| Fault::Memory)?;
-        }
-    }
+    let keys = words.values(alloc, "", key)?;
     Ok(put_key(out, least_scan(keys.as_slice()))?)
 }
 

@@ -17,12 +17,7 @@ pub fn implicit_by(alloc: Global, words: &mut Words<'_>, out: &mut Bytes) -> Res
         _ => return Err(Fault::Refused),
     };
     let start = words.number()?;
-    let mut ends = Vec::new(alloc);
-    if !words.rest().is_empty() {
-        for word in words.rest().split(' ') {
-            ends.push(child(word)?).map_err(|_| Fault::Memory)?;
-        }
-    }
+    let ends = words.values(alloc, "", child)?;
     put_time(out, implicit(kind, &rule, start, ends.as_slice()))?;
     Ok(())
 }

@@ -93,7 +93,7 @@ pub fn queue(alloc: Global, words: &mut Words<'_>, out: &mut Bytes) -> Result<()
 }
 
 // One step.
-#[tactic(auto, using(crate::proofs::Lengths::paused_longer, crate::proofs::Lengths::deferred_longer, crate::proofs::Lengths::without_shorter))]
+#[tactic(auto, using(crate::proofs::Lengths::put_longer, crate::proofs::Lengths::without_shorter))]
 fn take(queue: &mut Queue, next: Move, out: &mut Bytes) -> Result<(), AllocError>
     requires { length queue.old.held < queue.old.room }
     ensures held { length queue.new.held ≤ length queue.old.held + 1 }

@@ -7,8 +7,8 @@ use smil_model::{Bytes, Doc, Refusal};
 use smil_outline::{Builder, write_doc};
 use std::alloc::{AllocError, Global};
 
-/// `outline LINE|LINE|..`: the canonical outline, or the index of the line that is refused, which is
-/// the number of lines where that is the end of the outline, and why.
+/// `outline LINE|LINE|..`: the canonical outline, or the index of the line that is refused, which
+/// is the number of lines where that is the end of the outline, and why.
 pub fn outline(alloc: Global, words: &mut Words<'_>, out: &mut Bytes) -> Result<(), Fault> {
     let mut builder = Builder::new(alloc)?;
     let mut lines = 0_u64;

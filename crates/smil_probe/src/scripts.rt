@@ -1,6 +1,6 @@
 //! Calls of smil_script.
 
-use smil_cases::{Fault, Words, put_bytes, put_fault, put_number, put_word};
+use smil_cases::{Fault, Words, put_bytes, put_fault, put_number, put_valued, put_word};
 use smil_model::{Bytes, Order, TEXT_BYTES, Who};
 use smil_script::{Read, ends_load, is_blank, opens_load, read_line};
 use std::alloc::{AllocError, Global};
@@ -50,10 +50,7 @@ fn put_who(out: &mut Bytes, word: &str, who: &Who) -> Result<(), AllocError> {
     put_word(out, word)?;
     match who {
         Who::Id(id) => put_bytes(out, id),
-        Who::Serial(serial) => {
-            put_word(out, "#")?;
-            put_number(out, *serial)
-        }
+        Who::Serial(serial) => put_valued(out, "#", *serial),
     }
 }
 
@@ -70,7 +67,7 @@ fn put_order(out: &mut Bytes, order: &Order) -> Result<(), AllocError> {
             put_who(out, "media", who)?;
             put_number(out, *length)
         }
-        Order::Key { key } => put_valued(out, "key", i64::from(*key)),
+        Order::Key { key } => put_valued(out, "key", *key),
         Order::Remove { who } => put_who(out, "remove", who),
         Order::History { who } => put_who(out, "history", who),
         Order::Stack { who, attr } => {
@@ -84,12 +81,6 @@ fn put_order(out: &mut Bytes, order: &Order) -> Result<(), AllocError> {
         Order::Values => put_word(out, "values"),
         edit => put_edit(out, edit),
     }
-}
-
-// A word, and a number.
-fn put_valued(out: &mut Bytes, word: &str, value: i64) -> Result<(), AllocError> {
-    put_word(out, word)?;
-    put_number(out, value)
 }
 
 // An order that changes attributes or nodes.

@@ -13,13 +13,14 @@ use std::sync::ledger::{Blank, Ledger};
 
 /// `interval FACTS BEGINS ENDS`: the interval; what the search for a next one finds, but of an
 /// active element that has finished one; and what the search for a first one finds, where none has
-/// finished and the element isn't active. FACTS are, separated by spaces: alive, deferred, the play or
-/// `-`, the parent's start, the last interval or `-`, the begin that passed or `-`, the end list,
-/// the restart, min, max, the simple duration, the repeat count and the repeat duration or `-`.
+/// finished and the element isn't active. FACTS are, separated by spaces: alive, deferred, the play
+/// or `-`, the parent's start, the last interval or `-`, the begin that passed or `-`, the end
+/// list, the restart, min, max, the simple duration, the repeat count and the repeat duration or
+/// `-`.
 pub fn interval(alloc: Global, words: &mut Words<'_>, out: &mut Bytes) -> Result<(), Fault> {
     let facts = facts(words)?;
-    let begins = begins(alloc, words.word()?)?;
-    let ends = ends(alloc, words.word()?)?;
+    let begins = Words::of_word(words.word()?).values(alloc, "-", number::<i64>)?;
+    let ends = Words::of_word(words.word()?).values(alloc, "-", time)?;
     if !rises(begins.as_slice()) || !times_rise(ends.as_slice()) {
         return Err(Fault::Refused);
     }
@@ -56,28 +57,6 @@ fn evaluated<L: Ledger>(
 {
     let mut steps = Steps::<L>::new(blank);
     evaluate(begins, ends, facts, &mut steps)
-}
-
-// Numbers that are separated by commas, or `-` for none.
-fn begins(alloc: Global, word: &str) -> Result<Vec<i64>, Fault> {
-    let mut begins = Vec::new(alloc);
-    if word != "-" {
-        for part in word.split(',') {
-            begins.push(number(part)?).map_err(|_| Fault::Memory)?;
-        }
-    }
-    Ok(begins)
-}
-
-// Times that are separated by commas, or `-` for none.
-fn ends(alloc: Global, word: &str) -> Result<Vec<Time>, Fault> {
-    let mut ends = Vec::new(alloc);
-    if word != "-" {
-        for part in word.split(',') {
-            ends.push(time(part)?).map_err(|_| Fault::Memory)?;
-        }
-    }
-    Ok(ends)
 }
 
 // The facts of a search, field by field.

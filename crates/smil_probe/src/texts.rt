@@ -1,7 +1,7 @@
 //! Calls of the readers and writers of clock values, lists and node lines.
 
 use smil_attrs::{NodeFault, read_kind, read_node, write_node};
-use smil_cases::{Fault, Words, put_gap, put_node_fault, put_number, put_placed, put_word};
+use smil_cases::{Fault, Words, put_gap, put_node_fault, put_number, put_valued, put_word};
 use smil_clock_value::{ClockFault, read_clock, write_clock};
 use smil_model::{Attrs, Bytes, Edge, HORIZON, Kind};
 use smil_time_list::{ListFault, read_list, write_list};
@@ -40,8 +40,8 @@ pub fn list(alloc: Global, words: &mut Words<'_>, out: &mut Bytes) -> Result<(),
     let seq_child = words.flag()?;
     match read_list(alloc, words.rest().as_bytes(), side, seq_child) {
         Ok(items) => Ok(write_list(&items, out)?),
-        Err(ListFault::Bad { place }) => Ok(put_placed(out, "bad-value", place)?),
-        Err(ListFault::Unsupported { place }) => Ok(put_placed(out, "unsupported", place)?),
+        Err(ListFault::Bad { place }) => Ok(put_valued(out, "bad-value", place)?),
+        Err(ListFault::Unsupported { place }) => Ok(put_valued(out, "unsupported", place)?),
         Err(ListFault::TooManyItems) => Ok(put_word(out, "too-many-items")?),
         Err(ListFault::Memory) => Err(Fault::Memory),
     }

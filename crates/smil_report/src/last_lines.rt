@@ -1,6 +1,6 @@
 //! The last line of an order's answer, written without memory.
 
-ghost use Rattle.std.specs.Prelude.{◌≡◌, ◌+◌, ◌≤◌, ◌++◌, ◌∷◌, length, take, drop};
+ghost use Rattle.std.specs.Prelude.{◌≡◌, ◌+◌, ◌≤◌, ◌++◌, ◌∷◌, length, take, drop, codes, decimal};
 ghost use Rattle.smil_model.specs.declared.limits.TheConstants.{NAME_BYTES};
 ghost use Rattle.smil_model.specs.document.Words.{space};
 ghost use Rattle.smil_model.specs.shown.Lines.{closed_line, line_of, ok_line, refusal_line};
@@ -50,16 +50,19 @@ pub fn put_refusal(buf: &mut [u8; REFUSAL_BYTES], line: u32, refusal: &Refusal) 
     put_cause(buf, at, *refusal)
 }
 
-// Writes ` ` and a text at a place, and gives the place behind it.
+// Writes `ok LINE NAME` at the front of a buffer, and gives the place behind it.
 #[tactic(auto, using(crate::proofs::Places::drop_later))]
-fn put_next(buf: &mut [u8], at: usize, text: &[u8]) -> usize
-    requires { at + 1 + length text.now ≤ length buf.old }
-    ensures place { result ≡ at + 1 + length text.now }
-    ensures written { take result buf.new ≡ take at buf.old ++ space ∷ text.now }
+fn put_accepted(buf: &mut [u8], line: u32, name: &[u8]) -> usize
+    requires { 14 + length name.now ≤ length buf.old }
+    ensures place { result ≡ 4 + length (decimal line) + length name.now }
+    ensures short { result ≤ 14 + length name.now }
+    ensures written { take result buf.new ≡ codes "ok " ++ decimal line ++ space ∷ name.now }
     ensures rest { drop result buf.new ≡ drop result buf.old }
 {
+    let at = put(buf, 0, b"ok ");
+    let at = put_number(buf, at, line);
     let at = put(buf, at, b" ");
-    put(buf, at, text)
+    put(buf, at, name)
 }
 
 /// Writes the last line of an accepted order, `ok LINE NAME NOW`, at the front of the buffer, and
@@ -73,9 +76,7 @@ pub fn put_ok(buf: &mut [u8; LAST_LINE_BYTES], line: u32, name: &[u8], now: i64)
     ensures written { take result buf.new ≡ ok_line line name.now now }
     ensures rest { drop result buf.new ≡ drop result buf.old }
 {
-    let at = put(buf, 0, b"ok ");
-    let at = put_number(buf, at, line);
-    let at = put_next(buf, at, name);
+    let at = put_accepted(buf, line, name);
     let at = put(buf, at, b" ");
     let at = put_signed(buf, at, now);
     put(buf, at, b"\n")
@@ -92,9 +93,7 @@ pub fn put_closed(buf: &mut [u8; LAST_LINE_BYTES], line: u32, name: &[u8]) -> us
     ensures written { take result buf.new ≡ closed_line line name.now }
     ensures rest { drop result buf.new ≡ drop result buf.old }
 {
-    let at = put(buf, 0, b"ok ");
-    let at = put_number(buf, at, line);
-    let at = put_next(buf, at, name);
+    let at = put_accepted(buf, line, name);
     put(buf, at, b" closed\n")
 }
 
@@ -108,8 +107,6 @@ pub fn put_checked(buf: &mut [u8; LAST_LINE_BYTES], line: u32, name: &[u8]) -> u
     ensures written { take result buf.new ≡ checked_line line name.now }
     ensures rest { drop result buf.new ≡ drop result buf.old }
 {
-    let at = put(buf, 0, b"ok ");
-    let at = put_number(buf, at, line);
-    let at = put_next(buf, at, name);
+    let at = put_accepted(buf, line, name);
     put(buf, at, b"\n")
 }

@@ -128,13 +128,6 @@ both_sides ns s x y start one two counted none first second =
     ∙ (sym (map-append (is_looped ns e.serial) (items_of ns Begin e) (items_of ns End e))
     ∙ ap (loops ns) (sym counted.is)))
 
-pub no_sides : (ns : List Node) (s : ℕ) → None ≡ counts_at ns s → [] ≡ loops ns (node_at (elements ns) s)
-no_sides ns s e = by_node (node_at (elements ns) s) e
-  where
-    by_node : (o : Option Node) → None ≡ option_map (item_counts ns) o → [] ≡ loops ns o
-    by_node None e = refl
-    by_node (Some n) e = cc
-
 -- ---- elements that do not all pass
 
 pub one_fails : (p : Node → Bool) (ns : List Node) (k : ℕ) (n : Node) → k < length ns → n ≡ slice_index_or ns k n → is_element n ≡ true → p n ≡ false → list_all p (elements ns) ≡ false

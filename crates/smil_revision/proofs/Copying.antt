@@ -1,6 +1,6 @@
 -- What the edited copies of a document come to.
 use Rattle.std.proofs.Common.{◌≡◌, ℕ, ◌-◌, List, true, Option, Some, None, Result, Ok, Err, inl, inr, refl, sym, ap, ◌∙◌, subst}
-use Rattle.std.specs.Prelude.{◌⊎◌, ⊤, IsSome}
+use Rattle.std.specs.Prelude.{⊤, IsSome}
 use Rattle.std.proofs.lemmas.Bool.{cond_both}
 use Rattle.smil_model.specs.declared.document.Node.{Node}
 use Rattle.smil_model.specs.declared.document.Kind.{Kind}
@@ -49,9 +49,10 @@ some_from {A = A} o x is = subst (λ (p : Option A). IsSome p) (sym is) refl
 pub at_there : {A : Type 0} (nodes : List Node) (s : ℕ) (next : Node → Result A Refusal) (n : Node) → node_at nodes s ≡ Some n → at_node nodes s next ≡ next n
 at_there nodes s next n at = ap (λ (o : Option Node). and_then (found o) next) at
 
-refusal_is : {A : Type 0} (e : Refusal) (reading : Result A Refusal) → GivesReading {A = A} (Err e) reading → (e ≡ refusal.Memory) ⊎ (reading ≡ Err e)
-refusal_is refusal.Memory reading h = inl refl
-refusal_is e reading h = inr h
+-- a reading that is refused, unless memory ran out, by whose refusal the whole is refused
+unread : {A B : Type 0} (e : Refusal) (reading : Result A Refusal) (whole : Result B Refusal) → GivesReading {A = A} (Err e) reading → (reading ≡ Err e → whole ≡ Err e) → IsRefusedBy whole e
+unread refusal.Memory reading whole given goes = inl refl
+unread e reading whole given goes = inr (goes given)
 
 pub outcome_refuses : {A : Type 0} (whole : Result A Refusal) (r : Result A TreeFault) (f : TreeFault) (e : Refusal) → whole ≡ of_outcome r → e ≡ of_tree f → IsFaultOf r f → IsRefusedBy whole e
 outcome_refuses {A} whole r f e is same h = moved (fault_refuses r f h)
@@ -92,32 +93,33 @@ module _ (d : Document) (s : ℕ) (some : IsSome (node_at d.nodes s)) (kind : Ki
       ∙ ap (λ (o : Option Node). passes (λ (m : Node). fit_kind m.kind (kind_of (node_at d.nodes m.parent)) (with_attr m.attrs given)) o) n.at
       ∙ given_fits n.node.kind (kind_of (node_at d.nodes n.node.parent)) n.node.attrs name value nc c given (fits_at d.nodes s n.node valid.fitting n.at) (sym (read_there name value nc c) ∙ read)
 
-  pub set_read : (name value : List ℕ) (name_column column : ℕ) (given : Attr) → attr_in_line kind parent name value name_column column ≡ Ok given → at_node d.nodes s (λ m. attr_set_by limits formats d m name value name_column column) ≡ of_outcome (set_outcome d s given)
-  set_read name value nc c given read =
+  at_value : (name value : List ℕ) (name_column column : ℕ) (r : Result Attr Refusal) → attr_in_line kind parent name value name_column column ≡ r → at_node d.nodes s (λ m. attr_set_by limits formats d m name value name_column column) ≡ and_then r (set_checked limits d n.node)
+  at_value name value nc c r read =
       at_there d.nodes s (λ m. attr_set_by limits formats d m name value nc c) n.node n.at
       ∙ ap (λ r. and_then r (set_checked limits d n.node)) (sym (read_there name value nc c) ∙ read)
+
+  pub set_read : (name value : List ℕ) (name_column column : ℕ) (given : Attr) → attr_in_line kind parent name value name_column column ≡ Ok given → at_node d.nodes s (λ m. attr_set_by limits formats d m name value name_column column) ≡ of_outcome (set_outcome d s given)
+  set_read name value nc c given read =
+      at_value name value nc c (Ok given) read
       ∙ set_is d n.node given
       ∙ ap (λ t. of_outcome (set_outcome d t given)) (find-serial s d.nodes n.node n.at)
 
   pub value_unread : (name value : List ℕ) (name_column column : ℕ) (e : Refusal) → GivesReading {A = Attr} (Err e) (attr_in_line kind parent name value name_column column) → IsRefusedBy (at_node d.nodes s (λ m. attr_set_by limits formats d m name value name_column column)) e
-  value_unread name value nc c e given = by_cause (refusal_is e (attr_in_line kind parent name value nc c) given)
-    where
-      by_cause : (e ≡ refusal.Memory) ⊎ (attr_in_line kind parent name value nc c ≡ Err e) → IsRefusedBy (at_node d.nodes s (λ m. attr_set_by limits formats d m name value nc c)) e
-      by_cause (inl memory) = inl memory
-      by_cause (inr read) =
-          inr (at_there d.nodes s (λ m. attr_set_by limits formats d m name value nc c) n.node n.at ∙ ap (λ r. and_then r (set_checked limits d n.node)) (sym (read_there name value nc c) ∙ read))
+  value_unread name value nc c e given = unread e (attr_in_line kind parent name value nc c) _ given (at_value name value nc c (Err e))
+
+  at_name : (name : List ℕ) (column : ℕ) (r : Result AttrName Refusal) → r ≡ name_in_line kind name column → at_node d.nodes s (λ m. attr_unset_by formats d m name column) ≡ and_then r (λ (a : AttrName). Ok (attr_unset d n.node.serial a))
+  at_name name column r read =
+      at_there d.nodes s (λ m. attr_unset_by formats d m name column) n.node n.at
+      ∙ ap (λ r. and_then r (λ (a : AttrName). Ok (attr_unset d n.node.serial a))) (ap (λ k. name_in_line k name column) (sym (kinds n.node n.at)) ∙ sym read)
 
   pub unset_read : (name : List ℕ) (column : ℕ) (given : AttrName) (edited : Document) → Ok given ≡ name_in_line kind name column → edited ≡ attr_unset d s given → at_node d.nodes s (λ m. attr_unset_by formats d m name column) ≡ Ok edited
   unset_read name column given edited read is =
-      at_there d.nodes s (λ m. attr_unset_by formats d m name column) n.node n.at
-      ∙ ap (λ r. and_then r (λ (a : AttrName). Ok (attr_unset d n.node.serial a))) (ap (λ k. name_in_line k name column) (sym (kinds n.node n.at)) ∙ sym read)
+      at_name name column (Ok given) read
       ∙ ap (λ t. Ok (attr_unset d t given)) (find-serial s d.nodes n.node n.at)
       ∙ ap Ok (sym is)
 
   pub name_unread : (name : List ℕ) (column : ℕ) (e : Refusal) → Err e ≡ name_in_line kind name column → IsRefusedBy (at_node d.nodes s (λ m. attr_unset_by formats d m name column)) e
-  name_unread name column e read =
-      inr (at_there d.nodes s (λ m. attr_unset_by formats d m name column) n.node n.at
-      ∙ ap (λ r. and_then r (λ (a : AttrName). Ok (attr_unset d n.node.serial a))) (ap (λ k. name_in_line k name column) (sym (kinds n.node n.at)) ∙ sym read))
+  name_unread name column e read = inr (at_name name column (Err e) read)
 
 -- ---- a node line that is read fits
 
@@ -161,12 +163,14 @@ line_fits parent kind line column attrs kind_read read =
     let same : node.kind ≡ kind = same_kind (Some parent) kind node.kind (shape_of line) attrs rest in
     ranges kind (Some parent) attrs (node_is (Some parent) line kind attrs (node.is ∙ ap (λ (k : Kind). Ok (k, attrs)) same)).1
 
--- a line whose kind is refused
+-- a line whose kind is read so, or refused
+at_kind : (d : Document) (s place : ℕ) (line : List ℕ) (column : ℕ) (p : There d.nodes s) (r : Result Kind Refusal) → r ≡ kind_in_line line column → at_node d.nodes s (λ m. node_inserted_by limits formats d m place line column) ≡ and_then (and_then r (may_insert d p.node place)) (λ k. and_then (attrs_in_line p.node.kind line column) (insert_checked limits d p.node.serial place k))
+at_kind d s place line column p r read =
+    at_there d.nodes s (λ m. node_inserted_by limits formats d m place line column) p.node p.at
+    ∙ ap (λ (r : Result Kind Refusal). and_then (and_then r (may_insert d p.node place)) (λ k. and_then (attrs_in_line p.node.kind line column) (insert_checked limits d p.node.serial place k))) (sym read)
+
 pub kind_unread : (d : Document) (s place : ℕ) (line : List ℕ) (column : ℕ) → IsSome (node_at d.nodes s) → (e : Refusal) → Err e ≡ kind_in_line line column → IsRefusedBy (at_node d.nodes s (λ m. node_inserted_by limits formats d m place line column)) e
-kind_unread d s place line column some e unread =
-    let p : There d.nodes s = there d.nodes s some in
-    inr (at_there d.nodes s (λ m. node_inserted_by limits formats d m place line column) p.node p.at
-    ∙ ap (λ (r : Result Kind Refusal). and_then (and_then r (may_insert d p.node place)) (λ k. and_then (attrs_in_line p.node.kind line column) (insert_checked limits d p.node.serial place k))) (sym unread))
+kind_unread d s place line column some e read = inr (at_kind d s place line column (there d.nodes s some) (Err e) read)
 
 -- a line that is read for a child of a node
 module _ (d : Document) (s place : ℕ) (line : List ℕ) (column : ℕ) (kind : Kind) (some : IsSome (node_at d.nodes s)) (kind_read : Ok kind ≡ kind_in_line line column) where
@@ -180,8 +184,7 @@ module _ (d : Document) (s place : ℕ) (line : List ℕ) (column : ℕ) (kind :
   at_place =
       let serial : p.node.serial ≡ s = find-serial s d.nodes p.node p.at in
       let known : node_at d.nodes p.node.serial ≡ Some p.node = ap (λ t. node_at d.nodes t) serial ∙ p.at in
-      at_there d.nodes s (λ m. node_inserted_by limits formats d m place line column) p.node p.at
-      ∙ ap (λ (r : Result Kind Refusal). and_then (and_then r (may_insert d p.node place)) (λ k. and_then (attrs_in_line p.node.kind line column) (insert_checked limits d p.node.serial place k))) (sym kind_read)
+      at_kind d s place line column p (Ok kind) kind_read
       ∙ ap (λ (r : Result Kind Refusal). and_then r (λ k. and_then (attrs_in_line p.node.kind line column) (insert_checked limits d p.node.serial place k)))
       (place_is d p.node place kind known ∙ ap (λ t. and_then (of_outcome (place_outcome d.nodes t place kind)) (λ _. Ok kind)) serial)
 
@@ -202,11 +205,7 @@ module _ (d : Document) (s place : ℕ) (line : List ℕ) (column : ℕ) (kind :
         ∙ ap (λ k. and_then (attrs_in_line k line column) (insert_checked limits d s place kind)) (sym kind_is)
 
     pub attrs_unread : (e : Refusal) → GivesReading {A = Attrs} (Err e) (attrs_in_line parent line column) → IsRefusedBy whole e
-    attrs_unread e given = by_cause (refusal_is e (attrs_in_line parent line column) given)
-      where
-        by_cause : (e ≡ refusal.Memory) ⊎ (attrs_in_line parent line column ≡ Err e) → IsRefusedBy whole e
-        by_cause (inl memory) = inl memory
-        by_cause (inr read) = inr (at_attrs ∙ ap (λ r. and_then r (insert_checked limits d s place kind)) read)
+    attrs_unread e given = unread e (attrs_in_line parent line column) whole given (λ read. at_attrs ∙ ap (λ r. and_then r (insert_checked limits d s place kind)) read)
 
     pub may_bear_read : (edited : Document) (attrs : Attrs) → edited ≡ d → attrs_in_line parent line column ≡ Ok attrs → may_bear edited.nodes s kind attrs ≡ true
     may_bear_read edited attrs same read =

@@ -21,7 +21,8 @@ use std::alloc::Global;
 
 /// A copy in which a node has an attribute with a value. The refusals are those of name and value
 /// (`UnknownAttribute`, `Unsupported`, `BadValue`, `TooManyItems`, each with its column), then
-/// `DuplicateId` where another node has the id, and `TooManyReferences`. `Memory` where it runs out.
+/// `DuplicateId` where another node has the id, and `TooManyReferences`. `Memory` where it runs
+/// out.
 pub fn with_value(
     alloc: Global,
     tree: &Tree,

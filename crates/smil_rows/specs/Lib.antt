@@ -1,4 +1,4 @@
-pub mod Shown
+pub mod Rows
 pub mod Reaches
 pub mod QuietEdit
 pub mod OneImage

@@ -13,9 +13,11 @@ abbrev pub branches : List Node
 branches =
     node 1 Par 0 (record no_attrs { dur = Some (Clock (pos 60)) })
     ∷ node 2 Par 1 (record no_attrs { dur = Some (Clock (pos 50)) })
-    ∷ node 3 Img 2 (record no_attrs { begin = Some (Offset (pos 1) ∷ []); dur = Some (Clock (pos 2)) })
+    ∷ node 3 Img 2
+    (record no_attrs { begin = Some (Offset (pos 1) ∷ []); dur = Some (Clock (pos 2)) })
     ∷ node 4 Par 1 (record no_attrs { dur = Some (Clock (pos 50)) })
-    ∷ node 5 Img 4 (record no_attrs { begin = Some (Offset (pos 5) ∷ []); dur = Some (Clock (pos 2)) })
+    ∷ node 5 Img 4
+    (record no_attrs { begin = Some (Offset (pos 5) ∷ []); dur = Some (Clock (pos 2)) })
     ∷ []
 
 abbrev pub document : Document
@@ -27,7 +29,8 @@ pub record Reaches : Type 0 where
   pub branch : down branches 2 ≡ 1 ∷ 2 ∷ 3 ∷ []
   pub image : down branches 3 ≡ 2 ∷ 3 ∷ []
 
--- a child is inserted before the child at its place, or behind the last descendant; a removed node takes its descendants
+-- a child is inserted before the child at its place, or behind the last descendant;
+-- a removed node takes its descendants
 pub record Edits : Type 0 where
   pub between : serials (node_inserted document 1 2 Img no_attrs).nodes ≡ 1 ∷ 2 ∷ 3 ∷ 6 ∷ 4 ∷ 5 ∷ []
   pub behind : serials (node_inserted document 2 2 Img no_attrs).nodes ≡ 1 ∷ 2 ∷ 3 ∷ 6 ∷ 4 ∷ 5 ∷ []

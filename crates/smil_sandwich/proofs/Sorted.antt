@@ -6,6 +6,7 @@ use Rattle.std.proofs.lemmas.List.Elements.{filter-append}
 use Rattle.std.specs.List.{AllByRecursion}
 use Rattle.smil_model.specs.declared.view.Layer.{Layer}
 use Rattle.smil_model.specs.shown.Sandwich.{is_above, put_layer, layers_on, stack_of}
+use Rattle.smil_laws.proofs.Lists.{each_kept, each_push, each_weaker}
 use Rattle.smil_sandwich.proofs.Above.{is_above_through, is_above_one_way, is_above_either, is_above_stays}
 use Rattle.smil_sandwich.specs.Stacks.{AppliedIsStack, AppliedAreKept, ChangeIsKept, AreApart, AreKept, IsAbsent, IsApart, all_applied, applied, sorted, with_layer, without}
 
@@ -22,10 +23,6 @@ IsStack (l ∷ ls) = AllByRecursion (IsAbove l) ls × IsStack ls
 
 -- ---- what holds of all
 
-all_of : {P Q : Row → Type 0} → ((l : Row) → P l → Q l) → (ls : List Row) → AllByRecursion P ls → AllByRecursion Q ls
-all_of f [] h = tt
-all_of f (l ∷ ls) h = (f l h.0, all_of f ls h.1)
-
 pub all_put : (P : Row → Type 0) (l : Row) (ls : List Row) → P l → AllByRecursion P ls → AllByRecursion P (put_layer ls l)
 all_put P l [] p h = (p, tt)
 all_put P l (o ∷ ls) p h = step (is_above l.1 o.1) (all_put P l ls p h.1)
@@ -34,14 +31,6 @@ all_put P l (o ∷ ls) p h = step (is_above l.1 o.1) (all_put P l ls p h.1)
     step true rest = (p, h)
     step false rest = (h.0, rest)
 
-all_kept : (P : Row → Type 0) (test : Row → Bool) (ls : List Row) → AllByRecursion P ls → AllByRecursion P (filter test ls)
-all_kept P test [] h = tt
-all_kept P test (o ∷ ls) h = step (test o) (all_kept P test ls h.1)
-  where
-    step : (t : Bool) → AllByRecursion P (filter test ls) → AllByRecursion P (cond t (o ∷ filter test ls) (filter test ls))
-    step true rest = (h.0, rest)
-    step false rest = rest
-
 -- ---- stacks
 
 stack_kept : (test : Row → Bool) (ls : List Row) → IsStack ls → IsStack (filter test ls)
@@ -49,7 +38,7 @@ stack_kept test [] h = tt
 stack_kept test (o ∷ ls) h = step (test o) (stack_kept test ls h.1)
   where
     step : (t : Bool) → IsStack (filter test ls) → IsStack (cond t (o ∷ filter test ls) (filter test ls))
-    step true rest = (all_kept (IsAbove o) test ls h.0, rest)
+    step true rest = (each_kept (IsAbove o) test ls h.0, rest)
     step false rest = rest
 
 -- a layer at another place than those of a stack
@@ -61,7 +50,7 @@ stack_put l [] h apart = (tt, tt)
 stack_put l (o ∷ ls) h apart = step (is_above l.1 o.1) refl (stack_put l ls h.1 apart.1)
   where
     step : (t : Bool) → is_above l.1 o.1 ≡ t → IsStack (put_layer ls l) → IsStack (if t then l ∷ o ∷ ls else o ∷ put_layer ls l)
-    step true e rest = ((e, all_of (λ m g. is_above_through l.1 o.1 m.1 e g) ls h.0), h)
+    step true e rest = ((e, each_weaker _ _ ls h.0 (λ m g. is_above_through l.1 o.1 m.1 e g)), h)
     step false e rest = (all_put (IsAbove o) l ls (is_above_either l.1 o.1 apart.0 e) h.0, rest)
 
 -- a layer above all is put on top
@@ -93,7 +82,7 @@ kept_put test l (o ∷ ls) e h = step (is_above l.1 o.1) refl (kept_put test l l
         → filter test (if t then l ∷ o ∷ ls else o ∷ put_layer ls l) ≡ put_layer (filter test (o ∷ ls)) l
     step true d rest =
         ap (λ t. cond t (l ∷ filter test (o ∷ ls)) (filter test (o ∷ ls))) e
-        ∙ sym (put_top l (filter test (o ∷ ls)) (all_kept (IsAbove l) test (o ∷ ls) (d, all_of (λ m g. is_above_through l.1 o.1 m.1 d g) ls h.0)))
+        ∙ sym (put_top l (filter test (o ∷ ls)) (each_kept (IsAbove l) test (o ∷ ls) (d, each_weaker _ _ ls h.0 (λ m g. is_above_through l.1 o.1 m.1 d g))))
     step false d rest = below (test o) d rest
 
 -- a layer that it doesn't keep changes nothing of what it keeps
@@ -119,8 +108,8 @@ record Grows (s ls : List Row) : Type 0 where
 
 grows_on : (s : List Row) (l : Row) (ls : List Row) → Grows s (l ∷ ls) → Grows (put_layer s l) ls
 grows_on s l ls g = record {
-  stack = stack_put l s g.stack (all_of (λ m h. h.0.1) s g.others);
-  others = all_put (λ m. AllByRecursion (IsApart m) ls) l s g.apart.0 (all_of (λ m h. h.1) s g.others);
+  stack = stack_put l s g.stack (each_weaker _ _ s g.others (λ m h. h.0.1));
+  others = all_put (λ m. AllByRecursion (IsApart m) ls) l s g.apart.0 (each_weaker _ _ s g.others (λ m h. h.1));
   apart = g.apart.1;
 }
 
@@ -131,7 +120,7 @@ stack_fold s (l ∷ ls) g = stack_fold (put_layer s l) ls (grows_on s l ls g)
 applied_fold : (s ls : List Row) → Grows s ls → all_applied s ls ≡ fold put_layer s ls
 applied_fold s [] g = refl
 applied_fold s (l ∷ ls) g =
-    ap (λ k. all_applied (put_layer k l) ls) (all_pass (λ m. not (m.0 == l.0)) s (all_of (λ m h. ap not h.0.0) s g.others))
+    ap (λ k. all_applied (put_layer k l) ls) (all_pass (λ m. not (m.0 == l.0)) s (each_weaker _ _ s g.others (λ m h. ap not h.0.0)))
     ∙ applied_fold (put_layer s l) ls (grows_on s l ls g)
 
 kept_fold : (test : Row → Bool) (s ls : List Row) → Grows s ls → filter test (fold put_layer s ls) ≡ fold put_layer (filter test s) (filter test ls)
@@ -144,16 +133,12 @@ kept_fold test s (l ∷ ls) g = step (test l) refl (kept_fold test (put_layer s 
     step true e rest = rest ∙ ap (λ k. fold put_layer k (filter test ls)) (kept_put test l s e g.stack)
     step false e rest = rest ∙ ap (λ k. fold put_layer k (filter test ls)) (dropped_put test l s e)
 
-all_more : (P : Row → Type 0) (l : Row) (ls : List Row) → AllByRecursion P ls → P l → AllByRecursion P (ls ++ (l ∷ []))
-all_more P l [] h p = (p, tt)
-all_more P l (o ∷ ls) h p = (h.0, all_more P l ls h.1 p)
-
 -- a stack that is put from its top down is itself
 put_down : (s ls : List Row) → AllByRecursion (λ m. AllByRecursion (IsAbove m) ls) s → IsStack ls → fold put_layer s ls ≡ s ++ ls
 put_down s [] h g = sym (append-nil s)
 put_down s (l ∷ ls) h g =
-    ap (λ k. fold put_layer k ls) (put_end l s (all_of (λ m a. a.0) s h))
-    ∙ put_down (s ++ (l ∷ [])) ls (all_more (λ m. AllByRecursion (IsAbove m) ls) l s (all_of (λ m a. a.1) s h) g.0) g.1
+    ap (λ k. fold put_layer k ls) (put_end l s (each_weaker _ _ s h (λ m a. a.0)))
+    ∙ put_down (s ++ (l ∷ [])) ls (each_push (λ m. AllByRecursion (IsAbove m) ls) s l (each_weaker _ _ s h (λ m a. a.1)) g.0) g.1
     ∙ append_assoc s (l ∷ []) ls
 
 stack_again : (ls : List Row) → IsStack ls → fold put_layer [] ls ≡ ls
@@ -216,7 +201,7 @@ cleared setter old before after h g = by_layer old
     test l = not (l.0 == setter)
 
     passes : (ls : List Row) → IsAbsent setter ls → filter test ls ≡ ls
-    passes ls a = all_pass test ls (all_of (λ m q. ap not q) ls a)
+    passes ls a = all_pass test ls (each_weaker _ _ ls a (λ m q. ap not q))
 
     both : filter test before ++ filter test after ≡ before ++ after
     both = ap (λ k. k ++ filter test after) (passes before h) ∙ ap (λ k. before ++ k) (passes after g)

@@ -53,7 +53,8 @@ AppliedIsStack =
     → stack_of (all_applied [] layers) target name ≡ stack_of layers target name
 
 abbrev pub AppliedAreKept : Type 0
-AppliedAreKept = (layers : List (ℕ × Layer)) → AreApart layers → AreKept layers (all_applied [] layers)
+AppliedAreKept =
+    (layers : List (ℕ × Layer)) → AreApart layers → AreKept layers (all_applied [] layers)
 
 abbrev pub ChangeIsKept : Type 0
 ChangeIsKept =

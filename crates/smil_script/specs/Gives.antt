@@ -16,7 +16,8 @@ HoldsGiven _ = Unit {0}
 
 -- the element that the first word of a line names, and what stands behind it
 abbrev pub GivesWho : Result (Who × Piece) Refusal → Piece → Type 0
-GivesWho (Ok named) line = (who_of (first_of line).0.text ≡ Some named.0) × (named.1 ≡ (first_of line).1)
+GivesWho (Ok named) line =
+    (who_of (first_of line).0.text ≡ Some named.0) × (named.1 ≡ (first_of line).1)
 GivesWho (Err refusal.Memory) line = Unit {0}
 GivesWho (Err given) line = (who_of (first_of line).0.text ≡ None) × (given ≡ refusal.NotACommand)
 

@@ -2,8 +2,7 @@
 
 use super::serving::serve_session;
 use super::session::Session;
-use itoa::Buffer;
-use smil_cases::Fault;
+use smil_cases::{Fault, put, put_number};
 use smil_model::Bytes;
 use std::alloc::{AllocError, Global};
 
@@ -108,9 +107,7 @@ impl Listing {
 
 // A line of a word and a number.
 fn put_line(out: &mut Bytes, word: &str, number: u64) -> Result<(), AllocError> {
-    let mut buffer = Buffer::new();
-    out.append(word.as_bytes())?;
-    out.push(b' ')?;
-    out.append(buffer.format(number).as_bytes())?;
+    put(out, word)?;
+    put_number(out, number)?;
     out.push(b'\n')
 }

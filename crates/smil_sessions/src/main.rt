@@ -24,15 +24,14 @@
 //! | `N\|TEXT` | a line, which ends with a line feed: a read gives it if N bytes of answers were taken, no more and no fewer, and fails otherwise |
 //! | `end N` | the input ends if N bytes of answers were taken; the session is served |
 //!
-//! An empty line and one that begins with `#` say nothing. Of each session are written `session` and
-//! the number of its header among all headers, the transcript as it was taken, and `exit` with the
-//! exit number. A line that has no reading is left out, and told as `refused` with its number among
-//! the lines; so is a header whose session has no end. `memory` in place of `refused` says that
-//! memory ran out at the line.
+//! An empty line and one that begins with `#` say nothing. Of each session are written `session`
+//! and the number of its header among all headers, the transcript as it was taken, and `exit` with
+//! the exit number. A line that has no reading is left out, and told as `refused` with its number
+//! among the lines; so is a header whose session has no end. `memory` in place of `refused` says
+//! that memory ran out at the line.
 #![tactic(auto)]
 
 mod listing;
-mod numbers;
 mod pieces;
 mod reporting_sink;
 mod serving;
@@ -41,19 +40,17 @@ mod turns;
 mod waiting_source;
 
 use listing::Listing;
+use smil_cases::answer_lines;
 use smil_model::Bytes;
-use std::io::{self, BufRead, BufReader, BufWriter, Write};
+use std::io::{self, BufWriter, Write};
 
 fn main(rt: HostRuntime) -> io::Result<()> {
     let alloc = rt.alloc();
     let mut out = BufWriter::new(alloc, io::writer(&rt))?;
     let mut listing = Listing::new();
-    for line in BufReader::new(alloc, rt.reader())?.lines(alloc) {
-        let line = line?;
-        let mut told = Bytes::new(alloc);
-        listing.take(alloc, line.as_str(), &mut told)?;
-        out.write_all(told.slice())?;
-    }
+    answer_lines(alloc, rt.reader(), &mut out, |line, told| {
+        listing.take(alloc, line, told)
+    })?;
     let mut told = Bytes::new(alloc);
     listing.finish(&mut told)?;
     out.write_all(told.slice())?;

@@ -2,9 +2,8 @@
 
 ghost use Rattle.std.specs.Prelude.{◌<◌};
 
-use super::numbers::{number, numbers};
-use smil_cases::Fault;
-use smil_model::{Bytes, GrowingList};
+use smil_cases::{Fault, Words, number};
+use smil_model::Bytes;
 use smil_outside::CHUNK_BYTES;
 use std::alloc::Global;
 use std::num::NonZeroUsize;
@@ -18,8 +17,8 @@ pub struct Pieces {
     pub text: Bytes,
     pub chunk: usize,
     pub room: usize,
-    pub reads: GrowingList<u32>,
-    pub writes: GrowingList<u32>,
+    pub reads: Vec<u32>,
+    pub writes: Vec<u32>,
     ghost gives: { 0 < chunk },
 }
 
@@ -30,8 +29,8 @@ impl Pieces {
             text: Bytes::new(alloc),
             chunk: CHUNK_BYTES,
             room: ROOM,
-            reads: GrowingList::new(alloc),
-            writes: GrowingList::new(alloc),
+            reads: Vec::new(alloc),
+            writes: Vec::new(alloc),
         }
     }
 
@@ -59,4 +58,9 @@ impl Pieces {
         self.text.append(line_end.as_bytes())?;
         Ok(())
     }
+}
+
+// Numbers, with a comma between two.
+fn numbers(alloc: Global, word: &str) -> Result<Vec<u32>, Fault> {
+    Words::of_word(word).values(alloc, "", number::<u32>)
 }

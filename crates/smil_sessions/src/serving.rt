@@ -35,8 +35,8 @@ fn serve_pieces(
     told: &mut Bytes,
 ) -> Result<Status, AllocError> {
     let text = pieces.text.slice();
-    let mut source = MemSource::new(alloc, text, pieces.chunk, pieces.reads.slice())?;
-    let mut sink = MemSink::new(alloc, pieces.room, pieces.writes.slice())?;
+    let mut source = MemSource::new(alloc, text, pieces.chunk, pieces.reads.as_slice())?;
+    let mut sink = MemSink::new(alloc, pieces.room, pieces.writes.as_slice())?;
     let status = status_of(&Call { alloc, words }, &mut source, &mut sink);
     told.append(sink.bytes())?;
     Ok(status)

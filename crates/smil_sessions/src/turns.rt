@@ -1,7 +1,6 @@
 //! Input that is read line by line.
 
-use super::numbers::number;
-use smil_cases::Fault;
+use smil_cases::{Fault, number};
 use smil_model::{Bytes, GrowingList};
 use std::alloc::Global;
 

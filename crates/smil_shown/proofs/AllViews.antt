@@ -1,52 +1,72 @@
--- The views of all elements, made node by node.
-use Rattle.std.proofs.Common.{◌≡◌, refl, ◌∙◌, ap, ℕ, zero, suc, ◌+◌, ◌≤◌, List, [], ◌∷◌, ◌++◌, Some, Bool, true, false, length, take, arith}
-use Rattle.std.specs.Prelude.{cond, map, ◌==◌, ◌||◌, slice_get}
-use Rattle.std.specs.List.{AllByRecursion}
-use Rattle.std.proofs.lemmas.List.{take_all}
+-- The views of all elements, in document order.
+use Rattle.std.proofs.Common.{◌≡◌, refl, sym, ◌∙◌, ap, subst, ℕ, suc, ◌<◌, List, [], ◌∷◌, Some, Bool, false, length, get_or}
+use Rattle.std.specs.Prelude.{IsSome, cond, map, ◌==◌, ◌||◌, option_map, slice_get}
+use Rattle.std.specs.List.{list_any, position}
+use Rattle.std.proofs.lemmas.Bool.{or_parts}
+use Rattle.std.proofs.lemmas.List.Elements.{All-from_recursion}
+use Rattle.std.proofs.lemmas.Option.{slice_get-get_or}
 use Rattle.smil_model.specs.declared.document.Node.{Node}
 use Rattle.smil_model.specs.declared.view.View.{View}
-use Rattle.smil_model.specs.document.Document.{elements, is_element}
+use Rattle.smil_model.specs.document.Document.{Document, elements, node_at, serials}
 use Rattle.smil_model.specs.document.Valid.{IsDistinct}
-use Rattle.smil_stretch.proofs.Above.{others_before}
-use Rattle.smil_shown.specs.ViewTable.{has_view}
+use Rattle.smil_model.proofs.FirstPlaces.{position_cons}
+use Rattle.smil_tree.proofs.Families.{node_of_place}
+use Rattle.smil_tree.proofs.Kids.{serial_at}
+use Rattle.smil_instances.proofs.Siblings.{distinct_elements}
+use Rattle.smil_cells.specs.CellsState.{CellsState}
+use Rattle.smil_shown.specs.Sets.{AreOfElements}
+use Rattle.smil_shown.specs.ShownViews.{views_at}
+use Rattle.smil_shown.specs.ViewTable.{AreOf, AreOne, has_view, view_now}
+use Rattle.smil_shown.proofs.Apart.{views_known}
+
+-- an element that stands at a place among all, with this serial
+pub record IsElementAt (nodes : List Node) (i s : ℕ) : Type 0 where
+  pub element : Node
+  pub at : slice_get (elements nodes) i ≡ Some element
+  pub found : node_at (elements nodes) s ≡ Some element
+
+pub element_at : (nodes : List Node) (whos : List ℕ) (i : ℕ) → IsDistinct nodes → whos ≡ serials (elements nodes) → i < length whos → IsElementAt nodes i (get_or whos i 0)
+element_at nodes whos i distinct all l =
+    let e = serial_at (elements nodes) i (get_or whos i 0) (ap (λ (ss : List ℕ). slice_get ss i) (sym all) ∙ slice_get-get_or whos i 0 l) in
+    record {
+      element = e.0;
+      at = e.1;
+      found = ap (node_at (elements nodes)) (sym e.2) ∙ node_of_place (elements nodes) i e.0 (distinct_elements nodes distinct) e.1;
+    }
 
 module _ (f : Node → View) (own : (n : Node) → (f n).serial ≡ n.serial) where
-  abbrev pub views_to : List Node → ℕ → List View
-  views_to nodes k = map f (elements (take k nodes))
+  -- the view of an element has its place
+  pub place_of_view : (es : List Node) (s : ℕ) → position (λ (n : ℕ). n == s) (serials es) ≡ position (λ (v : View). v.serial == s) (map f es)
+  place_of_view [] s = refl
+  place_of_view (e ∷ es) s =
+      position_cons (λ (n : ℕ). n == s) e.serial (serials es)
+      ∙ ap (λ o. cond (e.serial == s) (Some 0) (option_map suc o)) (place_of_view es s)
+      ∙ ap (λ (n : ℕ). cond (n == s) (Some 0) (option_map suc (position (λ (v : View). v.serial == s) (map f es)))) (sym (own e))
+      ∙ sym (position_cons (λ (v : View). v.serial == s) (f e) (map f es))
 
-  elements_next : (nodes : List Node) (k : ℕ) (n : Node) → slice_get nodes k ≡ Some n → map f (elements (take (suc k) nodes)) ≡ map f (elements (take k nodes)) ++ map f (elements (n ∷ []))
-  elements_next [] k n at = cc
-  elements_next (m ∷ ms) zero n at = by_list ms (same at)
-    where
-      same : Some m ≡ Some n → m ≡ n
-      same q = cc
+  -- none has a serial that no node has
+  pub none_of : (ns : List Node) (s : ℕ) → list_any (λ (m : Node). m.serial == s) ns ≡ false → has_view (map f ns) s ≡ false
+  none_of [] s q = refl
+  none_of (n ∷ ns) s q =
+      let apart = or_parts (n.serial == s) (list_any (λ (m : Node). m.serial == s) ns) q in
+      ap (λ (k : ℕ). k == s || has_view (map f ns) s) (own n) ∙ ap (λ (b : Bool). b || has_view (map f ns) s) apart.0 ∙ none_of ns s apart.1
 
-      by_list : (ms : List Node) → m ≡ n → map f (elements (take (suc zero) (m ∷ ms))) ≡ map f (elements (n ∷ []))
-      by_list [] q = ap (λ (x : Node). map f (elements (x ∷ []))) q
-      by_list (x ∷ xs) q = ap (λ (x : Node). map f (elements (x ∷ []))) q
-  elements_next (m ∷ ms) (suc k) n at = by_element (is_element m) (elements_next ms k n at)
-    where
-      by_element : (t : Bool) → map f (elements (take (suc k) ms)) ≡ map f (elements (take k ms)) ++ map f (elements (n ∷ []))
-          → map f (cond t (m ∷ elements (take (suc k) ms)) (elements (take (suc k) ms))) ≡ map f (cond t (m ∷ elements (take k ms)) (elements (take k ms))) ++ map f (elements (n ∷ []))
-      by_element true later = ap (λ (vs : List View). f m ∷ vs) later
-      by_element false later = later
+  -- nor have two the same
+  pub one_each : (ns : List Node) → IsDistinct ns → AreOne (map f ns)
+  one_each [] d = tt
+  one_each (n ∷ ns) d = (subst (λ (k : ℕ). has_view (map f ns) k ≡ false) (sym (own n)) (none_of ns n.serial d.0), one_each ns d.1)
 
-  pub views_next : (nodes : List Node) (k : ℕ) (n : Node) → slice_get nodes k ≡ Some n → views_to nodes (k + 1) ≡ views_to nodes k ++ map f (elements (n ∷ []))
-  views_next nodes k n at = ap (λ (j : ℕ). views_to nodes j) (one_on k) ∙ elements_next nodes k n at
-    where
-      one_on : (j : ℕ) → j + 1 ≡ suc j
-      one_on j = omega arith
+  -- the serials are those of the nodes
+  serials_of_views : (ns : List Node) → map (λ (v : View). v.serial) (map f ns) ≡ serials ns
+  serials_of_views [] = refl
+  serials_of_views (n ∷ ns) = ap (λ (s : ℕ). s ∷ map (λ (v : View). v.serial) (map f ns)) (own n) ∙ ap (λ (ss : List ℕ). n.serial ∷ ss) (serials_of_views ns)
 
-  pub none_yet : (nodes : List Node) (k : ℕ) (n : Node) → IsDistinct nodes → slice_get nodes k ≡ Some n → has_view (views_to nodes k) n.serial ≡ false
-  none_yet nodes k n distinct at = by_list (take k nodes) (others_before nodes k n distinct at)
-    where
-      by_list : (ms : List Node) → AllByRecursion (λ (m : Node). m.serial == n.serial ≡ false) ms → has_view (map f (elements ms)) n.serial ≡ false
-      by_list [] other = refl
-      by_list (m ∷ ms) other = by_element (is_element m) (by_list ms other.1)
-        where
-          by_element : (t : Bool) → has_view (map f (elements ms)) n.serial ≡ false → has_view (map f (cond t (m ∷ elements ms) (elements ms))) n.serial ≡ false
-          by_element true later = ap (λ (s : ℕ). s == n.serial || has_view (map f (elements ms)) n.serial) (own m) ∙ (ap (λ (t : Bool). t || has_view (map f (elements ms)) n.serial) other.0 ∙ later)
-          by_element false later = later
+-- the views of all elements are of elements, and so of nodes
+pub of_elements : (s : CellsState) (d : Document) (vs : List View) → d ≡ s.presentation.document → vs ≡ views_at s → AreOfElements d.nodes vs
+of_elements s d vs same is =
+    let P : List View → Type 0 = λ ws. AreOfElements s.presentation.document.nodes ws in
+    let Q : Document → Type 0 = λ x. AreOfElements x.nodes vs in
+    subst Q (sym same) (subst P (sym is) (serials_of_views (view_now s) (λ n. refl) (elements s.presentation.document.nodes)))
 
-  pub views_all : (nodes : List Node) (k : ℕ) → length nodes ≤ k → views_to nodes k ≡ map f (elements nodes)
-  views_all nodes k l = ap (λ (ns : List Node). map f (elements ns)) (take_all k nodes l)
+pub of_nodes : (s : CellsState) (d : Document) (vs : List View) → d ≡ s.presentation.document → vs ≡ views_at s → AreOf d.nodes vs
+of_nodes s d vs same is = All-from_recursion (λ (v : View). IsSome (node_at d.nodes v.serial)) vs (views_known d.nodes vs (of_elements s d vs same is))

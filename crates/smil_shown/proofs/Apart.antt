@@ -17,7 +17,7 @@ use Rattle.smil_laws.proofs.Lineages.{swap_eqb}
 use Rattle.smil_laws.proofs.Members.{Differ, differ_all, differ_kept}
 use Rattle.smil_laws.proofs.Lists.{each_weaker, each_kept}
 use Rattle.smil_tree.proofs.KinLists.{each_left, each_serial}
-use Rattle.smil_tree.proofs.Changed.{serial_of as own_serial}
+use Rattle.smil_tree.proofs.Changed.{serial_of as own_serial, some_node}
 use Rattle.smil_sandwich.specs.Stacks.{AreApart, IsApart}
 use Rattle.smil_shown.specs.Sets.{AreOfElements, AreSettersOf, layer_in}
 
@@ -47,10 +47,6 @@ layer_made nodes view n attrs here same set plays to =
 
 -- ---- the places of different nodes differ
 
-pub some_of : {A : Type 0} (o : Option A) → IsSome o → (x : A) × (o ≡ Some x)
-some_of None h = cc
-some_of (Some x) h = (x, refl)
-
 place_is : (nodes : List Node) (s : ℕ) → IsSome (node_at nodes s) → place_in nodes s ≡ position_or_len (λ (n : Node). n.serial == s) nodes
 place_is nodes s known = ap (λ (o : Option ℕ). unwrap_or o (length nodes)) (found_place (λ (n : Node). n.serial == s) nodes known)
 
@@ -66,7 +62,7 @@ places_apart nodes a b here other apart = by (place_in nodes a == place_in nodes
     by : (t : Bool) → (place_in nodes a == place_in nodes b) ≡ t → t ≡ false
     by false e = refl
     by true e =
-        let d = (some_of (node_at nodes a) here).0 in
+        let d = (some_node (node_at nodes a) here).0 in
         let same : a ≡ b = sym (there nodes a d here) ∙ ap (λ (k : ℕ). (get_or nodes k d).serial) (eqb-true _ _ e) ∙ there nodes b d other in
         let never : true ≡ false = sym (eq-eqb a b same) ∙ apart in cc
 

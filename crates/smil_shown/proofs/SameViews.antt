@@ -1,20 +1,14 @@
 -- Views that are told to be the same are equal.
-use Rattle.std.proofs.Common.{◌≡◌, refl, sym, ◌∙◌, ap, ℕ, zero, suc, ℤ, Bool, true, false, eqb-true, arith}
-use Rattle.std.specs.Prelude.{◌&&◌, ◌==◌, int_le}
-use Rattle.std.proofs.lemmas.Int.{ints}
+use Rattle.std.proofs.Common.{◌≡◌, refl, sym, ◌∙◌, ap, ℕ, zero, suc, true, eqb-true}
+use Rattle.std.specs.Prelude.{◌==◌, int_le}
+use Rattle.std.proofs.lemmas.Bool.{and_parts}
 use Rattle.smil_model.specs.declared.view.Shown.{Shown}
 use Rattle.smil_model.specs.declared.view.Shown.TheVariants as shown
 use Rattle.smil_model.specs.declared.view.State.{State}
 use Rattle.smil_model.specs.declared.view.State.TheVariants as state
 use Rattle.smil_model.specs.declared.view.View.{View}
+use Rattle.smil_model.proofs.Orders.{le_exact}
 use Rattle.smil_model.specs.shown.Orders.{state_code, shown_eq, view_eq}
-
-both : (a b : Bool) → a && b ≡ true → (a ≡ true) × (b ≡ true)
-both true b e = (refl, e)
-both false b e = cc
-
-same_number : (x y : ℤ) → int_le x y && int_le y x ≡ true → x ≡ y
-same_number x y e = let l = both (int_le x y) (int_le y x) e in grind (arith, ints, l.0, l.1)
 
 state_named : ℕ → State
 state_named zero = state.Idle
@@ -43,7 +37,7 @@ same_time shown.Nothing shown.Nothing e = refl
 same_time shown.Indefinite shown.Indefinite e = refl
 same_time shown.Unresolved shown.Unresolved e = refl
 same_time shown.Standing shown.Standing e = refl
-same_time (shown.At x) (shown.At y) e = ap shown.At (same_number x y e)
+same_time (shown.At x) (shown.At y) e = let parts = and_parts (int_le x y) (int_le y x) e in ap shown.At (le_exact x y parts.0 parts.1)
 same_time _ _ e = cc
 
 made : ℕ → State → Shown → Shown → ℕ → ℕ → View
@@ -61,11 +55,11 @@ all_same v w a b c d e f =
 
 pub same_view : (v w : View) → view_eq v w ≡ true → v ≡ w
 same_view v w e =
-    let f = both _ (v.finished == w.finished) e in
-    let i = both _ (v.iteration == w.iteration) f.0 in
-    let d = both _ (shown_eq v.«end» w.«end») i.0 in
-    let c = both _ (shown_eq v.begin w.begin) d.0 in
-    let a = both (v.serial == w.serial) (state_code v.state == state_code w.state) c.0 in
+    let f = and_parts _ (v.finished == w.finished) e in
+    let i = and_parts _ (v.iteration == w.iteration) f.0 in
+    let d = and_parts _ (shown_eq v.«end» w.«end») i.0 in
+    let c = and_parts _ (shown_eq v.begin w.begin) d.0 in
+    let a = and_parts (v.serial == w.serial) (state_code v.state == state_code w.state) c.0 in
     all_same v w
     (eqb-true v.serial w.serial a.0)
     (same_state v.state w.state a.1)

@@ -1,10 +1,10 @@
 -- Where the view of an element stands, and what is put there.
-use Rattle.std.proofs.Common.{◌≡◌, refl, sym, ◌∙◌, ap, subst, ℕ, zero, suc, ◌+◌, ◌<◌, List, [], ◌∷◌, ◌++◌, Option, Some, None, Bool, true, false, length, get_or, arith, length-append, eqb}
+use Rattle.std.proofs.Common.{◌≡◌, refl, sym, ◌∙◌, ap, subst, ℕ, zero, suc, ◌+◌, ◌<◌, List, [], ◌∷◌, ◌++◌, Option, Some, None, Bool, true, false, length, get_or, arith, eqb}
 use Rattle.std.specs.Prelude.{cond, not, ◌==◌, ◌||◌, nat_lt, set, slice_get, find, unwrap_or, length}
 use Rattle.std.specs.List.{position, position_or_len}
 use Rattle.std.proofs.lemmas.Bool.{ltb-true, lt-ltb, eq-eqb, eqb-true}
 use Rattle.std.proofs.lemmas.Option.{slice_get-get_or, same_Some}
-use Rattle.std.proofs.lemmas.List.Folds.{find_at, list_any-append, position_or_len_push}
+use Rattle.std.proofs.lemmas.List.Folds.{find_at}
 use Rattle.std.proofs.lemmas.List.Sums.{passes_at_first}
 use Rattle.smil_model.specs.declared.view.View.{View}
 use Rattle.smil_model.specs.shown.Views.{blank}
@@ -55,14 +55,6 @@ view_there s views i x q at =
 pub view_read : (s : ℕ) (views : List View) (i : ℕ) (x : View) → Some i ≡ position (of s) views → x ≡ get_or views i x → x ≡ view_in views s
 view_read s views i x q read =
     sym (view_there s views i x q (slice_get-get_or views i x (place_is s views i q).0 ∙ ap Some (sym read)))
-
-absent_place : (s : ℕ) (views : List View) → has_view views s ≡ false → position_or_len (of s) views ≡ length views
-absent_place s [] q = refl
-absent_place s (v ∷ vs) q = by_test (of s v) refl q (absent_place s vs)
-  where
-    by_test : (t : Bool) → of s v ≡ t → t || has_view vs s ≡ false → (has_view vs s ≡ false → position_or_len (of s) vs ≡ length vs) → cond (not t) (1 + position_or_len (of s) vs) 0 ≡ length (v ∷ vs)
-    by_test true e r below = cc
-    by_test false e r below = let same = below r in omega (arith, same)
 
 present_place : (s : ℕ) (views : List View) → has_view views s ≡ true → position_or_len (of s) views < length views
 present_place s [] q = cc
@@ -206,80 +198,6 @@ at_put places views view at = record {
   one = one_put views view at.one;
 }
 
--- ---- one more view
-
-pub one_more : (views : List View) (view : View) → has_view views view.serial ≡ false → AreOne views → AreOne (views ++ view ∷ [])
-one_more [] view q one = (refl, tt)
-one_more (v ∷ vs) view q one = (
-  list_any-append (of v.serial) vs (view ∷ [])
-      ∙ (ap (λ (t : Bool). t || (of v.serial view || false)) one.0 ∙ by_test (of view.serial v) refl q),
-  one_more vs view (rest (of view.serial v) q) one.1,
-)
-  where
-    rest : (t : Bool) → t || has_view vs view.serial ≡ false → has_view vs view.serial ≡ false
-    rest true r = cc
-    rest false r = r
-
-    by_test : (t : Bool) → of view.serial v ≡ t → t || has_view vs view.serial ≡ false → of v.serial view || false ≡ false
-    by_test true e r = cc
-    by_test false e r = by_other (of v.serial view) refl
-      where
-        by_other : (t : Bool) → of v.serial view ≡ t → t || false ≡ false
-        by_other true f = let never : true ≡ false = sym (eq-eqb v.serial view.serial (sym (eqb-true view.serial v.serial f))) ∙ e in cc
-        by_other false f = refl
-
-position_by : (s : ℕ) (views : List View) (n m : ℕ) (t : Bool) → position_or_len (of s) views ≡ n → length views ≡ m → nat_lt n m ≡ t → position (of s) views ≡ cond t (Some n) None
-position_by s views n m t e f g =
-    ap (λ k. cond (nat_lt k (length views)) (Some k) None) e
-    ∙ (ap (λ k. cond (nat_lt n k) (Some n) None) f ∙ ap (λ (b : Bool). cond b (Some n) None) g)
-
-length_more : (views : List View) (view : View) → length (views ++ view ∷ []) ≡ length views + 1
-length_more views view = length-append views (view ∷ [])
-
-not_below : (n : ℕ) → nat_lt n n ≡ false
-not_below n = by_test (nat_lt n n) refl
-  where
-    by_test : (t : Bool) → nat_lt n n ≡ t → t ≡ false
-    by_test true e = absurd (let l = ltb-true n n e in omega (arith, l))
-    by_test false e = refl
-
--- the place of each
-position_here : (views : List View) (view : View) → has_view views view.serial ≡ false → position (of view.serial) (views ++ view ∷ []) ≡ Some (length views)
-position_here views view q =
-    position_by view.serial (views ++ view ∷ []) (length views + 0) (length views + 1) true
-    (position_or_len_push (of view.serial) views view
-    ∙ (ap (λ (t : Bool). cond t (length views + cond (of view.serial view) 0 1) (position_or_len (of view.serial) views)) (eq-eqb (position_or_len (of view.serial) views) (length views) (absent_place view.serial views q))
-    ∙ ap (λ (t : Bool). length views + cond t 0 1) (eq-eqb view.serial view.serial refl)))
-    (length_more views view) (lt-ltb (length views + 0) (length views + 1) (omega arith))
-    ∙ ap Some (let same : length views + 0 ≡ length views = omega arith in same)
-
-position_other : (views : List View) (view : View) (s : ℕ) → of s view ≡ false → position (of s) (views ++ view ∷ []) ≡ position (of s) views
-position_other views view s q = by_here (has_view views s) refl
-  where
-    by_here : (t : Bool) → has_view views s ≡ t → position (of s) (views ++ view ∷ []) ≡ position (of s) views
-    by_here true e =
-        let l = present_place s views e in
-        position_by s (views ++ view ∷ []) (position_or_len (of s) views) (length views + 1) true
-        (position_or_len_push (of s) views view
-        ∙ ap (λ (t : Bool). cond t (length views + cond (of s view) 0 1) (position_or_len (of s) views)) (differ (position_or_len (of s) views) (length views) l))
-        (length_more views view) (lt-ltb (position_or_len (of s) views) (length views + 1) (omega (arith, l)))
-        ∙ sym (present s views e)
-      where
-        differ : (a b : ℕ) → a < b → eqb a b ≡ false
-        differ a b l = by_test (eqb a b) refl
-          where
-            by_test : (t : Bool) → eqb a b ≡ t → t ≡ false
-            by_test true e = absurd (let same = eqb-true a b e in omega (arith, l, same))
-            by_test false e = refl
-    by_here false e =
-        let same = absent_place s views e in
-        position_by s (views ++ view ∷ []) (length views + 1) (length views + 1) false
-        (position_or_len_push (of s) views view
-        ∙ (ap (λ (t : Bool). cond t (length views + cond (of s view) 0 1) (position_or_len (of s) views)) (eq-eqb (position_or_len (of s) views) (length views) same)
-        ∙ ap (λ (t : Bool). length views + cond t 0 1) q))
-        (length_more views view) (not_below (length views + 1))
-        ∙ sym (position_by s views (length views) (length views) false same refl (not_below (length views)))
-
 -- ---- those that were noted
 
 back_last : (views noted : List View) (view : View) → put_back views (noted ++ view ∷ []) ≡ put_back (put_in views view) noted
@@ -313,17 +231,6 @@ back_put views noted i old view one q read =
     let at = there view.serial views i q in
     let is : slice_get views i ≡ Some old = slice_get-get_or views i old (place_is view.serial views i q).0 ∙ ap Some (sym read) in
     back_noted views noted i old view one is (ap (λ (v : View). v.serial) (same_Some old at.view (sym is ∙ at.at)) ∙ at.serial)
-
-pub places_more : (places places' : ℕ → Option ℕ) (views : List View) (view : View) (n : ℕ) → AreAt places views → has_view views view.serial ≡ false → n ≡ length views
-    → ((q : ℕ) → places' q ≡ cond (eqb view.serial q) (Some n) (places q)) → AreAt places' (views ++ view ∷ [])
-places_more places places' views view n at q same more = record {
-  place = λ s. more s ∙ by_test s (eqb view.serial s) refl;
-  one = one_more views view q at.one;
-}
-  where
-    by_test : (s : ℕ) (t : Bool) → eqb view.serial s ≡ t → cond t (Some n) (places s) ≡ position (of s) (views ++ view ∷ [])
-    by_test s true e = ap Some same ∙ (sym (position_here views view q) ∙ ap (λ k. position (of k) (views ++ view ∷ [])) (eqb-true view.serial s e))
-    by_test s false e = at.place s ∙ sym (position_other views view s e)
 
 -- ---- what a turn of `back` comes to
 

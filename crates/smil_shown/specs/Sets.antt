@@ -54,7 +54,8 @@ pub record AreSetsOf (sets : LayerTable) (layers : List (ℕ × Layer)) : Type 0
   pub names : (target : ℕ) → names_of sets.names target ≡ names_on layers target
 
 -- the layers that were taken in, of sets that are nodes
-pub record AreSetsAmong (nodes : List Node) (sets : LayerTable) (layers : List (ℕ × Layer)) : Type 0 where
+pub record AreSetsAmong
+    (nodes : List Node) (sets : LayerTable) (layers : List (ℕ × Layer)) : Type 0 where
   pub are : AreSetsOf sets layers
   pub known : AreSettersOf nodes layers
   pub few : length layers ≤ length nodes

@@ -1,8 +1,8 @@
 //! What is shown of each element.
 
-ghost use Rattle.std.specs.Prelude.{◌≡◌, [], ◌∷◌, ◌++◌, map, None, Some, true, false, IsSome, IfOk, OnOk, OnErr};
+ghost use Rattle.std.specs.Prelude.{◌≡◌, [], None, Some, true, IfOk, OnOk, OnErr};
 ghost use Rattle.smil_model.specs.declared.document.Node.{Node as AnyNode};
-ghost use Rattle.smil_model.specs.document.Document.{elements, node_at};
+ghost use Rattle.smil_model.specs.document.Document.{elements, node_at, serials};
 ghost use Rattle.smil_model.specs.shown.Orders.{IsState};
 ghost use Rattle.smil_model.specs.shown.Views.{blank};
 ghost use Rattle.smil_cells.specs.CellsState.{IsSettled};
@@ -12,9 +12,8 @@ ghost use Rattle.smil_shown.specs.ViewTable.{differs, has_view, view_in as view_
 use super::same::is_same;
 use smil_cells::{Cells, Table};
 use smil_element::{Present, view_of};
-use smil_laws::courses::reached_is_past;
-use smil_laws::near::intervals_are_near;
-use smil_model::{Shown, State, View};
+use smil_instances::elements::elements;
+use smil_model::{Shown, State, View, first_places};
 use std::alloc::{AllocError, Global};
 use std::collections::HashMap;
 use std::marker::Model;
@@ -72,47 +71,15 @@ impl ViewTable {
         ensures { IfOk result (λ seen. seen
             ≡ record { views = views_at cells.now; before = views_at cells.now }) }
     {
-        let mut seen = ViewTable::none(alloc);
         let tree = cells.tree();
         tree.valid();
-        let mut place = 0;
-        while let Some(serial) = tree.serial_at(place) {
-            seen.push_node(cells, serial)?;
-            place += 1;
-        }
-        seen.forget();
-        Ok(seen)
-    }
-
-    // Puts the view of a node behind all others, where it is an element; the table has none of it.
-    fn push_node<T: Table>(&mut self, cells: &Cells<T>, serial: u32) -> Result<(), AllocError>
-        requires sound { cells.now.fault ≡ None }
-        requires state { IsState cells.now.presentation }
-        requires settled { IsSettled cells.now }
-        requires known { IsSome (node_at cells.now.presentation.document.nodes serial) }
-        requires one { has_view self.old.views serial ≡ false }
-        ensures { (n : AnyNode) → node_at cells.now.presentation.document.nodes serial ≡ Some n
-            → OnOk result (self.new.views ≡ self.old.views
-            ++ map (view_now cells.now) (elements (n ∷ []))) }
-    {
-        if cells.tree().kind(serial).is_element() {
-            self.push(view_in(cells, serial))
-        } else {
-            Ok(())
-        }
-    }
-
-    // Puts the view of one more element behind all others.
-    fn push(&mut self, view: View) -> Result<(), AllocError>
-        requires { has_view self.old.views view.serial ≡ false }
-        ensures { OnOk result (self.new.views ≡ self.old.views ++ view ∷ []) }
-    {
-        self.rows.push(view)?;
-        if let Err(fault) = self.places.insert(view.serial, self.rows.len() - 1) {
-            self.rows.pop();
-            return Err(fault.into());
-        }
-        Ok(())
+        let whos = elements(alloc, tree)?;
+        let rows = views_of(alloc, cells, &whos)?;
+        Ok(ViewTable {
+            rows,
+            places: first_places(alloc, &whos)?,
+            noted: Vec::new(alloc),
+        })
     }
 
     /// The views, in document order. It takes no memory.
@@ -170,6 +137,25 @@ impl ViewTable {
     }
 }
 
+// The views of all elements, by their serials, at the present moment.
+fn views_of<T: Table>(
+    alloc: Global,
+    cells: &Cells<T>,
+    whos: &[u32],
+) -> Result<Vec<View>, AllocError>
+    requires sound { cells.now.fault ≡ None }
+    requires state { IsState cells.now.presentation }
+    requires settled { IsSettled cells.now }
+    requires all { whos.now ≡ serials (elements cells.now.presentation.document.nodes) }
+    ensures { IfOk result (λ views. views.items ≡ views_at cells.now) }
+{
+    let mut views = Vec::with_capacity(alloc, whos.len())?;
+    for who in whos {
+        views.push(view_in(cells, *who))?;
+    }
+    Ok(views)
+}
+
 /// The view of an element at the present moment. The cells answered no refusal, and are settled. It
 /// takes no memory.
 pub fn view_in<T: Table>(cells: &Cells<T>, serial: u32) -> View
@@ -181,8 +167,6 @@ pub fn view_in<T: Table>(cells: &Cells<T>, serial: u32) -> View
     ensures { (e : AnyNode) → node_at (elements cells.now.presentation.document.nodes) serial
         ≡ Some e → result ≡ view_now cells.now e }
 {
-    intervals_are_near();
-    reached_is_past();
     let past = cells.past();
     past.possible();
     let present = Present {

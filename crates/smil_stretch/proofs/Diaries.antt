@@ -72,9 +72,6 @@ paused_push ds y s =
     ap (λ a. a && pausing (ds ++ y ∷ []) s) (active_push ds y s)
     ∙ ap (λ p. active_after s (is_active ds s) y.step && p) (pausing_push ds y s)
 
-same_self : (s : ℕ) → s == s ≡ true
-same_self s = eq-eqb s s refl
-
 pub pause_turns : (h : History) (m : ℤ) (who : ℕ) → is_lawful_step h (Paused who) ≡ true → Turns h (record { moment = m; step = Paused who }) who true
 pause_turns h m who q =
     let parts = and_parts (has_element h.nodes who) (is_active h.diary who && not (is_paused h.diary who)) q in
@@ -82,21 +79,21 @@ pause_turns h m who q =
       known = parts.0;
       own =
           paused_push h.diary (record { moment = m; step = Paused who }) who
-          ∙ ap (λ t. is_active h.diary who && (t || pausing h.diary who)) (same_self who)
+          ∙ ap (λ t. is_active h.diary who && (t || pausing h.diary who)) (eq-eqb who who refl)
           ∙ and_from (is_active h.diary who) true (and_parts (is_active h.diary who) (not (is_paused h.diary who)) parts.1).0 refl;
       others = λ s other.
           paused_push h.diary (record { moment = m; step = Paused who }) s
           ∙ ap (λ t. is_active h.diary s && (t || pausing h.diary s)) (swap_eqb s who other);
     }
 
+other_than : (s who other : ℕ) → other == who ≡ true → s == who ≡ false → other == s ≡ false
+other_than s who other e q = swap_eqb s other (ap (λ x. s == x) (eqb-true other who e) ∙ q)
+
 -- a resume, an end or a cut of the element
 ended_by : (s who : ℕ) (active pausing : Bool) (step : Step) → ends_pause who step ≡ true → s == who ≡ false → paused_by s active pausing step ≡ (active && pausing)
 ended_by s who active pausing (Resumed other) e q = ap (λ t. active && cond t false pausing) (other_than s who other e q)
-  where
-    other_than : (s who other : ℕ) → other == who ≡ true → s == who ≡ false → other == s ≡ false
-    other_than s who other e q = swap_eqb s other (ap (λ x. s == x) (eqb-true other who e) ∙ q)
-ended_by s who active pausing (Ended other end') e q = ap (λ t. cond t false active && pausing) (swap_eqb s other (ap (λ x. s == x) (eqb-true other who e) ∙ q))
-ended_by s who active pausing (Cut other) e q = ap (λ t. cond t false active && pausing) (swap_eqb s other (ap (λ x. s == x) (eqb-true other who e) ∙ q))
+ended_by s who active pausing (Ended other end') e q = ap (λ t. cond t false active && pausing) (other_than s who other e q)
+ended_by s who active pausing (Cut other) e q = ap (λ t. cond t false active && pausing) (other_than s who other e q)
 ended_by s who active pausing _ e q = cc
 
 ended_own : (who : ℕ) (active pausing : Bool) (step : Step) → ends_pause who step ≡ true → paused_by who active pausing step ≡ false
@@ -128,20 +125,19 @@ idle s who ds a p none here there = by (who == s) refl
     by true e = here e ∙ sym (ap (is_paused ds) (sym (eqb-true who s e)) ∙ none)
     by false e = there e
 
+ended_idle : (h : History) (s who : ℕ) → is_paused h.diary who ≡ false → (cond (who == s) false (is_active h.diary s) && pausing h.diary s) ≡ is_paused h.diary s
+ended_idle h s who none =
+    let by : Bool → Bool = λ t. cond t false (is_active h.diary s) && pausing h.diary s in
+    idle s who h.diary (cond (who == s) false (is_active h.diary s)) (pausing h.diary s) none (λ e. ap by e) (λ e. ap by e)
+
 stays_by : (h : History) (s : ℕ) (step : Step) → is_lawful_step h step ≡ true → changes_clocks h step ≡ false → paused_by s (is_active h.diary s) (pausing h.diary s) step ≡ is_paused h.diary s
 stays_by h s (Began who begin) q c =
     idle s who h.diary ((who == s) || is_active h.diary s) (cond (who == s) false (pausing h.diary s))
     (and_left (is_active h.diary who) (pausing h.diary who) (not-true (is_active h.diary who) (and_parts (is_alive h who) (not (is_active h.diary who)) (and_parts (has_element h.nodes who) (may_begin h who) q).1).1))
     (λ e. and_right ((who == s) || is_active h.diary s) (cond (who == s) false (pausing h.diary s)) (ap (λ t. cond t false (pausing h.diary s)) e))
     (λ e. ap (λ t. (t || is_active h.diary s) && cond t false (pausing h.diary s)) e)
-stays_by h s (Ended who end') q c =
-    idle s who h.diary (cond (who == s) false (is_active h.diary s)) (pausing h.diary s) c
-    (λ e. ap (λ t. cond t false (is_active h.diary s) && pausing h.diary s) e)
-    (λ e. ap (λ t. cond t false (is_active h.diary s) && pausing h.diary s) e)
-stays_by h s (Cut who) q c =
-    idle s who h.diary (cond (who == s) false (is_active h.diary s)) (pausing h.diary s) c
-    (λ e. ap (λ t. cond t false (is_active h.diary s) && pausing h.diary s) e)
-    (λ e. ap (λ t. cond t false (is_active h.diary s) && pausing h.diary s) e)
+stays_by h s (Ended who end') q c = ended_idle h s who c
+stays_by h s (Cut who) q c = ended_idle h s who c
 stays_by h s (Resumed who) q c =
     idle s who h.diary (is_active h.diary s) (cond (who == s) false (pausing h.diary s)) c
     (λ e. and_right (is_active h.diary s) (cond (who == s) false (pausing h.diary s)) (ap (λ t. cond t false (pausing h.diary s)) e))

@@ -1,11 +1,12 @@
--- The clocks before the first entry.
-use Rattle.std.proofs.Common.{◌≡◌, refl, sym, ◌∙◌, ap, subst, ℕ, zero, suc, ◌+◌, ◌<◌, ◌≤◌, List, [], ◌∷◌, ◌++◌, Option, Some, None, true, length, take, map, arith}
+-- Lists that are made from the nodes one after another, and the clocks before the first entry.
+use Rattle.std.proofs.Common.{◌≡◌, refl, sym, ◌∙◌, ap, subst, ℕ, zero, suc, ◌+◌, ◌-◌, ◌<◌, ◌≤◌, List, [], ◌∷◌, ◌++◌, Option, Some, None, true, length, get_or, take, map, arith}
 use Rattle.std.specs.Prelude.{pos, slice_get, option_map, is_some}
 use Rattle.std.proofs.lemmas.Bool.{and_right}
-use Rattle.std.proofs.lemmas.List.{take_more, length-map, length_push}
+use Rattle.std.proofs.lemmas.List.{take_more, take_all, length-map, length_push}
 use Rattle.std.proofs.lemmas.List.Elements.{All-nil, All-cons}
-use Rattle.std.proofs.lemmas.Option.{slice_get-map, slice_get_within, get_or_from_slice_get, same_Some}
+use Rattle.std.proofs.lemmas.Option.{slice_get-map, slice_get-get_or, slice_get_within, get_or_from_slice_get, same_Some}
 use Rattle.smil_model.specs.declared.diary.Entry.{Entry}
+use Rattle.smil_model.specs.declared.diary.Step.TheVariants.{Began}
 use Rattle.smil_model.specs.declared.document.Node.{Node}
 use Rattle.smil_model.specs.document.Document.{Document, node_at, is_element}
 use Rattle.smil_model.specs.document.Valid.{IsDistinct, IsNumberedTree}
@@ -41,15 +42,25 @@ none_left [] k q = omega arith
 none_left (n ∷ ns) zero q = cc
 none_left (n ∷ ns) (suc k) q = let rest = none_left ns k q in omega (arith, rest)
 
-pub idle_more : (nodes : List Node) (s : ℕ) (now : List NodeClock) (v : NodeClock) → now ≡ take (length now) (map (idle_clock nodes) nodes) → Some s ≡ option_map (λ (n : Node). n.serial) (slice_get nodes (length now)) → ((n : Node) → n.serial ≡ s → v ≡ idle_clock nodes n) → now ++ v ∷ [] ≡ take (length (now ++ v ∷ [])) (map (idle_clock nodes) nodes)
-idle_more nodes s now v so_far q is =
-    let found = node_found nodes s (length now) q in
-    let inside : length now < length (map (idle_clock nodes) nodes) = omega (arith, slice_get_within nodes (length now) found.node found.at, length-map nodes (idle_clock nodes)) in
-    let there : slice_get (map (idle_clock nodes) nodes) (length now) ≡ Some v = slice_get-map (idle_clock nodes) nodes (length now) ∙ ap (option_map (idle_clock nodes)) found.at ∙ ap Some (sym (is found.node found.serial)) in
-    ap (λ cs. cs ++ v ∷ []) so_far
-    ∙ ap (λ x. take (length now) (map (idle_clock nodes) nodes) ++ x ∷ []) (sym (get_or_from_slice_get (map (idle_clock nodes) nodes) (length now) v v there))
-    ∙ sym (take_more (map (idle_clock nodes) nodes) (length now) v inside)
-    ∙ ap (λ k. take k (map (idle_clock nodes) nodes)) (sym (length_push now v))
+module _ {A : Type 0} (nodes : List Node) (now : List A) (k s : ℕ) (v : A) (new : List A) (long : k ≡ length now) (at : Some s ≡ option_map (λ (n : Node). n.serial) (slice_get nodes k)) (pushed : new ≡ now ++ v ∷ []) where
+  pub fewer_left : length nodes - length new < length nodes - length now
+  fewer_left =
+      let inside : k < length nodes = node_inside nodes s k at in
+      let one : length new ≡ length now + 1 = ap length pushed ∙ length_push now v in
+      omega (arith, inside, long, one)
+
+  pub one_more : (f : Node → A) → now ≡ take (length now) (map f nodes) → ((n : Node) → n.serial ≡ s → v ≡ f n) → new ≡ take (length new) (map f nodes)
+  one_more f so_far is =
+      let found = node_found nodes s k at in
+      let inside : length now < length (map f nodes) = omega (arith, long, slice_get_within nodes k found.node found.at, length-map nodes f) in
+      let there : slice_get (map f nodes) (length now) ≡ Some v = ap (slice_get (map f nodes)) (sym long) ∙ slice_get-map f nodes k ∙ ap (option_map f) found.at ∙ ap Some (sym (is found.node found.serial)) in
+      pushed ∙ ap (λ rows. rows ++ v ∷ []) so_far
+      ∙ ap (λ x. take (length now) (map f nodes) ++ x ∷ []) (sym (get_or_from_slice_get (map f nodes) (length now) v v there))
+      ∙ sym (take_more (map f nodes) (length now) v inside)
+      ∙ ap (λ j. take j (map f nodes)) (sym (ap length pushed ∙ length_push now v))
+
+pub all_listed : {A : Type 0} (f : Node → A) (nodes : List Node) (now : List A) (k : ℕ) → k ≡ length now → None ≡ option_map (λ (n : Node). n.serial) (slice_get nodes k) → now ≡ take (length now) (map f nodes) → now ≡ map f nodes
+all_listed f nodes now k long end' so_far = so_far ∙ take_all (length now) _ (omega (arith, long, none_left nodes k end', length-map nodes f))
 
 pub idle_fit : (nodes ns : List Node) → AllFit (map (idle_clock nodes) ns)
 idle_fit nodes [] = All-nil (λ (c : NodeClock). Fits c.clock)
@@ -71,6 +82,14 @@ idle_clocks_of clocks h document diary numbered of is = record {
 }
 
 -- ---- one entry more
+
+-- what stands for an entry where there is none
+abbrev pub no_entry : Entry
+no_entry = record { moment = pos 0; step = Began 0 (pos 0) }
+
+-- the next entry stands at its place in the diary
+pub next_at : (all diary : List Entry) (i : ℕ) (d : Entry) → diary ≡ all → i < length all → slice_get diary i ≡ Some (get_or all i d)
+next_at all diary i d same lt = ap (λ (xs : List Entry). slice_get xs i) same ∙ slice_get-get_or all i d lt
 
 pub entry_there : (ds : List Entry) (k : ℕ) → k < length ds → is_some (slice_get ds k) ≡ true
 entry_there [] k l = absurd (omega (arith, l))

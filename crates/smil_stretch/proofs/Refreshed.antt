@@ -9,7 +9,7 @@ use Rattle.smil_stretch.specs.declared.clock.NodeClock.{NodeClock}
 use Rattle.smil_stretch.specs.Clocks.{shown, clock_by}
 use Rattle.smil_stretch.specs.NodeClocks.{at_place, stands_by, IsTurned}
 
-at_front : (xs : List NodeClock) (p k : ℕ) → k < p → slice_get (take p xs) k ≡ slice_get xs k
+pub at_front : {A : Type 0} (xs : List A) (p k : ℕ) → k < p → slice_get (take p xs) k ≡ slice_get xs k
 at_front xs zero k l = absurd (omega (arith, l))
 at_front [] (suc p) k l = refl
 at_front (x ∷ xs) (suc p) zero l = refl

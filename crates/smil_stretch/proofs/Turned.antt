@@ -24,6 +24,7 @@ use Rattle.smil_stretch.specs.NodeClocks.{at_place, stands_by, IsTurned, Turns}
 use Rattle.smil_stretch.proofs.Moments.{clock_with, clock_same}
 use Rattle.smil_stretch.proofs.Above.{any_in, any_under, none_in, others_before, others_after, lineage_before, any_node, known_element, Clear, Known, clear_after}
 use Rattle.smil_stretch.proofs.Placed.{IsParentAt, parent_at_place, no_parent_place}
+use Rattle.smil_stretch.proofs.Refreshed.{at_front}
 use Rattle.smil_stretch.proofs.Told.{standing}
 use Rattle.smil_tree.proofs.Families.{node_of_place}
 
@@ -34,10 +35,7 @@ each_place P [] each = tt
 each_place P (n ∷ ns) each = (each 0 n refl, each_place P ns (λ j m at. each (suc j) m at))
 
 front_at : (ns : List Node) (i j : ℕ) (m : Node) → j < i → slice_get ns j ≡ Some m → slice_get (take i ns) j ≡ Some m
-front_at ns zero j m l at = absurd (omega (arith, l))
-front_at [] (suc i) j m l at = at
-front_at (n ∷ ns) (suc i) zero m l at = at
-front_at (n ∷ ns) (suc i) (suc j) m l at = front_at ns i j m (omega (arith, l)) at
+front_at ns i j m l at = at_front ns i j l ∙ at
 
 in_front : (ns : List Node) (i j : ℕ) (m : Node) → slice_get (take i ns) j ≡ Some m → (j < i) × (slice_get ns j ≡ Some m)
 in_front ns zero j m at = cc

@@ -1,4 +1,5 @@
--- The clocks of a document after what has happened so far: one for each node, which runs or stands since the last entry.
+-- The clocks of a document after what has happened so far: one for each node,
+-- which runs or stands since the last entry.
 use Rattle.std.specs.Prelude.{◌≡◌, ℕ, ℤ, ◌-ℤ◌, List, map, Bool, true, false, ◌&&◌, ◌==◌, Option, option_and_then}
 use Rattle.std.specs.List.{position}
 use Rattle.smil_model.specs.declared.diary.Entry.{Entry}
@@ -31,12 +32,14 @@ clock_by false time moment = Runs (moment -ℤ time)
 
 -- the clock of an element since the last entry
 abbrev pub clock_of : History → ℕ → Clock
-clock_of h serial = clock_by (stands h serial) (run h serial (last_moment h.diary)) (last_moment h.diary)
+clock_of h serial =
+    clock_by (stands h serial) (run h serial (last_moment h.diary)) (last_moment h.diary)
 
 -- the place of the time parent in document order
 abbrev pub parent_place : List Node → ℕ → Option ℕ
 parent_place nodes serial =
-    option_and_then (λ (p : Node). position (λ (n : Node). n.serial == p.serial) nodes) (time_parent nodes serial)
+    option_and_then (λ (p : Node). position (λ (n : Node). n.serial == p.serial) nodes)
+    (time_parent nodes serial)
 
 -- the clock of a node, which for a priorityClass is that of its excl
 abbrev pub node_clock : History → Node → NodeClock
@@ -61,7 +64,8 @@ pub record IsLawfulFor (document : Document) (diary : List Entry) : Type 0 where
   pub past : History
   pub history : IsHistoryOf past document diary
 
--- these are the clocks of a history whose document is one tree in order and whose diary is lawful for it
+-- these are the clocks of a history whose document is one tree in order and whose diary is lawful
+-- for it
 pub record AreClocksOf (clocks : List NodeClock) (h : History) : Type 0 where
   pub next : ℕ
   pub document : IsNumberedTree (record { nodes = h.nodes; next = next })

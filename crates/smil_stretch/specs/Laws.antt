@@ -19,5 +19,6 @@ changes_clocks h _ = false
 -- after every other entry the clocks are what they were
 abbrev pub OtherEntriesLeaveClocks : Type 0
 OtherEntriesLeaveClocks =
-    (clocks : List NodeClock) (h : History) (y : Entry) → AreClocksOf clocks h → IsLawful (with_entry h y)
+    (clocks : List NodeClock) (h : History) (y : Entry) → AreClocksOf clocks h
+    → IsLawful (with_entry h y)
     → changes_clocks h y.step ≡ false → AreClocksOf clocks (with_entry h y)

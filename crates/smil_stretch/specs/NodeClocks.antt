@@ -31,7 +31,8 @@ at_place clocks place = option_and_then (slice_get clocks) place
 
 -- the clock of the time parent of the node with this serial
 abbrev pub parent_at : List NodeClock → ℕ → Option NodeClock
-parent_at clocks serial = option_and_then (λ (n : NodeClock). at_place clocks n.parent) (clock_at clocks serial)
+parent_at clocks serial =
+    option_and_then (λ (n : NodeClock). at_place clocks n.parent) (clock_at clocks serial)
 
 -- what such a clock shows, and whether it stands; where there is none it is document time
 abbrev pub shown_by : Option NodeClock → ℤ → ℤ
@@ -47,8 +48,9 @@ abbrev pub paused_by : Option NodeClock → Bool
 paused_by None = false
 paused_by (Some n) = n.paused
 
--- the clocks after the pause of the element at the first place began or ended: each clock from there on stands where its
--- node is paused or the clock of its time parent stands, and from the first node that isn't below the element all stay
+-- the clocks after the pause of the element at the first place began or ended:
+-- each clock from there on stands where its node is paused or the clock of its time parent stands,
+-- and from the first node that isn't below the element all stay
 pub record IsTurned (first : ℕ) (moment : ℤ) (before after : List NodeClock) : Type 0 where
   pub same_length : length after ≡ length before
   pub earlier : take first after ≡ take first before
@@ -56,7 +58,10 @@ pub record IsTurned (first : ℕ) (moment : ℤ) (before after : List NodeClock)
       → n.parent ≡ Some parent → parent < place
   pub turned : (place : ℕ) (n : NodeClock) → first ≤ place → slice_get before place ≡ Some n
       → slice_get after place
-      ≡ Some (record n { clock = clock_by (n.paused || stands_by (at_place after n.parent)) (shown n.clock moment) moment })
+      ≡ Some (record n {
+        clock = clock_by (n.paused
+            || stands_by (at_place after n.parent)) (shown n.clock moment) moment;
+      })
   pub later : (place : ℕ) (n : NodeClock) → first < place → slice_get before place ≡ Some n
       → is_from first n.parent ≡ false → drop place after ≡ drop place before
 
@@ -67,7 +72,8 @@ pub record Turns (h : History) (y : Entry) (serial : ℕ) (paused : Bool) : Type
   pub others : (s : ℕ) → s == serial ≡ false → is_paused (h.diary ++ y ∷ []) s ≡ is_paused h.diary s
 
 -- the clocks of a history that such an entry may follow at this moment
-pub record MayTurn (clocks : List NodeClock) (serial : ℕ) (paused : Bool) (moment : ℤ) : Type 0 where
+pub record MayTurn
+    (clocks : List NodeClock) (serial : ℕ) (paused : Bool) (moment : ℤ) : Type 0 where
   pub entry : Entry
   pub follows : MayFollow clocks entry
   pub turns : Turns follows.past entry serial paused
@@ -75,7 +81,12 @@ pub record MayTurn (clocks : List NodeClock) (serial : ℕ) (paused : Bool) (mom
 
 -- the clock of a node to whose document nothing has happened yet
 abbrev pub idle_clock : List Node → Node → NodeClock
-idle_clock nodes n = record { serial = n.serial; parent = parent_place nodes n.serial; paused = false; clock = Runs (pos 0) }
+idle_clock nodes n = record {
+  serial = n.serial;
+  parent = parent_place nodes n.serial;
+  paused = false;
+  clock = Runs (pos 0);
+}
 
 -- a table from serials to places
 abbrev pub ArePlacesOf : (ℕ → Option ℕ) → List NodeClock → Type 0

@@ -51,7 +51,8 @@ impl Model for Clocks {
 
     ghost view = { λ a. a.clocks.items };
 
-    ghost invariant = { λ a. ArePlacesOf (get nat_eq a.places) a.clocks.items × AllFit a.clocks.items };
+    ghost invariant = { λ a.
+        ArePlacesOf (get nat_eq a.places) a.clocks.items × AllFit a.clocks.items };
 }
 
 impl Duplicate for Clocks {

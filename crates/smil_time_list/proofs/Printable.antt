@@ -6,6 +6,7 @@ use Rattle.std.specs.Option.{ok_or}
 use Rattle.std.proofs.lemmas.Bool.{cond_both, ltb-false, ltb-true, and_parts}
 use Rattle.std.proofs.lemmas.Bool.Decides.{nat_tests}
 use Rattle.std.proofs.lemmas.Int.{ints}
+use Rattle.std.proofs.lemmas.Option.{IfSome_then}
 use Rattle.smil_model.specs.declared.times.TheConstants.{HORIZON}
 use Rattle.smil_model.specs.declared.document.Item.{Item}
 use Rattle.smil_model.specs.declared.document.Item.TheVariants.{Offset, Sync, Event, Repeat, Key, Indefinite}
@@ -72,13 +73,14 @@ signed_small : (text : List ℕ) → IfSome (signed_of text) IsNear
 signed_small [] = tt
 signed_small (b ∷ bytes) = cond_both (is_sign b) (option_map (with_sign b) (clock_within (trim_front bytes))) None (λ o. IfSome o IsNear) (λ e. signed b (clock_within (trim_front bytes)) (clock_small (trim_front bytes))) (λ e. tt)
 
-unsigned : (o : Option ℕ) → IfSome o (λ n. n ≤ 1_000_000_000_000) → IfSome (option_map pos o) IsNear
-unsigned None h = tt
-unsigned (Some n) h = near (pos n) h
+-- what is made of a value
+pub mapped : {A B : Type 0} (made : A → B) (P : A → Type 0) (Q : B → Type 0) → ((x : A) → P x → Q (made x)) → (o : Option A) → IfSome o P → IfSome (option_map made o) Q
+mapped made P Q each None h = tt
+mapped made P Q each (Some x) h = each x h
 
 offset_small : (text : List ℕ) → IfSome (offset_of text) IsNear
 offset_small [] = tt
-offset_small (b ∷ bytes) = cond_both (is_sign b) (signed_of (b ∷ bytes)) (option_map pos (clock_within (b ∷ bytes))) (λ o. IfSome o IsNear) (λ e. signed_small (b ∷ bytes)) (λ e. unsigned (clock_within (b ∷ bytes)) (clock_small (b ∷ bytes)))
+offset_small (b ∷ bytes) = cond_both (is_sign b) (signed_of (b ∷ bytes)) (option_map pos (clock_within (b ∷ bytes))) (λ o. IfSome o IsNear) (λ e. signed_small (b ∷ bytes)) (λ e. mapped pos (λ n. n ≤ 1_000_000_000_000) IsNear (λ n. near (pos n)) (clock_within (b ∷ bytes)) (clock_small (b ∷ bytes)))
 
 tail_small : (text : List ℕ) → IfSome (tail_of text) IsNear
 tail_small [] = near (pos 0) (omega arith)
@@ -88,11 +90,7 @@ tail_small (b ∷ bytes) = signed_small (trim_front (b ∷ bytes))
 
 grows : (n : ℕ) (digits : List ℕ) → IfSome (number_after n digits) (λ m. n ≤ m)
 grows n [] = omega arith
-grows n (b ∷ digits) = cond_both (is_ascii_digit b) (number_after (n * 10 + (b - 48)) digits) None (λ o. IfSome o (λ m. n ≤ m)) (λ e. weaker (number_after (n * 10 + (b - 48)) digits) n (n * 10 + (b - 48)) (omega arith) (grows (n * 10 + (b - 48)) digits)) (λ e. tt)
-  where
-    weaker : (o : Option ℕ) (low high : ℕ) → low ≤ high → IfSome o (λ m. high ≤ m) → IfSome o (λ m. low ≤ m)
-    weaker None low high le h = tt
-    weaker (Some m) low high le h = omega arith
+grows n (b ∷ digits) = cond_both (is_ascii_digit b) (number_after (n * 10 + (b - 48)) digits) None (λ o. IfSome o (λ m. n ≤ m)) (λ e. IfSome_then (number_after (n * 10 + (b - 48)) digits) (grows (n * 10 + (b - 48)) digits) (λ m h. omega arith)) (λ e. tt)
 
 abbrev pub IsCounted : ℕ → Type 0
 IsCounted n = (0 < n) × (n < 1_000_000_000)
@@ -105,11 +103,7 @@ no_zero : (b : ℕ) → is_ascii_digit b ≡ true → not (eqb b 48) ≡ true �
 no_zero b h k = grind (arith, nat_tests)
 
 at_least_one : (b : ℕ) (digits : List ℕ) → not (eqb b 48) ≡ true → IfSome (number_of (b ∷ digits)) (λ m. 1 ≤ m)
-at_least_one b digits h = cond_both (is_ascii_digit b) (number_after (0 * 10 + (b - 48)) digits) None (λ o. IfSome o (λ m. 1 ≤ m)) (λ e. weaker (number_after (0 * 10 + (b - 48)) digits) (0 * 10 + (b - 48)) (omega (arith, no_zero b e h)) (grows (0 * 10 + (b - 48)) digits)) (λ e. tt)
-  where
-    weaker : (o : Option ℕ) (high : ℕ) → 1 ≤ high → IfSome o (λ m. high ≤ m) → IfSome o (λ m. 1 ≤ m)
-    weaker None high le h = tt
-    weaker (Some m) high le h = omega arith
+at_least_one b digits h = cond_both (is_ascii_digit b) (number_after (0 * 10 + (b - 48)) digits) None (λ o. IfSome o (λ m. 1 ≤ m)) (λ e. IfSome_then (number_after (0 * 10 + (b - 48)) digits) (grows (0 * 10 + (b - 48)) digits) (λ m k. omega (arith, no_zero b e h))) (λ e. tt)
 
 counted : (digits : List ℕ) → is_count digits ≡ true → IfSome (number_of digits) IsCounted
 counted [] h = absurd cc
@@ -129,11 +123,7 @@ abbrev Gives : Result Item ItemFault → Type 0
 Gives r = IfOk r Printable
 
 with_tail_reads : (item : ℤ → Item) → ((offset : ℤ) → IsNear offset → Printable (item offset)) → (tail : List ℕ) → Reads (with_tail item tail)
-with_tail_reads item each tail = reads (tail_of tail) (tail_small tail)
-  where
-    reads : (o : Option ℤ) → IfSome o IsNear → Reads (option_map item o)
-    reads None h = tt
-    reads (Some offset) h = each offset h
+with_tail_reads item each tail = mapped item IsNear Printable each (tail_of tail) (tail_small tail)
 
 sync_reads : (who : Option (List ℕ)) (edge : Edge) (tail : List ℕ) → IsWho who → Reads (sync_of who edge tail)
 sync_reads None edge tail h = tt

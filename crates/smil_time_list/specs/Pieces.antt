@@ -10,7 +10,8 @@ abbrev pub with_front : List Item → Result (List Item) ListFault → Result (L
 with_front front reading = reading >>= λ items. Ok (front ++ items)
 
 -- what a call put into a list is the reading, unless memory ran out
-abbrev pub GivesMore : List Item → Result (Unit {0}) ListFault → Result (List Item) ListFault → Type 0
+abbrev pub GivesMore :
+    List Item → Result (Unit {0}) ListFault → Result (List Item) ListFault → Type 0
 GivesMore items (Ok _) reading = reading ≡ Ok items
 GivesMore items (Err Memory) reading = Unit {0}
 GivesMore items (Err TooManyItems) reading = reading ≡ Err TooManyItems

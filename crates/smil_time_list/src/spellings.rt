@@ -10,6 +10,7 @@ ghost use Rattle.smil_time_list.specs.Joined.{next_text};
 
 use itoa::Buffer;
 use smil_clock_value::write_clock;
+use smil_lexis::writers::undone;
 use smil_model::{Bytes, Edge, Item, Items};
 use std::alloc::AllocError;
 
@@ -206,11 +207,6 @@ pub fn write_list(items: &Items, out: &mut Bytes) -> Result<(), AllocError>
     ensures err { OnErr result (out.new ≡ out.old) }
 {
     let before = out.len();
-    match put_list(items, out) {
-        Ok(()) => Ok(()),
-        Err(fault) => {
-            out.cut_back(before);
-            Err(fault)
-        }
-    }
+    let written = put_list(items, out);
+    undone(written, out, before)
 }

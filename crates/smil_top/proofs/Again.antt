@@ -200,9 +200,6 @@ cut_node n whole lines text e s =
     ap (λ (b : Bool). if b then outside (suc n) (whole ++ load lines (Some (suc n)) ∷ []) else (if is_silent text then inside (suc n) whole lines else more)) e
     ∙ ap (λ (b : Bool). if b then inside (suc n) whole lines else more) s
 
-cut_end : (n : ℕ) (whole : List OrderLines) (lines : LoadLines) → with_line (inside n whole lines) (codes "%%") ≡ outside (suc n) (whole ++ load lines (Some (suc n)) ∷ [])
-cut_end n whole lines = refl
-
 cut_nodes : (n : ℕ) (whole : List OrderLines) (head : NumberedLine) (before : List NumberedLine) (low : ℕ) (nodes : List NumberedLine) (high : ℕ) → Nodes low nodes high → (more : List (List ℕ))
     → cut_further (inside n whole (record { head = head; nodes = before })) (map (λ (line : NumberedLine). line.text) nodes ++ more)
     ≡ cut_further (inside (count_after n nodes) whole (record { head = head; nodes = before ++ numbered_from n nodes })) more

@@ -11,7 +11,7 @@ use Rattle.smil_top.specs.Transcript.{Answering, untold}
 use Rattle.smil_top.specs.Laws.{OrderAttempt, AnsweredOrder, Heard, answer_to, heard, session_after, answered_from, answered_by, refuses_as, any_refused_as, is_of, part_of, is_too_many, renumbered_try, AllSameBut, IsAlone}
 use Rattle.smil_top.proofs.Apart.{order_stays, own_order}
 use Rattle.smil_top.proofs.Aside.{are_aside}
-use Rattle.smil_top.proofs.Retold.{sessions_from, sessions-told}
+use Rattle.smil_top.proofs.Transcripts.{sessions_from, sessions-told}
 
 module _ (allowed : Limits) (name : List ℕ) (title : is_title name ≡ true) where
   abbrev answering : Answering

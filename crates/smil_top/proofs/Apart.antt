@@ -22,7 +22,7 @@ use Rattle.smil_top.specs.Session.{Session, presentation_of, with_state, without
 use Rattle.smil_top.specs.Answers.{Answer, LoadedDocument, at_line, found_presentation, said_within, name_of, outline_from, given_within, loaded_within, answer_within}
 use Rattle.smil_top.specs.Laws.{heard, session_after, refuses_as, loads, is_of, part_of, is_too_many, IsOwn as HasOwn}
 use Rattle.smil_top.proofs.Aside.{document_from}
-use Rattle.smil_top.proofs.Sifted.{part-with, part-without, part-own, presentation-part, may-part, with-other, without-other, loaded-other}
+use Rattle.smil_top.proofs.NameFilters.{part-with, part-without, part-own, presentation-part, may-part, with-other, without-other, loaded-other}
 use Rattle.smil_top.proofs.Isolated.{IsOwn, IsOther, own_line, other_line}
 
 -- ---- what a load gives has the name of its first line

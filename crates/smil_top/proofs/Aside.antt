@@ -23,7 +23,7 @@ use Rattle.smil_top.specs.Session.{Session, presentation_of, with_state, without
 use Rattle.smil_top.specs.Answers.{Answer, LoadedDocument, at_line, read_of, found_presentation, said_within, name_of, outline_from, given_within, loaded_within, answer_within}
 use Rattle.smil_top.specs.Transcript.{Answering, untold}
 use Rattle.smil_top.specs.Laws.{OrderAttempt, AnsweredOrder, answer_to, heard, session_after, answered_from, numbered_by, renumbered, renumbered_try, AreSameBut, without_text, with_text, refused_at, AreAside}
-use Rattle.smil_top.proofs.Retold.{sessions_from, sessions-told}
+use Rattle.smil_top.proofs.Transcripts.{sessions_from, sessions-told}
 
 -- what a load gives, by its name, its outline and what the outline's end gives
 abbrev pub document_from : List ℕ → Outline → Result Document Fault → Result LoadedDocument Fault

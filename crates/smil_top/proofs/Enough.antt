@@ -31,7 +31,7 @@ use Rattle.smil_grammar.specs.Positions.{Piece}
 use Rattle.smil_grammar.specs.Scripts.{OrderReading, given, timed, end_timed, finish, or_refused, to, named, is_title, order_line, command, first_of, line_of}
 use Rattle.smil_grammar.specs.Formats.{formats, written_at}
 use Rattle.smil_grammar.specs.Nodes.{Shape, is_space, shape_of, kind_of_shape}
-use Rattle.smil_grammar.specs.Outlines.{Outline, no_lines, unless, is_misplaced, is_bad_serial, has_id, in_line, attrs_in, last_of, node_within, opens_saved, shape_in, with_header, header_of, shape_within, read_within, line_within, ended, with_node}
+use Rattle.smil_grammar.specs.Outlines.{Outline, no_lines, refuse_if, is_misplaced, is_bad_serial, has_id, in_line, attrs_in, last_of, node_within, opens_saved, shape_in, with_header, header_of, shape_within, read_within, line_within, ended, with_node}
 use Rattle.smil_top.specs.declared.fault.Fault.{Fault}
 use Rattle.smil_top.specs.Cut.{NumberedLine, LoadLines, OrderLines, single, load}
 use Rattle.smil_top.specs.Session.{Session, presentation_of, may_load}
@@ -58,13 +58,13 @@ in_line_sure spaces (Err (fault.BadValue column)) h = no _ refl
 in_line_sure spaces (Err (fault.TooManyItems column)) h = no _ refl
 in_line_sure spaces (Err fault.Memory) h = let never : true ≡ false = h.never in absurd cc
 
-unless_sure : (b : Bool) (refusal : Refusal) → is_memory refusal ≡ false → Fine (unless b refusal)
+unless_sure : (b : Bool) (refusal : Refusal) → is_memory refusal ≡ false → Fine (refuse_if b refusal)
 unless_sure true refusal h = no refusal h
 unless_sure false refusal h = made is_memory tt
 
 -- a check, and what goes on behind it
-behind : {B : Type 0} (b : Bool) (refusal : Refusal) (f : Unit {0} → Result B Refusal) → is_memory refusal ≡ false → ((x : Unit {0}) → Fine (f x)) → Fine (unless b refusal >>= f)
-behind b refusal f h k = onward is_memory (unless b refusal) f (unless_sure b refusal h) k
+behind : {B : Type 0} (b : Bool) (refusal : Refusal) (f : Unit {0} → Result B Refusal) → is_memory refusal ≡ false → ((x : Unit {0}) → Fine (f x)) → Fine (refuse_if b refusal >>= f)
+behind b refusal f h k = onward is_memory (refuse_if b refusal) f (unless_sure b refusal h) k
 
 -- the steps of a node from its counts, its id and its attributes on
 abbrev node_made : ℕ → List (ℕ × Kind) → Kind → Attrs → Node
@@ -72,12 +72,12 @@ node_made serial above kind attrs = record { serial = serial; kind = kind; paren
 
 abbrev counted : Outline → Limits → Attrs → Node → Result Node Refusal
 counted outline allowed attrs node = do
-  few ← unless (nat_le allowed.nodes (length outline.nodes)) refusal.TooManyElements
-  light ← unless (nat_lt allowed.references (references outline.nodes + references_among attrs)) refusal.TooManyReferences
+  few ← refuse_if (nat_le allowed.nodes (length outline.nodes)) refusal.TooManyElements
+  light ← refuse_if (nat_lt allowed.references (references outline.nodes + references_among attrs)) refusal.TooManyReferences
   Ok node
 
 abbrev with_id : Outline → List (ℕ × Kind) → Kind → ℕ → Limits → Attrs → Result Node Refusal
-with_id outline above kind serial allowed attrs = unless (has_id outline.nodes attrs.id) refusal.DuplicateId >>= λ _. counted outline allowed attrs (node_made serial above kind attrs)
+with_id outline above kind serial allowed attrs = refuse_if (has_id outline.nodes attrs.id) refusal.DuplicateId >>= λ _. counted outline allowed attrs (node_made serial above kind attrs)
 
 abbrev with_attrs : Outline → ℕ → List (ℕ × Kind) → Kind → ℕ → Shape → Limits → Result Node Refusal
 with_attrs outline spaces above kind serial shape allowed = in_line spaces (attrs_in (last_of above) kind shape) >>= with_id outline above kind serial allowed
@@ -86,7 +86,7 @@ counted_sure : (outline : Outline) (allowed : Limits) (attrs : Attrs) (node : No
 counted_sure outline allowed attrs node =
     let many : Bool = nat_le allowed.nodes (length outline.nodes) in
     let heavy : Bool = nat_lt allowed.references (references outline.nodes + references_among attrs) in
-    behind many refusal.TooManyElements (λ _. unless heavy refusal.TooManyReferences >>= λ _. Ok node) refl
+    behind many refusal.TooManyElements (λ _. refuse_if heavy refusal.TooManyReferences >>= λ _. Ok node) refl
     (λ _. behind heavy refusal.TooManyReferences (λ _. Ok node) refl (λ _. made is_memory node))
 
 node_within_sure : (allowed : Limits) (outline : Outline) (spaces : ℕ) (above : List (ℕ × Kind)) (kind : Kind) (serial : ℕ) (shape : Shape) → Fine (node_within allowed outline spaces above kind serial shape)
@@ -100,19 +100,19 @@ node_within_sure allowed outline spaces above kind serial shape =
 -- the steps of a line from its place on, and the check of its serial before them
 abbrev placed : Limits → Outline → ℕ → ℕ → Shape → Kind → Result Outline Refusal
 placed allowed outline spaces serial shape kind = do
-  near ← unless (nat_lt (length outline.branch) (spaces / 2)) refusal.DepthJump
-  flat ← unless (nat_le DEPTH (spaces / 2)) refusal.TooDeep
+  near ← refuse_if (nat_lt (length outline.branch) (spaces / 2)) refusal.DepthJump
+  flat ← refuse_if (nat_le DEPTH (spaces / 2)) refusal.TooDeep
   node ← node_within allowed outline spaces (take (spaces / 2) outline.branch) kind serial shape
   Ok (with_node outline (spaces / 2) node)
 
 abbrev fresh : Limits → Outline → ℕ → ℕ → Shape → Kind → Result Outline Refusal
-fresh allowed outline spaces serial shape kind = unless (is_bad_serial outline outline.next serial) refusal.BadSerial >>= λ _. placed allowed outline spaces serial shape kind
+fresh allowed outline spaces serial shape kind = refuse_if (is_bad_serial outline outline.next serial) refusal.BadSerial >>= λ _. placed allowed outline spaces serial shape kind
 
 placed_sure : (allowed : Limits) (outline : Outline) (spaces serial : ℕ) (shape : Shape) (kind : Kind) → Fine (placed allowed outline spaces serial shape kind)
 placed_sure allowed outline spaces serial shape kind =
     let node : Result Node Refusal = node_within allowed outline spaces (take (spaces / 2) outline.branch) kind serial shape in
     let last : Node → Result Outline Refusal = λ n. Ok (with_node outline (spaces / 2) n) in
-    behind (nat_lt (length outline.branch) (spaces / 2)) refusal.DepthJump (λ _. unless (nat_le DEPTH (spaces / 2)) refusal.TooDeep >>= λ _. node >>= last) refl
+    behind (nat_lt (length outline.branch) (spaces / 2)) refusal.DepthJump (λ _. refuse_if (nat_le DEPTH (spaces / 2)) refusal.TooDeep >>= λ _. node >>= last) refl
     (λ _. behind (nat_le DEPTH (spaces / 2)) refusal.TooDeep (λ _. node >>= last) refl
     (λ _. onward is_memory node last (node_within_sure allowed outline spaces (take (spaces / 2) outline.branch) kind serial shape) (λ n. made is_memory (with_node outline (spaces / 2) n))))
 

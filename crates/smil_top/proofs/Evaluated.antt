@@ -37,8 +37,8 @@ use Rattle.smil_top.proofs.Cuts.{cut_of-one_more}
 use Rattle.smil_top.proofs.HouseLemmas.{may_load-held}
 use Rattle.smil_top.proofs.Makings.{every, held-at, itself, the_formats, told_least, told_most}
 use Rattle.smil_top.proofs.SumLemmas.{full-snoc, least_spares, refused-0, sum-snoc}
-use Rattle.smil_top.proofs.Retold.{is_one}
-use Rattle.smil_top.proofs.Telling.{no-memory}
+use Rattle.smil_top.proofs.Transcripts.{is_one}
+use Rattle.smil_top.proofs.SessionEnds.{no-memory}
 use Rattle.smil_top.proofs.Tells.{counted_as, fine}
 
 -- ---- one order

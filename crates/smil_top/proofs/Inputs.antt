@@ -10,7 +10,7 @@ use Rattle.smil_top.specs.Laws.{OrderAttempt, with_ease, told_by, answered_by, a
 use Rattle.smil_top.proofs.Again.{cut_again}
 use Rattle.smil_top.proofs.Alone.{is_alone}
 use Rattle.smil_top.proofs.Aside.{are_aside}
-use Rattle.smil_top.proofs.Retold.{with_ease_told}
+use Rattle.smil_top.proofs.Transcripts.{with_ease_told}
 
 if_ease : (b : Bool) (order : OrderLines) (others : List OrderLines) → (if b then with_ease order ∷ map with_ease others else map with_ease others) ≡ map with_ease (if b then order ∷ others else others)
 if_ease true order others = refl

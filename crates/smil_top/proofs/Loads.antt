@@ -99,16 +99,6 @@ IsRead-err load lines this fault is read = record { line = read.line; reading = 
 
 -- ---- the first line
 
-pub IsRead-titled : (line : ℕ) (head : List ℕ) (titled : NamedOutline) → ReadsTitle (Ok titled) head →
-    IsRead (record { line = line; reading = Ok titled }) (record { head = record { number = line; text = head }; nodes = [] })
-IsRead-titled line head titled reads = record {
-  line = refl;
-  reading = inl (
-      ap (λ (r : Result (List ℕ) Refusal). at_line line r >>= λ (n : List ℕ). Ok (n, no_lines)) reads.0
-      ∙ ap (λ o. Ok (titled.name, o)) (sym reads.1)
-      );
-}
-
 pub IsRead-untitled : (line : ℕ) (head : List ℕ) (refusal : Refusal) → ReadsTitle (Err refusal) head →
     IsRead (record { line = line; reading = Err (record { line = line; refusal = refusal }) }) (record { head = record { number = line; text = head }; nodes = [] })
 IsRead-untitled line head refusal (inl memory) = record { line = refl; reading = inr (ap (λ r. Err (record { line = line; refusal = r })) memory) }

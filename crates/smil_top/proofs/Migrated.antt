@@ -23,7 +23,7 @@ use Rattle.smil_top.specs.Session.{Session, presentation_of, with_state, may_loa
 use Rattle.smil_top.specs.Answers.{AcceptedOrder, Answer, LoadedDocument, at_line, read_of, found_presentation, ordered_within, said_within, name_of, outline_from, given_within, loaded_within, checked, answer_within, check_within}
 use Rattle.smil_top.specs.Transcript.{Answering, TranscriptState, with_answer, untold}
 use Rattle.smil_top.specs.Laws.{OrderAttempt, answer_to, told_by, heard, session_after, answered_from, answered_by, refuses_as, any_refused_as}
-use Rattle.smil_top.proofs.Retold.{told_further, session_with}
+use Rattle.smil_top.proofs.Transcripts.{told_further, session_with}
 
 -- accepted, or refused for another cause than a limit, at a line
 spares : {A : Type 0} → Result A Fault → Bool

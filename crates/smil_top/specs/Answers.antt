@@ -24,7 +24,8 @@ pub record AcceptedOrder : Type 0 where
   pub text : List ℕ
   pub session : Session
 
--- an order is accepted, or refused by its fault: the refusal, and the number of the line where it stands
+-- an order is accepted, or refused by its fault: the refusal,
+-- and the number of the line where it stands
 abbrev pub Answer : Type 0
 Answer = Result AcceptedOrder Fault
 
@@ -91,7 +92,8 @@ outline_from allowed outline (line ∷ lines) = do
   more ← at_line line.number (line_within allowed outline line.text)
   outline_from allowed more lines
 
--- what the lines of a load give, or their first fault; an outline without a node is faulty at the line that ends it
+-- what the lines of a load give, or their first fault;
+-- an outline without a node is faulty at the line that ends it
 abbrev pub given_within : Limits → LoadLines → ℕ → Result LoadedDocument Fault
 given_within allowed lines end_line = do
   name ← at_line lines.head.number (line_of lines.head.text >>= name_of)
@@ -111,11 +113,13 @@ loaded_within allowed session line given = do
 
 -- the canonical outline, in the version in which it came
 abbrev pub outline_in : LoadedDocument → List ℕ
-outline_in given = if given.version == 2 then saved_text given.document else outline_text given.document.nodes
+outline_in given =
+    if given.version == 2 then saved_text given.document else outline_text given.document.nodes
 
 -- a load that is only read
 abbrev pub checked : Session → ℕ → LoadedDocument → Result AcceptedOrder Refusal
-checked session line given = Ok (record { text = outline_in given ++ checked_line line given.name; session = session })
+checked session line given =
+    Ok (record { text = outline_in given ++ checked_line line given.name; session = session })
 
 -- ---- all orders
 
@@ -130,7 +134,8 @@ answer_within allowed session (load lines (Some end_line)) =
 
 -- the same where loads are only read: other lines are answered only where they have no reading
 abbrev pub check_within : Limits → Session → OrderLines → Answer
-check_within allowed session (single line) = at_line line.number (read_of line.text >>= λ read. silent session)
+check_within allowed session (single line) =
+    at_line line.number (read_of line.text >>= λ read. silent session)
 check_within allowed session (load lines None) = at_line lines.head.number (Err UnfinishedLoad)
 check_within allowed session (load lines (Some end_line)) =
     given_within allowed lines end_line

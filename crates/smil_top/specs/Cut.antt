@@ -67,7 +67,8 @@ cut_inside whole lines line =
           ++ load lines (Some line.number) ∷ [];
       «open» = None;
     }
-    else (if is_silent line.text then record { count = line.number; whole = whole; «open» = Some lines }
+    else (if is_silent line.text
+    then record { count = line.number; whole = whole; «open» = Some lines }
     else record {
       count = line.number;
       whole = whole;

@@ -69,7 +69,8 @@ load_number bound session lines end_line = do
 abbrev pub number_of : Bound → Session → OrderLines → ℕ
 number_of bound session (single line) = result_unwrap_or (line_number bound session line.text) 0
 number_of bound session (load lines None) = 0
-number_of bound session (load lines (Some end_line)) = result_unwrap_or (load_number bound session lines end_line) 0
+number_of bound session (load lines (Some end_line)) =
+    result_unwrap_or (load_number bound session lines end_line) 0
 
 -- the most for an order in a session
 abbrev pub most_of : Session → OrderLines → ℕ
@@ -107,7 +108,8 @@ pub record IsBounded (orders : List OrderLines) (rise : ℕ) : Type 0 where
 
 -- the same where all were answered, and none was refused since memory ran out or a diary was full
 abbrev pub AreEvaluated : Status → List OrderLines → ℕ → Type 0
-AreEvaluated ended orders rise = is_told ended ≡ true → has_full_diary orders ≡ false → IsBounded orders rise
+AreEvaluated ended orders rise =
+    is_told ended ≡ true → has_full_diary orders ≡ false → IsBounded orders rise
 
 -- ---- by what the words ask for
 

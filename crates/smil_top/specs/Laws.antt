@@ -35,11 +35,13 @@ with_ease order = record { order = order; lacks = false }
 -- what it is answered in a session
 abbrev pub answer_to : Answering → Session → OrderAttempt → Answer
 answer_to answering session tried =
-    if tried.lacks then at_line (first_line tried.order) (Err Memory) else answering session tried.order
+    if tried.lacks then at_line (first_line tried.order) (Err Memory)
+    else answering session tried.order
 
 -- what orders are told in turn
 abbrev pub told_by : Answering → List OrderAttempt → TranscriptState
-told_by answering tried = fold (λ told one. with_answer told (answer_to answering told.session one)) untold tried
+told_by answering tried =
+    fold (λ told one. with_answer told (answer_to answering told.session one)) untold tried
 
 -- what is heard of an answer: its text, or the refusal and its line
 abbrev pub Heard : Type 0
@@ -84,18 +86,21 @@ refuses_as kind (Err fault) = kind fault.refusal
 
 -- whether one of the answers is such a refusal
 abbrev pub any_refused_as : (Refusal → Bool) → List AnsweredOrder → Bool
-any_refused_as kind answered = list_any (λ (one : AnsweredOrder). refuses_as kind one.answer) answered
+any_refused_as kind answered =
+    list_any (λ (one : AnsweredOrder). refuses_as kind one.answer) answered
 
 -- every transcript is what its orders are told, memory running out at some of them
 abbrev pub TranscriptsAreTold : Type 0
 TranscriptsAreTold =
-    (answering : Answering) (orders : List OrderLines) (told : TranscriptState) → IsTranscriptBy answering orders told
+    (answering : Answering) (orders : List OrderLines) (told : TranscriptState)
+    → IsTranscriptBy answering orders told
     → (tried : List OrderAttempt) × (orders_of tried ≡ orders) × (told_by answering tried ≡ told)
 
 -- and memory may run out at any of them
 abbrev pub WhatIsToldIsTranscript : Type 0
 WhatIsToldIsTranscript =
-    (answering : Answering) (tried : List OrderAttempt) → IsTranscriptBy answering (orders_of tried) (told_by answering tried)
+    (answering : Answering) (tried : List OrderAttempt)
+    → IsTranscriptBy answering (orders_of tried) (told_by answering tried)
 
 -- the one in which memory suffices is what they are told where it runs out at none
 abbrev pub ItRunsOutAtNone : Type 0
@@ -115,11 +120,13 @@ TextIsOfAnswers =
 -- no order is refused since memory ran out but where it did
 abbrev pub NeverLacks : Answering → Type 0
 NeverLacks answering =
-    (session : Session) (order : OrderLines) → refuses_as is_memory (heard (answering session order)) ≡ false
+    (session : Session) (order : OrderLines)
+    → refuses_as is_memory (heard (answering session order)) ≡ false
 
 -- within any limits, where it is run, and where it is checked
 abbrev pub MemorySuffices : Type 0
-MemorySuffices = (allowed : Limits) → NeverLacks (answer_within allowed) × NeverLacks (check_within allowed)
+MemorySuffices =
+    (allowed : Limits) → NeverLacks (answer_within allowed) × NeverLacks (check_within allowed)
 
 -- so orders have a transcript in which no order is refused since memory ran out
 abbrev pub HasEase : Answering → Type 0
@@ -130,12 +137,14 @@ HasEase answering =
 
 -- again within any limits, where they are run, and where they are checked
 abbrev pub HasTranscript : Type 0
-HasTranscript = (allowed : Limits) → HasEase (answer_within allowed) × HasEase (check_within allowed)
+HasTranscript =
+    (allowed : Limits) → HasEase (answer_within allowed) × HasEase (check_within allowed)
 
 -- and no other such transcript
 abbrev pub HasOneTranscript : Type 0
 HasOneTranscript =
-    (answering : Answering) (orders : List OrderLines) (told : TranscriptState) → IsTranscriptBy answering orders told
+    (answering : Answering) (orders : List OrderLines) (told : TranscriptState)
+    → IsTranscriptBy answering orders told
     → told.memory ≡ false
     → told ≡ transcript_by answering orders
 
@@ -192,22 +201,27 @@ pub data AreSameBut (given : ℕ → ℕ) (number : ℕ) : Heard → Heard → T
       (Ok (front ++ last_line number words))
       (Ok (front ++ last_line (given number) words))
   refused_at : (place : ℕ) (refusal : Refusal) →
-      AreSameBut given number (Err (refused_in place refusal)) (Err (refused_in (given place) refusal))
+      AreSameBut given number (Err (refused_in place refusal))
+      (Err (refused_in (given place) refusal))
 
 -- answers that are the same but for these numbers, one by one
 abbrev pub AllSameBut : (ℕ → ℕ) → List AnsweredOrder → List AnsweredOrder → Type 0
 AllSameBut given answered others =
-    AllZip (λ (one other : AnsweredOrder). AreSameBut given (first_line one.order) one.answer other.answer) answered others
+    AllZip (λ (one other : AnsweredOrder). AreSameBut given
+    (first_line one.order) one.answer other.answer) answered others
 
 -- orders with other line numbers have the same answers but for these, and leave the same session
-pub record AreAside (answering : Answering) (given : ℕ → ℕ) (tried : List OrderAttempt) : Type 0 where
+pub record AreAside
+    (answering : Answering) (given : ℕ → ℕ) (tried : List OrderAttempt) : Type 0 where
   pub answers : AllSameBut given (answered_by answering tried)
       (answered_by answering (map (renumbered_try given) tried))
-  pub session : (told_by answering (map (renumbered_try given) tried)).session ≡ (told_by answering tried).session
+  pub session : (told_by answering (map (renumbered_try given) tried)).session
+      ≡ (told_by answering tried).session
 
 -- for any numbers, within any limits
 abbrev pub NumbersAreAside : Type 0
-NumbersAreAside = (allowed : Limits) (given : ℕ → ℕ) (tried : List OrderAttempt) → AreAside (answer_within allowed) given tried
+NumbersAreAside = (allowed : Limits) (given : ℕ → ℕ) (tried : List OrderAttempt)
+    → AreAside (answer_within allowed) given tried
 
 -- ---- isolation
 
@@ -251,20 +265,25 @@ abbrev pub OthersStay : Type 0
 OthersStay =
     (allowed : Limits) (name : List ℕ) (session : Session) (order : OrderLines)
     → is_of name order ≡ false
-    → part_of name (session_after session (answer_within allowed session order)) ≡ part_of name session
+    → part_of name (session_after session (answer_within allowed session order))
+    ≡ part_of name session
 
 -- so the presentation that has the name, if one has, is as it was
 abbrev pub PresentationsStay : Type 0
 PresentationsStay =
     (allowed : Limits) (name : List ℕ) (session : Session) (order : OrderLines)
     → is_of name order ≡ false
-    → presentation_of name (session_after session (answer_within allowed session order)) ≡ presentation_of name session
+    → presentation_of name (session_after session (answer_within allowed session order))
+    ≡ presentation_of name session
 
--- an order's answer follows from what the session has of its name, unless the order is refused since too many are held
-pub record IsOwn (allowed : Limits) (name : List ℕ) (session : Session) (order : OrderLines) : Type 0 where
+-- an order's answer follows from what the session has of its name,
+-- unless the order is refused since too many are held
+pub record IsOwn
+    (allowed : Limits) (name : List ℕ) (session : Session) (order : OrderLines) : Type 0 where
   pub answer : heard (answer_within allowed (part_of name session) order)
       ≡ heard (answer_within allowed session order)
-  pub after : session_after (part_of name session) (answer_within allowed (part_of name session) order)
+  pub after :
+      session_after (part_of name session) (answer_within allowed (part_of name session) order)
       ≡ part_of name (session_after session (answer_within allowed session order))
 
 -- for each order of a presentation's name
@@ -284,11 +303,16 @@ own_tried name tried = filter (λ (one : OrderAttempt). is_of name one.order) tr
 abbrev pub own_answered : List ℕ → List AnsweredOrder → List AnsweredOrder
 own_answered name answered = filter (λ (one : AnsweredOrder). is_of name one.order) answered
 
--- so the answers to the orders of a name, and what is left of it, are those of a session that has these orders alone,
--- where none is refused since too many are held; line numbers are aside, and memory may run out at any order
-pub record IsAlone (answering : Answering) (name : List ℕ) (tried : List OrderAttempt) : Type 0 where
-  pub answers : own_answered name (answered_by answering tried) ≡ answered_by answering (own_tried name tried)
-  pub session : part_of name (told_by answering tried).session ≡ (told_by answering (own_tried name tried)).session
+-- so the answers to the orders of a name, and what is left of it,
+-- are those of a session that has these orders alone,
+-- where none is refused since too many are held; line numbers are aside,
+-- and memory may run out at any order
+pub record IsAlone
+    (answering : Answering) (name : List ℕ) (tried : List OrderAttempt) : Type 0 where
+  pub answers :
+      own_answered name (answered_by answering tried) ≡ answered_by answering (own_tried name tried)
+  pub session : part_of name (told_by answering tried).session
+      ≡ (told_by answering (own_tried name tried)).session
   pub aside : (given : ℕ → ℕ) →
       AllSameBut given (own_answered name (answered_by answering tried))
       (answered_by answering (map (renumbered_try given) (own_tried name tried)))
@@ -300,13 +324,15 @@ NamesAreIsolated =
     → any_refused_as is_too_many (answered_by (answer_within allowed) tried) ≡ false
     → IsAlone (answer_within allowed) name tried
 
--- so over inputs: the answers to the orders of a name are, line numbers aside, those of the input that has the lines of
--- these orders alone
-pub record IsAloneInInput (answering : Answering) (name : List ℕ) (lines : List (List ℕ)) : Type 0 where
+-- so over inputs: the answers to the orders of a name are, line numbers aside,
+-- those of the input that has the lines of these orders alone
+pub record IsAloneInInput
+    (answering : Answering) (name : List ℕ) (lines : List (List ℕ)) : Type 0 where
   pub own : List (List ℕ)
   pub own_is : own ≡ flat_map lines_of (filter (is_of name) (orders lines))
   pub given : ℕ → ℕ
-  pub answers : AllSameBut given (own_answered name (answered_by answering (map with_ease (orders lines))))
+  pub answers :
+      AllSameBut given (own_answered name (answered_by answering (map with_ease (orders lines))))
       (answered_by answering (map with_ease (orders own)))
   pub session : part_of name (transcript_by answering (orders lines)).session
       ≡ (transcript_by answering (orders own)).session
@@ -315,7 +341,8 @@ pub record IsAloneInInput (answering : Answering) (name : List ℕ) (lines : Lis
 abbrev pub InputsAreIsolated : Type 0
 InputsAreIsolated =
     (allowed : Limits) (name : List ℕ) (lines : List (List ℕ)) → is_title name ≡ true
-    → any_refused_as is_too_many (answered_by (answer_within allowed) (map with_ease (orders lines))) ≡ false
+    → any_refused_as is_too_many
+    (answered_by (answer_within allowed) (map with_ease (orders lines))) ≡ false
     → IsAloneInInput (answer_within allowed) name lines
 
 -- ---- cuts
@@ -326,8 +353,8 @@ AtMostOne [] = Unit {0}
 AtMostOne (one ∷ []) = Unit {0}
 AtMostOne _ = ⊥
 
--- of two inputs the orders that are whole in the whole lines of the shorter one are the first of both, and it has at
--- most one order more
+-- of two inputs the orders that are whole in the whole lines of the shorter one are the first of
+-- both, and it has at most one order more
 pub record SharesFirstOrders (came more : List ℕ) : Type 0 where
   pub later : List OrderLines
   pub last : List OrderLines
@@ -340,7 +367,8 @@ abbrev pub InputsAreCut : Type 0
 InputsAreCut = (came more : List ℕ) → SharesFirstOrders came more
 
 -- the transcript of the first orders is the front of the transcript of more
-pub record HasFront (answering : Answering) (first : List OrderLines) (told : TranscriptState) : Type 0 where
+pub record HasFront
+    (answering : Answering) (first : List OrderLines) (told : TranscriptState) : Type 0 where
   pub front : TranscriptState
   pub rest : List ℕ
   pub transcript : IsTranscriptBy answering first front
@@ -353,14 +381,16 @@ TranscriptsHaveFronts =
     → IsTranscriptBy answering (first ++ later) told
     → HasFront answering first told
 
--- so the transcript of a part of an input from its front is a front of the whole one, which ends where an order ends,
--- and the answer of at most one order more
-pub record IsFrontAndOne (answering : Answering) (came : List ℕ) (part whole : TranscriptState) : Type 0 where
+-- so the transcript of a part of an input from its front is a front of the whole one,
+-- which ends where an order ends, and the answer of at most one order more
+pub record IsFrontAndOne
+    (answering : Answering) (came : List ℕ) (part whole : TranscriptState) : Type 0 where
   pub front : TranscriptState
   pub rest : List ℕ
   pub transcript : IsTranscriptBy answering (whole_orders (whole_lines came)) front
   pub text : whole.text ≡ front.text ++ rest
-  pub one : (part ≡ front) ⊎ ((order : OrderLines) × (part ≡ with_answer front (answering front.session order)))
+  pub one : (part ≡ front)
+      ⊎ ((order : OrderLines) × (part ≡ with_answer front (answering front.session order)))
 
 -- where memory suffices
 abbrev pub TranscriptsAreCut : Type 0
@@ -370,12 +400,14 @@ TranscriptsAreCut =
     (transcript_by answering (orders (lines came)))
     (transcript_by answering (orders (lines (came ++ more))))
 
--- and where memory ran out at some orders, the part has a transcript in which it ran out at the same ones
+-- and where memory ran out at some orders, the part has a transcript in which it ran out at the
+-- same ones
 abbrev pub AllTranscriptsAreCut : Type 0
 AllTranscriptsAreCut =
     (answering : Answering) (came more : List ℕ) (whole : TranscriptState)
     → IsTranscriptBy answering (orders (lines (came ++ more))) whole
-    → (part : TranscriptState) × IsTranscriptBy answering (orders (lines came)) part × IsFrontAndOne answering came part whole
+    → (part : TranscriptState) × IsTranscriptBy answering (orders (lines came)) part
+    × IsFrontAndOne answering came part whole
 
 -- ---- migration
 

@@ -58,12 +58,16 @@ finished (Err fault) text = record { told = []; last = refusal_line fault.line f
 abbrev pub said : Result (Unit {0}) Fault → AnswerText → List ℕ
 said answered text = text_of (finished answered text)
 
--- what was made of an order is what is wanted: the text, in a house that holds the session after it; or the refusal, where
--- all is kept, unless memory ran out
-abbrev pub Makes : Result (Unit {0}) Refusal → AnswerText → Presentations → Session → Result AcceptedOrder Refusal → Type 0
+-- what was made of an order is what is wanted: the text,
+-- in a house that holds the session after it; or the refusal, where all is kept,
+-- unless memory ran out
+abbrev pub Makes : Result (Unit {0}) Refusal → AnswerText → Presentations → Session
+    → Result AcceptedOrder Refusal → Type 0
 Makes (Ok done) text house session wanted =
-    (after : Session) × Holds house after × (wanted ≡ Ok (record { text = text_of text; session = after }))
-Makes (Err refusal) text house session wanted = Holds house session × ((refusal ≡ Memory) ⊎ (wanted ≡ Err refusal))
+    (after : Session) × Holds house after
+    × (wanted ≡ Ok (record { text = text_of text; session = after }))
+Makes (Err refusal) text house session wanted =
+    Holds house session × ((refusal ≡ Memory) ⊎ (wanted ≡ Err refusal))
 
 -- the same of a whole order
 abbrev pub MakesAnswer : Result (Unit {0}) Fault → AnswerText → Presentations → Session → Answering
@@ -136,7 +140,8 @@ pub record IsRead (load : LoadSoFar) (lines : LoadLines) : Type 0 where
 
 -- the name of a load line, before the first node
 abbrev pub ReadsTitle : Result NamedOutline Refusal → List ℕ → Type 0
-ReadsTitle (Ok titled) head = (line_of head >>= name_of ≡ Ok titled.name) × (titled.outline ≡ no_lines)
+ReadsTitle (Ok titled) head =
+    (line_of head >>= name_of ≡ Ok titled.name) × (titled.outline ≡ no_lines)
 ReadsTitle (Err refusal) head = (refusal ≡ Memory) ⊎ (line_of head >>= name_of ≡ Err refusal)
 
 -- what a load gives
@@ -184,7 +189,8 @@ with_order (Err fault) lines counts = record counts {
 }
 
 -- what is counted of these orders, told so
-pub record AreCounted (counts : Counts) (orders : List OrderLines) (told : TranscriptState) : Type 0 where
+pub record AreCounted
+    (counts : Counts) (orders : List OrderLines) (told : TranscriptState) : Type 0 where
   pub orders_are : counts.orders ≡ min (length orders) last_count
   pub refused_is : counts.refused ≡ min told.refused last_count
   pub lines_are : counts.lines ≡ min (line_count told.text) last_count
@@ -199,14 +205,16 @@ pub record AreExact (counts : Counts) : Type 0 where
 -- ---- a run
 
 -- these orders were answered, and this was told
-pub record Tells (checks : Bool) (run : Run) (orders : List OrderLines) (told : TranscriptState) : Type 0 where
+pub record Tells
+    (checks : Bool) (run : Run) (orders : List OrderLines) (told : TranscriptState) : Type 0 where
   pub checks_is : run.session.checks ≡ checks
   pub transcript : IsTranscriptBy (answering checks) orders told
   pub holds : Holds run.session.house told.session
   pub counted : AreCounted run.counts orders told
 
 -- a session whose whole orders were answered, and this was told
-pub record IsRunning (checks : Bool) (run : Run) (cut : CutLines) (told : TranscriptState) : Type 0 where
+pub record IsRunning
+    (checks : Bool) (run : Run) (cut : CutLines) (told : TranscriptState) : Type 0 where
   pub tells : Tells checks run cut.whole told
   pub load : IsOpen run.load cut.«open»
 
@@ -224,7 +232,8 @@ abbrev pub WritesPart : Option (List ℕ) → Option (List ℕ) → ℕ → List
 WritesPart before after room text = (n : ℕ) × (n < length text) × Appends before after (take n text)
     × (room < length text)
 
-abbrev pub Writes : Result (Unit {0}) Failed → Option (List ℕ) → Option (List ℕ) → ℕ → ℕ → List ℕ → Type 0
+abbrev pub Writes :
+    Result (Unit {0}) Failed → Option (List ℕ) → Option (List ℕ) → ℕ → ℕ → List ℕ → Type 0
 Writes (Ok done) before after room left text = WritesAll before after room left text
 Writes (Err e) before after room left text = WritesPart before after room text
 
@@ -244,8 +253,8 @@ pub record Answers (checks : Bool) (result : Result (Unit {0}) Failed) (run : Ru
 
 -- the same for one order more, or for the end of the input
 pub record AnswersOrders (checks : Bool) (result : Result (Unit {0}) Failed) (run : Run)
-    (orders : List OrderLines) (told : TranscriptState) (before after : Option (List ℕ)) (room left : ℕ) : Type
-    0 where
+    (orders : List OrderLines) (told : TranscriptState)
+    (before after : Option (List ℕ)) (room left : ℕ) : Type 0 where
   pub more : TranscriptState
   pub goes : Goes result told more before after room left
   pub tells : Tells checks run orders more
@@ -256,17 +265,20 @@ ended_by (Ok done) told = status_of told
 ended_by (Err e) told = status.WriteFault
 
 -- the input has ended, all of it is answered, and the status says how; or the write failed
-pub record Ends (checks : Bool) (ended : Status) (run : Run) (cut : CutLines) (told : TranscriptState)
+pub record Ends
+    (checks : Bool) (ended : Status) (run : Run) (cut : CutLines) (told : TranscriptState)
     (before after : Option (List ℕ)) (room left : ℕ) : Type 0 where
   pub result : Result (Unit {0}) Failed
-  pub answers : AnswersOrders checks result run (cut.whole ++ unended cut.«open») told before after room left
+  pub answers :
+      AnswersOrders checks result run (cut.whole ++ unended cut.«open») told before after room left
   pub ended_is : ended ≡ ended_by result answers.more
 
 -- ---- evaluations
 
--- an order that is answered so has so many evaluations: within the bounds, or none where it is refused, unless a diary
--- is full or memory ran out
-abbrev pub IsCountedBy : {E : Type 0} → (E → Refusal) → Result (Unit {0}) E → (Bound → ℕ) → ℕ → Type 0
+-- an order that is answered so has so many evaluations: within the bounds,
+-- or none where it is refused, unless a diary is full or memory ran out
+abbrev pub IsCountedBy :
+    {E : Type 0} → (E → Refusal) → Result (Unit {0}) E → (Bound → ℕ) → ℕ → Type 0
 IsCountedBy refusal_of (Ok done) number rise = (number least ≤ rise) × (rise ≤ number most)
 IsCountedBy refusal_of (Err e) number rise = MayEvaluate (Some (number most)) (refusal_of e) rise
 
@@ -282,7 +294,8 @@ IsOrderCounted answered number rise = IsCountedBy (λ fault. fault.refusal) answ
 -- the counter was at `start` before these orders, and is at `now` behind them
 pub record HasEvaluated (counts : Counts) (orders : List OrderLines) (start now : ℕ) : Type 0 where
   pub risen : start ≤ now
-  pub bounded : counts.memory ≡ false → has_full_diary orders ≡ false → IsBounded orders (now - start)
+  pub bounded :
+      counts.memory ≡ false → has_full_diary orders ≡ false → IsBounded orders (now - start)
 
 -- behind more orders it has gone on from `before` to `after`
 abbrev pub EvaluatesOn : Counts → Counts → List OrderLines → List OrderLines → ℕ → ℕ → Type 0
@@ -306,9 +319,12 @@ pub record IsAll (checks : Bool) (ended : Status) (run : Run) (came text : List 
 
 -- how a run ends that has begun
 abbrev pub RunsBy : Bool → Status → Run → Option (List ℕ) → List ℕ → List ℕ → ℕ → Type 0
-RunsBy checks status.Clean run rest came text room = IsAtEnd rest × IsAll checks status.Clean run came text
-RunsBy checks status.Refused run rest came text room = IsAtEnd rest × IsAll checks status.Refused run came text
-RunsBy checks status.Memory run rest came text room = IsAtEnd rest × IsAll checks status.Memory run came text
+RunsBy checks status.Clean run rest came text room =
+    IsAtEnd rest × IsAll checks status.Clean run came text
+RunsBy checks status.Refused run rest came text room =
+    IsAtEnd rest × IsAll checks status.Refused run came text
+RunsBy checks status.Memory run rest came text room =
+    IsAtEnd rest × IsAll checks status.Memory run came text
 RunsBy checks ended run rest came text room = Runs (answering checks) ended rest came text room
 
 -- what a run that has begun read and wrote

@@ -14,7 +14,8 @@ use Rattle.smil_top.specs.Transcript.{Answering, TranscriptState, IsTranscriptBy
 use Rattle.smil_top.specs.Summary.{session_told, summary}
 use Rattle.smil_top.specs.Words.{usage_line}
 
--- how a call ends in which orders were refused for faults or not, and one since memory ran out or not
+-- how a call ends in which orders were refused for faults or not,
+-- and one since memory ran out or not
 abbrev pub status_by : Bool → Bool → Status
 status_by refused true = status.Memory
 status_by true false = status.Refused
@@ -31,7 +32,8 @@ abbrev pub counted_bytes : List ℕ → List ℕ
 counted_bytes came = take INPUT_BYTES came
 
 -- the whole transcript of a whole input, with which a call ends so
-pub record IsWholeTranscript (answering : Answering) (ended : Status) (came text : List ℕ) : Type 0 where
+pub record IsWholeTranscript
+    (answering : Answering) (ended : Status) (came text : List ℕ) : Type 0 where
   pub told : TranscriptState
   pub transcript : IsTranscriptBy answering (orders (lines came)) told
   pub text_is : text ≡ told.text
@@ -41,7 +43,9 @@ pub record IsWholeTranscript (answering : Answering) (ended : Status) (came text
 -- the transcript of the orders that are whole in the whole lines of what counts
 abbrev pub IsCutShort : Answering → List ℕ → List ℕ → Type 0
 IsCutShort answering came text =
-    (told : TranscriptState) × IsTranscriptBy answering (whole_orders (whole_lines (counted_bytes came))) told × (text ≡ told.text)
+    (told : TranscriptState)
+    × IsTranscriptBy answering (whole_orders (whole_lines (counted_bytes came))) told
+    × (text ≡ told.text)
 
 -- a part of the text from its front, and not all of it; the sink had no sure room for all of it
 pub record IsPart (text whole : List ℕ) (room : ℕ) : Type 0 where
@@ -50,7 +54,8 @@ pub record IsPart (text whole : List ℕ) (room : ℕ) : Type 0 where
   pub some : 0 < length rest
   pub more_than_room : room < length whole
 
--- orders that were read first: they are whole in the whole lines of what counts, or the input has ended
+-- orders that were read first: they are whole in the whole lines of what counts,
+-- or the input has ended
 abbrev pub AreFirst : List OrderLines → Option (List ℕ) → List ℕ → Type 0
 AreFirst first rest came =
     ((later : List OrderLines) × (whole_orders (whole_lines (counted_bytes came)) ≡ first ++ later))
@@ -60,26 +65,34 @@ AreFirst first rest came =
 -- a part of the transcript of the orders that were read first
 abbrev pub IsBroken : Answering → Option (List ℕ) → List ℕ → List ℕ → ℕ → Type 0
 IsBroken answering rest came text room =
-    (first : List OrderLines) × (told : TranscriptState) × AreFirst first rest came × IsTranscriptBy answering first told
+    (first : List OrderLines) × (told : TranscriptState) × AreFirst first rest came
+    × IsTranscriptBy answering first told
     × IsPart text told.text room
 
 -- these bytes came, and this text was written to a sink with so much sure room
 abbrev pub Runs : Answering → Status → Option (List ℕ) → List ℕ → List ℕ → ℕ → Type 0
-Runs answering status.Clean rest came text room = IsAtEnd rest × IsWholeTranscript answering status.Clean came text
-Runs answering status.Refused rest came text room = IsAtEnd rest × IsWholeTranscript answering status.Refused came text
+Runs answering status.Clean rest came text room =
+    IsAtEnd rest × IsWholeTranscript answering status.Clean came text
+Runs answering status.Refused rest came text room =
+    IsAtEnd rest × IsWholeTranscript answering status.Refused came text
 Runs answering status.Words rest came text room = ⊥
-Runs answering status.ReadFault rest came text room = (length came ≤ INPUT_BYTES) × IsCutShort answering came text
+Runs answering status.ReadFault rest came text room =
+    (length came ≤ INPUT_BYTES) × IsCutShort answering came text
 Runs answering status.WriteFault rest came text room = IsBroken answering rest came text room
 Runs answering status.Memory rest came text room =
-    ((came ≡ []) × (text ≡ [])) ⊎ (IsAtEnd rest × IsWholeTranscript answering status.Memory came text)
-Runs answering status.InputTooLong rest came text room = (INPUT_BYTES < length came) × IsCutShort answering came text
+    ((came ≡ []) × (text ≡ []))
+    ⊎ (IsAtEnd rest × IsWholeTranscript answering status.Memory came text)
+Runs answering status.InputTooLong rest came text room =
+    (INPUT_BYTES < length came) × IsCutShort answering came text
 
 -- ---- nothing is read
 
 -- the session of a number is told of; where memory ran out in it, nothing is
 abbrev pub Generates : ℕ → Status → List ℕ → ℕ → Type 0
-Generates number status.Clean text room = (text ≡ summary number) × ((session_told number).refused ≡ 0)
-Generates number status.Refused text room = (text ≡ summary number) × (0 < (session_told number).refused)
+Generates number status.Clean text room =
+    (text ≡ summary number) × ((session_told number).refused ≡ 0)
+Generates number status.Refused text room =
+    (text ≡ summary number) × (0 < (session_told number).refused)
 Generates number status.Words text room = ⊥
 Generates number status.ReadFault text room = ⊥
 Generates number status.WriteFault text room = IsPart text (summary number) room
@@ -94,11 +107,13 @@ Explains _ text room = ⊥
 
 -- ---- by what the words ask for
 
--- by the words: the session is run or checked, or that of a number is told of, or the words are faulty
+-- by the words: the session is run or checked, or that of a number is told of,
+-- or the words are faulty
 abbrev pub ServesBy : Option Mode → Status → Option (List ℕ) → List ℕ → List ℕ → ℕ → Type 0
 ServesBy (Some mode.Run) status rest came text room = Runs answer_of status rest came text room
 ServesBy (Some mode.Check) status rest came text room = Runs check_of status rest came text room
-ServesBy (Some (mode.Gen number)) status rest came text room = (came ≡ []) × Generates number status text room
+ServesBy (Some (mode.Gen number)) status rest came text room =
+    (came ≡ []) × Generates number status text room
 ServesBy None status rest came text room = (came ≡ []) × Explains status text room
 
 -- whether they ask for the session that is read

@@ -20,7 +20,8 @@ is_named name held = bytes_eq held.name name
 
 -- the presentation of this name
 abbrev pub presentation_of : List ℕ → Session → Option Presentation
-presentation_of name session = option_map (λ (held : NamedPresentation). held.presentation) (find (is_named name) session)
+presentation_of name session =
+    option_map (λ (held : NamedPresentation). held.presentation) (find (is_named name) session)
 
 -- with another state of the presentation of this name
 abbrev pub with_state : List ℕ → Presentation → Session → Session

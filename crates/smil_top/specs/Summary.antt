@@ -26,7 +26,8 @@ line_count text = count_by (λ byte. byte == line_feed) text
 
 -- the moment of the presentation of this name, 0 where there is none
 abbrev pub moment_in : List ℕ → Session → ℕ
-moment_in name session = option_map_or (λ (p : Presentation). p.now) (presentation_of name session) 0
+moment_in name session =
+    option_map_or (λ (p : Presentation). p.now) (presentation_of name session) 0
 
 -- a word and a number
 abbrev pub count_line : List ℕ → ℕ → List ℕ
@@ -41,10 +42,12 @@ count_lines number orders refused lines moment =
     ++ count_line (codes "lines") lines
     ++ count_line (codes "moment") moment
 
--- of these orders, told so: their number, those that were refused, the lines of the transcript, and the moment of `g`
+-- of these orders, told so: their number, those that were refused, the lines of the transcript,
+-- and the moment of `g`
 abbrev pub told_of : ℕ → List OrderLines → TranscriptState → List ℕ
 told_of number orders told =
-    count_lines number (length orders) told.refused (line_count told.text) (moment_in (codes "g") told.session)
+    count_lines number (length orders) told.refused (line_count told.text)
+    (moment_in (codes "g") told.session)
 
 -- what `gen` writes
 abbrev pub summary : ℕ → List ℕ

@@ -17,7 +17,8 @@ abbrev pub MayAnswer : Answering → Session → OrderLines → Answer → Type 
 MayAnswer answering session order answer =
     (answer ≡ answering session order) ⊎ (answer ≡ at_line (first_line order) (Err Memory))
 
--- the text so far, the session, how many orders were refused for a fault, and whether one was since memory ran out
+-- the text so far, the session, how many orders were refused for a fault,
+-- and whether one was since memory ran out
 pub record TranscriptState : Type 0 where
   pub text : List ℕ
   pub session : Session
@@ -35,7 +36,8 @@ is_memory _ = false
 
 -- with one more answer; a refused order leaves the session as it was
 abbrev pub with_answer : TranscriptState → Answer → TranscriptState
-with_answer told (Ok accepted) = record told { text = told.text ++ accepted.text; session = accepted.session }
+with_answer told (Ok accepted) =
+    record told { text = told.text ++ accepted.text; session = accepted.session }
 with_answer told (Err fault) = record told {
   text = told.text ++ refusal_line fault.line fault.refusal;
   refused = if is_memory fault.refusal then told.refused else suc told.refused;
@@ -45,7 +47,8 @@ with_answer told (Err fault) = record told {
 -- the orders were answered in turn, each in the session that the orders before it left
 pub data IsTranscriptBy (answering : Answering) : List OrderLines → TranscriptState → Type 0 where
   of_nothing : IsTranscriptBy answering [] untold
-  and_then : {orders : List OrderLines} {told : TranscriptState} → IsTranscriptBy answering orders told
+  and_then :
+      {orders : List OrderLines} {told : TranscriptState} → IsTranscriptBy answering orders told
       → (order : OrderLines) → (answer : Answer) → MayAnswer answering told.session order answer
       → IsTranscriptBy answering (orders ++ order ∷ []) (with_answer told answer)
 
@@ -63,4 +66,5 @@ IsChecked orders told = IsTranscriptBy check_of orders told
 
 -- the one transcript in which no order was refused since memory ran out
 abbrev pub transcript_by : Answering → List OrderLines → TranscriptState
-transcript_by answering orders = fold (λ told order. with_answer told (answering told.session order)) untold orders
+transcript_by answering orders =
+    fold (λ told order. with_answer told (answering told.session order)) untold orders

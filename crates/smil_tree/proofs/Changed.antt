@@ -1,12 +1,11 @@
 -- A tree of which one node's attributes are changed.
-use Rattle.std.proofs.Common.{◌≡◌, refl, sym, ◌∙◌, ap, ℕ, ◌+◌, ◌<◌, ◌≤◌, List, [], ◌∷◌, ◌++◌, Option, Some, None, Bool, true, false, cond, length, arith, inl, inr}
+use Rattle.std.proofs.Common.{◌≡◌, refl, sym, ◌∙◌, ap, ℕ, ◌+◌, ◌-◌, ◌<◌, ◌≤◌, List, [], ◌∷◌, ◌++◌, Option, Some, None, Bool, true, false, cond, length, arith, inl, inr}
 use Rattle.std.specs.Prelude.{◌==◌, ◌&&◌, ◌||◌, ◌⊎◌, not, find, count_by, option_map, is_some, IsSome, nat_le, ◌*◌}
 use Rattle.std.specs.List.{list_any, list_all, AllByRecursion}
 use Rattle.std.specs.Str.{bytes_eq}
 use Rattle.std.specs.Map.{lookup}
-use Rattle.std.proofs.lemmas.List.Sums.{sum_by-cons, sum_by-append}
 use Rattle.std.proofs.lemmas.List.Elements.{recursion_from_All, All-from_recursion}
-use Rattle.std.proofs.lemmas.Bool.{and_parts, leb-true, or_parts, eqb-true, eq-eqb, not-true}
+use Rattle.std.proofs.lemmas.Bool.{and_parts, leb-true, or_parts, or_right, eqb-true, eq-eqb, not-true}
 use Rattle.smil_model.specs.declared.document.Node.{Node}
 use Rattle.smil_model.specs.declared.document.Attrs.{Attrs}
 use Rattle.smil_model.specs.declared.document.Attr.{Attr}
@@ -28,7 +27,10 @@ use Rattle.smil_model.specs.document.Valid.{IsNumberedTree, IsTree, IsTreeFrom, 
 use Rattle.smil_model.specs.document.Edits.{changed_at, with_attr, without_attr}
 use Rattle.smil_tree.specs.TreeFields.{bears, owner, is_other, IsTableOf}
 use Rattle.smil_tree.proofs.Holding.{with_attrs}
-use Rattle.smil_tree.proofs.Owners.{Around, around, count-append, count-one, count-cons, owner-between, owner-without, taken}
+use Rattle.smil_tree.proofs.Owners.{Around, around, count-append, count-one, count-cons, sum-one, owner-between, owner-without, taken}
+
+references_split : (nodes front back : List Node) (n : Node) → nodes ≡ front ++ n ∷ back → references nodes ≡ references front + (references_among n.attrs + references back)
+references_split nodes front back n is = ap references is ∙ sum-one references_of front n back
 
 module _ (change : Attrs → Attrs) (s : ℕ) where
   -- ---- serials and parents stay
@@ -92,21 +94,16 @@ module _ (change : Attrs → Attrs) (s : ℕ) where
   pub references_change : (nodes : List Node) (old : Node) → IsDistinct nodes → node_at nodes s ≡ Some old → references (changed_at change s nodes) + references_among old.attrs ≡ references nodes + references_among (change old.attrs)
   references_change nodes old d at =
       let a = around change s nodes old d at in
-      let before : references nodes ≡ references a.front + (references_of old + references a.back) =
-      ap references a.before ∙ sum_by-append references_of a.front (old ∷ a.back) ∙ ap (λ k. references a.front + k) (sum_by-cons references_of old a.back) in
-      let after : references (changed_at change s nodes) ≡ references a.front + (references_of (with_attrs change old) + references a.back) =
-      ap references a.after ∙ sum_by-append references_of a.front (with_attrs change old ∷ a.back) ∙ ap (λ k. references a.front + k) (sum_by-cons references_of (with_attrs change old) a.back) in
-      let own : references_of old ≡ references_among old.attrs = refl in
-      let new : references_of (with_attrs change old) ≡ references_among (change old.attrs) = refl in
-      omega (arith, before, after, own, new)
+      omega (arith, references_split nodes a.front a.back old a.before, references_split (changed_at change s nodes) a.front a.back (with_attrs change old) a.after)
 
   pub references_own : (nodes : List Node) (old : Node) → IsDistinct nodes → node_at nodes s ≡ Some old → references_among old.attrs ≤ references nodes
   references_own nodes old d at =
       let a = around change s nodes old d at in
-      let before : references nodes ≡ references a.front + (references_of old + references a.back) =
-      ap references a.before ∙ sum_by-append references_of a.front (old ∷ a.back) ∙ ap (λ k. references a.front + k) (sum_by-cons references_of old a.back) in
-      let own : references_of old ≡ references_among old.attrs = refl in
-      omega (arith, before, own)
+      omega (arith, references_split nodes a.front a.back old a.before)
+
+  -- what is counted once the node is changed
+  pub references_then : (nodes : List Node) (old : Node) (total own new : ℕ) → IsDistinct nodes → node_at nodes s ≡ Some old → total ≡ references nodes → own ≡ references_among old.attrs → new ≡ references_among (change old.attrs) → total - own + new ≡ references (changed_at change s nodes)
+  references_then nodes old total own new d at all before after = omega (arith, references_change nodes old d at, references_own nodes old d at)
 
   -- ---- ids
 
@@ -126,13 +123,9 @@ module _ (change : Attrs → Attrs) (s : ℕ) where
   owner_among q [] x q1 = cc
   owner_among q (n ∷ ns) x q1 = step (bears q n) q1 (owner_among q ns x)
     where
-      or_true : (t u : Bool) → u ≡ true → (t || u) ≡ true
-      or_true true u h = refl
-      or_true false u h = h
-
       step : (t : Bool) → option_map (λ (m : Node). m.serial) (cond t (Some n) (find (bears q) ns)) ≡ Some x → (owner q ns ≡ Some x → list_any (λ (m : Node). m.serial == x) ns ≡ true) → ((n.serial == x) || list_any (λ (m : Node). m.serial == x) ns) ≡ true
       step true r rest = let one : n.serial ≡ x = cc in ap (λ t. t || list_any (λ (m : Node). m.serial == x) ns) (eq-eqb n.serial x one)
-      step false r rest = or_true (n.serial == x) _ (rest r)
+      step false r rest = or_right (n.serial == x) _ (rest r)
 
   -- nobody else has an id that is not taken
   free_others : (q : List ℕ) (front back : List Node) (old : Node) → count_by (bears q) (front ++ old ∷ back) ≤ 1 → is_id_taken (front ++ old ∷ back) s (Some q) ≡ false → list_any (λ (m : Node). m.serial == s) (front ++ back) ≡ false → count_by (bears q) (front ++ back) ≤ 0

@@ -1,10 +1,10 @@
 -- What stands above and below a node, in a document whose parents stand before their children.
-use Rattle.std.proofs.Common.{◌≡◌, refl, sym, ◌∙◌, ap, subst, ℕ, zero, suc, ◌+◌, ◌≤◌, List, [], ◌∷◌, Option, Some, None, Bool, true, false, cond, length, drop, filter, arith, add-one}
+use Rattle.std.proofs.Common.{◌≡◌, refl, sym, ◌∙◌, ap, subst, ℕ, zero, suc, ◌+◌, List, [], ◌∷◌, Option, Some, None, Bool, true, false, cond, length, drop, filter, add-one}
 use Rattle.std.specs.Prelude.{◌==◌, ◌||◌, ◌&&◌, find, slice_get, reverse}
 use Rattle.std.specs.List.{list_any, list_all, AllByRecursion}
 use Rattle.std.specs.Option.{option_copied}
 use Rattle.std.specs.Borrow.{Bor}
-use Rattle.std.proofs.lemmas.Bool.{or_parts, eqb-true, eq-eqb}
+use Rattle.std.proofs.lemmas.Bool.{or_parts, or_right, eqb-true, eq-eqb}
 use Rattle.std.proofs.lemmas.List.{reverse-reverse}
 use Rattle.smil_model.specs.declared.document.Node.{Node}
 use Rattle.smil_model.specs.document.Document.{node_at, lineage, upwards, ancestors, is_element}
@@ -21,6 +21,9 @@ chain_of nodes o s n at =
     let each = subst (λ (ns : List Node). AllByRecursion (IsChain (reverse nodes)) ns) (reverse-reverse nodes) (each_reverse (IsChain (reverse nodes)) (reverse nodes) (ordered_chains nodes o)) in
     ap (upwards (reverse nodes)) (sym (eqb-true n.serial s (find_true (λ (m : Node). m.serial == s) nodes n at)))
     ∙ find_each (IsChain (reverse nodes)) (λ (m : Node). m.serial == s) nodes n each at
+
+pub chain_longer : (nodes : List Node) → IsOrdered nodes → (s : ℕ) (n : Node) → node_at nodes s ≡ Some n → length (lineage nodes s) ≡ suc (length (lineage nodes n.parent))
+chain_longer nodes o s n at = ap length (chain_of nodes o s n at)
 
 pub none_up : (s : ℕ) (rs : List Node) → holds s rs ≡ false → upwards rs s ≡ []
 none_up s [] none = refl
@@ -56,11 +59,7 @@ node_of_place (m ∷ ns) (suc i) n d at =
     among : (xs : List Node) (k : ℕ) → slice_get xs k ≡ Some n → list_any (λ (x : Node). x.serial == n.serial) xs ≡ true
     among [] k here = cc
     among (x ∷ xs) zero here = let one : x ≡ n = cc in ap (λ (y : Node). (y.serial == n.serial) || list_any (λ (z : Node). z.serial == n.serial) xs) one ∙ ap (λ t. t || list_any (λ (z : Node). z.serial == n.serial) xs) (eq-eqb n.serial n.serial refl)
-    among (x ∷ xs) (suc k) here = later (x.serial == n.serial) (among xs k here)
-      where
-        later : (t : Bool) → list_any (λ (z : Node). z.serial == n.serial) xs ≡ true → (t || list_any (λ (z : Node). z.serial == n.serial) xs) ≡ true
-        later true h = refl
-        later false h = h
+    among (x ∷ xs) (suc k) here = or_right (x.serial == n.serial) _ (among xs k here)
 
     apart : (t : Bool) → m.serial == n.serial ≡ t → t ≡ false
     apart false q = refl
@@ -85,12 +84,6 @@ passes_later t ns i left n at e = ap (λ ms. slice_get (filter t ms) (suc left))
 
 pub fails_here : (t : Node → Bool) (ns : List Node) (i left : ℕ) (n : Node) → slice_get ns i ≡ Some n → t n ≡ false → slice_get (filter t (drop i ns)) left ≡ slice_get (filter t (drop (i + 1) ns)) left
 fails_here t ns i left n at e = ap (λ ms. slice_get (filter t ms) left) (drop_at ns i n at) ∙ ap (λ b. slice_get (cond b (n ∷ filter t (drop (i + 1) ns)) (filter t (drop (i + 1) ns))) left) e
-
-pub drop_all : {A : Type 0} (xs : List A) (i : ℕ) → length xs ≤ i → drop i xs ≡ []
-drop_all [] zero h = refl
-drop_all [] (suc i) h = refl
-drop_all (x ∷ xs) zero h = absurd (omega (arith, h))
-drop_all (x ∷ xs) (suc i) h = drop_all xs i (omega (arith, h))
 
 -- ---- elements in a lineage
 

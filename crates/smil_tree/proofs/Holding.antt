@@ -1,13 +1,15 @@
 -- The nodes that a slab holds in the order of a table.
-use Rattle.std.proofs.Common.{◌≡◌, ◌≢◌, refl, sym, ◌∙◌, ap, subst, ℕ, zero, suc, ◌+◌, ◌-◌, ◌<◌, ◌≤◌, List, [], ◌∷◌, Option, Some, None, Bool, true, false, cond, length, take, drop, insert, arith}
+use Rattle.std.proofs.Common.{◌≡◌, ◌≢◌, refl, sym, ◌∙◌, ap, subst, ℕ, zero, suc, ◌+◌, ◌-◌, ◌<◌, ◌≤◌, List, [], ◌∷◌, ◌++◌, Option, Some, None, Bool, true, false, cond, length, take, drop, insert, arith}
 use Rattle.std.specs.Prelude.{◌==◌, ◌||◌, nat_eq, nat_lt, not, slice_get, slice_index_or, slice_range, option_map, is_some, IsSome, IfSome}
 use Rattle.std.specs.List.{list_any, position, position_or_len, IsDistinct, AllByRecursion}
 use Rattle.std.specs.Map.{keys_of, values_of, lookup}
-use Rattle.std.specs.Map.Iter.{TakesFirst, deref}
+use Rattle.std.specs.Map.Iter.{TakesFirst, TakesLast, deref}
 use Rattle.std.specs.Iterator.{MakesProgress, at_most}
 use Rattle.std.specs.Option.{option_copied, option_copied_mut}
 use Rattle.std.specs.Borrow.{Bor, MutBor}
-use Rattle.std.proofs.lemmas.Bool.{or_parts, or_from, eqb-true, eq-eqb}
+use Rattle.std.proofs.lemmas.Bool.{or_parts, or_right, or_from, eqb-true, eq-eqb}
+use Rattle.std.proofs.lemmas.List.{length-append}
+use Rattle.std.proofs.lemmas.List.Folds.{list_any-append}
 use Rattle.slab.specs.Slab.{Slab, get, Updates, with_value}
 use Rattle.slab.proofs.SlabLemmas.{Updates-with_value}
 use Rattle.indexmap.specs.IndexMap.{insert_entry, move_index}
@@ -84,16 +86,9 @@ held-place slab s es all =
 pub held-same : (slab other : Slab Node) (es : List (ℕ × ℕ)) → IsHeld slab es → ((key : ℕ) → list_any (λ (f : ℕ × ℕ). f.1 == key) es ≡ true → get other key ≡ get slab key) → IsHeld other es × (held other es ≡ held slab es)
 held-same slab other [] all same = (tt, refl)
 held-same slab other (e ∷ es) all same =
-    let rest = held-same slab other es all.2 (λ key h. same key (later key h)) in
+    let rest = held-same slab other es all.2 (λ key h. same key (or_right (e.1 == key) _ h)) in
     let here : get other e.1 ≡ get slab e.1 = same e.1 (ap (λ t. t || list_any (λ (f : ℕ × ℕ). f.1 == e.1) es) (eq-eqb e.1 e.1 refl)) in
     ((ap (has_serial e.0) here ∙ all.0, all.1, rest.0), ap (λ o. and_those o (held other es)) here ∙ ap (and_those (get slab e.1)) rest.1)
-  where
-    later : (key : ℕ) → list_any (λ (f : ℕ × ℕ). f.1 == key) es ≡ true → ((e.1 == key) || list_any (λ (f : ℕ × ℕ). f.1 == key) es) ≡ true
-    later key h = by_test (e.1 == key)
-      where
-        by_test : (t : Bool) → (t || list_any (λ (f : ℕ × ℕ). f.1 == key) es) ≡ true
-        by_test true = refl
-        by_test false = h
 
 -- ---- a new node
 
@@ -283,13 +278,9 @@ module _ (slab other : Slab Node) (change : Attrs → Attrs) (s key : ℕ) (old 
           found [] h = cc
           found (x ∷ xs) h = by_head (nat_eq s x.0) h (found xs)
             where
-              by_rest : (t : Bool) → list_any (λ (f : ℕ × ℕ). f.1 == key) xs ≡ true → (t || list_any (λ (f : ℕ × ℕ). f.1 == key) xs) ≡ true
-              by_rest true g = refl
-              by_rest false g = g
-
               by_head : (t : Bool) → cond t (Some x.1) (lookup (nat_eq s) xs) ≡ Some key → (lookup (nat_eq s) xs ≡ Some key → list_any (λ (f : ℕ × ℕ). f.1 == key) xs ≡ true) → ((x.1 == key) || list_any (λ (f : ℕ × ℕ). f.1 == key) xs) ≡ true
               by_head true h g = let one : x.1 ≡ key = cc in ap (λ t. t || list_any (λ (f : ℕ × ℕ). f.1 == key) xs) (eq-eqb x.1 key one)
-              by_head false h g = by_rest (x.1 == key) (g h)
+              by_head false h g = or_right (x.1 == key) _ (g h)
 
           absurd_key : e.1 ≡ key → ⊥
           absurd_key one = let never : false ≡ true = sym all.1 ∙ ap (λ x. list_any (λ (f : ℕ × ℕ). f.1 == x) es) one ∙ found es r in cc
@@ -323,25 +314,32 @@ put-held slab other es fs key p n all free up fresh le entries =
     never : false ≡ true → ⊥
     never q = cc
 
-pub changed-held : (slab : Slab Node) (change : Attrs → Attrs) (s key : ℕ) (old : Node) (new : Attrs) (es : List (ℕ × ℕ)) → new ≡ change old.attrs → IsHeld slab es → IsDistinct nat_eq (keys_of es) → Some key ≡ lookup (nat_eq s) es → Some old ≡ get slab key → IsHeld (with_value slab key (record old { attrs = new })) es × (held (with_value slab key (record old { attrs = new })) es ≡ changed_at change s (held slab es))
-changed-held slab change s key old new es is all distinct at was =
-    let up = Updates-with_value slab key (with_attrs change old) (ap is_some (sym was)) in
-    rw is (held-changed slab (with_value slab key (with_attrs change old)) change s key old (sym was) up.changed up.others es all distinct (sym at))
-
--- a node with this serial has a key, and the slab has the node there
-pub key-known : (slab : Slab Node) (s : ℕ) (es : List (ℕ × ℕ)) (o : Option ℕ) → IsHeld slab es → o ≡ lookup (nat_eq s) es → IsSome (node_at (held slab es) s) → IsSome o
-key-known slab s es o all is known = by_key o (ap (at_key slab) is ∙ sym (held-find slab s es all))
-  where
-    by_key : (k : Option ℕ) → at_key slab k ≡ node_at (held slab es) s → IsSome k
-    by_key None q = ap is_some q ∙ known
-    by_key (Some key) q = refl
-
-pub node-known : (slab : Slab Node) (s : ℕ) (es : List (ℕ × ℕ)) (key : ℕ) → IsHeld slab es → Some key ≡ lookup (nat_eq s) es → IsSome (node_at (held slab es) s) → IsSome (get slab key)
-node-known slab s es key all is known = ap is_some (ap (at_key slab) is ∙ sym (held-find slab s es all)) ∙ known
-
 pub some_lent : {T : Type 0} (r : Option (MutBor T)) → IsSome (option_copied_mut r) → IsSome r
 some_lent None h = h
 some_lent (Some x) h = refl
+
+-- a node that has another value of its attributes now: its key, the node under it, and the nodes then
+module _ (slab : Slab Node) (s : ℕ) (es : List (ℕ × ℕ)) (nodes : List Node) (found : Option ℕ) (all : IsHeld slab es) (view : held slab es ≡ nodes) (at : found ≡ lookup (nat_eq s) es) where
+  under : at_key slab found ≡ node_at nodes s
+  under = ap (at_key slab) at ∙ sym (held-find slab s es all) ∙ ap (λ ns. node_at ns s) view
+
+  pub key-known : IsSome (node_at nodes s) → IsSome found
+  key-known known = by_key found under
+    where
+      by_key : (k : Option ℕ) → at_key slab k ≡ node_at nodes s → IsSome k
+      by_key None q = ap is_some q ∙ known
+      by_key (Some key) q = refl
+
+  pub node-known : (key : ℕ) (r : Option (MutBor Node)) → found ≡ Some key → option_copied_mut r ≡ get slab key → IsSome (node_at nodes s) → IsSome r
+  node-known key r is got known = some_lent r (ap is_some (got ∙ sym (ap (at_key slab) is) ∙ under) ∙ known)
+
+  pub changed-held : (change : Attrs → Attrs) (key : ℕ) (r : Option (MutBor Node)) (lent : MutBor Node) (new : Attrs) → found ≡ Some key → option_copied_mut r ≡ get slab key → r ≡ Some lent → new ≡ change lent.now.attrs → IsDistinct nat_eq (keys_of es)
+      → IsHeld (with_value slab key (record lent.now { attrs = new })) es × (held (with_value slab key (record lent.now { attrs = new })) es ≡ changed_at change s nodes)
+  changed-held change key r lent new is got some changed distinct =
+      let was : get slab key ≡ Some lent.now = sym got ∙ ap option_copied_mut some in
+      let up = Updates-with_value slab key (with_attrs change lent.now) (ap is_some was) in
+      let now = held-changed slab (with_value slab key (with_attrs change lent.now)) change s key lent.now was up.changed up.others es all distinct (sym at ∙ is) in
+      rw changed (now.0, now.1 ∙ ap (changed_at change s) view)
 
 -- a part taken out: the slab lets its keys go, the table its entries
 pub rest-held : (slab other : Slab Node) (es fs : List (ℕ × ℕ)) (p q : ℕ) (keys : List ℕ) → IsHeld slab es → p ≤ q → keys ≡ values_of es → ((key : ℕ) → list_any (λ k. k == key) (slice_range keys p q) ≡ false → get other key ≡ get slab key) → fs ≡ cut p q es → IsHeld other fs × (held other fs ≡ cut p q (held slab es))
@@ -387,9 +385,35 @@ walk_more slab es rest e o all is at = let parts : IsHeld slab (e ∷ rest) = su
     by_node None a h = let never : false ≡ true = ap (has_serial e.0) a ∙ h in absurd (cc)
     by_node (Some x) a h = ap (held slab) is ∙ ap (λ n. and_those n (held slab rest)) (sym a)
 
-pub walk_done : (slab : Slab Node) (es rest : List (ℕ × ℕ)) (o : Option (Bor Node)) → o ≡ None → (es ≡ []) × (rest ≡ []) → TakesFirst deref (held slab es) o (held slab rest)
-walk_done slab es rest o none both = rw none (ap (held slab) both.0, ap (held slab) both.1)
+-- the same from the back
+held-last : (slab : Slab Node) (es : List (ℕ × ℕ)) (e : ℕ × ℕ) → IsHeld slab (es ++ e ∷ []) → IsHeld slab es × (has_serial e.0 (get slab e.1) ≡ true) × (held slab (es ++ e ∷ []) ≡ held slab es ++ held slab (e ∷ []))
+held-last slab [] e all = (tt, all.0, refl)
+held-last slab (f ∷ es) e all =
+    let rest = held-last slab es e all.2 in
+    let apart = or_parts (list_any (λ (g : ℕ × ℕ). g.1 == f.1) es) _ (sym (list_any-append (λ (g : ℕ × ℕ). g.1 == f.1) es (e ∷ [])) ∙ all.1) in
+    ((all.0, apart.0, rest.0), rest.1, step (get slab f.1) rest.2)
+  where
+    step : (o : Option Node) → held slab (es ++ e ∷ []) ≡ held slab es ++ held slab (e ∷ []) → and_those o (held slab (es ++ e ∷ [])) ≡ and_those o (held slab es) ++ held slab (e ∷ [])
+    step None h = h
+    step (Some n) h = ap (λ ns. n ∷ ns) h
 
-pub walk_goes : (s t : List Node) (r : Option (Bor Node)) → TakesFirst deref s r t → MakesProgress (λ _. Unit {0}) (λ l. at_most (length l)) s r t
-walk_goes s t None h = record { on = λ _. tt; keeps = tt; rests = λ _. tt }
-walk_goes s t (Some x) h = record { on = λ _. (tt, tt, omega (arith, ap length h)); keeps = tt; rests = λ _. tt }
+pub walk_back : (slab : Slab Node) (es rest : List (ℕ × ℕ)) (e : ℕ × ℕ) (o : Option (Bor Node)) → IsHeld slab es → es ≡ rest ++ e ∷ [] → option_copied o ≡ get slab e.1 → IsHeld slab rest × TakesLast deref (held slab es) o (held slab rest)
+walk_back slab es rest e o all is at = let parts = held-last slab rest e (subst (IsHeld slab) is all) in (parts.0, by_node o at parts.1 parts.2)
+  where
+    by_node : (r : Option (Bor Node)) → option_copied r ≡ get slab e.1 → has_serial e.0 (get slab e.1) ≡ true → held slab (rest ++ e ∷ []) ≡ held slab rest ++ held slab (e ∷ []) → TakesLast deref (held slab es) r (held slab rest)
+    by_node None a h whole = let never : false ≡ true = ap (has_serial e.0) a ∙ h in absurd (cc)
+    by_node (Some x) a h whole = ap (held slab) is ∙ whole ∙ ap (λ n. held slab rest ++ and_those n []) (sym a)
+
+pub walk_done : (slab : Slab Node) (es rest : List (ℕ × ℕ)) (o : Option (Bor Node)) → o ≡ None → (es ≡ []) × (rest ≡ []) → TakesFirst deref (held slab es) o (held slab rest) × TakesLast deref (held slab es) o (held slab rest)
+walk_done slab es rest o none both =
+    let done : (held slab es ≡ []) × (held slab rest ≡ []) = (ap (held slab) both.0, ap (held slab) both.1) in
+    rw none (done, done)
+
+module _ (s t : List Node) where
+  pub walk_goes : (r : Option (Bor Node)) → TakesFirst deref s r t → MakesProgress (λ _. Unit {0}) (λ l. at_most (length l)) s r t
+  walk_goes None h = record { on = λ _. tt; keeps = tt; rests = λ _. tt }
+  walk_goes (Some x) h = record { on = λ _. (tt, tt, omega (arith, ap length h)); keeps = tt; rests = λ _. tt }
+
+  pub walk_goes_back : (r : Option (Bor Node)) → TakesLast deref s r t → MakesProgress (λ _. Unit {0}) (λ l. at_most (length l)) s r t
+  walk_goes_back None h = record { on = λ _. tt; keeps = tt; rests = λ _. tt }
+  walk_goes_back (Some x) h = record { on = λ _. (tt, tt, omega (arith, ap length h, length-append t (deref x ∷ []))); keeps = tt; rests = λ _. tt }

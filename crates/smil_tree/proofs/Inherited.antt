@@ -56,6 +56,22 @@ never_first bad stated without other never (n ∷ ns) q = step (stated n) refl q
     step None e f rest = rest f
     step (Some x) e f rest = never n (e ∙ ap Some f)
 
+-- what a node states itself, or else what is stated from it upwards
+pub record Inherits {A : Type 0} (itself : Node → Option A) (from : List Node → ℕ → A) (of : List Node → Node → A) : Type 0 where
+  split : (nodes : List Node) (n : Node) → of nodes n ≡ unwrap_or (itself n) (from nodes n.serial)
+
+module _ {A : Type 0} {itself : Node → Option A} {from : List Node → ℕ → A} {of : List Node → Node → A} (rule : Inherits itself from of) (nodes : List Node) (s : ℕ) (n : Node) (at : node_at nodes s ≡ Some n) where
+  at_node : Some (unwrap_or (itself n) (from nodes s)) ≡ option_map (of nodes) (node_at nodes s)
+  at_node =
+      let serial : n.serial ≡ s = eqb-true n.serial s (find_true (λ (m : Node). m.serial == s) nodes n at) in
+      ap Some (ap (λ x. unwrap_or (itself n) (from nodes x)) (sym serial) ∙ sym (rule.split nodes n)) ∙ sym (ap (option_map (of nodes)) at)
+
+  pub stated_itself : (v : A) → itself n ≡ Some v → Some v ≡ option_map (of nodes) (node_at nodes s)
+  stated_itself v q = ap (λ r. Some (unwrap_or r (from nodes s))) (sym q) ∙ at_node
+
+  pub stated_above : (v : A) → itself n ≡ None → v ≡ from nodes s → Some v ≡ option_map (of nodes) (node_at nodes s)
+  stated_above v q is = ap Some is ∙ ap (λ r. Some (unwrap_or r (from nodes s))) (sym q) ∙ at_node
+
 -- ---- restart
 
 abbrev pub restart_by : Node → Option Restart
@@ -71,19 +87,15 @@ no_default_restart (Some restart_default.Inherit) q = cc
 pub restart_given : (nodes : List Node) (s : ℕ) → restart_from nodes s ≡ restart.ByDefault → ⊥
 restart_given nodes s = never_first restart.ByDefault restart_by Always (λ q. cc) (λ n. no_default_restart n.attrs.restart_default) (filter is_element (lineage nodes s))
 
-restart_falls : (r : Restart) (o : Option Restart) → own_restart o ≡ None → restart_or r o ≡ r
-restart_falls r None e = refl
-restart_falls r (Some restart.ByDefault) e = refl
-restart_falls r (Some restart.Always) e = absurd cc
-restart_falls r (Some restart.WhenNotActive) e = absurd cc
-restart_falls r (Some restart.Never) e = absurd cc
+restart_split : (r : Restart) (o : Option Restart) → restart_or r o ≡ unwrap_or (own_restart o) r
+restart_split r None = refl
+restart_split r (Some restart.ByDefault) = refl
+restart_split r (Some restart.Always) = refl
+restart_split r (Some restart.WhenNotActive) = refl
+restart_split r (Some restart.Never) = refl
 
-restart_stays : (r : Restart) (o : Option Restart) (stated : Restart) → own_restart o ≡ Some stated → restart_or r o ≡ stated
-restart_stays r None stated e = absurd cc
-restart_stays r (Some restart.ByDefault) stated e = absurd cc
-restart_stays r (Some restart.Always) stated e = let same : restart.Always ≡ stated = cc in same
-restart_stays r (Some restart.WhenNotActive) stated e = let same : restart.WhenNotActive ≡ stated = cc in same
-restart_stays r (Some restart.Never) stated e = let same : restart.Never ≡ stated = cc in same
+pub restart_inherits : Inherits (λ n. own_restart n.attrs.restart) restart_from restart_of
+restart_inherits = record { split = λ nodes n. restart_split (restart_from nodes n.serial) n.attrs.restart }
 
 pub own_restart_given : (o : Option Restart) → own_restart o ≡ Some restart.ByDefault → ⊥
 own_restart_given None e = cc
@@ -91,17 +103,6 @@ own_restart_given (Some restart.ByDefault) e = cc
 own_restart_given (Some restart.Always) e = cc
 own_restart_given (Some restart.WhenNotActive) e = cc
 own_restart_given (Some restart.Never) e = cc
-
-at_restart : (nodes : List Node) (s : ℕ) (n : Node) → node_at nodes s ≡ Some n → (r : Restart) → restart_or (restart_from nodes s) n.attrs.restart ≡ r → Some r ≡ option_map (restart_of nodes) (node_at nodes s)
-at_restart nodes s n at r is =
-    let serial : n.serial ≡ s = eqb-true n.serial s (find_true (λ (m : Node). m.serial == s) nodes n at) in
-    ap Some (sym is ∙ ap (λ x. restart_or (restart_from nodes x) n.attrs.restart) (sym serial)) ∙ sym (ap (option_map (restart_of nodes)) at)
-
-pub restart_is : (nodes : List Node) (s : ℕ) (n : Node) → node_at nodes s ≡ Some n → (r : Restart) → r ≡ restart_from nodes s → own_restart n.attrs.restart ≡ None → Some r ≡ option_map (restart_of nodes) (node_at nodes s)
-restart_is nodes s n at r is none = at_restart nodes s n at r (restart_falls (restart_from nodes s) n.attrs.restart none ∙ sym is)
-
-pub restart_own : (nodes : List Node) (s : ℕ) (n : Node) → node_at nodes s ≡ Some n → (r : Restart) → own_restart n.attrs.restart ≡ Some r → Some r ≡ option_map (restart_of nodes) (node_at nodes s)
-restart_own nodes s n at r own = at_restart nodes s n at r (restart_stays (restart_from nodes s) n.attrs.restart r own)
 
 -- ---- fill
 
@@ -119,21 +120,16 @@ no_default_fill (Some fill_default.Inherit) q = cc
 pub fill_given : (nodes : List Node) (s : ℕ) → fill_from nodes s ≡ fill.ByDefault → ⊥
 fill_given nodes s = never_first fill.ByDefault fill_by Auto (λ q. cc) (λ n. no_default_fill n.attrs.fill_default) (filter is_element (lineage nodes s))
 
-fill_falls : (r : Fill) (o : Option Fill) → own_fill o ≡ None → fill_or r o ≡ r
-fill_falls r None e = refl
-fill_falls r (Some fill.ByDefault) e = refl
-fill_falls r (Some fill.Remove) e = absurd cc
-fill_falls r (Some fill.Freeze) e = absurd cc
-fill_falls r (Some fill.Hold) e = absurd cc
-fill_falls r (Some fill.Auto) e = absurd cc
+fill_split : (f : Fill) (o : Option Fill) → fill_or f o ≡ unwrap_or (own_fill o) f
+fill_split f None = refl
+fill_split f (Some fill.ByDefault) = refl
+fill_split f (Some fill.Remove) = refl
+fill_split f (Some fill.Freeze) = refl
+fill_split f (Some fill.Hold) = refl
+fill_split f (Some fill.Auto) = refl
 
-fill_stays : (r : Fill) (o : Option Fill) (stated : Fill) → own_fill o ≡ Some stated → fill_or r o ≡ stated
-fill_stays r None stated e = absurd cc
-fill_stays r (Some fill.ByDefault) stated e = absurd cc
-fill_stays r (Some fill.Remove) stated e = let same : fill.Remove ≡ stated = cc in same
-fill_stays r (Some fill.Freeze) stated e = let same : fill.Freeze ≡ stated = cc in same
-fill_stays r (Some fill.Hold) stated e = let same : fill.Hold ≡ stated = cc in same
-fill_stays r (Some fill.Auto) stated e = let same : fill.Auto ≡ stated = cc in same
+pub fill_inherits : Inherits (λ n. own_fill n.attrs.fill) fill_from fill_of
+fill_inherits = record { split = λ nodes n. fill_split (fill_from nodes n.serial) n.attrs.fill }
 
 pub own_fill_given : (o : Option Fill) → own_fill o ≡ Some fill.ByDefault → ⊥
 own_fill_given None e = cc
@@ -142,14 +138,3 @@ own_fill_given (Some fill.Remove) e = cc
 own_fill_given (Some fill.Freeze) e = cc
 own_fill_given (Some fill.Hold) e = cc
 own_fill_given (Some fill.Auto) e = cc
-
-at_fill : (nodes : List Node) (s : ℕ) (n : Node) → node_at nodes s ≡ Some n → (r : Fill) → fill_or (fill_from nodes s) n.attrs.fill ≡ r → Some r ≡ option_map (fill_of nodes) (node_at nodes s)
-at_fill nodes s n at r is =
-    let serial : n.serial ≡ s = eqb-true n.serial s (find_true (λ (m : Node). m.serial == s) nodes n at) in
-    ap Some (sym is ∙ ap (λ x. fill_or (fill_from nodes x) n.attrs.fill) (sym serial)) ∙ sym (ap (option_map (fill_of nodes)) at)
-
-pub fill_is : (nodes : List Node) (s : ℕ) (n : Node) → node_at nodes s ≡ Some n → (r : Fill) → r ≡ fill_from nodes s → own_fill n.attrs.fill ≡ None → Some r ≡ option_map (fill_of nodes) (node_at nodes s)
-fill_is nodes s n at r is none = at_fill nodes s n at r (fill_falls (fill_from nodes s) n.attrs.fill none ∙ sym is)
-
-pub fill_own : (nodes : List Node) (s : ℕ) (n : Node) → node_at nodes s ≡ Some n → (r : Fill) → own_fill n.attrs.fill ≡ Some r → Some r ≡ option_map (fill_of nodes) (node_at nodes s)
-fill_own nodes s n at r own = at_fill nodes s n at r (fill_stays (fill_from nodes s) n.attrs.fill r own)

@@ -6,7 +6,7 @@ use Rattle.std.proofs.lemmas.Bool.{eqb-true, lt-ltb}
 use Rattle.std.proofs.lemmas.List.{length-append, reverse-reverse}
 use Rattle.std.proofs.lemmas.List.Elements.{filter-append}
 use Rattle.smil_model.specs.declared.document.Node.{Node}
-use Rattle.smil_model.specs.document.Document.{node_at, descendants, is_within, serials}
+use Rattle.smil_model.specs.document.Document.{Document, node_at, descendants, is_within, serials}
 use Rattle.smil_model.specs.document.Valid.{IsNumberedTree}
 use Rattle.smil_model.specs.document.Edits.{children, place_in, child_place}
 use Rattle.smil_laws.specs.Locality.{ParentsBefore}
@@ -257,3 +257,13 @@ module _ (nodes : List Node) (next : ℕ) (numbered : IsNumberedTree (record { n
       let a = around (λ attrs. attrs) s nodes x.0 numbered.distinct x.1 in
       let own : x.0.serial ≡ s = eqb-true x.0.serial s (find_true (λ (n : Node). n.serial == s) nodes x.0 x.1) in
       subst (λ k. slice_range nodes (place_in nodes k + 1) (child_place nodes k None) ≡ descendants nodes k) own (below_span nodes next numbered a.front x.0 a.back a.before)
+
+  -- a span that was found lies within the nodes
+  pub span_fits : (d : Document) (s : ℕ) (span : ℕ × ℕ) → record { nodes = nodes; next = next } ≡ d → IsSome (node_at d.nodes s) → span ≡ (place_in d.nodes s, child_place d.nodes s None) → (span.0 < span.1) × (span.1 ≤ length nodes)
+  span_fits d s span view =
+      subst (λ (e : Document). IsSome (node_at e.nodes s) → span ≡ (place_in e.nodes s, child_place e.nodes s None) → (span.0 < span.1) × (span.1 ≤ length nodes)) view
+      (λ known is.
+      let fits = end_within s known in
+      let first = ap (λ (p : ℕ × ℕ). p.0) is in
+      let last = ap (λ (p : ℕ × ℕ). p.1) is in
+      (omega (arith, fits.0, first, last), omega (arith, fits.1, last)))

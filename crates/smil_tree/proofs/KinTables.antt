@@ -1,6 +1,6 @@
 -- Tables of lists, with one list changed.
-use Rattle.std.proofs.Common.{length, ◌≡◌, refl, sym, ◌∙◌, ap, ℕ, zero, suc, ◌+◌, ◌-◌, ◌≤◌, List, [], ◌∷◌, ◌++◌, drop, Option, Some, None, Result, Ok, Err, Bool, true, false, cond, insert, filter, take, arith}
-use Rattle.std.specs.Prelude.{◌==◌, nat_eq, OnErr, ◌||◌, option_map, unwrap_or, slice_get, slice_range}
+use Rattle.std.proofs.Common.{length, ◌≡◌, refl, sym, ◌∙◌, ap, ℕ, ◌+◌, ◌-◌, ◌≤◌, List, [], ◌∷◌, ◌++◌, Option, Some, None, Result, Ok, Err, Bool, true, false, cond, insert, filter}
+use Rattle.std.specs.Prelude.{◌==◌, nat_eq, OnErr, ◌||◌, option_map, unwrap_or, slice_range}
 use Rattle.std.specs.List.{list_any}
 use Rattle.std.specs.Map.{lookup}
 use Rattle.std.specs.declared.vec.Vec.{Vec}
@@ -12,7 +12,6 @@ use Rattle.smil_laws.proofs.Lineages.{same_eqb}
 use Rattle.smil_tree.specs.Held.{cut}
 use Rattle.smil_tree.specs.Kin.{Families, IsKinOf, rows, list_in, list_of, AreListsOf, Separates}
 use Rattle.smil_tree.proofs.KinLists.{before, passing-between, passing-cut, passing-rest}
-use Rattle.smil_laws.proofs.Lists.{take-more_at}
 
 abbrev pub is_child : ℕ → Node → Bool
 is_child s n = n.parent == s
@@ -20,18 +19,6 @@ is_child s n = n.parent == s
 pub in_err : {A E : Type 0} {P : Type 0} (r : Result A E) → P → OnErr r P
 in_err (Ok x) holds = tt
 in_err (Err e) holds = holds
-
-slice_get-drop : (xs : List Node) (a i : ℕ) → slice_get (drop a xs) i ≡ slice_get xs (a + i)
-slice_get-drop xs zero i = let place : i ≡ 0 + i = omega arith in ap (slice_get xs) place
-slice_get-drop [] (suc a) i = refl
-slice_get-drop (x ∷ xs) (suc a) i = let place : suc (a + i) ≡ suc a + i = omega arith in slice_get-drop xs a i ∙ ap (slice_get (x ∷ xs)) place
-
--- one more at the end of a part
-pub slice_range-more : (xs : List Node) (a b : ℕ) (x : Node) → a ≤ b → slice_get xs b ≡ Some x → slice_range xs a (b + 1) ≡ slice_range xs a b ++ x ∷ []
-slice_range-more xs a b x le at =
-    let more : (b + 1) - a ≡ (b - a) + 1 = omega (arith, le) in
-    let place : a + (b - a) ≡ b = omega (arith, le) in
-    ap (λ k. take k (drop a xs)) more ∙ take-more_at (drop a xs) (b - a) x (slice_get-drop xs a (b - a) ∙ ap (slice_get xs) place ∙ at)
 
 module _ {Z : Type 0} where
   lookup-rows : (table : List (ℕ × Vec ℕ Z)) (s : ℕ) → lookup (nat_eq s) (rows table) ≡ option_map (λ (v : Vec ℕ Z). v.items) (lookup (nat_eq s) table)

@@ -23,3 +23,4 @@ pub mod KinLists
 pub mod KinTables
 pub mod KinTrees
 pub mod KinCallers
+pub mod Walks

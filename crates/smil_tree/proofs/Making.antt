@@ -1,11 +1,12 @@
 -- A tree made of a document, node by node.
-use Rattle.std.proofs.Common.{◌≡◌, refl, sym, ◌∙◌, ap, ℕ, zero, suc, ◌+◌, ◌≤◌, List, [], ◌∷◌, ◌++◌, Option, Some, None, Bool, true, false, cond, take, insert, arith, add-one, append_assoc}
+use Rattle.std.proofs.Common.{◌≡◌, refl, sym, ◌∙◌, ap, ℕ, zero, suc, ◌+◌, ◌<◌, ◌≤◌, List, [], ◌∷◌, ◌++◌, Option, Some, None, Bool, true, false, cond, length, get_or, take, insert, arith, add-one, append_assoc}
 use Rattle.std.specs.Prelude.{◌==◌, ◌&&◌, not, count_by, slice_get}
 use Rattle.std.specs.List.{list_any}
 use Rattle.std.specs.Str.{bytes_eq}
 use Rattle.std.specs.Cmp.Lexicographic.{bytes_decides}
 use Rattle.std.proofs.lemmas.List.Sums.{sum_by-cons, sum_by-append, sum_by-take-le}
 use Rattle.std.proofs.lemmas.Bool.{or_parts}
+use Rattle.std.proofs.lemmas.Option.{slice_get-get_or}
 use Rattle.std.proofs.lemmas.List.{append-nil}
 use Rattle.smil_model.specs.declared.document.Node.{Node}
 use Rattle.smil_model.specs.document.Document.{Document, has_id, node_at, with_node}
@@ -14,6 +15,10 @@ use Rattle.smil_laws.proofs.Lineages.{swap_eqb}
 use Rattle.smil_laws.proofs.Lists.{take-more_at}
 use Rattle.smil_tree.specs.TreeFields.{bears, owner}
 use Rattle.smil_tree.proofs.Owners.{owner-between, count-cons}
+
+-- the item of a walk is the node at its place
+pub item_at : (nodes items : List Node) (i : ℕ) (n : Node) → items ≡ nodes → i < length items → n ≡ get_or items i n → slice_get nodes i ≡ Some n
+item_at nodes items i n same within is = ap (λ ns. slice_get ns i) (sym same) ∙ slice_get-get_or items i n within ∙ ap Some (sym is)
 
 insert-suc_at : (ns : List Node) (i : ℕ) (n : Node) → slice_get ns i ≡ Some n → insert (take i ns) i n ≡ take (suc i) ns
 insert-suc_at [] i n at = cc

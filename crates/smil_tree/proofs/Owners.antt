@@ -1,9 +1,9 @@
 -- Which node has an id, where no two have one.
 use Rattle.std.proofs.Common.{◌≡◌, refl, sym, ◌∙◌, ap, ℕ, ◌+◌, ◌≤◌, List, [], ◌∷◌, ◌++◌, Some, None, Bool, true, false, cond, arith}
-use Rattle.std.specs.Prelude.{◌==◌, ◌&&◌, ◌||◌, not, find, count_by, option_map}
+use Rattle.std.specs.Prelude.{◌==◌, ◌&&◌, ◌||◌, not, find, count_by, sum_by, option_map}
 use Rattle.std.specs.List.{list_any}
 use Rattle.std.proofs.lemmas.List.Sums.{sum_by-cons, sum_by-append}
-use Rattle.std.proofs.lemmas.Bool.{or_parts, or_from, eqb-true}
+use Rattle.std.proofs.lemmas.Bool.{and_right, or_parts, or_from, eqb-true}
 use Rattle.smil_model.specs.declared.document.Node.{Node}
 use Rattle.smil_model.specs.declared.document.Attrs.{Attrs}
 use Rattle.smil_model.specs.document.Document.{node_at}
@@ -23,8 +23,12 @@ at_most q n ns k h = omega (arith, h, count-cons q n ns)
 pub count-append : (q : List ℕ) (a b : List Node) → count_by (bears q) (a ++ b) ≡ count_by (bears q) a + count_by (bears q) b
 count-append q a b = sum_by-append (λ (m : Node). cond (bears q m) 1 0) a b
 
+-- a sum over nodes by one of them
+pub sum-one : (f : Node → ℕ) (a : List Node) (n : Node) (b : List Node) → sum_by f (a ++ n ∷ b) ≡ sum_by f a + (f n + sum_by f b)
+sum-one f a n b = sum_by-append f a (n ∷ b) ∙ ap (λ k. sum_by f a + k) (sum_by-cons f n b)
+
 pub count-one : (q : List ℕ) (a : List Node) (n : Node) (b : List Node) → count_by (bears q) (a ++ n ∷ b) ≡ count_by (bears q) a + (cond (bears q n) 1 0 + count_by (bears q) b)
-count-one q a n b = count-append q a (n ∷ b) ∙ ap (λ k. count_by (bears q) a + k) (count-cons q n b)
+count-one q a n b = sum-one (λ (m : Node). cond (bears q m) 1 0) a n b
 
 borne : (q : List ℕ) (n : Node) (t : Bool) → bears q n ≡ t → ◌≡◌ {A = ℕ} (cond (bears q n) 1 0) (cond t 1 0)
 borne q n t e = ap (λ u. cond u 1 0) e
@@ -70,11 +74,7 @@ none_taken q s (n ∷ ns) none = step (bears q n) (at_most q n ns 0 none) (none_
   where
     step : (t : Bool) → cond t 1 0 + count_by (bears q) ns ≤ 0 → (count_by (bears q) ns ≤ 0 → list_any (is_other_with s q) ns ≡ false) → ((not (n.serial == s) && t) || list_any (is_other_with s q) ns) ≡ false
     step true h rest = absurd (omega (arith, h))
-    step false h rest = or_from _ _ (never (n.serial == s)) (rest (omega (arith, h)))
-      where
-        never : (b : Bool) → (not b && false) ≡ false
-        never true = refl
-        never false = refl
+    step false h rest = or_from _ _ (and_right (not (n.serial == s)) false refl) (rest (omega (arith, h)))
 
 pub taken : (q : List ℕ) (s : ℕ) (ns : List Node) → count_by (bears q) ns ≤ 1 → is_id_taken ns s (Some q) ≡ is_other s (owner q ns)
 taken q s [] once = refl
@@ -86,11 +86,7 @@ taken q s (n ∷ ns) once = step (bears q n) (at_most q n ns 1 once) (taken q s 
         plain : (b : Bool) → ((not b && true) || false) ≡ not b
         plain true = refl
         plain false = refl
-    step false h rest = ap (λ r. r || list_any (is_other_with s q) ns) (never (n.serial == s)) ∙ rest (omega (arith, h))
-      where
-        never : (b : Bool) → (not b && false) ≡ false
-        never true = refl
-        never false = refl
+    step false h rest = ap (λ r. r || list_any (is_other_with s q) ns) (and_right (not (n.serial == s)) false refl) ∙ rest (omega (arith, h))
 
 -- ---- a node changed in place
 

@@ -18,7 +18,8 @@ held slab (e ∷ es) = and_those (get slab e.1) (held slab es)
 abbrev pub IsHeld : Slab Node → List (ℕ × ℕ) → Type 0
 IsHeld slab [] = Unit {0}
 IsHeld slab (e ∷ es) =
-    (has_serial e.0 (get slab e.1) ≡ true) × (list_any (λ (f : ℕ × ℕ). f.1 == e.1) es ≡ false) × IsHeld slab es
+    (has_serial e.0 (get slab e.1) ≡ true) × (list_any (λ (f : ℕ × ℕ). f.1 == e.1) es ≡ false)
+    × IsHeld slab es
 
 -- the list without what stands from one place on up to another
 abbrev pub cut : {A : Type 0} → ℕ → ℕ → List A → List A

@@ -10,17 +10,21 @@ use Rattle.smil_model.specs.declared.document.Fill.TheVariants as fill
 use Rattle.smil_model.specs.document.Document.{is_element, lineage}
 use Rattle.smil_model.specs.document.Defaults.{first_stated, restart_stated, fill_stated}
 
--- what the nearest element states, of the node with a serial and those above it; where none does, the given value
+-- what the nearest element states, of the node with a serial and those above it; where none does,
+-- the given value
 abbrev pub stated_from : {A : Type 0} → (Node → Option A) → A → List Node → ℕ → A
-stated_from stated without nodes serial = first_stated stated without (filter is_element (lineage nodes serial))
+stated_from stated without nodes serial =
+    first_stated stated without (filter is_element (lineage nodes serial))
 
 -- the restart by default
 abbrev pub restart_from : List Node → ℕ → Restart
-restart_from nodes serial = stated_from (λ (n : Node). option_and_then restart_stated n.attrs.restart_default) Always nodes serial
+restart_from nodes serial = stated_from
+    (λ (n : Node). option_and_then restart_stated n.attrs.restart_default) Always nodes serial
 
 -- the fill by default
 abbrev pub fill_from : List Node → ℕ → Fill
-fill_from nodes serial = stated_from (λ (n : Node). option_and_then fill_stated n.attrs.fill_default) Auto nodes serial
+fill_from nodes serial =
+    stated_from (λ (n : Node). option_and_then fill_stated n.attrs.fill_default) Auto nodes serial
 
 -- the restart that an element states itself; `default` states none
 abbrev pub own_restart : Option Restart → Option Restart

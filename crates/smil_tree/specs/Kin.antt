@@ -1,4 +1,5 @@
--- The serials of the children and of the time children of each node, in document order, in tables of lists.
+-- The serials of the children and of the time children of each node, in document order,
+-- in tables of lists.
 use Rattle.std.specs.Prelude.{◌≡◌, ℕ, ◌<◌, List, [], map, filter, Bool, true, false, not, ◌==◌, nat_eq, nat_lt, Option, Some, None, option_map, unwrap_or, slice_get, slice_range}
 use Rattle.std.specs.List.{list_any, position}
 use Rattle.std.specs.Map.{lookup}
@@ -22,12 +23,14 @@ list_in table serial = unwrap_or (lookup (nat_eq serial) table) []
 -- they are the children and the time children of these nodes
 pub record IsKinOf (families : Families) (nodes : List Node) : Type 0 where
   pub children : (s : ℕ) → list_in families.children s ≡ serials (children_of nodes s)
-  pub time_children : (s : ℕ) → list_in families.time_children s ≡ serials (time_children_of nodes s)
+  pub time_children :
+      (s : ℕ) → list_in families.time_children s ≡ serials (time_children_of nodes s)
 
 -- from one place on up to another stand this node and its descendants, and no others
 pub record IsSubtree (nodes : List Node) (start past : ℕ) (n : Node) : Type 0 where
   pub first : slice_get nodes start ≡ Some n
-  pub others : cut start past nodes ≡ filter (λ (m : Node). not (is_within nodes n.serial m.serial)) nodes
+  pub others :
+      cut start past nodes ≡ filter (λ (m : Node). not (is_within nodes n.serial m.serial)) nodes
 
 -- whether there is a place, and it is before this one
 abbrev pub is_earlier : ℕ → Option ℕ → Bool
@@ -47,7 +50,8 @@ module _ {Z : Type 0} where
 
   -- the list of a serial; it is empty where there is none
   abbrev pub list_of : List (ℕ × Vec ℕ Z) → ℕ → List ℕ
-  list_of table serial = unwrap_or (option_map (λ (v : Vec ℕ Z). v.items) (lookup (nat_eq serial) table)) []
+  list_of table serial =
+      unwrap_or (option_map (λ (v : Vec ℕ Z). v.items) (lookup (nat_eq serial) table)) []
 
   -- a table has the lists of those that pass for each serial
   abbrev pub AreListsOf : (ℕ → Node → Bool) → List (ℕ × Vec ℕ Z) → List Node → Type 0
@@ -56,11 +60,16 @@ module _ {Z : Type 0} where
   -- the list of the serial, if there is one, has room for one more
   abbrev pub HasRoom : Option ℕ → List (ℕ × Vec ℕ Z) → Type 0
   HasRoom None table = Unit {0}
-  HasRoom (Some serial) table = (v : Vec ℕ Z) × (lookup (nat_eq serial) table ≡ Some v) × (vec_len v < vec_capacity v)
+  HasRoom (Some serial) table =
+      (v : Vec ℕ Z) × (lookup (nat_eq serial) table ≡ Some v) × (vec_len v < vec_capacity v)
 
--- nothing in the part passes for a serial that is neither the owner nor of the part, and nothing outside for one that is
-pub record Separates (t : ℕ → Node → Bool) (owner : Option ℕ) (start past : ℕ) (nodes : List Node) : Type 0 where
-  pub inside : (s : ℕ) → list_any (λ (n : Node). n.serial == s) (slice_range nodes start past) ≡ false
+-- nothing in the part passes for a serial that is neither the owner nor of the part,
+-- and nothing outside for one that is
+pub record Separates
+    (t : ℕ → Node → Bool) (owner : Option ℕ) (start past : ℕ) (nodes : List Node) : Type 0 where
+  pub inside :
+      (s : ℕ) → list_any (λ (n : Node). n.serial == s) (slice_range nodes start past) ≡ false
       → is_option s owner ≡ false → filter (t s) (slice_range nodes start past) ≡ []
-  pub outside : (s : ℕ) → list_any (λ (n : Node). n.serial == s) (slice_range nodes start past) ≡ true
+  pub outside :
+      (s : ℕ) → list_any (λ (n : Node). n.serial == s) (slice_range nodes start past) ≡ true
       → filter (t s) (cut start past nodes) ≡ []

@@ -26,11 +26,13 @@ passes test (Some n) = test n
 -- whether the attributes of a node fit its kind and its parent's kind after this one is set
 abbrev pub may_take : List Node → ℕ → Attr → Bool
 may_take nodes serial given =
-    passes (λ (n : Node). fit_kind n.kind (kind_of (node_at nodes n.parent)) (with_attr n.attrs given)) (node_at nodes serial)
+    passes (λ (n : Node). fit_kind n.kind (kind_of (node_at nodes n.parent))
+    (with_attr n.attrs given)) (node_at nodes serial)
 
 -- whether the attributes fit a child of this kind
 abbrev pub may_bear : List Node → ℕ → Kind → Attrs → Bool
-may_bear nodes parent kind attrs = passes (λ (p : Node). fit_kind kind (Some p.kind) attrs) (node_at nodes parent)
+may_bear nodes parent kind attrs =
+    passes (λ (p : Node). fit_kind kind (Some p.kind) attrs) (node_at nodes parent)
 
 abbrev pub set_outcome : Document → ℕ → Attr → Result Document TreeFault
 set_outcome document serial given =
@@ -42,7 +44,8 @@ set_outcome document serial given =
 abbrev pub place_outcome : List Node → ℕ → ℕ → Kind → Result ⊤ TreeFault
 place_outcome nodes parent place kind =
     if not (nat_lt (suc (depth_of nodes parent)) DEPTH) then Err TooDeep
-    else (if is_place nodes parent place && may_stand (kind_of (node_at nodes parent)) kind && agree_with nodes parent kind
+    else (if is_place nodes parent place && may_stand (kind_of (node_at nodes parent)) kind
+    && agree_with nodes parent kind
     then Ok tt
     else Err BadPlace)
 
@@ -54,7 +57,8 @@ and_after (Ok done) outcome = outcome
 abbrev pub room_outcome : Document → Attrs → Document → Result Document TreeFault
 room_outcome document attrs after =
     if is_id_taken document.nodes document.next attrs.id then Err DuplicateId
-    else (if nat_lt NODES (length after.nodes) || nat_le SERIALS document.next then Err TooManyElements
+    else (if nat_lt NODES (length after.nodes) || nat_le SERIALS document.next
+    then Err TooManyElements
     else (if nat_lt REFERENCES (references after.nodes) then Err TooManyReferences else Ok after))
 
 abbrev pub insert_outcome : Document → ℕ → ℕ → Kind → Attrs → Result Document TreeFault
@@ -74,4 +78,5 @@ remove_outcome document serial =
 abbrev pub agrees_with_first : List Node → Option ℕ → Kind → Bool
 agrees_with_first nodes None kind = true
 agrees_with_first nodes (Some serial) kind =
-    passes (λ (n : Node). same_test (is_class_kind n.kind) (is_class_kind kind)) (node_at nodes serial)
+    passes (λ (n : Node). same_test (is_class_kind n.kind) (is_class_kind kind))
+    (node_at nodes serial)

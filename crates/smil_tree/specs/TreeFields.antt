@@ -25,7 +25,8 @@ abbrev pub IsTableOf : List (List ℕ × ℕ) → List Node → Type 0
 IsTableOf table nodes = (id : List ℕ) → lookup (bytes_eq id) table ≡ owner id nodes
 
 -- the fields of a tree
-pub record Keeps (nodes : List Node) (next : ℕ) (table : List (List ℕ × ℕ)) (total : ℕ) (families : Families) : Type 0 where
+pub record Keeps (nodes : List Node) (next : ℕ) (table : List (List ℕ × ℕ)) (total : ℕ)
+    (families : Families) : Type 0 where
   pub valid : IsValid (record { nodes = nodes; next = next })
   pub ids : IsTableOf table nodes
   pub total_is : total ≡ references nodes

@@ -50,7 +50,11 @@ impl Model for Kin {
 
     ghost Value = { Families };
 
-    ghost view = { λ a. record { children = rows a.children.entries; time_children = rows a.time_children.entries } };
+    ghost view = { λ a.
+        record {
+          children = rows a.children.entries;
+          time_children = rows a.time_children.entries;
+        } };
 }
 
 impl Kin {
@@ -271,7 +275,7 @@ fn count_before(nodes: &Nodes, list: &[u32], at: usize) -> usize
 fn is_before(nodes: &Nodes, serial: u32, at: usize) -> bool
     ensures { result ≡ is_before nodes.now at serial }
 {
-    match nodes.place(serial) {
+    match nodes.position(serial) {
         Some(place) => place < at,
         None => false,
     }

@@ -9,5 +9,6 @@ mod references;
 mod tree;
 
 pub use fault::TreeFault;
+pub use nodes::Walk;
 pub use smil_model::{Attr, AttrName};
 pub use tree::Tree;

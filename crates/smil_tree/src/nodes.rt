@@ -3,7 +3,7 @@
 ghost use Rattle.std.specs.Prelude.{◌≡◌, ℕ, ◌<◌, ◌≤◌, ◌==◌, nat_eq, [], length, insert, false, None, IsSome, OnOk, OnErr, slice_get, slice_range, option_copied};
 ghost use Rattle.std.specs.List.{position, list_any};
 ghost use Rattle.std.specs.Iterator.{at_most};
-ghost use Rattle.std.specs.Map.Iter.{TakesFirst, deref};
+ghost use Rattle.std.specs.Map.Iter.{TakesFirst, TakesLast, deref};
 ghost use Rattle.smil_model.specs.declared.document.Node.{Node as AnyNode};
 ghost use Rattle.smil_model.specs.document.Document.{node_at};
 ghost use Rattle.smil_model.specs.document.Edits.{changed_at, with_attr as attrs_with, without_attr as attrs_without};
@@ -78,6 +78,15 @@ impl<'a> Iterator for Walk<'a> {
     }
 }
 
+impl<'a> DoubleEndedIterator for Walk<'a> {
+    ghost next_back_gives = { TakesLast deref };
+
+    fn next_back(&mut self) -> Option<&'a Node> {
+        let (_, key) = self.entries.next_back()?;
+        self.slab.get(*key)
+    }
+}
+
 impl Nodes {
     /// No nodes. It takes no memory.
     pub fn new(alloc: Global) -> Nodes
@@ -128,9 +137,9 @@ impl Nodes {
         self.slab.get(*key)
     }
 
-    /// The place of the node with a serial; None exactly where there is no such node. It takes no
-    /// memory.
-    pub fn place(&self, serial: u32) -> Option<usize>
+    /// The position of the node with a serial; None exactly where there is no such node. It takes
+    /// no memory.
+    pub fn position(&self, serial: u32) -> Option<usize>
         ensures { result ≡ position (λ (n : AnyNode). n.serial == serial) self.now }
     {
         self.order.get_index_of(&serial)

@@ -20,7 +20,7 @@ ghost use Rattle.smil_tree.specs.Kin.{IsKinOf};
 use self::family::element_from;
 use super::ids::{Ids, note_node};
 use super::kin::Kin;
-use super::nodes::Nodes;
+use super::nodes::{Nodes, Walk};
 use smil_model::{Attrs, Doc, Duplicate, Kind, REFERENCES, Who, references_in};
 use std::alloc::{AllocError, Global};
 use std::marker::Model;
@@ -92,6 +92,13 @@ impl Tree {
         let _kept = &self.next;
     }
 
+    /// The nodes, in document order. It takes no memory.
+    pub fn nodes(&self) -> Walk<'_>
+        ensures { result ≡ self.now.nodes }
+    {
+        self.nodes.iter()
+    }
+
     /// The serial of a node by its id or serial; None exactly where there is no such node. It takes
     /// no memory.
     pub fn find(&self, who: &Who) -> Option<u32>
@@ -108,7 +115,7 @@ impl Tree {
     pub fn position(&self, serial: u32) -> Option<usize>
         ensures { result ≡ first_place (λ (n : AnyNode). n.serial == serial) self.now.nodes }
     {
-        self.nodes.place(serial)
+        self.nodes.position(serial)
     }
 
     /// The serial of the node at a place in document order, from 0; None exactly where the place is

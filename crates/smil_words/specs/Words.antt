@@ -14,13 +14,16 @@ in_range n = if nat_le 1 n && nat_le n SESSIONS then Some n else None
 abbrev pub session_number : List ℕ → Option ℕ
 session_number [] = None
 session_number (b ∷ bytes) =
-    if b == zero_digit then None else (if nat_le (length (b ∷ bytes)) SESSION_DIGITS then number_of (b ∷ bytes) >>= in_range else None)
+    if b == zero_digit then None else (if nat_le (length (b ∷ bytes)) SESSION_DIGITS
+    then number_of (b ∷ bytes) >>= in_range else None)
 
 abbrev pub of_one : List ℕ → Option Mode
-of_one word = if bytes_eq word (codes "run") then Some Run else (if bytes_eq word (codes "check") then Some Check else None)
+of_one word = if bytes_eq word (codes "run") then Some Run
+    else (if bytes_eq word (codes "check") then Some Check else None)
 
 abbrev pub of_two : List ℕ → List ℕ → Option Mode
-of_two word digits = if bytes_eq word (codes "gen") then session_number digits >>= (λ n. Some (Gen n)) else None
+of_two word digits =
+    if bytes_eq word (codes "gen") then session_number digits >>= (λ n. Some (Gen n)) else None
 
 -- `run`, `check`, or `gen` and a number
 abbrev pub mode_of : List (List ℕ) → Option Mode

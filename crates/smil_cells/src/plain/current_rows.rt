@@ -41,6 +41,13 @@ impl HasSerial for CurrentRow {
     }
 }
 
+/// An element at a moment, with its index among the elements.
+#[derive(Clone, Copy)]
+pub struct IndexedElement<'a> {
+    pub present: Present<'a>,
+    pub index: usize,
+}
+
 /// The elements of a document in document order, each with its interval, whose numbers are from
 /// -10^12 to 10^12, and what comes of it; seen as the list of them.
 #[derive(Drop)]
@@ -118,7 +125,7 @@ impl CurrentRows {
     }
 
     /// The index of the row of an element; None exactly where it has none. It takes no memory.
-    pub fn place(&self, who: u32) -> Option<usize>
+    pub fn index_of(&self, who: u32) -> Option<usize>
         ensures { result ≡ position (λ (r : AnyRow). r.serial == who) self.now }
     {
         self.places.get(&who).copied()
@@ -144,37 +151,38 @@ impl CurrentRows {
     }
 }
 
-/// The row of the element that has an index among the elements, at a moment, given the intervals of
-/// the others; one evaluation is counted. What is kept of the ends of its time children is right
-/// where its duration is implicit. Refused where memory runs out, and then at most one evaluation
-/// is counted.
+/// The row of an element, given the intervals of the others; one evaluation is counted. What is
+/// kept of the ends of its time children is right where its duration is implicit. Refused where
+/// memory runs out, and then at most one evaluation is counted.
 pub fn row_of<J: Containers, L: Ledger>(
-    present: &Present<'_>,
-    index: usize,
+    element: &IndexedElement<'_>,
     intervals: &J,
     room: &mut Room,
     steps: &mut Steps<L>,
 ) -> Result<CurrentRow, AllocError>
-    requires element { has_element present.now.past.now.document.nodes present.now.who ≡ true }
-    requires index { slice_get (elements present.now.past.now.document.nodes) index
-        ≡ node_at (elements present.now.past.now.document.nodes) present.now.who }
-    requires moment { IsPresent present.now.past.now present.now.moment }
-    requires known { (e : AnyNode)
-        → node_at (elements present.now.past.now.document.nodes) present.now.who ≡ Some e
-        → has_implicit_duration e ≡ true
-        → J.knows_ends intervals.now (history_of present.now.past.now) present.now.who }
-    ensures row { (e : AnyNode)
-        → node_at (elements present.now.past.now.document.nodes) present.now.who ≡ Some e
-        → IfOk result (IsRowOf (history_of present.now.past.now) (J.given intervals.now)
-        present.now.moment index e) }
+    requires element { has_element element.now.present.past.now.document.nodes
+        element.now.present.who ≡ true }
+    requires index { slice_get (elements element.now.present.past.now.document.nodes)
+        element.now.index ≡ node_at (elements element.now.present.past.now.document.nodes)
+        element.now.present.who }
+    requires moment { IsPresent element.now.present.past.now element.now.present.moment }
+    requires known { (e : AnyNode) → node_at (elements element.now.present.past.now.document.nodes)
+        element.now.present.who ≡ Some e → has_implicit_duration e ≡ true
+        → J.knows_ends intervals.now (history_of element.now.present.past.now)
+        element.now.present.who }
+    ensures row { (e : AnyNode) → node_at (elements element.now.present.past.now.document.nodes)
+        element.now.present.who ≡ Some e
+        → IfOk result (IsRowOf (history_of element.now.present.past.now) (J.given intervals.now)
+        element.now.present.moment element.now.index e) }
     ensures near { IfOk result (λ row. IfSome row.interval IsIntervalNear) }
     ensures steps { OnOk result (steps.new ≡ steps.old + 1) }
     ensures most { steps.new ≤ steps.old + 1 }
     ensures counted { steps.old ≤ steps.new }
 {
+    let present = &element.present;
     present.past.possible();
     let made = evaluation_of(present, intervals, room, steps)?;
-    let comings = comings_of(present, index as u32, &made);
+    let comings = comings_of(present, element.index as u32, &made);
     Ok(CurrentRow {
         serial: present.who,
         interval: made.interval,

@@ -1,8 +1,8 @@
 //! The cuts that come before an end or a repeat.
 
-ghost use Rattle.std.specs.Prelude.{◌∷◌, ◌++◌, ◌<◌, [], length, IsSome, OnOk};
+ghost use Rattle.std.specs.Prelude.{◌∷◌, ◌++◌, [], IsSome, OnOk};
 ghost use Rattle.smil_model.specs.document.Document.{node_at};
-ghost use Rattle.smil_element.specs.Parts.{Appends, cut_at, cuts_below};
+ghost use Rattle.smil_element.specs.Parts.{Appends, cut_of, cuts_below};
 
 use super::parts::Parts;
 use smil_model::{Entry, Step};
@@ -38,23 +38,19 @@ fn cut_below(parts: &Parts<'_>, who: u32, entries: &mut Vec<Entry>) -> Result<()
     requires { IsSome (node_at parts.now.tree.now.nodes who) }
     ensures { OnOk result (Appends parts.now entries.old entries.new (cuts_below parts.now who)) }
 {
-    parts.tree.valid();
-    let (start, past) = parts.tree.span(who);
-    let first = start + 1;
-    for position in (first..past).rev() {
-        cut(parts, position, entries)?;
+    for node in parts.tree.below(who).rev() {
+        cut(parts, node.serial, entries)?;
     }
     Ok(())
 }
 
-// Appends the cut of the node at a position, where it is active.
-fn cut(parts: &Parts<'_>, position: usize, entries: &mut Vec<Entry>) -> Result<(), AllocError>
-    requires { position < length parts.now.tree.now.nodes }
-    ensures { OnOk result (Appends parts.now entries.old entries.new (cut_at parts.now position)) }
+// Appends the cut of a node, where it is active.
+fn cut(parts: &Parts<'_>, who: u32, entries: &mut Vec<Entry>) -> Result<(), AllocError>
+    ensures { OnOk result (Appends parts.now entries.old entries.new
+        (cut_of parts.now.book.now who)) }
 {
-    let serial = parts.tree.serial_at(position).unwrap();
-    if parts.book.active(serial) {
-        put(parts, Step::Cut { who: serial }, entries)
+    if parts.book.active(who) {
+        put(parts, Step::Cut { who }, entries)
     } else {
         Ok(())
     }

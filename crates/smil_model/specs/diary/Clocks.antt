@@ -1,4 +1,5 @@
--- Clocks: an element's own, which stands while it or an ancestor is paused, and that of its time parent.
+-- Clocks: an element's own, which stands while it or an ancestor is paused,
+-- and that of its time parent.
 use Rattle.std.specs.Prelude.{ℕ, suc, zero, ◌+◌, ℤ, pos, negsuc, ◌+ℤ◌, ◌-ℤ◌, int_le, List, filter, fold, Bool, false, ◌==◌, ◌&&◌, if◌then◌else◌, Option, Some, None}
 use Rattle.std.specs.List.{list_any}
 use Rattle.smil_model.specs.declared.diary.Entry.{Entry}
@@ -14,13 +15,15 @@ until moment diary = filter (λ (x : Entry). int_le x.moment moment) diary
 
 -- whether the element or an element above it is paused by these entries
 abbrev pub stands_by : List Node → List Entry → ℕ → Bool
-stands_by nodes diary serial = list_any (λ (n : Node). is_element n && is_paused diary n.serial) (lineage nodes serial)
+stands_by nodes diary serial =
+    list_any (λ (n : Node). is_element n && is_paused diary n.serial) (lineage nodes serial)
 
 -- the milliseconds before the moment, less those in which the element or an ancestor was paused
 abbrev pub elapsed : History → ℕ → ℕ → ℕ
 elapsed h serial zero = 0
 elapsed h serial (suc moment) =
-    elapsed h serial moment + (if stands_by h.nodes (until (pos moment) h.diary) serial then 0 else 1)
+    elapsed h serial moment
+    + (if stands_by h.nodes (until (pos moment) h.diary) serial then 0 else 1)
 
 -- the element's own clock at a moment
 abbrev pub run : History → ℕ → ℤ → ℤ
@@ -72,12 +75,14 @@ play_start h serial =
 abbrev pub iteration_start_after : History → ℕ → ℤ → ℤ → Step → ℤ
 iteration_start_after h serial moment before (Began who begin) =
     if who == serial then start_of h serial moment begin else before
-iteration_start_after h serial moment before (Repeated who start) = if who == serial then start else before
+iteration_start_after h serial moment before (Repeated who start) =
+    if who == serial then start else before
 iteration_start_after h serial moment before _ = before
 
 abbrev pub iteration_start : History → ℕ → ℤ
 iteration_start h serial =
-    fold (λ before (x : Entry). iteration_start_after h serial x.moment before x.step) (pos 0) h.diary
+    fold (λ before (x : Entry). iteration_start_after h serial x.moment before x.step)
+    (pos 0) h.diary
 
 -- the play start for children: that of the time parent's last iteration, and 0 for the root
 abbrev pub start_under : History → Option Node → ℤ

@@ -1,4 +1,5 @@
--- What a diary says of an element: its birth, whether it is active, alive, paused or deferred, and its iteration.
+-- What a diary says of an element: its birth, whether it is active, alive, paused or deferred,
+-- and its iteration.
 use Rattle.std.specs.Prelude.{ℕ, ℤ, pos, suc, List, [], ◌∷◌, ◌++◌, drop, length, fold, Bool, true, false, ◌&&◌, ◌||◌, ◌==◌, if◌then◌else◌, Option, Some, None, is_some, option_map, unwrap_or}
 use Rattle.std.specs.Option.{option_map_or}
 use Rattle.smil_model.specs.declared.diary.Entry.{Entry}
@@ -32,8 +33,9 @@ gives_birth serial (Began who begin) = who == serial
 gives_birth serial (Repeated who start) = who == serial
 gives_birth serial _ = false
 
--- how many entries there are up to and with the birth: the last begin or repeat of the time parent. It is none for the
--- root, and all where the time parent never began
+-- how many entries there are up to and with the birth:
+-- the last begin or repeat of the time parent. It is none for the root,
+-- and all where the time parent never began
 abbrev pub birth_under : Option Node → List Entry → ℕ
 birth_under None diary = 0
 birth_under (Some p) diary =
@@ -65,7 +67,8 @@ paused_after serial before _ = before
 
 abbrev pub is_paused : List Entry → ℕ → Bool
 is_paused diary serial =
-    is_active diary serial && fold (λ before (x : Entry). paused_after serial before x.step) false diary
+    is_active diary serial
+    && fold (λ before (x : Entry). paused_after serial before x.step) false diary
 
 -- an element is alive while its time parent is active, and the root always
 abbrev pub lives_under : Option Node → List Entry → Bool
@@ -75,7 +78,8 @@ lives_under (Some p) diary = is_active diary p.serial
 abbrev pub is_alive : History → ℕ → Bool
 is_alive h serial = lives_under (time_parent h.nodes serial) h.diary
 
--- the entry by which the element is deferred: that of its last begin, end, cut, deferral or pass since birth
+-- the entry by which the element is deferred: that of its last begin, end, cut,
+-- deferral or pass since birth
 abbrev pub deferral_after : ℕ → Entry → Option Entry → Step → Option Entry
 deferral_after serial here before (Began who begin) = if who == serial then None else before
 deferral_after serial here before (Ended who end') = if who == serial then None else before
@@ -87,7 +91,8 @@ deferral_after serial here before _ = before
 abbrev pub deferral : History → ℕ → Option Entry
 deferral h serial =
     if is_alive h serial
-    then fold (λ before (x : Entry). deferral_after serial x before x.step) None (since_birth h serial)
+    then fold (λ before (x : Entry). deferral_after serial x before x.step) None
+    (since_birth h serial)
     else None
 
 -- whether the element is deferred
@@ -97,11 +102,13 @@ is_deferred h serial = is_some (deferral h serial)
 -- the repeats since the last begin since birth; none where it did not begin since birth
 abbrev pub iteration_after : ℕ → Option ℕ → Step → Option ℕ
 iteration_after serial before (Began who begin) = if who == serial then Some 0 else before
-iteration_after serial before (Repeated who start) = if who == serial then option_map suc before else before
+iteration_after serial before (Repeated who start) =
+    if who == serial then option_map suc before else before
 iteration_after serial before _ = before
 
 abbrev pub iteration_from : ℕ → List Entry → Option ℕ
-iteration_from serial entries = fold (λ before (x : Entry). iteration_after serial before x.step) None entries
+iteration_from serial entries =
+    fold (λ before (x : Entry). iteration_after serial before x.step) None entries
 
 -- the number of the iteration of the present play, or of the last one since birth, or 0
 abbrev pub iteration : History → ℕ → ℕ

@@ -16,9 +16,10 @@ has_element nodes serial = is_some (node_at (elements nodes) serial)
 abbrev pub may_begin : History → ℕ → Bool
 may_begin past serial = is_alive past serial && not (is_active past.diary serial)
 
--- steps but Logged are on elements; by what has happened before, a begin, a deferral or a pass is of an element that
--- may begin, a repeat, an end or a cut is of an active one, a pause of an active one that is not paused, and a resume of a
--- paused one
+-- steps but Logged are on elements; by what has happened before, a begin,
+-- a deferral or a pass is of an element that may begin, a repeat,
+-- an end or a cut is of an active one, a pause of an active one that is not paused,
+-- and a resume of a paused one
 abbrev pub is_lawful_step : History → Step → Bool
 is_lawful_step past (Began who begin) = has_element past.nodes who && may_begin past who
 is_lawful_step past (Deferred who begin) = has_element past.nodes who && may_begin past who
@@ -26,7 +27,8 @@ is_lawful_step past (Passed who begin) = has_element past.nodes who && may_begin
 is_lawful_step past (Repeated who start) = has_element past.nodes who && is_active past.diary who
 is_lawful_step past (Ended who end') = has_element past.nodes who && is_active past.diary who
 is_lawful_step past (Cut who) = has_element past.nodes who && is_active past.diary who
-is_lawful_step past (Paused who) = has_element past.nodes who && (is_active past.diary who && not (is_paused past.diary who))
+is_lawful_step past (Paused who) =
+    has_element past.nodes who && (is_active past.diary who && not (is_paused past.diary who))
 is_lawful_step past (Resumed who) = has_element past.nodes who && is_paused past.diary who
 is_lawful_step past (Logged place) = true
 
@@ -38,7 +40,8 @@ AllLawful h (w ∷ ws) = (is_lawful_step (up_to h w.0) (w.1).step ≡ true) × A
 -- moments are from the first to the horizon, and do not fall
 abbrev pub is_rising_from : ℤ → List Entry → Bool
 is_rising_from from [] = true
-is_rising_from from (x ∷ xs) = int_le from x.moment && int_le x.moment HORIZON && is_rising_from x.moment xs
+is_rising_from from (x ∷ xs) =
+    int_le from x.moment && int_le x.moment HORIZON && is_rising_from x.moment xs
 
 -- a diary that is lawful for the document
 pub record IsLawful (h : History) : Type 0 where

@@ -14,7 +14,8 @@ pub record PlayEdge : Type 0 where
   pub value : ℤ
   pub moment : ℤ
 
--- a finished interval; it was finished by an end, or by a cut, whose value is that of the clock at its moment
+-- a finished interval; it was finished by an end, or by a cut,
+-- whose value is that of the clock at its moment
 pub record FinishedInterval : Type 0 where
   pub begin : PlayEdge
   pub finish : PlayEdge
@@ -26,7 +27,8 @@ pub record Plays : Type 0 where
   pub finished : List FinishedInterval
 
 -- an end or a cut finishes the interval that began
-abbrev pub finish_with : Option PlayEdge → PlayEdge → Bool → List FinishedInterval → List FinishedInterval
+abbrev pub finish_with :
+    Option PlayEdge → PlayEdge → Bool → List FinishedInterval → List FinishedInterval
 finish_with None finish was_cut done = done
 finish_with (Some begin) finish was_cut done =
     done ++ record { begin = begin; finish = finish; was_cut = was_cut } ∷ []
@@ -34,13 +36,17 @@ finish_with (Some begin) finish was_cut done =
 abbrev pub play_after : History → ℕ → ℤ → Plays → Step → Plays
 play_after h serial moment plays (Began who begin) =
     if who == serial
-    then record { present = Some (record { value = begin; moment = moment }); finished = plays.finished }
+    then record {
+      present = Some (record { value = begin; moment = moment });
+      finished = plays.finished;
+    }
     else plays
 play_after h serial moment plays (Ended who end') =
     if who == serial
     then record {
       present = None;
-      finished = finish_with plays.present (record { value = end'; moment = moment }) false plays.finished;
+      finished =
+          finish_with plays.present (record { value = end'; moment = moment }) false plays.finished;
     }
     else plays
 play_after h serial moment plays (Cut who) =
@@ -48,7 +54,8 @@ play_after h serial moment plays (Cut who) =
     then record {
       present = None;
       finished =
-          finish_with plays.present (record { value = outer h serial moment; moment = moment }) true plays.finished;
+          finish_with plays.present
+          (record { value = outer h serial moment; moment = moment }) true plays.finished;
     }
     else plays
 play_after h serial moment plays _ = plays
@@ -84,8 +91,10 @@ greater_begin None b = Some b
 greater_begin (Some a) b = if int_lt a b then Some b else Some a
 
 abbrev pub passed_after : ℕ → Option ℤ → Step → Option ℤ
-passed_after serial before (Passed who begin) = if who == serial then greater_begin before begin else before
+passed_after serial before (Passed who begin) =
+    if who == serial then greater_begin before begin else before
 passed_after serial before _ = before
 
 abbrev pub passed : History → ℕ → Option ℤ
-passed h serial = fold (λ before (x : Entry). passed_after serial before x.step) None (since_birth h serial)
+passed h serial =
+    fold (λ before (x : Entry). passed_after serial before x.step) None (since_birth h serial)

@@ -15,6 +15,7 @@ abbrev pub rounds : (ℕ → ℕ → Bool) → List ℕ → ℕ → List ℕ →
 rounds link all zero set = set
 rounds link all (suc k) set = round link all (rounds link all k set)
 
--- of a set within `all`: the smallest part of `all` that holds the set and, with each member, what is linked from it
+-- of a set within `all`: the smallest part of `all` that holds the set and, with each member,
+-- what is linked from it
 abbrev pub closure : (ℕ → ℕ → Bool) → List ℕ → List ℕ → List ℕ
 closure link all set = rounds link all (suc (length all)) set

@@ -32,10 +32,12 @@ abbrev pub items_or : List Item → Option (List Item) → List Item
 items_or without None = without
 items_or without (Some items) = items
 
--- without `begin`, a child of an excl has the one item `indefinite`, and any other element the one offset 0
+-- without `begin`, a child of an excl has the one item `indefinite`,
+-- and any other element the one offset 0
 abbrev pub begin_list : List Node → Node → List Item
 begin_list nodes e =
-    items_or (if is_in_excl nodes e.serial then Indefinite ∷ [] else Offset (pos 0) ∷ []) e.attrs.begin
+    items_or (if is_in_excl nodes e.serial then Indefinite ∷ []
+    else Offset (pos 0) ∷ []) e.attrs.begin
 
 -- without `end` there is no end list
 abbrev pub end_list : Node → List Item
@@ -51,12 +53,13 @@ abbrev pub stated_list : Attrs → Edge → Option (List Item)
 stated_list attrs Begin = attrs.begin
 stated_list attrs End = attrs.«end»
 
--- whether the simple duration is the implicit one: with `dur="media"`, and without `dur` unless there is an `end` and
--- nothing that repeats
+-- whether the simple duration is the implicit one: with `dur="media"`,
+-- and without `dur` unless there is an `end` and nothing that repeats
 abbrev pub takes_implicit : Attrs → Option Dur → Bool
 takes_implicit attrs (Some Media) = true
 takes_implicit attrs (Some _) = false
-takes_implicit attrs None = is_some attrs.repeat_count || is_some attrs.repeat_dur || not (is_some attrs.«end»)
+takes_implicit attrs None =
+    is_some attrs.repeat_count || is_some attrs.repeat_dur || not (is_some attrs.«end»)
 
 -- `min` is 0 and `max` sets no bound by default
 abbrev pub stated_min : Attrs → ℤ
@@ -67,21 +70,26 @@ stated_max attrs = unwrap_or attrs.max time.Indefinite
 
 -- where `max` is less than `min`, both count as absent
 abbrev pub min_of : Attrs → ℤ
-min_of attrs = if time_le (At (stated_min attrs)) (stated_max attrs) then stated_min attrs else pos 0
+min_of attrs =
+    if time_le (At (stated_min attrs)) (stated_max attrs) then stated_min attrs else pos 0
 
 abbrev pub max_of : Attrs → Time
-max_of attrs = if time_le (At (stated_min attrs)) (stated_max attrs) then stated_max attrs else time.Indefinite
+max_of attrs =
+    if time_le (At (stated_min attrs)) (stated_max attrs) then stated_max attrs else time.Indefinite
 
 -- ---- inherited defaults
 
 -- what the first of these nodes that states a default states; where none does, the given value
 abbrev pub first_stated : {A : Type 0} → (Node → Option A) → A → List Node → A
 first_stated stated without [] = without
-first_stated stated without (n ∷ above) = let rest = first_stated stated without above in unwrap_or (stated n) rest
+first_stated stated without (n ∷ above) =
+    let rest = first_stated stated without above in unwrap_or (stated n) rest
 
--- a default that an element inherits: its own, or that of the nearest element above it that states one
+-- a default that an element inherits: its own, or that of the nearest element above it that states
+-- one
 abbrev pub inherited : {A : Type 0} → List Node → (Node → Option A) → A → Node → A
-inherited nodes stated without e = first_stated stated without (filter is_element (lineage nodes e.serial))
+inherited nodes stated without e =
+    first_stated stated without (filter is_element (lineage nodes e.serial))
 
 -- the restart that `restartDefault` states; `inherit` states none
 abbrev pub restart_stated : RestartDefault → Option Restart
@@ -131,7 +139,8 @@ fill_of nodes e = fill_or (default_fill nodes e) e.attrs.fill
 -- `auto` freezes where nothing limits the duration
 abbrev pub fill_when_auto : Attrs → Fill
 fill_when_auto attrs =
-    if is_some attrs.dur || is_some attrs.«end» || is_some attrs.repeat_count || is_some attrs.repeat_dur
+    if is_some attrs.dur || is_some attrs.«end» || is_some attrs.repeat_count
+    || is_some attrs.repeat_dur
     then Remove
     else Freeze
 
@@ -149,8 +158,8 @@ effective_fill nodes e = fill_by e.attrs (fill_of nodes e)
 abbrev pub endsync_of : Attrs → Endsync
 endsync_of attrs = unwrap_or attrs.endsync Last
 
--- an excl without a priorityClass has one class with these defaults: peers stop, a higher class pauses, a lower one
--- is deferred
+-- an excl without a priorityClass has one class with these defaults: peers stop,
+-- a higher class pauses, a lower one is deferred
 abbrev pub peers_of : Option Node → Act
 peers_of None = Stop
 peers_of (Some class) = unwrap_or class.attrs.peers Stop

@@ -1,4 +1,5 @@
--- Which elements' times follow from which: the dependencies between elements, and the references that are looped.
+-- Which elements' times follow from which: the dependencies between elements,
+-- and the references that are looped.
 use Rattle.std.specs.Prelude.{ℕ, List, [], ◌∷◌, ◌++◌, Bool, false, ◌&&◌, ◌||◌, ◌==◌, Option, Some, None}
 use Rattle.std.specs.List.{list_any}
 use Rattle.smil_model.specs.declared.document.Node.{Node}
@@ -21,11 +22,13 @@ abbrev pub is_sync_with : List Node → ℕ → Item → Bool
 is_sync_with nodes x (Sync who edge offset) = has_serial x (element_named nodes who)
 is_sync_with nodes x _ = false
 
--- the three kinds of dependency: a container whose simple duration is implicit follows from its time children, a child
--- of a seq from the child before it, and an element from each one to whose begin or end it refers
+-- the three kinds of dependency: a container whose simple duration is implicit follows from its
+-- time children, a child of a seq from the child before it,
+-- and an element from each one to whose begin or end it refers
 abbrev pub feeds_node : List Node → ℕ → Node → Bool
 feeds_node nodes x e =
-    (has_implicit_duration e && list_any (λ (c : Node). (c.serial == x) && is_time_child nodes e.serial c) nodes)
+    (has_implicit_duration e
+    && list_any (λ (c : Node). (c.serial == x) && is_time_child nodes e.serial c) nodes)
     || has_serial x (previous_in_seq nodes e.serial)
     || list_any (is_sync_with nodes x) (all_items nodes e)
 
@@ -37,8 +40,8 @@ feeds nodes x y = list_any (λ (e : Node). (e.serial == y) && feeds_node nodes x
 abbrev pub leads_to : List Node → ℕ → ℕ → Bool
 leads_to nodes e x = has (closure (feeds nodes) (serials (elements nodes)) (e ∷ [])) x
 
--- a reference of e is looped where e leads to the element that it names; other items, and references that name no
--- element, never are
+-- a reference of e is looped where e leads to the element that it names; other items,
+-- and references that name no element, never are
 abbrev pub is_looped_to : List Node → ℕ → Option Node → Bool
 is_looped_to nodes e None = false
 is_looped_to nodes e (Some x) = leads_to nodes e x.serial

@@ -1,4 +1,5 @@
--- Documents: nodes in document order, their time parents and time children, and the element that an id names.
+-- Documents: nodes in document order, their time parents and time children,
+-- and the element that an id names.
 use Rattle.std.specs.Prelude.{ℕ, List, [], ◌∷◌, ◌++◌, reverse, drop, map, filter, find, Bool, true, false, not, ◌&&◌, ◌==◌, if◌then◌else◌, Option, Some, None, option_map}
 use Rattle.std.specs.Str.{bytes_eq}
 use Rattle.std.specs.List.{list_any}
@@ -53,7 +54,8 @@ serial_of node = option_map (λ (n : Node). n.serial) node
 abbrev pub node_at : List Node → ℕ → Option Node
 node_at nodes serial = find (λ (n : Node). n.serial == serial) nodes
 
--- in nodes from the last to the first, the node with this serial, its parent, and so on up to the root
+-- in nodes from the last to the first, the node with this serial, its parent,
+-- and so on up to the root
 abbrev pub upwards : List Node → ℕ → List Node
 upwards [] serial = []
 upwards (n ∷ before) serial =
@@ -97,7 +99,8 @@ descendants nodes serial = filter (λ (n : Node). is_below nodes serial n.serial
 -- the one that stands before this serial in the list
 abbrev pub just_before : ℕ → Option Node → List Node → Option Node
 just_before serial before [] = None
-just_before serial before (n ∷ ns) = if n.serial == serial then before else just_before serial (Some n) ns
+just_before serial before (n ∷ ns) =
+    if n.serial == serial then before else just_before serial (Some n) ns
 
 -- whether this is a node whose kind passes
 abbrev pub has_kind : (Kind → Bool) → Option Node → Bool
@@ -131,7 +134,8 @@ has_id id (Some own) = bytes_eq own id
 abbrev pub element_named : List Node → List ℕ → Option Node
 element_named nodes id = find (λ (n : Node). is_element n && has_id id n.attrs.id) nodes
 
--- the element that an item means: the one with this id, or the element itself where the item has none
+-- the element that an item means: the one with this id,
+-- or the element itself where the item has none
 abbrev pub target : List Node → ℕ → Option (List ℕ) → Option ℕ
 target nodes e None = Some e
 target nodes e (Some id) = option_map (λ (n : Node). n.serial) (element_named nodes id)

@@ -107,7 +107,9 @@ attr_unset document serial given =
 -- the document without a node and its descendants
 abbrev pub node_removed : Document → ℕ → Document
 node_removed document serial =
-    record document { nodes = filter (λ (n : Node). not (is_within document.nodes serial n.serial)) document.nodes }
+    record document {
+      nodes = filter (λ (n : Node). not (is_within document.nodes serial n.serial)) document.nodes;
+    }
 
 -- the children of a node in the outline, priorityClasses included
 abbrev pub children : List Node → ℕ → List Node
@@ -120,10 +122,11 @@ place_in nodes serial = unwrap_or (position (λ (n : Node). n.serial == serial) 
 -- where a child stands, or behind the last descendant of the parent
 abbrev pub child_place : List Node → ℕ → Option Node → ℕ
 child_place nodes parent (Some child) = place_in nodes child.serial
-child_place nodes parent None = place_in nodes parent + length (filter (λ (n : Node). is_within nodes parent n.serial) nodes)
+child_place nodes parent None =
+    place_in nodes parent + length (filter (λ (n : Node). is_within nodes parent n.serial) nodes)
 
--- the document with a new child of a node at a place, from 1 to one more than its children; the new node takes the next
--- serial
+-- the document with a new child of a node at a place, from 1 to one more than its children;
+-- the new node takes the next serial
 abbrev pub node_inserted : Document → ℕ → ℕ → Kind → Attrs → Document
 node_inserted document parent place kind attrs = record {
   nodes =

@@ -1,5 +1,5 @@
--- Valid documents: one tree in document order, whose nodes stand where their kinds may stand and have attributes that
--- they may have, within the limits.
+-- Valid documents: one tree in document order, whose nodes stand where their kinds may stand and
+-- have attributes that they may have, within the limits.
 use Rattle.std.specs.Prelude.{ℕ, ◌+◌, List, [], ◌∷◌, length, filter, sum_by, Bool, true, false, not, ◌&&◌, ◌||◌, ◌==◌, if◌then◌else◌, Option, Some, None, option_map, nat_lt, IsTrue, IsFalse, All, ◌≡◌, ◌<◌, ◌≤◌}
 use Rattle.std.specs.List.{list_any, list_all}
 use Rattle.smil_model.specs.declared.limits.TheConstants.{DEPTH, SERIALS}
@@ -18,14 +18,17 @@ use Rattle.smil_model.specs.document.Values.{fit_kind}
 -- from the open node upwards: what is left open when a child of this parent comes
 abbrev pub open_from : ℕ → List ℕ → List ℕ
 open_from parent [] = []
-open_from parent (s ∷ above) = let rest = open_from parent above in if s == parent then s ∷ above else rest
+open_from parent (s ∷ above) =
+    let rest = open_from parent above in if s == parent then s ∷ above else rest
 
 -- each node's parent is one of the nodes that are open where it stands
 abbrev pub IsTreeFrom : List ℕ → List Node → Type 0
 IsTreeFrom opened [] = Unit {0}
-IsTreeFrom opened (n ∷ ns) = IsTrue (list_any (λ s. s == n.parent) opened) × IsTreeFrom (n.serial ∷ open_from n.parent opened) ns
+IsTreeFrom opened (n ∷ ns) = IsTrue (list_any (λ s. s == n.parent) opened)
+    × IsTreeFrom (n.serial ∷ open_from n.parent opened) ns
 
--- the parents make the list one tree in document order, whose first node is the root, with the parent 0
+-- the parents make the list one tree in document order, whose first node is the root,
+-- with the parent 0
 abbrev pub IsTree : List Node → Type 0
 IsTree [] = ⊥
 IsTree (root ∷ ns) = (root.parent ≡ 0) × IsTreeFrom (root.serial ∷ []) ns
@@ -48,10 +51,12 @@ pub record IsNumberedTree (document : Document) : Type 0 where
 abbrev pub depth_of : List Node → ℕ → ℕ
 depth_of nodes serial = length (ancestors nodes serial)
 
--- what a node of this kind may hold: a container every element, an excl also classes, a class elements
+-- what a node of this kind may hold: a container every element, an excl also classes,
+-- a class elements
 abbrev pub may_hold : Kind → Kind → Bool
 may_hold parent child =
-    if is_class_kind child then is_excl_kind parent else is_container_kind parent || is_class_kind parent
+    if is_class_kind child then is_excl_kind parent
+    else is_container_kind parent || is_class_kind parent
 
 -- where a kind may stand: as the root a container, else under a node that may hold it
 abbrev pub may_stand : Option Kind → Kind → Bool
@@ -64,11 +69,13 @@ kind_of node = option_map (λ (n : Node). n.kind) node
 abbrev pub same_test : Bool → Bool → Bool
 same_test a b = (a && b) || (not a && not b)
 
--- the children of a node agree with this kind in being priorityClasses or not: an excl does not mix the two
+-- the children of a node agree with this kind in being priorityClasses or not:
+-- an excl does not mix the two
 abbrev pub agree_with : List Node → ℕ → Kind → Bool
 agree_with nodes parent kind =
     list_all
-    (λ (n : Node). not (n.parent == parent) || same_test (is_class_kind n.kind) (is_class_kind kind))
+    (λ (n : Node). not (n.parent == parent)
+    || same_test (is_class_kind n.kind) (is_class_kind kind))
     nodes
 
 -- whether the node stands where it may
@@ -120,7 +127,8 @@ pub record IsValidWithin (allowed : Limits) (document : Document) : Type 0 where
   pub numbered : IsNumberedTree document
   pub placed : list_all (is_well_placed document.nodes) document.nodes ≡ true
   pub fitting : list_all (has_fitting_attrs document.nodes) document.nodes ≡ true
-  pub ids : list_any (λ (n : Node). is_id_taken document.nodes n.serial n.attrs.id) document.nodes ≡ false
+  pub ids :
+      list_any (λ (n : Node). is_id_taken document.nodes n.serial n.attrs.id) document.nodes ≡ false
   pub nodes : length document.nodes ≤ allowed.nodes
   pub references : references document.nodes ≤ allowed.references
 

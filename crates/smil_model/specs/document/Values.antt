@@ -73,7 +73,8 @@ is_positive_bound (time.At v) = int_lt (pos 0) v && is_clock v
 is_positive_bound time.Indefinite = true
 is_positive_bound time.Unresolved = false
 
--- `repeatCount`: above 0, with at most nine digits before the point and three behind it, or indefinite
+-- `repeatCount`: above 0, with at most nine digits before the point and three behind it,
+-- or indefinite
 abbrev pub is_count : Count → Bool
 is_count (count.Thousandths k) = nat_lt 0 k && nat_le k COUNT_THOUSANDTHS
 is_count count.Indefinite = true
@@ -110,7 +111,8 @@ has_class_attrs attrs = is_some attrs.peers || is_some attrs.higher || is_some a
 
 -- what a set alone may have
 abbrev pub has_set_attrs : Attrs → Bool
-has_set_attrs attrs = is_some attrs.target_element || is_some attrs.attribute_name || is_some attrs.to
+has_set_attrs attrs =
+    is_some attrs.target_element || is_some attrs.attribute_name || is_some attrs.to
 
 -- what a set may not have, though other elements may
 abbrev pub has_media_attrs : Attrs → Bool
@@ -119,18 +121,24 @@ has_media_attrs attrs = is_some attrs.src || is_some attrs.region || is_some att
 -- what a priorityClass may not have
 abbrev pub has_element_attrs : Attrs → Bool
 has_element_attrs attrs =
-    is_some attrs.begin || is_some attrs.dur || is_some attrs.«end» || is_some attrs.min || is_some attrs.max
-    || is_some attrs.repeat_count || is_some attrs.repeat_dur || is_some attrs.restart || is_some attrs.fill
-    || is_some attrs.restart_default || is_some attrs.fill_default || is_some attrs.endsync || has_media_attrs attrs
+    is_some attrs.begin || is_some attrs.dur || is_some attrs.«end» || is_some attrs.min
+    || is_some attrs.max
+    || is_some attrs.repeat_count || is_some attrs.repeat_dur || is_some attrs.restart
+    || is_some attrs.fill
+    || is_some attrs.restart_default || is_some attrs.fill_default || is_some attrs.endsync
+    || has_media_attrs attrs
     || is_some attrs.title || has_set_attrs attrs
 
 -- the values of the attributes that a priorityClass has not
 abbrev pub are_element_values : Bool → Attrs → Bool
 are_element_values in_seq attrs =
-    absent_or (is_begin in_seq) attrs.begin && absent_or is_dur attrs.dur && absent_or is_list attrs.«end»
-    && absent_or is_clock attrs.min && absent_or is_bound attrs.max && absent_or is_count attrs.repeat_count
+    absent_or (is_begin in_seq) attrs.begin && absent_or is_dur attrs.dur
+    && absent_or is_list attrs.«end»
+    && absent_or is_clock attrs.min && absent_or is_bound attrs.max
+    && absent_or is_count attrs.repeat_count
     && absent_or is_positive_bound attrs.repeat_dur && absent_or is_endsync attrs.endsync
-    && absent_or is_kept_text attrs.src && absent_or is_kept_text attrs.region && absent_or is_kept_text attrs.alt
+    && absent_or is_kept_text attrs.src && absent_or is_kept_text attrs.region
+    && absent_or is_kept_text attrs.alt
     && absent_or is_kept_text attrs.title && absent_or is_id attrs.target_element
     && absent_or is_attribute_name attrs.attribute_name && absent_or is_kept_text attrs.to
 
@@ -143,7 +151,8 @@ abbrev pub fit_kind : Kind → Option Kind → Attrs → Bool
 fit_kind kind parent attrs =
     absent_or is_id attrs.id
     && (if is_class_kind kind
-    then not (has_element_attrs attrs) && absent_or is_higher attrs.higher && absent_or is_lower attrs.lower
+    then not (has_element_attrs attrs) && absent_or is_higher attrs.higher
+    && absent_or is_lower attrs.lower
     else not (has_class_attrs attrs) && are_element_values (is_seq_parent parent) attrs
     && (has_endsync kind || not (is_some attrs.endsync))
     && not (if is_set_kind kind then has_media_attrs attrs else has_set_attrs attrs))

@@ -61,11 +61,13 @@ is_id text = is_word is_of_id text && nat_le (length text) ID_BYTES
 -- the words of begin and end lists that name no event
 abbrev pub is_list_word : List ℕ → Bool
 is_list_word text =
-    list_any (bytes_eq text) (codes "begin" ∷ codes "end" ∷ codes "repeat" ∷ codes "indefinite" ∷ [])
+    list_any (bytes_eq text) (codes "begin" ∷ codes "end" ∷ codes "repeat" ∷ codes "indefinite"
+    ∷ [])
 
 -- the name of an event, of at most 64 bytes
 abbrev pub is_event_name : List ℕ → Bool
-is_event_name text = is_word is_of_name text && nat_le (length text) EVENT_BYTES && not (is_list_word text)
+is_event_name text =
+    is_word is_of_name text && nat_le (length text) EVENT_BYTES && not (is_list_word text)
 
 -- the events that begins, ends and repeats raise by themselves
 abbrev pub is_raised_name : List ℕ → Bool

@@ -1,4 +1,5 @@
--- The group of entries that one happening appends: the cuts of what it stops, the entry itself, and what an excl does.
+-- The group of entries that one happening appends: the cuts of what it stops, the entry itself,
+-- and what an excl does.
 use Rattle.std.specs.Prelude.{ℕ, ℤ, List, [], ◌∷◌, ◌++◌, reverse, map, filter, ◌&&◌, if◌then◌else◌, Option, Some, None}
 use Rattle.smil_model.specs.declared.diary.Entry.{Entry}
 use Rattle.smil_model.specs.declared.diary.Step.{Step}
@@ -32,7 +33,8 @@ followers h moment serial (Some p) =
     then follower h moment (queue_of h p.serial)
     else []
 
--- an end: the active descendants are cut, then the element ends, and where it played in an excl the queue goes on
+-- an end: the active descendants are cut, then the element ends,
+-- and where it played in an excl the queue goes on
 abbrev pub end_steps : History → ℤ → ℕ → ℤ → List Step
 end_steps h moment serial value =
     cuts h serial ++ (Ended serial value ∷ followers h moment serial (time_parent h.nodes serial))
@@ -41,7 +43,8 @@ end_steps h moment serial value =
 abbrev pub repeat_steps : History → ℕ → ℤ → List Step
 repeat_steps h serial start = cuts h serial ++ (Repeated serial start ∷ [])
 
--- a begin in an excl while another child plays: the playing child stops, or pauses, or the newcomer is deferred, or passed
+-- a begin in an excl while another child plays: the playing child stops, or pauses,
+-- or the newcomer is deferred, or passed
 abbrev pub interruption : History → ℤ → ℕ → ℤ → ℕ → Act → List Step
 interruption h moment serial value playing Stop =
     cuts h playing ++ (Ended playing (outer h playing moment) ∷ Began serial value ∷ [])
@@ -62,7 +65,8 @@ begin_under h moment serial value (Some p) =
     else Began serial value ∷ []
 
 abbrev pub steps_of : History → ℤ → ℕ → Change → List Step
-steps_of h moment serial (begins value) = begin_under h moment serial value (time_parent h.nodes serial)
+steps_of h moment serial (begins value) =
+    begin_under h moment serial value (time_parent h.nodes serial)
 steps_of h moment serial (ends value) = end_steps h moment serial value
 steps_of h moment serial (repeats start) = repeat_steps h serial start
 

@@ -1,4 +1,5 @@
--- What is to happen: the begins, ends and repeats that the current intervals give, and the order in which they happen.
+-- What is to happen: the begins, ends and repeats that the current intervals give,
+-- and the order in which they happen.
 use Rattle.std.specs.Prelude.{ℕ, suc, ℤ, pos, ◌+ℤ◌, ◌-ℤ◌, int_lt, int_le, List, [], ◌∷◌, ◌++◌, map, fold, Bool, true, false, not, ◌&&◌, ◌||◌, ◌==◌, nat_lt, if◌then◌else◌, Option, Some, None, is_some}
 use Rattle.smil_model.specs.declared.times.Time.{Time}
 use Rattle.smil_model.specs.declared.times.Time.TheVariants.{At}
@@ -12,8 +13,8 @@ use Rattle.smil_model.specs.diary.Clocks.{run, to_document, stands, outer_stands
 use Rattle.smil_model.specs.interval.Durations.{bounds_of, intermediate_end}
 use Rattle.smil_model.specs.interval.Current.{simple_of, current_table, in_table}
 
--- what happens: a begin or an end with its value on the time parent's clock, or a repeat with the start of the new
--- iteration on the element's own clock
+-- what happens: a begin or an end with its value on the time parent's clock,
+-- or a repeat with the start of the new iteration on the element's own clock
 pub data Change : Type 0 where
   begins : ℤ → Change
   ends : ℤ → Change
@@ -43,7 +44,8 @@ coming_at moment class place e change = record {
 -- the begin of a current interval, in class 2
 abbrev pub coming_begin : History → ℤ → ℕ → Node → Option Interval → List DueChange
 coming_begin h now place e None = []
-coming_begin h now place e (Some i) = coming_at (to_document h e.serial i.begin now) 2 place e (begins i.begin) ∷ []
+coming_begin h now place e (Some i) =
+    coming_at (to_document h e.serial i.begin now) 2 place e (begins i.begin) ∷ []
 
 -- the end of a current interval that is a number: in class 1, and in class 3 where the length is 0
 abbrev pub coming_end_at : History → ℤ → ℕ → Node → ℤ → Time → List DueChange
@@ -55,11 +57,13 @@ abbrev pub coming_end : History → ℤ → ℕ → Node → Option Interval →
 coming_end h now place e None = []
 coming_end h now place e (Some i) = coming_end_at h now place e i.begin i.«end»
 
--- a repeat, where the simple duration is above 0 and the iteration ends, at a number, before the play's intermediate end
+-- a repeat, where the simple duration is above 0 and the iteration ends, at a number,
+-- before the play's intermediate end
 abbrev pub coming_repeat_at : History → ℤ → ℕ → Node → Time → Time → List DueChange
 coming_repeat_at h now place e simple (At over) =
     if not (time_le simple (At (pos 0)))
-    && not (time_le (intermediate_end (bounds_of e.attrs) simple (play_start h e.serial) (iteration_start h e.serial) (iteration h e.serial)) (At over))
+    && not (time_le (intermediate_end (bounds_of e.attrs) simple (play_start h e.serial)
+    (iteration_start h e.serial) (iteration h e.serial)) (At over))
     then coming_at (now +ℤ (over -ℤ run h e.serial now)) 1 place e (repeats over) ∷ []
     else []
 coming_repeat_at h now place e simple _ = []
@@ -72,7 +76,8 @@ coming_repeat h intervals now place e =
     (later_time (simple_of h intervals e) (iteration_start h e.serial))
     else []
 
--- what comes of an element: its begin or its end while the time parent's clock runs, and its repeat while it is active
+-- what comes of an element: its begin or its end while the time parent's clock runs,
+-- and its repeat while it is active
 abbrev pub coming_of : History → (ℕ → Option Interval) → ℤ → ℕ → Node → List DueChange
 coming_of h intervals now place e =
     if is_active h.diary e.serial
@@ -98,7 +103,8 @@ keys h now = map (λ (c : DueChange). c.key) (coming h now)
 
 -- among keys of one moment and class: begins earlier in the document first, all others later first
 abbrev pub is_placed_before : Key → Key → Bool
-is_placed_before a b = if a.class == 2 then nat_lt a.position b.position else nat_lt b.position a.position
+is_placed_before a b =
+    if a.class == 2 then nat_lt a.position b.position else nat_lt b.position a.position
 
 -- an end before a repeat of the same element
 abbrev pub is_ordered_before : Key → Key → Bool

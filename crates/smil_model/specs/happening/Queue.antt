@@ -1,4 +1,5 @@
--- SMIL's excl: the classes of its children, the playing child, what is done when another child begins, and the queue.
+-- SMIL's excl: the classes of its children, the playing child,
+-- what is done when another child begins, and the queue.
 use Rattle.std.specs.Prelude.{ℕ, List, [], ◌∷◌, filter, find, fold, position, Bool, not, ◌&&◌, ◌==◌, nat_lt, nat_le, if◌then◌else◌, Option, Some, None, unwrap_or}
 use Rattle.smil_model.specs.declared.diary.Entry.{Entry}
 use Rattle.smil_model.specs.declared.diary.Step.{Step}
@@ -26,7 +27,8 @@ class_of nodes serial = class_if nodes (parent_of nodes (node_at nodes serial))
 abbrev pub place_of : List Node → Option Node → ℕ
 place_of nodes None = 0
 place_of nodes (Some n) =
-    unwrap_or (position (λ (m : Node). m.serial == n.serial) (filter (λ (m : Node). m.parent == n.parent) nodes)) 0
+    unwrap_or (position (λ (m : Node). m.serial == n.serial)
+    (filter (λ (m : Node). m.parent == n.parent) nodes)) 0
 
 -- the rank of a child: the place of its class
 abbrev pub rank : List Node → ℕ → ℕ
@@ -41,8 +43,8 @@ class_facts nodes serial = record {
   lower = lower_of (class_of nodes serial);
 }
 
--- the class of the playing child decides: `peers` for a newcomer of the same rank, `higher` for one of a class earlier in
--- the document, `lower` for one of a later class
+-- the class of the playing child decides: `peers` for a newcomer of the same rank,
+-- `higher` for one of a class earlier in the document, `lower` for one of a later class
 abbrev pub decide_by : Class → ℕ → Act
 decide_by playing newcomer =
     if newcomer == playing.rank then playing.peers
@@ -59,7 +61,8 @@ is_playing diary n = is_active diary n.serial && not (is_paused diary n.serial)
 abbrev pub playing_child : History → ℕ → Option Node
 playing_child h excl = find (is_playing h.diary) (time_children h.nodes excl)
 
--- ---- the queue, by class: earlier ones first, paused children before all of their class, deferred ones behind
+-- ---- the queue, by class: earlier ones first, paused children before all of their class,
+-- deferred ones behind
 
 abbrev pub put_paused : List Node → ℕ → List ℕ → List ℕ
 put_paused nodes serial [] = serial ∷ []
@@ -83,7 +86,8 @@ is_child_of nodes excl serial = has_serial excl (time_parent nodes serial)
 abbrev pub queue_after : List Node → ℕ → List ℕ → Step → List ℕ
 queue_after nodes excl queue (Began who begin) = if who == excl then [] else without who queue
 queue_after nodes excl queue (Repeated who start) = if who == excl then [] else queue
-queue_after nodes excl queue (Paused who) = if is_child_of nodes excl who then put_paused nodes who (without who queue) else queue
+queue_after nodes excl queue (Paused who) =
+    if is_child_of nodes excl who then put_paused nodes who (without who queue) else queue
 queue_after nodes excl queue (Deferred who begin) =
     if is_child_of nodes excl who then put_deferred nodes who (without who queue) else queue
 queue_after nodes excl queue (Resumed who) = without who queue

@@ -74,13 +74,16 @@ after_steps c (suc k) p = option_map_or (λ q. after_steps c k q) (next_step c p
 abbrev pub Reaches : Course → Progress → Type 0
 Reaches c p = (k : ℕ) × (after_steps c k outset ≡ p)
 
--- each step appends an entry or takes the next moment, so the resolution has ended or has too many entries by then
+-- each step appends an entry or takes the next moment,
+-- so the resolution has ended or has too many entries by then
 abbrev pub resolved : Course → Progress
 resolved c = after_steps c (suc (DIARY_ENTRIES + c.last)) outset
 
--- the diary of the course, where it has no more entries than so many, which are not more than may be
+-- the diary of the course, where it has no more entries than so many,
+-- which are not more than may be
 abbrev pub diary_within : ℕ → Course → Option (List Entry)
-diary_within entries c = if nat_le (length (resolved c).diary) entries then Some (resolved c).diary else None
+diary_within entries c =
+    if nat_le (length (resolved c).diary) entries then Some (resolved c).diary else None
 
 -- the diary of the course, where it has no more entries than may be
 abbrev pub diary_of : Course → Option (List Entry)

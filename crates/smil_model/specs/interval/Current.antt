@@ -36,7 +36,8 @@ use Rattle.smil_model.specs.interval.Intervals.{interval_of}
 
 -- a length that the log tells of the element's media
 abbrev pub logged_length : ℕ → Happening → Option Time → Option Time
-logged_length serial (happening.Media who length) before = if who == serial then Some (At length) else before
+logged_length serial (happening.Media who length) before =
+    if who == serial then Some (At length) else before
 logged_length serial (happening.Event who name) before = before
 logged_length serial (happening.Key key) before = before
 
@@ -51,7 +52,8 @@ length_after log serial before _ = before
 -- the last length in the diary for the element, or unresolved
 abbrev pub media_length : History → ℕ → Time
 media_length h serial =
-    unwrap_or (fold (λ before (x : Entry). length_after h.log serial before x.step) None h.diary) Unresolved
+    unwrap_or (fold
+    (λ before (x : Entry). length_after h.log serial before x.step) None h.diary) Unresolved
 
 abbrev pub finish_time : FinishedInterval → Time
 finish_time f = At f.finish.value
@@ -60,8 +62,9 @@ abbrev pub is_named_child : Option Endsync → Node → Bool
 is_named_child (Some (Child id)) c = has_id id c.attrs.id
 is_named_child _ c = false
 
--- the first end of a time child: of its first finished interval, or else of its current one; and its latest end: of its
--- current interval, or unresolved while it is deferred, or else of its last finished one
+-- the first end of a time child: of its first finished interval, or else of its current one;
+-- and its latest end: of its current interval, or unresolved while it is deferred,
+-- or else of its last finished one
 abbrev pub child_end : History → (ℕ → Option Interval) → Node → Node → ChildEnd
 child_end h intervals e c =
     let coming = option_map (λ (i : Interval). i.«end») (intervals c.serial) in
@@ -70,7 +73,8 @@ child_end h intervals e c =
       named = is_named_child e.attrs.endsync c;
       first = option_or (option_map finish_time (first_of done)) coming;
       latest =
-          option_or coming (if is_deferred h c.serial then Some Unresolved else option_map finish_time (last_or None done));
+          option_or coming (if is_deferred h c.serial then Some Unresolved
+          else option_map finish_time (last_or None done));
     }
 
 -- the implicit duration of a container, unresolved while it is not active
@@ -81,7 +85,8 @@ container_implicit h intervals e =
     (map (child_end h intervals e) (time_children h.nodes e.serial))
     else Unresolved
 
--- the implicit duration: 0 for still media, indefinite for a set, and the length that the diary tells for continuous media
+-- the implicit duration: 0 for still media, indefinite for a set,
+-- and the length that the diary tells for continuous media
 abbrev pub implicit_of : History → (ℕ → Option Interval) → Node → Kind → Time
 implicit_of h intervals e kind.Par = container_implicit h intervals e
 implicit_of h intervals e kind.Seq = container_implicit h intervals e
@@ -153,7 +158,8 @@ facts_of h intervals now e = record {
 -- the interval of an element, given those of the others
 abbrev pub interval_given : History → (ℕ → Option Interval) → ℤ → Node → Option Interval
 interval_given h intervals now e =
-    interval_of (facts_of h intervals now e) (begin_times h intervals now e) (end_times h intervals now e)
+    interval_of (facts_of h intervals now e) (begin_times h intervals now e)
+    (end_times h intervals now e)
 
 -- ---- rounds
 

@@ -1,4 +1,5 @@
--- SMIL's simple, intermediate and active duration of an element, and the implicit duration of a container.
+-- SMIL's simple, intermediate and active duration of an element,
+-- and the implicit duration of a container.
 use Rattle.std.specs.Prelude.{ℕ, ◌*◌, ℤ, pos, neg_ℤ, ◌+ℤ◌, ◌-ℤ◌, List, [], ◌∷◌, map, filter_map, if◌then◌else◌, Option, Some, None, unwrap_or, find}
 use Rattle.std.specs.List.{reduce}
 use Rattle.smil_model.specs.declared.times.Time.{Time}
@@ -25,7 +26,8 @@ stated_duration _ = Indefinite
 
 -- the simple duration: what `dur` states, or the implicit duration
 abbrev pub simple_duration : Attrs → Time → Time
-simple_duration attrs implicit = if takes_implicit attrs attrs.dur then implicit else stated_duration attrs.dur
+simple_duration attrs implicit =
+    if takes_implicit attrs attrs.dur then implicit else stated_duration attrs.dur
 
 -- ---- the intermediate and the active duration
 
@@ -50,7 +52,8 @@ iterated (count.Thousandths k) done simple = thousandths_of (pos k -ℤ pos (100
 iterated count.Indefinite done Unresolved = Unresolved
 iterated count.Indefinite done _ = Indefinite
 
--- the least of the repeat count's and the repeat duration's, and the simple duration where neither is given
+-- the least of the repeat count's and the repeat duration's,
+-- and the simple duration where neither is given
 abbrev pub repeated_duration : Option Count → Option Time → Time → Time
 repeated_duration None None simple = simple
 repeated_duration (Some c) None simple = iterated c 0 simple
@@ -60,7 +63,8 @@ repeated_duration (Some c) (Some d) simple = least_time (iterated c 0 simple) d
 -- the intermediate duration; a simple duration of 0 isn't repeated
 abbrev pub intermediate_duration : Bounds → Time → Time
 intermediate_duration bounds simple =
-    if time_eq simple (At (pos 0)) then At (pos 0) else repeated_duration bounds.count bounds.repeat_dur simple
+    if time_eq simple (At (pos 0)) then At (pos 0)
+    else repeated_duration bounds.count bounds.repeat_dur simple
 
 -- a time no later than `max` after `start`; an indefinite `max` sets no bound
 abbrev pub at_most : Time → ℤ → Time → Time
@@ -79,7 +83,8 @@ active_duration bounds simple = within_bounds bounds (pos 0) (intermediate_durat
 
 -- ---- the end of an active element, on its own clock
 
--- the intermediate end of a play that began at `first`, in the iteration number `done` that started at `start`
+-- the intermediate end of a play that began at `first`,
+-- in the iteration number `done` that started at `start`
 abbrev pub repeated_end : Option Count → Option Time → Time → ℤ → ℤ → ℕ → Time
 repeated_end None None simple first start done = later_time simple start
 repeated_end (Some c) None simple first start done = later_time (iterated c done simple) start
@@ -94,11 +99,13 @@ intermediate_end bounds simple first start done =
 
 -- the active end: the intermediate one, between `min` and `max` after the play start
 abbrev pub active_end : Bounds → Time → ℤ → ℤ → ℕ → Time
-active_end bounds simple first start done = within_bounds bounds first (intermediate_end bounds simple first start done)
+active_end bounds simple first start done =
+    within_bounds bounds first (intermediate_end bounds simple first start done)
 
 -- ---- endsync
 
--- `last`: the greatest latest end; children with none don't count, and the play start is it where none counts
+-- `last`: the greatest latest end; children with none don't count,
+-- and the play start is it where none counts
 abbrev pub last_end : ℤ → List ChildEnd → Time
 last_end start children =
     unwrap_or (reduce greatest_time (filter_map (λ (c : ChildEnd). c.latest) children)) (At start)
@@ -106,13 +113,15 @@ last_end start children =
 -- `all`: the greatest latest end, none counting as unresolved
 abbrev pub all_end : List ChildEnd → Time
 all_end children =
-    unwrap_or (reduce greatest_time (map (λ (c : ChildEnd). unwrap_or c.latest Unresolved) children)) Unresolved
+    unwrap_or (reduce greatest_time
+    (map (λ (c : ChildEnd). unwrap_or c.latest Unresolved) children)) Unresolved
 
 -- `first`: the least first end, none counting as unresolved
 abbrev pub first_end : List ChildEnd → Time
 first_end children = least_of (map (λ (c : ChildEnd). unwrap_or c.first Unresolved) children)
 
--- an id: the first end of that child, none counting as unresolved; an id that names no time child acts as `last`
+-- an id: the first end of that child, none counting as unresolved;
+-- an id that names no time child acts as `last`
 abbrev pub named_end : ℤ → List ChildEnd → Option ChildEnd → Time
 named_end start children None = last_end start children
 named_end start children (Some c) = unwrap_or c.first Unresolved
@@ -127,14 +136,15 @@ abbrev pub endsync_end : Endsync → ℤ → List ChildEnd → Time
 endsync_end Last start children = last_end start children
 endsync_end First start children = first_end children
 endsync_end All start children = all_end children
-endsync_end (Child id) start children = named_end start children (find (λ (c : ChildEnd). c.named) children)
+endsync_end (Child id) start children =
+    named_end start children (find (λ (c : ChildEnd). c.named) children)
 
 abbrev pub children_end : Kind → Endsync → ℤ → List ChildEnd → Time
 children_end Seq endsync start children = seq_end children
 children_end _ endsync start children = endsync_end endsync start children
 
--- the implicit duration of an active container: 0 without time children, and else where they end, less the play start
--- and not below 0
+-- the implicit duration of an active container: 0 without time children, and else where they end,
+-- less the play start and not below 0
 abbrev pub container_duration : Kind → Endsync → ℤ → List ChildEnd → Time
 container_duration kind endsync start [] = At (pos 0)
 container_duration kind endsync start (c ∷ cs) =

@@ -38,7 +38,8 @@ edge_time h e x offset moment End (Cut who) =
     if who == x then Some (within_horizon (outer h e moment +ℤ offset)) else None
 edge_time h e x offset moment _ _ = None
 
--- the times of the begins, or of the ends and cuts, of x that stand after the birth of e or after that of x
+-- the times of the begins, or of the ends and cuts, of x that stand after the birth of e or after
+-- that of x
 abbrev pub happened_times : History → ℕ → ℕ → ℤ → Edge → List Time
 happened_times h e x offset edge =
     filter_map
@@ -68,7 +69,8 @@ expected_times h intervals now e x offset edge =
 -- a looped reference gives its times only once they have happened
 abbrev pub sync_times : History → (ℕ → Option Interval) → ℤ → ℕ → ℕ → ℤ → Edge → Bool → List Time
 sync_times h intervals now e x offset edge looped =
-    happened_times h e x offset edge ++ (if looped then [] else expected_times h intervals now e x offset edge)
+    happened_times h e x offset edge
+    ++ (if looped then [] else expected_times h intervals now e x offset edge)
 
 -- ---- events
 
@@ -82,7 +84,8 @@ abbrev pub is_log_event : ℕ → List ℕ → Option LogEntry → Bool
 is_log_event x name None = false
 is_log_event x name (Some entry) = is_named x name entry.what
 
--- whether the step is an occurrence of the named event on x: a logged one, or one that its begins, ends and repeats raise
+-- whether the step is an occurrence of the named event on x: a logged one, or one that its begins,
+-- ends and repeats raise
 abbrev pub is_event : List LogEntry → ℕ → List ℕ → Step → Bool
 is_event log x name (Logged place) = is_log_event x name (slice_get log place)
 is_event log x name (Began who begin) = (who == x) && bytes_eq name (codes "beginEvent")
@@ -123,9 +126,10 @@ is_same_event nodes e (Repeat a n o) (Repeat b n' o') =
 is_same_event nodes e (Key key o) (Key key' o') = key == key'
 is_same_event nodes e _ _ = false
 
--- SMIL's event sensitivity: an element that is not active hears its begin items alone; an active one that may always
--- restart hears its begin items, and those end items that are for no event of a begin item; any other active one hears its
--- end items alone
+-- SMIL's event sensitivity: an element that is not active hears its begin items alone;
+-- an active one that may always restart hears its begin items,
+-- and those end items that are for no event of a begin item;
+-- any other active one hears its end items alone
 abbrev pub is_sensitive : Bool → Restart → Edge → Bool → Bool
 is_sensitive false restart Begin doubled = true
 is_sensitive false restart End doubled = false
@@ -134,7 +138,8 @@ is_sensitive true Always End doubled = not doubled
 is_sensitive true _ Begin doubled = false
 is_sensitive true _ End doubled = true
 
--- whether the element hears an event for this item, by what has happened before it: it is alive, and its outer clock runs
+-- whether the element hears an event for this item, by what has happened before it: it is alive,
+-- and its outer clock runs
 abbrev pub hears : History → Node → Edge → Item → Bool
 hears past e side item =
     is_alive past e.serial
@@ -164,13 +169,15 @@ repeat_times h e side item offset n (Some x) =
 
 -- ---- items and lists
 
--- an offset counts from the play start of the time parent; in a child of a seq other than the first, from the end of the
--- child before
+-- an offset counts from the play start of the time parent;
+-- in a child of a seq other than the first, from the end of the child before
 abbrev pub offset_times : History → (ℕ → Option Interval) → ℤ → ℕ → ℤ → Option Node → List Time
 offset_times h intervals now e offset None = within_horizon (parent_start h e +ℤ offset) ∷ []
-offset_times h intervals now e offset (Some before) = sync_times h intervals now e before.serial offset End false
+offset_times h intervals now e offset (Some before) =
+    sync_times h intervals now e before.serial offset End false
 
-abbrev pub named_times : History → (ℕ → Option Interval) → ℤ → ℕ → ℤ → Edge → Option Node → List Time
+abbrev pub named_times :
+    History → (ℕ → Option Interval) → ℤ → ℕ → ℤ → Edge → Option Node → List Time
 named_times h intervals now e offset edge None = []
 named_times h intervals now e offset edge (Some x) =
     sync_times h intervals now e x.serial offset edge (leads_to h.nodes e x.serial)
@@ -197,7 +204,8 @@ begin_times h intervals now e =
 
 -- the end instance times, in rising order
 abbrev pub end_times : History → (ℕ → Option Interval) → ℤ → Node → List Time
-end_times h intervals now e = rising_times (flat_map (item_times h intervals now e End) (end_list e))
+end_times h intervals now e =
+    rising_times (flat_map (item_times h intervals now e End) (end_list e))
 
 -- ---- what the diary alone gives, without current intervals
 

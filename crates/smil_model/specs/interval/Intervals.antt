@@ -28,8 +28,8 @@ abbrev pub ended_at : Option Interval → Time → Bool
 ended_at None t = false
 ended_at (Some i) t = time_eq i.«end» t
 
--- an end instance counts where it is not before the begin; one equal to the begin does not count where the last
--- finished interval ended there
+-- an end instance counts where it is not before the begin;
+-- one equal to the begin does not count where the last finished interval ended there
 abbrev pub counts_from : Option Interval → ℤ → Time → Bool
 counts_from last b t = time_le (At b) t && not (time_eq t (At b) && ended_at last t)
 
@@ -41,12 +41,15 @@ abbrev pub is_hearing : EndList → Bool
 is_hearing Hearing = true
 is_hearing _ = false
 
--- the limit that the end list sets: the least end instance that counts, or the begin plus `min` if that is greater. Where
--- none counts there is no limit, which unresolved stands for, if the element is active, the list has an event, repeat or
--- access key item, or the list gives no instance at all; otherwise no interval begins there
+-- the limit that the end list sets: the least end instance that counts,
+-- or the begin plus `min` if that is greater. Where none counts there is no limit,
+-- which unresolved stands for, if the element is active, the list has an event,
+-- repeat or access key item, or the list gives no instance at all;
+-- otherwise no interval begins there
 abbrev pub limit_of : Facts → ℤ → List Time → List Time → Option Time
 limit_of facts b ends [] =
-    if is_some facts.play || is_hearing facts.end_list || not (has_any ends) then Some Unresolved else None
+    if is_some facts.play || is_hearing facts.end_list || not (has_any ends) then Some Unresolved
+    else None
 limit_of facts b ends (t ∷ ts) =
     Some (greatest_time (least_of (t ∷ ts)) (within_horizon (b +ℤ facts.min)))
 
@@ -71,14 +74,16 @@ next_begin _ begins b = Unresolved
 abbrev pub play_end : Facts → Option ℤ → Play → Time
 play_end facts None play = Unresolved
 play_end facts (Some shift) play =
-    later_time (active_end (bounds_in facts) facts.simple play.first play.start play.iteration) shift
+    later_time
+    (active_end (bounds_in facts) facts.simple play.first play.start play.iteration) shift
 
 -- the end by the duration: of an element that is not active, the begin plus the active duration
 abbrev pub duration_end : Facts → Option Play → ℤ → Time
 duration_end facts None b = later_time (active_duration (bounds_in facts) facts.simple) b
 duration_end facts (Some play) b = play_end facts play.shift play
 
--- the end of an interval that begins at b: the least of the end by the duration, the end limit and the next begin;
+-- the end of an interval that begins at b: the least of the end by the duration,
+-- the end limit and the next begin;
 -- nothing where no interval begins there
 abbrev pub interval_end : Facts → List ℤ → List Time → ℤ → Option Time
 interval_end facts begins ends b =
@@ -99,12 +104,15 @@ abbrev pub is_from : Option Time → ℤ → Bool
 is_from None b = true
 is_from (Some from) b = time_le from (At b)
 
--- a first interval is accepted where its end is after the parent's play start, or where begin and end both equal it
+-- a first interval is accepted where its end is after the parent's play start,
+-- or where begin and end both equal it
 abbrev pub is_accepted : ℤ → ℤ → Time → Bool
-is_accepted start b end' = not (time_le end' (At start)) || (time_eq end' (At start) && time_eq end' (At b))
+is_accepted start b end' =
+    not (time_le end' (At start)) || (time_eq end' (At start) && time_eq end' (At b))
 
--- what comes of a begin instance: the search goes on, or it is over. The rest of the search stands in a function of its
--- own, `unless_over`, so that it is computed only where it goes on
+-- what comes of a begin instance: the search goes on, or it is over.
+-- The rest of the search stands in a function of its own, `unless_over`,
+-- so that it is computed only where it goes on
 pub data Attempt : Type 0 where
   goes_on : Option Time → Attempt
   is_over : Option Interval → Attempt
@@ -123,7 +131,8 @@ abbrev pub unless_over : Attempt → (Option Time → Option Interval) → Optio
 unless_over (goes_on from) rest = rest from
 unless_over (is_over found) rest = found
 
--- the first interval: the least begin is taken, and after one that is not accepted the least begin from its end on
+-- the first interval: the least begin is taken, and after one that is not accepted the least begin
+-- from its end on
 abbrev pub first_from : Facts → (ℤ → Option Time) → Option Time → List ℤ → Option Interval
 first_from facts end_of from [] = None
 first_from facts end_of from (b ∷ bs) =
@@ -146,10 +155,12 @@ abbrev pub may_restart : Restart → Bool
 may_restart Never = false
 may_restart _ = true
 
--- the first interval where none has finished since birth, and else the next one; with restart `never` there is no next one
+-- the first interval where none has finished since birth, and else the next one;
+-- with restart `never` there is no next one
 abbrev pub coming_interval : Facts → List ℤ → List Time → Option Interval → Option Interval
 coming_interval facts begins ends None =
-    first_from facts (interval_end facts begins ends) None (filter (counts_after facts.passed) begins)
+    first_from facts (interval_end facts begins ends) None
+    (filter (counts_after facts.passed) begins)
 coming_interval facts begins ends (Some last) =
     if may_restart facts.restart
     then next_from (interval_end facts begins ends) (after_end last.begin last.«end»)
@@ -158,11 +169,12 @@ coming_interval facts begins ends (Some last) =
 
 abbrev pub interval_by : Facts → List ℤ → List Time → Option Play → Option Interval
 interval_by facts begins ends (Some play) =
-    option_map (λ end'. record { begin = play.begin; «end» = end' }) (interval_end facts begins ends play.begin)
+    option_map (λ end'. record { begin = play.begin; «end» = end' })
+    (interval_end facts begins ends play.begin)
 interval_by facts begins ends None =
     if facts.alive && not facts.deferred then coming_interval facts begins ends facts.last else None
 
--- the interval of an element: that of its present play where it is active, and the first or next one where it is alive and
--- neither active nor deferred
+-- the interval of an element: that of its present play where it is active,
+-- and the first or next one where it is alive and neither active nor deferred
 abbrev pub interval_of : Facts → List ℤ → List Time → Option Interval
 interval_of facts begins ends = interval_by facts begins ends facts.play

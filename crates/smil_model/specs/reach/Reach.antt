@@ -1,4 +1,5 @@
--- Which elements an entry can concern: all whose times may follow from those of its element, or from its key.
+-- Which elements an entry can concern: all whose times may follow from those of its element,
+-- or from its key.
 use Rattle.std.specs.Prelude.{ℕ, List, [], filter, Bool, false, ◌&&◌, ◌||◌, ◌==◌, Option, Some, None, slice_get, if◌then◌else◌, is_some}
 use Rattle.std.specs.List.{list_any}
 use Rattle.smil_model.specs.declared.diary.Entry.{Entry}
@@ -26,7 +27,8 @@ is_event_of nodes e x _ = false
 
 -- whether the times of e follow from those of x, or e hears events of x
 abbrev pub reads_node : List Node → ℕ → Node → Bool
-reads_node nodes x e = feeds_node nodes x e || list_any (is_event_of nodes e.serial x) (all_items nodes e)
+reads_node nodes x e =
+    feeds_node nodes x e || list_any (is_event_of nodes e.serial x) (all_items nodes e)
 
 -- whether y reads x
 abbrev pub reads : List Node → ℕ → ℕ → Bool
@@ -87,7 +89,8 @@ abbrev pub waiters : List Node → ℕ → List ℕ
 waiters nodes key =
     serials (filter (λ (e : Node). list_any (is_key_item key) (all_items nodes e)) (elements nodes))
 
--- the reach of a key: the smallest set that has these and, with each member, the elements that read it
+-- the reach of a key: the smallest set that has these and, with each member,
+-- the elements that read it
 abbrev pub down_key : List Node → ℕ → List ℕ
 down_key nodes key = closure (reads nodes) (serials (elements nodes)) (waiters nodes key)
 

@@ -33,7 +33,8 @@ abbrev pub load_text : Presentation → List ℕ
 load_text loaded = flat_map (change_text loaded.document.nodes) (changes_of_load loaded)
 
 abbrev pub gone_text : Presentation → Presentation → List ℕ
-gone_text before after = flat_map (λ (n : Node). gone_line (pos after.now) (name_of n)) (gone_elements before after)
+gone_text before after =
+    flat_map (λ (n : Node). gone_line (pos after.now) (name_of n)) (gone_elements before after)
 
 abbrev pub history_text : Presentation → Option Node → List ℕ
 history_text p None = []
@@ -44,7 +45,8 @@ history_text p (Some n) =
 
 -- the value that a set sets, and how it is named
 abbrev pub value_of : List Node → ℕ → List ℕ
-value_of nodes setter = option_map_or (λ (n : Node). unwrap_or n.attrs.to []) (node_at nodes setter) []
+value_of nodes setter =
+    option_map_or (λ (n : Node). unwrap_or n.attrs.to []) (node_at nodes setter) []
 
 -- each attribute of a target that is set, by the top of its stack
 abbrev pub top_text : List Node → ℕ → List ℕ → List ℕ → List ℕ
@@ -54,12 +56,14 @@ top_text nodes target name (setter ∷ below) =
 
 abbrev pub values_on : List Node → List (ℕ × Layer) → Node → List ℕ
 values_on nodes all target =
-    flat_map (λ name. top_text nodes target.serial name (stack_of all target.serial name)) (names_on all target.serial)
+    flat_map (λ name. top_text nodes target.serial name (stack_of all target.serial name))
+    (names_on all target.serial)
 
 -- targets in document order
 abbrev pub values_text : Presentation → List ℕ
 values_text p =
-    let all = layers p.document.nodes (views_of p) in flat_map (values_on p.document.nodes all) p.document.nodes
+    let all = layers p.document.nodes (views_of p) in
+    flat_map (values_on p.document.nodes all) p.document.nodes
 
 -- the stack of an attribute of a node, from the top down
 abbrev pub stack_text : Presentation → List ℕ → Option Node → List ℕ
@@ -72,19 +76,23 @@ stack_text p name (Some target) =
 -- the document with its serials, the diary entry by entry, and the moment
 abbrev pub diary_text : Formats → Presentation → List ℕ
 diary_text formats p =
-    formats.saved p.document ++ outline_end ++ flat_map (entry_line p.log) (resolved_history p).diary ++ now_line (pos p.now)
+    formats.saved p.document ++ outline_end
+    ++ flat_map (entry_line p.log) (resolved_history p).diary ++ now_line (pos p.now)
 
--- the text of an accepted order, but for its last line: the elements that are gone, then the changes; or what the order
--- asks for
+-- the text of an accepted order, but for its last line: the elements that are gone,
+-- then the changes; or what the order asks for
 abbrev pub answer_text : Formats → Presentation → Presentation → Order → List ℕ
-answer_text formats before after (order.History who) = history_text after (node_of after.document.nodes who)
+answer_text formats before after (order.History who) =
+    history_text after (node_of after.document.nodes who)
 answer_text formats before after order.Text = formats.outline after.document.nodes
 answer_text formats before after order.Save = formats.saved after.document
 answer_text formats before after order.Diary = diary_text formats after
 answer_text formats before after order.Values = values_text after
-answer_text formats before after (order.Stack who name) = stack_text after name (node_of after.document.nodes who)
+answer_text formats before after (order.Stack who name) =
+    stack_text after name (node_of after.document.nodes who)
 answer_text formats before after given =
-    gone_text before after ++ flat_map (change_text after.document.nodes) (changes_of before after given)
+    gone_text before after
+    ++ flat_map (change_text after.document.nodes) (changes_of before after given)
 
 -- ---- what may be ordered
 
@@ -99,11 +107,13 @@ abbrev pub IsName : Who → Type 0
 IsName (Id id) = IsText id
 IsName (Serial serial) = Unit {0}
 
--- an order's moments and lengths are clock values, and its event and its key are such as a line may name
+-- an order's moments and lengths are clock values, and its event and its key are such as a line may
+-- name
 abbrev pub IsGiven : Order → Type 0
 IsGiven (order.Advance by) = is_clock by ≡ true
 IsGiven (order.Seek to) = is_clock to ≡ true
-IsGiven (order.Event who name) = IsName who × ((is_event_name name && not (is_raised_name name)) ≡ true)
+IsGiven (order.Event who name) =
+    IsName who × ((is_event_name name && not (is_raised_name name)) ≡ true)
 IsGiven (order.Media who length) = IsName who × (is_clock length ≡ true)
 IsGiven (order.Key key) = is_key key ≡ true
 IsGiven (order.Set who name value name_column column) =
@@ -122,13 +132,15 @@ IsGiven (order.Stack who name) = IsName who × IsText name
 -- ---- the answer
 
 -- an accepted order gives this state and this text
-pub record Accepts (formats : Formats) (before after : Presentation) (given : Order) (text : List ℕ) : Type 0 where
+pub record Accepts
+    (formats : Formats) (before after : Presentation) (given : Order) (text : List ℕ) : Type 0 where
   pub state : outcome formats before given ≡ Ok after
   pub answer : text ≡ answer_text formats before after given
 
 -- an order is refused for its first fault, or because memory ran out
 abbrev pub Refuses : Formats → Presentation → Order → Refusal → Type 0
-Refuses formats before given refusal = (refusal ≡ Memory) ⊎ (outcome formats before given ≡ Err refusal)
+Refuses formats before given refusal =
+    (refusal ≡ Memory) ⊎ (outcome formats before given ≡ Err refusal)
 
 -- ---- how often intervals are evaluated
 
@@ -142,7 +154,8 @@ abbrev pub AtMost : Option ℕ → ℕ → Type 0
 AtMost None rise = Unit {0}
 AtMost (Some most) rise = rise ≤ most
 
--- a refusal for another cause than a full diary or memory that ran out evaluates nothing, where the player tells a bound
+-- a refusal for another cause than a full diary or memory that ran out evaluates nothing,
+-- where the player tells a bound
 abbrev pub MayEvaluate : Option ℕ → Refusal → ℕ → Type 0
 MayEvaluate None refusal rise = Unit {0}
 MayEvaluate (Some most) refusal rise = (refusal ≡ DiaryFull) ⊎ ((refusal ≡ Memory) ⊎ (rise ≡ 0))

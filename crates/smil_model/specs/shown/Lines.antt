@@ -60,7 +60,8 @@ shown_text shown.Standing = codes "?"
 -- a changed view: moment, element, state, begin, end, iteration, finished intervals
 abbrev pub change_line : ℤ → Who → View → List ℕ
 change_line moment name view =
-    line_of (signed_decimal moment ∷ reference_text name ∷ state_text view.state ∷ shown_text view.begin
+    line_of (signed_decimal moment ∷ reference_text name ∷ state_text view.state
+    ∷ shown_text view.begin
     ∷ shown_text view.«end» ∷ decimal view.iteration ∷ decimal view.finished ∷ [])
 
 -- an element that was removed
@@ -75,7 +76,8 @@ how_text how.Playing = codes "playing"
 -- an interval of an element
 abbrev pub interval_line : Who → Shown → Shown → How → List ℕ
 interval_line name begin finish how =
-    line_of (reference_text name ∷ codes "from" ∷ shown_text begin ∷ codes "to" ∷ shown_text finish ∷ how_text how ∷ [])
+    line_of (reference_text name ∷ codes "from" ∷ shown_text begin ∷ codes "to" ∷ shown_text finish
+    ∷ how_text how ∷ [])
 
 -- an attribute that is set, with its value, and the set that gives it
 abbrev pub quoted : List ℕ → List ℕ
@@ -97,7 +99,8 @@ serial_text serial = reference_text (Serial serial)
 -- what came from outside
 abbrev pub happening_words : Happening → List (List ℕ)
 happening_words (happening.Event who name) = codes "event" ∷ serial_text who ∷ name ∷ []
-happening_words (happening.Media who length) = codes "media" ∷ serial_text who ∷ signed_decimal length ∷ []
+happening_words (happening.Media who length) =
+    codes "media" ∷ serial_text who ∷ signed_decimal length ∷ []
 happening_words (happening.Key key) = codes "key" ∷ (key ∷ []) ∷ []
 
 abbrev pub logged_words : Option LogEntry → List (List ℕ)
@@ -107,13 +110,16 @@ logged_words (Some entry) = happening_words entry.what
 -- a step: its word, the element, and its value on its clock
 abbrev pub step_words : List LogEntry → Step → List (List ℕ)
 step_words log (step.Began who begin) = codes "began" ∷ serial_text who ∷ signed_decimal begin ∷ []
-step_words log (step.Repeated who start) = codes "repeated" ∷ serial_text who ∷ signed_decimal start ∷ []
+step_words log (step.Repeated who start) =
+    codes "repeated" ∷ serial_text who ∷ signed_decimal start ∷ []
 step_words log (step.Ended who end') = codes "ended" ∷ serial_text who ∷ signed_decimal end' ∷ []
 step_words log (step.Cut who) = codes "cut" ∷ serial_text who ∷ []
 step_words log (step.Paused who) = codes "paused" ∷ serial_text who ∷ []
 step_words log (step.Resumed who) = codes "resumed" ∷ serial_text who ∷ []
-step_words log (step.Deferred who begin) = codes "deferred" ∷ serial_text who ∷ signed_decimal begin ∷ []
-step_words log (step.Passed who begin) = codes "passed" ∷ serial_text who ∷ signed_decimal begin ∷ []
+step_words log (step.Deferred who begin) =
+    codes "deferred" ∷ serial_text who ∷ signed_decimal begin ∷ []
+step_words log (step.Passed who begin) =
+    codes "passed" ∷ serial_text who ∷ signed_decimal begin ∷ []
 step_words log (step.Logged place) = logged_words (slice_get log place)
 
 abbrev pub entry_line : List LogEntry → Entry → List ℕ
@@ -128,7 +134,8 @@ now_line now = line_of (codes "now" ∷ signed_decimal now ∷ [])
 
 -- ---- the last line of an answer
 
--- the end of an accepted answer: the number of the order's first line, the presentation's name and its moment
+-- the end of an accepted answer: the number of the order's first line,
+-- the presentation's name and its moment
 abbrev pub ok_line : ℕ → List ℕ → ℤ → List ℕ
 ok_line line name now = line_of (codes "ok" ∷ decimal line ∷ name ∷ signed_decimal now ∷ [])
 
@@ -207,7 +214,9 @@ abbrev pub column_words : Option ℕ → List (List ℕ)
 column_words None = []
 column_words (Some column) = decimal column ∷ []
 
--- a refused order: the number of the line where the fault stands, the refusal's word, and its column if it has one
+-- a refused order: the number of the line where the fault stands, the refusal's word,
+-- and its column if it has one
 abbrev pub refusal_line : ℕ → Refusal → List ℕ
 refusal_line line refusal =
-    line_of (codes "!" ∷ decimal line ∷ refusal_text refusal ∷ column_words (refusal_column refusal))
+    line_of (codes "!" ∷ decimal line ∷ refusal_text refusal
+    ∷ column_words (refusal_column refusal))

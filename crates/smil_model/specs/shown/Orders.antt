@@ -1,4 +1,5 @@
--- What an order makes of a presentation: the new state, or the first refusal that holds; and the views that it changes.
+-- What an order makes of a presentation: the new state, or the first refusal that holds;
+-- and the views that it changes.
 use Rattle.std.specs.Prelude.{◌≡◌, ℕ, zero, suc, ◌+◌, pos, int_le, List, [], ◌∷◌, ◌++◌, length, map, filter, find, Bool, true, false, not, ◌&&◌, ◌||◌, ◌==◌, nat_lt, nat_le, if◌then◌else◌, Option, Some, None, is_some, Result, Ok, Err, unwrap_or, nat_abs}
 use Rattle.smil_model.specs.declared.times.TheConstants.{HORIZON}
 use Rattle.smil_model.specs.declared.limits.TheConstants.{LOG_ENTRIES, DEPTH, SERIALS}
@@ -39,7 +40,8 @@ pub record Presentation : Type 0 where
   pub log : List LogEntry
   pub now : ℕ
 
--- a state: a valid document, a log no entry of which is later than the moment, and a moment up to the horizon
+-- a state: a valid document, a log no entry of which is later than the moment,
+-- and a moment up to the horizon
 pub record IsState (p : Presentation) : Type 0 where
   pub document : IsValid p.document
   pub log : is_log p.log ≡ true
@@ -55,7 +57,8 @@ as_of p moment = record { document = p.document; log = p.log; now = moment }
 
 -- what has happened by the present moment, with the diary made anew from the document and the log
 abbrev pub resolved_history : Presentation → History
-resolved_history p = record { nodes = p.document.nodes; log = p.log; diary = (resolved (course_of p)).diary }
+resolved_history p =
+    record { nodes = p.document.nodes; log = p.log; diary = (resolved (course_of p)).diary }
 
 -- the views at the present moment
 abbrev pub views_of : Presentation → List View
@@ -117,7 +120,8 @@ changes_between before after = at_moment after.now (changed (views_of before) (v
 abbrev pub changes_of_load : Presentation → List (ℕ × View)
 changes_of_load loaded = at_moment loaded.now (changed [] (views_of loaded))
 
--- the changes of an accepted order; `show` tells every view, and orders that tell something else change nothing
+-- the changes of an accepted order; `show` tells every view,
+-- and orders that tell something else change nothing
 abbrev pub changes_of : Presentation → Presentation → Order → List (ℕ × View)
 changes_of before after (Advance by) = changes_through before (nat_abs by)
 changes_of before after Show = at_moment after.now (views_of after)
@@ -132,7 +136,8 @@ changes_of before after _ = changes_between before after
 -- the elements that an order removed, in the old document order
 abbrev pub gone_elements : Presentation → Presentation → List Node
 gone_elements before after =
-    filter (λ (n : Node). not (is_some (node_at after.document.nodes n.serial))) (elements before.document.nodes)
+    filter (λ (n : Node). not (is_some (node_at after.document.nodes n.serial)))
+    (elements before.document.nodes)
 
 -- ---- refusals
 
@@ -159,14 +164,16 @@ unless_too_full allowed p = kept_where p (diary_within allowed.entries (course_o
 abbrev pub at_moment_with : Limits → Presentation → ℕ → List LogEntry → Result Presentation Refusal
 at_moment_with allowed p moment log =
     and_then
-    (unless (not (int_le (pos moment) HORIZON)) BeyondHorizon (record { document = p.document; log = log; now = moment }))
+    (unless (not (int_le (pos moment) HORIZON)) BeyondHorizon
+    (record { document = p.document; log = log; now = moment }))
     (unless_too_full allowed)
 
 -- the clock moves on by so many milliseconds
 abbrev pub advanced : Limits → Presentation → ℕ → Result Presentation Refusal
 advanced allowed p by = at_moment_with allowed p (p.now + by) p.log
 
--- a seek to a later moment plays through; one to an earlier moment removes the log entries later than its target
+-- a seek to a later moment plays through; one to an earlier moment removes the log entries later
+-- than its target
 abbrev pub after_seek : Limits → Presentation → ℕ → Result Presentation Refusal
 after_seek allowed p to =
     at_moment_with allowed p to (filter (λ (entry : LogEntry). int_le entry.moment (pos to)) p.log)
@@ -193,14 +200,17 @@ found None = Err NoElement
 found (Some n) = Ok n
 
 -- goes on with that node, where there is one
-abbrev pub on_node : {A : Type 0} → Presentation → Who → (Node → Result A Refusal) → Result A Refusal
+abbrev pub on_node :
+    {A : Type 0} → Presentation → Who → (Node → Result A Refusal) → Result A Refusal
 on_node p who next = and_then (found (node_of p.document.nodes who)) next
 
 -- ---- edits of the document
 
--- how values and node lines are read, and how the outline is written; columns are counted from 1 in the order's line
+-- how values and node lines are read, and how the outline is written;
+-- columns are counted from 1 in the order's line
 pub record Formats : Type 0 where
-  -- the attribute of a node of this kind under this parent, by its name and its value, with the columns of both
+  -- the attribute of a node of this kind under this parent, by its name and its value,
+  -- with the columns of both
   pub read_attr : Kind → Option Kind → List ℕ → List ℕ → ℕ → ℕ → Result Attr Refusal
   -- the name of an attribute of a node of this kind, with its column
   pub read_name : Kind → List ℕ → ℕ → Result AttrName Refusal
@@ -221,18 +231,23 @@ id_in _ = None
 abbrev pub set_checked : Limits → Document → Node → Attr → Result Document Refusal
 set_checked allowed document n given =
     and_then
-    (unless (is_id_taken document.nodes n.serial (id_in given)) DuplicateId (attr_set document n.serial given))
-    (λ (after : Document). unless (nat_lt allowed.references (references after.nodes)) TooManyReferences after)
+    (unless (is_id_taken document.nodes n.serial (id_in given)) DuplicateId
+    (attr_set document n.serial given))
+    (λ (after : Document). unless
+    (nat_lt allowed.references (references after.nodes)) TooManyReferences after)
 
-abbrev pub attr_set_by : Limits → Formats → Document → Node → List ℕ → List ℕ → ℕ → ℕ → Result Document Refusal
+abbrev pub attr_set_by :
+    Limits → Formats → Document → Node → List ℕ → List ℕ → ℕ → ℕ → Result Document Refusal
 attr_set_by allowed formats document n name value name_column value_column =
     and_then
-    (formats.read_attr n.kind (kind_of (node_at document.nodes n.parent)) name value name_column value_column)
+    (formats.read_attr n.kind
+    (kind_of (node_at document.nodes n.parent)) name value name_column value_column)
     (set_checked allowed document n)
 
 abbrev pub attr_unset_by : Formats → Document → Node → List ℕ → ℕ → Result Document Refusal
 attr_unset_by formats document n name column =
-    and_then (formats.read_name n.kind name column) (λ given. Ok (attr_unset document n.serial given))
+    and_then (formats.read_name n.kind name column)
+    (λ given. Ok (attr_unset document n.serial given))
 
 -- a place among the children of a node, from 1 to one more than they are
 abbrev pub is_place : List Node → ℕ → ℕ → Bool
@@ -245,26 +260,32 @@ may_insert document p place kind =
     (unless (not (nat_lt (suc (depth_of document.nodes p.serial)) DEPTH)) TooDeep kind)
     (λ k.
     unless
-    (not (is_place document.nodes p.serial place && may_stand (Some p.kind) k && agree_with document.nodes p.serial k))
+    (not (is_place document.nodes p.serial place && may_stand (Some p.kind) k
+    && agree_with document.nodes p.serial k))
     BadPlace
     k)
 
--- refused where another node has the id, where there are too many nodes or no serial is left, or where too many items
--- refer to something
+-- refused where another node has the id, where there are too many nodes or no serial is left,
+-- or where too many items refer to something
 abbrev pub insert_checked : Limits → Document → ℕ → ℕ → Kind → Attrs → Result Document Refusal
 insert_checked allowed document parent place kind attrs =
     and_then
-    (unless (is_id_taken document.nodes document.next attrs.id) DuplicateId (node_inserted document parent place kind attrs))
+    (unless (is_id_taken document.nodes document.next attrs.id) DuplicateId
+    (node_inserted document parent place kind attrs))
     (λ (after : Document).
     and_then
-    (unless (nat_lt allowed.nodes (length after.nodes) || nat_le SERIALS document.next) TooManyElements after)
-    (λ (checked : Document). unless (nat_lt allowed.references (references checked.nodes)) TooManyReferences checked))
+    (unless (nat_lt allowed.nodes (length after.nodes)
+    || nat_le SERIALS document.next) TooManyElements after)
+    (λ (checked : Document). unless
+    (nat_lt allowed.references (references checked.nodes)) TooManyReferences checked))
 
-abbrev pub node_inserted_by : Limits → Formats → Document → Node → ℕ → List ℕ → ℕ → Result Document Refusal
+abbrev pub node_inserted_by :
+    Limits → Formats → Document → Node → ℕ → List ℕ → ℕ → Result Document Refusal
 node_inserted_by allowed formats document p place line column =
     and_then
     (and_then (formats.read_kind line column) (may_insert document p place))
-    (λ kind. and_then (formats.read_attrs p.kind line column) (insert_checked allowed document p.serial place kind))
+    (λ kind. and_then (formats.read_attrs p.kind line column)
+    (insert_checked allowed document p.serial place kind))
 
 -- the root stays
 abbrev pub node_removed_from : Document → Node → Result Document Refusal
@@ -272,13 +293,15 @@ node_removed_from document n = unless (n.parent == 0) Root (node_removed documen
 
 -- an edited document is resolved from moment 0, with the same log
 abbrev pub resolved_with : Limits → Presentation → Document → Result Presentation Refusal
-resolved_with allowed p document = unless_too_full allowed (record { document = document; log = p.log; now = p.now })
+resolved_with allowed p document =
+    unless_too_full allowed (record { document = document; log = p.log; now = p.now })
 
 -- ---- orders
 
 -- a load opens a presentation at moment 0 with an empty log
 abbrev pub opened_within : Limits → Document → Result Presentation Refusal
-opened_within allowed document = unless_too_full allowed (record { document = document; log = []; now = 0 })
+opened_within allowed document =
+    unless_too_full allowed (record { document = document; log = []; now = 0 })
 
 -- the new state within limits, or the first refusal that holds
 abbrev pub outcome_within : Limits → Formats → Presentation → Order → Result Presentation Refusal
@@ -287,7 +310,8 @@ outcome_within allowed formats p (Seek to) = after_seek allowed p (nat_abs to)
 outcome_within allowed formats p (order.Event who name) =
     on_node p who
     (λ (n : Node).
-    and_then (unless (not (is_element n)) BadPlace n) (λ (e : Node). with_logged allowed p (happening.Event e.serial name)))
+    and_then (unless (not (is_element n)) BadPlace n)
+    (λ (e : Node). with_logged allowed p (happening.Event e.serial name)))
 outcome_within allowed formats p (order.Media who length) =
     on_node p who
     (λ (n : Node).
@@ -297,12 +321,15 @@ outcome_within allowed formats p (order.Media who length) =
 outcome_within allowed formats p (order.Key key) = with_logged allowed p (happening.Key key)
 outcome_within allowed formats p (Set who name value name_column value_column) =
     on_node p who
-    (λ n. and_then (attr_set_by allowed formats p.document n name value name_column value_column) (resolved_with allowed p))
+    (λ n. and_then (attr_set_by allowed formats p.document n name value name_column value_column)
+    (resolved_with allowed p))
 outcome_within allowed formats p (Unset who name column) =
-    on_node p who (λ n. and_then (attr_unset_by formats p.document n name column) (resolved_with allowed p))
+    on_node p who
+    (λ n. and_then (attr_unset_by formats p.document n name column) (resolved_with allowed p))
 outcome_within allowed formats p (Insert who place line column) =
     on_node p who
-    (λ n. and_then (node_inserted_by allowed formats p.document n place line column) (resolved_with allowed p))
+    (λ n. and_then (node_inserted_by allowed formats p.document n place line column)
+    (resolved_with allowed p))
 outcome_within allowed formats p (Remove who) =
     on_node p who (λ n. and_then (node_removed_from p.document n) (resolved_with allowed p))
 outcome_within allowed formats p Show = Ok p

@@ -37,7 +37,8 @@ layer_by place _ _ _ = None
 abbrev pub layer_of : List Node → View → Node → Option Layer
 layer_of nodes view n =
     if is_set_kind n.kind && contributes view.state && is_some n.attrs.to
-    then layer_by (place_in nodes n.serial) (target_by nodes n.serial n.attrs.target_element) n.attrs.attribute_name
+    then layer_by (place_in nodes n.serial)
+    (target_by nodes n.serial n.attrs.target_element) n.attrs.attribute_name
     (begin_shown view.begin)
     else None
 
@@ -50,7 +51,8 @@ with_setter setter (Some layer) = Some (setter, layer)
 abbrev pub layers : List Node → List View → List (ℕ × Layer)
 layers nodes views =
     filter_map
-    (λ (v : View). with_setter v.serial (option_and_then (layer_of nodes v) (node_at nodes v.serial)))
+    (λ (v : View). with_setter v.serial
+    (option_and_then (layer_of nodes v) (node_at nodes v.serial)))
     views
 
 -- the greater begin stands above, and of equal ones the later in the document
@@ -71,7 +73,8 @@ layers_on all target name =
 
 -- the stack of an attribute of a target: its sets from the top down
 abbrev pub stack_of : List (ℕ × Layer) → ℕ → List ℕ → List ℕ
-stack_of all target name = map (λ (l : ℕ × Layer). l.0) (fold put_layer [] (layers_on all target name))
+stack_of all target name =
+    map (λ (l : ℕ × Layer). l.0) (fold put_layer [] (layers_on all target name))
 
 -- ---- the attributes that are set
 
@@ -80,9 +83,11 @@ abbrev pub put_name : List (List ℕ) → List ℕ → List (List ℕ)
 put_name [] name = name ∷ []
 put_name (other ∷ others) name =
     let rest = put_name others name in
-    match_ordering (slice_cmp nat_cmp name other) (name ∷ other ∷ others) (other ∷ others) (other ∷ rest)
+    match_ordering (slice_cmp nat_cmp name other)
+    (name ∷ other ∷ others) (other ∷ others) (other ∷ rest)
 
 -- the attributes of a target that are set, in the order of their bytes
 abbrev pub names_on : List (ℕ × Layer) → ℕ → List (List ℕ)
 names_on all target =
-    fold put_name [] (map (λ (l : ℕ × Layer). (l.1).attr) (filter (λ (l : ℕ × Layer). (l.1).target == target) all))
+    fold put_name [] (map (λ (l : ℕ × Layer). (l.1).attr)
+    (filter (λ (l : ℕ × Layer). (l.1).target == target) all))

@@ -1,4 +1,5 @@
--- What is shown of each element at a moment: its state, its times, its iteration and its finished intervals.
+-- What is shown of each element at a moment: its state, its times,
+-- its iteration and its finished intervals.
 use Rattle.std.specs.Prelude.{ℕ, suc, ℤ, pos, ◌+ℤ◌, ◌-ℤ◌, List, [], ◌∷◌, drop, length, map, filter, Bool, true, false, not, ◌&&◌, ◌||◌, ◌==◌, if◌then◌else◌, Option, Some, None, is_some, option_map, option_and_then}
 use Rattle.std.specs.List.{list_any}
 use Rattle.std.specs.Option.{option_map_or}
@@ -26,8 +27,8 @@ use Rattle.smil_model.specs.interval.Current.{current_table, in_table}
 
 -- ---- the view by its facts
 
--- whether the element is frozen: its fill keeps it while its parent is active or frozen, freeze only until it is
--- displaced; or its last interval was cut and its parent is frozen
+-- whether the element is frozen: its fill keeps it while its parent is active or frozen,
+-- freeze only until it is displaced; or its last interval was cut and its parent is frozen
 abbrev pub keeps : Fill → Bool → Bool
 keeps Hold displaced = true
 keeps Freeze displaced = not displaced
@@ -36,12 +37,14 @@ keeps _ displaced = false
 abbrev pub is_frozen_by : ViewFacts → Bool
 is_frozen_by facts =
     is_some facts.last
-    && ((keeps facts.fill facts.displaced && facts.parent_shows) || (facts.cut && facts.parent_frozen))
+    && ((keeps facts.fill facts.displaced && facts.parent_shows)
+    || (facts.cut && facts.parent_frozen))
 
 -- the state of an element that is neither active nor deferred: the first that applies
 abbrev pub resting_state : Bool → Bool → Bool → State
 resting_state frozen waits finished =
-    if frozen then state.Frozen else (if waits then state.Waiting else (if finished then state.Done else state.Idle))
+    if frozen then state.Frozen
+    else (if waits then state.Waiting else (if finished then state.Done else state.Idle))
 
 -- the first state that applies
 abbrev pub state_by : ViewFacts → State
@@ -52,10 +55,11 @@ state_by facts =
     then state.Deferred
     else resting_state (is_frozen_by facts) (is_some facts.interval) (is_some facts.last)
 
--- a value on the time parent's clock is carried to document time at the present moment, and is shown as standing while
--- that clock stands
+-- a value on the time parent's clock is carried to document time at the present moment,
+-- and is shown as standing while that clock stands
 abbrev pub shown_time : ViewFacts → Time → Shown
-shown_time facts (time.At v) = if facts.standing then shown.Standing else shown.At (v +ℤ facts.shift)
+shown_time facts (time.At v) =
+    if facts.standing then shown.Standing else shown.At (v +ℤ facts.shift)
 shown_time facts time.Indefinite = shown.Indefinite
 shown_time facts time.Unresolved = shown.Unresolved
 
@@ -63,18 +67,20 @@ abbrev pub shown_or : {A : Type 0} → (A → Shown) → Option A → Shown
 shown_or of None = shown.Nothing
 shown_or of (Some x) = of x
 
--- idle shows no times, waiting its interval, active and paused the begun value, deferred the deferred begin, frozen and
--- done the last finished interval
+-- idle shows no times, waiting its interval, active and paused the begun value,
+-- deferred the deferred begin, frozen and done the last finished interval
 abbrev pub shown_begin : ViewFacts → State → Shown
 shown_begin facts state.Idle = shown.Nothing
-shown_begin facts state.Waiting = shown_or (λ (i : Interval). shown_time facts (time.At i.begin)) facts.interval
+shown_begin facts state.Waiting =
+    shown_or (λ (i : Interval). shown_time facts (time.At i.begin)) facts.interval
 shown_begin facts state.Active = shown_or shown.At facts.begun
 shown_begin facts state.Paused = shown_or shown.At facts.begun
 shown_begin facts state.Deferred = shown_or shown.At facts.deferred
 shown_begin facts state.Frozen = shown_or (λ (last : ℤ × ℤ). shown.At last.0) facts.last
 shown_begin facts state.Done = shown_or (λ (last : ℤ × ℤ). shown.At last.0) facts.last
 
--- idle and deferred show no end, frozen and done that of the last finished interval, all others the present end
+-- idle and deferred show no end, frozen and done that of the last finished interval,
+-- all others the present end
 abbrev pub shown_end : ViewFacts → State → Shown
 shown_end facts state.Idle = shown.Nothing
 shown_end facts state.Deferred = shown.Nothing
@@ -104,19 +110,23 @@ is_finish serial _ = false
 -- the entries after the last end of the element
 abbrev pub since_finish : List Entry → ℕ → List Entry
 since_finish diary serial =
-    drop (option_map_or suc (last_place (λ (x : Entry). is_finish serial x.step) diary) (length diary)) diary
+    drop (option_map_or suc (last_place (λ (x : Entry). is_finish serial x.step) diary)
+    (length diary)) diary
 
 abbrev pub is_sibling : List Node → Option Node → ℕ → ℕ → Bool
 is_sibling nodes None serial other = false
-is_sibling nodes (Some p) serial other = not (other == serial) && has_serial p.serial (time_parent nodes other)
+is_sibling nodes (Some p) serial other =
+    not (other == serial) && has_serial p.serial (time_parent nodes other)
 
 -- a begin or resume of another child of the same time parent
 abbrev pub sets_off_sibling : List Node → ℕ → Step → Bool
-sets_off_sibling nodes serial (Began who begin) = is_sibling nodes (time_parent nodes serial) serial who
+sets_off_sibling nodes serial (Began who begin) =
+    is_sibling nodes (time_parent nodes serial) serial who
 sets_off_sibling nodes serial (Resumed who) = is_sibling nodes (time_parent nodes serial) serial who
 sets_off_sibling nodes serial _ = false
 
--- a begin of the next child of a seq, which counts as after the end of this one in whichever order the two stand
+-- a begin of the next child of a seq, which counts as after the end of this one in whichever order
+-- the two stand
 abbrev pub begins_next : List Node → ℕ → Step → Bool
 begins_next nodes serial (Began who begin) = has_serial serial (previous_in_seq nodes who)
 begins_next nodes serial _ = false
@@ -125,7 +135,8 @@ begins_next nodes serial _ = false
 abbrev pub is_displaced : History → ℕ → Bool
 is_displaced h serial =
     ((is_in_seq h.nodes serial || is_in_excl h.nodes serial)
-    && list_any (λ (x : Entry). sets_off_sibling h.nodes serial x.step) (since_finish h.diary serial))
+    && list_any (λ (x : Entry). sets_off_sibling h.nodes serial x.step)
+    (since_finish h.diary serial))
     || (is_in_seq h.nodes serial
     && list_any (λ (x : Entry). begins_next h.nodes serial x.step) (since_birth h serial))
 
@@ -148,16 +159,19 @@ was_cut (Some f) = f.was_cut
 
 abbrev pub present_begin : History → ℕ → Option ℤ
 present_begin h serial =
-    if is_active h.diary serial then option_map (document_value h serial) (plays h serial).present else None
+    if is_active h.diary serial then option_map (document_value h serial) (plays h serial).present
+    else None
 
--- the facts of an element, given its current interval, whether its time parent is active or frozen or there is none, and
--- whether the time parent is frozen
+-- the facts of an element, given its current interval,
+-- whether its time parent is active or frozen or there is none,
+-- and whether the time parent is frozen
 abbrev pub view_facts : History → ℤ → Option Interval → Bool → Bool → Node → ViewFacts
 view_facts h now interval parent_shows parent_frozen e = record {
   serial = e.serial;
   active = is_active h.diary e.serial;
   paused = is_paused h.diary e.serial;
-  deferred = option_and_then (λ (x : Entry). deferred_begin h e.serial x.moment x.step) (deferral h e.serial);
+  deferred = option_and_then (λ (x : Entry). deferred_begin h e.serial x.moment x.step)
+      (deferral h e.serial);
   interval = interval;
   begun = present_begin h e.serial;
   last = option_map (finished_values h e.serial) (last_finished h e.serial);

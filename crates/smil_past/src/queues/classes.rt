@@ -16,8 +16,8 @@ pub fn classes_of(alloc: Global, tree: &Tree) -> Result<Vec<Class>, AllocError>
 {
     tree.valid();
     let mut classes = Vec::new(alloc);
-    while let Some(serial) = tree.serial_at(classes.len()) {
-        classes.push(class_of(tree, serial))?;
+    for node in tree.nodes() {
+        classes.push(class_of(tree, node.serial))?;
     }
     Ok(classes)
 }

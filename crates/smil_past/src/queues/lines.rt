@@ -17,10 +17,9 @@ use std::alloc::{AllocError, Global};
 pub fn empty_queues(alloc: Global, tree: &Tree) -> Result<Vec<Queue>, AllocError>
     ensures { IfOk result (λ queues. queues.items ≡ lines tree.now.nodes (λ serial. [])) }
 {
-    tree.valid();
     let mut queues = Vec::new(alloc);
-    while let Some(serial) = tree.serial_at(queues.len()) {
-        queues.push(Queue::new(alloc, time_children_of(tree, serial))?)?;
+    for node in tree.nodes() {
+        queues.push(Queue::new(alloc, time_children_of(tree, node.serial))?)?;
     }
     Ok(queues)
 }

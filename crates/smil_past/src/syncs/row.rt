@@ -20,7 +20,8 @@ impl Model for SyncbaseRow {
 
     ghost Value = { SyncRow };
 
-    ghost view = { λ a. record { serial = a.serial; begins = a.begins.items; ends = a.ends.items } };
+    ghost view = { λ a.
+        record { serial = a.serial; begins = a.begins.items; ends = a.ends.items } };
 }
 
 impl SyncbaseRow {

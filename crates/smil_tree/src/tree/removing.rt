@@ -40,7 +40,7 @@ impl Tree {
         requires parented { is_root (node_at self.old.nodes serial) ≡ false }
         ensures { self.new ≡ node_removed self.old serial }
     {
-        let start = self.nodes.place(serial).unwrap();
+        let start = self.nodes.position(serial).unwrap();
         let end = end_of(&self.nodes, &self.kin, serial);
         let time_parent = element_from(&self.nodes, self.nodes.get(serial).unwrap().parent);
         forget_nodes(&mut self.ids, &self.nodes, start, end);

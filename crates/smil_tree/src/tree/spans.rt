@@ -10,11 +10,12 @@ ghost use Rattle.smil_tree.specs.Kin.{IsKinOf};
 
 use super::Tree;
 use crate::kin::Kin;
-use crate::nodes::Nodes;
+use crate::nodes::{Nodes, Walk};
 
 impl Tree {
     /// The position of a node, from 0, and the one behind the last of its descendants: from the
-    /// first up to the second stand the node and its descendants, and no others. It takes no memory.
+    /// first up to the second stand the node and its descendants, and no others. It takes no
+    /// memory.
     pub fn span(&self, serial: u32) -> (usize, usize)
         requires { IsSome (node_at self.now.nodes serial) }
         ensures places { result ≡ (
@@ -27,9 +28,28 @@ impl Tree {
         ensures below { slice_range self.now.nodes (result.0 + 1) result.1
             ≡ descendants self.now.nodes serial }
     {
-        let start = self.nodes.place(serial).unwrap();
+        let start = self.nodes.position(serial).unwrap();
         let past = end_of(&self.nodes, &self.kin, serial);
         (start, past)
+    }
+
+    /// A node and those below it, in document order. It takes no memory.
+    pub fn within(&self, serial: u32) -> Walk<'_>
+        requires { IsSome (node_at self.now.nodes serial) }
+        ensures { result
+            ≡ filter (λ (n : AnyNode). is_within self.now.nodes serial n.serial) self.now.nodes }
+    {
+        let (start, past) = self.span(serial);
+        self.nodes.between(start, past)
+    }
+
+    /// The nodes below a node, in document order. It takes no memory.
+    pub fn below(&self, serial: u32) -> Walk<'_>
+        requires { IsSome (node_at self.now.nodes serial) }
+        ensures { result ≡ descendants self.now.nodes serial }
+    {
+        let (start, past) = self.span(serial);
+        self.nodes.between(start + 1, past)
     }
 }
 
@@ -44,7 +64,7 @@ pub fn end_of(nodes: &Nodes, kin: &Kin, serial: u32) -> usize
     while let Some(last) = kin.children(at).last() {
         at = *last;
     }
-    nodes.place(at).unwrap() + 1
+    nodes.position(at).unwrap() + 1
 }
 
 /// The position at which a new child of a node comes to stand, to be one of its children at a place
@@ -58,7 +78,7 @@ pub fn position_of_child(nodes: &Nodes, kin: &Kin, parent: u32, place: usize) ->
         (slice_get (children nodes.now parent) (place - 1)) }
 {
     match kin.children(parent).get(place - 1) {
-        Some(child) => nodes.place(*child).unwrap(),
+        Some(child) => nodes.position(*child).unwrap(),
         None => end_of(nodes, kin, parent),
     }
 }

@@ -1,7 +1,10 @@
-use Rattle.std.proofs.Common.{◌≡◌, ◌++◌}
-use Rattle.std.specs.Prelude.{slice_range}
-use Rattle.smil_model.specs.document.Document.{serials}
+use Rattle.std.proofs.Common.{◌≡◌, ◌++◌, filter}
+use Rattle.smil_model.specs.declared.document.Node.{Node}
+use Rattle.smil_model.specs.document.Document.{is_within, serials}
 use Rattle.smil_cells.proofs.touched.touch_within.Given as goal
 
-abbrev pub invariant-loop-position : goal.invariant-loop-position
-invariant-loop-position l = l.touched ≡ l.initial.touched ++ serials (slice_range l.tree.nodes l.start l.position)
+-- what is appended, and the nodes that are left
+abbrev pub invariant-loop-node : goal.invariant-loop-node
+invariant-loop-node l =
+    l.touched ++ serials l.node-iterator
+    ≡ l.initial.touched ++ serials (filter (λ (n : Node). is_within l.tree.nodes l.who n.serial) l.tree.nodes)

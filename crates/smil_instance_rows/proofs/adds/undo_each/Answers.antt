@@ -1,9 +1,9 @@
-use Rattle.std.proofs.Common.{◌≡◌, ◌∙◌, sym, ap, suc, ◌+◌, ◌-◌, ◌<◌, ◌++◌, ◌∷◌, [], length, take, arith}
+use Rattle.std.proofs.Common.{◌≡◌, ◌∙◌, ap, ◌+◌, ◌-◌, ◌++◌, ◌∷◌, [], length, take, arith}
 use Rattle.std.proofs.lemmas.Iterator.Adapters.{YieldsList-from_rev_slice}
 use Rattle.std.proofs.lemmas.Iterator.Consumers.{YieldsList-end, YieldsList-turn}
 use Rattle.std.proofs.lemmas.List.{length-reverse, length-take-le, length_push}
 use Rattle.smil_instance_rows.specs.Changes.{with_adds}
-use Rattle.smil_instance_rows.proofs.Tables.{IsUndoneBy, next_back, undone_by}
+use Rattle.smil_instance_rows.proofs.Tables.{undone_next}
 use Rattle.smil_instance_rows.proofs.adds.undo_each.Goals as goal
 
 pub undo-requires-clause-cell : goal.undo-requires-clause-cell
@@ -12,11 +12,8 @@ undo-requires-clause-cell c =
     let made = c.args.made in
     let n = length c.loop-add.yielded in
     let turn = YieldsList-turn (YieldsList-from_rev_slice (take made adds) (cc)) c.loop-add.yielded _ c.loop-add.yielded_by _ c.next.new.self c.in-Some.add c.in-Some.is c.next.ensures.steps in
-    let next = next_back adds made n c.in-Some.add.now c.requires.made turn in
-    let e : suc (made - 1 - n) ≡ made - n = omega (arith, next.0) in
-    let inside : made - 1 - n < length adds = omega (arith, next.0, c.requires.made) in
-    (undone_by c.loop-add.rows c.requires.some.0 adds (made - 1 - n) c.in-Some.add.now next.1 inside c.requires.some.1.fit
-    (c.loop-add.invariant c.requires.some.0 c.requires.some.1 ∙ ap (λ k. with_adds c.requires.some.0 (take k adds)) (sym e))).has
+    (undone_next c.loop-add.rows c.requires.some.0 adds made n c.in-Some.add.now c.requires.made turn c.requires.some.1.fit
+    (c.loop-add.invariant c.requires.some.0 c.requires.some.1)).has
 
 pub undo-requires-clause-some : goal.undo-requires-clause-some
 undo-requires-clause-some c =
@@ -24,11 +21,8 @@ undo-requires-clause-some c =
     let made = c.args.made in
     let n = length c.loop-add.yielded in
     let turn = YieldsList-turn (YieldsList-from_rev_slice (take made adds) (cc)) c.loop-add.yielded _ c.loop-add.yielded_by _ c.next.new.self c.in-Some.add c.in-Some.is c.next.ensures.steps in
-    let next = next_back adds made n c.in-Some.add.now c.requires.made turn in
-    let e : suc (made - 1 - n) ≡ made - n = omega (arith, next.0) in
-    let inside : made - 1 - n < length adds = omega (arith, next.0, c.requires.made) in
-    (undone_by c.loop-add.rows c.requires.some.0 adds (made - 1 - n) c.in-Some.add.now next.1 inside c.requires.some.1.fit
-    (c.loop-add.invariant c.requires.some.0 c.requires.some.1 ∙ ap (λ k. with_adds c.requires.some.0 (take k adds)) (sym e))).some
+    (undone_next c.loop-add.rows c.requires.some.0 adds made n c.in-Some.add.now c.requires.made turn c.requires.some.1.fit
+    (c.loop-add.invariant c.requires.some.0 c.requires.some.1)).some
 
 pub loop-add-init : goal.loop-add-init
 loop-add-init c = λ before m.
@@ -41,14 +35,10 @@ loop-add-preserved c = λ before m.
     let made = c.args.made in
     let n = length c.loop-add.yielded in
     let turn = YieldsList-turn (YieldsList-from_rev_slice (take made adds) (cc)) c.loop-add.yielded _ c.loop-add.yielded_by _ c.next.new.self c.in-Some.add c.in-Some.is c.next.ensures.steps in
-    let next = next_back adds made n c.in-Some.add.now c.requires.made turn in
-    let e : suc (made - 1 - n) ≡ made - n = omega (arith, next.0) in
-    let inside : made - 1 - n < length adds = omega (arith, next.0, c.requires.made) in
-    let undone : IsUndoneBy c.loop-add.rows before adds (made - 1 - n) c.in-Some.add.now.cell = undone_by c.loop-add.rows before adds (made - 1 - n) c.in-Some.add.now next.1 inside m.fit
-    (c.loop-add.invariant before m ∙ ap (λ k. with_adds before (take k adds)) (sym e)) in
     let more : length (c.loop-add.yielded ++ c.in-Some.add ∷ []) ≡ n + 1 = length_push c.loop-add.yielded c.in-Some.add in
-    let left : made - 1 - n ≡ made - length (c.loop-add.yielded ++ c.in-Some.add ∷ []) = omega (arith, more, next.0) in
-    undone.back c.undo.new.self c.undo.ensures ∙ ap (λ k. with_adds before (take k adds)) left
+    let left : made - 1 - n ≡ made - length (c.loop-add.yielded ++ c.in-Some.add ∷ []) = omega (arith, more) in
+    (undone_next c.loop-add.rows before adds made n c.in-Some.add.now c.requires.made turn m.fit (c.loop-add.invariant before m)).back c.undo.new.self c.undo.ensures
+    ∙ ap (λ k. with_adds before (take k adds)) left
 
 pub returns : goal.returns
 returns c = λ before m.

@@ -1,15 +1,11 @@
 use Rattle.std.proofs.Common.{sym, ◌∙◌, ap, get_or, take, [], ◌∷◌, ◌++◌, Some, None, Vec, Global}
 use Rattle.std.proofs.lemmas.List.{take_all, append-nil}
 use Rattle.smil_instance_rows.specs.declared.cell.Add.{Add}
-use Rattle.smil_instance_rows.specs.declared.cell.Cell.{Cell}
-use Rattle.smil_model.specs.declared.document.Edge.TheVariants.{Begin}
+use Rattle.smil_instance_rows.proofs.Tables.{no_cell}
 use Rattle.smil_instances.specs.Intake.{adds_to, history_of}
 use Rattle.smil_instances.proofs.Gifts.{more_adds}
 use Rattle.smil_instances.proofs.additions.adds_of.Goals as goal
 use Rattle.smil_instances.proofs.additions.adds_of.Goals.{in-Some+in_ok-push, in_default}
-
-abbrev no_cell : Cell
-no_cell = record { row = 0; side = Begin; item = 0 }
 
 pub loop-cell-preserved : goal.loop-cell-preserved
 loop-cell-preserved c = λ before y q.

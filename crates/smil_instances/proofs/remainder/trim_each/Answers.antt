@@ -1,12 +1,8 @@
 use Rattle.std.proofs.Common.{sym, ◌∙◌, ap, get_or}
 use Rattle.std.proofs.lemmas.List.Sums.{fold_more}
-use Rattle.smil_instance_rows.specs.declared.cell.Cell.{Cell}
-use Rattle.smil_model.specs.declared.document.Edge.TheVariants.{Begin}
+use Rattle.smil_instance_rows.proofs.Tables.{no_cell}
 use Rattle.smil_instances.specs.Intake.{history_of, with_remainder}
 use Rattle.smil_instances.proofs.remainder.trim_each.Goals as goal
-
-abbrev no_cell : Cell
-no_cell = record { row = 0; side = Begin; item = 0 }
 
 pub loop-cell-preserved : goal.loop-cell-preserved
 loop-cell-preserved c = record {

@@ -1,14 +1,14 @@
 use Rattle.std.proofs.Common.{◌∙◌, refl, sym, ap}
 use Rattle.smil_shown.specs.ViewTable.{ViewLists}
-use Rattle.smil_live.proofs.Edited.{begins_long, cut_again, where_err}
+use Rattle.smil_shown.proofs.AllViews.{of_nodes}
+use Rattle.smil_live.proofs.EditedPresentations.{begins_long, cut_again, where_err}
 use Rattle.smil_live.proofs.Opened.{told_load}
-use Rattle.smil_live.proofs.Presented.{are_of_nodes}
 use Rattle.smil_live.proofs.TouchedViews.{where_not_err}
 use Rattle.smil_live.proofs.presentation.put_first.Goals as goal
 
 pub put_differences-requires : goal.put_differences-requires
 put_differences-requires g c =
-    are_of_nodes c.args.cells.now.presentation c.args.cells.now c.in_ok-seen.seen c.tree.result.now c.requires.state refl c.in_ok-seen.ensures c.tree.ensures
+    of_nodes c.args.cells.now c.tree.result.now c.in_ok-seen.seen.views c.tree.ensures (ap (λ (x : ViewLists). x.views) c.in_ok-seen.ensures)
 
 pub cut_back-requires : goal.cut_back-requires
 cut_back-requires g c =

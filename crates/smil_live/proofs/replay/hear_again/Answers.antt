@@ -9,10 +9,13 @@ use Rattle.smil_model.specs.happening.Resolution.{diary_of}
 use Rattle.smil_tree.proofs.Results.{on_err}
 use Rattle.smil_cells.specs.CellsState.{with_logged}
 use Rattle.smil_live.specs.Moves.{IsTooFull, heard_at}
-use Rattle.smil_shown.proofs.Ended.{nothing_due}
+use Rattle.smil_shown.proofs.SettledDiaries.{nothing_due}
+use Rattle.smil_live.proofs.CellCounts.{IsCounted}
 use Rattle.smil_live.proofs.RebuiltCounts.{counted_twice}
 use Rattle.smil_live.proofs.Replays.{fits, full_heard, not_below, refused_as}
+use Rattle.smil_live.proofs.replay.hear_again.Given.{Over}
 use Rattle.smil_live.proofs.replay.hear_again.Goals as goal
+use Rattle.smil_live.proofs.replay.hear_again.Goals.{In_ok-hear}
 
 pub hear-requires-clause-settled : goal.hear-requires-clause-settled
 hear-requires-clause-settled g c = λ sound next first.
@@ -45,14 +48,15 @@ returns-in_err-hear-clause-refused g c =
     (refused_as (heard_at s.presentation x) (with_logged c.settle.new.self.presentation again) c.settle.new.self fault c.in_ok-settle.ensures.goes_on.sound c.in_err-hear.ensures.full
     (subst (λ (q : Presentation). diary_of (course_of q) ≡ None) same))
 
-pub returns-clause-most : goal.returns-clause-most
-returns-clause-most g c =
-    (counted_twice g.T.Table.counts c.args.cells.now c.settle.new.self c.hear.new.self (c.in_ok-again.again ∷ []) c.args.steps.now c.settle.new.steps c.hear.new.steps
+-- how often intervals were evaluated
+counted : (g : Over) (c : In_ok-hear g) → IsCounted g.T.Table.counts c.args.cells.now c.hear.new.self c.args.steps.now c.hear.new.steps
+counted g c =
+    counted_twice g.T.Table.counts c.args.cells.now c.settle.new.self c.hear.new.self (c.in_ok-again.again ∷ []) c.args.steps.now c.settle.new.steps c.hear.new.steps
     (ap (λ (p : Presentation). p.document) c.in_ok-settle.ensures.state) (ap (λ (p : Presentation). p.log) c.in_ok-hear.ensures.state) c.in_ok-settle.ensures.settled c.in_ok-settle.ensures.goes_on c.in_ok-hear.ensures.goes_on
-    c.settle.ensures.counted c.hear.ensures.counted c.in_ok-settle.ensures.most c.in_ok-settle.ensures.least c.in_ok-hear.ensures.most c.in_ok-hear.ensures.least).most
+    c.settle.ensures.counted c.hear.ensures.counted c.in_ok-settle.ensures.most c.in_ok-settle.ensures.least c.in_ok-hear.ensures.most c.in_ok-hear.ensures.least
+
+pub returns-clause-most : goal.returns-clause-most
+returns-clause-most g c = (counted g (goal.at.returns-clause-most g c).In_ok-hear).most
 
 pub returns-clause-least : goal.returns-clause-least
-returns-clause-least g c =
-    (counted_twice g.T.Table.counts c.args.cells.now c.settle.new.self c.hear.new.self (c.in_ok-again.again ∷ []) c.args.steps.now c.settle.new.steps c.hear.new.steps
-    (ap (λ (p : Presentation). p.document) c.in_ok-settle.ensures.state) (ap (λ (p : Presentation). p.log) c.in_ok-hear.ensures.state) c.in_ok-settle.ensures.settled c.in_ok-settle.ensures.goes_on c.in_ok-hear.ensures.goes_on
-    c.settle.ensures.counted c.hear.ensures.counted c.in_ok-settle.ensures.most c.in_ok-settle.ensures.least c.in_ok-hear.ensures.most c.in_ok-hear.ensures.least).least
+returns-clause-least g c = (counted g (goal.at.returns-clause-least g c).In_ok-hear).least

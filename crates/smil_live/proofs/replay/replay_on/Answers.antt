@@ -10,11 +10,13 @@ use Rattle.smil_diary.specs.declared.fault.BookFault.TheVariants.{DiaryFull}
 use Rattle.smil_diary.specs.Refusals.{of_book}
 use Rattle.smil_tree.proofs.Results.{on_err}
 use Rattle.smil_live.specs.Moves.{IsTooFull, IsUnderWay, replay_of}
-use Rattle.smil_live.proofs.Counted.{counted_first}
+use Rattle.smil_live.proofs.CellCounts.{IsCounted, counted_first}
 use Rattle.smil_live.proofs.Logs.{all_behind, behind_at}
 use Rattle.smil_live.proofs.RebuiltCounts.{counted_more, named_since, none_since}
 use Rattle.smil_live.proofs.Replays.{arrived, fits, goes_on, heard_within, next_of, not_below, refused_there, too_full}
+use Rattle.smil_live.proofs.replay.replay_on.Given.{Over}
 use Rattle.smil_live.proofs.replay.replay_on.Goals as goal
+use Rattle.smil_live.proofs.replay.replay_on.Goals.{In_ok-settle}
 
 pub slice_bounds-entry-items-start : goal.slice_bounds-entry-items-start
 slice_bounds-entry-items-start g c =
@@ -102,14 +104,15 @@ returns-in_err-settle-clause-refused g c =
     (refused_there p c.requires.state (from + i) s c.loop-entry.invariant.0 (all_behind c.args.replay.log.now c.len-heard.result from i heard c.loop-entry-test.false) fault
     (subst (λ (z : ℤ). fault ≡ DiaryFull → (s.fault ≡ Some fault) ⊎ (diary_of (course_of (as_of s.presentation (nat_abs z))) ≡ None)) there c.in_err-settle.ensures.full))
 
-pub returns-clause-most : goal.returns-clause-most
-returns-clause-most g c =
+-- how often intervals were evaluated
+counted : (g : Over) (c : In_ok-settle g) → IsCounted g.T.Table.counts c.args.cells.now c.settle.new.self c.args.steps.now c.settle.new.steps
+counted g c =
     let mid = c.loop-entry.cells in
-    (counted_more g.T.Table.counts c.args.cells.now mid c.settle.new.self [] c.args.steps.now c.loop-entry.steps c.settle.new.steps c.loop-entry.invariant.0.document_is
-    (ap (λ (q : Presentation). q.log) c.in_ok-settle.ensures.state ∙ sym (append-nil mid.presentation.log)) c.loop-entry.invariant.2 c.loop-entry.invariant.1 c.in_ok-settle.ensures.goes_on.diary c.settle.ensures.counted c.in_ok-settle.ensures.most c.in_ok-settle.ensures.least).most
+    counted_more g.T.Table.counts c.args.cells.now mid c.settle.new.self [] c.args.steps.now c.loop-entry.steps c.settle.new.steps c.loop-entry.invariant.0.document_is
+    (ap (λ (q : Presentation). q.log) c.in_ok-settle.ensures.state ∙ sym (append-nil mid.presentation.log)) c.loop-entry.invariant.2 c.loop-entry.invariant.1 c.in_ok-settle.ensures.goes_on.diary c.settle.ensures.counted c.in_ok-settle.ensures.most c.in_ok-settle.ensures.least
+
+pub returns-clause-most : goal.returns-clause-most
+returns-clause-most g c = (counted g (goal.at.returns-clause-most g c).In_ok-settle).most
 
 pub returns-clause-least : goal.returns-clause-least
-returns-clause-least g c =
-    let mid = c.loop-entry.cells in
-    (counted_more g.T.Table.counts c.args.cells.now mid c.settle.new.self [] c.args.steps.now c.loop-entry.steps c.settle.new.steps c.loop-entry.invariant.0.document_is
-    (ap (λ (q : Presentation). q.log) c.in_ok-settle.ensures.state ∙ sym (append-nil mid.presentation.log)) c.loop-entry.invariant.2 c.loop-entry.invariant.1 c.in_ok-settle.ensures.goes_on.diary c.settle.ensures.counted c.in_ok-settle.ensures.most c.in_ok-settle.ensures.least).least
+returns-clause-least g c = (counted g (goal.at.returns-clause-least g c).In_ok-settle).least

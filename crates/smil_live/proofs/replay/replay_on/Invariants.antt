@@ -1,7 +1,7 @@
 use Rattle.std.proofs.Common.{◌+◌, length, drop}
 use Rattle.smil_laws.specs.Cut.{NamesBelow}
 use Rattle.smil_live.specs.Moves.{IsUnderWay, replay_of}
-use Rattle.smil_live.proofs.Counted.{IsCounted}
+use Rattle.smil_live.proofs.CellCounts.{IsCounted}
 use Rattle.smil_live.proofs.replay.replay_on.Given as goal
 
 abbrev pub invariant-loop-entry : goal.invariant-loop-entry

@@ -2,7 +2,7 @@ use Rattle.std.proofs.Common.{arith}
 use Rattle.smil_model.specs.shown.Answers.{values_on}
 use Rattle.smil_stretch.proofs.Idle.{node_found, node_inside, node_known, none_left}
 use Rattle.smil_model.proofs.Growing.{begins_by}
-use Rattle.smil_shown.proofs.Lined.{lines_all, lines_next}
+use Rattle.smil_shown.proofs.LineTexts.{lines_all, lines_next}
 use Rattle.smil_live.proofs.tells.put_all_values.Goals as goal
 
 pub put_values_on-requires-clause-target : goal.put_values_on-requires-clause-target

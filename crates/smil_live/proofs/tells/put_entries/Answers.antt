@@ -3,7 +3,7 @@ use Rattle.smil_model.specs.declared.diary.Entry.{Entry}
 use Rattle.smil_model.specs.declared.diary.Step.TheVariants.{Began}
 use Rattle.smil_model.specs.shown.Lines.{entry_line}
 use Rattle.smil_model.proofs.Growing.{begins_by}
-use Rattle.smil_shown.proofs.Lined.{begins_more, lines_more}
+use Rattle.smil_shown.proofs.LineTexts.{begins_more, lines_more}
 use Rattle.smil_live.proofs.tells.put_entries.Goals as goal
 
 pub loop-entry-preserved : goal.loop-entry-preserved

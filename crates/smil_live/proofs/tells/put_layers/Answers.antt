@@ -1,13 +1,15 @@
-use Rattle.std.proofs.Common.{◌≡◌, sym, subst, ℕ, List, Some, None, arith}
+use Rattle.std.proofs.Common.{◌≡◌, sym, subst, ℕ, ◌<◌, List, Some, None, arith}
 use Rattle.std.specs.Prelude.{slice_get}
 use Rattle.std.proofs.lemmas.Option.{slice_get_within}
+use Rattle.smil_model.specs.declared.limits.TheConstants.{NODES}
 use Rattle.smil_model.specs.shown.Sandwich.{stack_of}
 use Rattle.smil_model.proofs.Growing.{begins_by}
 use Rattle.smil_cells.proofs.Parting.{no_gap}
 use Rattle.smil_live.specs.Telling.{setter_text}
-use Rattle.smil_shown.proofs.Gathered.{stack_few, stack_known}
-use Rattle.smil_shown.proofs.Lined.{begins_more, lines_all, lines_next}
+use Rattle.smil_shown.proofs.SetLayers.{stack_few, stack_known}
+use Rattle.smil_shown.proofs.LineTexts.{begins_more, lines_all, lines_next}
 use Rattle.smil_live.proofs.tells.put_layers.Goals as goal
+use Rattle.smil_live.proofs.tells.put_layers.Goals.{In-Some}
 
 pub put_setter-requires : goal.put_setter-requires
 put_setter-requires c =
@@ -15,8 +17,9 @@ put_setter-requires c =
     let P : List ℕ → Type 0 = λ name. slice_get (stack_of s.0 c.args.target name) c.loop-setter.k ≡ Some c.in-Some.setter in
     stack_known c.args.document.tree.now.nodes s.0 c.args.target c.args.attr.now c.loop-setter.k c.in-Some.setter s.1.known (subst P c.slice.ensures (sym (c.in-Some.ensures s.0 s.1.are)))
 
-pub overflow_add-k : goal.overflow_add-k
-overflow_add-k c =
+-- a stack is no longer than the document
+below : (c : In-Some) → c.loop-setter.k < NODES
+below c =
     let s = c.requires.setters in
     let within = slice_get_within (stack_of s.0 c.args.target c.slice.result.now) c.loop-setter.k c.in-Some.setter (sym (c.in-Some.ensures s.0 s.1.are)) in
     let few = stack_few s.0 c.args.target c.slice.result.now in
@@ -24,14 +27,11 @@ overflow_add-k c =
     let most = c.valid.ensures.nodes in
     omega arith
 
+pub overflow_add-k : goal.overflow_add-k
+overflow_add-k c = omega (arith, below (goal.at.overflow_add-k c).In-Some)
+
 pub loop-setter-smaller : goal.loop-setter-smaller
-loop-setter-smaller c =
-    let s = c.requires.setters in
-    let within = slice_get_within (stack_of s.0 c.args.target c.slice.result.now) c.loop-setter.k c.in-Some.setter (sym (c.in-Some.ensures s.0 s.1.are)) in
-    let few = stack_few s.0 c.args.target c.slice.result.now in
-    let among = s.1.few in
-    let most = c.valid.ensures.nodes in
-    omega arith
+loop-setter-smaller c = omega (arith, below (goal.at.loop-setter-smaller c).In-Some)
 
 pub loop-setter-preserved : goal.loop-setter-preserved
 loop-setter-preserved c = record {

@@ -1,7 +1,7 @@
 use Rattle.std.proofs.Common.{◌≡◌, sym, subst, ℕ, List, Some}
 use Rattle.std.specs.Prelude.{slice_get}
 use Rattle.smil_model.specs.shown.Sandwich.{stack_of}
-use Rattle.smil_shown.proofs.Gathered.{stack_known}
+use Rattle.smil_shown.proofs.SetLayers.{stack_known}
 use Rattle.smil_live.proofs.tells.put_top.Goals as goal
 
 pub value_of-value-requires : goal.value_of-value-requires

@@ -2,7 +2,7 @@ use Rattle.std.proofs.Common.{◌≡◌, ◌∙◌, ap, ℕ, ◌<◌, List, ◌+
 use Rattle.smil_model.specs.shown.Answers.{top_text}
 use Rattle.smil_model.specs.shown.Sandwich.{names_on, stack_of}
 use Rattle.smil_model.proofs.Growing.{begins_by}
-use Rattle.smil_shown.proofs.Lined.{begins_more, lines_more}
+use Rattle.smil_shown.proofs.LineTexts.{begins_more, lines_more}
 use Rattle.smil_live.proofs.tells.put_values_on.Goals as goal
 
 pub loop-name-preserved : goal.loop-name-preserved

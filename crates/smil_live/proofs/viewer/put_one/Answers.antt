@@ -1,11 +1,11 @@
-use Rattle.std.proofs.Common.{◌≡◌, sym, ◌∙◌, subst, w64, rules}
+use Rattle.std.proofs.Common.{◌≡◌, sym, ◌∙◌, ap, subst, w64, rules}
 use mir.Val.{SFits}
-use Rattle.std.specs.Prelude.{IsSome}
+use Rattle.std.specs.Prelude.{IsSome, is_some}
 use Rattle.std.proofs.lemmas.Int.{to_z-of_z}
 use Rattle.smil_model.specs.document.Document.{Document, elements, node_at}
+use Rattle.smil_instances.proofs.Targets.{element_in}
 use Rattle.smil_tree.proofs.Changed.{serial_of as own_serial}
 use Rattle.smil_shown.specs.ViewTable.{has_view, view_now}
-use Rattle.smil_live.proofs.Touching.{is_node}
 use Rattle.smil_live.proofs.TouchedViews.{no_line, on_line}
 use Rattle.smil_live.proofs.viewer.put_one.Goals as goal
 
@@ -22,7 +22,7 @@ put_view-requires g c =
     let nodes = c.args.cells.now.presentation.document.nodes in
     subst (λ (d : Document). IsSome (node_at d.nodes c.view_in-view.result.serial)) (sym c.tree.ensures)
     (subst (λ v. IsSome (node_at nodes v.serial)) (sym (c.view_in-view.ensures e.0 e.1))
-    (subst (λ s. IsSome (node_at nodes s)) (sym (own_serial (elements nodes) c.args.serial e.0 e.1)) (is_node nodes c.args.serial e.0 e.1)))
+    (subst (λ s. IsSome (node_at nodes s)) (sym (own_serial (elements nodes) c.args.serial e.0 e.1)) (ap is_some (element_in nodes c.args.serial e.0 c.requires.state.document.numbered.distinct e.1))))
 
 pub returns-then-branch-clause-told : goal.returns-then-branch-clause-told
 returns-then-branch-clause-told g c = λ e at.

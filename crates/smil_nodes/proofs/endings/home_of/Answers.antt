@@ -1,10 +1,9 @@
 use Rattle.std.proofs.Common.{◌≡◌, ◌∙◌, ap, sym, subst, ℕ, refl}
 use Rattle.std.specs.Prelude.{Option, IfSome, is_some, true}
-use Rattle.std.proofs.lemmas.Option.{same_Some}
 use Rattle.smil_model.specs.document.Document.{time_children, time_parent}
 use Rattle.smil_model.specs.diary.Lawful.{has_element}
 use Rattle.smil_element.proofs.Told.{parent_known, tree_node}
-use Rattle.smil_cells.proofs.Taking.{found}
+use Rattle.smil_cells.proofs.Taking.{found, has_row}
 use Rattle.smil_nodes.specs.Endings.{HasHome}
 use Rattle.smil_nodes.proofs.Housing.{among_children, is_home}
 use Rattle.smil_instances.proofs.Targets.{element_of}
@@ -22,7 +21,7 @@ unwrap-container-requires c =
     let nodes = c.args.tree.now.nodes in
     let distinct = c.valid.ensures.numbered.distinct in
     let known = subst (λ (o : Option ℕ). IfSome o (λ p. has_element nodes p ≡ true)) c.in_ok-parent.was (parent_known nodes c.args.who c.time_parent.result distinct c.requires.element c.time_parent.ensures) in
-    ap is_some (c.place.ensures ∙ (found nodes c.args.schedule.now c.in_ok-parent.parent distinct c.requires.of_elements known).position_is)
+    ap is_some c.index_of.ensures ∙ has_row nodes c.args.schedule.now c.in_ok-parent.parent distinct c.requires.of_elements known
 
 pub place_among-child-requires : goal.place_among-child-requires
 place_among-child-requires c =
@@ -34,7 +33,6 @@ returns-clause-home c =
     let nodes = c.args.tree.now.nodes in
     let distinct = c.valid.ensures.numbered.distinct in
     let known = subst (λ (o : Option ℕ). IfSome o (λ p. has_element nodes p ≡ true)) c.in_ok-parent.was (parent_known nodes c.args.who c.time_parent.result distinct c.requires.element c.time_parent.ensures) in
-    let above = found nodes c.args.schedule.now c.in_ok-parent.parent distinct c.requires.of_elements known in
+    let above = found nodes c.args.schedule.now c.in_ok-parent.parent distinct c.requires.of_elements known c.unwrap-container.result (sym c.unwrap-container.ensures ∙ c.index_of.ensures) in
     let e = element_of nodes c.args.who c.requires.element in
-    let place : c.unwrap-container.result ≡ above.place = same_Some _ _ (sym c.unwrap-container.ensures ∙ c.place.ensures ∙ above.position_is) in
-    is_home c.args.tree.now c.valid.ensures.numbered c.args.schedule.now c.args.who c.in_ok-parent.parent c.unwrap-container.result c.place_among-child.result e.0 c.time_children.result.now e.1 above place c.time_children.ensures c.place_among-child.ensures
+    is_home c.args.tree.now c.valid.ensures.numbered c.args.schedule.now c.args.who c.in_ok-parent.parent c.unwrap-container.result c.place_among-child.result e.0 c.time_children.result.now e.1 above c.time_children.ensures c.place_among-child.ensures

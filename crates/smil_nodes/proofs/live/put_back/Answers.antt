@@ -8,12 +8,12 @@ use Rattle.smil_nodes.proofs.live.put_back.Goals as goal
 pub returns-in_default-clause-rows : goal.returns-in_default-clause-rows
 returns-in_default-clause-rows c =
     let rows = c.args.schedule.now in
-    let none : position (λ (r : CurrentRow). r.serial == c.args.noted.row.serial) rows ≡ None = sym c.place.ensures ∙ c.in_default.is in
+    let none : position (λ (r : CurrentRow). r.serial == c.args.noted.row.serial) rows ≡ None = sym c.index_of.ensures ∙ c.in_default.is in
     ap (row_put rows c.args.noted.row) (sym none)
 
 pub returns-in_default-clause-ends : goal.returns-in_default-clause-ends
 returns-in_default-clause-ends c =
-    let none : position (λ (r : CurrentRow). r.serial == c.args.noted.row.serial) c.args.schedule.now ≡ None = sym c.place.ensures ∙ c.in_default.is in
+    let none : position (λ (r : CurrentRow). r.serial == c.args.noted.row.serial) c.args.schedule.now ≡ None = sym c.index_of.ensures ∙ c.in_default.is in
     ap (ending_put c.args.endings.now c.args.noted.ending) (sym none)
 
 pub put-requires-clause-index : goal.put-requires-clause-index

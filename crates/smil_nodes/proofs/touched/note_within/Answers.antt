@@ -1,7 +1,8 @@
-use Rattle.std.proofs.Common.{◌≡◌, ◌∙◌, sym, ap, arith, ℕ}
+use Rattle.std.proofs.Common.{◌∙◌, refl, sym, ap, subst, List, []}
 use Rattle.std.specs.Prelude.{is_some}
-use Rattle.smil_cells.proofs.Showing.{at_node, in_order}
-use Rattle.smil_nodes.proofs.Noting.{more_part, no_part, node_known, nothing_within, whole_part}
+use Rattle.smil_model.specs.declared.document.Node.{Node}
+use Rattle.smil_nodes.specs.Noted.{AreNoted, is_self_or_reader}
+use Rattle.smil_nodes.proofs.Noting.{all_within, node_known, none_noted, noted_then, nothing_within, reached_by}
 use Rattle.smil_nodes.proofs.touched.note_within.Goals as goal
 
 pub returns-then-is_none : goal.returns-then-is_none
@@ -9,30 +10,27 @@ returns-then-is_none c =
     nothing_within c.args.graph.now.nodes c.args.graph.now.order c.order_is_kept.ensures c.args.who c.args.agenda.now
     (ap is_some (sym c.place_in_order.ensures) ∙ c.if-is_none.ensures)
 
-pub span-start-requires : goal.span-start-requires
-span-start-requires c =
+pub within-node-items-requires : goal.within-node-items-requires
+within-node-items-requires c =
     node_known c.args.graph.now.nodes c.args.graph.now.order c.order_is_kept.ensures c.args.tree.now.nodes c.args.who c.requires
     (ap is_some (sym c.place_in_order.ensures) ∙ c.if-is_none.ensures)
 
-pub loop-position-init : goal.loop-position-init
-loop-position-init c = no_part c.args.graph.now.nodes c.args.graph.now.order c.span-start.result.0 c.args.agenda.now
+pub loop-node-init : goal.loop-node-init
+loop-node-init c = λ new noted.
+    subst (λ (ns : List Node). AreNoted c.args.graph.now.order (reached_by c.args.graph.now.nodes ns) c.args.agenda.now new) (c.into_iter-node-iterator.ensures.into_iter_gives ∙ c.within-node-items.ensures) noted
 
-pub unwrap-serial-requires : goal.unwrap-serial-requires
-unwrap-serial-requires c =
-    ap is_some c.serial_at.ensures
-    ∙ at_node c.args.tree.now.nodes c.args.who c.span-start.result.0 c.span-start.result.1 (ap (λ (p : ℕ × ℕ). p.0) c.span-start.ensures.places) (ap (λ (p : ℕ × ℕ). p.1) c.span-start.ensures.places) c.loop-position.position c.loop-position-test.true c.span-start.ensures.within
-
-pub loop-position-preserved : goal.loop-position-preserved
-loop-position-preserved c =
-    more_part c.args.graph.now.nodes c.args.graph.now.order c.args.tree.now.nodes c.span-start.result.0 c.loop-position.position c.unwrap-serial.result c.args.agenda.now c.loop-position.agenda c.note_element.new.agenda
-    c.requires c.loop-position.auto.position (sym c.serial_at.ensures ∙ c.unwrap-serial.ensures) c.loop-position.invariant c.in_ok-note_element.ensures
+pub loop-node-preserved : goal.loop-node-preserved
+loop-node-preserved c = λ new noted.
+    let graph = c.args.graph.now in
+    c.loop-node.invariant new
+    (subst (λ (ns : List Node). AreNoted graph.order (reached_by graph.nodes ns) c.loop-node.agenda new) (sym c.in-Some.ensures.steps)
+    (noted_then graph.order (is_self_or_reader graph.nodes c.in-Some.node.now.serial) (reached_by graph.nodes c.next.new.self) c.loop-node.agenda c.note_element.new.agenda new c.in_ok-note_element.ensures noted))
 
 pub returns : goal.returns
 returns c =
-    let rising = in_order c.args.tree.now.nodes c.args.who c.span-start.result.0 c.span-start.result.1 (ap (λ (p : ℕ × ℕ). p.0) c.span-start.ensures.places) (ap (λ (p : ℕ × ℕ). p.1) c.span-start.ensures.places) in
-    let most = c.loop-position.auto.position-end rising in
-    let least = c.loop-position-test.false in
-    let end : c.loop-position.position ≡ c.span-start.result.1 = omega (arith, most, least) in
-    whole_part c.args.graph.now.nodes c.args.graph.now.order c.order_is_kept.ensures c.args.tree.now.nodes c.requires c.valid.ensures.numbered.distinct
-    c.args.who c.span-start.result.0 c.span-start.result.1 c.loop-position.position c.args.agenda.now c.loop-position.agenda
-    (ap is_some (sym c.place_in_order.ensures) ∙ c.if-is_none.ensures) c.span-start.ensures.within end c.loop-position.invariant
+    let graph = c.args.graph.now in
+    all_within graph.nodes graph.order c.order_is_kept.ensures c.args.tree.now.nodes c.requires c.valid.ensures.numbered.distinct c.args.who c.args.agenda.now c.loop-node.agenda
+    (ap is_some (sym c.place_in_order.ensures) ∙ c.if-is_none.ensures)
+    (c.loop-node.invariant c.loop-node.agenda
+    (subst (λ (ns : List Node). AreNoted graph.order (reached_by graph.nodes ns) c.loop-node.agenda c.loop-node.agenda) (sym c.in-None.ensures.steps.0)
+    (none_noted graph.order (reached_by graph.nodes []) c.loop-node.agenda (λ s r at. refl))))

@@ -1,6 +1,11 @@
+use Rattle.std.proofs.Common.{ℕ, List, filter}
+use Rattle.smil_model.specs.declared.document.Node.{Node}
+use Rattle.smil_model.specs.document.Document.{is_within}
 use Rattle.smil_nodes.specs.Noted.{AreNoted}
-use Rattle.smil_nodes.proofs.Noting.{part_test}
+use Rattle.smil_nodes.proofs.Noting.{reached_by}
 use Rattle.smil_nodes.proofs.touched.note_within.Given as goal
 
-abbrev pub invariant-loop-position : goal.invariant-loop-position
-invariant-loop-position l = AreNoted l.graph.order (part_test l.graph.nodes l.graph.order l.start l.position) l.initial.agenda l.agenda
+-- with what is left listed besides, all is
+abbrev pub invariant-loop-node : goal.invariant-loop-node
+invariant-loop-node l = (new : List ℕ) → AreNoted l.graph.order (reached_by l.graph.nodes l.node-iterator) l.agenda new
+    → AreNoted l.graph.order (reached_by l.graph.nodes (filter (λ (n : Node). is_within l.tree.nodes l.who n.serial) l.tree.nodes)) l.initial.agenda new

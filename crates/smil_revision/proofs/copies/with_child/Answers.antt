@@ -13,6 +13,7 @@ use Rattle.smil_revision.specs.Editing.{at_node}
 use Rattle.smil_revision.specs.Refusing.{of_outcome}
 use Rattle.smil_revision.proofs.Copying.{attrs_unread, inserted_read, kind_given, kind_unread, may_bear_read, misplaced, outcome_refuses}
 use Rattle.smil_revision.proofs.copies.with_child.Goals as goal
+use Rattle.smil_revision.proofs.copies.with_child.Goals.{After-insert}
 
 pub returns-in_default-clause-err : goal.returns-in_default-clause-err
 returns-in_default-clause-err c =
@@ -47,19 +48,21 @@ insert-requires c =
     may_bear_read c.args.tree.now c.args.parent c.args.child.place c.args.child.line.text.now c.args.child.line.column c.in_ok-kind.kind c.requires.known c.in_ok-kind.ensures
     c.in_ok-may_insert.ensures c.kind.result c.kind.ensures c.in_ok-edited.edited c.in_ok-attrs.attrs c.in_ok-edited.ensures c.in_ok-attrs.ensures
 
-pub returns-clause-ok : goal.returns-clause-ok
-returns-clause-ok c =
+-- what the edit comes to once the line is read
+outcome : (c : After-insert) → at_node c.args.tree.now.nodes c.args.parent (λ p. node_inserted_by limits formats c.args.tree.now p c.args.child.place c.args.child.line.text.now c.args.child.line.column)
+    ≡ of_outcome (insert_outcome c.args.tree.now c.args.parent c.args.child.place c.in_ok-kind.kind c.in_ok-attrs.attrs)
+outcome c =
     inserted_read c.args.tree.now c.args.parent c.args.child.place c.args.child.line.text.now c.args.child.line.column c.in_ok-kind.kind c.requires.known c.in_ok-kind.ensures
     c.in_ok-may_insert.ensures c.kind.result c.kind.ensures c.in_ok-attrs.attrs c.in_ok-attrs.ensures
+
+pub returns-clause-ok : goal.returns-clause-ok
+returns-clause-ok c =
+    outcome (goal.at.returns-clause-ok c).After-insert
     ∙ ap of_outcome (subst (λ (d : Document). insert_outcome d c.args.parent c.args.child.place c.in_ok-kind.kind c.in_ok-attrs.attrs ≡ Ok c.insert.new.self) c.in_ok-edited.ensures c.in_ok-insert.ensures.ok)
 
 pub returns-in_err-insert-clause-err : goal.returns-in_err-insert-clause-err
 returns-in_err-insert-clause-err c =
     let fault = c.in_err-insert.field-0.0 in
     on_err _ c.from_residual-in_err-insert.result (of_tree fault) c.from_residual-in_err-insert.ensures.1
-    (outcome_refuses (at_node c.args.tree.now.nodes c.args.parent (λ p. node_inserted_by limits formats c.args.tree.now p c.args.child.place c.args.child.line.text.now c.args.child.line.column))
-    (insert_outcome c.args.tree.now c.args.parent c.args.child.place c.in_ok-kind.kind c.in_ok-attrs.attrs) fault (of_tree fault)
-    (inserted_read c.args.tree.now c.args.parent c.args.child.place c.args.child.line.text.now c.args.child.line.column c.in_ok-kind.kind c.requires.known c.in_ok-kind.ensures
-    c.in_ok-may_insert.ensures c.kind.result c.kind.ensures c.in_ok-attrs.attrs c.in_ok-attrs.ensures)
-    refl
+    (outcome_refuses _ (insert_outcome c.args.tree.now c.args.parent c.args.child.place c.in_ok-kind.kind c.in_ok-attrs.attrs) fault (of_tree fault) (outcome (goal.at.returns-in_err-insert-clause-err c).After-insert) refl
     (subst (λ (d : Document). IsFaultOf (insert_outcome d c.args.parent c.args.child.place c.in_ok-kind.kind c.in_ok-attrs.attrs) fault) c.in_ok-edited.ensures c.in_err-insert.ensures.err))

@@ -8,7 +8,8 @@ use Rattle.smil_model.specs.diary.Diary.{last_moment}
 use Rattle.smil_laws.specs.Near.{IsTimeNear}
 use Rattle.smil_instances.proofs.Sums.{moment_fits}
 use Rattle.smil_cells.specs.CellsState.{history_of}
-use Rattle.smil_shown.proofs.Presently.{is_moment, running_shown, settled_late, standing_shown, sum_shown}
+use Rattle.smil_shown.proofs.PresentMoments.{is_moment, settled_late}
+use Rattle.smil_shown.proofs.PresentPlays.{running_shown, standing_shown, sum_shown}
 use Rattle.smil_shown.proofs.intervals.end_shown.Goals as goal
 
 pub returns-in-At : goal.returns-in-At

@@ -6,8 +6,8 @@ use Rattle.smil_tree.proofs.Changed.{serial_of as own_serial}
 use Rattle.smil_model.proofs.Growing.{begins_by}
 use Rattle.smil_cells.specs.CellsState.{history_of}
 use Rattle.smil_shown.specs.Histories.{end_at, present_line}
-use Rattle.smil_shown.proofs.Lined.{begins_either}
-use Rattle.smil_shown.proofs.Presently.{told_all}
+use Rattle.smil_shown.proofs.LineTexts.{begins_either}
+use Rattle.smil_shown.proofs.PresentPlays.{told_all}
 use Rattle.smil_shown.proofs.intervals.put_intervals.Goals as goal
 
 pub follow_all-requires-clause-may : goal.follow_all-requires-clause-may

@@ -1,6 +1,6 @@
 use Rattle.std.proofs.Common.{◌≡◌, List, ℕ, false, ap, sym, ◌∙◌}
 use Rattle.smil_gen.specs.Session.{session_text}
-use Rattle.smil_top.proofs.Telling.{summed}
+use Rattle.smil_top.proofs.SessionEnds.{summed}
 use Rattle.smil_top.proofs.generated.summary_of.Goals as goal
 
 pub returns-clause-summary : goal.returns-clause-summary

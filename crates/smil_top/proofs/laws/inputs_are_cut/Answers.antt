@@ -1,4 +1,4 @@
-use Rattle.smil_top.proofs.Parted.{inputs_cut}
+use Rattle.smil_top.proofs.InputParts.{inputs_cut}
 use Rattle.smil_top.proofs.laws.inputs_are_cut.Goals as goal
 
 pub returns : goal.returns

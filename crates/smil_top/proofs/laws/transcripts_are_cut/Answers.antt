@@ -1,4 +1,4 @@
-use Rattle.smil_top.proofs.Parted.{has_front, front_and_one, any_part}
+use Rattle.smil_top.proofs.InputParts.{has_front, front_and_one, any_part}
 use Rattle.smil_top.proofs.laws.transcripts_are_cut.Goals as goal
 
 pub returns-clause-fronts : goal.returns-clause-fronts

@@ -1,7 +1,6 @@
 use Rattle.std.proofs.Common.{◌≡◌, ◌+◌, ◌≤◌, sym, ap, subst, ◌∙◌, Some, length, take, insert, arith}
 use Rattle.std.specs.Prelude.{slice_get, find}
 use Rattle.std.proofs.lemmas.List.{length-take-le}
-use Rattle.std.proofs.lemmas.Option.{slice_get-get_or}
 use Rattle.smil_model.specs.document.Document.{node_at, is_element, serial_of}
 use Rattle.smil_model.specs.document.Edits.{children}
 use Rattle.smil_laws.specs.Edited.{IsOrdered}
@@ -10,14 +9,14 @@ use Rattle.smil_tree.specs.Kin.{IsKinOf}
 use Rattle.smil_tree.proofs.Cuts.{get_inserted}
 use Rattle.smil_tree.proofs.Families.{above_of, node_of_place}
 use Rattle.smil_tree.proofs.KinCallers.{ordered_take, leaf_at}
-use Rattle.smil_tree.proofs.Making.{fresh_at, taken_more}
+use Rattle.smil_tree.proofs.Making.{item_at, fresh_at, taken_more}
 use Rattle.smil_tree.proofs.Putting.{back}
 use Rattle.smil_tree.proofs.tree.take_in.Goals as goal
 
 pub insert-requires-clause-fresh : goal.insert-requires-clause-fresh
 insert-requires-clause-fresh c =
     let node = c.node-item.result in
-    let at : slice_get c.args.doc.now.nodes c.loop-position.position ≡ Some node = ap (λ ns. slice_get ns c.loop-position.position) (sym c.nodes-node-items.ensures) ∙ slice_get-get_or c.nodes-node-items.result.now c.loop-position.position node c.loop-position-test.true ∙ ap Some (sym c.node-item.is) in
+    let at = item_at c.args.doc.now.nodes c.nodes-node-items.result.now c.loop-position.position node c.nodes-node-items.ensures c.loop-position-test.true c.node-item.is in
     ap (λ ns. node_at ns c.in_ok-copy.field-0.serial) c.loop-position.invariant.nodes
     ∙ ap (λ n. node_at (take c.loop-position.position c.args.doc.now.nodes) n.serial) c.in_ok-copy.ensures
     ∙ fresh_at c.args.doc.now.nodes c.loop-position.position node c.requires.valid.numbered.distinct at
@@ -30,7 +29,7 @@ insert-requires-clause-within c =
 pub element_from-time_parent-requires : goal.element_from-time_parent-requires
 element_from-time_parent-requires c =
     let node = c.node-item.result in
-    let at : slice_get c.args.doc.now.nodes c.loop-position.position ≡ Some node = ap (λ ns. slice_get ns c.loop-position.position) (sym c.nodes-node-items.ensures) ∙ slice_get-get_or c.nodes-node-items.result.now c.loop-position.position node c.loop-position-test.true ∙ ap Some (sym c.node-item.is) in
+    let at = item_at c.args.doc.now.nodes c.nodes-node-items.result.now c.loop-position.position node c.nodes-node-items.ensures c.loop-position-test.true c.node-item.is in
     let grown = taken_more c.args.doc.now.nodes c.loop-position.nodes c.insert.new.self c.loop-position.position c.in_ok-copy.field-0 node at c.in_ok-insert.ensures.ok c.loop-position.invariant.nodes c.in_ok-copy.ensures in
     subst IsOrdered (sym grown) (ordered_take c.args.doc.now.nodes (c.loop-position.position + 1) (ordered _ c.requires.valid.numbered))
 
@@ -46,14 +45,14 @@ grow-requires-clause-kin c =
 pub grow-requires-clause-ordered : goal.grow-requires-clause-ordered
 grow-requires-clause-ordered c =
     let node = c.node-item.result in
-    let at : slice_get c.args.doc.now.nodes c.loop-position.position ≡ Some node = ap (λ ns. slice_get ns c.loop-position.position) (sym c.nodes-node-items.ensures) ∙ slice_get-get_or c.nodes-node-items.result.now c.loop-position.position node c.loop-position-test.true ∙ ap Some (sym c.node-item.is) in
+    let at = item_at c.args.doc.now.nodes c.nodes-node-items.result.now c.loop-position.position node c.nodes-node-items.ensures c.loop-position-test.true c.node-item.is in
     let grown = taken_more c.args.doc.now.nodes c.loop-position.nodes c.insert.new.self c.loop-position.position c.in_ok-copy.field-0 node at c.in_ok-insert.ensures.ok c.loop-position.invariant.nodes c.in_ok-copy.ensures in
     subst IsOrdered (sym grown) (ordered_take c.args.doc.now.nodes (c.loop-position.position + 1) (ordered _ c.requires.valid.numbered))
 
 pub grow-requires-clause-leaf : goal.grow-requires-clause-leaf
 grow-requires-clause-leaf c =
     let node = c.node-item.result in
-    let at : slice_get c.args.doc.now.nodes c.loop-position.position ≡ Some node = ap (λ ns. slice_get ns c.loop-position.position) (sym c.nodes-node-items.ensures) ∙ slice_get-get_or c.nodes-node-items.result.now c.loop-position.position node c.loop-position-test.true ∙ ap Some (sym c.node-item.is) in
+    let at = item_at c.args.doc.now.nodes c.nodes-node-items.result.now c.loop-position.position node c.nodes-node-items.ensures c.loop-position-test.true c.node-item.is in
     let put : c.insert.new.self ≡ insert c.loop-position.nodes c.loop-position.position node =
     c.in_ok-insert.ensures.ok ∙ ap (λ n. insert c.loop-position.nodes c.loop-position.position n) c.in_ok-copy.ensures in
     let grown = taken_more c.args.doc.now.nodes c.loop-position.nodes c.insert.new.self c.loop-position.position c.in_ok-copy.field-0 node at c.in_ok-insert.ensures.ok c.loop-position.invariant.nodes c.in_ok-copy.ensures in
@@ -73,6 +72,6 @@ grow-requires-clause-leaf c =
 pub loop-position-preserved : goal.loop-position-preserved
 loop-position-preserved c =
     let node = c.node-item.result in
-    let at : slice_get c.args.doc.now.nodes c.loop-position.position ≡ Some node = ap (λ ns. slice_get ns c.loop-position.position) (sym c.nodes-node-items.ensures) ∙ slice_get-get_or c.nodes-node-items.result.now c.loop-position.position node c.loop-position-test.true ∙ ap Some (sym c.node-item.is) in
+    let at = item_at c.args.doc.now.nodes c.nodes-node-items.result.now c.loop-position.position node c.nodes-node-items.ensures c.loop-position-test.true c.node-item.is in
     let grown = taken_more c.args.doc.now.nodes c.loop-position.nodes c.insert.new.self c.loop-position.position c.in_ok-copy.field-0 node at c.in_ok-insert.ensures.ok c.loop-position.invariant.nodes c.in_ok-copy.ensures in
     record { nodes = grown; kin = subst (IsKinOf c.grow.new.self) grown c.in_ok-grow.ensures.ok }

@@ -1,129 +1,128 @@
-use Rattle.std.proofs.Common.{refl, sym, ◌∙◌, ap, subst, ◌≡◌, ◌-◌, ◌≤◌, ◌+ℤ◌, ℤ, List, length, None, Some, w64, to_z, of_z}
+use Rattle.std.proofs.Common.{refl, sym, ◌∙◌, ap, subst, ◌≡◌, ◌-◌, ◌≤◌, ◌+ℤ◌, ℕ, ℤ, List, length, None, Some, Option, Bool, true, w64, to_z, of_z}
 use Rattle.std.specs.Prelude.{pos, nat_abs, IfErr}
 use Rattle.std.proofs.lemmas.Int.{to_z-of_z}
 use Rattle.smil_model.specs.declared.diary.Entry.{Entry as AnyEntry}
+use Rattle.smil_model.specs.declared.diary.LogEntry.{LogEntry as AnyLogEntry}
+use Rattle.smil_model.specs.diary.Diary.{History}
+use Rattle.smil_model.specs.diary.Logs.{is_log}
 use Rattle.smil_model.specs.shown.Orders.{course_of}
 use Rattle.smil_diary.specs.declared.fault.BookFault.{BookFault}
 use Rattle.smil_diary.specs.declared.fault.BookFault.TheVariants as book_fault
 use Rattle.smil_past.specs.Past as past_of
 use Rattle.smil_past.specs.Past.{MarkedHistory}
+use Rattle.smil_element.proofs.Latest.{present_fits}
 use Rattle.smil_cells.specs.CellsState.{CellsState, IsFront, IsHeard, IsRefusing, NothingBefore, WhereTold, fresh_since, with_logged}
-use Rattle.smil_cells.specs.Standings.{IsSoundUnderMark, standing_of}
-use Rattle.smil_cells.proofs.Grown.{fits, positive}
+use Rattle.smil_cells.specs.Standings.{IsSound, IsSoundUnderMark, standing_of}
+use Rattle.smil_cells.proofs.Grown.{positive}
+use Rattle.smil_cells.proofs.Longer.{kept, refusing, with_entry}
 use Rattle.smil_cells.proofs.Refusals.{refused_by}
-use Rattle.smil_cells.proofs.Hearing.{kept_heard, present_heard, is_log_heard, may_hear, sound_heard, front_heard, current_before, came_heard, least_heard, refusing_heard}
+use Rattle.smil_cells.proofs.Hearing.{present_heard, is_log_heard, may_hear, sound_heard, front_heard, current_before, came_heard, least_heard}
+use Rattle.smil_cells.proofs.cells.Cells.take_in.Given.{Over}
 use Rattle.smil_cells.proofs.cells.Cells.take_in.Goals as goal
+use Rattle.smil_cells.proofs.cells.Cells.take_in.Goals.{After-len-from, After-possible}
+
+-- a standing, at whose moment an entry is heard
+record Before (is_current : History → ℤ → Type 0) (s : CellsState) (m : ℤ) (entry : AnyLogEntry) : Type 0 where
+  was : IsSound is_current s
+  here : entry.moment ≡ pos s.presentation.now
+  quiet : NothingBefore s (pos s.presentation.now +ℤ pos 1)
+  whole : m ≡ pos s.presentation.now
+  now : to_z w64 (of_z w64 m) ≡ pos s.presentation.now
+
+before : (g : Over) (c : After-len-from g) → Before (g.T.Table.is_current c.self.inside.table) (standing_of c.self.inside.past c.self.inside.moment c.self.inside.fault c.self.inside.mark c.self.inside.touched) c.self.inside.moment c.args.entry
+before g c =
+    let i = c.self.inside in
+    let view = sym c.self.view_is in
+    let whole = positive i.moment c.self.invariant.present.from in
+    record {
+      was = c.self.invariant.sound (subst (λ (s : CellsState). s.fault ≡ None) view c.requires.sound);
+      here = subst (λ (s : CellsState). c.args.entry.moment ≡ pos s.presentation.now) view c.requires.moment;
+      quiet = subst (λ (s : CellsState). NothingBefore s (pos s.presentation.now +ℤ pos 1)) view c.requires.settled;
+      whole = whole;
+      now = to_z-of_z w64 i.moment (present_fits i.past i.moment c.self.invariant.present) ∙ whole;
+    }
+
+-- the cells are kept, by a table that goes back to the same
+keeps : (g : Over) (c : After-possible g)
+    → Before (g.T.Table.is_current c.self.inside.table) (standing_of c.self.inside.past c.self.inside.moment c.self.inside.fault c.self.inside.mark c.self.inside.touched) c.self.inside.moment c.args.entry
+    → (is_current is_marked : History → ℤ → Type 0) (has_mark : Bool) (fault : Option BookFault) (touched : List ℕ)
+    → ((h : History) (now : ℤ) → g.T.Table.is_marked c.self.inside.table h now → is_marked h now) → has_mark ≡ g.T.Table.has_mark c.self.inside.table
+    → (fault ≡ None → IsSound is_current (standing_of c.hear.new.self c.self.inside.moment fault c.self.inside.mark touched))
+    → IsSoundUnderMark is_current is_marked has_mark c.hear.new.self c.self.inside.moment fault c.self.inside.mark touched
+keeps g c b is_current is_marked has_mark fault touched given has sound =
+    let i = c.self.inside in
+    let ok = sym c.in_default.ensures.ok in
+    kept i.past c.hear.new.self (with_entry i.past c.hear.new.self c.args.entry c.in_default.ensures.ok) (g.T.Table.is_current i.table) (g.T.Table.is_marked i.table) is_current is_marked (g.T.Table.has_mark i.table) has_mark i.moment i.fault fault i.mark i.touched touched
+    given has
+    (subst (λ (x : MarkedHistory). past_of.IsPresent x i.moment) ok (present_heard i.past i.moment c.args.entry i.fault i.mark i.touched b.whole c.self.invariant.present b.here))
+    (subst (λ (x : MarkedHistory). is_log x.log ≡ true) ok (is_log_heard i.past i.moment c.args.entry i.fault i.mark i.touched b.was.state b.was.reached b.here c.requires.may))
+    sound c.self.invariant
 
 pub hear-requires-clause-may : goal.hear-requires-clause-may
 hear-requires-clause-may g c =
     let i = c.self.inside in
-    let before = sym c.self.view_is in
-    let was = c.self.invariant.sound (subst (λ (s : CellsState). s.fault ≡ None) before c.requires.sound) in
-    let here : c.args.entry.moment ≡ pos (nat_abs i.moment) = subst (λ (s : CellsState). c.args.entry.moment ≡ pos s.presentation.now) before c.requires.moment in
-    let quiet = subst (λ (s : CellsState). NothingBefore s (pos s.presentation.now +ℤ pos 1)) before c.requires.settled in
-    let whole = to_z-of_z w64 i.moment (fits i.moment c.self.invariant.present.from c.self.invariant.present.within) in
-    let now = whole ∙ positive i.moment c.self.invariant.present.from in
-    may_hear i.past i.moment c.args.entry i.fault i.mark i.touched was.state was.reached here c.reached_is_past.ensures c.log_may_be_longer.ensures c.reaches_further.ensures quiet c.resolved_is_near.ensures
+    let b = before g (goal.at.hear-requires-clause-may g c).After-len-from in
+    may_hear i.past i.moment c.args.entry i.fault i.mark i.touched b.was.state b.was.reached b.here c.reached_is_past.ensures c.log_may_be_longer.ensures c.reaches_further.ensures b.quiet c.resolved_is_near.ensures
 
 pub returns-in-Err-clause-full : goal.returns-in-Err-clause-full
 returns-in-Err-clause-full g c =
     let i = c.self.inside in
-    let before = sym c.self.view_is in
-    let was = c.self.invariant.sound (subst (λ (s : CellsState). s.fault ≡ None) before c.requires.sound) in
-    let here : c.args.entry.moment ≡ pos (nat_abs i.moment) = subst (λ (s : CellsState). c.args.entry.moment ≡ pos s.presentation.now) before c.requires.moment in
-    let quiet = subst (λ (s : CellsState). NothingBefore s (pos s.presentation.now +ℤ pos 1)) before c.requires.settled in
-    let whole = to_z-of_z w64 i.moment (fits i.moment c.self.invariant.present.from c.self.invariant.present.within) in
-    let now = whole ∙ positive i.moment c.self.invariant.present.from in
+    let b = before g (goal.at.returns-in-Err-clause-full g c).After-len-from in
     λ f. subst (λ (s : CellsState). IsFront (course_of (with_logged s.presentation c.args.entry)) c.hear.new.self.diary) c.self.view_is
     (subst (λ (x : MarkedHistory). IsFront (course_of (with_logged (standing_of i.past i.moment i.fault i.mark i.touched).presentation c.args.entry)) x.diary) (sym c.in-Err.ensures.err)
-    (front_heard i.past i.moment c.args.entry i.fault i.mark i.touched was.state was.reached here c.reached_is_past.ensures c.log_may_be_longer.ensures c.reaches_further.ensures quiet (c.in-Err.ensures.full f)))
+    (front_heard i.past i.moment c.args.entry i.fault i.mark i.touched b.was.state b.was.reached b.here c.reached_is_past.ensures c.log_may_be_longer.ensures c.reaches_further.ensures b.quiet (c.in-Err.ensures.full f)))
 
 pub invariant_of-self-in_err-touch : goal.invariant_of-self-in_err-touch
 invariant_of-self-in_err-touch g c =
     let i = c.self.inside in
-    let before = sym c.self.view_is in
-    let was = c.self.invariant.sound (subst (λ (s : CellsState). s.fault ≡ None) before c.requires.sound) in
-    let here : c.args.entry.moment ≡ pos (nat_abs i.moment) = subst (λ (s : CellsState). c.args.entry.moment ≡ pos s.presentation.now) before c.requires.moment in
-    let quiet = subst (λ (s : CellsState). NothingBefore s (pos s.presentation.now +ℤ pos 1)) before c.requires.settled in
-    let whole = to_z-of_z w64 i.moment (fits i.moment c.self.invariant.present.from c.self.invariant.present.within) in
-    let now = whole ∙ positive i.moment c.self.invariant.present.from in
-    subst (λ (x : MarkedHistory). IsSoundUnderMark (g.T.Table.is_current i.table) (g.T.Table.is_marked i.table) (g.T.Table.has_mark i.table) x i.moment (Some book_fault.Memory) i.mark c.touch.new.touched) (sym c.in_default.ensures.ok)
-    (kept_heard i.past c.args.entry (g.T.Table.is_current i.table) (g.T.Table.is_marked i.table) (g.T.Table.is_current i.table) (g.T.Table.is_marked i.table) (g.T.Table.has_mark i.table) (g.T.Table.has_mark i.table) i.moment i.fault (Some book_fault.Memory) i.mark i.touched c.touch.new.touched
-    (λ h now k. k) refl (present_heard i.past i.moment c.args.entry i.fault i.mark i.touched (positive i.moment c.self.invariant.present.from) c.self.invariant.present here) (is_log_heard i.past i.moment c.args.entry i.fault i.mark i.touched was.state was.reached here c.requires.may) (λ never. cc) c.self.invariant)
+    let all = goal.at.invariant_of-self-in_err-touch g c in
+    keeps g all.After-possible (before g all.After-len-from) (g.T.Table.is_current i.table) (g.T.Table.is_marked i.table) (g.T.Table.has_mark i.table) (Some book_fault.Memory) c.touch.new.touched (λ h now k. k) refl (λ never. cc)
 
 pub refresh-requires-clause-before : goal.refresh-requires-clause-before
 refresh-requires-clause-before g c =
     let i = c.self.inside in
-    let before = sym c.self.view_is in
-    let was = c.self.invariant.sound (subst (λ (s : CellsState). s.fault ≡ None) before c.requires.sound) in
-    let here : c.args.entry.moment ≡ pos (nat_abs i.moment) = subst (λ (s : CellsState). c.args.entry.moment ≡ pos s.presentation.now) before c.requires.moment in
-    let quiet = subst (λ (s : CellsState). NothingBefore s (pos s.presentation.now +ℤ pos 1)) before c.requires.settled in
-    let whole = to_z-of_z w64 i.moment (fits i.moment c.self.invariant.present.from c.self.invariant.present.within) in
-    let now = whole ∙ positive i.moment c.self.invariant.present.from in
-    current_before i.past i.moment c.args.entry i.fault i.mark i.touched was.state was.reached here c.reached_is_past.ensures c.log_may_be_longer.ensures c.len-from.result (to_z w64 (of_z w64 i.moment)) now (c.len-from.ensures.value ∙ ap (λ (l : List AnyEntry). length l) c.book.ensures)
-    (g.T.Table.is_current i.table) (g.met.T.Table.stays i.table) was.current c.hear.new.self c.in_default.ensures.ok
+    let b = before g (goal.at.refresh-requires-clause-before g c).After-len-from in
+    current_before i.past i.moment c.args.entry i.fault i.mark i.touched b.was.state b.was.reached b.here c.reached_is_past.ensures c.log_may_be_longer.ensures c.len-from.result _ b.now (c.len-from.ensures.value ∙ ap (λ (l : List AnyEntry). length l) c.book.ensures)
+    (g.T.Table.is_current i.table) (g.met.T.Table.stays i.table) b.was.current c.hear.new.self c.in_default.ensures.ok
 
 pub invariant_of-self-in_err-refresh : goal.invariant_of-self-in_err-refresh
 invariant_of-self-in_err-refresh g c =
-    let i = c.self.inside in
-    let before = sym c.self.view_is in
-    let was = c.self.invariant.sound (subst (λ (s : CellsState). s.fault ≡ None) before c.requires.sound) in
-    let here : c.args.entry.moment ≡ pos (nat_abs i.moment) = subst (λ (s : CellsState). c.args.entry.moment ≡ pos s.presentation.now) before c.requires.moment in
-    let quiet = subst (λ (s : CellsState). NothingBefore s (pos s.presentation.now +ℤ pos 1)) before c.requires.settled in
-    let whole = to_z-of_z w64 i.moment (fits i.moment c.self.invariant.present.from c.self.invariant.present.within) in
-    let now = whole ∙ positive i.moment c.self.invariant.present.from in
-    subst (λ (x : MarkedHistory). IsSoundUnderMark (g.T.Table.is_current c.refresh.new.self) (g.T.Table.is_marked c.refresh.new.self) (g.T.Table.has_mark c.refresh.new.self) x i.moment (Some book_fault.Memory) i.mark c.refresh.new.changed) (sym c.in_default.ensures.ok)
-    (kept_heard i.past c.args.entry (g.T.Table.is_current i.table) (g.T.Table.is_marked i.table) (g.T.Table.is_current c.refresh.new.self) (g.T.Table.is_marked c.refresh.new.self) (g.T.Table.has_mark i.table) (g.T.Table.has_mark c.refresh.new.self) i.moment i.fault (Some book_fault.Memory) i.mark i.touched c.refresh.new.changed
-    c.refresh.ensures.marked c.refresh.ensures.has_mark (present_heard i.past i.moment c.args.entry i.fault i.mark i.touched (positive i.moment c.self.invariant.present.from) c.self.invariant.present here) (is_log_heard i.past i.moment c.args.entry i.fault i.mark i.touched was.state was.reached here c.requires.may) (λ never. cc) c.self.invariant)
+    let all = goal.at.invariant_of-self-in_err-refresh g c in
+    keeps g all.After-possible (before g all.After-len-from) (g.T.Table.is_current c.refresh.new.self) (g.T.Table.is_marked c.refresh.new.self) (g.T.Table.has_mark c.refresh.new.self) (Some book_fault.Memory) c.refresh.new.changed c.refresh.ensures.marked c.refresh.ensures.has_mark (λ never. cc)
 
 pub returns-in_err-refresh-clause-refused : goal.returns-in_err-refresh-clause-refused
 returns-in_err-refresh-clause-refused g c =
     let i = c.self.inside in
+    let before = standing_of i.past i.moment i.fault i.mark i.touched in
     let new = standing_of c.hear.new.self i.moment (Some book_fault.Memory) i.mark c.refresh.new.changed in
     subst (λ (s : CellsState). IfErr c.from_residual-in_err-refresh.result (IsRefusing s new)) c.self.view_is
-    (refused_by c.from_residual-in_err-refresh.result (λ (f : BookFault). f ≡ book_fault.Memory) (IsRefusing (standing_of i.past i.moment i.fault i.mark i.touched) new)
-    (λ f p. subst (λ (k : BookFault). IsRefusing (standing_of i.past i.moment i.fault i.mark i.touched) new k) (sym p)
-    (refusing_heard i.past c.hear.new.self c.args.entry i.moment i.fault book_fault.Memory i.mark i.touched c.refresh.new.changed c.in_default.ensures.ok c.self.invariant.lens))
+    (refused_by c.from_residual-in_err-refresh.result (λ (f : BookFault). f ≡ book_fault.Memory) (IsRefusing before new)
+    (λ f p. subst (λ (k : BookFault). IsRefusing before new k) (sym p)
+    (refusing i.past c.hear.new.self (with_entry i.past c.hear.new.self c.args.entry c.in_default.ensures.ok) c.self.invariant.lens i.moment i.fault book_fault.Memory i.mark i.touched c.refresh.new.changed))
     c.from_residual-in_err-refresh.ensures.1)
 
 pub invariant_of-self-2 : goal.invariant_of-self-2
 invariant_of-self-2 g c =
     let i = c.self.inside in
-    let before = sym c.self.view_is in
-    let was = c.self.invariant.sound (subst (λ (s : CellsState). s.fault ≡ None) before c.requires.sound) in
-    let here : c.args.entry.moment ≡ pos (nat_abs i.moment) = subst (λ (s : CellsState). c.args.entry.moment ≡ pos s.presentation.now) before c.requires.moment in
-    let quiet = subst (λ (s : CellsState). NothingBefore s (pos s.presentation.now +ℤ pos 1)) before c.requires.settled in
-    let whole = to_z-of_z w64 i.moment (fits i.moment c.self.invariant.present.from c.self.invariant.present.within) in
-    let now = whole ∙ positive i.moment c.self.invariant.present.from in
-    subst (λ (x : MarkedHistory). IsSoundUnderMark (g.T.Table.is_current c.refresh.new.self) (g.T.Table.is_marked c.refresh.new.self) (g.T.Table.has_mark c.refresh.new.self) x i.moment None i.mark c.refresh.new.changed) (sym c.in_default.ensures.ok)
-    (kept_heard i.past c.args.entry (g.T.Table.is_current i.table) (g.T.Table.is_marked i.table) (g.T.Table.is_current c.refresh.new.self) (g.T.Table.is_marked c.refresh.new.self) (g.T.Table.has_mark i.table) (g.T.Table.has_mark c.refresh.new.self) i.moment i.fault None i.mark i.touched c.refresh.new.changed
-    c.refresh.ensures.marked c.refresh.ensures.has_mark (present_heard i.past i.moment c.args.entry i.fault i.mark i.touched (positive i.moment c.self.invariant.present.from) c.self.invariant.present here) (is_log_heard i.past i.moment c.args.entry i.fault i.mark i.touched was.state was.reached here c.requires.may)
-    (λ e. sound_heard i.past i.moment c.args.entry i.fault i.mark i.touched was.state was.reached here c.reached_is_past.ensures c.log_may_be_longer.ensures c.reaches_further.ensures quiet (g.T.Table.is_current c.refresh.new.self) c.refresh.new.changed c.requires.may
-    (subst (λ (x : MarkedHistory). g.T.Table.is_current c.refresh.new.self (past_of.history_of x) (pos (nat_abs i.moment))) c.in_default.ensures.ok (subst (λ (v : ℤ). g.T.Table.is_current c.refresh.new.self (past_of.history_of c.hear.new.self) v) now c.in_ok-refresh.ensures.current)))
-    c.self.invariant)
+    let all = goal.at.invariant_of-self-2 g c in
+    let b = before g all.After-len-from in
+    keeps g all.After-possible b (g.T.Table.is_current c.refresh.new.self) (g.T.Table.is_marked c.refresh.new.self) (g.T.Table.has_mark c.refresh.new.self) None c.refresh.new.changed c.refresh.ensures.marked c.refresh.ensures.has_mark
+    (λ e. subst (λ (x : MarkedHistory). g.T.Table.is_current c.refresh.new.self (past_of.history_of x) (pos (nat_abs i.moment)) → IsSound (g.T.Table.is_current c.refresh.new.self) (standing_of x i.moment None i.mark c.refresh.new.changed)) (sym c.in_default.ensures.ok)
+    (λ current. sound_heard i.past i.moment c.args.entry i.fault i.mark i.touched b.was.state b.was.reached b.here c.reached_is_past.ensures c.log_may_be_longer.ensures c.reaches_further.ensures b.quiet (g.T.Table.is_current c.refresh.new.self) c.refresh.new.changed c.requires.may current)
+    (subst (λ (v : ℤ). g.T.Table.is_current c.refresh.new.self (past_of.history_of c.hear.new.self) v) b.now c.in_ok-refresh.ensures.current))
 
 pub returns-clause-heard : goal.returns-clause-heard
 returns-clause-heard g c =
     let i = c.self.inside in
-    let before = sym c.self.view_is in
-    let was = c.self.invariant.sound (subst (λ (s : CellsState). s.fault ≡ None) before c.requires.sound) in
-    let here : c.args.entry.moment ≡ pos (nat_abs i.moment) = subst (λ (s : CellsState). c.args.entry.moment ≡ pos s.presentation.now) before c.requires.moment in
-    let quiet = subst (λ (s : CellsState). NothingBefore s (pos s.presentation.now +ℤ pos 1)) before c.requires.settled in
-    let whole = to_z-of_z w64 i.moment (fits i.moment c.self.invariant.present.from c.self.invariant.present.within) in
-    let now = whole ∙ positive i.moment c.self.invariant.present.from in
+    let b = before g (goal.at.returns-clause-heard g c).After-len-from in
     subst (λ (s : CellsState). IsHeard s c.args.entry (standing_of c.hear.new.self i.moment None i.mark c.refresh.new.changed)) c.self.view_is
-    (came_heard i.past i.moment c.args.entry i.fault i.mark i.touched was.state was.reached here c.reached_is_past.ensures c.log_may_be_longer.ensures c.len-from.result (to_z w64 (of_z w64 i.moment)) now (c.len-from.ensures.value ∙ ap (λ (l : List AnyEntry). length l) c.book.ensures) c.touch.new.touched c.refresh.new.changed
+    (came_heard i.past i.moment c.args.entry i.fault i.mark i.touched b.was.state b.was.reached b.here c.reached_is_past.ensures c.log_may_be_longer.ensures c.len-from.result _ b.now (c.len-from.ensures.value ∙ ap (λ (l : List AnyEntry). length l) c.book.ensures) c.touch.new.touched c.refresh.new.changed
     c.other_views_stay.ensures c.self.invariant.lens c.in_ok-refresh.ensures.more
     c.hear.new.self c.in_default.ensures.ok c.in_ok-touch.ensures.more c.in_ok-touch.ensures.shown c.in_ok-refresh.ensures.changed)
 
 pub returns-clause-least : goal.returns-clause-least
 returns-clause-least g c =
     let i = c.self.inside in
-    let before = sym c.self.view_is in
-    let was = c.self.invariant.sound (subst (λ (s : CellsState). s.fault ≡ None) before c.requires.sound) in
-    let here : c.args.entry.moment ≡ pos (nat_abs i.moment) = subst (λ (s : CellsState). c.args.entry.moment ≡ pos s.presentation.now) before c.requires.moment in
-    let quiet = subst (λ (s : CellsState). NothingBefore s (pos s.presentation.now +ℤ pos 1)) before c.requires.settled in
-    let whole = to_z-of_z w64 i.moment (fits i.moment c.self.invariant.present.from c.self.invariant.present.within) in
-    let now = whole ∙ positive i.moment c.self.invariant.present.from in
+    let b = before g (goal.at.returns-clause-least g c).After-len-from in
     subst (λ (s : CellsState). WhereTold g.T.Table.counts (fresh_since s (standing_of c.hear.new.self i.moment None i.mark c.refresh.new.changed) ≤ c.refresh.new.steps - c.args.steps.now)) c.self.view_is
-    (least_heard i.past i.moment c.args.entry i.fault i.mark i.touched was.state was.reached here c.reached_is_past.ensures c.log_may_be_longer.ensures c.len-from.result (to_z w64 (of_z w64 i.moment)) now (c.len-from.ensures.value ∙ ap (λ (l : List AnyEntry). length l) c.book.ensures) g.T.Table.counts (c.refresh.new.steps - c.args.steps.now) c.refresh.new.changed c.hear.new.self c.in_default.ensures.ok c.in_ok-refresh.ensures.least)
+    (least_heard i.past i.moment c.args.entry i.fault i.mark i.touched b.was.state b.was.reached b.here c.reached_is_past.ensures c.log_may_be_longer.ensures c.len-from.result _ b.now (c.len-from.ensures.value ∙ ap (λ (l : List AnyEntry). length l) c.book.ensures) g.T.Table.counts (c.refresh.new.steps - c.args.steps.now) c.refresh.new.changed c.hear.new.self c.in_default.ensures.ok c.in_ok-refresh.ensures.least)

@@ -3,8 +3,7 @@ use Rattle.std.specs.List.{count_by}
 use Rattle.std.specs.List.Sorted.{IsNonDecreasing}
 use Rattle.smil_model.specs.declared.diary.StepKind.TheVariants as kind
 use Rattle.smil_diary.specs.declared.element.ElementPlaces.{ElementPlaces}
-use Rattle.smil_diary.specs.ElementPlaces.{last_of}
-use Rattle.smil_diary.proofs.Elements.{last-of}
+use Rattle.smil_diary.proofs.Elements.{last-kept}
 use Rattle.smil_diary.proofs.Histories.{repeats-rise, repeats-few, repeats-from, iteration-of, iteration-within, iteration-before, iteration-none}
 use Rattle.smil_diary.proofs.book.Book.iteration.Goals as goal
 
@@ -25,22 +24,16 @@ returns-in-Some c = λ h of.
     ∙ repeats-from c.args.who c.in-Some.began c.args.self.now
     ∙ iteration-within c.args.who c.birth.result c.in-Some.began c.args.self.now c.if-birth-began.true
     ∙ iteration-of h c.args.who c.birth.result c.args.parent c.args.self.now (Some c.in-Some.began) of c.birth.ensures
-    (c.in-Some.ensures
-    ∙ ap (λ (e : ElementPlaces). last_of e.began) c.element-element.ensures.places
-    ∙ last-of c.args.self.now kind.Began c.args.who)
+    (c.in-Some.ensures ∙ last-kept c.args.self.now kind.Began c.args.who c.element-element.ensures.places)
 
 pub returns-in_default : goal.returns-in_default
 returns-in_default c = λ h of.
     iteration-before c.args.who c.birth.result c.in-Some.began c.args.self.now c.if-birth-began.false
     ∙ iteration-of h c.args.who c.birth.result c.args.parent c.args.self.now (Some c.in-Some.began) of c.birth.ensures
-    (c.in-Some.ensures
-    ∙ ap (λ (e : ElementPlaces). last_of e.began) c.element-element.ensures.places
-    ∙ last-of c.args.self.now kind.Began c.args.who)
+    (c.in-Some.ensures ∙ last-kept c.args.self.now kind.Began c.args.who c.element-element.ensures.places)
 
 pub returns-in_default-2 : goal.returns-in_default-2
 returns-in_default-2 c = λ h of.
     iteration-none h c.args.who c.args.parent c.args.self.now of
     (sym c.in_default.is
-    ∙ c.last.ensures
-    ∙ ap (λ (e : ElementPlaces). last_of e.began) c.element-element.ensures.places
-    ∙ last-of c.args.self.now kind.Began c.args.who)
+    ∙ c.last.ensures ∙ last-kept c.args.self.now kind.Began c.args.who c.element-element.ensures.places)

@@ -1,18 +1,14 @@
-use Rattle.std.proofs.Common.{◌≡◌, ◌<◌, length, ap, sym, subst, ◌∙◌}
+use Rattle.std.proofs.Common.{◌≡◌, ◌<◌, length, sym, subst, ◌∙◌}
 use Rattle.std.specs.Prelude.{IfSome}
 use Rattle.smil_model.specs.declared.diary.Entry.{Entry}
 use Rattle.smil_model.specs.diary.Diary.{is_step, last_step}
-use Rattle.smil_diary.specs.declared.element.ElementPlaces.{ElementPlaces}
-use Rattle.smil_diary.specs.ElementPlaces.{last_of, places_of}
-use Rattle.smil_diary.proofs.Elements.{last-of}
+use Rattle.smil_diary.proofs.Elements.{last-kept}
 use Rattle.smil_diary.proofs.Finished.{last-within}
 use Rattle.smil_diary.proofs.book.Book.last.Goals as goal
 
 value-of : (c : goal.After-last) → c.last.result ≡ last_step c.args.self.now c.args.kind c.args.who
 value-of c =
-    c.last.ensures
-    ∙ ap (λ (e : ElementPlaces). last_of (places_of e c.args.kind)) c.element.ensures.places
-    ∙ last-of c.args.self.now c.args.kind c.args.who
+    c.last.ensures ∙ last-kept c.args.self.now c.args.kind c.args.who c.element.ensures.places
 
 pub returns-clause-value : goal.returns-clause-value
 returns-clause-value c = value-of c

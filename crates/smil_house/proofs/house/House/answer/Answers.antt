@@ -2,15 +2,22 @@ use Rattle.std.proofs.Common.{◌≡◌, ◌∙◌, inr, arith, to_z, of_z, w64}
 use Rattle.std.proofs.lemmas.Int.{ints}
 use Rattle.std.proofs.lemmas.Result.{err_from_is_err_and}
 use Rattle.smil_house.proofs.Held.{at_found, turned_to}
+use Rattle.smil_house.specs.House.{IsAt}
+use Rattle.smil_house.proofs.house.House.answer.Given.{Over}
 use Rattle.smil_house.proofs.house.House.answer.Goals as goal
+use Rattle.smil_house.proofs.house.House.answer.Goals.{After-answer}
+
+-- the presentation of the name
+here : (g : Over) (c : After-answer g) → IsAt c.args.name.now c.args.self.now c.in-Some.index c.index_mut.result.now
+here g c = at_found c.args.name.now c.self.inside.held.items c.args.self.now c.index_of.result c.in-Some.index c.index_mut.result.now c.self.view_is c.index_of.ensures c.in-Some.is c.index_mut.ensures.value
 
 pub returns-in_err-answer-clause-refused : goal.returns-in_err-answer-clause-refused
 returns-in_err-answer-clause-refused g c =
     let p = err_from_is_err_and c.from_residual.result c.from_residual.ensures.1 in
     rw (p.1, p.2) (inr (record {
-      place = c.in-Some.place;
+      place = c.in-Some.index;
       before = c.index_mut.result.now;
-      at = at_found c.args.name.now c.self.inside.held.items c.args.self.now c.place.result c.in-Some.place c.index_mut.result.now c.self.view_is c.place.ensures c.in-Some.is c.index_mut.ensures.value;
+      at = here g (goal.at.returns-in_err-answer-clause-refused g c).After-answer;
       refused = c.in_err-answer.ensures.refused;
       free = c.in_err-answer.ensures.free;
     }))
@@ -19,10 +26,10 @@ pub returns-in_err-answer-clause-kept : goal.returns-in_err-answer-clause-kept
 returns-in_err-answer-clause-kept g c =
     let p = err_from_is_err_and c.from_residual.result c.from_residual.ensures.1 in
     rw p.1 (inr (record {
-      place = c.in-Some.place;
+      place = c.in-Some.index;
       before = c.index_mut.result.now;
       after = record { name = c.index_mut.result.now.name; player = c.answer.new.self };
-      turned = turned_to g.P.Player.formats g.P.Player.takes c.args.name.now c.self.inside.held.items c.args.self.now c.place.result c.in-Some.place c.index_mut.result.now c.answer.new.self c.self.view_is c.place.ensures c.in-Some.is c.index_mut.ensures.value c.in_err-answer.ensures.formats c.in_err-answer.ensures.takes;
+      turned = turned_to g.P.Player.formats g.P.Player.takes c.self.inside.held.items c.answer.new.self c.self.view_is (here g (goal.at.returns-in_err-answer-clause-kept g c).After-answer) c.in_err-answer.ensures.formats c.in_err-answer.ensures.takes;
       same = c.in_err-answer.ensures.kept;
     }))
 
@@ -30,10 +37,10 @@ pub returns-clause-ok : goal.returns-clause-ok
 returns-clause-ok g c =
     let same : to_z w64 (of_z w64 c.now.result) ≡ c.now.result = omega (arith, ints, c.now.type_inv) in
     record {
-      place = c.in-Some.place;
+      place = c.in-Some.index;
       before = c.index_mut.result.now;
       after = record { name = c.index_mut.result.now.name; player = c.answer.new.self };
-      turned = turned_to g.P.Player.formats g.P.Player.takes c.args.name.now c.self.inside.held.items c.args.self.now c.place.result c.in-Some.place c.index_mut.result.now c.answer.new.self c.self.view_is c.place.ensures c.in-Some.is c.index_mut.ensures.value c.in_ok-answer.ensures.formats c.in_ok-answer.ensures.takes;
+      turned = turned_to g.P.Player.formats g.P.Player.takes c.self.inside.held.items c.answer.new.self c.self.view_is (here g (goal.at.returns-clause-ok g c).After-answer) c.in_ok-answer.ensures.formats c.in_ok-answer.ensures.takes;
       accepted = c.in_ok-answer.ensures.ok;
       moment_is = same ∙ c.now.ensures;
       least_is = c.in_ok-answer.ensures.least;

@@ -16,4 +16,4 @@ invariant_of-self g c =
     let inside : c.args.item < length items = omega (arith, c.requires.item, ap length c.self.view_is) in
     by_result {G = c.add.new.sorted ≡ merged le choose (set items c.args.item c.add.new.kept)} c.add.result c.add.ensures.kept c.add.ensures.sorted c.add.ensures.kept_stays c.add.ensures.sorted_stays
     (λ kept put. put ∙ ap (with_value le (choose c.args.last.time)) c.self.invariant ∙ sym (ap (λ l. merged le choose (set items c.args.item l)) kept ∙ merged_push le g.T.Instant.order choose items c.args.item c.index_mut.result.now c.args.last inside c.index_mut.ensures.value))
-    (λ kept put. put ∙ c.self.invariant ∙ sym (ap (merged le choose) (ap (set items c.args.item) kept ∙ set_same items c.args.item c.index_mut.result.now inside c.index_mut.ensures.value)))
+    (λ kept put. put ∙ c.self.invariant ∙ sym (ap (merged le choose) (ap (set items c.args.item) kept ∙ set_same items c.args.item c.index_mut.result.now c.index_mut.ensures.value)))

@@ -1,17 +1,12 @@
-use Rattle.std.proofs.Common.{◌≡◌, ◌∙◌, sym, ap, refl, subst, ◌∷◌, ◌++◌, [], List, Some, get_or, length, take, arith}
-use Rattle.std.specs.Prelude.{pos, slice_get}
+use Rattle.std.proofs.Common.{◌∙◌, sym, ap, refl, subst, ◌∷◌, ◌++◌, [], List, get_or, length, take, arith}
 use Rattle.std.proofs.lemmas.List.{take_all}
-use Rattle.std.proofs.lemmas.Option.{slice_get-get_or}
 use Rattle.smil_model.specs.declared.diary.Entry.{Entry}
-use Rattle.smil_model.specs.declared.diary.Step.TheVariants.{Began}
 use Rattle.smil_stretch.specs.Clocks.{AreClocksOf}
+use Rattle.smil_stretch.proofs.Idle.{next_at, no_entry}
 use Rattle.smil_instances.specs.SettledTimes.{settled_rows}
 use Rattle.smil_instances.specs.Intake.{history_of, history_with}
 use Rattle.smil_instances.proofs.Rebuilt.{at_hand, lawful_of, next_front, next_is, next_lawful}
 use Rattle.smil_instances.proofs.instances.Instances.rows_of.Goals as goal
-
-abbrev no_entry : Entry
-no_entry = record { moment = pos 0; step = Began 0 (pos 0) }
 
 pub of-requires : goal.of-requires
 of-requires c = record {
@@ -27,7 +22,7 @@ take_in-requires-clause-hand c =
     let entries = c.entries-entry-items.result.now in
     let k = c.loop-entry.entry-index in
     let y = get_or entries k no_entry in
-    let at : slice_get book k ≡ Some y = ap (λ (ds : List Entry). slice_get ds k) (sym c.entries-entry-items.ensures) ∙ slice_get-get_or entries k no_entry c.loop-entry-test.true in
+    let at = next_at entries book k no_entry (sym c.entries-entry-items.ensures) c.loop-entry-test.true in
     at_hand document log book k y at c.loop-entry.clocks c.push.new.front (lawful_of document log book c.requires.lawful) c.loop-entry.invariant.2 (c.in_ok-push.ensures ∙ ap (λ (ys : List Entry). ys ++ y ∷ []) c.loop-entry.invariant.1)
 
 pub follow-requires : goal.follow-requires
@@ -38,7 +33,7 @@ follow-requires c =
     let entries = c.entries-entry-items.result.now in
     let k = c.loop-entry.entry-index in
     let y = get_or entries k no_entry in
-    let at : slice_get book k ≡ Some y = ap (λ (ds : List Entry). slice_get ds k) (sym c.entries-entry-items.ensures) ∙ slice_get-get_or entries k no_entry c.loop-entry-test.true in
+    let at = next_at entries book k no_entry (sym c.entries-entry-items.ensures) c.loop-entry-test.true in
     record {
       past = history_of document log (take k book);
       known = c.loop-entry.invariant.2;
@@ -53,7 +48,7 @@ loop-entry-preserved c =
     let entries = c.entries-entry-items.result.now in
     let k = c.loop-entry.entry-index in
     let y = get_or entries k no_entry in
-    let at : slice_get book k ≡ Some y = ap (λ (ds : List Entry). slice_get ds k) (sym c.entries-entry-items.ensures) ∙ slice_get-get_or entries k no_entry c.loop-entry-test.true in
+    let at = next_at entries book k no_entry (sym c.entries-entry-items.ensures) c.loop-entry-test.true in
     let front = c.in_ok-push.ensures ∙ ap (λ (ys : List Entry). ys ++ y ∷ []) c.loop-entry.invariant.1 ∙ next_front document log book k y at in (
       c.in_ok-take_in.ensures.ok ∙ ap (λ ds. settled_rows (history_of document log ds)) front,
       front,

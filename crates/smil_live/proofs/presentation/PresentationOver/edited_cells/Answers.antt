@@ -6,24 +6,33 @@ use Rattle.smil_model.specs.shown.Orders.{IsState, Presentation}
 use Rattle.smil_cells.specs.CellsState.{WhereTold}
 use Rattle.smil_live.specs.Moves.{IsReplayed, IsTooFull}
 use Rattle.smil_live.specs.Sites.{IsMade, staying}
-use Rattle.smil_live.proofs.AgreedCells.{edited_count, edited_is, edited_rebuild, edited_stands, edited_way}
-use Rattle.smil_live.proofs.Edited.{edited_state, on_ok_always}
+use Rattle.smil_live.proofs.AgreedCells.{IsEditedAt, edited_count, edited_is, edited_rebuild, edited_stands, edited_way}
+use Rattle.smil_live.proofs.EditedPresentations.{edited_state, on_ok_always}
+use Rattle.smil_live.proofs.presentation.PresentationOver.edited_cells.Given.{Over}
 use Rattle.smil_live.proofs.presentation.PresentationOver.edited_cells.Goals as goal
+use Rattle.smil_live.proofs.presentation.PresentationOver.edited_cells.Goals.{In_ok-len}
+
+-- the edited copy, and how many entries stay by the edit
+edit : (g : Over) (c : In_ok-len g) → IsEditedAt c.self.inside.viewer.cells c.self.inside.viewer.seen c.args.self.now c.in_ok-graphed.graphed.tree c.args.edited c.args.site c.in_ok-len.len
+edit g c =
+    let same = c.in_ok-graphed.ensures.tree in
+    record {
+      is = c.self.invariant;
+      view = c.self.view_is;
+      same = same;
+      valid = subst IsValid (sym same) c.valid.ensures;
+      made = c.requires;
+      count = c.in_ok-len.ensures ∙ ap (λ (x : Document). staying c.args.self.now x c.args.site) same;
+    }
 
 pub cells_with-requires-clause-state : goal.cells_with-requires-clause-state
-cells_with-requires-clause-state g c =
-    let same = c.in_ok-graphed.ensures.tree in
-    edited_stands c.self.inside.viewer.cells c.self.inside.viewer.seen c.self.invariant c.args.self.now c.self.view_is c.in_ok-graphed.graphed.tree c.args.edited same (subst IsValid (sym same) c.valid.ensures) c.args.site c.requires c.in_ok-len.len (c.in_ok-len.ensures ∙ ap (λ (x : Document). staying c.args.self.now x c.args.site) same)
+cells_with-requires-clause-state g c = edited_stands (edit g (goal.at.cells_with-requires-clause-state g c).In_ok-len)
 
 pub cells_with-requires-clause-rebuild : goal.cells_with-requires-clause-rebuild
-cells_with-requires-clause-rebuild g c =
-    let same = c.in_ok-graphed.ensures.tree in
-    edited_rebuild c.self.inside.viewer.cells c.self.inside.viewer.seen c.self.invariant c.args.self.now c.self.view_is c.in_ok-graphed.graphed.tree c.args.edited same (subst IsValid (sym same) c.valid.ensures) c.args.site c.requires c.in_ok-len.len (c.in_ok-len.ensures ∙ ap (λ (x : Document). staying c.args.self.now x c.args.site) same)
+cells_with-requires-clause-rebuild g c = edited_rebuild (edit g (goal.at.cells_with-requires-clause-rebuild g c).In_ok-len)
 
 pub cells_with-requires-clause-way : goal.cells_with-requires-clause-way
-cells_with-requires-clause-way g c =
-    let same = c.in_ok-graphed.ensures.tree in
-    edited_way c.self.inside.viewer.cells c.self.inside.viewer.seen c.self.invariant c.args.self.now c.self.view_is c.in_ok-graphed.graphed.tree c.args.edited same (subst IsValid (sym same) c.valid.ensures) c.args.site c.requires c.in_ok-len.len (c.in_ok-len.ensures ∙ ap (λ (x : Document). staying c.args.self.now x c.args.site) same)
+cells_with-requires-clause-way g c = edited_way (edit g (goal.at.cells_with-requires-clause-way g c).In_ok-len)
 
 pub returns-clause-state : goal.returns-clause-state
 returns-clause-state g c =
@@ -31,23 +40,20 @@ returns-clause-state g c =
 
 pub returns-clause-ok : goal.returns-clause-ok
 returns-clause-ok g c =
-    let same = c.in_ok-graphed.ensures.tree in
     subst (λ (q : Presentation). IfOk c.cells_with.result (IsReplayed q))
-    (edited_is c.self.inside.viewer.cells c.self.inside.viewer.seen c.self.invariant c.args.self.now c.self.view_is c.in_ok-graphed.graphed.tree c.args.edited same (subst IsValid (sym same) c.valid.ensures) c.args.site c.requires c.in_ok-len.len (c.in_ok-len.ensures ∙ ap (λ (x : Document). staying c.args.self.now x c.args.site) same))
+    (edited_is (edit g (goal.at.returns-clause-ok g c).In_ok-len))
     c.cells_with.ensures.ok
 
 pub returns-clause-refused : goal.returns-clause-refused
 returns-clause-refused g c =
-    let same = c.in_ok-graphed.ensures.tree in
     subst (λ (q : Presentation). IfErr c.cells_with.result (IsTooFull q))
-    (edited_is c.self.inside.viewer.cells c.self.inside.viewer.seen c.self.invariant c.args.self.now c.self.view_is c.in_ok-graphed.graphed.tree c.args.edited same (subst IsValid (sym same) c.valid.ensures) c.args.site c.requires c.in_ok-len.len (c.in_ok-len.ensures ∙ ap (λ (x : Document). staying c.args.self.now x c.args.site) same))
+    (edited_is (edit g (goal.at.returns-clause-refused g c).In_ok-len))
     c.cells_with.ensures.refused
 
 pub returns-clause-most : goal.returns-clause-most
 returns-clause-most g c =
-    let same = c.in_ok-graphed.ensures.tree in
     subst (λ (n : ℕ). OnOk c.cells_with.result (WhereTold g.T.Table.counts (c.cells_with.new.steps - c.args.steps.now ≤ n)))
-    (edited_count c.self.inside.viewer.cells c.self.inside.viewer.seen c.self.invariant c.args.self.now c.self.view_is c.in_ok-graphed.graphed.tree c.args.edited same (subst IsValid (sym same) c.valid.ensures) c.args.site c.requires c.in_ok-len.len (c.in_ok-len.ensures ∙ ap (λ (x : Document). staying c.args.self.now x c.args.site) same))
+    (edited_count (edit g (goal.at.returns-clause-most g c).In_ok-len))
     c.cells_with.ensures.most
 
 pub staying-requires-clause-made : goal.staying-requires-clause-made

@@ -2,8 +2,8 @@ use Rattle.std.proofs.Common.{◌≡◌, ◌∙◌, ap, sym, subst, ◌-◌}
 use Rattle.smil_cells.specs.CellsState.{CellsState}
 use Rattle.smil_shown.specs.ShownViews.{IsPlaying}
 use Rattle.smil_live.specs.Moves.{made}
-use Rattle.smil_live.proofs.Counted.{least_made, most_made}
-use Rattle.smil_live.proofs.Going.{plays_again, plays_on, shown_marked}
+use Rattle.smil_live.proofs.CellCounts.{least_made, most_made}
+use Rattle.smil_live.proofs.MadeMoves.{plays_again, plays_on, shown_marked}
 use Rattle.smil_live.proofs.presentation.PresentationOver.go.Goals as goal
 use Rattle.smil_live.proofs.presentation.PresentationOver.go.Goals.{in-Ok, in-Err}
 

@@ -1,48 +1,48 @@
 use Rattle.std.proofs.Common.{refl, ◌-◌}
-use Rattle.std.proofs.lemmas.Result.{IfErr-weaker, on_ok_weaker}
+use Rattle.smil_model.specs.declared.order.Order.{Order}
 use Rattle.smil_model.specs.declared.order.Order.TheVariants as order
+use Rattle.smil_model.specs.declared.order.Who.{Who}
 use Rattle.smil_model.specs.shown.Answers.{Refuses}
 use Rattle.smil_grammar.specs.Formats.{formats}
 use Rattle.smil_tree.proofs.Results.{on_err}
-use Rattle.smil_live.specs.Moves.{IsTooFull, edited_to}
+use Rattle.smil_revision.specs.declared.values.Child.{Child}
 use Rattle.smil_live.specs.declared.edits.Site.TheVariants as site
-use Rattle.smil_live.proofs.AgreedCells.{edited_bounded}
+use Rattle.smil_live.proofs.AgreedCells.{IsAnswered, edit_answered}
 use Rattle.smil_live.proofs.AgreedEdits.{edit_made}
 use Rattle.smil_live.proofs.CountedOrders.{bounded_at_once}
-use Rattle.smil_live.proofs.Edited.{edited_accepted, edited_appended, not_edited}
-use Rattle.smil_live.proofs.Editing.{edit_refused}
+use Rattle.smil_live.proofs.EditOrders.{edit_refused}
+use Rattle.smil_live.proofs.presentation.PresentationOver.insert.Given.{Over}
 use Rattle.smil_live.proofs.presentation.PresentationOver.insert.Goals as goal
+use Rattle.smil_live.proofs.presentation.PresentationOver.insert.Goals.{After-take_edited}
+
+-- the order
+abbrev asked : Who → Child → Order
+asked who child = order.Insert who child.place child.line.text.now child.line.column
+
+pub take_edited-requires : goal.take_edited-requires
+take_edited-requires g c = edit_made c.args.self.now (asked c.args.who.now c.args.child) c.in_ok-edited.edited refl c.in_ok-edited.ensures.ok
+
+answered : (g : Over) (c : After-take_edited g) → IsAnswered c.take_edited.result g.T.Table.counts c.args.self.now c.take_edited.new.self (asked c.args.who.now c.args.child) c.args.out.now c.take_edited.new.out (c.take_edited.new.steps - c.args.steps.now)
+answered g c =
+    edit_answered c.take_edited.result g.T.Table.counts c.args.self.now c.take_edited.new.self (asked c.args.who.now c.args.child) c.in_ok-edited.edited site.New c.args.out.now c.take_edited.new.out (c.take_edited.new.steps - c.args.steps.now) refl
+    c.in_ok-edited.ensures.ok refl c.take_edited.ensures.ok c.take_edited.ensures.most c.take_edited.ensures.refused
 
 pub returns-clause-ok : goal.returns-clause-ok
-returns-clause-ok g c =
-    on_ok_weaker c.take_edited.result
-    (edited_accepted c.args.self.now c.take_edited.new.self (order.Insert c.args.who.now c.args.child.place c.args.child.line.text.now c.args.child.line.column) c.in_ok-edited.edited c.args.out.now c.take_edited.new.out refl c.in_ok-edited.ensures.ok)
-    c.take_edited.ensures.ok
+returns-clause-ok g c = (answered g (goal.at.returns-clause-ok g c).After-take_edited).ok
 
 pub returns-clause-appended : goal.returns-clause-appended
-returns-clause-appended g c =
-    on_ok_weaker c.take_edited.result
-    (edited_appended c.args.self.now c.take_edited.new.self c.in_ok-edited.edited c.args.out.now c.take_edited.new.out)
-    c.take_edited.ensures.ok
+returns-clause-appended g c = (answered g (goal.at.returns-clause-appended g c).After-take_edited).appended
 
 pub returns-clause-refused : goal.returns-clause-refused
-returns-clause-refused g c =
-    IfErr-weaker c.take_edited.result (IsTooFull (edited_to c.args.self.now c.in_ok-edited.edited)) (Refuses formats c.args.self.now (order.Insert c.args.who.now c.args.child.place c.args.child.line.text.now c.args.child.line.column))
-    (λ e h. not_edited c.args.self.now (order.Insert c.args.who.now c.args.child.place c.args.child.line.text.now c.args.child.line.column) c.in_ok-edited.edited e refl c.in_ok-edited.ensures.ok h)
-    c.take_edited.ensures.refused
+returns-clause-refused g c = (answered g (goal.at.returns-clause-refused g c).After-take_edited).refused
+
+pub returns-clause-bounded : goal.returns-clause-bounded
+returns-clause-bounded g c = (answered g (goal.at.returns-clause-bounded g c).After-take_edited).bounded
 
 pub returns-in_err-edited-clause-refused : goal.returns-in_err-edited-clause-refused
 returns-in_err-edited-clause-refused g c =
-    on_err (Refuses formats c.args.self.now (order.Insert c.args.who.now c.args.child.place c.args.child.line.text.now c.args.child.line.column)) c.from_residual.result c.in_err-edited.field-0.0 c.from_residual.ensures.1
-    (edit_refused c.args.self.now (order.Insert c.args.who.now c.args.child.place c.args.child.line.text.now c.args.child.line.column) c.in_err-edited.field-0.0 refl c.in_err-edited.ensures.err)
-
-pub take_edited-requires : goal.take_edited-requires
-take_edited-requires g c = edit_made c.args.self.now (order.Insert c.args.who.now c.args.child.place c.args.child.line.text.now c.args.child.line.column) c.in_ok-edited.edited refl c.in_ok-edited.ensures.ok
-
-pub returns-clause-bounded : goal.returns-clause-bounded
-returns-clause-bounded g c =
-    edited_bounded c.take_edited.result g.T.Table.counts c.args.self.now c.take_edited.new.self (order.Insert c.args.who.now c.args.child.place c.args.child.line.text.now c.args.child.line.column) c.in_ok-edited.edited site.New c.args.out.now c.take_edited.new.out (c.take_edited.new.steps - c.args.steps.now) refl c.in_ok-edited.ensures.ok refl
-    c.take_edited.ensures.ok c.take_edited.ensures.most c.take_edited.ensures.refused
+    on_err (Refuses formats c.args.self.now (asked c.args.who.now c.args.child)) c.from_residual.result c.in_err-edited.field-0.0 c.from_residual.ensures.1
+    (edit_refused c.args.self.now (asked c.args.who.now c.args.child) c.in_err-edited.field-0.0 refl c.in_err-edited.ensures.err)
 
 pub returns-in_err-edited-clause-bounded : goal.returns-in_err-edited-clause-bounded
-returns-in_err-edited-clause-bounded g c = bounded_at_once c.from_residual.result g.T.Table.counts c.args.self.now (order.Insert c.args.who.now c.args.child.place c.args.child.line.text.now c.args.child.line.column) c.args.steps.now c.from_residual.ensures.0
+returns-in_err-edited-clause-bounded g c = bounded_at_once c.from_residual.result g.T.Table.counts c.args.self.now (asked c.args.who.now c.args.child) c.args.steps.now c.from_residual.ensures.0

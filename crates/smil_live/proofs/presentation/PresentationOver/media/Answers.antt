@@ -2,7 +2,8 @@ use Rattle.std.proofs.Common.{Err, refl, ◌≡◌, ◌∙◌, sym, ap, subst, w
 use Rattle.std.specs.Prelude.{IsSome}
 use Rattle.smil_model.specs.document.Document.{Document, is_continuous, node_at}
 use Rattle.smil_model.specs.document.Valid.{IsNumberedTree, kind_of}
-use Rattle.smil_model.specs.shown.Orders.{Presentation}
+use Rattle.smil_model.specs.document.Limits.{limits}
+use Rattle.smil_model.specs.shown.Orders.{Presentation, outcome, with_logged as logged_within}
 use Rattle.std.proofs.lemmas.Int.{to_z-of_z}
 use Rattle.std.proofs.lemmas.Result.{on_ok_weaker, IfErr-weaker}
 use Rattle.smil_model.specs.declared.diary.Happening.TheVariants as happening
@@ -13,47 +14,52 @@ use Rattle.smil_grammar.specs.Formats.{formats}
 use Rattle.smil_live.specs.Counts.{most_number, told_where}
 use Rattle.smil_live.specs.Moves.{IsNotHeard}
 use Rattle.smil_live.proofs.CountedOrders.{bounded_at_once, bounded_then}
-use Rattle.smil_live.proofs.Outcomes.{kind_named, may_media, media_heard, media_not_heard, media_refused}
+use Rattle.smil_live.proofs.Outcomes.{heard_answered, kind_named, may_media, media_is, media_refused, not_heard}
+use Rattle.smil_live.proofs.presentation.PresentationOver.media.Given.{Over}
 use Rattle.smil_live.proofs.presentation.PresentationOver.media.Goals as goal
+use Rattle.smil_live.proofs.presentation.PresentationOver.media.Goals.{After-hear, After-kind}
 
 pub kind-requires : goal.kind-requires
 kind-requires g c =
     let same : c.tree.result.now ≡ c.args.self.now.document = c.tree.ensures ∙ ap (λ (p : Presentation). p.document) c.self.view_is in
     subst (λ (d : Document). IsSome (node_at d.nodes c.in_ok-serial.serial)) (sym same) c.in_ok-serial.ensures.known
 
+-- the kind is that of the node that is named
+kind : (g : Over) (c : After-kind g) → c.kind.result ≡ (c.in_ok-serial.ensures.ok).0.kind
+kind g c =
+    let same = c.tree.ensures ∙ ap (λ (p : Presentation). p.document) c.self.view_is in
+    let h = c.in_ok-serial.ensures.ok in
+    kind_named c.args.self.now.document c.args.who.now h.0 c.in_ok-serial.serial c.kind.result (subst (λ (p : Presentation). IsNumberedTree p.document) c.self.view_is c.self.invariant.shown_is.state.document.numbered) h.1 h.2
+    (c.kind.ensures ∙ ap (λ (d : Document). kind_of (node_at d.nodes c.in_ok-serial.serial)) same)
+
 pub returns-then-not-is_continuous-clause-refused : goal.returns-then-not-is_continuous-clause-refused
 returns-then-not-is_continuous-clause-refused g c =
-    let same : c.tree.result.now ≡ c.args.self.now.document = c.tree.ensures ∙ ap (λ (p : Presentation). p.document) c.self.view_is in
     let h = c.in_ok-serial.ensures.ok in
-    let kind : c.kind.result ≡ h.0.kind =
-    kind_named c.args.self.now.document c.args.who.now h.0 c.in_ok-serial.serial c.kind.result (subst (λ (p : Presentation). IsNumberedTree p.document) c.self.view_is c.self.invariant.shown_is.state.document.numbered) h.1 h.2
-    (c.kind.ensures ∙ ap (λ (d : Document). kind_of (node_at d.nodes c.in_ok-serial.serial)) same) in
-    media_refused c.args.self.now c.args.who.now c.args.length h.0 h.1 (ap is_continuous (sym kind) ∙ sym c.is_continuous.ensures ∙ c.if-not-is_continuous.true)
+    media_refused c.args.self.now c.args.who.now c.args.length h.0 h.1 (ap is_continuous (sym (kind g (goal.at.returns-then-not-is_continuous-clause-refused g c).After-kind)) ∙ sym c.is_continuous.ensures ∙ c.if-not-is_continuous.true)
 
 pub hear-requires : goal.hear-requires
 hear-requires g c =
     may_media c.in_ok-serial.serial (to_z w64 (of_z w64 c.args.length)) c.args.length c.in_ok-serial.ensures.serial (to_z-of_z w64 c.args.length c.ranges.length) c.requires.1
 
+-- the order comes to what is heard of the media
+is_heard : (g : Over) (c : After-hear g) → c.kind.result ≡ (c.in_ok-serial.ensures.ok).0.kind → outcome formats c.args.self.now (order.Media c.args.who.now c.args.length) ≡ logged_within limits c.args.self.now (happening.Media c.in_ok-serial.serial (to_z w64 (of_z w64 c.args.length)))
+is_heard g c same =
+    let h = c.in_ok-serial.ensures.ok in
+    let continuous = ap is_continuous (sym same) ∙ sym c.is_continuous.ensures ∙ c.if-not-is_continuous.false in
+    media_is c.args.self.now c.args.who.now c.in_ok-serial.serial (to_z w64 (of_z w64 c.args.length)) c.args.length h.0 h.1 continuous h.2 (to_z-of_z w64 c.args.length c.ranges.length)
+
 pub returns-clause-ok : goal.returns-clause-ok
 returns-clause-ok g c =
-    let same : c.tree.result.now ≡ c.args.self.now.document = c.tree.ensures ∙ ap (λ (p : Presentation). p.document) c.self.view_is in
-    let h = c.in_ok-serial.ensures.ok in
-    let kind : c.kind.result ≡ h.0.kind =
-    kind_named c.args.self.now.document c.args.who.now h.0 c.in_ok-serial.serial c.kind.result (subst (λ (p : Presentation). IsNumberedTree p.document) c.self.view_is c.self.invariant.shown_is.state.document.numbered) h.1 h.2
-    (c.kind.ensures ∙ ap (λ (d : Document). kind_of (node_at d.nodes c.in_ok-serial.serial)) same) in
-    let continuous = ap is_continuous (sym kind) ∙ sym c.is_continuous.ensures ∙ c.if-not-is_continuous.false in
-    on_ok_weaker c.hear.result (media_heard c.args.self.now c.hear.new.self c.args.who.now c.in_ok-serial.serial (to_z w64 (of_z w64 c.args.length)) c.args.length h.0 _ (subst (λ (p : Presentation). IsNumberedTree p.document) c.self.view_is c.self.invariant.shown_is.state.document.numbered) h.1 continuous h.2 (to_z-of_z w64 c.args.length c.ranges.length)) c.hear.ensures.ok
+    let at = goal.at.returns-clause-ok g c in
+    on_ok_weaker c.hear.result
+    (heard_answered c.args.self.now c.hear.new.self (order.Media c.args.who.now c.args.length) (happening.Media c.in_ok-serial.serial (to_z w64 (of_z w64 c.args.length))) (drop (length c.args.out.now) c.hear.new.out) (is_heard g at.After-hear (kind g at.After-kind)) refl) c.hear.ensures.ok
 
 pub returns-clause-refused : goal.returns-clause-refused
 returns-clause-refused g c =
-    let same : c.tree.result.now ≡ c.args.self.now.document = c.tree.ensures ∙ ap (λ (p : Presentation). p.document) c.self.view_is in
-    let h = c.in_ok-serial.ensures.ok in
-    let kind : c.kind.result ≡ h.0.kind =
-    kind_named c.args.self.now.document c.args.who.now h.0 c.in_ok-serial.serial c.kind.result (subst (λ (p : Presentation). IsNumberedTree p.document) c.self.view_is c.self.invariant.shown_is.state.document.numbered) h.1 h.2
-    (c.kind.ensures ∙ ap (λ (d : Document). kind_of (node_at d.nodes c.in_ok-serial.serial)) same) in
-    let continuous = ap is_continuous (sym kind) ∙ sym c.is_continuous.ensures ∙ c.if-not-is_continuous.false in
-    IfErr-weaker c.hear.result (IsNotHeard c.args.self.now (happening.Media c.in_ok-serial.serial (to_z w64 (of_z w64 c.args.length)))) (Refuses formats c.args.self.now (order.Media c.args.who.now c.args.length))
-    (λ r not_heard. media_not_heard c.args.self.now c.args.who.now c.in_ok-serial.serial (to_z w64 (of_z w64 c.args.length)) c.args.length h.0 r h.1 continuous h.2 (to_z-of_z w64 c.args.length c.ranges.length) not_heard) c.hear.ensures.refused
+    let at = goal.at.returns-clause-refused g c in
+    let what = happening.Media c.in_ok-serial.serial (to_z w64 (of_z w64 c.args.length)) in
+    let asked = order.Media c.args.who.now c.args.length in
+    IfErr-weaker c.hear.result (IsNotHeard c.args.self.now what) (Refuses formats c.args.self.now asked) (λ r none. not_heard c.args.self.now asked what r (is_heard g at.After-hear (kind g at.After-kind)) none) c.hear.ensures.refused
 
 pub returns-clause-bounded : goal.returns-clause-bounded
 returns-clause-bounded g c =

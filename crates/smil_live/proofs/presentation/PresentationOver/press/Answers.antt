@@ -1,4 +1,4 @@
-use Rattle.std.proofs.Common.{drop, length, ◌-◌}
+use Rattle.std.proofs.Common.{refl, drop, length, ◌-◌}
 use Rattle.std.proofs.lemmas.Result.{IfErr-weaker, on_ok_weaker}
 use Rattle.smil_model.specs.declared.diary.Happening.TheVariants as happening
 use Rattle.smil_model.specs.declared.order.Order.TheVariants as order
@@ -7,17 +7,17 @@ use Rattle.smil_grammar.specs.Formats.{formats}
 use Rattle.smil_live.specs.Moves.{IsNotHeard}
 use Rattle.smil_live.specs.Counts.{most_number, told_where}
 use Rattle.smil_live.proofs.CountedOrders.{bounded_then}
-use Rattle.smil_live.proofs.Keyed.{key_heard, key_not_heard}
+use Rattle.smil_live.proofs.Outcomes.{heard_answered, not_heard}
 use Rattle.smil_live.proofs.presentation.PresentationOver.press.Goals as goal
 
 pub returns-clause-ok : goal.returns-clause-ok
 returns-clause-ok g c =
-    on_ok_weaker c.hear.result (key_heard c.args.self.now c.hear.new.self c.args.key (drop (length c.args.out.now) c.hear.new.out) c.settled.ensures.state.document.numbered) c.hear.ensures.ok
+    on_ok_weaker c.hear.result (heard_answered c.args.self.now c.hear.new.self (order.Key c.args.key) (happening.Key c.args.key) (drop (length c.args.out.now) c.hear.new.out) refl refl) c.hear.ensures.ok
 
 pub returns-clause-refused : goal.returns-clause-refused
 returns-clause-refused g c =
     IfErr-weaker c.hear.result (IsNotHeard c.args.self.now (happening.Key c.args.key)) (Refuses formats c.args.self.now (order.Key c.args.key))
-    (key_not_heard c.args.self.now c.args.key) c.hear.ensures.refused
+    (λ r none. not_heard c.args.self.now (order.Key c.args.key) (happening.Key c.args.key) r refl none) c.hear.ensures.refused
 
 pub returns-clause-bounded : goal.returns-clause-bounded
 returns-clause-bounded g c =

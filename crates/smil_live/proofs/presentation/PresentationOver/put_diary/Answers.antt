@@ -5,7 +5,7 @@ use Rattle.std.proofs.lemmas.Int.{to_z-of_z}
 use Rattle.std.proofs.lemmas.Result.{on_ok_weaker}
 use Rattle.smil_model.specs.shown.Orders.{Presentation}
 use Rattle.smil_grammar.specs.Formats.{formats}
-use Rattle.smil_live.proofs.Answering.{diary_told, kept_diary}
+use Rattle.smil_live.proofs.ToldAnswers.{diary_told, kept_diary}
 use Rattle.smil_live.proofs.presentation.PresentationOver.put_diary.Goals as goal
 
 pub returns-clause-told : goal.returns-clause-told

@@ -4,7 +4,8 @@ use Rattle.std.proofs.lemmas.Result.{on_err_weaker, on_ok_weaker}
 use Rattle.std.specs.Prelude.{length, take}
 use Rattle.smil_model.specs.shown.Orders.{Presentation, views_of}
 use Rattle.smil_model.proofs.Growing.{begins_by}
-use Rattle.smil_live.proofs.Edited.{are_of, on_err_always, told_edited}
+use Rattle.smil_shown.proofs.AllViews.{of_nodes}
+use Rattle.smil_live.proofs.EditedPresentations.{on_err_always, told_edited}
 use Rattle.smil_live.proofs.RebuiltCells.{moment_kept}
 use Rattle.smil_live.proofs.Standings.{views_settled}
 use Rattle.smil_live.proofs.presentation.PresentationOver.put_edited.Goals as goal
@@ -13,7 +14,7 @@ pub returns-in_err-put_all_gone-clause-err : goal.returns-in_err-put_all_gone-cl
 returns-in_err-put_all_gone-clause-err g c = on_err_always c.from_residual.result c.in_err-put_all_gone.ensures.err
 
 pub put_differences-requires : goal.put_differences-requires
-put_differences-requires g c = are_of c.args.cells.now c.args.seen.now c.tree-3.result.now c.requires.playing c.tree-3.ensures
+put_differences-requires g c = of_nodes c.args.cells.now c.tree-3.result.now c.args.seen.now.views c.tree-3.ensures c.requires.playing.shown_is.views_are
 
 pub returns-clause-ok : goal.returns-clause-ok
 returns-clause-ok g c =

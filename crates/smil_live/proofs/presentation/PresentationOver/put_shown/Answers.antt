@@ -6,11 +6,12 @@ use Rattle.std.proofs.lemmas.Int.{to_z-of_z}
 use Rattle.std.proofs.lemmas.Result.{on_ok_weaker}
 use Rattle.smil_model.specs.shown.Answers.{change_text}
 use Rattle.smil_model.specs.shown.Orders.{Presentation, at_moment}
-use Rattle.smil_live.proofs.Answering.{begins_or, kept_known, kept_views, shown_answer}
+use Rattle.smil_shown.proofs.AllViews.{of_nodes}
+use Rattle.smil_live.proofs.ToldAnswers.{begins_or, kept_views, shown_answer}
 use Rattle.smil_live.proofs.presentation.PresentationOver.put_shown.Goals as goal
 
 pub put_views-requires : goal.put_views-requires
-put_views-requires g c = kept_known c.self.inside.viewer.cells c.self.inside.viewer.seen c.tree.result.now c.self.inside.viewer.seen.views c.self.invariant c.tree.ensures refl
+put_views-requires g c = of_nodes c.self.inside.viewer.cells c.tree.result.now c.self.inside.viewer.seen.views c.tree.ensures c.self.invariant.shown_is.views_are
 
 pub returns-clause-told : goal.returns-clause-told
 returns-clause-told g c =

@@ -2,19 +2,14 @@ use Rattle.std.proofs.Common.{◌∙◌, ap}
 use Rattle.std.proofs.lemmas.Result.{on_ok_weaker}
 use Rattle.smil_model.specs.shown.Orders.{Presentation}
 use Rattle.smil_model.specs.shown.Sandwich.{layers}
-use Rattle.smil_live.proofs.Answering.{kept_elements, kept_views, values_answer}
-use Rattle.smil_shown.proofs.Gathered.{among}
+use Rattle.smil_live.proofs.ToldAnswers.{kept_elements, kept_sets, kept_views, values_answer}
 use Rattle.smil_live.proofs.presentation.PresentationOver.put_values.Goals as goal
 
 pub of-requires : goal.of-requires
 of-requires g c = kept_elements c.self.inside.viewer.cells c.self.inside.viewer.seen c.tree-tree.result.now c.views.result.now c.self.invariant c.tree-tree.ensures c.views.ensures
 
 pub put_all_values-requires : goal.put_all_values-requires
-put_all_values-requires g c =
-    let d = c.tree-tree.result.now in
-    let vs = c.views.result.now in
-    let of = kept_elements c.self.inside.viewer.cells c.self.inside.viewer.seen d vs c.self.invariant c.tree-tree.ensures c.views.ensures in
-    record { setters = (layers d.nodes vs, among d.nodes c.in_ok-sets.sets vs of c.in_ok-sets.ensures) }
+put_all_values-requires g c = record { setters = kept_sets c.self.inside.viewer.cells c.self.inside.viewer.seen c.tree-tree.result.now c.views.result.now c.in_ok-sets.sets c.self.invariant c.tree-tree.ensures c.views.ensures c.in_ok-sets.ensures }
 
 pub returns-clause-told : goal.returns-clause-told
 returns-clause-told g c =

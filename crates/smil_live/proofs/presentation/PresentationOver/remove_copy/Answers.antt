@@ -1,32 +1,30 @@
-use Rattle.std.proofs.Common.{ap, inr, ◌∙◌}
-use Rattle.smil_model.specs.declared.document.Node.{Node}
-use Rattle.smil_model.specs.document.Document.{Document}
-use Rattle.smil_model.specs.shown.Orders.{Presentation, node_removed_from}
+use Rattle.std.proofs.Common.{◌≡◌, ap, inr, ◌∙◌}
+use Rattle.smil_model.specs.shown.Orders.{Presentation, node_removed_from, on_node}
 use Rattle.smil_tree.proofs.Results.{on_err}
-use Rattle.smil_live.proofs.Edited.{edit_err, edit_ok, edit_there, node_there}
-use Rattle.smil_live.proofs.Editing.{not_found}
+use Rattle.smil_revision.specs.Editing.{at_node}
+use Rattle.smil_live.proofs.EditedPresentations.{edit_err, edit_ok, edit_there, node_there}
+use Rattle.smil_live.proofs.EditOrders.{not_found}
+use Rattle.smil_live.proofs.presentation.PresentationOver.remove_copy.Given.{Over}
 use Rattle.smil_live.proofs.presentation.PresentationOver.remove_copy.Goals as goal
+use Rattle.smil_live.proofs.presentation.PresentationOver.remove_copy.Goals.{After-without_node}
 
 pub without_node-requires : goal.without_node-requires
 without_node-requires g c =
     let same = c.tree-tree.ensures ∙ ap (λ (p : Presentation). p.document) c.self.view_is in
     node_there c.args.self.now c.tree-tree.result.now c.args.who.now c.in_ok-serial.serial c.valid.ensures same c.in_ok-serial.ensures.ok
 
+-- the edit is that of the node that is named
+there : (g : Over) (c : After-without_node g) → on_node c.args.self.now c.args.who.now (node_removed_from c.args.self.now.document) ≡ at_node c.tree-tree.result.now.nodes c.in_ok-serial.serial (node_removed_from c.tree-tree.result.now)
+there g c =
+    edit_there c.args.self.now c.tree-tree.result.now c.args.who.now c.in_ok-serial.serial node_removed_from c.valid.ensures (c.tree-tree.ensures ∙ ap (λ (p : Presentation). p.document) c.self.view_is) c.in_ok-serial.ensures.ok
+
 pub returns-clause-ok : goal.returns-clause-ok
-returns-clause-ok g c =
-    let same = c.tree-tree.ensures ∙ ap (λ (p : Presentation). p.document) c.self.view_is in
-    edit_ok c.without_node.result _ _
-    (edit_there c.args.self.now c.tree-tree.result.now c.args.who.now c.in_ok-serial.serial (λ (d : Document) (n : Node). node_removed_from d n) c.valid.ensures same c.in_ok-serial.ensures.ok)
-    c.without_node.ensures.ok
+returns-clause-ok g c = edit_ok c.without_node.result _ _ (there g (goal.at.returns-clause-ok g c).After-without_node) c.without_node.ensures.ok
 
 pub returns-clause-err : goal.returns-clause-err
-returns-clause-err g c =
-    let same = c.tree-tree.ensures ∙ ap (λ (p : Presentation). p.document) c.self.view_is in
-    edit_err c.without_node.result _ _
-    (edit_there c.args.self.now c.tree-tree.result.now c.args.who.now c.in_ok-serial.serial (λ (d : Document) (n : Node). node_removed_from d n) c.valid.ensures same c.in_ok-serial.ensures.ok)
-    c.without_node.ensures.err
+returns-clause-err g c = edit_err c.without_node.result _ _ (there g (goal.at.returns-clause-err g c).After-without_node) c.without_node.ensures.err
 
 pub returns-in_err-serial-clause-err : goal.returns-in_err-serial-clause-err
 returns-in_err-serial-clause-err g c =
     on_err _ c.from_residual.result c.in_err-serial.field-0.0 c.from_residual.ensures.1
-    (inr (not_found c.args.self.now c.args.who.now (λ (n : Node). node_removed_from c.args.self.now.document n) c.in_err-serial.field-0.0 c.in_err-serial.ensures.err))
+    (inr (not_found c.args.self.now c.args.who.now (node_removed_from c.args.self.now.document) c.in_err-serial.field-0.0 c.in_err-serial.ensures.err))

@@ -12,9 +12,10 @@ use Rattle.smil_live.specs.Moves.{IsTooFull, text_of}
 use Rattle.smil_live.proofs.CountedOrders.{bounded_too_full, seek_bounded}
 use Rattle.smil_live.proofs.Outcomes.{clock_from, not_above, moved_as_sought, not_sought, sought, within_sought}
 use Rattle.smil_live.proofs.Standings.{state_then}
-use Rattle.smil_shown.proofs.Presenting.{within_horizon}
+use Rattle.smil_shown.proofs.PresentMoments.{within_horizon}
 use Rattle.smil_live.proofs.presentation.PresentationOver.seek.Given.{Over}
 use Rattle.smil_live.proofs.presentation.PresentationOver.seek.Goals as goal
+use Rattle.smil_live.proofs.presentation.PresentationOver.seek.Goals.{After-go}
 
 -- what is not below the present moment
 onward : (p : Presentation) (to moment : ℤ) → IsState p → to_z w64 (of_z w64 to) ≡ to → moment ≡ pos p.now → int_lt (to_z w64 (of_z w64 to)) (to_z w64 (of_z w64 moment)) ≡ false → pos p.now ≤ℤ to
@@ -30,11 +31,15 @@ returns-clause-ok g c =
     let q = c.go.new.self in
     let to = c.args.to in
     let there : to_z w64 (of_z w64 to) ≡ to = to_z-of_z w64 to c.ranges.to in
-    let state : IsState p = subst IsState c.self.view_is c.self.invariant.shown_is.state in
     let moved : q ≡ as_of p (nat_abs to) = subst (λ (z : ℤ). q ≡ as_of p (nat_abs z)) there c.in_ok-go.ensures.state in
     let told = subst (λ (z : ℤ). c.go.new.out ≡ c.args.out.now ++ text_of p (changes_between p (as_of p (nat_abs z)))) there c.in_ok-go.ensures.told in
-    sought p q to c.args.out.now c.go.new.out state (moved_as_sought p q to moved c.settled.ensures.state) c.settled.ensures.state c.settled.ensures.diary
+    sought p q to c.args.out.now c.go.new.out (moved_as_sought p q to moved c.settled.ensures.state) c.settled.ensures.state c.settled.ensures.diary
     (told ∙ ap (λ (r : Presentation). c.args.out.now ++ text_of p (changes_between p r)) (sym moved))
+
+from : (g : Over) (c : After-go g) → pos c.args.self.now.now ≤ℤ c.args.to
+from g c =
+    onward c.args.self.now c.args.to c.moment.result (subst IsState c.self.view_is c.self.invariant.shown_is.state) (to_z-of_z w64 c.args.to c.ranges.to)
+    (subst (λ (q : Presentation). c.moment.result ≡ pos q.now) c.self.view_is c.moment.ensures) c.if-to-moment.false
 
 pub returns-in_err-go-clause-refused : goal.returns-in_err-go-clause-refused
 returns-in_err-go-clause-refused g c =
@@ -42,23 +47,16 @@ returns-in_err-go-clause-refused g c =
     let to = c.args.to in
     let there : to_z w64 (of_z w64 to) ≡ to = to_z-of_z w64 to c.ranges.to in
     let state : IsState p = subst IsState c.self.view_is c.self.invariant.shown_is.state in
-    let now : c.moment.result ≡ pos p.now = subst (λ (q : Presentation). c.moment.result ≡ pos q.now) c.self.view_is c.moment.ensures in
-    let from = onward p to c.moment.result state there now c.if-to-moment.false in
     let given = c.in_err-go.field-0.0 in
     let full : IsTooFull (as_of p (nat_abs to)) given = subst (λ (z : ℤ). IsTooFull (as_of p (nat_abs z)) given) there c.in_err-go.ensures.refused in
     on_err (Refuses formats p (order.Seek to)) c.from_residual.result given c.from_residual.ensures.1
-    (not_sought p (as_of p (nat_abs to)) to given (moved_as_sought p (as_of p (nat_abs to)) to refl (state_then p to state from (clock_from to c.requires).1)) (within_sought to c.requires) full)
-
-from : (g : Over) (c : goal.After-settled g) → pos c.args.self.now.now ≤ℤ c.args.to
-from g c =
-    onward c.args.self.now c.args.to c.moment.result (subst IsState c.self.view_is c.self.invariant.shown_is.state) (to_z-of_z w64 c.args.to c.ranges.to)
-    (subst (λ (q : Presentation). c.moment.result ≡ pos q.now) c.self.view_is c.moment.ensures) c.if-to-moment.false
+    (not_sought p (as_of p (nat_abs to)) to given (moved_as_sought p (as_of p (nat_abs to)) to refl (state_then p to state (from g (goal.at.returns-in_err-go-clause-refused g c).After-go) (clock_from to c.requires).1)) (within_sought to c.requires) full)
 
 pub returns-clause-bounded : goal.returns-clause-bounded
 returns-clause-bounded g c =
     let p = c.args.self.now in
     let rise = c.go.new.steps - c.args.steps.now in
-    seek_bounded g.T.Table.counts p c.go.new.self c.args.to rise (from g c) (returns-clause-ok g c).state
+    seek_bounded g.T.Table.counts p c.go.new.self c.args.to rise (from g (goal.at.returns-clause-bounded g c).After-go) (returns-clause-ok g c).state
     (subst (λ (q : Presentation). WhereTold g.T.Table.counts (rise ≤ most_onward p q)) (sym c.in_ok-go.ensures.state) c.in_ok-go.ensures.most)
     (subst (λ (q : Presentation). WhereTold g.T.Table.counts (least_onward p q ≤ rise)) (sym c.in_ok-go.ensures.state) c.in_ok-go.ensures.least)
 

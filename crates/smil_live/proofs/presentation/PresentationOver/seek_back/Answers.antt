@@ -12,9 +12,11 @@ use Rattle.smil_live.specs.Counted.{IsFree}
 use Rattle.smil_live.specs.Counts.{most_number, told_where}
 use Rattle.smil_live.proofs.AgreedCells.{sought_least, sought_most}
 use Rattle.smil_live.proofs.CountedOrders.{bounded_too_full, free_too_full}
-use Rattle.smil_live.proofs.Edited.{replayed_own}
+use Rattle.smil_live.proofs.EditedPresentations.{replayed_own}
 use Rattle.smil_live.proofs.Outcomes.{appended_both, not_sought, on_both, sought_anew, within_sought}
+use Rattle.smil_live.proofs.presentation.PresentationOver.seek_back.Given.{Over}
 use Rattle.smil_live.proofs.presentation.PresentationOver.seek_back.Goals as goal
+use Rattle.smil_live.proofs.presentation.PresentationOver.seek_back.Goals.{After-take_over}
 
 pub take_over-requires-clause-state : goal.take_over-requires-clause-state
 take_over-requires-clause-state g c = subst IsState (sym c.in_ok-cells.ensures.ok.presentation_is) c.made_at.ensures.state
@@ -22,13 +24,15 @@ take_over-requires-clause-state g c = subst IsState (sym c.in_ok-cells.ensures.o
 pub take_over-requires-clause-replayed : goal.take_over-requires-clause-replayed
 take_over-requires-clause-replayed g c = replayed_own _ c.in_ok-cells.cells c.in_ok-cells.ensures.ok
 
+-- the cells are those of the presentation that is sought
+replayed : (g : Over) (c : After-take_over g) → IsReplayed (sought_of c.args.self.now c.args.to) c.in_ok-cells.cells
+replayed g c = subst (λ (z : ℤ). IsReplayed (sought_of c.args.self.now z) c.in_ok-cells.cells) (to_z-of_z w64 c.args.to c.ranges.to) c.in_ok-cells.ensures.ok
+
 pub returns-clause-ok : goal.returns-clause-ok
 returns-clause-ok g c =
     let p = c.args.self.now in
-    let there : to_z w64 (of_z w64 c.args.to) ≡ c.args.to = to_z-of_z w64 c.args.to c.ranges.to in
-    let is : IsReplayed (sought_of p c.args.to) c.in_ok-cells.cells = subst (λ (z : ℤ). IsReplayed (sought_of p z) c.in_ok-cells.cells) there c.in_ok-cells.ensures.ok in
-    let state : IsState (sought_of p c.args.to) = subst (λ (z : ℤ). IsState (sought_of p z)) there c.made_at.ensures.state in
-    on_both c.take_over.result (sought_anew p c.take_over.new.self c.in_ok-cells.cells c.args.to c.args.out.now c.take_over.new.out c.settled.ensures.state state is) c.take_over.ensures.state c.take_over.ensures.told
+    let state : IsState (sought_of p c.args.to) = subst (λ (z : ℤ). IsState (sought_of p z)) (to_z-of_z w64 c.args.to c.ranges.to) c.made_at.ensures.state in
+    on_both c.take_over.result (sought_anew p c.take_over.new.self c.in_ok-cells.cells c.args.to c.args.out.now c.take_over.new.out state (replayed g (goal.at.returns-clause-ok g c).After-take_over)) c.take_over.ensures.state c.take_over.ensures.told
 
 pub returns-clause-appended : goal.returns-clause-appended
 returns-clause-appended g c =
@@ -52,11 +56,9 @@ returns-clause-bounded g c =
     let p = c.args.self.now in
     let text = drop (length c.args.out.now) c.take_over.new.out in
     let rise = c.made_at.new.steps - c.args.steps.now in
-    let there : to_z w64 (of_z w64 c.args.to) ≡ c.args.to = to_z-of_z w64 c.args.to c.ranges.to in
-    let is : IsReplayed (sought_of p c.args.to) c.in_ok-cells.cells = subst (λ (z : ℤ). IsReplayed (sought_of p z) c.in_ok-cells.cells) there c.in_ok-cells.ensures.ok in
     record {
       most =
-          sought_most c.take_over.result g.T.Table.counts p c.take_over.new.self c.in_ok-cells.cells c.args.to text rise c.requires.clock c.requires.back is c.take_over.ensures.state
+          sought_most c.take_over.result g.T.Table.counts p c.take_over.new.self c.in_ok-cells.cells c.args.to text rise c.requires.clock c.requires.back (replayed g (goal.at.returns-clause-bounded g c).After-take_over) c.take_over.ensures.state
           (returns-clause-ok g c) c.in_ok-cells.ensures.most;
       least = sought_least c.take_over.result g.T.Table.counts p c.take_over.new.self c.args.to text rise c.requires.clock c.requires.back (returns-clause-ok g c);
       free =

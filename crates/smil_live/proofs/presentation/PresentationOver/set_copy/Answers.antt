@@ -1,13 +1,22 @@
-use Rattle.std.proofs.Common.{ap, inr, ◌∙◌}
+use Rattle.std.proofs.Common.{◌≡◌, Result, ap, inr, ◌∙◌}
 use Rattle.smil_model.specs.declared.document.Node.{Node}
+use Rattle.smil_model.specs.declared.order.Refusal.{Refusal}
 use Rattle.smil_model.specs.document.Document.{Document}
 use Rattle.smil_model.specs.document.Limits.{limits}
-use Rattle.smil_model.specs.shown.Orders.{Presentation, attr_set_by}
+use Rattle.smil_model.specs.shown.Orders.{Presentation, attr_set_by, on_node}
 use Rattle.smil_grammar.specs.Formats.{formats}
 use Rattle.smil_tree.proofs.Results.{on_err}
-use Rattle.smil_live.proofs.Edited.{edit_err, edit_ok, edit_there, node_there}
-use Rattle.smil_live.proofs.Editing.{not_found}
+use Rattle.smil_revision.specs.Editing.{at_node}
+use Rattle.smil_revision.specs.declared.values.Setting.{Setting}
+use Rattle.smil_live.proofs.EditedPresentations.{edit_err, edit_ok, edit_there, node_there}
+use Rattle.smil_live.proofs.EditOrders.{not_found}
+use Rattle.smil_live.proofs.presentation.PresentationOver.set_copy.Given.{Over}
 use Rattle.smil_live.proofs.presentation.PresentationOver.set_copy.Goals as goal
+use Rattle.smil_live.proofs.presentation.PresentationOver.set_copy.Goals.{After-with_value}
+
+-- the edit of a node
+abbrev made : Setting → Document → Node → Result Document Refusal
+made setting d n = attr_set_by limits formats d n setting.attr.text.now setting.value.text.now setting.attr.column setting.value.column
 
 pub with_value-requires-clause-name : goal.with_value-requires-clause-name
 with_value-requires-clause-name g c = c.requires.1
@@ -26,21 +35,18 @@ with_value-requires-clause-known g c =
     let same = c.tree-tree.ensures ∙ ap (λ (p : Presentation). p.document) c.self.view_is in
     node_there c.args.self.now c.tree-tree.result.now c.args.who.now c.in_ok-serial.serial c.valid.ensures same c.in_ok-serial.ensures.ok
 
+-- the edit is that of the node that is named
+there : (g : Over) (c : After-with_value g) → on_node c.args.self.now c.args.who.now (made c.args.setting c.args.self.now.document) ≡ at_node c.tree-tree.result.now.nodes c.in_ok-serial.serial (made c.args.setting c.tree-tree.result.now)
+there g c =
+    edit_there c.args.self.now c.tree-tree.result.now c.args.who.now c.in_ok-serial.serial (made c.args.setting) c.valid.ensures (c.tree-tree.ensures ∙ ap (λ (p : Presentation). p.document) c.self.view_is) c.in_ok-serial.ensures.ok
+
 pub returns-clause-ok : goal.returns-clause-ok
-returns-clause-ok g c =
-    let same = c.tree-tree.ensures ∙ ap (λ (p : Presentation). p.document) c.self.view_is in
-    edit_ok c.with_value.result _ _
-    (edit_there c.args.self.now c.tree-tree.result.now c.args.who.now c.in_ok-serial.serial (λ (d : Document) (n : Node). attr_set_by limits formats d n c.args.setting.attr.text.now c.args.setting.value.text.now c.args.setting.attr.column c.args.setting.value.column) c.valid.ensures same c.in_ok-serial.ensures.ok)
-    c.with_value.ensures.ok
+returns-clause-ok g c = edit_ok c.with_value.result _ _ (there g (goal.at.returns-clause-ok g c).After-with_value) c.with_value.ensures.ok
 
 pub returns-clause-err : goal.returns-clause-err
-returns-clause-err g c =
-    let same = c.tree-tree.ensures ∙ ap (λ (p : Presentation). p.document) c.self.view_is in
-    edit_err c.with_value.result _ _
-    (edit_there c.args.self.now c.tree-tree.result.now c.args.who.now c.in_ok-serial.serial (λ (d : Document) (n : Node). attr_set_by limits formats d n c.args.setting.attr.text.now c.args.setting.value.text.now c.args.setting.attr.column c.args.setting.value.column) c.valid.ensures same c.in_ok-serial.ensures.ok)
-    c.with_value.ensures.err
+returns-clause-err g c = edit_err c.with_value.result _ _ (there g (goal.at.returns-clause-err g c).After-with_value) c.with_value.ensures.err
 
 pub returns-in_err-serial-clause-err : goal.returns-in_err-serial-clause-err
 returns-in_err-serial-clause-err g c =
     on_err _ c.from_residual.result c.in_err-serial.field-0.0 c.from_residual.ensures.1
-    (inr (not_found c.args.self.now c.args.who.now (λ (n : Node). attr_set_by limits formats c.args.self.now.document n c.args.setting.attr.text.now c.args.setting.value.text.now c.args.setting.attr.column c.args.setting.value.column) c.in_err-serial.field-0.0 c.in_err-serial.ensures.err))
+    (inr (not_found c.args.self.now c.args.who.now (made c.args.setting c.args.self.now.document) c.in_err-serial.field-0.0 c.in_err-serial.ensures.err))

@@ -5,8 +5,8 @@ use Rattle.smil_tree.proofs.Results.{on_err}
 use Rattle.smil_cells.specs.CellsState.{with_logged}
 use Rattle.smil_live.specs.Moves.{IsTooFull}
 use Rattle.smil_live.specs.declared.moves.Move.TheVariants as move
-use Rattle.smil_live.proofs.Edited.{on_ok_always}
-use Rattle.smil_live.proofs.Going.{shown_behind, told_behind}
+use Rattle.smil_live.proofs.EditedPresentations.{on_ok_always}
+use Rattle.smil_live.proofs.MadeMoves.{shown_behind, told_behind}
 use Rattle.smil_live.proofs.Replays.{refused_as}
 use Rattle.smil_live.proofs.Standings.{made_is_state, nothing_before}
 use Rattle.smil_live.proofs.viewer.Viewer.hear_once.Goals as goal

@@ -7,11 +7,12 @@ use Rattle.smil_model.specs.shown.Orders.{changes_between, changes_through, as_o
 use Rattle.smil_tree.proofs.Results.{on_err}
 use Rattle.smil_model.proofs.Growing.{begins_by, begins_itself}
 use Rattle.smil_live.specs.Moves.{IsShownAt, IsTooFull, text_of}
-use Rattle.smil_live.proofs.Counted.{IsCounted, counted_first, counted_last, counted_then}
+use Rattle.smil_live.proofs.CellCounts.{IsCounted, counted_first, counted_last, counted_then}
 use Rattle.smil_live.proofs.Onward.{arrives, comes_nearer, due_from, passes_on, sets_out, too_full_then}
 use Rattle.smil_live.proofs.Replays.{fits}
 use Rattle.smil_live.proofs.viewer.Viewer.pass_through.Given.{Over}
 use Rattle.smil_live.proofs.viewer.Viewer.pass_through.Goals as goal
+use Rattle.smil_live.proofs.viewer.Viewer.pass_through.Goals.{After-settle_once-2, In-Some, In_ok-settle_once}
 
 not_above : (x y z : ℤ) → x ≤ℤ y → y ≤ℤ z → x ≤ℤ z
 not_above x y z p q = omega (arith, ints, p, q)
@@ -29,63 +30,60 @@ loop-due-init g c =
       counted_first g.T.Table.counts s c.args.steps.now,
     )
 
+-- where what comes next is due on the way
+module _ (g : Over) (c : In-Some g) where
+  later : pos c.loop-due.self.cells.presentation.now ≤ℤ c.in-Some.due
+  later = due_from c.loop-due.invariant.0 c.in-Some.ensures.first
+
+  within : c.in-Some.due ≤ℤ HORIZON
+  within = not_above c.in-Some.due (to_z w64 (of_z w64 c.args.to)) HORIZON c.in-Some.ensures.within c.loop-due.invariant.2
+
+  whole : to_z w64 (of_z w64 c.in-Some.due) ≡ c.in-Some.due
+  whole = to_z-of_z w64 c.in-Some.due (fits c.loop-due.self.cells.presentation.now c.in-Some.due later within)
+
 pub settle_once-requires-clause-may : goal.settle_once-requires-clause-may
 settle_once-requires-clause-may g c =
-    let v = c.loop-due.invariant in
-    let s = c.loop-due.self.cells in
-    let due = c.in-Some.due in
-    let from = due_from c.args.self.now.cells.presentation c.args.out.now (to_z w64 (of_z w64 c.args.to)) s c.loop-due.self.seen c.loop-due.out v.0 due c.in-Some.ensures.first in
-    let within = not_above due (to_z w64 (of_z w64 c.args.to)) HORIZON c.in-Some.ensures.within v.2 in
-    subst (λ (x : ℤ). (pos s.presentation.now ≤ℤ x) × (x ≤ℤ HORIZON)) (sym (to_z-of_z w64 due (fits s.presentation.now due from within))) (from, within)
+    let i = (goal.at.settle_once-requires-clause-may g c).In-Some in
+    subst (λ (x : ℤ). (pos c.loop-due.self.cells.presentation.now ≤ℤ x) × (x ≤ℤ HORIZON)) (sym (whole g i)) (later g i, within g i)
 
 pub returns-in_err-settle_once-clause-refused : goal.returns-in_err-settle_once-clause-refused
 returns-in_err-settle_once-clause-refused g c =
-    let v = c.loop-due.invariant in
     let p = c.args.self.now.cells.presentation in
     let s = c.loop-due.self.cells in
-    let due = c.in-Some.due in
-    let to = to_z w64 (of_z w64 c.args.to) in
-    let from = due_from p c.args.out.now to s c.loop-due.self.seen c.loop-due.out v.0 due c.in-Some.ensures.first in
-    let whole = to_z-of_z w64 due (fits s.presentation.now due from (not_above due to HORIZON c.in-Some.ensures.within v.2)) in
     let given = c.in_err-settle_once.field-0.0 in
     on_err (IsTooFull (as_of p (nat_abs c.args.to))) c.from_residual.result given c.from_residual.ensures.1
     (subst (λ (x : ℤ). IsTooFull (as_of p (nat_abs x)) given) (to_z-of_z w64 c.args.to c.ranges.to)
-    (too_full_then p c.args.out.now to s c.loop-due.self.seen c.loop-due.out v.0 due c.in-Some.ensures.first c.in-Some.ensures.within given
-    (subst (λ (x : ℤ). IsTooFull (as_of s.presentation (nat_abs x)) given) whole c.in_err-settle_once.ensures.refused)))
+    (too_full_then c.loop-due.invariant.0 c.in-Some.ensures.first c.in-Some.ensures.within given
+    (subst (λ (x : ℤ). IsTooFull (as_of s.presentation (nat_abs x)) given) (whole g (goal.at.returns-in_err-settle_once-clause-refused g c).In-Some) c.in_err-settle_once.ensures.refused)))
+
+-- the standing at that moment, and what is told there
+there : (g : Over) (c : In_ok-settle_once g) → to_z w64 (of_z w64 c.in-Some.due) ≡ c.in-Some.due → IsShownAt (as_of c.loop-due.self.cells.presentation (nat_abs c.in-Some.due)) c.settle_once.new.self.cells c.settle_once.new.self.seen
+    × (c.settle_once.new.out ≡ c.loop-due.out ++ text_of c.loop-due.self.cells.presentation (changes_between c.loop-due.self.cells.presentation (as_of c.loop-due.self.cells.presentation (nat_abs c.in-Some.due))))
+there g c whole =
+    let s = c.loop-due.self.cells in (
+      subst (λ (x : ℤ). IsShownAt (as_of s.presentation (nat_abs x)) c.settle_once.new.self.cells c.settle_once.new.self.seen) whole c.in_ok-settle_once.ensures.ok,
+      subst (λ (x : ℤ). c.settle_once.new.out ≡ c.loop-due.out ++ text_of s.presentation (changes_between s.presentation (as_of s.presentation (nat_abs x)))) whole c.in_ok-settle_once.ensures.told,
+    )
 
 pub loop-due-smaller : goal.loop-due-smaller
 loop-due-smaller g c =
-    let v = c.loop-due.invariant in
-    let p = c.args.self.now.cells.presentation in
-    let s = c.loop-due.self.cells in
-    let due = c.in-Some.due in
-    let to = to_z w64 (of_z w64 c.args.to) in
-    let from = due_from p c.args.out.now to s c.loop-due.self.seen c.loop-due.out v.0 due c.in-Some.ensures.first in
-    let whole = to_z-of_z w64 due (fits s.presentation.now due from (not_above due to HORIZON c.in-Some.ensures.within v.2)) in
-    let e = c.in_ok-settle_once.ensures in
-    comes_nearer p c.args.out.now to s c.loop-due.self.seen c.loop-due.out v.0 due c.in-Some.ensures.first c.in-Some.ensures.within c.settle_once.new.self.cells c.settle_once.new.self.seen c.settle_once.new.out
-    (subst (λ (x : ℤ). IsShownAt (as_of s.presentation (nat_abs x)) c.settle_once.new.self.cells c.settle_once.new.self.seen) whole e.ok)
-    (subst (λ (x : ℤ). c.settle_once.new.out ≡ c.loop-due.out ++ text_of s.presentation (changes_between s.presentation (as_of s.presentation (nat_abs x)))) whole e.told)
+    let at = goal.at.loop-due-smaller g c in
+    let due = there g at.In_ok-settle_once (whole g at.In-Some) in
+    comes_nearer c.loop-due.invariant.0 c.in-Some.ensures.first c.in-Some.ensures.within due.0 due.1
 
 pub loop-due-preserved : goal.loop-due-preserved
 loop-due-preserved g c =
+    let at = goal.at.loop-due-preserved g c in
+    let due = there g at.In_ok-settle_once (whole g at.In-Some) in
     let v = c.loop-due.invariant in
-    let p = c.args.self.now.cells.presentation in
-    let s = c.loop-due.self.cells in
-    let due = c.in-Some.due in
-    let to = to_z w64 (of_z w64 c.args.to) in
-    let from = due_from p c.args.out.now to s c.loop-due.self.seen c.loop-due.out v.0 due c.in-Some.ensures.first in
-    let whole = to_z-of_z w64 due (fits s.presentation.now due from (not_above due to HORIZON c.in-Some.ensures.within v.2)) in
     let e = c.in_ok-settle_once.ensures in (
-      passes_on p c.args.out.now to s c.loop-due.self.seen c.loop-due.out v.0 due c.in-Some.ensures.first c.in-Some.ensures.within c.settle_once.new.self.cells c.settle_once.new.self.seen c.settle_once.new.out
-          (subst (λ (x : ℤ). IsShownAt (as_of s.presentation (nat_abs x)) c.settle_once.new.self.cells c.settle_once.new.self.seen) whole e.ok)
-          (subst (λ (x : ℤ). c.settle_once.new.out ≡ c.loop-due.out ++ text_of s.presentation (changes_between s.presentation (as_of s.presentation (nat_abs x)))) whole e.told),
+      passes_on v.0 c.in-Some.ensures.first c.in-Some.ensures.within due.0 due.1,
       refl,
       v.2,
       e.marked ∙ v.3,
       e.before ∙ v.4,
       begins_by c.args.out.now c.loop-due.out c.settle_once.new.out v.5 e.begins,
-      counted_then g.T.Table.counts c.args.self.now.cells s c.settle_once.new.self.cells _ c.settle_once.new.self.seen c.args.steps.now c.loop-due.steps c.settle_once.new.steps v.0.presentation_is v.6 e.counted e.ok
+      counted_then g.T.Table.counts c.args.self.now.cells c.loop-due.self.cells c.settle_once.new.self.cells _ c.settle_once.new.self.seen c.args.steps.now c.loop-due.steps c.settle_once.new.steps v.0.presentation_is v.6 e.counted e.ok
           e.goes_on e.most e.least,
     )
 
@@ -97,10 +95,10 @@ returns-clause-told g c =
     on_ok_weaker c.settle_once-2.result
     (λ (q : c.settle_once-2.new.out ≡ c.loop-due.out ++ text_of c.loop-due.self.cells.presentation (changes_between c.loop-due.self.cells.presentation (as_of c.loop-due.self.cells.presentation (nat_abs to)))).
     subst (λ (x : ℤ). c.settle_once-2.new.out ≡ c.args.out.now ++ text_of p (changes_through p (nat_abs x - p.now))) (to_z-of_z w64 c.args.to c.ranges.to)
-    (arrives p c.args.out.now to c.loop-due.self.cells c.loop-due.self.seen c.loop-due.out v.0 c.in_default.ensures.none c.settle_once-2.new.self.cells c.settle_once-2.new.self.seen c.settle_once-2.new.out q))
+    (arrives v.0 c.in_default.ensures.none q))
     c.settle_once-2.ensures.told
 
-counted : (g : Over) (c : goal.After-settle_once-2 g) → OnOk c.settle_once-2.result (IsCounted g.T.Table.counts c.args.self.now.cells c.settle_once-2.new.self.cells c.args.steps.now c.settle_once-2.new.steps)
+counted : (g : Over) (c : After-settle_once-2 g) → OnOk c.settle_once-2.result (IsCounted g.T.Table.counts c.args.self.now.cells c.settle_once-2.new.self.cells c.args.steps.now c.settle_once-2.new.steps)
 counted g c =
     let v = c.loop-due.invariant in
     let e = c.settle_once-2.ensures in

@@ -2,7 +2,7 @@ use Rattle.std.proofs.Common.{◌≡◌, ◌-◌}
 use Rattle.std.specs.Prelude.{nat_abs, ◌≤ℤ◌}
 use Rattle.smil_model.specs.declared.times.TheConstants.{HORIZON}
 use Rattle.smil_model.specs.document.Words.{Begins}
-use Rattle.smil_live.proofs.Counted.{IsCounted}
+use Rattle.smil_live.proofs.CellCounts.{IsCounted}
 use Rattle.smil_live.proofs.Onward.{IsPassing}
 use Rattle.smil_live.proofs.viewer.Viewer.pass_through.Given as goal
 

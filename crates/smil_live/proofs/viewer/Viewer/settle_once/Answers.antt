@@ -8,8 +8,8 @@ use Rattle.smil_diary.specs.Refusals.{of_book}
 use Rattle.smil_tree.proofs.Results.{on_err}
 use Rattle.smil_live.specs.Moves.{IsTooFull}
 use Rattle.smil_live.specs.declared.moves.Move.TheVariants as move
-use Rattle.smil_live.proofs.Edited.{on_ok_always}
-use Rattle.smil_live.proofs.Going.{shown_behind, told_behind}
+use Rattle.smil_live.proofs.EditedPresentations.{on_ok_always}
+use Rattle.smil_live.proofs.MadeMoves.{shown_behind, told_behind}
 use Rattle.smil_live.proofs.Replays.{refused_as}
 use Rattle.smil_live.proofs.Standings.{made_is_state}
 use Rattle.smil_live.proofs.viewer.Viewer.settle_once.Goals as goal

@@ -1,28 +1,33 @@
-use Rattle.std.proofs.Common.{◌≡◌, ◌∙◌, ap, sym, subst, refl, List, ℕ, ◌<◌, length, drop, get_or, ℤ, w64, arith}
+use Rattle.std.proofs.Common.{◌≡◌, ◌∙◌, ap, sym, subst, refl, List, ℕ, ◌<◌, length, drop, get_or, ℤ, w64, arith, true, false}
+use Rattle.std.specs.Prelude.{◌==◌, ◌||◌, ◌⊎◌, nat_eq}
+use Rattle.std.specs.List.{IsDistinct}
+use Rattle.std.proofs.lemmas.Bool.{or_cases, or_parts}
 use Rattle.std.proofs.lemmas.Int.{to_z-of_z}
 use Rattle.smil_model.specs.document.Closure.{has}
+use Rattle.smil_model.specs.document.Document.{elements, node_at}
 use Rattle.smil_model.specs.interval.Current.{current_interval}
 use Rattle.smil_laws.proofs.Numbered.{ordered}
+use Rattle.smil_laws.proofs.Rounds.{find-serial}
+use Rattle.smil_graph.specs.Graph.{IsGraphOrder}
 use Rattle.smil_past.specs.Past.{front, history_of}
 use Rattle.smil_element.proofs.Latest.{present_fits}
+use Rattle.smil_cells.specs.Plain.{interval_in}
 use Rattle.smil_cells.proofs.Current.{ordered_element}
 use Rattle.smil_cells.proofs.Taking.{unchanged_both, unchanged_none}
-use Rattle.smil_nodes.specs.Work.{AreSettled}
+use Rattle.smil_nodes.specs.Endings.{AreKnown}
+use Rattle.smil_nodes.specs.Marked.{GoesBack}
+use Rattle.smil_nodes.specs.Work.{AreSettled, IsCounted, IsUnlisted, gap_from, is_later_reader}
 use Rattle.smil_nodes.proofs.Gap.{gap_falls}
 use Rattle.smil_nodes.proofs.Fixed.{current_intervals}
 use Rattle.smil_nodes.proofs.Starting.{settled_first, first_reached}
-use Rattle.smil_nodes.proofs.Working.{others_stay, settled_same, settled_changed}
+use Rattle.smil_nodes.proofs.Working.{left_out, others_stay, settled_same, settled_changed}
 use Rattle.smil_nodes.proofs.Tally.{none_counted, one_counted, rank_passed}
 use Rattle.smil_nodes.proofs.Finishing.{counted_least, counted_most, settled_current, told_pushed, told_same, untold_stay}
-use Rattle.smil_nodes.proofs.Refreshing.{differ_in, from_later, from_taken, is_order, later_told, noted_told, noted_within, rest_of}
-use Rattle.std.proofs.lemmas.Bool.{or_parts}
-use Rattle.smil_model.specs.document.Document.{elements, node_at}
-use Rattle.smil_laws.proofs.Rounds.{find-serial}
-use Rattle.smil_cells.specs.Plain.{interval_in}
-use Rattle.smil_nodes.specs.Work.{IsUnlisted}
+use Rattle.smil_nodes.proofs.Refreshing.{differ_in, from_taken, is_order, later_told, noted_told, noted_within, rest_of}
 use Rattle.smil_nodes.proofs.Knowing.{all_unlisted, children_unlisted, known_ended, known_first, knows, unlisted_next}
-use Rattle.smil_nodes.proofs.Working.{left_out}
+use Rattle.smil_nodes.proofs.live.LiveTableTable.refresh.Given.{Over}
 use Rattle.smil_nodes.proofs.live.LiveTableTable.refresh.Goals as goal
+use Rattle.smil_nodes.proofs.live.LiveTableTable.refresh.Goals.{In_ok-evaluate, In_ok-put_readers}
 
 pub loop-rank-init : goal.loop-rank-init
 loop-rank-init g c =
@@ -71,123 +76,109 @@ evaluate-requires-clause-known g c = λ e here implicit.
     knows (history_of past) c.loop-rank.self.schedule c.loop-rank.self.endings (IsUnlisted order (has old)) who e distinct (c.loop-rank.invariant.0).of_elements c.loop-rank.invariant.6 here
     (λ k child at. children_unlisted nodes order old c.take_first.new.self rank e distinct is within (sym own) (ap (node_at (elements nodes)) own ∙ here) implicit c.in-Some.ensures k child at)
 
+-- what holds where an element was evaluated
+record Evaluated (g : Over) (c : In_ok-evaluate g) : Type 0 where
+  within : c.in-Some.rank < length c.order-order.result.now
+  is : IsGraphOrder c.args.since.now.past.now.document.nodes c.order-order.result.now
+  apart : IsDistinct nat_eq c.order-order.result.now
+  others : (s : ℕ) → get_or c.order-order.result.now c.in-Some.rank 0 == s ≡ false → interval_in c.evaluate.new.self.schedule s ≡ interval_in c.loop-rank.self.schedule s
+
+evaluated : (g : Over) (c : In_ok-evaluate g) → Evaluated g c
+evaluated g c =
+    let past = c.args.since.now.past.now in
+    let order = c.order-order.result.now in
+    let is = is_order c.graph-graph.result.now past.document.nodes order c.graph-graph.ensures c.order-order.ensures.order in
+    let distinct = c.possible.ensures.valid.numbered.distinct in
+    record {
+      within = ((c.loop-rank.invariant.1).above c.in-Some.rank c.in-Some.ensures.member).1;
+      is = is;
+      apart = differ_in past.document.nodes order distinct is;
+      others = others_stay (history_of past) _ (get_or order c.in-Some.rank 0) c.loop-rank.self.schedule c.evaluate.new.self.schedule distinct (c.loop-rank.invariant.0).of_elements c.in_ok-evaluate.ensures.taken;
+    }
+
+-- only what was listed, and later readers of the element, are listed from now on
+abbrev ListsLater : (g : Over) (c : In_ok-evaluate g) → List ℕ → Type 0
+ListsLater g c new = (r : ℕ) → has new r ≡ true → (has c.take_first.new.self r ≡ true) ⊎ (is_later_reader c.args.since.now.past.now.document.nodes c.order-order.result.now c.in-Some.rank (get_or c.order-order.result.now c.in-Some.rank 0) r ≡ true)
+
+falls : (g : Over) (c : In_ok-evaluate g) (new : List ℕ) → ListsLater g c new → gap_from (has new) (length c.order-order.result.now) 0 < gap_from (has c.loop-rank.self.agenda) (length c.order-order.result.now) 0
+falls g c new from =
+    let past = c.args.since.now.past.now in
+    let e = evaluated g c in
+    gap_falls (has c.loop-rank.self.agenda) (has new) (length c.order-order.result.now) c.in-Some.rank e.within c.in-Some.ensures.member
+    (rank_passed past.document.nodes past.log (drop c.args.since.now.from past.diary) c.order-order.result.now c.args.self.now.schedule c.args.steps.now c.loop-rank.self.agenda c.loop-rank.self.schedule c.evaluate.new.self.schedule c.loop-rank.steps c.in-Some.rank _ e.is e.apart c.take_first.new.self e.within refl c.in-Some.ensures e.others c.loop-rank.invariant.1
+    (has new) from)
+
+counted : (g : Over) (c : In_ok-evaluate g) (new : List ℕ) → ListsLater g c new
+    → IsCounted c.args.since.now.past.now.document.nodes c.args.since.now.past.now.log (drop c.args.since.now.from c.args.since.now.past.now.diary) c.order-order.result.now (has new) c.args.self.now.schedule c.evaluate.new.self.schedule c.args.steps.now c.evaluate.new.steps
+counted g c new from =
+    let past = c.args.since.now.past.now in
+    let e = evaluated g c in
+    one_counted past.document.nodes past.log (drop c.args.since.now.from past.diary) c.order-order.result.now c.args.self.now.schedule c.args.steps.now c.loop-rank.self.agenda c.loop-rank.self.schedule c.evaluate.new.self.schedule c.loop-rank.steps c.in-Some.rank _ e.is e.apart c.take_first.new.self e.within refl c.in-Some.ensures e.others c.loop-rank.invariant.1
+    (has new) from c.evaluate.new.steps c.in_ok-evaluate.ensures.steps
+
+goes_back : (g : Over) (c : In_ok-evaluate g) → GoesBack c.args.self.now c.evaluate.new.self
+goes_back g c marked =
+    let later = c.in_ok-evaluate.ensures.back (c.loop-rank.invariant.4 ∙ marked) in
+    let before = c.loop-rank.invariant.3 marked in
+    (later.0 ∙ before.0, later.1 ∙ before.1)
+
+ends_known : (g : Over) (c : In_ok-evaluate g) (new : List ℕ) → ((r : ℕ) → has new r ≡ false → (r ≡ c.in-Some.rank) ⊎ (has c.loop-rank.self.agenda r ≡ false))
+    → AreKnown (history_of c.args.since.now.past.now) (interval_in c.evaluate.new.self.schedule) (IsUnlisted c.order-order.result.now (has new)) c.evaluate.new.self.endings
+ends_known g c new left =
+    let order = c.order-order.result.now in
+    let old = c.loop-rank.self.agenda in
+    known_ended (history_of c.args.since.now.past.now) _ c.loop-rank.self.schedule c.evaluate.new.self.schedule c.loop-rank.self.endings c.evaluate.new.self.endings (IsUnlisted order (has old)) (IsUnlisted order (has new)) c.possible.ensures.valid.numbered.distinct (evaluated g c).others c.in_ok-evaluate.ensures.ended
+    (λ s other. unlisted_next order c.in-Some.rank _ s (has old) (has new) refl left other)
+    c.loop-rank.invariant.6
+
+-- the later readers are listed where the interval changes
+told_later : (g : Over) (c : In_ok-put_readers g) → (r : ℕ) → has c.put_readers.new.agenda r ≡ (has c.take_first.new.self r || is_later_reader c.args.since.now.past.now.document.nodes c.order-order.result.now c.in-Some.rank (get_or c.order-order.result.now c.in-Some.rank 0) r)
+told_later g c = later_told c.graph-graph.result.now c.args.since.now.past.now.document.nodes c.order-order.result.now c.take_first.new.self c.evaluate.new.self.agenda c.put_readers.new.agenda c.in-Some.rank _ c.order-order.ensures.kept c.graph-graph.ensures c.in_ok-evaluate.ensures.agenda c.in_ok-put_readers.ensures
+
 pub loop-rank-smaller-in-Continue-branch-4 : goal.loop-rank-smaller-in-Continue-branch-4
 loop-rank-smaller-in-Continue-branch-4 g c =
-    let past = c.args.since.now.past.now in
-    let nodes = past.document.nodes in
-    let graph = c.graph-graph.result.now in
-    let order = c.order-order.result.now in
-    let rank = c.in-Some.rank in
-    let who = get_or order rank 0 in
-    let old = c.loop-rank.self.agenda in
-    let mid = c.take_first.new.self in
-    let kept = c.in_ok-evaluate.ensures in
-    let counted = c.loop-rank.invariant.1 in
-    let within : rank < length order = (counted.above rank c.in-Some.ensures.member).1 in
-    let is = is_order graph nodes order c.graph-graph.ensures c.order-order.ensures.order in
-    let distinct = c.possible.ensures.valid.numbered.distinct in
-    let apart = differ_in nodes order distinct is in
-    let others = others_stay (history_of past) _ who c.loop-rank.self.schedule c.evaluate.new.self.schedule distinct (c.loop-rank.invariant.0).of_elements kept.taken in
-    let told = later_told graph nodes order mid c.evaluate.new.self.agenda c.put_readers.new.agenda rank who c.order-order.ensures.kept c.graph-graph.ensures kept.agenda c.in_ok-put_readers.ensures in
-    let from = from_later graph nodes order mid c.evaluate.new.self.agenda c.put_readers.new.agenda rank who c.order-order.ensures.kept c.graph-graph.ensures kept.agenda told in
-    gap_falls (has old) (has c.put_readers.new.agenda) (length order) rank within c.in-Some.ensures.member
-    (rank_passed nodes past.log (drop c.args.since.now.from past.diary) order c.args.self.now.schedule c.args.steps.now old c.loop-rank.self.schedule c.evaluate.new.self.schedule c.loop-rank.steps rank who is apart mid within refl c.in-Some.ensures others counted
-    (has c.put_readers.new.agenda) from)
+    let all = goal.at.loop-rank-smaller-in-Continue-branch-4 g c in
+    falls g all.In_ok-evaluate c.put_readers.new.agenda (λ r on. or_cases _ _ (sym (told_later g all.In_ok-put_readers r) ∙ on))
 
 pub loop-rank-preserved-in-Continue-branch-4 : goal.loop-rank-preserved-in-Continue-branch-4
 loop-rank-preserved-in-Continue-branch-4 g c =
-    let past = c.args.since.now.past.now in
-    let nodes = past.document.nodes in
-    let graph = c.graph-graph.result.now in
-    let order = c.order-order.result.now in
-    let rank = c.in-Some.rank in
-    let who = get_or order rank 0 in
-    let old = c.loop-rank.self.agenda in
-    let mid = c.take_first.new.self in
-    let kept = c.in_ok-evaluate.ensures in
-    let counted = c.loop-rank.invariant.1 in
-    let within : rank < length order = (counted.above rank c.in-Some.ensures.member).1 in
-    let is = is_order graph nodes order c.graph-graph.ensures c.order-order.ensures.order in
-    let distinct = c.possible.ensures.valid.numbered.distinct in
-    let apart = differ_in nodes order distinct is in
-    let others = others_stay (history_of past) _ who c.loop-rank.self.schedule c.evaluate.new.self.schedule distinct (c.loop-rank.invariant.0).of_elements kept.taken in
-    let told = later_told graph nodes order mid c.evaluate.new.self.agenda c.put_readers.new.agenda rank who c.order-order.ensures.kept c.graph-graph.ensures kept.agenda c.in_ok-put_readers.ensures in
-    let from = from_later graph nodes order mid c.evaluate.new.self.agenda c.put_readers.new.agenda rank who c.order-order.ensures.kept c.graph-graph.ensures kept.agenda told in (
-      settled_changed (history_of past) _ who c.loop-rank.self.schedule c.evaluate.new.self.schedule distinct (c.loop-rank.invariant.0).of_elements kept.taken order rank is within refl
-          (has old) (has mid) (has c.put_readers.new.agenda) apart c.loop-rank.invariant.0 c.in-Some.ensures.rest told,
-      one_counted nodes past.log (drop c.args.since.now.from past.diary) order c.args.self.now.schedule c.args.steps.now old c.loop-rank.self.schedule c.evaluate.new.self.schedule c.loop-rank.steps rank who is apart mid within refl c.in-Some.ensures others counted
-          (has c.put_readers.new.agenda) from c.evaluate.new.steps kept.steps,
+    let all = goal.at.loop-rank-preserved-in-Continue-branch-4 g c in
+    let e = evaluated g all.In_ok-evaluate in
+    let told = told_later g all.In_ok-put_readers in
+    let old = c.loop-rank.self.agenda in (
+      settled_changed (history_of c.args.since.now.past.now) _ _ c.loop-rank.self.schedule c.evaluate.new.self.schedule c.possible.ensures.valid.numbered.distinct (c.loop-rank.invariant.0).of_elements c.in_ok-evaluate.ensures.taken c.order-order.result.now c.in-Some.rank e.is e.within refl
+          (has old) (has c.take_first.new.self) (has c.put_readers.new.agenda) e.apart c.loop-rank.invariant.0 c.in-Some.ensures.rest told,
+      counted g all.In_ok-evaluate c.put_readers.new.agenda (λ r on. or_cases _ _ (sym (told r) ∙ on)),
       unchanged_both c.args.changed.now c.loop-rank.changed c.push.new.self c.args.self.now.schedule c.loop-rank.self.schedule c.evaluate.new.self.schedule c.loop-rank.invariant.2
-          (told_pushed c.loop-rank.changed c.push.new.self who c.loop-rank.self.schedule c.evaluate.new.self.schedule others c.in_ok-push.ensures.ok),
-      λ marked.
-          let later = kept.back (c.loop-rank.invariant.4 ∙ marked) in
-          let before = c.loop-rank.invariant.3 marked in
-          (later.0 ∙ before.0, later.1 ∙ before.1),
-      kept.has_mark ∙ c.loop-rank.invariant.4,
-      omega (arith, kept.counted, c.loop-rank.invariant.5),
-      known_ended (history_of past) who c.loop-rank.self.schedule c.evaluate.new.self.schedule c.loop-rank.self.endings c.evaluate.new.self.endings (IsUnlisted order (has old)) (IsUnlisted order (has c.put_readers.new.agenda)) distinct others kept.ended
-          (λ s other. unlisted_next order rank who s (has old) (has c.put_readers.new.agenda) refl
-          (λ r off. left_out (has old) rank r (sym (c.in-Some.ensures.rest r) ∙ (or_parts _ _ (sym (told r) ∙ off)).0)) other)
-          c.loop-rank.invariant.6,
+          (told_pushed c.loop-rank.changed c.push.new.self _ c.loop-rank.self.schedule c.evaluate.new.self.schedule e.others c.in_ok-push.ensures.ok),
+      goes_back g all.In_ok-evaluate,
+      c.in_ok-evaluate.ensures.has_mark ∙ c.loop-rank.invariant.4,
+      omega (arith, c.in_ok-evaluate.ensures.counted, c.loop-rank.invariant.5),
+      ends_known g all.In_ok-evaluate c.put_readers.new.agenda (λ r off. left_out (has old) c.in-Some.rank r (sym (c.in-Some.ensures.rest r) ∙ (or_parts _ _ (sym (told r) ∙ off)).0)),
     )
 
 pub loop-rank-smaller : goal.loop-rank-smaller
 loop-rank-smaller g c =
-    let past = c.args.since.now.past.now in
-    let nodes = past.document.nodes in
-    let graph = c.graph-graph.result.now in
-    let order = c.order-order.result.now in
-    let rank = c.in-Some.rank in
-    let who = get_or order rank 0 in
-    let old = c.loop-rank.self.agenda in
-    let mid = c.take_first.new.self in
-    let kept = c.in_ok-evaluate.ensures in
-    let counted = c.loop-rank.invariant.1 in
-    let within : rank < length order = (counted.above rank c.in-Some.ensures.member).1 in
-    let is = is_order graph nodes order c.graph-graph.ensures c.order-order.ensures.order in
-    let distinct = c.possible.ensures.valid.numbered.distinct in
-    let apart = differ_in nodes order distinct is in
-    let others = others_stay (history_of past) _ who c.loop-rank.self.schedule c.evaluate.new.self.schedule distinct (c.loop-rank.invariant.0).of_elements kept.taken in
-    let from = from_taken nodes order mid c.evaluate.new.self.agenda rank who kept.agenda in
-    gap_falls (has old) (has c.evaluate.new.self.agenda) (length order) rank within c.in-Some.ensures.member
-    (rank_passed nodes past.log (drop c.args.since.now.from past.diary) order c.args.self.now.schedule c.args.steps.now old c.loop-rank.self.schedule c.evaluate.new.self.schedule c.loop-rank.steps rank who is apart mid within refl c.in-Some.ensures others counted
-    (has c.evaluate.new.self.agenda) from)
+    falls g (goal.at.loop-rank-smaller g c).In_ok-evaluate c.evaluate.new.self.agenda
+    (from_taken c.args.since.now.past.now.document.nodes c.order-order.result.now c.take_first.new.self c.evaluate.new.self.agenda c.in-Some.rank _ c.in_ok-evaluate.ensures.agenda)
 
 pub loop-rank-preserved : goal.loop-rank-preserved
 loop-rank-preserved g c =
-    let past = c.args.since.now.past.now in
-    let nodes = past.document.nodes in
-    let graph = c.graph-graph.result.now in
-    let order = c.order-order.result.now in
-    let rank = c.in-Some.rank in
-    let who = get_or order rank 0 in
+    let all = (goal.at.loop-rank-preserved g c).In_ok-evaluate in
+    let e = evaluated g all in
     let old = c.loop-rank.self.agenda in
-    let mid = c.take_first.new.self in
-    let kept = c.in_ok-evaluate.ensures in
-    let counted = c.loop-rank.invariant.1 in
-    let within : rank < length order = (counted.above rank c.in-Some.ensures.member).1 in
-    let is = is_order graph nodes order c.graph-graph.ensures c.order-order.ensures.order in
-    let distinct = c.possible.ensures.valid.numbered.distinct in
-    let apart = differ_in nodes order distinct is in
-    let others = others_stay (history_of past) _ who c.loop-rank.self.schedule c.evaluate.new.self.schedule distinct (c.loop-rank.invariant.0).of_elements kept.taken in
-    let from = from_taken nodes order mid c.evaluate.new.self.agenda rank who kept.agenda in
-    let stays = kept.same c.if-branch.false in (
-      settled_same (history_of past) _ who c.loop-rank.self.schedule c.evaluate.new.self.schedule distinct (c.loop-rank.invariant.0).of_elements kept.taken order rank is within refl
-          (has old) (has c.evaluate.new.self.agenda) c.loop-rank.invariant.0 (rest_of old mid c.evaluate.new.self.agenda rank kept.agenda c.in-Some.ensures) stays,
-      one_counted nodes past.log (drop c.args.since.now.from past.diary) order c.args.self.now.schedule c.args.steps.now old c.loop-rank.self.schedule c.evaluate.new.self.schedule c.loop-rank.steps rank who is apart mid within refl c.in-Some.ensures others counted
-          (has c.evaluate.new.self.agenda) from c.evaluate.new.steps kept.steps,
+    let new = c.evaluate.new.self.agenda in
+    let rest = rest_of old c.take_first.new.self new c.in-Some.rank c.in_ok-evaluate.ensures.agenda c.in-Some.ensures in
+    let stays = c.in_ok-evaluate.ensures.same c.if-branch.false in (
+      settled_same (history_of c.args.since.now.past.now) _ _ c.loop-rank.self.schedule c.evaluate.new.self.schedule c.possible.ensures.valid.numbered.distinct (c.loop-rank.invariant.0).of_elements c.in_ok-evaluate.ensures.taken c.order-order.result.now c.in-Some.rank e.is e.within refl
+          (has old) (has new) c.loop-rank.invariant.0 rest stays,
+      counted g all new (from_taken c.args.since.now.past.now.document.nodes c.order-order.result.now c.take_first.new.self new c.in-Some.rank _ c.in_ok-evaluate.ensures.agenda),
       unchanged_both c.args.changed.now c.loop-rank.changed c.loop-rank.changed c.args.self.now.schedule c.loop-rank.self.schedule c.evaluate.new.self.schedule c.loop-rank.invariant.2
-          (told_same c.loop-rank.changed c.loop-rank.changed who c.loop-rank.self.schedule c.evaluate.new.self.schedule others refl stays),
-      λ marked.
-          let later = kept.back (c.loop-rank.invariant.4 ∙ marked) in
-          let before = c.loop-rank.invariant.3 marked in
-          (later.0 ∙ before.0, later.1 ∙ before.1),
-      kept.has_mark ∙ c.loop-rank.invariant.4,
-      omega (arith, kept.counted, c.loop-rank.invariant.5),
-      known_ended (history_of past) who c.loop-rank.self.schedule c.evaluate.new.self.schedule c.loop-rank.self.endings c.evaluate.new.self.endings (IsUnlisted order (has old)) (IsUnlisted order (has c.evaluate.new.self.agenda)) distinct others kept.ended
-          (λ s other. unlisted_next order rank who s (has old) (has c.evaluate.new.self.agenda) refl
-          (λ r off. left_out (has old) rank r (sym (rest_of old mid c.evaluate.new.self.agenda rank kept.agenda c.in-Some.ensures r) ∙ off)) other)
-          c.loop-rank.invariant.6,
+          (told_same c.loop-rank.changed c.loop-rank.changed _ c.loop-rank.self.schedule c.evaluate.new.self.schedule e.others refl stays),
+      goes_back g all,
+      c.in_ok-evaluate.ensures.has_mark ∙ c.loop-rank.invariant.4,
+      omega (arith, c.in_ok-evaluate.ensures.counted, c.loop-rank.invariant.5),
+      ends_known g all new (λ r off. left_out (has old) c.in-Some.rank r (sym (rest r) ∙ off)),
     )
 
 -- the rows at the end

@@ -1,4 +1,4 @@
-use Rattle.std.proofs.Common.{◌≡◌, ◌∙◌, ap, sym, ◌<◌, length, arith, rules, SFits, w64}
+use Rattle.std.proofs.Common.{◌≡◌, ◌∙◌, ap, sym, arith, rules, SFits, w64}
 use Rattle.std.specs.Prelude.{Some, is_some, slice_get}
 use Rattle.std.proofs.lemmas.Int.{to_z-of_z}
 use Rattle.std.proofs.lemmas.Option.{same_Some}
@@ -7,22 +7,19 @@ use Rattle.smil_model.specs.document.Defaults.{endsync_of}
 use Rattle.smil_model.specs.interval.Durations.{container_duration}
 use Rattle.smil_element.proofs.Known.{kind_is, known_node}
 use Rattle.smil_element.proofs.Told.{tree_attrs, tree_node}
-use Rattle.smil_cells.proofs.Taking.{found}
+use Rattle.smil_cells.proofs.Taking.{IsFound, found, has_row}
 use Rattle.smil_nodes.proofs.sources.SourcesContainers.implicit.Goals as goal
+use Rattle.smil_nodes.proofs.sources.SourcesContainers.implicit.Goals.{After-unwrap-index}
+
+-- the element and its row
+found_row : (c : After-unwrap-index) → IsFound c.args.container.now.past.now.document.nodes c.args.self.now.schedule.now c.args.container.now.who c.unwrap-index.result
+found_row c = found _ _ _ c.possible.ensures.valid.numbered.distinct c.requires.known.of_elements c.requires.element c.unwrap-index.result (sym c.unwrap-index.ensures ∙ c.index_of.ensures)
 
 pub unwrap-index-requires : goal.unwrap-index-requires
-unwrap-index-requires c =
-    let at = found c.args.container.now.past.now.document.nodes c.args.self.now.schedule.now c.args.container.now.who c.possible.ensures.valid.numbered.distinct c.requires.known.of_elements c.requires.element in
-    ap is_some (c.place.ensures ∙ at.position_is)
+unwrap-index-requires c = ap is_some c.index_of.ensures ∙ has_row _ _ _ c.possible.ensures.valid.numbered.distinct c.requires.known.of_elements c.requires.element
 
 pub implicit-requires : goal.implicit-requires
-implicit-requires c =
-    let nodes = c.args.container.now.past.now.document.nodes in
-    let at = found nodes c.args.self.now.schedule.now c.args.container.now.who c.possible.ensures.valid.numbered.distinct c.requires.known.of_elements c.requires.element in
-    let is : c.unwrap-index.result ≡ at.place = same_Some _ _ (sym c.unwrap-index.ensures ∙ c.place.ensures ∙ at.position_is) in
-    let many : length c.args.self.now.endings.now.ends ≡ length (elements nodes) = c.requires.known.as_many in
-    let within : at.place < length (elements nodes) = at.within in
-    omega (arith, is, many, within)
+implicit-requires c = omega (arith, c.requires.known.as_many, (found_row (goal.at.implicit-requires c).After-unwrap-index).within)
 
 pub kind-kind-requires : goal.kind-kind-requires
 kind-kind-requires c = tree_node c.args.container.now.past.now.document c.tree-tree.result.now c.args.container.now.who c.tree-tree.ensures c.requires.element
@@ -35,10 +32,9 @@ returns c = λ e here.
     let document = c.args.container.now.past.now.document in
     let nodes = document.nodes in
     let distinct = c.possible.ensures.valid.numbered.distinct in
-    let at = found nodes c.args.self.now.schedule.now c.args.container.now.who distinct c.requires.known.of_elements c.requires.element in
-    let is : c.unwrap-index.result ≡ at.place = same_Some _ _ (sym c.unwrap-index.ensures ∙ c.place.ensures ∙ at.position_is) in
+    let at = found_row (goal.at.returns c).After-unwrap-index in
     let one : at.element ≡ e = same_Some _ _ (sym at.node ∙ here) in
-    let stands : slice_get (elements nodes) c.unwrap-index.result ≡ Some e = ap (slice_get (elements nodes)) is ∙ at.here ∙ ap Some one in
+    let stands : slice_get (elements nodes) c.unwrap-index.result ≡ Some e = at.here ∙ ap Some one in
     let known : node_at c.tree-tree.result.now.nodes c.args.container.now.who ≡ Some e = ap (λ (d : Document). node_at d.nodes c.args.container.now.who) c.tree-tree.ensures ∙ known_node document c.possible.ensures.valid.numbered c.args.container.now.who e here in
     let kind : c.kind-kind.result ≡ e.kind = kind_is c.tree-tree.result.now.nodes c.args.container.now.who e c.kind-kind.result c.kind-kind.ensures known in
     let attrs : c.attrs-attrs.result.now ≡ e.attrs = tree_attrs document c.tree-tree.result.now c.args.container.now.who e c.attrs-attrs.result.now distinct c.tree-tree.ensures here c.attrs-attrs.ensures in

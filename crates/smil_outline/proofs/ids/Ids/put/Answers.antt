@@ -1,11 +1,11 @@
 use Rattle.std.proofs.Common.{ap, ◌∙◌, map, ◌||◌}
 use Rattle.std.specs.Str.{bytes_eq}
-use Rattle.smil_outline.specs.Branches.{is_listed}
+use Rattle.smil_outline.specs.Branches.{is_among_ids}
 use Rattle.smil_outline.proofs.Found.{inserted}
 use Rattle.smil_outline.proofs.ids.Ids.put.Goals as goal
 
 pub returns-clause-ok : goal.returns-clause-ok
 returns-clause-ok c other =
-    ap (λ keys. is_listed (map (λ id. id.items) keys) other) c.in_ok-insert.ensures.keys
+    ap (λ keys. is_among_ids (map (λ id. id.items) keys) other) c.in_ok-insert.ensures.keys
     ∙ inserted (λ id. id.items) c.self.inside.ids.keys c.args.id other
-    ∙ ap (λ ids. is_listed ids other || bytes_eq c.args.id.items other) c.self.view_is
+    ∙ ap (λ ids. is_among_ids ids other || bytes_eq c.args.id.items other) c.self.view_is

@@ -1,8 +1,9 @@
-use Rattle.std.proofs.Common.{◌≡◌, ◌≤◌, ◌∙◌, sym, ap, List, Some, [], ◌∷◌, ◌++◌, length, get_or, arith}
-use Rattle.std.specs.Prelude.{◌+◌, slice_get}
+use Rattle.std.proofs.Common.{◌≡◌, ◌≤◌, ◌∙◌, sym, ap, List, [], ◌∷◌, ◌++◌, length, get_or, arith}
+use Rattle.std.specs.Prelude.{◌+◌}
 use Rattle.std.proofs.lemmas.List.{length_push}
 use Rattle.smil_model.specs.declared.diary.Entry.{Entry}
-use Rattle.smil_past.proofs.Fronts.{all_reached, entry_at, no_entry, rest}
+use Rattle.smil_stretch.proofs.Idle.{no_entry}
+use Rattle.smil_past.proofs.Fronts.{all_reached, entry_at, rest}
 use Rattle.smil_past.proofs.Seconds.{caught_up, lags_next, next_follows}
 use Rattle.smil_past.proofs.chronicle.Chronicle.catch_up.Goals as goal
 
@@ -13,7 +14,7 @@ push-requires-clause-follows c =
     let from = c.len.result in
     let k = c.loop-entry.entry-index in
     let y = get_or (rest entries from) k no_entry in
-    let at : slice_get diary (from + k) ≡ Some y = ap (λ (es : List Entry). slice_get es (from + k)) (sym c.entries.ensures) ∙ entry_at entries from k c.loop-entry-test.true in
+    let at = entry_at entries diary from k (sym c.entries.ensures) c.loop-entry-test.true in
     let reached : length c.loop-entry.self.book ≡ from + k = c.loop-entry.invariant.reached ∙ ap (λ n. n + k) (sym c.len.ensures.value) in
     next_follows c.args.history.now.tree.now c.args.history.now.log.now diary (from + k) y c.loop-entry.self at c.loop-entry.invariant.lags reached c.requires.possible
 
@@ -24,7 +25,7 @@ loop-entry-preserved c =
     let from = c.len.result in
     let k = c.loop-entry.entry-index in
     let y = get_or (rest entries from) k no_entry in
-    let at : slice_get diary (from + k) ≡ Some y = ap (λ (es : List Entry). slice_get es (from + k)) (sym c.entries.ensures) ∙ entry_at entries from k c.loop-entry-test.true in
+    let at = entry_at entries diary from k (sym c.entries.ensures) c.loop-entry-test.true in
     let reached : length c.loop-entry.self.book ≡ from + k = c.loop-entry.invariant.reached ∙ ap (λ n. n + k) (sym c.len.ensures.value) in
     let more : c.push.new.self.book ≡ c.loop-entry.self.book ++ y ∷ [] = c.in-Ok.ensures.ok in
     let one : length c.push.new.self.book ≡ length c.loop-entry.self.book + 1 = ap (λ (es : List Entry). length es) more ∙ length_push c.loop-entry.self.book y in

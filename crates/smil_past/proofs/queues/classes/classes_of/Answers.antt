@@ -1,37 +1,26 @@
-use Rattle.std.proofs.Common.{◌≡◌, ◌<◌, ◌≤◌, ◌+◌, sym, ap, subst, ◌∙◌, Some, length, map, take, arith}
-use Rattle.std.specs.Prelude.{slice_get, option_map}
-use Rattle.std.proofs.lemmas.List.{take_all, length-map, length_push}
+use Rattle.std.proofs.Common.{ap, ◌∙◌, map}
+use Rattle.std.specs.Prelude.{is_some}
 use Rattle.smil_model.specs.declared.document.Node.{Node}
 use Rattle.smil_model.specs.happening.Queue.{class_facts}
-use Rattle.smil_stretch.proofs.Idle.{node_known, node_inside, none_left}
-use Rattle.smil_past.proofs.Listing.{more}
+use Rattle.smil_tree.proofs.Walks.{is_found, mapped_on, walk_begun, walk_on, walk_over}
 use Rattle.smil_past.proofs.queues.classes.classes_of.Goals as goal
 
+pub loop-node-init : goal.loop-node-init
+loop-node-init c = (walk_begun _ _ (c.into_iter-node-iterator.ensures.into_iter_gives ∙ c.nodes-node-items.ensures), c.new-classes.ensures.items)
+
 pub class_of-requires : goal.class_of-requires
-class_of-requires c = node_known c.args.tree.now.nodes c.in-Some.serial _ c.valid.ensures.numbered.distinct c.in-Some.ensures
+class_of-requires c = ap is_some (is_found c.args.tree.now.nodes c.loop-node.node-iterator c.in-Some.node.now c.next.new.self c.loop-node.invariant.0 c.in-Some.ensures.steps c.valid.ensures.numbered.distinct)
 
-pub loop-serial-smaller : goal.loop-serial-smaller
-loop-serial-smaller c =
-    let inside : c.len.result < length c.args.tree.now.nodes = node_inside c.args.tree.now.nodes c.in-Some.serial c.len.result c.in-Some.ensures in
-    let same : c.len.result ≡ length c.loop-serial.classes.items = omega (arith, c.len.ensures, c.loop-serial.classes.ok.0) in
-    let one : length c.push.new.self.items ≡ length c.loop-serial.classes.items + 1 = ap length c.in_ok-push.ensures.items ∙ length_push c.loop-serial.classes.items _ in
-    omega (arith, inside, same, one)
-
-pub loop-serial-preserved : goal.loop-serial-preserved
-loop-serial-preserved c =
+pub loop-node-preserved : goal.loop-node-preserved
+loop-node-preserved c =
     let nodes = c.args.tree.now.nodes in
-    let old = c.loop-serial.classes.items in
-    let same : c.len.result ≡ length old = omega (arith, c.len.ensures, c.loop-serial.classes.ok.0) in
-    let there : Some c.in-Some.serial ≡ option_map (λ (n : Node). n.serial) (slice_get nodes (length old)) =
-    subst (λ k. Some c.in-Some.serial ≡ option_map (λ (n : Node). n.serial) (slice_get nodes k)) same c.in-Some.ensures in
-    c.in_ok-push.ensures.items
-    ∙ more (λ (n : Node). class_facts nodes n.serial) nodes c.in-Some.serial old _ c.loop-serial.invariant there
-    (λ n e. c.class_of.ensures ∙ ap (class_facts nodes) (sym e))
-    ∙ ap (λ xs. take (length xs) (map (λ (n : Node). class_facts nodes n.serial) nodes)) (sym c.in_ok-push.ensures.items)
+    let walk = c.loop-node.invariant.0 in
+    let node = c.in-Some.node.now in (
+      walk_on nodes c.loop-node.node-iterator node c.next.new.self walk c.in-Some.ensures.steps,
+      mapped_on (λ (n : Node). class_facts nodes n.serial) walk.past node c.loop-node.classes.items c.push.new.self.items c.class_of.result c.loop-node.invariant.1 c.in_ok-push.ensures.items c.class_of.ensures,
+    )
 
 pub returns : goal.returns
 returns c =
     let nodes = c.args.tree.now.nodes in
-    let same : c.len.result ≡ length c.loop-serial.classes.items = omega (arith, c.len.ensures, c.loop-serial.classes.ok.0) in
-    let left : length nodes ≤ c.len.result = none_left nodes c.len.result c.in_default.ensures in
-    c.loop-serial.invariant ∙ take_all (length c.loop-serial.classes.items) _ (omega (arith, left, same, length-map nodes (λ (n : Node). class_facts nodes n.serial)))
+    c.loop-node.invariant.1 ∙ ap (map (λ (n : Node). class_facts nodes n.serial)) (walk_over nodes c.loop-node.node-iterator c.loop-node.invariant.0 c.in-None.ensures.steps.0)

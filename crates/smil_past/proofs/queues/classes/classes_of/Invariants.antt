@@ -1,10 +1,10 @@
-use Rattle.std.proofs.Common.{◌≡◌, ◌-◌, length, take}
-use Rattle.smil_past.specs.Queues.{classes_in}
+use Rattle.std.proofs.Common.{◌≡◌}
+use Rattle.std.specs.Prelude.{map}
+use Rattle.smil_model.specs.declared.document.Node.{Node}
+use Rattle.smil_model.specs.happening.Queue.{class_facts}
+use Rattle.smil_tree.proofs.Walks.{Walked}
 use Rattle.smil_past.proofs.queues.classes.classes_of.Given as goal
 
--- the classes of the first nodes
-abbrev pub invariant-loop-serial : goal.invariant-loop-serial
-invariant-loop-serial l = l.classes.items ≡ take (length l.classes.items) (classes_in l.tree.nodes)
-
-abbrev pub decreases-loop-serial : goal.decreases-loop-serial
-decreases-loop-serial l = length l.tree.nodes - length l.classes.items
+-- the classes of the nodes so far
+abbrev pub invariant-loop-node : goal.invariant-loop-node
+invariant-loop-node l = (walk : Walked l.tree.nodes l.node-iterator) × (l.classes.items ≡ map (λ (n : Node). class_facts l.tree.nodes n.serial) walk.past)

@@ -1,10 +1,9 @@
-use Rattle.std.proofs.Common.{◌≡◌, ◌-◌, length, take, []}
-use Rattle.smil_past.specs.Queues.{lines}
+use Rattle.std.proofs.Common.{◌≡◌, map, []}
+use Rattle.smil_model.specs.declared.document.Node.{Node}
+use Rattle.smil_excl.specs.QueueState.{line_in}
+use Rattle.smil_tree.proofs.Walks.{Walked}
 use Rattle.smil_past.proofs.queues.lines.empty_queues.Given as goal
 
--- the queues of the first nodes
-abbrev pub invariant-loop-serial : goal.invariant-loop-serial
-invariant-loop-serial l = l.queues.items ≡ take (length l.queues.items) (lines l.tree.nodes (λ serial. []))
-
-abbrev pub decreases-loop-serial : goal.decreases-loop-serial
-decreases-loop-serial l = length l.tree.nodes - length l.queues.items
+-- the queues of the nodes so far
+abbrev pub invariant-loop-node : goal.invariant-loop-node
+invariant-loop-node l = (walk : Walked l.tree.nodes l.node-iterator) × (l.queues.items ≡ map (λ (n : Node). line_in l.tree.nodes n.serial []) walk.past)

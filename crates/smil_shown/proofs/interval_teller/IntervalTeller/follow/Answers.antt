@@ -2,7 +2,7 @@ use Rattle.std.proofs.Common.{sym, subst, List}
 use Rattle.std.proofs.lemmas.Result.{on_ok_weaker}
 use Rattle.smil_stretch.specs.Clocks.{AreClocksOf}
 use Rattle.smil_stretch.specs.declared.clock.NodeClock.{NodeClock}
-use Rattle.smil_shown.proofs.Followed.{followed}
+use Rattle.smil_shown.proofs.ToldIntervals.{followed}
 use Rattle.smil_shown.proofs.interval_teller.IntervalTeller.follow.Goals as goal
 
 pub returns-clause-told : goal.returns-clause-told

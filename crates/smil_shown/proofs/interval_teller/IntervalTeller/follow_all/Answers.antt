@@ -10,7 +10,7 @@ use Rattle.smil_stretch.proofs.Diaries.{lawful_first}
 use Rattle.smil_stretch.proofs.Idle.{next_first}
 use Rattle.smil_model.proofs.Growing.{begins_by}
 use Rattle.smil_shown.specs.Histories.{IsTold}
-use Rattle.smil_shown.proofs.Followed.{near_at}
+use Rattle.smil_shown.proofs.ToldIntervals.{near_at}
 use Rattle.smil_shown.proofs.interval_teller.IntervalTeller.follow_all.Goals as goal
 
 abbrev none : Entry

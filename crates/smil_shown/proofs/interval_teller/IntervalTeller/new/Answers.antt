@@ -2,7 +2,7 @@ use Rattle.std.proofs.Common.{refl, sym, subst, List, [], None}
 use Rattle.smil_model.specs.declared.diary.Entry.{Entry}
 use Rattle.smil_model.specs.diary.Diary.{History, up_to}
 use Rattle.smil_stretch.specs.Clocks.{IsHistoryOf}
-use Rattle.smil_shown.proofs.Presently.{first_history, nothing_told}
+use Rattle.smil_shown.proofs.PresentPlays.{first_history, nothing_told}
 use Rattle.smil_shown.proofs.interval_teller.IntervalTeller.new.Goals as goal
 
 pub of-requires : goal.of-requires

@@ -1,7 +1,7 @@
 use Rattle.std.proofs.Common.{◌∙◌, sym, ap, subst, []}
 use Rattle.std.specs.Prelude.{option_map, unwrap_or}
 use Rattle.smil_shown.specs.Sets.{AreSetsOf}
-use Rattle.smil_shown.proofs.Gathered.{rows_are}
+use Rattle.smil_shown.proofs.SetLayers.{rows_are}
 use Rattle.smil_shown.proofs.sets.Sets.names.Goals as goal
 
 pub returns-in-Some : goal.returns-in-Some

@@ -6,7 +6,7 @@ use Rattle.smil_model.specs.shown.Sandwich.{layers}
 use Rattle.smil_tree.proofs.KinLists.{each_at}
 use Rattle.smil_shown.specs.Sets.{AreSetsOf}
 use Rattle.smil_shown.proofs.Apart.{views_known}
-use Rattle.smil_shown.proofs.Gathered.{layers_more, next_apart}
+use Rattle.smil_shown.proofs.SetLayers.{layers_more, next_apart}
 use Rattle.smil_shown.proofs.sets.Sets.of.Goals as goal
 
 pub take_in-requires : goal.take_in-requires

@@ -6,8 +6,8 @@ use Rattle.smil_model.specs.declared.view.Layer.{Layer as AnyLayer}
 use Rattle.smil_model.specs.document.Document.{node_at}
 use Rattle.smil_model.specs.shown.Sandwich.{layer_of, with_setter}
 use Rattle.smil_shown.specs.Sets.{AreSetsOf, LayerTable, and_layer, layer_in, rows_in}
-use Rattle.smil_shown.proofs.Apart.{some_of}
-use Rattle.smil_shown.proofs.Gathered.{rows_noted, taken}
+use Rattle.smil_tree.proofs.Changed.{some_node}
+use Rattle.smil_shown.proofs.SetLayers.{rows_noted, taken}
 use Rattle.smil_sandwich.specs.Stacks.{AreApart}
 use Rattle.smil_shown.proofs.sets.Sets.take_in.Goals as goal
 
@@ -15,7 +15,7 @@ pub returns : goal.returns
 returns c = λ before are apart.
     let nodes = c.args.tree.now.nodes in
     let view = c.args.view.now in
-    let n = some_of (node_at nodes view.serial) c.requires in
+    let n = some_node (node_at nodes view.serial) c.requires in
     let made : layer_in nodes view ≡ Some (view.serial, c.in-Some.layer) =
     ap (λ (o : Option AnyNode). with_setter view.serial (option_and_then (layer_of nodes view) o)) n.1
     ∙ ap (with_setter view.serial) (sym (c.in_ok-layer.ensures n.0 n.1) ∙ c.in-Some.is) in

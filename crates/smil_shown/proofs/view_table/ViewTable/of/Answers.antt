@@ -1,49 +1,29 @@
-use Rattle.std.proofs.Common.{◌≡◌, refl, sym, ◌∙◌, ap, subst, ℕ, ◌≤◌, ◌++◌, List, [], ◌∷◌, length, take, false, arith}
-use Rattle.std.specs.Prelude.{IsSome, map}
+use Rattle.std.proofs.Common.{refl, sym, ◌∙◌, ap, subst, ℕ, List}
+use Rattle.std.specs.Prelude.{◌==◌}
+use Rattle.std.specs.List.{position}
 use Rattle.smil_model.specs.declared.view.View.{View}
-use Rattle.smil_model.specs.document.Document.{Document, elements, node_at}
-use Rattle.smil_stretch.proofs.Idle.{node_found, node_known, node_inside, none_left}
-use Rattle.smil_shown.specs.ViewTable.{has_view, view_now}
-use Rattle.smil_shown.proofs.AllViews.{none_yet, views_all, views_next}
-use Rattle.smil_tree.proofs.Families.{node_of_place}
+use Rattle.smil_model.specs.document.Document.{Document, elements, serials}
+use Rattle.smil_instances.proofs.Siblings.{distinct_elements}
+use Rattle.smil_shown.specs.ViewTable.{AreOne, put_back, view_now}
+use Rattle.smil_shown.proofs.AllViews.{one_each, place_of_view}
 use Rattle.smil_shown.proofs.view_table.ViewTable.of.Goals as goal
 
-pub push_node-requires-clause-known : goal.push_node-requires-clause-known
-push_node-requires-clause-known g c =
-    let nodes = c.tree-tree.result.now.nodes in
-    subst (λ (d : Document). IsSome (node_at d.nodes c.in-Some.serial)) c.tree-tree.ensures
-    (node_known nodes c.in-Some.serial c.loop-serial.place c.valid.ensures.numbered.distinct c.in-Some.ensures)
+pub views_of-requires-clause-all : goal.views_of-requires-clause-all
+views_of-requires-clause-all g c = c.deref.ensures.value ∙ c.in_ok-whos.ensures ∙ ap (λ (d : Document). serials (elements d.nodes)) c.tree-tree.ensures
 
-pub push_node-requires-clause-one : goal.push_node-requires-clause-one
-push_node-requires-clause-one g c =
-    let nodes = c.tree-tree.result.now.nodes in
-    let k = c.loop-serial.place in
-    let found = node_found nodes c.in-Some.serial k c.in-Some.ensures in
-    subst (λ (vs : List View). has_view vs c.in-Some.serial ≡ false) (sym c.loop-serial.invariant)
-    (subst (λ (s : ℕ). has_view (map (view_now c.args.cells.now) (elements (take k nodes))) s ≡ false) found.serial
-    (none_yet (view_now c.args.cells.now) (λ n. refl) nodes k found.node c.valid.ensures.numbered.distinct found.at))
-
-pub overflow_add-place : goal.overflow_add-place
-overflow_add-place g c = omega (arith, node_inside c.tree-tree.result.now.nodes c.in-Some.serial c.loop-serial.place c.in-Some.ensures, c.valid.ensures.nodes)
-
-pub loop-serial-smaller : goal.loop-serial-smaller
-loop-serial-smaller g c = omega (arith, node_inside c.tree-tree.result.now.nodes c.in-Some.serial c.loop-serial.place c.in-Some.ensures)
-
-pub loop-serial-preserved : goal.loop-serial-preserved
-loop-serial-preserved g c =
-    let nodes = c.tree-tree.result.now.nodes in
-    let k = c.loop-serial.place in
-    let found = node_found nodes c.in-Some.serial k c.in-Some.ensures in
-    let there = ap (node_at nodes) (sym found.serial) ∙ node_of_place nodes k found.node c.valid.ensures.numbered.distinct found.at in
-    let at = sym (ap (λ (d : Document). node_at d.nodes c.in-Some.serial) c.tree-tree.ensures) ∙ there in
-    c.in_ok-push_node.ensures found.node at
-    ∙ (ap (λ (vs : List View). vs ++ map (view_now c.args.cells.now) (elements (found.node ∷ []))) c.loop-serial.invariant
-    ∙ sym (views_next (view_now c.args.cells.now) (λ n. refl) nodes k found.node found.at))
+pub invariant_of-result : goal.invariant_of-result
+invariant_of-result g c =
+    let f = view_now c.args.cells.now in
+    let nodes = c.args.cells.now.presentation.document.nodes in
+    let whos = c.deref-2.ensures.value ∙ c.in_ok-whos.ensures ∙ ap (λ (d : Document). serials (elements d.nodes)) c.tree-tree.ensures in
+    record {
+      place = λ s.
+          c.in_ok-first_places.ensures s ∙ ap (position (λ (n : ℕ). n == s)) whos ∙ place_of_view f (λ n. refl) (elements nodes) s
+          ∙ ap (position (λ (v : View). v.serial == s)) (sym c.in_ok-rows.ensures);
+      one = subst AreOne (sym c.in_ok-rows.ensures) (one_each f (λ n. refl) (elements nodes) (distinct_elements nodes c.requires.state.document.numbered.distinct));
+    }
 
 pub returns : goal.returns
 returns g c =
-    let nodes = c.tree-tree.result.now.nodes in
-    let left : length nodes ≤ c.loop-serial.place = none_left nodes c.loop-serial.place c.in_default.ensures in
-    let views = c.loop-serial.invariant ∙ (views_all (view_now c.args.cells.now) (λ n. refl) nodes c.loop-serial.place left
-    ∙ ap (λ (d : Document). map (view_now c.args.cells.now) (elements d.nodes)) c.tree-tree.ensures) in
-    c.forget.ensures ∙ ap (λ (vs : List View). record { views = vs; before = vs }) views
+    ap (λ (noted : List View). record { views = c.in_ok-rows.rows.items; before = put_back c.in_ok-rows.rows.items noted }) c.new.ensures.items
+    ∙ ap (λ (vs : List View). record { views = vs; before = vs }) c.in_ok-rows.ensures

@@ -1,17 +1,12 @@
 use Rattle.std.proofs.Common.{◌≡◌, ℕ, List, sym, ap, subst, ◌∙◌, Some, take, ◌+◌, ◌<◌, length, get_or}
 use Rattle.std.specs.Prelude.{slice_get}
-use Rattle.std.proofs.lemmas.Option.{slice_get-get_or}
 use Rattle.smil_model.specs.declared.diary.Entry.{Entry}
 use Rattle.smil_model.specs.diary.Diary.{up_to}
 use Rattle.smil_model.specs.diary.Lawful.{IsLawful}
 use Rattle.smil_stretch.specs.Clocks.{AreClocksOf}
 use Rattle.smil_stretch.proofs.Diaries.{lawful_first}
-use Rattle.smil_stretch.proofs.Idle.{idle_clocks_of, next_first}
+use Rattle.smil_stretch.proofs.Idle.{idle_clocks_of, next_at, next_first}
 use Rattle.smil_stretch.proofs.clocks.Clocks.of.Goals as goal
-
--- the next entry stands at its place in the diary
-next_at : (all diary : List Entry) (i : ℕ) (d : Entry) → diary ≡ all → i < length all → slice_get diary i ≡ Some (get_or all i d)
-next_at all diary i d same lt = ap (λ (xs : List Entry). slice_get xs i) same ∙ slice_get-get_or all i d lt
 
 pub loop-entry-init : goal.loop-entry-init
 loop-entry-init c = λ h of. idle_clocks_of _ h c.args.tree.now c.args.book.now c.valid.ensures.numbered of c.in_ok-clocks.ensures

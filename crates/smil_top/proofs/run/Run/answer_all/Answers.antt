@@ -5,7 +5,7 @@ use Rattle.smil_top.specs.Transcript.{untold}
 use Rattle.smil_top.specs.Running.{IsRunning}
 use Rattle.smil_top.proofs.Evaluated.{evaluated-fresh, evaluated-next}
 use Rattle.smil_top.proofs.Serving.{Nexts, Nexts-of, Hands, next-line, fault-open, HasRead, HasRead-fresh, IsServing-of, Wrote-fresh, Wrote-next, RanCounted-end, RanCounted-untold, Ran-too_long, Ran-fault, Ran-unwritten}
-use Rattle.smil_live.proofs.Edited.{where_err}
+use Rattle.smil_live.proofs.EditedPresentations.{where_err}
 use Rattle.smil_top.proofs.Writing.{risen-from}
 use Rattle.smil_top.proofs.run.Run.answer_all.Goals as goal
 use Rattle.smil_top.proofs.run.Run.answer_all.Goals.{in-Bytes, in-LongLine}

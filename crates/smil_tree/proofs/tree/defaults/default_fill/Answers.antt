@@ -1,7 +1,6 @@
-use Rattle.std.proofs.Common.{◌≡◌, suc, length, sym, ap, ◌∙◌, arith}
+use Rattle.std.proofs.Common.{sym, ◌∙◌, arith}
 use Rattle.smil_model.specs.declared.document.Fill.TheVariants.{Auto}
-use Rattle.smil_model.specs.document.Document.{lineage}
-use Rattle.smil_tree.proofs.Families.{chain_of, none_lent}
+use Rattle.smil_tree.proofs.Families.{chain_longer, none_lent}
 use Rattle.smil_tree.proofs.Inherited.{fill_by, from_none, here, above, none_left}
 use Rattle.smil_tree.proofs.tree.defaults.default_fill.Goals as goal
 
@@ -11,10 +10,7 @@ returns-in-Some-stated_fill c =
     ∙ c.loop-node.invariant
 
 pub loop-node-smaller : goal.loop-node-smaller
-loop-node-smaller c =
-    let longer : length (lineage c.args.nodes.now c.loop-node.at) ≡ suc (length (lineage c.args.nodes.now c.in-Some.node.now.parent)) =
-    ap length (chain_of c.args.nodes.now c.requires c.loop-node.at c.in-Some.node.now (sym c.in-Some.ensures)) in
-    omega (arith, longer)
+loop-node-smaller c = omega (arith, chain_longer c.args.nodes.now c.requires c.loop-node.at c.in-Some.node.now (sym c.in-Some.ensures))
 
 pub loop-node-preserved : goal.loop-node-preserved
 loop-node-preserved c =

@@ -1,7 +1,7 @@
-use Rattle.std.proofs.Common.{◌≡◌, suc, length, sym, ap, ◌∙◌, arith}
+use Rattle.std.proofs.Common.{sym, ap, ◌∙◌, arith}
 use Rattle.std.specs.Prelude.{find}
-use Rattle.smil_model.specs.document.Document.{lineage, is_element, serial_of}
-use Rattle.smil_tree.proofs.Families.{chain_of, no_chain, none_lent, nearest_here, nearest_above}
+use Rattle.smil_model.specs.document.Document.{is_element, serial_of}
+use Rattle.smil_tree.proofs.Families.{chain_longer, no_chain, none_lent, nearest_here, nearest_above}
 use Rattle.smil_tree.proofs.tree.family.element_from.Goals as goal
 
 pub returns-then-is_element : goal.returns-then-is_element
@@ -9,10 +9,7 @@ returns-then-is_element c =
     ap serial_of (sym (nearest_here c.args.nodes.now c.requires c.loop-node.at c.in-Some.node.now (sym c.in-Some.ensures) (sym c.is_element.ensures ∙ c.if-is_element.true)) ∙ c.loop-node.invariant)
 
 pub loop-node-smaller : goal.loop-node-smaller
-loop-node-smaller c =
-    let longer : length (lineage c.args.nodes.now c.loop-node.at) ≡ suc (length (lineage c.args.nodes.now c.in-Some.node.now.parent)) =
-    ap length (chain_of c.args.nodes.now c.requires c.loop-node.at c.in-Some.node.now (sym c.in-Some.ensures)) in
-    omega (arith, longer)
+loop-node-smaller c = omega (arith, chain_longer c.args.nodes.now c.requires c.loop-node.at c.in-Some.node.now (sym c.in-Some.ensures))
 
 pub loop-node-preserved : goal.loop-node-preserved
 loop-node-preserved c =

@@ -1,6 +1,5 @@
-use Rattle.std.proofs.Common.{◌≡◌, suc, length, sym, ap, arith}
-use Rattle.smil_model.specs.document.Document.{lineage}
-use Rattle.smil_tree.proofs.Families.{chain_of, no_chain}
+use Rattle.std.proofs.Common.{length, sym, ap, arith}
+use Rattle.smil_tree.proofs.Families.{chain_longer, no_chain}
 use Rattle.smil_tree.proofs.tree.family.height.Goals as goal
 
 pub returns-in-None : goal.returns-in-None
@@ -9,6 +8,4 @@ returns-in-None c =
 
 pub loop-height-preserved : goal.loop-height-preserved
 loop-height-preserved c =
-    let longer : length (lineage c.args.nodes.now c.loop-height.at) ≡ suc (length (lineage c.args.nodes.now c.in-Some.node.now.parent)) =
-    ap length (chain_of c.args.nodes.now c.requires c.loop-height.at c.in-Some.node.now (sym c.in-Some.ensures)) in
-    omega (arith, longer, c.loop-height.invariant)
+    omega (arith, chain_longer c.args.nodes.now c.requires c.loop-height.at c.in-Some.node.now (sym c.in-Some.ensures), c.loop-height.invariant)

@@ -1,38 +1,33 @@
 -- What an edited presentation comes to.
-use Rattle.std.proofs.Common.{◌≡◌, ℕ, ℤ, ◌≤◌, List, [], ◌∷◌, ◌++◌, length, take, drop, Bool, true, false, not, cond, Some, Result, Ok, Err, inl, inr, refl, sym, ap, ◌∙◌, subst, append_assoc, arith}
-use Rattle.std.specs.Prelude.{pos, flat_map, map, filter, is_some, is_err, IsSome, IfOk, IfErr, OnErr, OnOk}
-use Rattle.std.specs.List.{AllByRecursion}
+use Rattle.std.proofs.Common.{◌≡◌, ℕ, ℤ, ◌≤◌, List, ◌++◌, length, take, drop, true, not, Some, Result, Ok, Err, refl, sym, ap, ◌∙◌, subst, append_assoc, arith}
+use Rattle.std.specs.Prelude.{pos, flat_map, filter, is_some, is_err, IsSome, IfOk, IfErr, OnErr, OnOk}
 use Rattle.std.proofs.Math.Seq.{drop-append_seam}
 use Rattle.std.proofs.lemmas.List.{length-take}
 use Rattle.smil_model.specs.document.Words.{Begins}
-use Rattle.std.proofs.lemmas.List.Elements.{All-from_recursion}
 use Rattle.smil_model.specs.declared.document.Node.{Node}
 use Rattle.smil_model.specs.declared.order.Order.{Order}
 use Rattle.smil_model.specs.declared.order.Refusal.{Refusal}
 use Rattle.smil_model.specs.declared.order.Who.{Who}
 use Rattle.smil_model.specs.declared.view.View.{View}
-use Rattle.smil_model.specs.document.Document.{Document, elements, is_element, node_at}
-use Rattle.smil_model.specs.document.Limits.{limits}
+use Rattle.smil_model.specs.document.Document.{Document, elements, node_at}
 use Rattle.smil_model.specs.document.Valid.{IsValid}
 use Rattle.smil_model.specs.happening.Resolution.{diary_of}
-use Rattle.smil_model.specs.interval.Current.{current_table, in_table}
 use Rattle.smil_model.specs.shown.Answers.{Accepts, Refuses, change_text, gone_text}
 use Rattle.smil_model.specs.shown.Lines.{gone_line, name_of}
-use Rattle.smil_model.specs.shown.Orders.{IsState, Presentation, at_moment, changed, changes_between, course_of, kept_where, node_of, on_node, resolved_with, views_of}
-use Rattle.smil_model.specs.shown.Views.{view_of}
+use Rattle.smil_model.specs.shown.Orders.{IsState, Presentation, at_moment, changed, changes_between, course_of, node_of, on_node, views_of}
 use Rattle.smil_grammar.specs.Formats.{formats}
-use Rattle.smil_tree.proofs.Spans.{all_known}
-use Rattle.smil_cells.specs.CellsState.{CellsState, history_of}
+use Rattle.smil_cells.specs.CellsState.{CellsState}
 use Rattle.smil_live.specs.Editing.{IsEdited, edit_of}
 use Rattle.smil_revision.specs.Editing.{IsRefusedBy, at_node}
 use Rattle.smil_shown.specs.ShownViews.{IsPlaying, views_at}
 use Rattle.smil_live.specs.Moves.{IsReplayed, IsTooFull, edited_to, text_of}
-use Rattle.smil_shown.specs.ViewTable.{AreOf, ViewLists}
+use Rattle.smil_shown.specs.ViewTable.{ViewLists}
 use Rattle.smil_live.specs.Telling.{is_edit}
 use Rattle.smil_revision.proofs.Copying.{at_there, some_from}
-use Rattle.smil_live.proofs.Editing.{edit_accepted, is_found, known, state_refused}
+use Rattle.smil_live.proofs.EditOrders.{edit_accepted, is_found, state_refused}
 use Rattle.smil_live.proofs.Growth.{is_appended}
-use Rattle.smil_model.specs.declared.diary.Entry.{Entry}
+use Rattle.smil_live.proofs.Outcomes.{known}
+use Rattle.smil_live.proofs.Resolved.{has_room, no_room}
 
 -- ---- the node that an order names
 
@@ -42,7 +37,7 @@ Named p named s = (n : Node) × (node_of p.document.nodes named ≡ Some n) × (
 
 node_known : (p : Presentation) (d : Document) (named : Who) (s : ℕ) → IsValid d → d ≡ p.document → (h : Named p named s) → node_at d.nodes s ≡ Some h.0
 node_known p d named s valid same h =
-    ap (λ t. node_at d.nodes t) h.2 ∙ known d named h.0 valid (ap (λ (e : Document). node_of e.nodes named) same ∙ h.1)
+    ap (λ t. node_at d.nodes t) h.2 ∙ known d named h.0 valid.numbered (ap (λ (e : Document). node_of e.nodes named) same ∙ h.1)
 
 pub node_there : (p : Presentation) (d : Document) (named : Who) (s : ℕ) → IsValid d → d ≡ p.document → Named p named s → IsSome (node_at d.nodes s)
 node_there p d named s valid same h = some_from (node_at d.nodes s) h.0 (node_known p d named s valid same h)
@@ -73,22 +68,13 @@ edited_appended p q d old new is = is_appended old new (gone_text p q ++ text_of
 pub edited_state : (p : Presentation) (d : Document) → IsState p → IsValid d → IsState (edited_to p d)
 edited_state p d state valid = record { document = valid; log = state.log; logged = state.logged; now = state.now }
 
-resolved_edited : (p q : Presentation) (d : Document) (diary : List Entry) → q ≡ edited_to p d → diary_of (course_of q) ≡ Some diary → resolved_with limits p d ≡ Ok q
-resolved_edited p q d diary is few =
-    let settled : diary_of (course_of (edited_to p d)) ≡ Some diary = subst (λ (r : Presentation). diary_of (course_of r) ≡ Some diary) is few in
-    ap (kept_where (edited_to p d)) settled ∙ ap Ok (sym is)
-
 pub edited_accepted : (p q : Presentation) (o : Order) (d : Document) (old new : List ℕ) → is_edit o ≡ true → edit_of p o ≡ Ok d → IsEdited p d q old new → Accepts formats p q o (drop (length old) new)
 edited_accepted p q o d old new edits edited is =
-    edit_accepted p q o d (drop (length old) new) edits edited (resolved_edited p q d is.diary is.state is.settled)
+    edit_accepted p q o d (drop (length old) new) edits edited (has_room (edited_to p d) q is.diary is.state is.settled)
     (ap (drop (length old)) (whole_text p q d old new is) ∙ drop-append_seam old (gone_text p q ++ text_of q (changes_between p q)))
 
-pub too_full : (p : Presentation) (d : Document) (e : Refusal) → IsTooFull (edited_to p d) e → IsRefusedBy (resolved_with limits p d) e
-too_full p d e (inl memory) = inl memory
-too_full p d e (inr full) = inr (ap (kept_where (edited_to p d)) full.1 ∙ ap Err (sym full.0))
-
 pub not_edited : (p : Presentation) (o : Order) (d : Document) (e : Refusal) → is_edit o ≡ true → edit_of p o ≡ Ok d → IsTooFull (edited_to p d) e → Refuses formats p o e
-not_edited p o d e edits edited full = state_refused p o d e edits edited (too_full p d e full)
+not_edited p o d e edits edited full = state_refused p o d e edits edited (no_room (edited_to p d) e full)
 
 pub on_ok_always : {T E P : Type 0} (r : Result T E) → P → OnOk r P
 on_ok_always (Ok x) h = h
@@ -135,25 +121,6 @@ begins_long old new len is begins = omega (arith, is, ap length begins, length-t
 
 pub cut_again : (old new cut : List ℕ) (len : ℕ) → len ≡ length old → Begins old new → cut ≡ take len new → cut ≡ old
 cut_again old new cut len is begins cuts = cuts ∙ ap (λ n. take n new) is ∙ begins
-
--- ---- each view is that of a node
-
-pub each_view : (nodes : List Node) (f : Node → View) → ((n : Node) → (f n).serial ≡ n.serial) → (ns : List Node) → AllByRecursion (λ (n : Node). node_at nodes n.serial ≡ Some n) ns → AllByRecursion (λ (v : View). IsSome (node_at nodes v.serial)) (map f (elements ns))
-each_view nodes f same [] h = tt
-each_view nodes f same (n ∷ ns) h = by_test (is_element n) (each_view nodes f same ns h.1)
-  where
-    by_test : (t : Bool) → AllByRecursion (λ (v : View). IsSome (node_at nodes v.serial)) (map f (elements ns)) → AllByRecursion (λ (v : View). IsSome (node_at nodes v.serial)) (map f (cond t (n ∷ elements ns) (elements ns)))
-    by_test true rest = (some_from (node_at nodes (f n).serial) n (ap (λ s. node_at nodes s) (same n) ∙ h.0), rest)
-    by_test false rest = rest
-
-pub are_of : (s : CellsState) (shown : ViewLists) (d : Document) → IsPlaying s shown → d ≡ s.presentation.document → AreOf d.nodes shown.views
-are_of s shown d is same =
-    let doc : Document = s.presentation.document in
-    let each : AreOf s.presentation.document.nodes (views_at s) =
-    All-from_recursion (λ (v : View). IsSome (node_at s.presentation.document.nodes v.serial)) (views_at s)
-    (each_view s.presentation.document.nodes (view_of (history_of s) (pos s.presentation.now) (in_table (current_table (history_of s) (pos s.presentation.now)))) (λ n. refl) s.presentation.document.nodes
-    (all_known s.presentation.document.nodes s.presentation.document.next is.shown_is.state.document.numbered)) in
-    subst (λ (e : Document). AreOf e.nodes shown.views) (sym same) (subst (λ vs. AreOf s.presentation.document.nodes vs) (sym is.shown_is.views_are) each)
 
 -- ---- the text
 

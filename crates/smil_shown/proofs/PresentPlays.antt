@@ -1,67 +1,24 @@
 -- The present play of an element, and how its end is shown.
-use Rattle.std.proofs.Common.{◌≡◌, refl, sym, ◌∙◌, ap, zero, suc, ℕ, ℤ, List, [], ◌∷◌, ◌++◌, append-nil, append_assoc, length, map, cond, Bool, true, false, Option, Some, None, pos, to_z, of_z, arith}
-use Rattle.std.specs.Prelude.{◌==◌, ◌≤ℤ◌, ◌+ℤ◌, ◌-ℤ◌, if◌then◌else◌, flat_map, option_map, option_to_list}
+use Rattle.std.proofs.Common.{◌≡◌, refl, sym, ◌∙◌, ap, ℕ, ℤ, List, [], ◌++◌, append-nil, append_assoc, map, Bool, true, false, Option, Some, None, to_z, of_z, arith}
+use Rattle.std.specs.Prelude.{◌+ℤ◌, ◌-ℤ◌, if◌then◌else◌, flat_map, option_map, option_to_list}
 use mir.Syntax.{w64}
 use Rattle.std.proofs.lemmas.Int.{ints, to_z-of_z}
 use Rattle.std.proofs.lemmas.Grind.{flat_map-append}
 use Rattle.smil_model.specs.declared.document.Node.{Node}
-use Rattle.smil_model.specs.declared.interval.Interval.{Interval}
 use Rattle.smil_model.specs.declared.order.Who.{Who}
-use Rattle.smil_model.specs.declared.diary.Entry.{Entry}
 use Rattle.smil_model.specs.declared.times.Time.{Time}
 use Rattle.smil_model.specs.declared.times.Time.TheVariants as time
 use Rattle.smil_model.specs.declared.view.Shown.TheVariants as shown
-use Rattle.smil_model.specs.document.Document.{Document, elements}
-use Rattle.smil_model.specs.diary.Clocks.{outer, outer_stands, until}
-use Rattle.smil_model.specs.diary.Diary.{History, last_moment, up_to}
+use Rattle.smil_model.specs.document.Document.{Document}
+use Rattle.smil_model.specs.diary.Clocks.{outer, outer_stands}
+use Rattle.smil_model.specs.diary.Diary.{History, up_to}
 use Rattle.smil_model.specs.diary.Plays.{PlayEdge}
-use Rattle.smil_model.specs.interval.Current.{current_interval, in_table, interval_given, table}
-use Rattle.smil_model.specs.happening.Resolution.{diary_of}
 use Rattle.smil_model.specs.shown.Histories.{all_plays, intervals_of, told_finished, told_present}
-use Rattle.smil_model.specs.shown.Orders.{IsState, Presentation, course_of}
 use Rattle.smil_model.specs.shown.Views.{document_value, shown_time, view_facts}
 use Rattle.smil_model.specs.Times.{IsMoment, IsNear}
-use Rattle.smil_laws.specs.Near.{AllNear, IsIntervalNear}
-use Rattle.smil_laws.proofs.NearIntervals.{interval_near}
-use Rattle.smil_laws.proofs.Further.{is_past}
 use Rattle.smil_stretch.specs.Clocks.{AreClocksOf, IsHistoryOf}
-use Rattle.smil_cells.proofs.Grown.{is_late}
 use Rattle.smil_shown.specs.declared.interval_teller.IntervalTeller.{IntervalTeller}
 use Rattle.smil_shown.specs.Histories.{IsTold, end_at, finished_text, present_line, told_begin, told_line}
-use Rattle.smil_shown.proofs.Ended.{has_ended}
-
--- ---- the numbers of a current interval are near
-
-given_near : (h : History) (now : ℤ) (known : ℕ → Option Interval) (es : List Node) (s : ℕ) (i : Interval) → AllNear h.diary
-    → in_table (map (λ (e : Node). (e.serial, interval_given h known now e)) es) s ≡ Some i → IsIntervalNear i
-given_near h now known [] s i near q = cc
-given_near h now known (e ∷ es) s i near q = by (e.serial == s) q (given_near h now known es s i near)
-  where
-    by : (t : Bool) → cond t (interval_given h known now e) (in_table (map (λ (x : Node). (x.serial, interval_given h known now x)) es) s) ≡ Some i
-        → (in_table (map (λ (x : Node). (x.serial, interval_given h known now x)) es) s ≡ Some i → IsIntervalNear i) → IsIntervalNear i
-    by true p rest = interval_near h known now e i near p
-    by false p rest = rest p
-
-table_near : (h : History) (now : ℤ) (n s : ℕ) (i : Interval) → AllNear h.diary → in_table (table h now n) s ≡ Some i → IsIntervalNear i
-table_near h now zero s i near q = cc
-table_near h now (suc n) s i near q = given_near h now (in_table (table h now n)) (elements h.nodes) s i near q
-
-pub current_near : (h : History) (now : ℤ) (s : ℕ) (i : Interval) → AllNear h.diary → current_interval h now s ≡ Some i → IsIntervalNear i
-current_near h now s i near q = table_near h now (length (elements h.nodes)) s i near q
-
--- ---- the present moment
-
--- no entry of a settled diary is later than the present moment
-pub settled_late : (p : Presentation) (d : List Entry) → diary_of (course_of p) ≡ Some d → last_moment d ≤ℤ pos p.now
-settled_late p d settled =
-    let end = has_ended (course_of p) d settled in
-    let past = is_past (course_of p) end.at end.reached in
-    let whole : until (pos p.now) d ≡ d =
-    sym (ap (λ (m : ℕ). until (pos m) d) end.moment_is) ∙ ap (until (pos end.at.moment)) (sym end.diary_is) ∙ past.entries ∙ end.diary_is in
-    is_late (pos p.now) d (omega (arith, ints)) whole
-
-pub is_moment : (p : Presentation) → IsState p → IsMoment (pos p.now)
-is_moment p state = let q = state.now in record { low = omega (arith, ints); high = grind (arith, ints) }
 
 -- ---- the text of all intervals
 

@@ -1,30 +1,28 @@
 -- Views of the elements that were touched, put in place of the old ones, one after another.
 use Rattle.std.proofs.Common.{◌≡◌, refl, sym, ◌∙◌, ap, subst, ℕ, zero, suc, ◌<◌, List, [], ◌∷◌, Option, Some, Bool, true, false, length, get_or, arith}
-use Rattle.std.specs.Prelude.{cond, not, ◌==◌, ◌||◌, map, find, filter, unwrap_or, slice_get, option_map, is_some}
+use Rattle.std.specs.Prelude.{cond, not, ◌==◌, ◌||◌, map, find, filter, unwrap_or, slice_get, option_map}
 use Rattle.std.specs.List.{AllByRecursion, list_any}
-use Rattle.std.proofs.lemmas.Bool.{eq-eqb, eqb-true}
+use Rattle.std.proofs.lemmas.Bool.{eq-eqb, eqb-true, or_parts}
 use Rattle.std.proofs.lemmas.List.{length-map, get_or-map}
 use Rattle.smil_model.specs.declared.document.Node.{Node}
 use Rattle.smil_model.specs.declared.view.View.{View}
-use Rattle.smil_model.specs.document.Document.{elements, is_element, node_at, serials}
+use Rattle.smil_model.specs.document.Document.{node_at, serials}
 use Rattle.smil_model.specs.document.Valid.{IsDistinct}
 use Rattle.smil_model.specs.shown.Orders.{changed, view_before, view_eq}
 use Rattle.smil_model.specs.shown.Views.{blank}
 use Rattle.smil_laws.proofs.Lineages.{swap_eqb}
 use Rattle.smil_laws.proofs.Members.{differ_each}
-use Rattle.smil_laws.proofs.Lists.{each_at}
+use Rattle.smil_laws.proofs.Lists.{each_at, each_kept}
+use Rattle.smil_tree.proofs.Removed.{distinct_fewer}
 use Rattle.smil_shown.specs.ViewTable.{put_in, view_in, has_view, AreOne}
 use Rattle.smil_live.proofs.Through.{same_view}
+use Rattle.smil_shown.proofs.AllViews.{none_of, one_each}
 use Rattle.smil_shown.proofs.ViewPlaces.{of, untouched, has_put}
 
 -- views put in place, the first of them first
 abbrev pub put_all : List View → List View → List View
 put_all views [] = views
 put_all views (v ∷ vs) = put_all (put_in views v) vs
-
-or_false : (a b : Bool) → a || b ≡ false → (a ≡ false) × (b ≡ false)
-or_false true b q = cc
-or_false false b q = (refl, q)
 
 -- ---- one view
 
@@ -69,7 +67,7 @@ put_next first all views rest v left = record {
     each : (ws : List View) → has_view ws v.serial ≡ false → AllByRecursion (Stands first views) ws → AllByRecursion (Stands first (put_in views v)) ws
     each [] q stand = tt
     each (w ∷ ws) q stand =
-        let apart = or_false (of v.serial w) (has_view ws v.serial) q in (
+        let apart = or_parts (of v.serial w) (has_view ws v.serial) q in (
           (other_stays views v w.serial (swap_eqb w.serial v.serial apart.0) ∙ stand.0.0, has_put views v w.serial ∙ stand.0.1),
           each ws apart.1 stand.1,
         )
@@ -99,17 +97,11 @@ at_place (n ∷ ns) (suc i) l =
     (rest.0, record { at = (rest.1).at; read = (rest.1).read })
 
 module _ (t : ℕ → Bool) (old new : Node → View) (olds : (e : Node) → (old e).serial ≡ e.serial) (news : (e : Node) → (new e).serial ≡ e.serial) where
-  none_old : (es : List Node) (s : ℕ) → list_any (λ (m : Node). m.serial == s) es ≡ false → has_view (map old es) s ≡ false
-  none_old [] s q = refl
-  none_old (e ∷ es) s q =
-      let apart = or_false (e.serial == s) (list_any (λ (m : Node). m.serial == s) es) q in
-      ap (λ (k : ℕ). k == s || has_view (map old es) s) (olds e) ∙ (ap (λ (b : Bool). b || has_view (map old es) s) apart.0 ∙ none_old es s apart.1)
-
   none_new : (es : List Node) (s : ℕ) → list_any (λ (m : Node). m.serial == s) es ≡ false → has_view (map new (touched_of t es)) s ≡ false
   none_new [] s q = refl
   none_new (e ∷ es) s q = by_touch (t e.serial)
-      (or_false (e.serial == s) (list_any (λ (m : Node). m.serial == s) es) q).0
-      (none_new es s (or_false (e.serial == s) (list_any (λ (m : Node). m.serial == s) es) q).1)
+      (or_parts (e.serial == s) (list_any (λ (m : Node). m.serial == s) es) q).0
+      (none_new es s (or_parts (e.serial == s) (list_any (λ (m : Node). m.serial == s) es) q).1)
     where
       by_touch : (b : Bool) → e.serial == s ≡ false → has_view (map new (touched_of t es)) s ≡ false → has_view (map new (cond b (e ∷ touched_of t es) (touched_of t es))) s ≡ false
       by_touch true here later = ap (λ (k : ℕ). k == s || has_view (map new (touched_of t es)) s) (news e) ∙ (ap (λ (b : Bool). b || has_view (map new (touched_of t es)) s) here ∙ later)
@@ -118,16 +110,8 @@ module _ (t : ℕ → Bool) (old new : Node → View) (olds : (e : Node) → (ol
   other_new : (v : View) (vs : List View) → has_view vs v.serial ≡ false → AllByRecursion (λ (w : View). of w.serial v ≡ false) vs
   other_new v [] q = tt
   other_new v (w ∷ ws) q =
-      let apart = or_false (of v.serial w) (has_view ws v.serial) q in
+      let apart = or_parts (of v.serial w) (has_view ws v.serial) q in
       (swap_eqb w.serial v.serial apart.0, other_new v ws apart.1)
-
-  one_each : (es : List Node) → IsDistinct es → AreOne (map new (touched_of t es))
-  one_each [] d = tt
-  one_each (e ∷ es) d = by_touch (t e.serial) (none_new es e.serial d.0) (one_each es d.1)
-    where
-      by_touch : (b : Bool) → has_view (map new (touched_of t es)) e.serial ≡ false → AreOne (map new (touched_of t es)) → AreOne (map new (cond b (e ∷ touched_of t es) (touched_of t es)))
-      by_touch true none later = (subst (λ (k : ℕ). has_view (map new (touched_of t es)) k ≡ false) (sym (news e)) none, later)
-      by_touch false none later = later
 
   -- all views are the new ones once those of the touched elements are put in place
   pub all_put : (es : List Node) → IsDistinct es → AllByRecursion (Stays t old new) es → put_all (map old es) (map new (touched_of t es)) ≡ map new es
@@ -141,7 +125,7 @@ module _ (t : ℕ → Bool) (old new : Node → View) (olds : (e : Node) → (ol
           → put_all (map old (e ∷ es)) (map new (cond b (e ∷ touched_of t es) (touched_of t es))) ≡ map new (e ∷ es)
       by_touch true q later =
           ap (λ (b : Bool). put_all (cond b (new e) (old e) ∷ put_in (map old es) (new e)) (map new (touched_of t es))) (eq-eqb (old e).serial (new e).serial (olds e ∙ sym (news e)))
-          ∙ (ap (λ (vs : List View). put_all (new e ∷ vs) (map new (touched_of t es))) (untouched (map old es) (new e) (subst (λ (k : ℕ). has_view (map old es) k ≡ false) (sym (news e)) (none_old es e.serial d.0)))
+          ∙ (ap (λ (vs : List View). put_all (new e ∷ vs) (map new (touched_of t es))) (untouched (map old es) (new e) (subst (λ (k : ℕ). has_view (map old es) k ≡ false) (sym (news e)) (none_of old olds es e.serial d.0)))
           ∙ (behind (new e) (map old es) (map new (touched_of t es)) (rest_apart (new e) (news e)) ∙ ap (λ (vs : List View). new e ∷ vs) later))
       by_touch false q later =
           behind (old e) (map old es) (map new (touched_of t es)) (rest_apart (old e) (olds e))
@@ -185,20 +169,12 @@ module _ (t : ℕ → Bool) (old new : Node → View) (olds : (e : Node) → (ol
           by_test true r later = refl
           by_test false r later = later r
 
-  own_touched : (all es : List Node) → AllByRecursion (OwnsIn all) es → AllByRecursion (OwnsIn all) (touched_of t es)
-  own_touched all [] own = tt
-  own_touched all (e ∷ es) own = by_touch (t e.serial) (own_touched all es own.1)
-    where
-      by_touch : (b : Bool) → AllByRecursion (OwnsIn all) (touched_of t es) → AllByRecursion (OwnsIn all) (cond b (e ∷ touched_of t es) (touched_of t es))
-      by_touch true later = (own.0, later)
-      by_touch false later = later
-
   -- at first all are left
   pub all_left : (all : List Node) → IsDistinct all → AllByRecursion (OwnsIn all) all → AreLeft (map old all) (map new (touched_of t all)) (map old all) (map new (touched_of t all))
   all_left all d own = record {
     put = refl;
-    stand = each (touched_of t all) (own_touched all all own);
-    one = one_each all d;
+    stand = each (touched_of t all) (each_kept (OwnsIn all) (λ (e : Node). t e.serial) all own);
+    one = one_each new news (touched_of t all) (distinct_fewer (λ (e : Node). t e.serial) all d);
   }
     where
       each : (es : List Node) → AllByRecursion (OwnsIn all) es → AllByRecursion (Stands (map old all) (map old all)) (map new es)
@@ -235,7 +211,7 @@ module _ (t : ℕ → Bool) (old new : Node → View) (olds : (e : Node) → (ol
           ap (λ (l : List ℕ). get_or l i 0) same ∙ (get_or-map (λ (n : Node). n.serial) (touched_of t all) i e 0 inside ∙ ap (λ (n : Node). n.serial) at.read) in
           record {
             element = e;
-            at = subst (λ (k : ℕ). node_at all k ≡ Some e) (sym serial) (each_at (OwnsIn all) (touched_of t all) i e (own_touched all all own) at.at);
+            at = subst (λ (k : ℕ). node_at all k ≡ Some e) (sym serial) (each_at (OwnsIn all) (touched_of t all) i e (each_kept (OwnsIn all) (λ (e : Node). t e.serial) all own) at.at);
             view = get_or-map new (touched_of t all) i e d inside ∙ ap new at.read;
             below = subst (λ (n : ℕ). i < n) (sym (length-map (touched_of t all) new)) inside;
           }
@@ -254,20 +230,3 @@ own_all (x ∷ xs) d = (
       ap (λ (t : Bool). cond t (Some x) (node_at xs m.serial)) (swap_eqb m.serial x.serial other.0) ∙ own.0,
       each ms other.1 own.1,
     )
-
--- an element is a node
-pub is_node : (nodes : List Node) (s : ℕ) (e : Node) → node_at (elements nodes) s ≡ Some e → is_some (node_at nodes s) ≡ true
-is_node [] s e q = cc
-is_node (n ∷ ns) s e q = by_element (is_element n) q (is_node ns s e)
-  where
-    by_element : (t : Bool) → node_at (cond t (n ∷ elements ns) (elements ns)) s ≡ Some e → (node_at (elements ns) s ≡ Some e → is_some (node_at ns s) ≡ true) → is_some (cond (n.serial == s) (Some n) (node_at ns s)) ≡ true
-    by_element true r later = by_here (n.serial == s) r later
-      where
-        by_here : (b : Bool) → cond b (Some n) (node_at (elements ns) s) ≡ Some e → (node_at (elements ns) s ≡ Some e → is_some (node_at ns s) ≡ true) → is_some (cond b (Some n) (node_at ns s)) ≡ true
-        by_here true r later = refl
-        by_here false r later = later r
-    by_element false r later = by_here (n.serial == s) (later r)
-      where
-        by_here : (b : Bool) → is_some (node_at ns s) ≡ true → is_some (cond b (Some n) (node_at ns s)) ≡ true
-        by_here true q = refl
-        by_here false q = q

@@ -21,10 +21,7 @@ module _ {X : Type 0} (f : X → List ℕ) (xs : List X) (start : List ℕ) wher
   pub lines_next : (i : ℕ) (x : X) (out new : List ℕ) → slice_get xs i ≡ Some x → out ≡ start ++ flat_map f (take i xs) → new ≡ out ++ f x → new ≡ start ++ flat_map f (take (i + 1) xs)
   lines_next i x out new at so_far one = lines_more i x out new (slice_get_within xs i x at) so_far (one ∙ ap (λ y. out ++ f y) (sym (get_or_from_slice_get xs i x x at)))
 
-  -- none at the start, and all at the end
-  pub lines_none : (out : List ℕ) → out ≡ start → out ≡ start ++ flat_map f (take 0 xs)
-  lines_none out is = is ∙ sym (append-nil start)
-
+  -- all at the end
   pub lines_all : (i : ℕ) (out : List ℕ) → length xs ≤ i → out ≡ start ++ flat_map f (take i xs) → out ≡ start ++ flat_map f xs
   lines_all i out l so_far = so_far ∙ ap (λ ys. start ++ flat_map f ys) (take_all i xs l)
 

@@ -18,7 +18,7 @@ use Rattle.smil_sandwich.proofs.Sorted.{all_put}
 use Rattle.smil_cells.proofs.Taking.{elements_few}
 use Rattle.smil_shown.proofs.Apart.{Different, elements_different, front_different, layers_apart, layers_known}
 use Rattle.smil_shown.specs.Sets.{AreOfElements, AreSetsAmong, AreSetsOf, AreSettersOf, LayerTable, and_layer, layer_in, names_in, names_of, rows_in}
-use Rattle.smil_laws.proofs.Lists.{each_kept}
+use Rattle.smil_laws.proofs.Lists.{each_kept, filter_shorter}
 
 abbrev Row : Type 0
 Row = ℕ × Layer
@@ -111,19 +111,11 @@ fold_length : (ls xs : List Row) → length (fold put_layer ls xs) ≡ length ls
 fold_length ls [] = omega arith
 fold_length ls (x ∷ xs) = let rest = fold_length (put_layer ls x) xs in let one = put_length x ls in omega (arith, rest, one)
 
-filter_few : (p : Row → Bool) (xs : List Row) → length (filter p xs) ≤ length xs
-filter_few p [] = omega arith
-filter_few p (x ∷ xs) = by (p x) (filter_few p xs)
-  where
-    by : (t : Bool) → length (filter p xs) ≤ length xs → length (cond t (x ∷ filter p xs) (filter p xs)) ≤ suc (length xs)
-    by true rest = omega (arith, rest)
-    by false rest = omega (arith, rest)
-
 pub stack_few : (all : List Row) (target : ℕ) (name : List ℕ) → length (stack_of all target name) ≤ length all
 stack_few all target name =
     let map_same = length-map (fold put_layer [] (layers_on all target name)) (λ (l : Row). l.0) in
     let folded = fold_length [] (layers_on all target name) in
-    let few : length (layers_on all target name) ≤ length all = filter_few _ all in
+    let few : length (layers_on all target name) ≤ length all = filter_shorter _ all in
     omega (arith, map_same, folded, few)
 
 pub layers_few : (nodes : List Node) (vs : List View) → length (layers nodes vs) ≤ length vs

@@ -1,20 +1,16 @@
 -- What an order that edits comes to is what its edit comes to, resolved.
-use Rattle.std.proofs.Common.{◌≡◌, ℕ, List, ◌++◌, true, eqb, Some, Result, Ok, Err, inl, inr, refl, sym, ap, ◌∙◌}
+use Rattle.std.proofs.Common.{◌≡◌, ℕ, List, ◌++◌, true, Some, Result, Ok, Err, inl, inr, refl, sym, ap, ◌∙◌}
 use Rattle.std.specs.Prelude.{flat_map}
 use Rattle.smil_model.specs.declared.document.Node.{Node}
 use Rattle.smil_model.specs.declared.order.Order.{Order}
 use Rattle.smil_model.specs.declared.order.Order.TheVariants as order
 use Rattle.smil_model.specs.declared.order.Refusal.{Refusal}
 use Rattle.smil_model.specs.declared.order.Who.{Who}
-use Rattle.smil_model.specs.declared.order.Who.TheVariants as who
-use Rattle.smil_model.specs.document.Document.{Document, node_at, has_id}
+use Rattle.smil_model.specs.document.Document.{Document}
 use Rattle.smil_model.specs.document.Limits.{limits}
-use Rattle.smil_model.specs.document.Valid.{IsValid}
 use Rattle.smil_model.specs.shown.Answers.{Accepts, Refuses, answer_text, change_text, gone_text}
 use Rattle.smil_model.specs.shown.Orders.{Presentation, and_then, changes_between, found, node_of, on_node, outcome, resolved_with}
 use Rattle.smil_grammar.specs.Formats.{formats}
-use Rattle.smil_laws.proofs.Aside.{find_each}
-use Rattle.smil_tree.proofs.Spans.{all_known}
 use Rattle.smil_live.specs.Editing.{edit_of}
 use Rattle.smil_revision.specs.Editing.{IsRefusedBy}
 use Rattle.smil_live.specs.Telling.{is_edit}
@@ -60,7 +56,3 @@ not_found p named next e none = ap (λ r. and_then r next) none
 
 pub is_found : {A : Type 0} (p : Presentation) (named : Who) (next : Node → Result A Refusal) (n : Node) → node_of p.document.nodes named ≡ Some n → on_node p named next ≡ next n
 is_found p named next n some = ap (λ o. and_then (found o) next) some
-
-pub known : (d : Document) (named : Who) (n : Node) → IsValid d → node_of d.nodes named ≡ Some n → node_at d.nodes n.serial ≡ Some n
-known d (who.Id id) n valid some = find_each (λ (m : Node). node_at d.nodes m.serial ≡ Some m) (λ (m : Node). has_id id m.attrs.id) d.nodes n (all_known d.nodes d.next valid.numbered) some
-known d (who.Serial serial) n valid some = find_each (λ (m : Node). node_at d.nodes m.serial ≡ Some m) (λ (m : Node). eqb m.serial serial) d.nodes n (all_known d.nodes d.next valid.numbered) some

@@ -16,7 +16,7 @@ use Rattle.smil_live.specs.Moves.{IsShownAt, made}
 use Rattle.smil_shown.specs.ViewTable.{ViewLists}
 use Rattle.smil_live.specs.declared.moves.Move.{Move}
 use Rattle.smil_live.specs.declared.moves.Move.TheVariants as move
-use Rattle.smil_shown.proofs.Ended.{diary_is}
+use Rattle.smil_shown.proofs.SettledDiaries.{diary_is}
 use Rattle.smil_live.proofs.Resolved.{resolved_is}
 
 -- ---- one standing after another
