@@ -23,7 +23,8 @@ def doc_of(lines):
 
 
 def with_keys(case, r, chance, item, presses):
-    """Puts an item into lists of some elements, each by this chance, and one of these numbers of key presses into the log."""
+    """Puts an item into lists of some elements, each by this chance, and one of these numbers
+    of key presses into the log."""
     for _, parent in case.root.walk():
         for line in parent.kids:
             for side in ('begin', 'end'):
@@ -57,7 +58,8 @@ def resolved(case, world, bound=BOUND):
 
 
 def arbitrary(scene, script, r, has_keys=True):
-    """The log and the entries that a script gives a scene: groups of the resolution, and lawful entries between them."""
+    """The log and the entries that a script gives a scene: groups of the resolution, and lawful
+    entries between them."""
     moment = 0
     for step_moment, step, line, v in script:
         moment += step_moment

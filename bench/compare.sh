@@ -1,9 +1,9 @@
-# Makes a program whose answers are compared with the reference model's, and runs it over cases. Sourced by comparisons, which
-# write the cases and the program's main file between the two.
+# Makes a program whose answers are compared with the reference model's, and runs it over cases.
+# Sourced by comparisons, which write the cases and the program's main file between the two.
 . "$(dirname "$0")/program.sh"
 
-# new_comparison NAME CRATE..: a program over these crates and those below them, with two modules that its main file uses:
-# `given`, by which a case is read, and `told`, by which lines are written.
+# new_comparison NAME CRATE..: a program over these crates and those below them, with two modules
+# that its main file uses: `given`, by which a case is read, and `told`, by which lines are written.
 new_comparison() {
     new_program "$@"
     cat > "$program/src/given.rt" <<'RT'

@@ -1,9 +1,11 @@
 #!/bin/sh
-# counts_compare.sh ORACLE [SEED] [CASES]: compares how often the program that ships evaluates intervals with the numbers of
-# the reference model in the folder ORACLE, over so many random sessions: for each accepted order at least its least number
-# and at most its bound. It makes a small program over the same crates in a temporary folder, in whose copy of smil_model the
-# count of evaluations is kept when it runs, and runs it by `rt try`, so with checks and unproved. Prints how many orders
-# were compared, the sums of the least numbers, the counts and the bounds, and each order whose count is out of them.
+# counts_compare.sh ORACLE [SEED] [CASES]: compares how often the program that ships evaluates
+# intervals with the numbers of the reference model in the folder ORACLE, over so many random
+# sessions: for each accepted order at least its least number and at most its bound. It makes a
+# small program over the same crates in a temporary folder, in whose copy of smil_model the count of
+# evaluations is kept when it runs, and runs it by `rt try`, so with checks and unproved. Prints how
+# many orders were compared, the sums of the least numbers, the counts and the bounds, and each
+# order whose count is out of them.
 set -eu
 . "$(dirname "$0")/program.sh"
 new_program compare_counts smil_live smil_house smil_script

@@ -1,6 +1,7 @@
 #!/bin/sh
 # Times the reading of outlines: scripts of about 200,000 node lines, in loads of 500, 1,000 and 2,000 nodes with four
-# references each, read by smilplay as `rt run` builds it. Prints nanoseconds a line, which grow little with the outline.
+# references each, read by smilplay as `rt run` builds it. Prints nanoseconds a line, which grow
+# little with the outline.
 set -eu
 . "$(dirname "$0")/program.sh"
 new_work

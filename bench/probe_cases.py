@@ -695,7 +695,8 @@ def graph_lines(world):
 
 
 def graph_case(lines):
-    """What `graph_lines` says of an outline, on one line, or a refusal; a node that is no element has its serial alone."""
+    """What `graph_lines` says of an outline, on one line, or a refusal; a node that is no
+    element has its serial alone."""
     text = 'graph ' + '|'.join(lines)
     try:
         world = World(doc_of(lines))

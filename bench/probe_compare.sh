@@ -1,8 +1,8 @@
 #!/bin/sh
-# probe_compare.sh ORACLE [SEED] [CASES] [KIND..]: compares smil_probe and smil_plays with the reference model in the folder
-# ORACLE on random cases, CASES of each kind, ten thousand for each run of a program, and prints for each kind the cases,
-# the runs and the lines that differ; the first that differ are shown. The programs are those which `rt run` builds, or
-# PROBE and PLAYS.
+# probe_compare.sh ORACLE [SEED] [CASES] [KIND..]: compares smil_probe and smil_plays with the
+# reference model in the folder ORACLE on random cases, CASES of each kind, ten thousand for each
+# run of a program, and prints for each kind the cases, the runs and the lines that differ; the
+# first that differ are shown. The programs are those which `rt run` builds, or PROBE and PLAYS.
 set -eu
 . "$(dirname "$0")/program.sh"
 new_work

@@ -1,4 +1,5 @@
-# Makes a program of its own over crates of this repository. Sourced by benchmarks, which then write the source and run it.
+# Makes a program of its own over crates of this repository. Sourced by benchmarks, which then write
+# the source and run it.
 
 # new_work: sets here, this repository, and work, a temporary folder that goes when the script ends.
 new_work() {
@@ -7,7 +8,8 @@ new_work() {
     trap 'rm -rf "$work"' EXIT
 }
 
-# new_program NAME CRATE..: sets program, in the folder work, to one over these crates and those below them, without source.
+# new_program NAME CRATE..: sets program, in the folder work, to one over these crates and those
+# below them, without source.
 new_program() {
     new_work
     program=$work/crates/$1

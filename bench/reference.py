@@ -1,10 +1,12 @@
-"""The reference model, which stands in a folder that a script is told: its modules can be imported after `arguments`."""
+"""The reference model, which stands in a folder that a script is told: its modules can be
+imported after `arguments`."""
 import argparse
 import sys
 
 
 def parser(cases=None):
-    """A parser with the model's folder, and for random cases a seed and their number, which is `cases` where none is told."""
+    """A parser with the model's folder, and for random cases a seed and their number, which is
+    `cases` where none is told."""
     made = argparse.ArgumentParser()
     made.add_argument('--oracle', required=True)
     if cases is not None:
